@@ -1,0 +1,67 @@
+-- Bags: finite maps from whole numbers to counts above 0, as their pairs in ascending order.
+-- A count above 2^64 - 1 stands as that number.
+use Rattle.std.specs.Prelude.{ℕ, ◌+◌, ◌-◌, ◌^◌, ◌<◌, min, nat_eq, if◌then◌else◌, List, [], ◌∷◌, ◌++◌, replicate, ℤ, pos, ◌+ℤ◌, ◌*ℤ◌, ◌<ℤ◌, Option, Some, None}
+use Rattle.std.specs.Ordering.{int_cmp, match_ordering}
+
+abbrev pub Counts : Type 0
+Counts = List (ℤ × ℕ)
+
+-- a count, or the greatest one that is kept
+abbrev pub capped : ℕ → ℕ
+capped n = min n (2 ^ 64 - 1)
+
+-- every value is above the one before, and every count is above 0 and kept
+abbrev pub IsAbove : ℤ → Counts → Type 0
+IsAbove low [] = Unit {0}
+IsAbove low (p ∷ ps) = (low <ℤ p.0) × (0 < p.1) × (p.1 < 2 ^ 64) × IsAbove p.0 ps
+
+abbrev pub IsBag : Counts → Type 0
+IsBag [] = Unit {0}
+IsBag (p ∷ ps) = (0 < p.1) × (p.1 < 2 ^ 64) × IsAbove p.0 ps
+
+-- how often a value is in the bag
+abbrev pub count_of : ℤ → Counts → ℕ
+count_of v [] = 0
+count_of v (p ∷ ps) = match_ordering (int_cmp v p.0) 0 p.1 (count_of v ps)
+
+-- so many more copies of a value
+abbrev pub with_copies : ℤ → ℕ → Counts → Counts
+with_copies v n [] = (v, capped n) ∷ []
+with_copies v n (p ∷ ps) = match_ordering (int_cmp v p.0) ((v, capped n) ∷ p ∷ ps) ((p.0, capped (p.1 + n)) ∷ ps) (p ∷ with_copies v n ps)
+
+-- one copy less, where there is one
+abbrev pub without_one : ℤ → Counts → Counts
+without_one v [] = []
+without_one v (p ∷ ps) = match_ordering (int_cmp v p.0) (p ∷ ps) (if nat_eq p.1 1 then ps else (p.0, p.1 - 1) ∷ ps) (p ∷ without_one v ps)
+
+-- both bags together
+abbrev pub union : Counts → Counts → Counts
+union a [] = a
+union a (p ∷ ps) = union (with_copies p.0 p.1 a) ps
+
+-- the number of values, each copy counted
+abbrev pub total : Counts → ℕ
+total [] = 0
+total (p ∷ ps) = p.1 + total ps
+
+abbrev pub size : Counts → ℕ
+size b = capped (total b)
+
+-- the sum of the values, each copy added
+abbrev pub sum_of : Counts → ℤ
+sum_of [] = pos 0
+sum_of (p ∷ ps) = (pos p.1 *ℤ p.0) +ℤ sum_of ps
+
+abbrev pub least : Counts → Option ℤ
+least [] = None
+least (p ∷ ps) = Some p.0
+
+abbrev pub most : Counts → Option ℤ
+most [] = None
+most (p ∷ []) = Some p.0
+most (p ∷ q ∷ ps) = most (q ∷ ps)
+
+-- the values in ascending order, each copy once
+abbrev pub values_of : Counts → List ℤ
+values_of [] = []
+values_of (p ∷ ps) = replicate p.1 p.0 ++ values_of ps

@@ -1,0 +1,70 @@
+//! Faults. A fault belongs to one component, which is quiet from that instant on.
+
+ghost use Rattle.std.specs.Prelude.{◌≡◌};
+
+use std::alloc::{AllocError, AllocFailed};
+use std::fmt;
+
+/// Why a component is quiet.
+#[derive(Clone, Copy, Debug, PartialEq, Eq)]
+pub enum Fault {
+    /// A result outside -2^63..2^63-1.
+    Overflow,
+    /// A division by 0.
+    Divide,
+    /// A value outside the range of its variable.
+    Range,
+    /// The least or greatest value of an empty bag.
+    Empty,
+    /// One value more than a bag's capacity.
+    Full,
+    /// A hold below 0.
+    Negative,
+    /// A hold of 0 at the last microstep.
+    Microsteps,
+    /// More than 4,096 values sent in one output, or at one port at one instant.
+    Flood,
+}
+
+impl fmt::Display for Fault {
+    fn fmt<W: fmt::Write>(&self, f: &mut fmt::Formatter<W>) -> fmt::Result {
+        let name = match self {
+            Fault::Overflow => "overflow",
+            Fault::Divide => "divide",
+            Fault::Range => "range",
+            Fault::Empty => "empty",
+            Fault::Full => "full",
+            Fault::Negative => "negative",
+            Fault::Microsteps => "microsteps",
+            Fault::Flood => "flood",
+        };
+        write!(f, "{name}")
+    }
+}
+
+/// Why a rule has no effect: a fault of the model, or want of memory.
+#[derive(Clone, Copy, Debug, PartialEq, Eq)]
+pub enum RuleError {
+    Fault(Fault),
+    Memory,
+}
+
+impl From<AllocError> for RuleError {
+    ghost use Rattle.dv_bag.specs.declared.fault.RuleError.TheVariants.{Memory};
+
+    ghost from_gives = { λ _ e. e ≡ Memory };
+
+    fn from(_error: AllocError) -> Self {
+        RuleError::Memory
+    }
+}
+
+impl<T: Drop> From<AllocFailed<T>> for RuleError {
+    ghost use Rattle.dv_bag.specs.declared.fault.RuleError.TheVariants.{Memory};
+
+    ghost from_gives = { λ _ e. e ≡ Memory };
+
+    fn from(_error: AllocFailed<T>) -> Self {
+        RuleError::Memory
+    }
+}
