@@ -1,7 +1,9 @@
 -- Bags: finite maps from whole numbers to counts above 0, as their pairs in ascending order.
 -- A count above 2^64 - 1 stands as that number.
-use Rattle.std.specs.Prelude.{ℕ, ◌+◌, ◌-◌, ◌^◌, ◌<◌, min, nat_eq, if◌then◌else◌, List, [], ◌∷◌, ◌++◌, replicate, ℤ, pos, ◌+ℤ◌, ◌*ℤ◌, ◌<ℤ◌, Option, Some, None}
+use Rattle.std.specs.Prelude.{ℕ, suc, ◌+◌, ◌-◌, ◌^◌, ◌<◌, min, nat_eq, nat_lt, Bool, if◌then◌else◌, List, [], ◌∷◌, ◌++◌, replicate, slice_index_or, ℤ, pos, negsuc, ◌+ℤ◌, ◌*ℤ◌, ◌<ℤ◌, Option, Some, None, Result, Ok, Err}
 use Rattle.std.specs.Ordering.{int_cmp, match_ordering}
+use Rattle.dv_bag.specs.declared.fault.Fault.{Fault}
+use Rattle.dv_bag.specs.declared.fault.Fault.TheVariants.{Overflow}
 
 abbrev pub Counts : Type 0
 Counts = List (ℤ × ℕ)
@@ -23,6 +25,11 @@ IsBag (p ∷ ps) = (0 < p.1) × (p.1 < 2 ^ 64) × IsAbove p.0 ps
 abbrev pub count_of : ℤ → Counts → ℕ
 count_of v [] = 0
 count_of v (p ∷ ps) = match_ordering (int_cmp v p.0) 0 p.1 (count_of v ps)
+
+-- how many values of the bag are below a value: its place in the ascending walk
+abbrev pub place_of : ℤ → Counts → ℕ
+place_of v [] = 0
+place_of v (p ∷ ps) = match_ordering (int_cmp v p.0) 0 0 (suc (place_of v ps))
 
 -- so many more copies of a value
 abbrev pub with_copies : ℤ → ℕ → Counts → Counts
@@ -52,6 +59,15 @@ abbrev pub sum_of : Counts → ℤ
 sum_of [] = pos 0
 sum_of (p ∷ ps) = (pos p.1 *ℤ p.0) +ℤ sum_of ps
 
+-- the numbers of the language
+abbrev pub is_number : ℤ → Bool
+is_number (pos n) = nat_lt n (2 ^ 63)
+is_number (negsuc n) = nat_lt n (2 ^ 63)
+
+-- the exact sum, where it is a number
+abbrev pub sum_or_overflow : Counts → Result ℤ Fault
+sum_or_overflow b = if is_number (sum_of b) then Ok (sum_of b) else Err Overflow
+
 abbrev pub least : Counts → Option ℤ
 least [] = None
 least (p ∷ ps) = Some p.0
@@ -65,3 +81,15 @@ most (p ∷ q ∷ ps) = most (q ∷ ps)
 abbrev pub values_of : Counts → List ℤ
 values_of [] = []
 values_of (p ∷ ps) = replicate p.1 p.0 ++ values_of ps
+
+-- the bag of a port; past the last port there are no values
+abbrev pub bag_at : List Counts → ℕ → Counts
+bag_at bags port = slice_index_or bags port []
+
+-- the number of values in all bags, each copy counted
+abbrev pub total_of_all : List Counts → ℕ
+total_of_all [] = 0
+total_of_all (b ∷ bs) = total b + total_of_all bs
+
+abbrev pub size_of_all : List Counts → ℕ
+size_of_all bags = capped (total_of_all bags)

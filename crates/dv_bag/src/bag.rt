@@ -1,9 +1,14 @@
 //! Bags of values.
 
-ghost use Rattle.std.specs.Prelude.{◌≡◌, []};
+ghost use Rattle.std.specs.Cmp.{decided, partial_equiv_from_equiv};
+ghost use Rattle.std.specs.Prelude.{◌≡◌, ◌<◌, ◌≤◌, ◌*◌, ◌^◌, ◌*ℤ◌, ◌≤ℤ◌, neg_ℤ, pos, ◌↔◌, [], length, nat_eq, replicate, slice_set, IfOk, IfErr, OnOk, OnErr, IsOk, IsTrue};
+ghost use Rattle.dv_bag.specs.Bag.{IsBag, bag_at, count_of, least, most, place_of, size, size_of_all, sum_or_overflow, total, union, with_copies, without_one};
+ghost use Rattle.dv_bag.specs.Same.{same_bag, same_bags, same_bag-decides, same_bags-decides};
 
+use crate::fault::Fault;
 use smallvec::SmallVec;
-use std::alloc::Global;
+use std::alloc::{AllocError, Global};
+use std::default::MadeWith;
 use std::marker::Model;
 
 /// A bag of whole numbers. A few distinct values lie inline.
@@ -31,6 +36,196 @@ impl Bag {
             pairs: SmallVec::new(alloc),
         }
     }
+
+    /// One more copy of a value.
+    ///
+    /// # Errors
+    ///
+    /// No memory for a value that the bag lacks. The bag is as before.
+    pub fn insert(&mut self, value: i64) -> Result<(), AllocError>
+        ensures ok { OnOk result (self.new ≡ with_copies value 1 self.old) }
+        ensures err { OnErr result (self.new ≡ self.old) }
+        ensures present { 0 < count_of value self.old → IsOk result }
+    {
+        self.insert_copies(value, 1)
+    }
+
+    /// So many more copies of a value.
+    ///
+    /// # Errors
+    ///
+    /// No memory for a value that the bag lacks. The bag is as before.
+    pub fn insert_copies(&mut self, value: i64, copies: u64) -> Result<(), AllocError>
+        requires { 0 < copies }
+        ensures ok { OnOk result (self.new ≡ with_copies value copies self.old) }
+        ensures err { OnErr result (self.new ≡ self.old) }
+        ensures present { 0 < count_of value self.old → IsOk result }
+    {
+        match self.search(value) {
+            Ok(place) => {
+                let present = self.pairs[place].1;
+                self.pairs[place] = (value, present.saturating_add(copies));
+                Ok(())
+            }
+            Err(place) => Ok(self.pairs.insert(place, (value, copies))?),
+        }
+    }
+
+    /// The values of another bag beside those that are here.
+    ///
+    /// # Errors
+    ///
+    /// No memory for the values that the bag lacks. The bag is as before.
+    pub fn union(&mut self, other: &Bag) -> Result<(), AllocError>
+        ensures ok { OnOk result (self.new ≡ union self.old other.now) }
+        ensures err { OnErr result (self.new ≡ self.old) }
+    {
+        let mut both = self.clone()?;
+        for pair in other.pairs.as_slice() {
+            both.insert_copies(pair.0, pair.1)?;
+        }
+        *self = both;
+        Ok(())
+    }
+
+    /// One copy of a value less, where there is one.
+    pub fn drop_one(&mut self, value: i64)
+        ensures { self.new ≡ without_one value self.old }
+    {
+        if let Ok(place) = self.search(value) {
+            let present = self.pairs[place].1;
+            if present == 1 {
+                self.pairs.remove(place);
+            } else {
+                self.pairs[place] = (value, present - 1);
+            }
+        }
+    }
+
+    /// The number of values, each copy counted. One above 2^64-1 stands as that number.
+    pub fn size(&self) -> u64
+        ensures { result ≡ size self.now }
+    {
+        let mut size: u64 = 0;
+        for pair in self.pairs.as_slice() {
+            size = size.saturating_add(pair.1);
+        }
+        size
+    }
+
+    /// Whether there is no value.
+    pub fn is_empty(&self) -> bool
+        ensures none { IsTrue result ↔ (self.now ≡ []) }
+        ensures size { result ≡ nat_eq (size self.now) 0 }
+    {
+        self.pairs.is_empty()
+    }
+
+    /// The sum of the values, each copy added.
+    ///
+    /// # Errors
+    ///
+    /// `Fault::Overflow` where the exact sum is outside -2^63..2^63-1.
+    pub fn sum(&self) -> Result<i64, Fault>
+        requires { total self.now ≤ 4096 }
+        ensures { result ≡ sum_or_overflow self.now }
+    {
+        let mut sum: i128 = 0;
+        for pair in self.pairs.as_slice() {
+            sum += weight(pair.0, pair.1);
+        }
+        i64::try_from(sum).map_err(|_| Fault::Overflow)
+    }
+
+    /// The least value.
+    pub fn least(&self) -> Option<i64>
+        ensures { result ≡ least self.now }
+    {
+        match self.pairs.as_slice() {
+            [] => None,
+            [first, ..] => Some(first.0),
+        }
+    }
+
+    /// The greatest value.
+    pub fn most(&self) -> Option<i64>
+        ensures { result ≡ most self.now }
+    {
+        match self.pairs.as_slice() {
+            [] => None,
+            [.., last] => Some(last.0),
+        }
+    }
+
+    /// How often a value is in the bag.
+    pub fn times(&self, value: i64) -> u64
+        ensures { result ≡ count_of value self.now }
+    {
+        match self.search(value) {
+            Ok(place) => self.pairs[place].1,
+            Err(_) => 0,
+        }
+    }
+
+    /// The values in ascending order, each with its count.
+    pub fn pairs(&self) -> &[(i64, u64)]
+        ensures walk { result.now ≡ self.now }
+        ensures bag { IsBag self.now }
+    {
+        &self.pairs
+    }
+
+    // Where a value stands among the pairs, or where it would stand.
+    fn search(&self, value: i64) -> Result<usize, usize>
+        ensures found { IfOk result (λ place. (place ≡ place_of value self.now) × (place < length self.now) × (0 < count_of value self.now)) }
+        ensures absent { IfErr result (λ place. (place ≡ place_of value self.now) × (place ≤ length self.now) × (count_of value self.now ≡ 0)) }
+        ensures bag { IsBag self.now }
+    {
+        self.pairs
+            .as_slice()
+            .binary_search_by_key(&value, |&(present, _)| present)
+    }
+}
+
+// The sum of so many copies of a value.
+fn weight(value: i64, copies: u64) -> i128
+    ensures product { result ≡ pos copies *ℤ value }
+    ensures low { neg_ℤ (pos (2 ^ 63 * copies)) ≤ℤ result }
+    ensures high { result ≤ℤ pos (2 ^ 63 * copies) }
+{
+    i128::from(copies) * i128::from(value)
+}
+
+impl MadeWith<Global> for Bag {
+    ghost is_made_with = { λ b. b ≡ [] };
+
+    fn made_with(alloc: Global) -> Self {
+        Bag::new(alloc)
+    }
+}
+
+impl Clone for Bag {
+    ghost is_clone = { λ b c. c ≡ b };
+
+    fn clone(&self) -> Result<Self, AllocError> {
+        Ok(Bag {
+            pairs: self.pairs.clone()?,
+        })
+    }
+}
+
+impl PartialEq for Bag {
+    ghost eq = { same_bag };
+
+    ghost laws = { partial_equiv_from_equiv (decided same_bag same_bag-decides) };
+
+    fn eq(&self, other: &Self) -> bool {
+        self.pairs == other.pairs
+    }
+}
+
+impl Eq for Bag {
+    ghost laws = { decided same_bag same_bag-decides };
 }
 
 /// Bags in the order of their ports.
@@ -46,4 +241,106 @@ impl Model for Bags {
     ghost Value = { List Counts };
 
     ghost view = { λ b. b.bags.items };
+}
+
+impl Bags {
+    /// An empty bag for each of so many ports.
+    ///
+    /// # Errors
+    ///
+    /// No memory for so many bags.
+    pub fn empty(alloc: Global, ports: usize) -> Result<Self, AllocError>
+        ensures { IfOk result (λ bags. bags ≡ replicate ports []) }
+    {
+        let mut bags = SmallVec::with_capacity(alloc, ports)?;
+        for _ in 0..ports {
+            bags.push(Bag::new(alloc))?;
+        }
+        Ok(Bags { bags })
+    }
+
+    /// The number of ports.
+    pub fn len(&self) -> usize
+        ensures { result ≡ length self.now }
+    {
+        self.bags.len()
+    }
+
+    /// The bag of a port.
+    pub fn get(&self, port: usize) -> &Bag
+        requires { port < length self.now }
+        ensures { result.now ≡ bag_at self.now port }
+    {
+        &self.bags[port]
+    }
+
+    /// One more copy of a value at a port.
+    ///
+    /// # Errors
+    ///
+    /// No memory for a value that the bag lacks. All bags are as before.
+    pub fn insert(&mut self, port: usize, value: i64) -> Result<(), AllocError>
+        requires { port < length self.old }
+        ensures ok { OnOk result (self.new ≡ slice_set self.old port (with_copies value 1 (bag_at self.old port))) }
+        ensures err { OnErr result (self.new ≡ self.old) }
+    {
+        let bag = &mut self.bags[port];
+        bag.insert(value)
+    }
+
+    /// The values of a bag at a port, beside those that are there.
+    ///
+    /// # Errors
+    ///
+    /// No memory for the values that the bag lacks. All bags are as before.
+    pub fn union_at(&mut self, port: usize, values: &Bag) -> Result<(), AllocError>
+        requires { port < length self.old }
+        ensures ok { OnOk result (self.new ≡ slice_set self.old port (union (bag_at self.old port) values.now)) }
+        ensures err { OnErr result (self.new ≡ self.old) }
+    {
+        let bag = &mut self.bags[port];
+        bag.union(values)
+    }
+
+    /// The number of values in all bags, each copy counted. One above 2^64-1 stands as that number.
+    pub fn total(&self) -> u64
+        ensures { result ≡ size_of_all self.now }
+    {
+        let mut total: u64 = 0;
+        for bag in self.bags.as_slice() {
+            total = total.saturating_add(bag.size());
+        }
+        total
+    }
+
+    /// The bags by port.
+    pub fn as_slice(&self) -> &[Bag]
+        ensures { result.now ≡ self.now }
+    {
+        self.bags.as_slice()
+    }
+}
+
+impl Clone for Bags {
+    ghost is_clone = { λ b c. c ≡ b };
+
+    fn clone(&self) -> Result<Self, AllocError> {
+        Ok(Bags {
+            bags: self.bags.clone()?,
+        })
+    }
+}
+
+impl PartialEq for Bags {
+    ghost eq = { same_bags };
+
+    ghost laws = { partial_equiv_from_equiv (decided same_bags same_bags-decides) };
+
+    fn eq(&self, other: &Self) -> bool {
+        self.bags == other.bags
+    }
+}
+
+impl Eq for Bags {
+    ghost laws = { decided same_bags same_bags-decides };
 }

@@ -1,9 +1,12 @@
 //! The entries of a trace.
 
+ghost use Rattle.std.specs.Prelude.{◌≡◌};
+
 use crate::bag::{Bag, Bags};
 use crate::fault::Fault;
 use crate::state::State;
 use dv_time::Time;
+use std::alloc::AllocError;
 
 /// Which transition took place.
 #[derive(Clone, Copy, Debug, PartialEq, Eq)]
@@ -14,14 +17,28 @@ pub enum Kind {
 }
 
 /// What happened to a component: a transition with the state after it, or a fault.
-#[derive(Debug, Drop)]
+#[derive(Debug, Drop, PartialEq, Eq)]
 pub enum What {
     Transition { kind: Kind, state: State },
     Fault(Fault),
 }
 
+impl Clone for What {
+    ghost is_clone = { λ w x. x ≡ w };
+
+    fn clone(&self) -> Result<Self, AllocError> {
+        match self {
+            What::Transition { kind, state } => Ok(What::Transition {
+                kind: *kind,
+                state: state.clone()?,
+            }),
+            What::Fault(fault) => Ok(What::Fault(*fault)),
+        }
+    }
+}
+
 /// What happened to one component at one instant, and what it sent then, by output port.
-#[derive(Debug, Drop)]
+#[derive(Debug, Drop, PartialEq, Eq)]
 pub struct Entry {
     pub time: Time,
     pub component: u32,
@@ -29,10 +46,35 @@ pub struct Entry {
     pub sent: Bags,
 }
 
+impl Clone for Entry {
+    ghost is_clone = { λ e f. f ≡ e };
+
+    fn clone(&self) -> Result<Self, AllocError> {
+        Ok(Entry {
+            time: self.time,
+            component: self.component,
+            what: self.what.clone()?,
+            sent: self.sent.clone()?,
+        })
+    }
+}
+
 /// What left the model at one instant by one of its output ports.
-#[derive(Debug, Drop)]
+#[derive(Debug, Drop, PartialEq, Eq)]
 pub struct Outer {
     pub time: Time,
     pub port: u32,
     pub values: Bag,
+}
+
+impl Clone for Outer {
+    ghost is_clone = { λ o p. p ≡ o };
+
+    fn clone(&self) -> Result<Self, AllocError> {
+        Ok(Outer {
+            time: self.time,
+            port: self.port,
+            values: self.values.clone()?,
+        })
+    }
 }

@@ -1,6 +1,10 @@
 //! Parts of a trace.
 
+ghost use Rattle.std.specs.Prelude.{◌≡◌, [], ◌∷◌, ◌++◌, OnOk, OnErr};
+ghost use Rattle.dv_bag.specs.Part.{nothing};
+
 use crate::entry::{Entry, Outer};
+use std::alloc::{AllocError, Global};
 use std::marker::Model;
 
 /// Entries by time and component, and what those components sent outside.
@@ -16,6 +20,67 @@ impl Model for Part {
     ghost Value = { PartOf };
 
     ghost view = { λ p. record { entries = p.entries.items; outer = p.outer.items } };
+}
+
+impl Part {
+    /// No entries, and nothing sent outside.
+    pub fn new(alloc: Global) -> Self
+        ensures { result ≡ nothing }
+    {
+        Part {
+            entries: Vec::new(alloc),
+            outer: Vec::new(alloc),
+        }
+    }
+
+    /// One more entry, after those that are there.
+    ///
+    /// # Errors
+    ///
+    /// No memory for one more. The part is as before.
+    pub fn push_entry(&mut self, entry: Entry) -> Result<(), AllocError>
+        ensures ok { OnOk result (self.new ≡ record self.old { entries = self.old.entries ++ entry ∷ [] }) }
+        ensures err { OnErr result (self.new ≡ self.old) }
+    {
+        Ok(self.entries.push(entry)?)
+    }
+
+    /// One more line of what was sent outside, after those that are there.
+    ///
+    /// # Errors
+    ///
+    /// No memory for one more. The part is as before.
+    pub fn push_outer(&mut self, outer: Outer) -> Result<(), AllocError>
+        ensures ok { OnOk result (self.new ≡ record self.old { outer = self.old.outer ++ outer ∷ [] }) }
+        ensures err { OnErr result (self.new ≡ self.old) }
+    {
+        Ok(self.outer.push(outer)?)
+    }
+
+    /// The entries, by time and component.
+    pub fn entries(&self) -> &[Entry]
+        ensures { result.now ≡ self.now.entries }
+    {
+        &self.entries
+    }
+
+    /// What was sent outside, by time and port.
+    pub fn outer(&self) -> &[Outer]
+        ensures { result.now ≡ self.now.outer }
+    {
+        &self.outer
+    }
+}
+
+impl Clone for Part {
+    ghost is_clone = { λ p q. q ≡ p };
+
+    fn clone(&self) -> Result<Self, AllocError> {
+        Ok(Part {
+            entries: self.entries.clone()?,
+            outer: self.outer.clone()?,
+        })
+    }
 }
 
 /// The part of all components.

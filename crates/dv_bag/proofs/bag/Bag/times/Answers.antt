@@ -1,0 +1,6 @@
+use Rattle.std.proofs.lemmas.Int.{to_z-of_z}
+use Rattle.dv_bag.proofs.Pairs.{copies_read}
+use Rattle.dv_bag.proofs.bag.Bag.times.Goals as goal
+
+pub returns-in-Ok : goal.returns-in-Ok
+returns-in-Ok c = copies_read _ _ c.args.self.now _ _ _ _ (to_z-of_z _ _ c.ranges.value) c.self.view_is c.deref.ensures c.deref.ensures c.in-Ok.ensures.found

@@ -1,0 +1,147 @@
+-- What lists of statements do, one statement at a time.
+use Rattle.std.proofs.Common.{◌≡◌, ℕ, ◌+◌, ◌<◌, ◌≤◌, true, false, List, [], ◌∷◌, length, get_or, drop, set, Option, Some, None, slice_get, unwrap_or, Result, Ok, Err, refl, sym, ap, ◌∙◌, subst, ℤ, if◌then◌else◌}
+use mathlib.Core.Former.{Count}
+use Rattle.std.proofs.lemmas.List.{at_drop_more, set_past}
+use Rattle.dv_syntax.specs.declared.tree.Expr.{Expr}
+use Rattle.dv_syntax.specs.declared.tree.Block.{Block}
+use Rattle.dv_syntax.specs.declared.tree.Stmt.{Stmt, Row_of-Stmt, end_of-Stmt, more_of-Stmt, items-the_row-Stmt, items_hidden-the_row-Stmt-0}
+use Rattle.dv_syntax.specs.declared.tree.Stmt as stmt
+use Rattle.dv_syntax.specs.Trees.{Statements, Done, If, IfElse, expression_of, statement_before, row_statements, statements_of}
+use Rattle.dv_bag.specs.Behaviour.{◌>>=◌}
+use Rattle.dv_bag.specs.Bag.{Counts, total, total_of_all, bag_at as bag_in, with_copies}
+use Rattle.dv_bag.specs.Outcome.{Fails}
+use Rattle.dv_bag.specs.declared.fault.Fault.{Fault}
+use Rattle.dv_bag.specs.declared.fault.Fault.TheVariants.{Flood}
+use Rattle.dv_bag.specs.declared.fault.RuleError.{RuleError}
+use Rattle.dv_bag.specs.declared.fault.RuleError.TheVariants as error
+use Rattle.dv_bag.specs.declared.state.Effect.{Effect}
+use Rattle.dv_bag.specs.declared.value.Value.{Value}
+use Rattle.std.proofs.lemmas.Option.{unwrap_or-slice_get}
+use Rattle.std.proofs.lemmas.Bool.{lt-leb}
+use Rattle.dv_eval.specs.Scope.{Scope, place_of}
+use Rattle.dv_eval.specs.Meaning.{run, meaning, assigned, sends, sent_at, total_sent, bag_at, number_of, truth_of}
+
+-- a block in the code's tree, as a list
+statements_of-row : (n : Count) (row : Row_of-Stmt n) → statements_of (items-the_row-Stmt n row) ≡ row_statements row
+statements_of-row n end_of-Stmt = refl
+statements_of-row n (more_of-Stmt s rest) = ap (statement_before s) (statements_of-row _ rest)
+
+abbrev then_row : Stmt → (n : Count) × Row_of-Stmt n
+then_row (stmt.If' line e shape block) = (_, block)
+then_row (stmt.IfElse' line e shape block other_shape other) = (_, block)
+then_row _ = (_, end_of-Stmt)
+
+abbrev else_row : Stmt → (n : Count) × Row_of-Stmt n
+else_row (stmt.IfElse' line e shape block other_shape other) = (_, other)
+else_row _ = (_, end_of-Stmt)
+
+pub statement_before-If : (line : ℕ) (e : Expr) (block : Block) (rest : Statements) → statement_before (stmt.If line e block) rest ≡ If line (expression_of e) (statements_of block.statements.items) rest
+statement_before-If line e block rest =
+    let row = then_row (stmt.If line e block) in
+    ap (λ b. If line (expression_of e) b rest) (sym (statements_of-row row.0 row.1) ∙ ap statements_of (items_hidden-the_row-Stmt-0 block.statements))
+
+pub statement_before-IfElse : (line : ℕ) (e : Expr) (block other : Block) (rest : Statements) → statement_before (stmt.IfElse line e block other) rest ≡ IfElse line (expression_of e) (statements_of block.statements.items) (statements_of other.statements.items) rest
+statement_before-IfElse line e block other rest =
+    let row = then_row (stmt.IfElse line e block other) in
+    let other_row = else_row (stmt.IfElse line e block other) in
+    ap (λ b. IfElse line (expression_of e) b (row_statements other_row.1) rest) (sym (statements_of-row row.0 row.1) ∙ ap statements_of (items_hidden-the_row-Stmt-0 block.statements))
+    ∙ ap (λ b. IfElse line (expression_of e) (statements_of block.statements.items) b rest) (sym (statements_of-row other_row.0 other_row.1) ∙ ap statements_of (items_hidden-the_row-Stmt-0 other.statements))
+
+-- to go on with a value is to keep it and then go on
+bind_kept : {A B : Type 0} (m : Result A Fault) (k : A → Result B Fault) → (m >>= k) ≡ ((m >>= λ x. Ok x) >>= k)
+bind_kept (Ok x) k = refl
+bind_kept (Err f) k = refl
+
+bind_twice : {A B C : Type 0} (m : Result A Fault) (f : A → Result B Fault) (k : B → Result C Fault) → (m >>= λ v. f v >>= k) ≡ ((m >>= λ v. f v >>= λ x. Ok x) >>= k)
+bind_twice (Ok v) f k = bind_kept (f v) k
+bind_twice (Err e) f k = refl
+
+-- a statement before a rest: first the statement alone, and then the rest
+pub run-statement_before : (scope : Scope) (s : Stmt) (rest : Statements) (e : Effect) → run scope (statement_before s rest) e ≡ (run scope (statement_before s Done) e >>= run scope rest)
+run-statement_before scope (stmt.Assign name value) rest e = bind_twice (meaning scope e.state (expression_of value)) (λ v. assigned scope name.number v e) (run scope rest)
+run-statement_before scope (stmt.Goto line phase) rest e = refl
+run-statement_before scope (stmt.Send line port value) rest e = bind_twice (meaning scope e.state (expression_of value)) (λ v. sends scope port.number v e) (run scope rest)
+run-statement_before scope (stmt.If' line c shape block) rest e =
+    bind_twice (meaning scope e.state (expression_of c)) (λ v. if truth_of v then run scope (row_statements block) e else Ok e) (run scope rest)
+run-statement_before scope (stmt.IfElse' line c shape block other_shape other) rest e =
+    bind_twice (meaning scope e.state (expression_of c)) (λ v. if truth_of v then run scope (row_statements block) e else run scope (row_statements other) e) (run scope rest)
+
+-- the statements from a place on: the one there, and then those behind it
+run-drop : (scope : Scope) (ss : List Stmt) (i : ℕ) (s : Stmt) (e : Effect) → i < length ss → s ≡ get_or ss i s → run scope (statements_of (drop i ss)) e ≡ (run scope (statement_before s Done) e >>= run scope (statements_of (drop (i + 1) ss)))
+run-drop scope ss i s e within is =
+    at_drop_more (λ rest. run scope (statements_of rest) e) ss i s within
+    ∙ ap (λ x. run scope (statement_before x (statements_of (drop (i + 1) ss))) e) (sym is)
+    ∙ run-statement_before scope s (statements_of (drop (i + 1) ss)) e
+
+pub run-drop_ok : (scope : Scope) (ss : List Stmt) (i : ℕ) (s : Stmt) (e next : Effect) (whole : Result Effect Fault) → i < length ss → s ≡ get_or ss i s → run scope (statements_of (drop i ss)) e ≡ whole → run scope (statement_before s Done) e ≡ Ok next → run scope (statements_of (drop (i + 1) ss)) next ≡ whole
+run-drop_ok scope ss i s e next whole within is known step =
+    sym (ap (λ m. m >>= run scope (statements_of (drop (i + 1) ss))) step) ∙ (sym (run-drop scope ss i s e within is) ∙ known)
+
+pub run-drop_err : (scope : Scope) (ss : List Stmt) (i : ℕ) (s : Stmt) (e : Effect) (whole : Result Effect Fault) (error : RuleError) → i < length ss → s ≡ get_or ss i s → run scope (statements_of (drop i ss)) e ≡ whole → Fails error (run scope (statement_before s Done) e) → Fails error whole
+run-drop_err scope ss i s e whole (error.Fault f) within is known step =
+    sym known ∙ (run-drop scope ss i s e within is ∙ ap (λ m. m >>= run scope (statements_of (drop (i + 1) ss))) step)
+run-drop_err scope ss i s e whole error.Memory within is known step = tt
+
+-- the values in all bags, counted
+total_sent-total_of_all : (bags : List Counts) → total_sent bags ≡ total_of_all bags
+total_sent-total_of_all [] = refl
+total_sent-total_of_all (b ∷ bags) = ap (λ n. total b + n) (total_sent-total_of_all bags)
+
+bag_at-unwrap_or : (bags : List Counts) (o : Option Counts) → bag_at bags o ≡ unwrap_or o []
+bag_at-unwrap_or bags None = refl
+bag_at-unwrap_or bags (Some b) = refl
+
+bag_at-slice_get : (bags : List Counts) (port : ℕ) → bag_at bags (slice_get bags port) ≡ bag_in bags port
+bag_at-slice_get bags port = bag_at-unwrap_or bags (slice_get bags port) ∙ unwrap_or-slice_get bags port []
+
+sends-within : (scope : Scope) (name : ℕ) (v : Value) (e : Effect) (place : Option ℕ) → total_of_all e.sent < 4096 → place_of name scope.outputs ≡ place → sends scope name v e ≡ Ok (sent_at place (number_of v) e)
+sends-within scope name v e place few at =
+    ap (λ b. if b then Err Flood else Ok (sent_at (place_of name scope.outputs) (number_of v) e)) (lt-leb 4096 (total_sent e.sent) (subst (λ n. n < 4096) (sym (total_sent-total_of_all e.sent)) few))
+    ∙ ap (λ p. Ok (sent_at p (number_of v) e)) at
+
+-- a value at a port
+pub sends-some : (scope : Scope) (name : ℕ) (v : Value) (e : Effect) (port : ℕ) (n : ℤ) (bags : List Counts) → total_of_all e.sent < 4096 → place_of name scope.outputs ≡ Some port → n ≡ number_of v → bags ≡ set e.sent port (with_copies n 1 (bag_in e.sent port)) → sends scope name v e ≡ Ok (record { state = e.state; sent = bags; goto = e.goto })
+sends-some scope name v e port n bags few at number is =
+    sends-within scope name v e (Some port) few at
+    ∙ ap (λ b. Ok (record { state = e.state; sent = set e.sent port (with_copies (number_of v) 1 b); goto = e.goto })) (bag_at-slice_get e.sent port)
+    ∙ ap (λ x. Ok (record { state = e.state; sent = set e.sent port (with_copies x 1 (bag_in e.sent port)); goto = e.goto })) (sym number)
+    ∙ ap (λ x. Ok (record { state = e.state; sent = x; goto = e.goto })) (sym is)
+
+-- a value at a port past the last
+pub sends-past : (scope : Scope) (name : ℕ) (v : Value) (e : Effect) (port : ℕ) → total_of_all e.sent < 4096 → place_of name scope.outputs ≡ Some port → length e.sent ≤ port → sends scope name v e ≡ Ok e
+sends-past scope name v e port few at past =
+    sends-some scope name v e port (number_of v) e.sent few at refl (sym (set_past e.sent port (with_copies (number_of v) 1 (bag_in e.sent port)) past))
+
+-- what is left of a branch
+bind_ok : {A : Type 0} (m : Result A Fault) → (m >>= λ x. Ok x) ≡ m
+bind_ok (Ok x) = refl
+bind_ok (Err f) = refl
+
+pub run-If : (scope : Scope) (s : Stmt) (line : ℕ) (e : Expr) (block : Block) (items : List Stmt) (effect : Effect) (v : Value) → s ≡ stmt.If line e block → items ≡ block.statements.items → meaning scope effect.state (expression_of e) ≡ Ok v → truth_of v ≡ true → run scope (statement_before s Done) effect ≡ run scope (statements_of items) effect
+run-If scope s line e block items effect v is of value holds =
+    ap (λ x. run scope (statement_before x Done) effect) is
+    ∙ ap (λ x. run scope x effect) (statement_before-If line e block Done)
+    ∙ ap (λ m. m >>= λ x. (if truth_of x then run scope (statements_of block.statements.items) effect else Ok effect) >>= λ y. Ok y) value
+    ∙ ap (λ b. (if b then run scope (statements_of block.statements.items) effect else Ok effect) >>= λ y. Ok y) holds
+    ∙ bind_ok (run scope (statements_of block.statements.items) effect)
+    ∙ ap (λ x. run scope (statements_of x) effect) (sym of)
+
+run_IfElse : (scope : Scope) (s : Stmt) (line : ℕ) (e : Expr) (block other : Block) (effect : Effect) (v : Value) → s ≡ stmt.IfElse line e block other → meaning scope effect.state (expression_of e) ≡ Ok v → run scope (statement_before s Done) effect ≡ ((if truth_of v then run scope (statements_of block.statements.items) effect else run scope (statements_of other.statements.items) effect) >>= λ y. Ok y)
+run_IfElse scope s line e block other effect v is value =
+    ap (λ x. run scope (statement_before x Done) effect) is
+    ∙ ap (λ x. run scope x effect) (statement_before-IfElse line e block other Done)
+    ∙ ap (λ m. m >>= λ x. (if truth_of x then run scope (statements_of block.statements.items) effect else run scope (statements_of other.statements.items) effect) >>= λ y. Ok y) value
+
+pub run-IfElse_true : (scope : Scope) (s : Stmt) (line : ℕ) (e : Expr) (block other : Block) (items : List Stmt) (effect : Effect) (v : Value) → s ≡ stmt.IfElse line e block other → items ≡ block.statements.items → meaning scope effect.state (expression_of e) ≡ Ok v → truth_of v ≡ true → run scope (statement_before s Done) effect ≡ run scope (statements_of items) effect
+run-IfElse_true scope s line e block other items effect v is of value holds =
+    run_IfElse scope s line e block other effect v is value
+    ∙ ap (λ b. (if b then run scope (statements_of block.statements.items) effect else run scope (statements_of other.statements.items) effect) >>= λ y. Ok y) holds
+    ∙ bind_ok (run scope (statements_of block.statements.items) effect)
+    ∙ ap (λ x. run scope (statements_of x) effect) (sym of)
+
+pub run-IfElse_false : (scope : Scope) (s : Stmt) (line : ℕ) (e : Expr) (block other : Block) (items : List Stmt) (effect : Effect) (v : Value) → s ≡ stmt.IfElse line e block other → items ≡ other.statements.items → meaning scope effect.state (expression_of e) ≡ Ok v → truth_of v ≡ false → run scope (statement_before s Done) effect ≡ run scope (statements_of items) effect
+run-IfElse_false scope s line e block other items effect v is of value holds =
+    run_IfElse scope s line e block other effect v is value
+    ∙ ap (λ b. (if b then run scope (statements_of block.statements.items) effect else run scope (statements_of other.statements.items) effect) >>= λ y. Ok y) holds
+    ∙ bind_ok (run scope (statements_of other.statements.items) effect)
+    ∙ ap (λ x. run scope (statements_of x) effect) (sym of)

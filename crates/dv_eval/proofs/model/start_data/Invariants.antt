@@ -1,0 +1,6 @@
+use Rattle.std.proofs.Common.{◌≡◌, take, map}
+use Rattle.dv_bag.specs.declared.state.Datum.TheVariants.{Number}
+use Rattle.dv_eval.proofs.model.start_data.Given as goal
+
+abbrev pub invariant-loop-declaration : goal.invariant-loop-declaration
+invariant-loop-declaration l = l.variables ≡ map (λ d. Number d.start) (take l.declaration-index l.declaration-items)

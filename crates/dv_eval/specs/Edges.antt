@@ -1,0 +1,33 @@
+-- Expressions of numbers alone, at the edges of 64 bits.
+use Rattle.std.specs.Prelude.{ℕ, pos, [], Result}
+use Rattle.dv_syntax.specs.Trees.{Expression, Literal, Parens, Binary}
+use Rattle.dv_syntax.specs.declared.tree.Operator.TheVariants.{Add, Subtract, Divide}
+use Rattle.dv_bag.specs.declared.fault.Fault.{Fault}
+use Rattle.dv_bag.specs.declared.value.Value.{Value}
+use Rattle.dv_eval.specs.Scope.{nothing_declared}
+use Rattle.dv_eval.specs.Meaning.{meaning}
+
+abbrev pub number : ℕ → Expression
+number n = Literal (record { value = pos n; line = 1 })
+
+-- 0 less a number, in parentheses
+abbrev pub minus : ℕ → Expression
+minus n = Parens 1 (Binary Subtract (number 0) (number n))
+
+abbrev pub greatest : Expression
+greatest = number 9223372036854775807
+
+-- (0 - 9223372036854775807 - 1)
+abbrev pub least : Expression
+least = Parens 1 (Binary Subtract (Binary Subtract (number 0) greatest) (number 1))
+
+-- one more than the greatest number
+abbrev pub too_great : Expression
+too_great = Parens 1 (Binary Add greatest (number 1))
+
+abbrev pub by_nothing : Expression
+by_nothing = Parens 1 (Binary Divide (number 1) (number 0))
+
+-- the value where nothing is declared
+abbrev pub value : Expression → Result Value Fault
+value e = meaning nothing_declared (record { phase = 0; variables = [] }) e

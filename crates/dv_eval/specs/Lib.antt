@@ -1,0 +1,3 @@
+pub mod Scope
+pub mod Meaning
+pub mod Edges

@@ -1,0 +1,152 @@
+//! The value of an expression.
+
+ghost use Rattle.std.specs.Prelude.{◌≡◌, ◌+ℤ◌, ◌-ℤ◌, ◌*ℤ◌, neg_ℤ};
+ghost use Rattle.dv_syntax.specs.Trees.{expression_of};
+ghost use Rattle.dv_eval.specs.Meaning.{applied, kept, meaning, number_of, quotient, remainder, same, truth_of, value_of_name};
+
+use crate::env::Env;
+use dv_bag::{Datum, Fault, State, Value};
+use dv_syntax::{Expr, Operator};
+
+/// The value of an expression in a state.
+///
+/// # Errors
+///
+/// The first fault from the left: `Overflow` or `Divide`.
+pub fn eval(expression: &Expr, state: &State, env: &Env) -> Result<Value, Fault>
+    ensures { result ≡ meaning env.now state.now (expression_of expression.now) }
+{
+    match expression {
+        Expr::Literal(number) => Ok(Value::Number(number.value)),
+        Expr::Named(name) => Ok(value_of_name(name.number, state, env)),
+        Expr::Parens { inner, .. } => eval(inner, state, env),
+        Expr::Negative { operand, .. } => negated(eval(operand, state, env)?),
+        Expr::Binary {
+            operator,
+            left,
+            right,
+        } => {
+            let left = eval(left, state, env)?;
+            let right = eval(right, state, env)?;
+            applied(*operator, left, right)
+        }
+    }
+}
+
+// What a name stands for.
+fn value_of_name(name: u32, state: &State, env: &Env) -> Value
+    ensures { result ≡ value_of_name env.now state.now name }
+{
+    let Some(place) = env.variable(name) else {
+        return Value::Number(0);
+    };
+    match state.variables.get(place) {
+        Some(Datum::Number(number)) => Value::Number(*number),
+        Some(Datum::Flag(truth)) => Value::Truth(*truth),
+        Some(Datum::Bag(_)) | None => Value::Number(0),
+    }
+}
+
+// What an operator gives.
+fn applied(operator: Operator, left: Value, right: Value) -> Result<Value, Fault>
+    ensures { result ≡ applied operator left right }
+{
+    let a = number_of(left);
+    let b = number_of(right);
+    match operator {
+        Operator::Add => sum(a, b),
+        Operator::Subtract => difference(a, b),
+        Operator::Multiply => product(a, b),
+        Operator::Divide => quotient(a, b),
+        Operator::Remainder => remainder(a, b),
+        Operator::Equal => Ok(Value::Truth(same(left, right))),
+        Operator::Unequal => Ok(Value::Truth(!same(left, right))),
+        Operator::Less => Ok(Value::Truth(a < b)),
+        Operator::AtMost => Ok(Value::Truth(a <= b)),
+        Operator::Greater => Ok(Value::Truth(b < a)),
+        Operator::AtLeast => Ok(Value::Truth(b <= a)),
+    }
+}
+
+// A value as a number.
+pub(crate) fn number_of(value: Value) -> i64
+    ensures { result ≡ number_of value }
+{
+    match value {
+        Value::Number(number) => number,
+        Value::Truth(truth) => i64::from(truth),
+    }
+}
+
+// A value as a truth value.
+pub(crate) fn truth_of(value: Value) -> bool
+    ensures { result ≡ truth_of value }
+{
+    match value {
+        Value::Number(number) => number != 0,
+        Value::Truth(truth) => truth,
+    }
+}
+
+fn same(left: Value, right: Value) -> bool
+    ensures { result ≡ same left right }
+{
+    number_of(left) == number_of(right)
+}
+
+fn sum(a: i64, b: i64) -> Result<Value, Fault>
+    ensures { result ≡ kept (a +ℤ b) }
+{
+    match a.checked_add(b) {
+        Some(sum) => Ok(Value::Number(sum)),
+        None => Err(Fault::Overflow),
+    }
+}
+
+fn difference(a: i64, b: i64) -> Result<Value, Fault>
+    ensures { result ≡ kept (a -ℤ b) }
+{
+    match a.checked_sub(b) {
+        Some(difference) => Ok(Value::Number(difference)),
+        None => Err(Fault::Overflow),
+    }
+}
+
+fn product(a: i64, b: i64) -> Result<Value, Fault>
+    ensures { result ≡ kept (a *ℤ b) }
+{
+    match a.checked_mul(b) {
+        Some(product) => Ok(Value::Number(product)),
+        None => Err(Fault::Overflow),
+    }
+}
+
+fn negated(value: Value) -> Result<Value, Fault>
+    ensures { result ≡ kept (neg_ℤ (number_of value)) }
+{
+    match number_of(value).checked_neg() {
+        Some(negated) => Ok(Value::Number(negated)),
+        None => Err(Fault::Overflow),
+    }
+}
+
+fn quotient(a: i64, b: i64) -> Result<Value, Fault>
+    ensures { result ≡ quotient a b }
+{
+    if b == 0 {
+        return Err(Fault::Divide);
+    }
+    match a.checked_div(b) {
+        Some(quotient) => Ok(Value::Number(quotient)),
+        None => Err(Fault::Overflow),
+    }
+}
+
+fn remainder(a: i64, b: i64) -> Result<Value, Fault>
+    ensures { result ≡ remainder a b }
+{
+    if b == 0 {
+        return Err(Fault::Divide);
+    }
+    Ok(Value::Number(a.wrapping_rem(b)))
+}

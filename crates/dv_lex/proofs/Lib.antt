@@ -1,0 +1,9 @@
+pub mod TableLemmas
+pub mod Runs
+pub mod Spellings
+pub mod Firsts
+pub mod Readings
+pub mod Refusals
+pub mod Ascii
+pub mod NumberingLemmas
+pub mod Progress

@@ -1,0 +1,32 @@
+-- How a model text is cut into lexemes: each is the longest at its place.
+use Rattle.std.specs.Prelude.{◌≡◌, ℕ, ◌+◌, ◌^◌, ◌<◌, ◌≤◌, List, [], ◌∷◌, ◌++◌, length}
+use Rattle.dv_lex.specs.Lexemes.{Lexeme, Numeral, Spells, line_feeds}
+
+-- a lexeme, and the line of its first byte
+pub record Placed : Type 0 where
+  pub lexeme : Lexeme
+  pub line : ℕ
+
+-- the bytes begin with the lexeme, which `front` spells, and then come those of `rest`; no longer front spells a lexeme
+pub record IsFirst (bytes : List ℕ) (lexeme : Lexeme) (front rest : List ℕ) : Type 0 where
+  pub whole : bytes ≡ front ++ rest
+  pub spelled : Spells lexeme front
+  pub longest : (other : Lexeme) (longer more : List ℕ) → bytes ≡ longer ++ more → Spells other longer → length longer ≤ length front
+
+-- no lexeme begins the bytes
+abbrev pub NoneBegins : List ℕ → Type 0
+NoneBegins bytes = (lexeme : Lexeme) (front rest : List ℕ) → bytes ≡ front ++ rest → ¬ Spells lexeme front
+
+-- a number is at most 2^63 - 1
+abbrev pub IsInRange : Lexeme → Type 0
+IsInRange (Numeral value) = value < 2 ^ 63
+IsInRange _ = Unit {0}
+
+-- the bytes begin with a number above 2^63 - 1
+abbrev pub LargeNumberBegins : List ℕ → Type 0
+LargeNumberBegins bytes = (value : ℕ) × (front : List ℕ) × (rest : List ℕ) × IsFirst bytes (Numeral value) front rest × (2 ^ 63 ≤ value)
+
+-- the bytes, which begin on the line `line`, are these lexemes and then `rest`, which begins on the line `end`
+abbrev pub Reads : ℕ → List ℕ → List Placed → ℕ → List ℕ → Type 0
+Reads line bytes [] end rest = (end ≡ line) × (rest ≡ bytes)
+Reads line bytes (x ∷ xs) end rest = (x.line ≡ line) × IsInRange x.lexeme × ((front : List ℕ) × (after : List ℕ) × IsFirst bytes x.lexeme front after × Reads (line + line_feeds front) after xs end rest)

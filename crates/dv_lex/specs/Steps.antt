@@ -1,0 +1,48 @@
+-- What each part of the lexer reads.
+use Rattle.std.specs.Prelude.{◌≡◌, ℕ, ◌≤◌, length, Bool, false, true, List, [], ◌∷◌, ◌++◌, Some}
+use Rattle.std.specs.List.{list_all}
+use Rattle.dv_lex.specs.declared.token.Token.{Token}
+use Rattle.dv_lex.specs.declared.token.Symbol.{Symbol}
+use Rattle.dv_lex.specs.declared.error.Refusal.{Refusal}
+use Rattle.dv_lex.specs.declared.error.Refusal.TheVariants.{E2, E3}
+use Rattle.dv_lex.specs.Table.{with_name}
+use Rattle.dv_lex.specs.Lexemes.{Lexeme, Identifier, symbol_text}
+use Rattle.dv_lex.specs.Reading.{IsFirst, IsInRange, NoneBegins, LargeNumberBegins}
+use Rattle.dv_lex.specs.Numbering.{kind_of}
+
+-- the rest does not go on with a run of bytes that pass
+abbrev pub Ends : (ℕ → Bool) → List ℕ → Type 0
+Ends passes [] = Unit {0}
+Ends passes (b ∷ bytes) = passes b ≡ false
+
+-- the bytes are those from the front on that pass, and then the rest
+pub record SplitsRun (passes : ℕ → Bool) (bytes run rest : List ℕ) : Type 0 where
+  pub whole : bytes ≡ run ++ rest
+  pub each : list_all passes run ≡ true
+  pub ends : Ends passes rest
+
+-- the bytes are the symbol and then the rest, and begin with no longer symbol
+pub record IsLongestSymbol (bytes : List ℕ) (sign : Symbol) (rest : List ℕ) : Type 0 where
+  pub whole : bytes ≡ symbol_text sign ++ rest
+  pub longest : (other : Symbol) (more : List ℕ) → bytes ≡ symbol_text other ++ more → length (symbol_text other) ≤ length (symbol_text sign)
+
+-- the table after a lexeme: a name is added, unless it is there
+abbrev pub with_lexeme : List (List ℕ) → Lexeme → List (List ℕ)
+with_lexeme names (Identifier text) = with_name names text
+with_lexeme names _ = names
+
+-- the bytes begin with a lexeme within the range of numbers, which is this token on its line; the table grows from old to new by it
+pub record ReadsToken (line : ℕ) (bytes : List ℕ) (old new : List (List ℕ)) (token : Token) (rest : List ℕ) : Type 0 where
+  pub lexeme : Lexeme
+  pub front : List ℕ
+  pub first : IsFirst bytes lexeme front rest
+  pub range : IsInRange lexeme
+  pub table : new ≡ with_lexeme old lexeme
+  pub kind : kind_of new lexeme ≡ Some token.kind
+  pub on_line : token.line ≡ line
+
+-- the bytes begin with no lexeme, or with a number that is out of range
+abbrev pub IsNoToken : List ℕ → Refusal → Type 0
+IsNoToken bytes E2 = NoneBegins bytes
+IsNoToken bytes E3 = LargeNumberBegins bytes
+IsNoToken bytes _ = ⊥

@@ -1,0 +1,228 @@
+//! From the bytes of a model text to its tokens.
+
+ghost use Rattle.std.specs.Prelude.{List, ◌++◌, ◌≡◌, ◌≢◌, ℕ, ◌+◌, ◌^◌, ◌<◌, ◌≤◌, false, length, slice_index, IfOk, MatchOption, Some, Err, pos, IsTrue, not, ◌==◌};
+ghost use Rattle.std.specs.Char.{is_ascii_digit};
+ghost use Rattle.std.specs.List.{list_all, take_while};
+ghost use Rattle.std.specs.Str.Parse.{digits_value};
+ghost use Rattle.dv_lex.specs.Lexemes.{Lexeme, symbol_text, Spells, IsWord, is_blank, starts_name, continues_name};
+ghost use Rattle.dv_lex.specs.Numbering.{kind_of};
+ghost use Rattle.dv_lex.specs.Steps.{SplitsRun, IsLongestSymbol, ReadsToken, IsNoToken, with_lexeme};
+ghost use Rattle.dv_lex.specs.Texts.{IsTokensOf, IsRefused, IsReadable, greatest_length, line_after};
+
+use crate::error::{LoadError, Refusal, TextError};
+use crate::keywords::keyword;
+use crate::names::Names;
+use crate::symbols::{double, single};
+use crate::token::{Symbol, Token, TokenKind, Tokens};
+use std::alloc::{AllocError, Global};
+
+/// The greatest length of a model text, in bytes.
+pub const GREATEST_LENGTH: usize = 16_777_216;
+
+/// Whether a name may begin with the character.
+fn starts_name(byte: u8) -> bool
+    ensures { result ≡ starts_name byte }
+{
+    byte.is_ascii_alphabetic() || byte == b'_'
+}
+
+/// Whether the character may stand in a name behind its first.
+fn continues_name(byte: u8) -> bool
+    ensures { result ≡ continues_name byte }
+{
+    starts_name(byte) || byte.is_ascii_digit()
+}
+
+/// How many characters from the front on may stand in a name.
+fn word_len(bytes: &[u8]) -> usize
+    ensures { result ≡ length (take_while continues_name bytes.now) }
+{
+    bytes
+        .iter()
+        .take_while(|byte| continues_name(**byte))
+        .count()
+}
+
+/// How many digits there are from the front on.
+fn digits_len(bytes: &[u8]) -> usize
+    ensures { result ≡ length (take_while is_ascii_digit bytes.now) }
+{
+    bytes
+        .iter()
+        .take_while(|byte| byte.is_ascii_digit())
+        .count()
+}
+
+/// How many bytes there are up to the end of the line.
+fn line_len(bytes: &[u8]) -> usize
+    ensures { result ≡ length (take_while (λ b. not (b == 10)) bytes.now) }
+{
+    bytes.iter().take_while(|byte| **byte != b'\n').count()
+}
+
+/// The characters from the front on that may stand in a name, and what follows them.
+fn split_word(bytes: &[u8]) -> (&[u8], &[u8])
+    ensures { SplitsRun continues_name bytes.now result.0.now result.1.now }
+{
+    bytes.split_at(word_len(bytes))
+}
+
+/// The digits from the front on, and what follows them.
+fn split_digits(bytes: &[u8]) -> (&[u8], &[u8])
+    ensures { SplitsRun is_ascii_digit bytes.now result.0.now result.1.now }
+{
+    bytes.split_at(digits_len(bytes))
+}
+
+/// What is left of the line, and then its line feed and what follows it.
+fn split_line(bytes: &[u8]) -> (&[u8], &[u8])
+    ensures { SplitsRun (λ b. not (b == 10)) bytes.now result.0.now result.1.now }
+{
+    bytes.split_at(line_len(bytes))
+}
+
+/// The number that the digits write, if it is at most 2^63 - 1.
+fn number(digits: &[u8]) -> Option<i64>
+    requires some { 0 < length digits.now }
+    requires digits { IsTrue (list_all is_ascii_digit digits.now) }
+    ensures { MatchOption result (2 ^ 63 ≤ digits_value 10 digits.now)
+        (λ n. (n ≡ pos (digits_value 10 digits.now)) × (digits_value 10 digits.now < 2 ^ 63)) }
+{
+    let Ok(text) = str::from_utf8(digits) else {
+        unreachable!()
+    };
+    text.parse().ok()
+}
+
+/// What token a word is; a name is added to the table if it is new.
+fn word_kind(alloc: Global, names: &mut Names, word: &[u8]) -> Result<TokenKind, AllocError>
+    requires room { length names.old < 2 ^ 32 }
+    requires word { IsWord word.now }
+    ensures { IfOk result (λ kind. (lexeme : Lexeme) × Spells lexeme word.now
+        × (names.new ≡ with_lexeme names.old lexeme) × (kind_of names.new lexeme ≡ Some kind)) }
+{
+    let Ok(word) = str::from_utf8(word) else {
+        unreachable!()
+    };
+    match keyword(word) {
+        Some(keyword) => Ok(TokenKind::Keyword(keyword)),
+        None => Ok(TokenKind::Name(names.number(alloc, word)?)),
+    }
+}
+
+/// The symbol at the front of the bytes, the longer of two, and what follows it.
+fn symbol(bytes: &[u8]) -> Option<(Symbol, &[u8])>
+    ensures { MatchOption result ((s : Symbol) (rest : List ℕ) → bytes.now ≢ symbol_text s ++ rest)
+        (λ r. IsLongestSymbol bytes.now r.0 r.1.now) }
+{
+    if let [first, second, rest @ ..] = bytes {
+        if let Some(symbol) = double(*first, *second) {
+            return Some((symbol, rest));
+        }
+    }
+    let [first, rest @ ..] = bytes else {
+        return None;
+    };
+    Some((single(*first)?, rest))
+}
+
+/// The refusal of a text.
+fn refused(number: Refusal, line: u32) -> LoadError
+    ensures { result ≡ LoadError.Refused (record { number = number; line = line }) }
+{
+    LoadError::Refused(TextError { number, line })
+}
+
+/// The token at the front of the bytes, which lie on this line, and what follows it.
+fn token<'a>(
+    alloc: Global,
+    names: &mut Names,
+    bytes: &'a [u8],
+    line: u32,
+) -> Result<(Token, &'a [u8]), LoadError>
+    requires room { length names.old < 2 ^ 32 }
+    requires more { 0 < length bytes.now }
+    requires no_blank { is_blank (slice_index bytes.now 0) ≡ false }
+    requires no_comment { slice_index bytes.now 0 ≢ 35 }
+    ensures token { IfOk result (λ r. ReadsToken line bytes.now names.old names.new r.0 r.1.now) }
+    ensures refused { (e : TextError) → result ≡ Err (LoadError.Refused e) → (e.line ≡ line) × IsNoToken bytes.now e.number }
+{
+    let first = bytes[0];
+    if starts_name(first) {
+        let (word, rest) = split_word(bytes);
+        let kind = word_kind(alloc, names, word)?;
+        return Ok((Token { kind, line }, rest));
+    }
+    if first.is_ascii_digit() {
+        let (digits, rest) = split_digits(bytes);
+        let Some(value) = number(digits) else {
+            return Err(refused(Refusal::E3, line));
+        };
+        let kind = TokenKind::Number(value);
+        return Ok((Token { kind, line }, rest));
+    }
+    let Some((symbol, rest)) = symbol(bytes) else {
+        return Err(refused(Refusal::E2, line));
+    };
+    let kind = TokenKind::Symbol(symbol);
+    Ok((Token { kind, line }, rest))
+}
+
+/// The tokens of a text that is UTF-8 and not too long.
+fn read(alloc: Global, text: &[u8]) -> Result<Tokens, LoadError>
+    requires { IsReadable text.now }
+    ensures tokens { IfOk result (λ r. IsTokensOf text.now r.names r.tokens.items) }
+    ensures refused { (e : TextError) → result ≡ Err (LoadError.Refused e) → IsRefused text.now e }
+{
+    let mut names = Names::new(alloc);
+    let mut tokens = Vec::new(alloc);
+    let mut line = 1;
+    let mut rest = text;
+    while let [first, after @ ..] = rest {
+        match *first {
+            b'\n' => {
+                line += 1;
+                rest = after;
+            }
+            b' ' | b'\t' | b'\r' => rest = after,
+            b'#' => {
+                let (_, after) = split_line(after);
+                rest = after;
+            }
+            _ => {
+                let (token, after) = token(alloc, &mut names, rest, line)?;
+                tokens.push(token)?;
+                rest = after;
+            }
+        }
+    }
+    Ok(Tokens { names, tokens })
+}
+
+/// The line of what stands behind these bytes of a text, counted from 1.
+pub fn line_after(before: &[u8]) -> u32
+    requires { length before.now ≤ greatest_length }
+    ensures { result ≡ line_after before.now }
+{
+    1 + before.iter().filter(|byte| **byte == b'\n').count() as u32
+}
+
+/// The tokens of a model text.
+///
+/// # Errors
+/// `Refused` where the text is too long, is not UTF-8, has a character with which no token begins, or a number
+/// above 2^63 - 1; the first of these that holds, in this order, the last two in reading order. `Memory` where an
+/// allocation was refused.
+pub fn tokens(alloc: Global, text: &[u8]) -> Result<Tokens, LoadError>
+    ensures tokens { IfOk result (λ r. IsTokensOf text.now r.names r.tokens.items) }
+    ensures refused { (e : TextError) → result ≡ Err (LoadError.Refused e) → IsRefused text.now e }
+    ensures too_long { greatest_length < length text.now → result ≡ Err (LoadError.Refused (record { number = Refusal.E17; line = 1 })) }
+{
+    if text.len() > GREATEST_LENGTH {
+        return Err(refused(Refusal::E17, 1));
+    }
+    if let Err(e) = str::from_utf8(text) {
+        return Err(refused(Refusal::E1, line_after(&text[..e.valid_up_to()])));
+    }
+    read(alloc, text)
+}

@@ -1,0 +1,121 @@
+//! Tokens.
+
+use crate::names::Names;
+
+/// A word that is never a name.
+#[derive(Clone, Copy, Debug, PartialEq, Eq)]
+pub enum Keyword {
+    Atomic,
+    Coupled,
+    Root,
+    In,
+    Out,
+    Var,
+    Flag,
+    Bag,
+    Phases,
+    Start,
+    Hold,
+    Forever,
+    Output,
+    Internal,
+    External,
+    Confluent,
+    Part,
+    Link,
+    Itself,
+    If,
+    Else,
+    For,
+    Add,
+    To,
+    Drop,
+    From,
+    Send,
+    Goto,
+    True,
+    False,
+    Not,
+    And,
+    Or,
+    Elapsed,
+    Size,
+    Sum,
+    Least,
+    Most,
+    Times,
+}
+
+/// A sign of one or two characters.
+#[derive(Clone, Copy, Debug, PartialEq, Eq)]
+pub enum Symbol {
+    /// `:=`
+    Assign,
+    /// `->`
+    Arrow,
+    /// `..`
+    Range,
+    /// `!=`
+    Unequal,
+    /// `<=`
+    AtMost,
+    /// `>=`
+    AtLeast,
+    /// `{`
+    OpenBrace,
+    /// `}`
+    CloseBrace,
+    /// `(`
+    OpenParen,
+    /// `)`
+    CloseParen,
+    /// `;`
+    Semicolon,
+    /// `:`
+    Colon,
+    /// `,`
+    Comma,
+    /// `.`
+    Dot,
+    /// `=`
+    Equal,
+    /// `<`
+    Less,
+    /// `>`
+    Greater,
+    /// `+`
+    Plus,
+    /// `-`
+    Minus,
+    /// `*`
+    Star,
+    /// `/`
+    Slash,
+    /// `%`
+    Percent,
+}
+
+/// What a token is.
+#[derive(Clone, Copy, Debug, PartialEq, Eq)]
+pub enum TokenKind {
+    /// A name, by its number in the table of names.
+    Name(u32),
+    /// A number from 0 to 2^63 - 1.
+    Number(i64),
+    Keyword(Keyword),
+    Symbol(Symbol),
+}
+
+/// A token, and the line of its first byte, counted from 1.
+#[derive(Clone, Copy, Debug, PartialEq, Eq)]
+pub struct Token {
+    pub kind: TokenKind,
+    pub line: u32,
+}
+
+/// The tokens of a model text, and the table by which its names are numbered.
+#[derive(Drop)]
+pub struct Tokens {
+    pub names: Names,
+    pub tokens: Vec<Token>,
+}

@@ -1,0 +1,559 @@
+-- What is read as items, models and files is spelled so, and what is spelled so is read.
+use Rattle.std.proofs.Common.{◌≡◌, ℕ, ◌<◌, true, false, List, [], ◌∷◌, ◌++◌, length, Option, Some, None, pos, refl, sym, subst, ◌∙◌, ◌⊎◌, inl, inr, arith}
+use Rattle.std.specs.Prelude.{◌≤ℤ◌}
+use Rattle.std.specs.List.{flat_map, AllByRecursion}
+use Rattle.dv_lex.specs.declared.error.LoadError.{LoadError}
+use Rattle.dv_lex.specs.declared.error.LoadError.TheVariants as error
+use Rattle.dv_lex.specs.declared.error.Refusal.{Refusal}
+use Rattle.dv_lex.specs.declared.error.Refusal.TheVariants as refusal
+use Rattle.dv_lex.specs.declared.token.Token.{Token}
+use Rattle.dv_lex.specs.declared.token.TokenKind.TheVariants as kind
+use Rattle.dv_lex.specs.declared.token.Keyword.TheVariants as keyword
+use Rattle.dv_lex.specs.declared.token.Symbol.{Symbol}
+use Rattle.dv_lex.specs.declared.token.Symbol.TheVariants as symbol
+use Rattle.dv_syntax.specs.declared.tree.Name.{Name}
+use Rattle.dv_syntax.specs.declared.tree.Number.{Number}
+use Rattle.dv_syntax.specs.declared.tree.Bound.{Bound}
+use Rattle.dv_syntax.specs.declared.tree.Variable.{Variable}
+use Rattle.dv_syntax.specs.declared.tree.RuleSort.{RuleSort}
+use Rattle.dv_syntax.specs.declared.tree.RuleSort.TheVariants as sort
+use Rattle.dv_syntax.specs.declared.tree.End.{End}
+use Rattle.dv_syntax.specs.declared.tree.Part.{Part}
+use Rattle.dv_syntax.specs.declared.tree.Link.{Link}
+use Rattle.dv_syntax.specs.declared.tree.CoupledItem.{CoupledItem}
+use Rattle.dv_syntax.specs.declared.tree.CoupledItem.TheVariants as coupled_item
+use Rattle.dv_syntax.specs.Trees.{Expression, Statements, Literal, Named, Parens, Negative, Binary, AtomicItem, OutPort, Var, Phases, Start, Hold, Rule, AtomicTree, CoupledTree, ModelTree, AtomicModel, CoupledModel, FileTree}
+use Rattle.dv_syntax.specs.Grammar.{Spelled, name, number, sign, word, braces, operator_symbol, expression_spelling, minus_spelling, bound_spelling, variable_spelling, ticks_spelling, item_spelling, IsBound, AreTicks, IsItem, part_spelling, end_spelling, coupled_item_spelling, model_spelling, IsModel, file_spelling, IsFileOf, IsRefused}
+use Rattle.dv_syntax.specs.Reading.{read_then, choose, begins, operator_of, many_at, braces_at, bound_at, variable_at, further_name_at, phases_at, start_at, ticks_at, hold_at, rule_at, out_at, item_at, atomic_at, end_at, part_at, link_at, coupled_item_at, coupled_at, model_at, is_end, file_at}
+use Rattle.dv_syntax.proofs.Tokens.{then_some, chosen, some_is, none_some}
+use Rattle.dv_syntax.proofs.Readers.{Spans, nothing, after_spans, after_spans_at, name_spans, number_spans, then_spans, split, first, first_name, first_number, span_end, IsReader, IsListed, many_reader, braces_reader, shortens, Shortens}
+use Rattle.dv_syntax.proofs.Expressions.{IsClosed-front}
+use Rattle.dv_syntax.proofs.Statements.{expression_reader, block_reader, IsBlock}
+
+abbrev Always : List Token → Type 0
+Always rest = Unit {0}
+
+abbrev semicolon : List Spelled
+semicolon = sign symbol.Semicolon ∷ []
+
+-- ---- Bounds and variables
+
+bound_complete : (minus : Option ℕ) (n : Number) (ts rest : List Token) → pos 0 ≤ℤ n.value → Spans (minus_spelling minus ++ number n ∷ []) ts rest → bound_at ts ≡ Some (record { minus = minus; magnitude = n }, rest)
+unfolding bound_at choose read_then
+bound_complete None n ts rest fits h =
+    let f = first h in
+    let m = first_number n fits h in
+    rw (f.begins (kind.Symbol symbol.Minus), m.read, span_end m.spelled) refl
+bound_complete (Some line) n ts rest fits h =
+    let f = first h in
+    let m = first_number n fits f.spelled in
+    rw (f.begins (kind.Symbol symbol.Minus), f.after, m.read, f.line, span_end m.spelled) refl
+
+bound_sound : (ts : List Token) (x : Bound × List Token) → bound_at ts ≡ Some x → Spans (bound_spelling x.0) ts x.1 × IsBound x.0
+unfolding bound_at
+bound_sound ts x e =
+    elim (chosen _ _ _ _ e) [
+      | inl p ↦
+          let a = then_some _ _ _ p.1 in
+          let b = then_some _ _ _ a.2 in
+          let n = number_spans b.1 nothing in
+          subst (λ (y : Bound × List Token). Spans (bound_spelling y.0) ts y.1 × IsBound y.0) (some_is _ _ b.2) (after_spans_at a.1 n.0, n.1)
+      | inr p ↦
+          let a = then_some _ _ _ p.1 in
+          let n = number_spans a.1 nothing in
+          subst (λ (y : Bound × List Token). Spans (bound_spelling y.0) ts y.1 × IsBound y.0) (some_is _ _ a.2) (n.0, n.1)
+    ]
+
+bound_reader : IsReader bound_at bound_spelling IsBound Always
+bound_reader = record {
+  sound = bound_sound;
+  complete = λ x ts rest is h ends. bound_complete x.minus x.magnitude ts rest is h;
+}
+
+variable_sound : (ts : List Token) (x : Variable × List Token) → variable_at ts ≡ Some x → Spans (variable_spelling x.0) ts x.1 × IsItem (Var x.0)
+unfolding variable_at
+variable_sound ts x e =
+    let a = then_some _ _ _ e in
+    let b = then_some _ _ _ a.2 in
+    let c = then_some _ _ _ b.2 in
+    let low = then_some _ _ _ c.2 in
+    let d = then_some _ _ _ low.2 in
+    let high = then_some _ _ _ d.2 in
+    let f = then_some _ _ _ high.2 in
+    let start = then_some _ _ _ f.2 in
+    let g = then_some _ _ _ start.2 in
+    let l = bound_reader.sound c.0 low.0 low.1 in
+    let h = bound_reader.sound d.0 high.0 high.1 in
+    let s = bound_reader.sound f.0 start.0 start.1 in
+    subst (λ (y : Variable × List Token). Spans (variable_spelling y.0) ts y.1 × IsItem (Var y.0)) (some_is _ _ g.2)
+    (after_spans a.1 (name_spans b.1 (after_spans c.1 (then_spans l.0 (after_spans d.1 (then_spans h.0 (after_spans f.1 (then_spans s.0 (after_spans g.1 nothing)))))))), (l.1, h.1, s.1))
+
+variable_complete : (v : Variable) (ts rest : List Token) → IsItem (Var v) → Spans (variable_spelling v) ts rest → variable_at ts ≡ Some (v, rest)
+unfolding variable_at read_then
+variable_complete v ts rest is h =
+    let a = first h in
+    let b = first_name v.name a.spelled in
+    let c = first b.spelled in
+    let after_start : List Spelled = semicolon in
+    let after_high : List Spelled = sign symbol.Equal ∷ (bound_spelling v.start ++ after_start) in
+    let after_low : List Spelled = sign symbol.Range ∷ (bound_spelling v.high ++ after_high) in
+    let l = split (bound_spelling v.low) after_low c.spelled in
+    let low = bound_reader.complete v.low c.behind l.0 is.0 l.1 tt in
+    let d = first l.2 in
+    let h' = split (bound_spelling v.high) after_high d.spelled in
+    let high = bound_reader.complete v.high d.behind h'.0 is.1 h'.1 tt in
+    let f = first h'.2 in
+    let s = split (bound_spelling v.start) after_start f.spelled in
+    let start = bound_reader.complete v.start f.behind s.0 is.2 s.1 tt in
+    let g = first s.2 in
+    rw (a.after, b.read, c.after, low, d.after, high, f.after, start, g.after, span_end g.spelled) refl
+
+-- ---- Items
+
+further_reader : IsReader further_name_at (λ n. sign symbol.Comma ∷ name n ∷ []) (λ n. Unit {0}) Always
+unfolding further_name_at read_then
+further_reader = record {
+  sound = λ ts x e. let a = then_some _ _ _ e in (after_spans a.1 (name_spans a.2 nothing), tt);
+  complete = λ x ts rest is h ends.
+      let a = first h in
+      let b = first_name x a.spelled in
+      rw (a.after, b.read, span_end b.spelled) refl;
+}
+
+further_listed : IsListed (λ (n : Name). sign symbol.Comma ∷ name n ∷ []) Always (kind.Symbol symbol.Semicolon)
+further_listed = record {
+  opens = λ x ts rest h. (first h).begins _;
+  before = λ x ts rest h. tt;
+  at_stop = λ ts e. tt;
+  some = λ x. omega arith;
+}
+
+abbrev ReadsItem : List Token → AtomicItem × List Token → Type 0
+ReadsItem ts x = Spans (item_spelling x.0) ts x.1 × IsItem x.0
+
+phases_sound : (ts : List Token) (x : AtomicItem × List Token) → phases_at ts ≡ Some x → ReadsItem ts x
+unfolding phases_at
+phases_sound ts x e =
+    let r = many_reader further_name_at _ _ _ further_reader (kind.Symbol symbol.Semicolon) further_listed in
+    let a = then_some _ _ _ e in
+    let b = then_some _ _ _ a.2 in
+    let c = then_some _ _ _ b.2 in
+    let d = then_some _ _ _ c.2 in
+    let s = r.sound b.0.1 c.0 c.1 in
+    subst (ReadsItem ts) (some_is _ _ d.2) (after_spans_at a.1 (name_spans b.1 (then_spans s.0 (after_spans d.1 nothing))), omega arith)
+
+start_sound : (ts : List Token) (x : AtomicItem × List Token) → start_at ts ≡ Some x → ReadsItem ts x
+unfolding start_at
+start_sound ts x e =
+    let a = then_some _ _ _ e in
+    let b = then_some _ _ _ a.2 in
+    let c = then_some _ _ _ b.2 in
+    subst (ReadsItem ts) (some_is _ _ c.2) (after_spans_at a.1 (name_spans b.1 (after_spans c.1 nothing)), tt)
+
+ticks_sound : (ts : List Token) (x : Option Expression × List Token) → ticks_at ts ≡ Some x → Spans (ticks_spelling x.0) ts x.1 × AreTicks x.0
+unfolding ticks_at
+ticks_sound ts x e =
+    elim (chosen _ _ _ _ e) [
+      | inl p ↦
+          let a = then_some _ _ _ p.1 in
+          subst (λ (y : Option Expression × List Token). Spans (ticks_spelling y.0) ts y.1 × AreTicks y.0) (some_is _ _ a.2) (after_spans a.1 nothing, tt)
+      | inr p ↦
+          let a = then_some _ _ _ p.1 in
+          let s = expression_reader.sound ts a.0 a.1 in
+          subst (λ (y : Option Expression × List Token). Spans (ticks_spelling y.0) ts y.1 × AreTicks y.0) (some_is _ _ a.2) (s.0, s.1)
+    ]
+
+hold_sound : (ts : List Token) (x : AtomicItem × List Token) → hold_at ts ≡ Some x → ReadsItem ts x
+unfolding hold_at
+hold_sound ts x e =
+    let a = then_some _ _ _ e in
+    let b = then_some _ _ _ a.2 in
+    let c = then_some _ _ _ b.2 in
+    let d = then_some _ _ _ c.2 in
+    let f = then_some _ _ _ d.2 in
+    let s = ticks_sound c.0 d.0 d.1 in
+    subst (ReadsItem ts) (some_is _ _ f.2) (after_spans_at a.1 (name_spans b.1 (after_spans c.1 (then_spans s.0 (after_spans f.1 nothing)))), s.1)
+
+rule_sound : (sort : RuleSort) (ts : List Token) (x : AtomicItem × List Token) → rule_at sort ts ≡ Some x → ReadsItem ts x
+unfolding rule_at
+rule_sound sort ts x e =
+    let a = then_some _ _ _ e in
+    let b = then_some _ _ _ a.2 in
+    let c = then_some _ _ _ b.2 in
+    let s = (block_reader 16).sound b.0.1 c.0 c.1 in
+    subst (ReadsItem ts) (some_is _ _ c.2) (after_spans a.1 (name_spans b.1 s.0), s.1)
+
+-- `out port;`
+out_reader : IsReader out_at (λ n. word keyword.Out ∷ name n ∷ semicolon) (λ n. Unit {0}) Always
+unfolding out_at read_then
+out_reader = record {
+  sound = λ ts x e.
+      let a = then_some _ _ _ e in
+      let b = then_some _ _ _ a.2 in
+      let c = then_some _ _ _ b.2 in
+      subst (λ (y : Name × List Token). Spans (word keyword.Out ∷ name y.0 ∷ semicolon) ts y.1 × Unit {0}) (some_is _ _ c.2) (after_spans a.1 (name_spans b.1 (after_spans c.1 nothing)), tt);
+  complete = λ x ts rest is h ends.
+      let a = first h in
+      let b = first_name x a.spelled in
+      let c = first b.spelled in
+      rw (a.after, b.read, c.after, span_end c.spelled) refl;
+}
+
+item_sound : (ts : List Token) (x : AtomicItem × List Token) → item_at ts ≡ Some x → ReadsItem ts x
+unfolding item_at
+item_sound ts x e =
+    elim (chosen _ _ _ _ e) [
+      | inl p ↦ let a = then_some _ _ _ p.1 in let s = out_reader.sound ts a.0 a.1 in subst (ReadsItem ts) (some_is _ _ a.2) (s.0, tt)
+      | inr p ↦ elim (chosen _ _ _ _ p.1) [
+        | inl q ↦ let a = then_some _ _ _ q.1 in let s = variable_sound ts a.0 a.1 in subst (ReadsItem ts) (some_is _ _ a.2) s
+        | inr q ↦ elim (chosen _ _ _ _ q.1) [
+          | inl w ↦ phases_sound ts x w.1
+          | inr w ↦ elim (chosen _ _ _ _ w.1) [
+            | inl u ↦ start_sound ts x u.1
+            | inr u ↦ elim (chosen _ _ _ _ u.1) [
+              | inl v ↦ hold_sound ts x v.1
+              | inr v ↦ elim (chosen _ _ _ _ v.1) [
+                | inl z ↦ rule_sound sort.Output ts x z.1
+                | inr z ↦ rule_sound sort.Internal ts x z.1
+              ]
+            ]
+          ]
+        ]
+      ]
+    ]
+
+rule_complete : (sort : RuleSort) (p : Name) (body : Statements) (ts rest : List Token) → IsBlock 16 body → Spans (item_spelling (Rule sort p body)) ts rest → rule_at sort ts ≡ Some (Rule sort p body, rest)
+unfolding rule_at read_then
+rule_complete sort p body ts rest is h =
+    let a = first h in
+    let b = first_name p a.spelled in
+    let c = (block_reader 16).complete body b.behind rest is b.spelled tt in
+    rw (a.after, b.read, c) refl
+
+-- no expression begins with a word
+expression_no_word : (e : Expression) (ts rest : List Token) → Spans (expression_spelling e) ts rest → begins (kind.Keyword keyword.Forever) ts ≡ false
+expression_no_word (Literal n) ts rest h = (first h).begins _
+expression_no_word (Named n) ts rest h = (first h).begins _
+expression_no_word (Parens line e) ts rest h = (first h).begins _
+expression_no_word (Negative line e) ts rest h = (first h).begins _
+expression_no_word (Binary o a b) ts rest h = expression_no_word a ts _ (split (expression_spelling a) (sign (operator_symbol o) ∷ expression_spelling b) h).1
+
+all_names : (ns : List Name) → AllByRecursion (λ n. Unit {0}) ns
+all_names [] = tt
+all_names (n ∷ ns) = (tt, all_names ns)
+
+ticks_complete : (ticks : Option Expression) (ts rest : List Token) → AreTicks ticks → Spans (ticks_spelling ticks ++ semicolon) ts rest
+    → (mid : List Token) × (ticks_at ts ≡ Some (ticks, mid)) × Spans semicolon mid rest
+unfolding ticks_at choose read_then operator_of
+ticks_complete None ts rest is h =
+    let a = first h in
+    (a.behind, rw (a.begins (kind.Keyword keyword.Forever), a.after) refl, a.spelled)
+ticks_complete (Some e) ts rest is h =
+    let s = split (expression_spelling e) semicolon h in
+    let v = expression_reader.complete e ts s.0 is s.1 (IsClosed-front (kind.Symbol symbol.Semicolon) [] s.0 rest refl s.2.spells) in
+    (s.0, rw (expression_no_word e ts s.0 s.1, v) refl, s.2)
+
+item_complete : (x : AtomicItem) (ts rest : List Token) → IsItem x → Spans (item_spelling x) ts rest → item_at ts ≡ Some (x, rest)
+unfolding item_at phases_at start_at hold_at choose read_then
+item_complete (OutPort n) ts rest is h =
+    let a = first h in
+    let o = out_reader.complete n ts rest tt h tt in
+    rw (a.begins (kind.Keyword keyword.Out), o) refl
+item_complete (Var v) ts rest is h =
+    let a = first h in
+    let o = variable_complete v ts rest is h in
+    rw (a.begins (kind.Keyword keyword.Out), a.begins (kind.Keyword keyword.Var), o) refl
+item_complete (Phases line []) ts rest is h = absurd (omega (arith, is))
+item_complete (Phases line (n ∷ ns)) ts rest is h =
+    let r = many_reader further_name_at _ _ _ further_reader (kind.Symbol symbol.Semicolon) further_listed in
+    let a = first h in
+    let b = first_name n a.spelled in
+    let s = split (flat_map (λ n. sign symbol.Comma ∷ name n ∷ []) ns) semicolon b.spelled in
+    let c = first s.2 in
+    let m = r.complete ns b.behind s.0 (all_names ns) s.1 (c.begins (kind.Symbol symbol.Semicolon)) in
+    rw (a.begins (kind.Keyword keyword.Out), a.begins (kind.Keyword keyword.Var), a.begins (kind.Keyword keyword.Phases), a.after, b.read, m, c.after, a.line, span_end c.spelled) refl
+item_complete (Start line p) ts rest is h =
+    let a = first h in
+    let b = first_name p a.spelled in
+    let c = first b.spelled in
+    rw (a.begins (kind.Keyword keyword.Out), a.begins (kind.Keyword keyword.Var), a.begins (kind.Keyword keyword.Phases), a.begins (kind.Keyword keyword.Start), a.after, b.read, c.after, a.line, span_end c.spelled) refl
+item_complete (Hold line p ticks) ts rest is h =
+    let a = first h in
+    let b = first_name p a.spelled in
+    let c = first b.spelled in
+    let t = ticks_complete ticks c.behind rest is c.spelled in
+    let d = first t.2 in
+    rw (a.begins (kind.Keyword keyword.Out), a.begins (kind.Keyword keyword.Var), a.begins (kind.Keyword keyword.Phases), a.begins (kind.Keyword keyword.Start), a.begins (kind.Keyword keyword.Hold), a.after, b.read, c.after, t.1, d.after, a.line, span_end d.spelled) refl
+item_complete (Rule sort.Output p body) ts rest is h =
+    let a = first h in
+    let r = rule_complete sort.Output p body ts rest is h in
+    rw (a.begins (kind.Keyword keyword.Out), a.begins (kind.Keyword keyword.Var), a.begins (kind.Keyword keyword.Phases), a.begins (kind.Keyword keyword.Start), a.begins (kind.Keyword keyword.Hold), a.begins (kind.Keyword keyword.Output), r) refl
+item_complete (Rule sort.Internal p body) ts rest is h =
+    let a = first h in
+    let r = rule_complete sort.Internal p body ts rest is h in
+    rw (a.begins (kind.Keyword keyword.Out), a.begins (kind.Keyword keyword.Var), a.begins (kind.Keyword keyword.Phases), a.begins (kind.Keyword keyword.Start), a.begins (kind.Keyword keyword.Hold), a.begins (kind.Keyword keyword.Output), r) refl
+
+item_opens : (k : Symbol) (x : AtomicItem) (ts rest : List Token) → Spans (item_spelling x) ts rest → begins (kind.Symbol k) ts ≡ false
+item_opens k (OutPort n) ts rest h = (first h).begins _
+item_opens k (Var v) ts rest h = (first h).begins _
+item_opens k (Phases line ns) ts rest h = (first h).begins _
+item_opens k (Start line p) ts rest h = (first h).begins _
+item_opens k (Hold line p ticks) ts rest h = (first h).begins _
+item_opens k (Rule sort p body) ts rest h = (first h).begins _
+
+item_some : (x : AtomicItem) → 0 < length (item_spelling x)
+item_some (OutPort n) = omega arith
+item_some (Var v) = omega arith
+item_some (Phases line ns) = omega arith
+item_some (Start line p) = omega arith
+item_some (Hold line p ticks) = omega arith
+item_some (Rule sort p body) = omega arith
+
+item_reader : IsReader item_at item_spelling IsItem Always
+item_reader = record { sound = item_sound; complete = λ x ts rest is h ends. item_complete x ts rest is h }
+
+item_listed : IsListed item_spelling Always (kind.Symbol symbol.CloseBrace)
+item_listed = record { opens = item_opens symbol.CloseBrace; before = λ x ts rest h. tt; at_stop = λ ts e. tt; some = item_some }
+
+pub item_shortens : Shortens item_at
+item_shortens = shortens item_at item_spelling IsItem Always (kind.Symbol symbol.CloseBrace) item_reader item_listed
+
+pub further_name_shortens : Shortens further_name_at
+further_name_shortens = shortens further_name_at _ _ Always (kind.Symbol symbol.Semicolon) further_reader further_listed
+
+-- ---- Atomic models
+
+atomic_spelling : AtomicTree → List Spelled
+atomic_spelling m = model_spelling (AtomicModel m)
+
+items_reader : IsReader (braces_at item_at) (λ items. braces (flat_map item_spelling items)) (AllByRecursion IsItem) Always
+items_reader = braces_reader item_at item_spelling IsItem Always item_reader item_listed
+
+atomic_sound : (ts : List Token) (x : AtomicTree × List Token) → atomic_at ts ≡ Some x → Spans (model_spelling (AtomicModel x.0)) ts x.1 × AllByRecursion IsItem x.0.items
+unfolding atomic_at
+atomic_sound ts x e =
+    let a = then_some _ _ _ e in
+    let b = then_some _ _ _ a.2 in
+    let c = then_some _ _ _ b.2 in
+    let s = items_reader.sound b.0.1 c.0 c.1 in
+    subst (λ (y : AtomicTree × List Token). Spans (model_spelling (AtomicModel y.0)) ts y.1 × AllByRecursion IsItem y.0.items) (some_is _ _ c.2) (after_spans a.1 (name_spans b.1 s.0), s.1)
+
+atomic_complete : (m : AtomicTree) (ts rest : List Token) → AllByRecursion IsItem m.items → Spans (model_spelling (AtomicModel m)) ts rest → atomic_at ts ≡ Some (m, rest)
+unfolding atomic_at read_then
+atomic_complete m ts rest is h =
+    let a = first h in
+    let b = first_name m.name a.spelled in
+    let c = items_reader.complete m.items b.behind rest is b.spelled tt in
+    rw (a.after, b.read, c) refl
+
+-- ---- Coupled models
+
+end_sound : (ts : List Token) (x : End × List Token) → end_at ts ≡ Some x → Spans (end_spelling x.0) ts x.1
+unfolding end_at
+end_sound ts x e =
+    elim (chosen _ _ _ _ e) [
+      | inl p ↦
+          let a = then_some _ _ _ p.1 in
+          let b = then_some _ _ _ a.2 in
+          let c = then_some _ _ _ b.2 in
+          subst (λ (y : End × List Token). Spans (end_spelling y.0) ts y.1) (some_is _ _ c.2) (after_spans a.1 (after_spans b.1 (name_spans c.1 nothing)))
+      | inr p ↦
+          let a = then_some _ _ _ p.1 in
+          let b = then_some _ _ _ a.2 in
+          let c = then_some _ _ _ b.2 in
+          subst (λ (y : End × List Token). Spans (end_spelling y.0) ts y.1) (some_is _ _ c.2) (name_spans a.1 (after_spans b.1 (name_spans c.1 nothing)))
+    ]
+
+end_complete : (part : Option Name) (port : Name) (ts rest : List Token) → Spans (part_spelling part ∷ sign symbol.Dot ∷ name port ∷ []) ts rest → end_at ts ≡ Some (record { part = part; port = port }, rest)
+unfolding end_at choose read_then
+end_complete None port ts rest h =
+    let a = first h in
+    let b = first a.spelled in
+    let c = first_name port b.spelled in
+    rw (a.begins (kind.Keyword keyword.Itself), a.after, b.after, c.read, span_end c.spelled) refl
+end_complete (Some part) port ts rest h =
+    let a = first h in
+    let n = first_name part h in
+    let b = first n.spelled in
+    let c = first_name port b.spelled in
+    rw (a.begins (kind.Keyword keyword.Itself), n.read, b.after, c.read, span_end c.spelled) refl
+
+abbrev ReadsCoupled : List Token → CoupledItem × List Token → Type 0
+ReadsCoupled ts x = Spans (coupled_item_spelling x.0) ts x.1 × Unit {0}
+
+part_sound : (ts : List Token) (x : Part × List Token) → part_at ts ≡ Some x → ReadsCoupled ts (coupled_item.Part x.0, x.1)
+unfolding part_at
+part_sound ts x e =
+    let a = then_some _ _ _ e in
+    let b = then_some _ _ _ a.2 in
+    let c = then_some _ _ _ b.2 in
+    let d = then_some _ _ _ c.2 in
+    let f = then_some _ _ _ d.2 in
+    subst (λ (y : Part × List Token). ReadsCoupled ts (coupled_item.Part y.0, y.1)) (some_is _ _ f.2) (after_spans a.1 (name_spans b.1 (after_spans c.1 (name_spans d.1 (after_spans f.1 nothing)))), tt)
+
+link_sound : (ts : List Token) (x : Link × List Token) → link_at ts ≡ Some x → ReadsCoupled ts (coupled_item.Link x.0, x.1)
+unfolding link_at
+link_sound ts x e =
+    let a = then_some _ _ _ e in
+    let b = then_some _ _ _ a.2 in
+    let c = then_some _ _ _ b.2 in
+    let d = then_some _ _ _ c.2 in
+    let f = then_some _ _ _ d.2 in
+    subst (λ (y : Link × List Token). ReadsCoupled ts (coupled_item.Link y.0, y.1)) (some_is _ _ f.2)
+    (after_spans_at a.1 (then_spans (end_sound a.0 b.0 b.1) (after_spans c.1 (then_spans (end_sound c.0 d.0 d.1) (after_spans f.1 nothing)))), tt)
+
+coupled_item_sound : (ts : List Token) (x : CoupledItem × List Token) → coupled_item_at ts ≡ Some x → ReadsCoupled ts x
+unfolding coupled_item_at
+coupled_item_sound ts x e =
+    elim (chosen _ _ _ _ e) [
+      | inl p ↦ let a = then_some _ _ _ p.1 in let s = out_reader.sound ts a.0 a.1 in subst (ReadsCoupled ts) (some_is _ _ a.2) (s.0, tt)
+      | inr p ↦ elim (chosen _ _ _ _ p.1) [
+        | inl q ↦ let a = then_some _ _ _ q.1 in subst (ReadsCoupled ts) (some_is _ _ a.2) (part_sound ts a.0 a.1)
+        | inr q ↦ let a = then_some _ _ _ q.1 in subst (ReadsCoupled ts) (some_is _ _ a.2) (link_sound ts a.0 a.1)
+      ]
+    ]
+
+coupled_item_complete : (x : CoupledItem) (ts rest : List Token) → Spans (coupled_item_spelling x) ts rest → coupled_item_at ts ≡ Some (x, rest)
+unfolding coupled_item_at part_at link_at choose read_then
+coupled_item_complete (coupled_item.Out n) ts rest h =
+    let a = first h in
+    let o = out_reader.complete n ts rest tt h tt in
+    rw (a.begins (kind.Keyword keyword.Out), o) refl
+coupled_item_complete (coupled_item.Part p) ts rest h =
+    let a = first h in
+    let b = first_name p.name a.spelled in
+    let c = first b.spelled in
+    let d = first_name p.model c.spelled in
+    let f = first d.spelled in
+    rw (a.begins (kind.Keyword keyword.Out), a.begins (kind.Keyword keyword.Part), a.after, b.read, c.after, d.read, f.after, span_end f.spelled) refl
+coupled_item_complete (coupled_item.Link l) ts rest h =
+    let a = first h in
+    let s = split (end_spelling l.from) (sign symbol.Arrow ∷ (end_spelling l.to ++ semicolon)) a.spelled in
+    let source = end_complete l.from.part l.from.port a.behind s.0 s.1 in
+    let b = first s.2 in
+    let t = split (end_spelling l.to) semicolon b.spelled in
+    let target = end_complete l.to.part l.to.port b.behind t.0 t.1 in
+    let c = first t.2 in
+    rw (a.begins (kind.Keyword keyword.Out), a.begins (kind.Keyword keyword.Part), a.after, source, b.after, target, c.after, a.line, span_end c.spelled) refl
+
+coupled_item_opens : (x : CoupledItem) (ts rest : List Token) → Spans (coupled_item_spelling x) ts rest → begins (kind.Symbol symbol.CloseBrace) ts ≡ false
+coupled_item_opens (coupled_item.Out n) ts rest h = (first h).begins _
+coupled_item_opens (coupled_item.Part p) ts rest h = (first h).begins _
+coupled_item_opens (coupled_item.Link l) ts rest h = (first h).begins _
+
+coupled_item_some : (x : CoupledItem) → 0 < length (coupled_item_spelling x)
+coupled_item_some (coupled_item.Out n) = omega arith
+coupled_item_some (coupled_item.Part p) = omega arith
+coupled_item_some (coupled_item.Link l) = omega arith
+
+coupled_item_reader : IsReader coupled_item_at coupled_item_spelling (λ x. Unit {0}) Always
+coupled_item_reader = record { sound = coupled_item_sound; complete = λ x ts rest is h ends. coupled_item_complete x ts rest h }
+
+coupled_item_listed : IsListed coupled_item_spelling Always (kind.Symbol symbol.CloseBrace)
+coupled_item_listed = record { opens = coupled_item_opens; before = λ x ts rest h. tt; at_stop = λ ts e. tt; some = coupled_item_some }
+
+pub coupled_item_shortens : Shortens coupled_item_at
+coupled_item_shortens = shortens coupled_item_at coupled_item_spelling (λ x. Unit {0}) Always (kind.Symbol symbol.CloseBrace) coupled_item_reader coupled_item_listed
+
+coupled_items_reader : IsReader (braces_at coupled_item_at) (λ items. braces (flat_map coupled_item_spelling items)) (AllByRecursion (λ x. Unit {0})) Always
+coupled_items_reader = braces_reader coupled_item_at coupled_item_spelling (λ x. Unit {0}) Always coupled_item_reader coupled_item_listed
+
+all_coupled : (items : List CoupledItem) → AllByRecursion (λ x. Unit {0}) items
+all_coupled [] = tt
+all_coupled (x ∷ items) = (tt, all_coupled items)
+
+coupled_sound : (ts : List Token) (x : CoupledTree × List Token) → coupled_at ts ≡ Some x → Spans (model_spelling (CoupledModel x.0)) ts x.1
+unfolding coupled_at
+coupled_sound ts x e =
+    let a = then_some _ _ _ e in
+    let b = then_some _ _ _ a.2 in
+    let c = then_some _ _ _ b.2 in
+    let s = coupled_items_reader.sound b.0.1 c.0 c.1 in
+    subst (λ (y : CoupledTree × List Token). Spans (model_spelling (CoupledModel y.0)) ts y.1) (some_is _ _ c.2) (after_spans a.1 (name_spans b.1 s.0))
+
+coupled_complete : (m : CoupledTree) (ts rest : List Token) → Spans (model_spelling (CoupledModel m)) ts rest → coupled_at ts ≡ Some (m, rest)
+unfolding coupled_at read_then
+coupled_complete m ts rest h =
+    let a = first h in
+    let b = first_name m.name a.spelled in
+    let c = coupled_items_reader.complete m.items b.behind rest (all_coupled m.items) b.spelled tt in
+    rw (a.after, b.read, c) refl
+
+-- ---- Files
+
+model_sound : (ts : List Token) (x : ModelTree × List Token) → model_at ts ≡ Some x → Spans (model_spelling x.0) ts x.1 × IsModel x.0
+unfolding model_at
+model_sound ts x e =
+    elim (chosen _ _ _ _ e) [
+      | inl p ↦
+          let a = then_some _ _ _ p.1 in
+          subst (λ (y : ModelTree × List Token). Spans (model_spelling y.0) ts y.1 × IsModel y.0) (some_is _ _ a.2) (coupled_sound ts a.0 a.1, tt)
+      | inr p ↦
+          let a = then_some _ _ _ p.1 in
+          subst (λ (y : ModelTree × List Token). Spans (model_spelling y.0) ts y.1 × IsModel y.0) (some_is _ _ a.2) (atomic_sound ts a.0 a.1)
+    ]
+
+model_complete : (x : ModelTree) (ts rest : List Token) → IsModel x → Spans (model_spelling x) ts rest → model_at ts ≡ Some (x, rest)
+unfolding model_at choose read_then
+model_complete (AtomicModel m) ts rest is h = rw ((first h).begins (kind.Keyword keyword.Coupled), atomic_complete m ts rest is h) refl
+model_complete (CoupledModel m) ts rest is h = rw ((first h).begins (kind.Keyword keyword.Coupled), coupled_complete m ts rest h) refl
+
+model_opens : (x : ModelTree) (ts rest : List Token) → Spans (model_spelling x) ts rest → begins (kind.Keyword keyword.Root) ts ≡ false
+model_opens (AtomicModel m) ts rest h = (first h).begins _
+model_opens (CoupledModel m) ts rest h = (first h).begins _
+
+model_some : (x : ModelTree) → 0 < length (model_spelling x)
+model_some (AtomicModel m) = omega arith
+model_some (CoupledModel m) = omega arith
+
+model_reader : IsReader model_at model_spelling IsModel Always
+model_reader = record { sound = model_sound; complete = λ x ts rest is h ends. model_complete x ts rest is h }
+
+model_listed : IsListed model_spelling Always (kind.Keyword keyword.Root)
+model_listed = record { opens = model_opens; before = λ x ts rest h. tt; at_stop = λ ts e. tt; some = model_some }
+
+pub model_shortens : Shortens model_at
+model_shortens = shortens model_at model_spelling IsModel Always (kind.Keyword keyword.Root) model_reader model_listed
+
+models_reader : IsReader (many_at model_at (kind.Keyword keyword.Root)) (flat_map model_spelling) (AllByRecursion IsModel) (λ rest. begins (kind.Keyword keyword.Root) rest ≡ true)
+models_reader = many_reader model_at model_spelling IsModel Always model_reader (kind.Keyword keyword.Root) model_listed
+
+end_of : (ts : List Token) → is_end ts ≡ true → ts ≡ []
+end_of [] e = refl
+end_of (t ∷ ts) e = absurd cc
+
+pub file_sound : (ts : List Token) (f : FileTree) → file_at ts ≡ Some f → IsFileOf ts f
+unfolding file_at
+file_sound ts f e =
+    let a = then_some _ _ _ e in
+    let b = then_some _ _ _ a.2 in
+    let c = then_some _ _ _ b.2 in
+    let d = then_some _ _ _ c.2 in
+    elim (chosen _ _ _ _ d.2) [
+      | inl p ↦
+          let s = models_reader.sound ts a.0 a.1 in
+          let last : Spans [] d.0 [] = record { spells = end_of d.0 p.0 } in
+          let h = then_spans s.0 (after_spans b.1 (name_spans c.1 (after_spans d.1 last))) in
+          subst (IsFileOf ts) (some_is _ _ p.1) (record { spelled = h.spells; models = s.1 })
+      | inr p ↦ absurd (none_some _ p.1)
+    ]
+
+pub file_complete : (ts : List Token) (f : FileTree) → IsFileOf ts f → file_at ts ≡ Some f
+unfolding file_at choose read_then
+file_complete ts f is =
+    let h : Spans (file_spelling f) ts [] = record { spells = is.spelled } in
+    let s = split (flat_map model_spelling f.models) (word keyword.Root ∷ name f.root ∷ semicolon) h in
+    let a = first s.2 in
+    let b = first_name f.root a.spelled in
+    let c = first b.spelled in
+    let m = models_reader.complete f.models ts s.0 is.models s.1 (a.begins (kind.Keyword keyword.Root)) in
+    rw (m, a.after, b.read, c.after, span_end c.spelled) refl
+
+pub file_unique : (ts : List Token) (f g : FileTree) → IsFileOf ts f → IsFileOf ts g → f ≡ g
+file_unique ts f g p q = some_is f g (sym (file_complete ts f p) ∙ file_complete ts g q)
+
+pub file_refused : (ts : List Token) → file_at ts ≡ None → (f : FileTree) → IsFileOf ts f → ⊥
+file_refused ts e f is = none_some f (sym e ∙ file_complete ts f is)
+
+pub refused_at : (e : LoadError) (number : Refusal) (line : ℕ) (ts : List Token) → e ≡ error.Refused (record { number = number; line = line }) → (number ≡ refusal.E4) ⊎ (number ≡ refusal.E5) → file_at ts ≡ None → IsRefused e ts
+refused_at e number line ts is which none = rw is (which, file_refused ts none)

@@ -1,0 +1,484 @@
+-- Reading from left to right: a reader answers with what stands at the front of the tokens and the tokens after it,
+-- or with none.
+use Rattle.std.specs.Prelude.{◌≡◌, ℕ, zero, suc, ◌+◌, ◌-◌, List, [], ◌∷◌, ◌++◌, length, Bool, true, false, ◌&&◌, Option, Some, None, Result, Ok, Err, pos, nat_lt, nat_le, ◌==◌}
+use Rattle.std.specs.Ordering.{int_eq}
+use Rattle.dv_lex.specs.declared.token.Token.{Token}
+use Rattle.dv_lex.specs.declared.token.TokenKind.{TokenKind}
+use Rattle.dv_lex.specs.declared.token.TokenKind.TheVariants as kind
+use Rattle.dv_lex.specs.declared.token.Keyword.{Keyword}
+use Rattle.dv_lex.specs.declared.token.Keyword.TheVariants as keyword
+use Rattle.dv_lex.specs.declared.token.Symbol.{Symbol}
+use Rattle.dv_lex.specs.declared.token.Symbol.TheVariants as symbol
+use Rattle.dv_syntax.specs.declared.tree.Name.{Name}
+use Rattle.dv_syntax.specs.declared.tree.Number.{Number}
+use Rattle.dv_syntax.specs.declared.tree.Operator.{Operator}
+use Rattle.dv_syntax.specs.declared.tree.Operator.TheVariants as operator
+use Rattle.dv_syntax.specs.declared.tree.Bound.{Bound}
+use Rattle.dv_syntax.specs.declared.tree.Variable.{Variable}
+use Rattle.dv_syntax.specs.declared.tree.RuleSort.{RuleSort}
+use Rattle.dv_syntax.specs.declared.tree.RuleSort.TheVariants as sort
+use Rattle.dv_syntax.specs.declared.tree.End.{End}
+use Rattle.dv_syntax.specs.declared.tree.Part.{Part}
+use Rattle.dv_syntax.specs.declared.tree.Link.{Link}
+use Rattle.dv_syntax.specs.declared.tree.CoupledItem.{CoupledItem}
+use Rattle.dv_syntax.specs.declared.tree.CoupledItem.TheVariants as coupled_item
+use Rattle.dv_syntax.specs.declared.parser.fault.Fault.{Fault}
+use Rattle.dv_syntax.specs.declared.parser.fault.Fault.TheVariants as fault
+use Rattle.dv_syntax.specs.declared.tree.Stmt.{Stmt}
+use Rattle.dv_syntax.specs.declared.tree.Stmt as stmt
+use Rattle.dv_syntax.specs.Trees.{expression_of, row_statements, Expression, Literal, Named, Parens, Negative, Binary, Statements, Done, Assign, Goto, Send, If, IfElse, AtomicItem, OutPort, Var, Phases, Start, Hold, Rule, AtomicTree, CoupledTree, ModelTree, AtomicModel, CoupledModel, FileTree}
+use Rattle.dv_syntax.specs.Grammar.{operator_rank, left_rank, rank, depth, sort_word}
+
+-- what was read, and then a reader that uses it
+unfoldable pub read_then : {A B : Type 0} → Option A → (A → Option B) → Option B
+read_then (Some x) f = f x
+read_then None f = None
+
+-- What a function returned, seen by `view`, is what reading gives, unless memory ran out.
+abbrev pub Fails : {Y : Type 0} → Fault → Option Y → Type 0
+Fails fault.Memory read = Unit {0}
+Fails (fault.Unexpected line) read = read ≡ None
+Fails (fault.TooDeep line) read = read ≡ None
+Fails fault.TooShort read = read ≡ None
+
+abbrev pub Gives : {X Y : Type 0} → (X → Y) → Result X Fault → Option Y → Type 0
+Gives view (Ok x) read = read ≡ Some (view x)
+Gives view (Err e) read = Fails e read
+
+-- not want of memory
+abbrev pub IsRefusal : Fault → Type 0
+IsRefusal fault.Memory = ⊥
+IsRefusal (fault.Unexpected line) = Unit {0}
+IsRefusal (fault.TooDeep line) = Unit {0}
+IsRefusal fault.TooShort = Unit {0}
+
+infixl 10 ◌>>=◌
+abbrev pub ◌>>=◌ : {A B : Type 0} → Option A → (A → Option B) → Option B
+r >>= f = read_then r f
+
+unfoldable pub choose : {A : Type 0} → Bool → A → A → A
+choose true x y = x
+choose false x y = y
+
+unfoldable pub maybe : {A B : Type 0} → Option A → B → (A → B) → B
+maybe None none some = none
+maybe (Some x) none some = some x
+
+-- ---- Single tokens
+
+abbrev pub keyword_number : Keyword → ℕ
+keyword_number keyword.Atomic = 0
+keyword_number keyword.Coupled = 1
+keyword_number keyword.Root = 2
+keyword_number keyword.In = 3
+keyword_number keyword.Out = 4
+keyword_number keyword.Var = 5
+keyword_number keyword.Flag = 6
+keyword_number keyword.Bag = 7
+keyword_number keyword.Phases = 8
+keyword_number keyword.Start = 9
+keyword_number keyword.Hold = 10
+keyword_number keyword.Forever = 11
+keyword_number keyword.Output = 12
+keyword_number keyword.Internal = 13
+keyword_number keyword.External = 14
+keyword_number keyword.Confluent = 15
+keyword_number keyword.Part = 16
+keyword_number keyword.Link = 17
+keyword_number keyword.Itself = 18
+keyword_number keyword.If = 19
+keyword_number keyword.Else = 20
+keyword_number keyword.For = 21
+keyword_number keyword.Add = 22
+keyword_number keyword.To = 23
+keyword_number keyword.Drop = 24
+keyword_number keyword.From = 25
+keyword_number keyword.Send = 26
+keyword_number keyword.Goto = 27
+keyword_number keyword.True = 28
+keyword_number keyword.False = 29
+keyword_number keyword.Not = 30
+keyword_number keyword.And = 31
+keyword_number keyword.Or = 32
+keyword_number keyword.Elapsed = 33
+keyword_number keyword.Size = 34
+keyword_number keyword.Sum = 35
+keyword_number keyword.Least = 36
+keyword_number keyword.Most = 37
+keyword_number keyword.Times = 38
+
+abbrev pub symbol_number : Symbol → ℕ
+symbol_number symbol.Assign = 0
+symbol_number symbol.Arrow = 1
+symbol_number symbol.Range = 2
+symbol_number symbol.Unequal = 3
+symbol_number symbol.AtMost = 4
+symbol_number symbol.AtLeast = 5
+symbol_number symbol.OpenBrace = 6
+symbol_number symbol.CloseBrace = 7
+symbol_number symbol.OpenParen = 8
+symbol_number symbol.CloseParen = 9
+symbol_number symbol.Semicolon = 10
+symbol_number symbol.Colon = 11
+symbol_number symbol.Comma = 12
+symbol_number symbol.Dot = 13
+symbol_number symbol.Equal = 14
+symbol_number symbol.Less = 15
+symbol_number symbol.Greater = 16
+symbol_number symbol.Plus = 17
+symbol_number symbol.Minus = 18
+symbol_number symbol.Star = 19
+symbol_number symbol.Slash = 20
+symbol_number symbol.Percent = 21
+
+abbrev pub same_kind : TokenKind → TokenKind → Bool
+same_kind (kind.Name a) (kind.Name b) = a == b
+same_kind (kind.Number a) (kind.Number b) = int_eq a b
+same_kind (kind.Keyword a) (kind.Keyword b) = keyword_number a == keyword_number b
+same_kind (kind.Symbol a) (kind.Symbol b) = symbol_number a == symbol_number b
+same_kind _ _ = false
+
+-- a token of this kind comes first
+abbrev pub begins : TokenKind → List Token → Bool
+begins k [] = false
+begins k (t ∷ ts) = same_kind t.kind k
+
+-- the tokens after one of this kind
+unfoldable pub after : TokenKind → List Token → Option (List Token)
+after k [] = None
+after k (t ∷ ts) = choose (same_kind t.kind k) (Some ts) None
+
+abbrev pub name_of : TokenKind → ℕ → List Token → Option (Name × List Token)
+name_of (kind.Name n) line ts = Some (record { number = n; line = line }, ts)
+name_of _ line ts = None
+
+unfoldable pub name_at : List Token → Option (Name × List Token)
+name_at [] = None
+name_at (t ∷ ts) = name_of t.kind t.line ts
+
+abbrev pub number_of : TokenKind → ℕ → List Token → Option (Number × List Token)
+number_of (kind.Number (pos n)) line ts = Some (record { value = pos n; line = line }, ts)
+number_of _ line ts = None
+
+unfoldable pub number_at : List Token → Option (Number × List Token)
+number_at [] = None
+number_at (t ∷ ts) = number_of t.kind t.line ts
+
+-- the line of the first token
+unfoldable pub line_at : List Token → ℕ
+line_at [] = 0
+line_at (t ∷ ts) = t.line
+
+-- ---- Expressions
+
+abbrev pub symbol_operator : Symbol → Option Operator
+symbol_operator symbol.Plus = Some operator.Add
+symbol_operator symbol.Minus = Some operator.Subtract
+symbol_operator symbol.Star = Some operator.Multiply
+symbol_operator symbol.Slash = Some operator.Divide
+symbol_operator symbol.Percent = Some operator.Remainder
+symbol_operator symbol.Equal = Some operator.Equal
+symbol_operator symbol.Unequal = Some operator.Unequal
+symbol_operator symbol.Less = Some operator.Less
+symbol_operator symbol.AtMost = Some operator.AtMost
+symbol_operator symbol.Greater = Some operator.Greater
+symbol_operator symbol.AtLeast = Some operator.AtLeast
+symbol_operator _ = None
+
+unfoldable pub operator_of : TokenKind → Option Operator
+operator_of (kind.Symbol s) = symbol_operator s
+operator_of _ = None
+
+-- behind an expression, at a level: the operator goes on with it
+unfoldable pub goes_on : ℕ → Expression → Operator → Bool
+goes_on level left o = nat_le level (operator_rank o) && nat_le (left_rank o) (rank left)
+
+unfoldable pub operator_at : ℕ → Expression → List Token → Option (Operator × List Token)
+operator_at level left [] = None
+operator_at level left (t ∷ ts) = operator_of t.kind >>= λ o. choose (goes_on level left o) (Some (o, ts)) None
+
+abbrev pub is_name : TokenKind → Bool
+is_name (kind.Name n) = true
+is_name _ = false
+
+abbrev pub begins_name : List Token → Bool
+begins_name [] = false
+begins_name (t ∷ ts) = is_name t.kind
+
+-- a name or a number
+unfoldable pub leaf_at : List Token → Option (Expression × List Token)
+leaf_at ts = choose (begins_name ts) (name_at ts >>= λ n. Some (Named n.0, n.1)) (number_at ts >>= λ n. Some (Literal n.0, n.1))
+
+-- An operand that no operator joins to another. `operand` reads what lies behind a sign or a parenthesis, at a level.
+unfoldable pub parens_at : (ℕ → List Token → Option (Expression × List Token)) → List Token → Option (Expression × List Token)
+parens_at operand ts = do
+  inside ← after (kind.Symbol symbol.OpenParen) ts
+  e ← operand 0 inside
+  rest ← after (kind.Symbol symbol.CloseParen) e.1
+  Some (Parens (line_at ts) e.0, rest)
+
+unfoldable pub negative_at : (ℕ → List Token → Option (Expression × List Token)) → List Token → Option (Expression × List Token)
+negative_at operand ts = do
+  behind ← after (kind.Symbol symbol.Minus) ts
+  e ← operand 7 behind
+  Some (Negative (line_at ts) e.0, e.1)
+
+unfoldable pub primary_at : (ℕ → List Token → Option (Expression × List Token)) → List Token → Option (Expression × List Token)
+primary_at operand ts = choose (begins (kind.Symbol symbol.OpenParen) ts) (parens_at operand ts) (choose (begins (kind.Symbol symbol.Minus) ts) (negative_at operand ts) (leaf_at ts))
+
+-- What follows a left operand, as long as an operator of the level goes on with it. `more` counts the turns that are left.
+abbrev pub turns : (ℕ → List Token → Option (Expression × List Token)) → (limit more level : ℕ) → Expression → List Token → Option (Expression × List Token)
+turns operand limit zero level left ts = maybe (operator_at level left ts) (Some (left, ts)) (λ o. None)
+turns operand limit (suc more) level left ts = maybe (operator_at level left ts) (Some (left, ts)) (λ o.
+    choose (nat_lt (depth left) limit) (operand (operator_rank o.0 + 1) o.1 >>= λ right. turns operand limit more level (Binary o.0 left right.0) right.1) None)
+
+-- An expression no deeper than the limit, at whose top no operator below the level stands
+unfoldable pub expression_at : ℕ → ℕ → List Token → Option (Expression × List Token)
+expression_at zero level ts = None
+expression_at (suc limit) level ts = primary_at (expression_at limit) ts >>= λ e. turns (expression_at limit) (suc limit) (suc limit) level e.0 e.1
+
+-- what follows a left operand, within the limit
+unfoldable pub more_at : ℕ → ℕ → Expression → List Token → Option (Expression × List Token)
+more_at limit level left ts = turns (expression_at (limit - 1)) limit limit level left ts
+
+-- ---- Lists
+
+-- As many as stand before a token of this kind. The number counts how many more may come.
+abbrev pub many : {A : Type 0} → (List Token → Option (A × List Token)) → TokenKind → ℕ → List Token → Option (List A × List Token)
+many one stop zero ts = None
+many one stop (suc more) ts = choose (begins stop ts) (Some ([], ts)) (one ts >>= λ x. many one stop more x.1 >>= λ xs. Some (x.0 ∷ xs.0, xs.1))
+
+unfoldable pub many_at : {A : Type 0} → (List Token → Option (A × List Token)) → TokenKind → List Token → Option (List A × List Token)
+many_at one stop ts = many one stop (suc (length ts)) ts
+
+-- what was read before, and then what is read
+abbrev pub with_front : {A : Type 0} → List A → Option (List A × List Token) → Option (List A × List Token)
+with_front front read = read_then read (λ x. Some (front ++ x.0, x.1))
+
+-- in braces
+unfoldable pub braces_at : {A : Type 0} → (List Token → Option (A × List Token)) → List Token → Option (List A × List Token)
+braces_at one ts = do
+  inside ← after (kind.Symbol symbol.OpenBrace) ts
+  xs ← many_at one (kind.Symbol symbol.CloseBrace) inside
+  rest ← after (kind.Symbol symbol.CloseBrace) xs.1
+  Some (xs.0, rest)
+
+-- ---- Statements
+
+-- a statement by itself
+pub data Single : Type 0 where
+  SingleAssign : (variable : Name) → (value : Expression) → Single
+  SingleGoto : (line : ℕ) → (phase : Name) → Single
+  SingleSend : (line : ℕ) → (port : Name) → (value : Expression) → Single
+  SingleIf : (line : ℕ) → (condition : Expression) → (block : Statements) → Single
+  SingleIfElse : (line : ℕ) → (condition : Expression) → (block other : Statements) → Single
+
+abbrev pub single_before : Single → Statements → Statements
+single_before (SingleAssign n e) rest = Assign n e rest
+single_before (SingleGoto line p) rest = Goto line p rest
+single_before (SingleSend line p e) rest = Send line p e rest
+single_before (SingleIf line e block) rest = If line e block rest
+single_before (SingleIfElse line e block other) rest = IfElse line e block other rest
+
+abbrev pub joined : List Single → Statements
+joined [] = Done
+joined (s ∷ ss) = single_before s (joined ss)
+
+abbrev pub single_of : Stmt → Single
+single_of (stmt.Assign n e) = SingleAssign n (expression_of e)
+single_of (stmt.Goto line p) = SingleGoto line p
+single_of (stmt.Send line p e) = SingleSend line p (expression_of e)
+single_of (stmt.If' line e shape block) = SingleIf line (expression_of e) (row_statements block)
+single_of (stmt.IfElse' line e shape block other_shape other) = SingleIfElse line (expression_of e) (row_statements block) (row_statements other)
+
+unfoldable pub assign_at : List Token → Option (Single × List Token)
+assign_at ts = do
+  n ← name_at ts
+  behind ← after (kind.Symbol symbol.Assign) n.1
+  e ← expression_at 64 0 behind
+  rest ← after (kind.Symbol symbol.Semicolon) e.1
+  Some (SingleAssign n.0 e.0, rest)
+
+unfoldable pub goto_at : List Token → Option (Single × List Token)
+goto_at ts = do
+  behind ← after (kind.Keyword keyword.Goto) ts
+  n ← name_at behind
+  rest ← after (kind.Symbol symbol.Semicolon) n.1
+  Some (SingleGoto (line_at ts) n.0, rest)
+
+unfoldable pub send_at : List Token → Option (Single × List Token)
+send_at ts = do
+  behind ← after (kind.Keyword keyword.Send) ts
+  n ← name_at behind
+  e ← expression_at 64 0 n.1
+  rest ← after (kind.Symbol symbol.Semicolon) e.1
+  Some (SingleSend (line_at ts) n.0 e.0, rest)
+
+-- what follows the block of an `if`
+unfoldable pub else_at : (List Token → Option (Statements × List Token)) → ℕ → Expression → Statements → List Token → Option (Single × List Token)
+else_at block_at line e block ts = do
+  behind ← after (kind.Keyword keyword.Else) ts
+  other ← block_at behind
+  Some (SingleIfElse line e block other.0, other.1)
+
+unfoldable pub if_at : (List Token → Option (Statements × List Token)) → List Token → Option (Single × List Token)
+if_at block_at ts = do
+  behind ← after (kind.Keyword keyword.If) ts
+  e ← expression_at 64 0 behind
+  block ← block_at e.1
+  choose (begins (kind.Keyword keyword.Else) block.1) (else_at block_at (line_at ts) e.0 block.0 block.1) (Some (SingleIf (line_at ts) e.0 block.0, block.1))
+
+unfoldable pub statement_at : (List Token → Option (Statements × List Token)) → List Token → Option (Single × List Token)
+statement_at block_at ts =
+    choose (begins (kind.Keyword keyword.Goto) ts) (goto_at ts)
+    (choose (begins (kind.Keyword keyword.Send) ts) (send_at ts)
+    (choose (begins (kind.Keyword keyword.If) ts) (if_at block_at ts)
+    (assign_at ts)))
+
+-- a block in which blocks lie in one another no deeper than the limit
+unfoldable pub block_at : ℕ → List Token → Option (Statements × List Token)
+block_at zero ts = None
+block_at (suc limit) ts = braces_at (statement_at (block_at limit)) ts >>= λ x. Some (joined x.0, x.1)
+
+-- ---- Atomic models
+
+unfoldable pub bound_at : List Token → Option (Bound × List Token)
+bound_at ts = choose (begins (kind.Symbol symbol.Minus) ts)
+    (after (kind.Symbol symbol.Minus) ts >>= λ behind. number_at behind >>= λ n. Some (record { minus = Some (line_at ts); magnitude = n.0 }, n.1))
+    (number_at ts >>= λ n. Some (record { minus = None; magnitude = n.0 }, n.1))
+
+unfoldable pub variable_at : List Token → Option (Variable × List Token)
+variable_at ts = do
+  behind ← after (kind.Keyword keyword.Var) ts
+  n ← name_at behind
+  colon ← after (kind.Symbol symbol.Colon) n.1
+  low ← bound_at colon
+  range ← after (kind.Symbol symbol.Range) low.1
+  high ← bound_at range
+  equal ← after (kind.Symbol symbol.Equal) high.1
+  start ← bound_at equal
+  rest ← after (kind.Symbol symbol.Semicolon) start.1
+  Some (record { name = n.0; low = low.0; high = high.0; start = start.0 }, rest)
+
+-- a comma and a name
+unfoldable pub further_name_at : List Token → Option (Name × List Token)
+further_name_at ts = after (kind.Symbol symbol.Comma) ts >>= λ behind. name_at behind
+
+unfoldable pub phases_at : List Token → Option (AtomicItem × List Token)
+phases_at ts = do
+  behind ← after (kind.Keyword keyword.Phases) ts
+  first ← name_at behind
+  others ← many_at further_name_at (kind.Symbol symbol.Semicolon) first.1
+  rest ← after (kind.Symbol symbol.Semicolon) others.1
+  Some (Phases (line_at ts) (first.0 ∷ others.0), rest)
+
+unfoldable pub start_at : List Token → Option (AtomicItem × List Token)
+start_at ts = do
+  behind ← after (kind.Keyword keyword.Start) ts
+  n ← name_at behind
+  rest ← after (kind.Symbol symbol.Semicolon) n.1
+  Some (Start (line_at ts) n.0, rest)
+
+unfoldable pub ticks_at : List Token → Option (Option Expression × List Token)
+ticks_at ts = choose (begins (kind.Keyword keyword.Forever) ts)
+    (after (kind.Keyword keyword.Forever) ts >>= λ rest. Some (None, rest))
+    (expression_at 64 0 ts >>= λ e. Some (Some e.0, e.1))
+
+unfoldable pub hold_at : List Token → Option (AtomicItem × List Token)
+hold_at ts = do
+  behind ← after (kind.Keyword keyword.Hold) ts
+  n ← name_at behind
+  colon ← after (kind.Symbol symbol.Colon) n.1
+  ticks ← ticks_at colon
+  rest ← after (kind.Symbol symbol.Semicolon) ticks.1
+  Some (Hold (line_at ts) n.0 ticks.0, rest)
+
+unfoldable pub rule_at : RuleSort → List Token → Option (AtomicItem × List Token)
+rule_at sort ts = do
+  behind ← after (kind.Keyword (sort_word sort)) ts
+  n ← name_at behind
+  body ← block_at 16 n.1
+  Some (Rule sort n.0 body.0, body.1)
+
+-- `out port;`
+unfoldable pub out_at : List Token → Option (Name × List Token)
+out_at ts = do
+  behind ← after (kind.Keyword keyword.Out) ts
+  n ← name_at behind
+  rest ← after (kind.Symbol symbol.Semicolon) n.1
+  Some (n.0, rest)
+
+unfoldable pub item_at : List Token → Option (AtomicItem × List Token)
+item_at ts =
+    choose (begins (kind.Keyword keyword.Out) ts) (out_at ts >>= λ n. Some (OutPort n.0, n.1))
+    (choose (begins (kind.Keyword keyword.Var) ts) (variable_at ts >>= λ v. Some (Var v.0, v.1))
+    (choose (begins (kind.Keyword keyword.Phases) ts) (phases_at ts)
+    (choose (begins (kind.Keyword keyword.Start) ts) (start_at ts)
+    (choose (begins (kind.Keyword keyword.Hold) ts) (hold_at ts)
+    (choose (begins (kind.Keyword keyword.Output) ts) (rule_at sort.Output ts)
+    (rule_at sort.Internal ts))))))
+
+unfoldable pub atomic_at : List Token → Option (AtomicTree × List Token)
+atomic_at ts = do
+  behind ← after (kind.Keyword keyword.Atomic) ts
+  n ← name_at behind
+  items ← braces_at item_at n.1
+  Some (record { name = n.0; items = items.0 }, items.1)
+
+-- ---- Coupled models
+
+unfoldable pub end_at : List Token → Option (End × List Token)
+end_at ts = choose (begins (kind.Keyword keyword.Itself) ts)
+    (after (kind.Keyword keyword.Itself) ts >>= λ behind. after (kind.Symbol symbol.Dot) behind >>= λ dot. name_at dot >>= λ port. Some (record { part = None; port = port.0 }, port.1))
+    (name_at ts >>= λ part. after (kind.Symbol symbol.Dot) part.1 >>= λ dot. name_at dot >>= λ port. Some (record { part = Some part.0; port = port.0 }, port.1))
+
+unfoldable pub part_at : List Token → Option (Part × List Token)
+part_at ts = do
+  behind ← after (kind.Keyword keyword.Part) ts
+  n ← name_at behind
+  colon ← after (kind.Symbol symbol.Colon) n.1
+  model ← name_at colon
+  rest ← after (kind.Symbol symbol.Semicolon) model.1
+  Some (record { name = n.0; model = model.0 }, rest)
+
+unfoldable pub link_at : List Token → Option (Link × List Token)
+link_at ts = do
+  behind ← after (kind.Keyword keyword.Link) ts
+  source ← end_at behind
+  arrow ← after (kind.Symbol symbol.Arrow) source.1
+  target ← end_at arrow
+  rest ← after (kind.Symbol symbol.Semicolon) target.1
+  Some (record { line = line_at ts; from = source.0; to = target.0 }, rest)
+
+unfoldable pub coupled_item_at : List Token → Option (CoupledItem × List Token)
+coupled_item_at ts =
+    choose (begins (kind.Keyword keyword.Out) ts) (out_at ts >>= λ n. Some (coupled_item.Out n.0, n.1))
+    (choose (begins (kind.Keyword keyword.Part) ts) (part_at ts >>= λ p. Some (coupled_item.Part p.0, p.1))
+    (link_at ts >>= λ l. Some (coupled_item.Link l.0, l.1)))
+
+unfoldable pub coupled_at : List Token → Option (CoupledTree × List Token)
+coupled_at ts = do
+  behind ← after (kind.Keyword keyword.Coupled) ts
+  n ← name_at behind
+  items ← braces_at coupled_item_at n.1
+  Some (record { name = n.0; items = items.0 }, items.1)
+
+-- ---- Files
+
+unfoldable pub model_at : List Token → Option (ModelTree × List Token)
+model_at ts = choose (begins (kind.Keyword keyword.Coupled) ts)
+    (coupled_at ts >>= λ m. Some (CoupledModel m.0, m.1))
+    (atomic_at ts >>= λ m. Some (AtomicModel m.0, m.1))
+
+abbrev pub is_end : List Token → Bool
+is_end [] = true
+is_end (t ∷ ts) = false
+
+-- a file, of all the tokens
+unfoldable pub file_at : List Token → Option FileTree
+file_at ts = do
+  models ← many_at model_at (kind.Keyword keyword.Root) ts
+  behind ← after (kind.Keyword keyword.Root) models.1
+  n ← name_at behind
+  rest ← after (kind.Symbol symbol.Semicolon) n.1
+  choose (is_end rest) (Some (record { models = models.0; root = n.0 })) None

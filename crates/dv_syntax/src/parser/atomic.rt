@@ -1,0 +1,234 @@
+//! Atomic models and their items.
+
+ghost use Rattle.std.specs.Prelude.{◌≡◌, map};
+ghost use Rattle.dv_syntax.specs.Trees.{ticks_of, item_of, atomic_of};
+ghost use Rattle.dv_syntax.specs.Grammar.{sort_word};
+ghost use Rattle.dv_syntax.specs.Reading.{Gives, with_front, many_at, braces_at, bound_at, variable_at, further_name_at, phases_at, start_at, ticks_at, hold_at, rule_at, out_at, item_at, atomic_at};
+
+use super::expression::expression;
+use super::fault::Fault;
+use super::statement::block;
+use super::token::{
+    after_keyword, after_symbol, begins_with_keyword, begins_with_symbol, first_line, name, number,
+};
+use crate::tree::{Atomic, Bound, Item, Name, RuleSort, Ticks, Variable};
+use dv_lex::{Keyword, Symbol, Token, TokenKind};
+use std::alloc::Global;
+
+/// How deep the blocks of a rule may lie in one another.
+const BLOCK_LIMIT: u32 = 16;
+
+/// A number, perhaps behind a minus sign.
+#[tactic(auto, unfolding(crate::specs::Reading::bound_at, crate::specs::Reading::read_then, crate::specs::Reading::choose))]
+fn bound(tokens: &[Token]) -> Result<(Bound, &[Token]), Fault>
+    ensures { Gives (λ x. (x.0, x.1.now)) result (bound_at tokens.now) }
+{
+    if begins_with_symbol(tokens, Symbol::Minus) {
+        let line = first_line(tokens);
+        let rest = after_symbol(tokens, Symbol::Minus)?;
+        let (magnitude, rest) = number(rest)?;
+        Ok((
+            Bound {
+                minus: Some(line),
+                magnitude,
+            },
+            rest,
+        ))
+    } else {
+        let (magnitude, rest) = number(tokens)?;
+        Ok((
+            Bound {
+                minus: None,
+                magnitude,
+            },
+            rest,
+        ))
+    }
+}
+
+/// `var name: low..high = start;`
+#[tactic(auto, unfolding(crate::specs::Reading::variable_at, crate::specs::Reading::read_then))]
+fn variable(tokens: &[Token]) -> Result<(Variable, &[Token]), Fault>
+    ensures { Gives (λ x. (x.0, x.1.now)) result (variable_at tokens.now) }
+{
+    let rest = after_keyword(tokens, Keyword::Var)?;
+    let (name, rest) = name(rest)?;
+    let rest = after_symbol(rest, Symbol::Colon)?;
+    let (low, rest) = bound(rest)?;
+    let rest = after_symbol(rest, Symbol::Range)?;
+    let (high, rest) = bound(rest)?;
+    let rest = after_symbol(rest, Symbol::Equal)?;
+    let (start, rest) = bound(rest)?;
+    let rest = after_symbol(rest, Symbol::Semicolon)?;
+    Ok((
+        Variable {
+            name,
+            low,
+            high,
+            start,
+        },
+        rest,
+    ))
+}
+
+/// A comma and a name.
+#[tactic(auto, unfolding(crate::specs::Reading::further_name_at, crate::specs::Reading::read_then))]
+fn further_name(tokens: &[Token]) -> Result<(Name, &[Token]), Fault>
+    ensures { Gives (λ x. (x.0, x.1.now)) result (further_name_at tokens.now) }
+{
+    let rest = after_symbol(tokens, Symbol::Comma)?;
+    name(rest)
+}
+
+/// Adds the names behind commas that stand before a semicolon.
+fn further_names(mut names: Vec<Name>, tokens: &[Token]) -> Result<(Vec<Name>, &[Token]), Fault>
+    ensures { Gives (λ x. (x.0.items, x.1.now)) result
+        (with_front names.items (many_at further_name_at (TokenKind.Symbol Symbol.Semicolon) tokens.now)) }
+{
+    let mut rest = tokens;
+    while !begins_with_symbol(rest, Symbol::Semicolon) {
+        let (name, after) = further_name(rest)?;
+        names.push(name)?;
+        rest = after;
+    }
+    Ok((names, rest))
+}
+
+/// `phases first, second, ..;`
+#[tactic(auto, unfolding(crate::specs::Reading::phases_at, crate::specs::Reading::read_then))]
+fn phases(alloc: Global, tokens: &[Token]) -> Result<(Item, &[Token]), Fault>
+    ensures { Gives (λ x. (item_of x.0, x.1.now)) result (phases_at tokens.now) }
+{
+    let line = first_line(tokens);
+    let rest = after_keyword(tokens, Keyword::Phases)?;
+    let (first, rest) = name(rest)?;
+    let mut phases = Vec::new(alloc);
+    phases.push(first)?;
+    let (phases, rest) = further_names(phases, rest)?;
+    let rest = after_symbol(rest, Symbol::Semicolon)?;
+    Ok((Item::Phases { line, phases }, rest))
+}
+
+/// `start phase;`
+#[tactic(auto, unfolding(crate::specs::Reading::start_at, crate::specs::Reading::read_then))]
+fn start(tokens: &[Token]) -> Result<(Item, &[Token]), Fault>
+    ensures { Gives (λ x. (item_of x.0, x.1.now)) result (start_at tokens.now) }
+{
+    let line = first_line(tokens);
+    let rest = after_keyword(tokens, Keyword::Start)?;
+    let (phase, rest) = name(rest)?;
+    let rest = after_symbol(rest, Symbol::Semicolon)?;
+    Ok((Item::Start { line, phase }, rest))
+}
+
+/// `forever`, or an expression.
+#[tactic(auto, unfolding(crate::specs::Reading::ticks_at, crate::specs::Reading::read_then, crate::specs::Reading::choose))]
+fn ticks(alloc: Global, tokens: &[Token]) -> Result<(Ticks, &[Token]), Fault>
+    ensures { Gives (λ x. (ticks_of x.0, x.1.now)) result (ticks_at tokens.now) }
+{
+    if begins_with_keyword(tokens, Keyword::Forever) {
+        let rest = after_keyword(tokens, Keyword::Forever)?;
+        Ok((Ticks::Forever, rest))
+    } else {
+        let (ticks, rest) = expression(alloc, tokens)?;
+        Ok((Ticks::After(ticks), rest))
+    }
+}
+
+/// `hold phase: ticks;`
+#[tactic(auto, unfolding(crate::specs::Reading::hold_at, crate::specs::Reading::read_then))]
+fn hold(alloc: Global, tokens: &[Token]) -> Result<(Item, &[Token]), Fault>
+    ensures { Gives (λ x. (item_of x.0, x.1.now)) result (hold_at tokens.now) }
+{
+    let line = first_line(tokens);
+    let rest = after_keyword(tokens, Keyword::Hold)?;
+    let (phase, rest) = name(rest)?;
+    let rest = after_symbol(rest, Symbol::Colon)?;
+    let (ticks, rest) = ticks(alloc, rest)?;
+    let rest = after_symbol(rest, Symbol::Semicolon)?;
+    Ok((Item::Hold { line, phase, ticks }, rest))
+}
+
+/// The word with which a rule of this sort begins.
+fn word_of(sort: RuleSort) -> Keyword
+    ensures { result ≡ sort_word sort }
+{
+    match sort {
+        RuleSort::Output => Keyword::Output,
+        RuleSort::Internal => Keyword::Internal,
+    }
+}
+
+/// `output phase { .. }` or `internal phase { .. }`
+#[tactic(auto, unfolding(crate::specs::Reading::rule_at, crate::specs::Reading::read_then))]
+fn rule(alloc: Global, tokens: &[Token], sort: RuleSort) -> Result<(Item, &[Token]), Fault>
+    ensures { Gives (λ x. (item_of x.0, x.1.now)) result (rule_at sort tokens.now) }
+{
+    let rest = after_keyword(tokens, word_of(sort))?;
+    let (phase, rest) = name(rest)?;
+    let (body, rest) = block(alloc, rest, BLOCK_LIMIT)?;
+    Ok((Item::Rule { sort, phase, body }, rest))
+}
+
+/// `out port;`
+#[tactic(auto, unfolding(crate::specs::Reading::out_at, crate::specs::Reading::read_then))]
+pub fn out(tokens: &[Token]) -> Result<(Name, &[Token]), Fault>
+    ensures { Gives (λ x. (x.0, x.1.now)) result (out_at tokens.now) }
+{
+    let rest = after_keyword(tokens, Keyword::Out)?;
+    let (port, rest) = name(rest)?;
+    let rest = after_symbol(rest, Symbol::Semicolon)?;
+    Ok((port, rest))
+}
+
+/// An item at the front.
+#[tactic(auto, unfolding(crate::specs::Reading::item_at, crate::specs::Reading::read_then, crate::specs::Reading::choose))]
+fn item(alloc: Global, tokens: &[Token]) -> Result<(Item, &[Token]), Fault>
+    ensures { Gives (λ x. (item_of x.0, x.1.now)) result (item_at tokens.now) }
+{
+    if begins_with_keyword(tokens, Keyword::Out) {
+        let (port, rest) = out(tokens)?;
+        Ok((Item::Out(port), rest))
+    } else if begins_with_keyword(tokens, Keyword::Var) {
+        let (variable, rest) = variable(tokens)?;
+        Ok((Item::Var(variable), rest))
+    } else if begins_with_keyword(tokens, Keyword::Phases) {
+        phases(alloc, tokens)
+    } else if begins_with_keyword(tokens, Keyword::Start) {
+        start(tokens)
+    } else if begins_with_keyword(tokens, Keyword::Hold) {
+        hold(alloc, tokens)
+    } else if begins_with_keyword(tokens, Keyword::Output) {
+        rule(alloc, tokens, RuleSort::Output)
+    } else {
+        rule(alloc, tokens, RuleSort::Internal)
+    }
+}
+
+/// The items before the brace that closes their model.
+fn items(alloc: Global, tokens: &[Token]) -> Result<(Vec<Item>, &[Token]), Fault>
+    ensures { Gives (λ x. (map item_of x.0.items, x.1.now)) result
+        (many_at item_at (TokenKind.Symbol Symbol.CloseBrace) tokens.now) }
+{
+    let mut items = Vec::new(alloc);
+    let mut rest = tokens;
+    while !begins_with_symbol(rest, Symbol::CloseBrace) {
+        let (item, after) = item(alloc, rest)?;
+        items.push(item)?;
+        rest = after;
+    }
+    Ok((items, rest))
+}
+
+/// `atomic name { .. }`
+#[tactic(auto, unfolding(crate::specs::Reading::atomic_at, crate::specs::Reading::braces_at, crate::specs::Reading::read_then))]
+pub fn atomic(alloc: Global, tokens: &[Token]) -> Result<(Atomic, &[Token]), Fault>
+    ensures { Gives (λ x. (atomic_of x.0, x.1.now)) result (atomic_at tokens.now) }
+{
+    let rest = after_keyword(tokens, Keyword::Atomic)?;
+    let (name, rest) = name(rest)?;
+    let rest = after_symbol(rest, Symbol::OpenBrace)?;
+    let (items, rest) = items(alloc, rest)?;
+    let rest = after_symbol(rest, Symbol::CloseBrace)?;
+    Ok((Atomic { name, items }, rest))
+}

@@ -1,0 +1,38 @@
+//! Why the tokens could not be read.
+
+use std::alloc::{AllocError, AllocFailed};
+
+/// Why the tokens could not be read. A line is that of the token at which it shows.
+#[derive(Clone, Copy, Debug, PartialEq, Eq)]
+pub enum Fault {
+    /// An allocation was refused.
+    Memory,
+    /// The token can't stand there.
+    Unexpected(u32),
+    /// What begins with the token, or what it joins, lies too deep.
+    TooDeep(u32),
+    /// More tokens have to follow.
+    TooShort,
+}
+
+impl From<AllocError> for Fault {
+    ghost use Rattle.std.specs.Prelude.{◌≡◌};
+    ghost use Rattle.dv_syntax.specs.declared.parser.fault.Fault.TheVariants.{Memory};
+
+    ghost from_gives = { λ _ e. e ≡ Memory };
+
+    fn from(_error: AllocError) -> Self {
+        Fault::Memory
+    }
+}
+
+impl<T: Drop> From<AllocFailed<T>> for Fault {
+    ghost use Rattle.std.specs.Prelude.{◌≡◌};
+    ghost use Rattle.dv_syntax.specs.declared.parser.fault.Fault.TheVariants.{Memory};
+
+    ghost from_gives = { λ _ e. e ≡ Memory };
+
+    fn from(_error: AllocFailed<T>) -> Self {
+        Fault::Memory
+    }
+}
