@@ -1,5 +1,5 @@
 -- How far a text has been read: what the loop keeps, and what it ends in.
-use Rattle.std.proofs.Common.{◌≡◌, ℕ, ◌+◌, ◌-◌, ◌<◌, ◌≤◌, ◌⊎◌, inl, inr, Bool, true, not, take, drop, get_or, List, [], ◌∷◌, ◌++◌, length, Option, Some, ap, refl, sym, ◌∙◌, subst, arith, option_map, ◌==◌}
+use Rattle.std.proofs.Common.{◌≡◌, ℕ, ◌+◌, ◌-◌, ◌<◌, ◌≤◌, ◌⊎◌, inl, inr, true, not, take, drop, get_or, List, [], ◌∷◌, ◌++◌, length, Option, Some, ap, refl, sym, ◌∙◌, subst, arith, option_map, ◌==◌}
 use Rattle.std.specs.List.{cons_option}
 use Rattle.std.proofs.lemmas.Bool.{cond_both}
 use Rattle.std.proofs.lemmas.List.{append-nil, length-append, length_push, take_all}
@@ -8,15 +8,12 @@ use Rattle.dv_lex.specs.declared.token.Token.{Token}
 use Rattle.dv_lex.specs.declared.token.TokenKind.{TokenKind}
 use Rattle.dv_lex.specs.declared.token.Symbol.{Symbol}
 use Rattle.dv_lex.specs.declared.token.Symbol.TheVariants as symbol
-use Rattle.dv_lex.specs.declared.error.Refusal.{Refusal}
-use Rattle.dv_lex.specs.declared.error.Refusal.TheVariants.{E2, E3}
 use Rattle.dv_lex.specs.Table.{has_name}
 use Rattle.dv_lex.specs.Lexemes.{Lexeme, Blank, Comment, Identifier, Numeral, Reserved, Sign, Spells, symbol_text, line_feeds, continues_name, is_blank}
 use Rattle.std.specs.Char.{is_ascii_digit}
 use Rattle.dv_lex.specs.Reading.{Placed, Reads, IsFirst, IsInRange}
 use Rattle.dv_lex.specs.Numbering.{names_of, kind_of, token_of, tokens_of}
-use Rattle.dv_lex.specs.Steps.{with_lexeme, ReadsToken, IsNoToken, SplitsRun}
-use Rattle.dv_lex.specs.Texts.{IsReadable, IsTokensOf, IsRefusedAs}
+use Rattle.dv_lex.specs.Steps.{with_lexeme, ReadsToken, SplitsRun}
 use Rattle.dv_lex.proofs.Runs.{line_feeds-run, line_feeds-cons}
 use Rattle.dv_lex.proofs.Spellings.{word_test-each, word_test-Identifier, word_test-Reserved, not_Spells-empty}
 use Rattle.dv_lex.proofs.Firsts.{IsFirst-blank, IsFirst-comment}

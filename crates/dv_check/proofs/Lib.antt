@@ -1,0 +1,5 @@
+pub mod Lists
+pub mod Firsts
+pub mod Statements
+pub mod Noted
+pub mod Within

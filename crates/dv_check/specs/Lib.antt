@@ -1,0 +1,12 @@
+pub mod Findings
+pub mod Names
+pub mod Tables
+pub mod Items
+pub mod Types
+pub mod Rules
+pub mod Models
+pub mod Couplings
+pub mod Inside
+pub mod LinkSets
+pub mod Refusals
+pub mod Clock

@@ -1,0 +1,9 @@
+pub mod Alone
+pub mod Later
+pub mod Times
+pub mod Silence
+pub mod Idle
+pub mod Steps
+pub mod Least
+pub mod Lines
+pub mod Reached

@@ -1,0 +1,17 @@
+use Rattle.std.specs.List.{All}
+use Rattle.dv_syntax.specs.Trees.{file_of}
+use Rattle.dv_plain.specs.declared.component.Running.{Running}
+use Rattle.dv_plain.specs.Shown.{IsWaitOfRun}
+use Rattle.dv_plain.proofs.Reached.{Reached, work}
+use Rattle.dv_plain.proofs.run.resultant_run.Given as goal
+
+-- every instant before some rank is over
+abbrev pub invariant-instants : goal.invariant-instants
+invariant-instants l = record {
+  reached : Reached l.limit (file_of l.tree.file) l.horizon l.components.items l.trace;
+  waits : All (λ (r : Running). IsWaitOfRun l.limit r.wait) l.components.items;
+}
+
+-- what is left from the next instant to the end
+abbrev pub decreases-instants : goal.decreases-instants
+decreases-instants l = work l.limit l.horizon l.components.items

@@ -1,0 +1,103 @@
+//! The run of a resultant.
+
+ghost use Rattle.std.specs.List.{All};
+ghost use Rattle.std.specs.Prelude.{◌≡◌, ℕ, ◌≤◌, map, nat_lt, IfOk, Some};
+ghost use Rattle.dv_time.specs.Time.{IsOfRun, next_rank, rank};
+ghost use Rattle.dv_syntax.specs.Trees.{file_of};
+ghost use Rattle.dv_bag.specs.Network.{earlier, least_next};
+ghost use Rattle.dv_plain.specs.Shown.{IsNextOfRun, IsWaitOfRun, next_of_wait, shown};
+ghost use Rattle.dv_plain.specs.Source.{network_of, trace_of};
+
+use crate::component::{Running, Wait};
+use crate::instant::run_instant;
+use dv_bag::{Part, Trace};
+use dv_time::{Next, Time};
+use dv_tree::Tree;
+use std::alloc::{AllocError, Global};
+
+/// The trace of a text's resultant to a horizon, under a microstep limit. It goes from event to event, and looks
+/// at every component at each.
+///
+/// # Errors
+///
+/// No memory for the components or the trace.
+pub fn resultant_run(
+    alloc: Global,
+    tree: &Tree,
+    horizon: u64,
+    limit: u32,
+) -> Result<Trace, AllocError>
+    requires horizon { horizon ≤ 1_000_000_000_000 }
+    requires least_limit { 1 ≤ limit }
+    requires greatest_limit { limit ≤ 1_000 }
+    ensures { IfOk result (λ trace. trace ≡ trace_of (file_of tree.now.file) horizon limit) }
+{
+    let mut components = begin(alloc, tree, limit)?;
+    let mut trace = Part::new(alloc);
+    'instants: while let Next::At(now) = next_time(&components) {
+        if now.tick > horizon {
+            break;
+        }
+        run_instant(alloc, tree, limit, now, &mut components, &mut trace)?;
+    }
+    Ok(trace)
+}
+
+// The components at 0.0.
+fn begin(alloc: Global, tree: &Tree, limit: u32) -> Result<Vec<Running>, AllocError>
+    ensures start { IfOk result (λ components. map (shown limit) components.items ≡ (network_of limit (file_of tree.now.file)).start) }
+    ensures waits { IfOk result (λ components. All (λ r. IsWaitOfRun limit r.wait) components.items) }
+{
+    let mut components = Vec::with_capacity(alloc, tree.component_count())?;
+    for k in 0..tree.component_count() {
+        components.push(Running::start(alloc, limit, tree.atomic(k), tree.env(k))?)?;
+    }
+    Ok(components)
+}
+
+// The least of the components' next times.
+fn next_time(components: &[Running]) -> Next
+    ensures least { (limit : ℕ) → All (λ r. IsWaitOfRun limit r.wait) components.now → next_rank limit result ≡ least_next (map (shown limit) components.now) }
+    ensures of_run { (limit : ℕ) → All (λ r. IsWaitOfRun limit r.wait) components.now → IsNextOfRun limit result }
+{
+    let mut next = Next::Never;
+    for component in components {
+        next = sooner(next, component.wait);
+    }
+    next
+}
+
+// The earlier of a next time and the end of a wait.
+fn sooner(next: Next, wait: Wait) -> Next
+    ensures least { (limit : ℕ) → IsNextOfRun limit next → IsWaitOfRun limit wait → next_rank limit result ≡ earlier (next_rank limit next) (next_of_wait limit wait) }
+    ensures of_run { (limit : ℕ) → IsNextOfRun limit next → IsWaitOfRun limit wait → IsNextOfRun limit result }
+{
+    match wait {
+        Wait::Until(time) => Next::At(earlier(next, time)),
+        Wait::Forever | Wait::Quiet => next,
+    }
+}
+
+// The earlier of a next time and a time.
+fn earlier(next: Next, time: Time) -> Time
+    ensures least { (limit : ℕ) → IsNextOfRun limit next → IsOfRun limit time → Some (rank limit result) ≡ earlier (next_rank limit next) (Some (rank limit time)) }
+    ensures of_run { (limit : ℕ) → IsNextOfRun limit next → IsOfRun limit time → IsOfRun limit result }
+{
+    match next {
+        Next::At(other) => {
+            if is_before(other, time) {
+                other
+            } else {
+                time
+            }
+        }
+        Next::Never => time,
+    }
+}
+
+// Whether a time of a run is before another.
+fn is_before(a: Time, b: Time) -> bool
+    ensures { (limit : ℕ) → IsOfRun limit a → IsOfRun limit b → result ≡ nat_lt (rank limit a) (rank limit b) }
+{
+    a < b
+}
