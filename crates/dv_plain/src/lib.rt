@@ -4,3 +4,5 @@
 mod component;
 mod instant;
 pub mod run;
+
+pub use run::resultant_run;

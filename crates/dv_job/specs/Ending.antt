@@ -1,0 +1,49 @@
+-- How a run of bytes ends, and what its writer then holds.
+use Rattle.std.specs.Prelude.{◌≡◌, ℕ, Bool, true, false, if◌then◌else◌, List, ◌⊎◌, Option, Result, Ok, Err}
+use Rattle.std.specs.List.{list_any}
+use Rattle.std.specs.Io.KnownBytes.{Appends, Keeps}
+use Rattle.dv_bag.specs.Part.{PartOf}
+use Rattle.dv_bag.specs.declared.entry.Entry.{Entry}
+use Rattle.dv_bag.specs.declared.entry.What.{What}
+use Rattle.dv_bag.specs.declared.entry.What.TheVariants as what
+use Rattle.dv_syntax.specs.Trees.{FileTree}
+use Rattle.dv_plain.specs.Source.{trace_of}
+use Rattle.dv_text.specs.Writing.{AppendsBeginning}
+use Rattle.dv_job.specs.Job.{IsModelOf, IsRefusedModel, run_text}
+use Rattle.dv_job.specs.declared.ended.JobEnded.{JobEnded}
+use Rattle.dv_job.specs.declared.ended.JobEnded.TheVariants.{Whole, Faulted}
+use Rattle.dv_job.specs.declared.ended.JobError.{JobError}
+use Rattle.dv_job.specs.declared.ended.JobError.TheVariants as error
+
+abbrev pub is_fault : What → Bool
+is_fault (what.Fault f) = true
+is_fault (what.Transition k s) = false
+
+-- some component had a fault
+abbrev pub has_fault : PartOf → Bool
+has_fault p = list_any (λ (e : Entry). is_fault e.what) p.entries
+
+abbrev pub ended_by : PartOf → JobEnded
+ended_by p = if has_fault p then Faulted else Whole
+
+-- The text is accepted, the writer's bytes grew by the whole text of its trace, and the answer tells whether that holds a fault.
+pub record PrintsTrace (text : List ℕ) (horizon limit : ℕ) (old new : Option (List ℕ)) (ended : JobEnded) : Type 0 where
+  pub names : List (List ℕ)
+  pub file : FileTree
+  pub model : IsModelOf text names file
+  pub told : ended ≡ ended_by (trace_of file horizon limit)
+  pub written : Appends old new (run_text names file horizon limit)
+
+-- The text is accepted, and the writer's bytes grew by a beginning of the whole text of its trace.
+pub record PrintsBeginning (text : List ℕ) (horizon limit : ℕ) (old new : Option (List ℕ)) : Type 0 where
+  pub names : List (List ℕ)
+  pub file : FileTree
+  pub model : IsModelOf text names file
+  pub written : AppendsBeginning old new (run_text names file horizon limit)
+
+-- What an error leaves: at a refusal nothing was written, and the text really is refused; at a failed write a beginning;
+-- at want of memory nothing or a beginning.
+abbrev pub Leaves : JobError → List ℕ → (horizon limit : ℕ) → Option (List ℕ) → Option (List ℕ) → Type 0
+Leaves (error.Text e) text horizon limit old new = IsRefusedModel text e × Keeps old new
+Leaves error.Write text horizon limit old new = PrintsBeginning text horizon limit old new
+Leaves error.Memory text horizon limit old new = Keeps old new ⊎ PrintsBeginning text horizon limit old new

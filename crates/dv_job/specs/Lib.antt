@@ -1,0 +1,5 @@
+pub mod Ranges
+pub mod Job
+pub mod Errors
+pub mod Ending
+pub mod Loading

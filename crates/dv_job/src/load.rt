@@ -1,0 +1,21 @@
+//! From the bytes of a model to the checked text.
+
+ghost use Rattle.std.specs.Prelude.{IfOk, IfErr};
+ghost use Rattle.dv_syntax.specs.Trees.{file_of};
+ghost use Rattle.dv_job.specs.Job.{IsModelOf};
+ghost use Rattle.dv_job.specs.Loading.{IsUnloaded};
+
+use dv_check::{Checked, check};
+use dv_lex::{LoadError, line_after, tokens};
+use dv_syntax::parse;
+use std::alloc::Global;
+
+/// The checked text of these bytes.
+pub fn load(alloc: Global, text: &[u8]) -> Result<Checked, LoadError>
+    ensures model { IfOk result (λ c. IsModelOf text.now c.names (file_of c.file)) }
+    ensures refused { IfErr result (λ e. IsUnloaded e text.now) }
+{
+    let lexed = tokens(alloc, text)?;
+    let file = parse(alloc, &lexed.tokens, line_after(text))?;
+    check(alloc, file, lexed.names)
+}

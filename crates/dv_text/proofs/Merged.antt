@@ -1,0 +1,30 @@
+-- The lines of a trace, entry by entry.
+use Rattle.std.proofs.Common.{◌≡◌, ℕ, ◌+◌, ◌<◌, ◌≤◌, List, ◌∷◌, ◌++◌, length, get_or, drop, refl, sym, ap, ◌∙◌, append_assoc}
+use Rattle.std.specs.List.{flat_map}
+use Rattle.std.proofs.lemmas.List.{at_drop_more, at_drop_all}
+use Rattle.dv_time.specs.declared.time.Time.{Time}
+use Rattle.dv_bag.specs.declared.entry.Entry.{Entry}
+use Rattle.dv_bag.specs.Part.{PartOf}
+use Rattle.dv_text.specs.declared.writing.Ending.{Ending}
+use Rattle.dv_text.specs.declared.writing.Ending.TheVariants.{Whole}
+use Rattle.dv_text.specs.Writing.{ending_text, text_of}
+use Rattle.dv_text.specs.Texts.{Shown, entry_text, group_text, grouped, groups_before, groups_from, merged, shown_at}
+
+-- the groups before the next entry, its line, and what is left
+pub next_entry : (all : List Shown) (items : List Entry) (i : ℕ) (e : Entry) (gs left : List (Time × List ℕ)) (ending : List ℕ) → i < length items → e ≡ get_or items i e → left ≡ groups_from e.time gs → merged all (drop i items) gs ++ ending ≡ groups_before e.time gs ++ (entry_text (shown_at all e.component) e ++ (merged all (drop (i + 1) items) left ++ ending))
+next_entry all items i e gs left ending h is from =
+    let after = drop (i + 1) items in
+    let text = entry_text (shown_at all e.component) e in
+    at_drop_more (λ es. merged all es gs ++ ending) items i e h
+    ∙ ap (λ (x : Entry). merged all (x ∷ after) gs ++ ending) (sym is)
+    ∙ append_assoc (groups_before e.time gs) (text ++ merged all after (groups_from e.time gs)) ending
+    ∙ ap (λ t. groups_before e.time gs ++ t) (append_assoc text (merged all after (groups_from e.time gs)) ending)
+    ∙ ap (λ hs. groups_before e.time gs ++ (text ++ (merged all after hs ++ ending))) (sym from)
+
+-- after the last entry the groups are left
+pub last_groups : (all : List Shown) (items : List Entry) (i : ℕ) (gs : List (Time × List ℕ)) (ending : List ℕ) → length items ≤ i → merged all (drop i items) gs ++ ending ≡ flat_map group_text gs ++ ending
+last_groups all items i gs ending h = at_drop_all (λ es. merged all es gs ++ ending) items i h
+
+-- the text is its lines and its end
+pub text_of-lines : (all : List Shown) (names : List (List ℕ)) (p : PartOf) (ending : Ending) → text_of all names p ending ≡ merged all p.entries (grouped names p.outer) ++ ending_text ending
+text_of-lines all names p (Whole horizon) = refl

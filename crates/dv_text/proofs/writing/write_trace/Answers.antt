@@ -1,0 +1,107 @@
+use Rattle.std.proofs.Common.{List, ◌+◌, ◌++◌, [], drop, string_bytes, refl, sym, ap, ◌∙◌, append-nil, arith}
+use Rattle.dv_bag.specs.declared.entry.Entry.{Entry}
+use Rattle.dv_bag.specs.declared.entry.Outer.{Outer}
+use Rattle.std.specs.List.{flat_map}
+use Rattle.std.proofs.lemmas.Result.{on_err_weaker}
+use Rattle.dv_text.specs.Shown.{all_shown, root_ports}
+use Rattle.dv_text.specs.Texts.{entry_text, group_text, grouped, groups_before, groups_from, merged, shown_at}
+use Rattle.dv_text.specs.Writing.{AppendsBeginning, ending_text, text_of}
+use Rattle.dv_text.proofs.Merged.{next_entry, last_groups, text_of-lines}
+use Rattle.dv_text.proofs.Taking.{TakesFront-nothing, TakesFront-left, TakesFront-more, TakesFront-pushed, TakesFront-handed, TakesFront-rest, AppendsBeginning-from, AppendsBeginning-after, AppendsBeginning-more, AppendsBeginning-handed, OnErr-always}
+use Rattle.dv_text.proofs.writing.write_trace.Goals as goal
+
+pub loop-entry-init : goal.loop-entry-init
+loop-entry-init g c =
+    let all = all_shown c.args.tree.now in
+    let names = root_ports c.args.tree.now in
+    let trace = c.args.trace.now in
+    let ending = ending_text c.args.ending.now in
+    let items = c.entries-entry-items.result.now in
+    let outer = c.outer-outer.result.now in
+    let text = merged all items (grouped names outer) ++ ending in
+    let start = text_of-lines all names trace c.args.ending.now ∙ ap (λ (es : List Entry). merged all es (grouped names trace.outer) ++ ending) (sym c.entries-entry-items.ensures) ∙ ap (λ (os : List Outer). merged all items (grouped names os) ++ ending) (sym c.outer-outer.ensures) ∙ ap (λ z. z ++ text) (sym c.new-line.ensures.bytes) in
+    TakesFront-left start (TakesFront-nothing (g.W.Write.contents c.args.writer.now) (text_of all names trace c.args.ending.now))
+
+pub returns-in_err-outer-clause-err : goal.returns-in_err-outer-clause-err
+returns-in_err-outer-clause-err g c =
+    let all = all_shown c.args.tree.now in
+    let e = c.entry-item.result in
+    let items = c.entries-entry-items.result.now in
+    let i = c.loop-entry.entry-index in
+    let groups = grouped (root_ports c.args.tree.now) c.loop-entry.outer.now in
+    let left = groups_from e.time groups in
+    let ending = ending_text c.args.ending.now in
+    OnErr-always _ (AppendsBeginning-more (string_bytes c.loop-entry.line) (merged all (drop i items) groups ++ ending) (groups_before e.time groups) (entry_text (shown_at all e.component) e ++ (merged all (drop (i + 1) items) left ++ ending)) c.loop-entry.invariant (next_entry all items i e groups left ending (omega arith) c.entry-item.is refl) c.in_err-outer.ensures.err)
+
+pub returns-in_err-push_entry-clause-err : goal.returns-in_err-push_entry-clause-err
+returns-in_err-push_entry-clause-err g c =
+    let all = all_shown c.args.tree.now in
+    let e = c.entry-item.result in
+    let items = c.entries-entry-items.result.now in
+    let i = c.loop-entry.entry-index in
+    let groups = grouped (root_ports c.args.tree.now) c.loop-entry.outer.now in
+    let left = grouped (root_ports c.args.tree.now) c.in_ok-outer.outer.now in
+    let ending = ending_text c.args.ending.now in
+    let text = entry_text (shown_at all e.component) e in
+    let more = merged all (drop (i + 1) items) left ++ ending in
+    OnErr-always _ (AppendsBeginning-from (TakesFront-more (string_bytes c.loop-entry.line) (string_bytes c.write_before.new.line) (merged all (drop i items) groups ++ ending) (groups_before e.time groups) (text ++ more) c.loop-entry.invariant (next_entry all items i e groups left ending (omega arith) c.entry-item.is c.in_ok-outer.ensures.left) c.in_ok-outer.ensures.ok))
+
+pub returns-in_err-hand_over_if_long-clause-err : goal.returns-in_err-hand_over_if_long-clause-err
+returns-in_err-hand_over_if_long-clause-err g c =
+    let all = all_shown c.args.tree.now in
+    let e = c.entry-item.result in
+    let items = c.entries-entry-items.result.now in
+    let i = c.loop-entry.entry-index in
+    let groups = grouped (root_ports c.args.tree.now) c.loop-entry.outer.now in
+    let left = grouped (root_ports c.args.tree.now) c.in_ok-outer.outer.now in
+    let ending = ending_text c.args.ending.now in
+    let text = entry_text (shown_at all e.component) e in
+    let more = merged all (drop (i + 1) items) left ++ ending in
+    let before = TakesFront-more (string_bytes c.loop-entry.line) (string_bytes c.write_before.new.line) (merged all (drop i items) groups ++ ending) (groups_before e.time groups) (text ++ more) c.loop-entry.invariant (next_entry all items i e groups left ending (omega arith) c.entry-item.is c.in_ok-outer.ensures.left) c.in_ok-outer.ensures.ok in
+    let pushed = TakesFront-pushed (string_bytes c.write_before.new.line) (string_bytes c.push_entry.new.line) (text ++ more) text more before refl c.in_ok-push_entry.ensures in
+    OnErr-always _ (AppendsBeginning-handed (string_bytes c.push_entry.new.line) more pushed c.in_err-hand_over_if_long.ensures.err)
+
+pub loop-entry-preserved : goal.loop-entry-preserved
+loop-entry-preserved g c =
+    let all = all_shown c.args.tree.now in
+    let e = c.entry-item.result in
+    let items = c.entries-entry-items.result.now in
+    let i = c.loop-entry.entry-index in
+    let groups = grouped (root_ports c.args.tree.now) c.loop-entry.outer.now in
+    let left = grouped (root_ports c.args.tree.now) c.in_ok-outer.outer.now in
+    let ending = ending_text c.args.ending.now in
+    let text = entry_text (shown_at all e.component) e in
+    let more = merged all (drop (i + 1) items) left ++ ending in
+    let before = TakesFront-more (string_bytes c.loop-entry.line) (string_bytes c.write_before.new.line) (merged all (drop i items) groups ++ ending) (groups_before e.time groups) (text ++ more) c.loop-entry.invariant (next_entry all items i e groups left ending (omega arith) c.entry-item.is c.in_ok-outer.ensures.left) c.in_ok-outer.ensures.ok in
+    let pushed = TakesFront-pushed (string_bytes c.write_before.new.line) (string_bytes c.push_entry.new.line) (text ++ more) text more before refl c.in_ok-push_entry.ensures in
+    TakesFront-handed (string_bytes c.push_entry.new.line) (string_bytes c.hand_over_if_long.new.line) more pushed c.in_ok-hand_over_if_long.ensures.ok
+
+pub returns-in_err-write_groups-clause-err : goal.returns-in_err-write_groups-clause-err
+returns-in_err-write_groups-clause-err g c =
+    let all = all_shown c.args.tree.now in
+    let items = c.entries-entry-items.result.now in
+    let i = c.loop-entry.entry-index in
+    let groups = grouped (root_ports c.args.tree.now) c.loop-entry.outer.now in
+    let ending = ending_text c.args.ending.now in
+    OnErr-always _ (AppendsBeginning-more (string_bytes c.loop-entry.line) (merged all (drop i items) groups ++ ending) (flat_map group_text groups) ending c.loop-entry.invariant (last_groups all items i groups ending (omega arith)) c.in_err-write_groups.ensures.err)
+
+pub returns-in_err-push_end-clause-err : goal.returns-in_err-push_end-clause-err
+returns-in_err-push_end-clause-err g c =
+    let all = all_shown c.args.tree.now in
+    let items = c.entries-entry-items.result.now in
+    let i = c.loop-entry.entry-index in
+    let groups = grouped (root_ports c.args.tree.now) c.loop-entry.outer.now in
+    let ending = ending_text c.args.ending.now in
+    OnErr-always _ (AppendsBeginning-from (TakesFront-more (string_bytes c.loop-entry.line) (string_bytes c.write_groups.new.line) (merged all (drop i items) groups ++ ending) (flat_map group_text groups) ending c.loop-entry.invariant (last_groups all items i groups ending (omega arith)) c.in_ok-write_groups.ensures.ok))
+
+pub returns-clause-err : goal.returns-clause-err
+returns-clause-err g c =
+    let all = all_shown c.args.tree.now in
+    let items = c.entries-entry-items.result.now in
+    let i = c.loop-entry.entry-index in
+    let groups = grouped (root_ports c.args.tree.now) c.loop-entry.outer.now in
+    let ending = ending_text c.args.ending.now in
+    let before = TakesFront-more (string_bytes c.loop-entry.line) (string_bytes c.write_groups.new.line) (merged all (drop i items) groups ++ ending) (flat_map group_text groups) ending c.loop-entry.invariant (last_groups all items i groups ending (omega arith)) c.in_ok-write_groups.ensures.ok in
+    let pushed = TakesFront-pushed (string_bytes c.write_groups.new.line) (string_bytes c.push_end.new.line) ending ending [] before (sym (append-nil ending)) c.in_ok-push_end.ensures in
+    let whole = TakesFront-rest (string_bytes c.push_end.new.line) [] refl pushed in
+    on_err_weaker c.hand_over.result (λ (p : AppendsBeginning (g.W.Write.contents c.write_groups.new.writer) (g.W.Write.contents c.hand_over.new.writer) c.as_bytes.result.now). AppendsBeginning-after whole (rw c.as_bytes.ensures.value at p)) c.hand_over.ensures.err

@@ -1,0 +1,4 @@
+pub mod Clock
+pub mod Shown
+pub mod Texts
+pub mod Writing

@@ -1,0 +1,130 @@
+//! The pieces of a line, put at the end of the text so far.
+
+ghost use Rattle.std.specs.Prelude.{◌≡◌, ◌↔◌, ◌++◌, ◌∷◌, [], IsTrue, OnOk, if◌then◌else◌, replicate, string_bytes};
+ghost use Rattle.std.specs.Ordering.{is_eq};
+ghost use Rattle.dv_time.specs.Time.{time_cmp};
+ghost use Rattle.dv_bag.specs.Part.{is_before};
+ghost use Rattle.std.specs.Fmt.{signed_decimal};
+ghost use Rattle.dv_text.specs.Texts.{datum_text, fault_text, kind_text, port_text, time_text, values_text};
+ghost use Rattle.dv_text.specs.Writing.{ending_text, values_from};
+
+use crate::writing::Ending;
+use dv_bag::{Bag, Datum, Fault, Kind};
+use dv_time::Time;
+use std::alloc::AllocError;
+
+pub fn is_before(first: Time, second: Time) -> bool
+    ensures { result ≡ is_before first second }
+{
+    first < second
+}
+
+pub fn is_same(first: Time, second: Time) -> bool
+    ensures same { IsTrue result ↔ (first ≡ second) }
+    ensures cmp { result ≡ is_eq (time_cmp first second) }
+{
+    first == second
+}
+
+pub fn push_time(line: &mut String, time: Time) -> Result<(), AllocError>
+    ensures { OnOk result (string_bytes line.new ≡ string_bytes line.old ++ time_text time) }
+{
+    write!(line, "{time}")
+}
+
+pub fn push_kind(line: &mut String, kind: Kind) -> Result<(), AllocError>
+    ensures { OnOk result (string_bytes line.new ≡ string_bytes line.old ++ kind_text kind) }
+{
+    line.push(match kind {
+        Kind::Internal => 'i',
+        Kind::External => 'e',
+        Kind::Confluent => 'c',
+    })
+}
+
+pub fn push_fault(line: &mut String, fault: Fault) -> Result<(), AllocError>
+    ensures { OnOk result (string_bytes line.new ≡ string_bytes line.old ++ fault_text fault) }
+{
+    line.push_str(match fault {
+        Fault::Overflow => "overflow",
+        Fault::Divide => "divide",
+        Fault::Range => "range",
+        Fault::Empty => "empty",
+        Fault::Full => "full",
+        Fault::Negative => "negative",
+        Fault::Microsteps => "microsteps",
+        Fault::Flood => "flood",
+    })
+}
+
+/// A value, with a comma before it unless it is the first.
+pub fn push_value(line: &mut String, is_first: bool, value: i64) -> Result<(), AllocError>
+    ensures { OnOk result (string_bytes line.new ≡ string_bytes line.old ++ ((if is_first then [] else 44 ∷ []) ++ signed_decimal value)) }
+{
+    if is_first {
+        write!(line, "{value}")
+    } else {
+        write!(line, ",{value}")
+    }
+}
+
+// Copies of a value, with a comma before each but the first of all.
+pub fn push_copies(
+    line: &mut String,
+    is_first: bool,
+    value: i64,
+    copies: u64,
+) -> Result<(), AllocError>
+    ensures { OnOk result (string_bytes line.new ≡ string_bytes line.old ++ values_from is_first (replicate copies value)) }
+{
+    let mut is_first = is_first;
+    for _copy in 0..copies {
+        push_value(line, is_first, value)?;
+        is_first = false;
+    }
+    Ok(())
+}
+
+pub fn push_values(line: &mut String, values: &Bag) -> Result<(), AllocError>
+    ensures { OnOk result (string_bytes line.new ≡ string_bytes line.old ++ values_text values.now) }
+{
+    let mut is_first = true;
+    for pair in values.pairs() {
+        push_copies(line, is_first, pair.0, pair.1)?;
+        is_first = false;
+    }
+    Ok(())
+}
+
+pub fn push_datum(line: &mut String, datum: &Datum) -> Result<(), AllocError>
+    ensures { OnOk result (string_bytes line.new ≡ string_bytes line.old ++ datum_text datum.now) }
+{
+    match datum {
+        Datum::Number(number) => write!(line, "{number}"),
+        Datum::Flag(flag) => write!(line, "{flag}"),
+        Datum::Bag(values) => {
+            line.push('[')?;
+            push_values(line, values)?;
+            line.push(']')
+        }
+    }
+}
+
+/// A port with its values, unless it has none.
+pub fn push_port(line: &mut String, name: &str, values: &Bag) -> Result<(), AllocError>
+    ensures { OnOk result (string_bytes line.new ≡ string_bytes line.old ++ port_text name.now values.now) }
+{
+    if values.is_empty() {
+        return Ok(());
+    }
+    write!(line, " {name}:")?;
+    push_values(line, values)
+}
+
+pub fn push_end(line: &mut String, ending: &Ending) -> Result<(), AllocError>
+    ensures { OnOk result (string_bytes line.new ≡ string_bytes line.old ++ ending_text ending.now) }
+{
+    match ending {
+        Ending::Whole(horizon) => writeln!(line, "whole {horizon}"),
+    }
+}
