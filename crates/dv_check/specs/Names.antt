@@ -1,5 +1,5 @@
 -- What the names of a text stand for, and names that are declared twice or too often.
-use Rattle.std.specs.Prelude.{ℕ, ◌==◌, Bool, true, false, if◌then◌else◌, List, [], ◌∷◌, ◌++◌, map, drop, Option, Some, None}
+use Rattle.std.specs.Prelude.{ℕ, ◌==◌, Bool, true, false, if◌then◌else◌, List, [], ◌∷◌, ◌++◌, map, drop, take, Option, Some, None}
 use Rattle.std.specs.List.{list_any}
 use Rattle.dv_lex.specs.declared.error.TextError.{TextError}
 use Rattle.dv_lex.specs.declared.error.Refusal.{Refusal}
@@ -43,6 +43,10 @@ names_past limit names = map (λ (n : Name). refused E17 n.line) (drop limit nam
 -- the names from the 4,097th on
 abbrev pub too_many : List Name → List TextError
 too_many names = names_past 4096 names
+
+-- the names within a limit
+unfoldable pub names_within : ℕ → List Name → List Name
+names_within limit names = take limit names
 
 abbrev pub name_of_model : ModelTree → Name
 name_of_model (AtomicModel m) = m.name

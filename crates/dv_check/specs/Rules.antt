@@ -14,7 +14,7 @@ use Rattle.dv_check.specs.declared.items.NameSort.{NameSort}
 use Rattle.dv_check.specs.declared.items.NameSort.TheVariants.{Variable as ForVariable, Output as ForOutput}
 use Rattle.dv_check.specs.declared.expression.ValueType.TheVariants.{Number, Truth}
 use Rattle.dv_check.specs.declared.declarations.Declarations.{Declarations}
-use Rattle.dv_check.specs.Names.{refused, refused_if, among, repeated, too_many}
+use Rattle.dv_check.specs.Names.{refused, refused_if, among, names_within, repeated, too_many}
 use Rattle.dv_check.specs.Tables.{first_of, looked_up, has}
 use Rattle.dv_check.specs.Items.{declared_by, declared_in, outputs_in, variables_in, phases_in, first_phases, ruled_in, held_in, phases_line, start_line, start_phase}
 use Rattle.dv_check.specs.Types.{place_refusals}
@@ -131,13 +131,13 @@ names_refusals items =
     ++ (too_many (variables_in items)
     ++ too_many (phases_in items))))))
 
--- phases, start and holds, each of which has to stand once
+-- phases, start and holds, each of which has to stand once; phases past the limit need no hold
 abbrev pub once_refusals : ℕ → List AtomicItem → List TextError
 once_refusals model_line items =
     stands_once model_line (filter_map phases_line items)
     ++ (stands_once model_line (filter_map start_line items)
     ++ (repeated E10 (held_in items)
-    ++ holds_missing model_line (among (held_in items)) (first_phases items)))
+    ++ holds_missing model_line (among (held_in items)) (names_within 4096 (first_phases items))))
 
 abbrev pub atomic_refusals : AtomicTree → List TextError
 atomic_refusals m =

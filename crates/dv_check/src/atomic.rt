@@ -15,7 +15,7 @@ use crate::declarations::{Declarations, is_out_of_range};
 use crate::findings::Findings;
 use crate::items;
 use crate::number_set::NumberSet;
-use crate::repeats::{find_repeats, find_too_many};
+use crate::repeats::{find_repeats, find_too_many, within_limit};
 use dv_eval::{Env, phase_hold, start_state};
 use dv_lex::Refusal;
 use dv_syntax::{Atomic, Item, Name, RuleSort};
@@ -85,7 +85,8 @@ fn check_once(
     let held = items::held(alloc, items)?;
     find_repeats(alloc, Refusal::E10, &held, found)?;
     let held = NumberSet::of(alloc, &held)?;
-    find_missing_holds(model_line, &held, items::first_phases(items), found);
+    let phases = within_limit(items::first_phases(items));
+    find_missing_holds(model_line, &held, phases, found);
     Ok(())
 }
 

@@ -3,7 +3,7 @@
 ghost use Rattle.std.specs.Prelude.{◌≡◌, map, OnOk};
 ghost use Rattle.dv_lex.specs.declared.error.Refusal.TheVariants.{E17};
 ghost use Rattle.dv_check.specs.Findings.{noted};
-ghost use Rattle.dv_check.specs.Names.{names_past, refused, repeated, too_many};
+ghost use Rattle.dv_check.specs.Names.{names_within, names_past, refused, repeated, too_many};
 
 use crate::findings::Findings;
 use crate::number_set::NumberSet;
@@ -52,5 +52,23 @@ fn note_each(names: &[Name], found: &mut Findings)
 {
     for name in names {
         found.note(Refusal::E17, name.line);
+    }
+}
+
+/// The names within the greatest number of names of a kind.
+pub fn within_limit(names: &[Name]) -> &[Name]
+    ensures { result.now ≡ names_within 4096 names.now }
+{
+    front(MOST_NAMES, names)
+}
+
+#[tactic(auto, unfolding(crate::specs::Names::names_within))]
+fn front(limit: usize, names: &[Name]) -> &[Name]
+    ensures { result.now ≡ names_within limit names.now }
+{
+    if names.len() > limit {
+        &names[..limit]
+    } else {
+        names
     }
 }

@@ -30,7 +30,13 @@ pub fn run_plain<W: Write>(
     let checked = load(alloc, model)?;
     let tree = Tree::of(alloc, &checked)?;
     let trace = resultant_run(alloc, &tree, options.horizon, options.limit)?;
-    write_trace(alloc, &trace, &tree, &Ending::Whole(options.horizon), writer)?;
+    write_trace(
+        alloc,
+        &trace,
+        &tree,
+        &Ending::Whole(options.horizon),
+        writer,
+    )?;
     Ok(ended(&trace))
 }
 

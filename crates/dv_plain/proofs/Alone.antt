@@ -1,14 +1,14 @@
 -- Components that receive nothing: they react where they are imminent, and stay as they are where not.
-use Rattle.std.proofs.Common.{◌≡◌, ℕ, zero, suc, ◌+◌, ◌-◌, ◌<◌, ◌≤◌, Bool, true, false, not, if◌then◌else◌, ◌&&◌, ◌||◌, nat_eq, List, [], ◌∷◌, ◌++◌, map, length, Option, Some, None, Result, Ok, Err, refl, ap, sym, ◌∙◌, subst, arith, tests}
+use Rattle.std.proofs.Common.{◌≡◌, ℕ, suc, ◌-◌, Bool, true, false, not, if◌then◌else◌, ◌&&◌, ◌||◌, List, [], ◌∷◌, map, Option, Some, None, Result, Ok, Err, refl, ap, ◌∙◌, arith, tests}
 use Rattle.dv_time.specs.Time.{tick_of}
 use Rattle.dv_bag.specs.Bag.{Counts}
-use Rattle.dv_bag.specs.Behaviour.{Behaviour, Component, Reaction, Moved, ◌>>=◌, is_at, is_due, all_empty, emission, ended, reaction, runs_out, unflooded, transition_of, next_of, Hold, Begins, Continues, internal_of, external_of, held, happens}
-use Rattle.dv_bag.specs.Network.{IsFrom, AllFrom, reactions, emissions, sent_by}
+use Rattle.dv_bag.specs.Behaviour.{Behaviour, Component, Reaction, Moved, ◌>>=◌, is_at, is_due, all_empty, emission, ended, reaction, runs_out, next_of, Hold, Begins, Continues, internal_of, external_of, held, happens}
+use Rattle.dv_bag.specs.Network.{IsFrom, reactions, sent_by}
 use Rattle.dv_bag.specs.declared.fault.Fault.{Fault}
 use Rattle.dv_bag.specs.declared.state.State.{State}
 use Rattle.dv_bag.specs.declared.entry.Kind.{Kind}
 use Rattle.dv_bag.specs.declared.entry.Kind.TheVariants.{Internal, External}
-use Rattle.dv_plain.specs.Alone.{waits_until, moved, fires}
+use Rattle.dv_plain.specs.Alone.{waits_until, fires}
 
 -- nobody receives anything
 pub reactions-none : {A : Type 0} (limit : ℕ) (bs : List Behaviour) (now : ℕ) (cs : List Component) (xs : List A) → reactions limit bs now cs (map (λ x. []) xs) ≡ reactions limit bs now cs []

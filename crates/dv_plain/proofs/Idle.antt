@@ -1,12 +1,12 @@
 -- Instants at which nobody is imminent change nothing.
-use Rattle.std.proofs.Common.{◌≡◌, ◌≢◌, ℕ, zero, suc, ◌+◌, ◌<◌, ◌≤◌, List, [], ◌∷◌, ◌++◌, map, length, Option, Some, None, ◌⊎◌, inl, inr, refl, ap, sym, ◌∙◌, subst, arith, append-nil}
+use Rattle.std.proofs.Common.{◌≡◌, ℕ, zero, suc, ◌+◌, ◌≤◌, List, [], ◌∷◌, ◌++◌, map, length, inl, inr, refl, ap, ◌∙◌, subst, arith, append-nil}
 use Rattle.std.proofs.lemmas.Bool.{cases_lt}
 use Rattle.dv_syntax.specs.Trees.{FileTree}
 use Rattle.dv_bag.specs.Bag.{Counts}
 use Rattle.dv_bag.specs.Behaviour.{Behaviour, Component, Reaction}
-use Rattle.dv_bag.specs.Network.{Network, AllFrom, IsFrom, emissions, reactions, entries_from, outer_from, instant, after_instant, part_of_instant, components_at, trace_before}
+use Rattle.dv_bag.specs.Network.{AllFrom, emissions, reactions, entries_from, outer_from, instant, after_instant, part_of_instant, components_at, trace_before}
 use Rattle.dv_bag.specs.Part.{PartOf, nothing, joined}
-use Rattle.dv_tree.specs.Instances.{Instance, instances}
+use Rattle.dv_tree.specs.Instances.{instances}
 use Rattle.dv_tree.specs.Routing.{leaves}
 use Rattle.dv_plain.specs.Source.{network_of, no_input}
 use Rattle.dv_plain.proofs.Alone.{reactions-none, reaction-idle, sent_by-idle}
@@ -62,15 +62,15 @@ idle limit f n zero cs t le from len components trace =
     (subst (λ k. components_at limit (network_of limit f) no_input k ≡ cs) zero-is components, subst (λ k. trace_before limit (network_of limit f) no_input k ≡ t) zero-is trace)
 idle limit f n (suc m) cs t le from len components trace =
     elim (cases_lt m n) [
-        inl past ↦
-            let same : n ≡ suc m = omega arith in
-            (subst (λ k. components_at limit (network_of limit f) no_input k ≡ cs) same components, subst (λ k. trace_before limit (network_of limit f) no_input k ≡ t) same trace)
+      | inl past ↦
+          let same : n ≡ suc m = omega arith in
+          (subst (λ k. components_at limit (network_of limit f) no_input k ≡ cs) same components, subst (λ k. trace_before limit (network_of limit f) no_input k ≡ t) same trace)
       | inr before ↦
-            let both = idle limit f n m cs t before (all_from_less m (suc m) cs (omega arith) from) len components trace in
-            ( ap (after_instant limit (network_of limit f) m (no_input m)) both.0 ∙ after-idle limit f m cs len from
-            , ap (λ (p : PartOf). joined p (part_of_instant limit (network_of limit f) m (no_input m) (components_at limit (network_of limit f) no_input m))) both.1
-              ∙ ap (λ ks. joined t (part_of_instant limit (network_of limit f) m (no_input m) ks)) both.0
-              ∙ ap (joined t) (part-idle limit f m cs from)
-              ∙ joined-nothing t
-            )
+          let both = idle limit f n m cs t before (all_from_less m (suc m) cs (omega arith) from) len components trace in (
+            ap (after_instant limit (network_of limit f) m (no_input m)) both.0 ∙ after-idle limit f m cs len from,
+            ap (λ (p : PartOf). joined p (part_of_instant limit (network_of limit f) m (no_input m) (components_at limit (network_of limit f) no_input m))) both.1
+                ∙ ap (λ ks. joined t (part_of_instant limit (network_of limit f) m (no_input m) ks)) both.0
+                ∙ ap (joined t) (part-idle limit f m cs from)
+                ∙ joined-nothing t,
+          )
     ]

@@ -1,10 +1,10 @@
 -- Next times rise: after an instant every next time is past it.
-use Rattle.std.proofs.Common.{◌≡◌, ◌≢◌, ℕ, zero, suc, ◌+◌, ◌*◌, ◌/◌, ◌%◌, ◌-◌, ◌<◌, ◌≤◌, min, Bool, true, false, not, if◌then◌else◌, nat_eq, nat_lt, List, [], ◌∷◌, ◌++◌, map, length, Option, Some, None, Result, Ok, Err, ◌⊎◌, inl, inr, refl, ap, sym, ◌∙◌, subst, arith, tests}
+use Rattle.std.proofs.Common.{◌≡◌, ◌≢◌, ℕ, zero, suc, ◌+◌, ◌*◌, ◌<◌, ◌≤◌, Bool, true, false, if◌then◌else◌, nat_lt, List, [], ◌∷◌, map, Option, Some, None, Result, Ok, Err, inl, inr, sym, subst, arith}
 use Rattle.std.proofs.lemmas.Bool.{cases_Bool, eqb-false}
-use Rattle.dv_time.specs.Time.{after, rank, tick_of, micro_of, time_of, end_of}
+use Rattle.dv_time.specs.Time.{rank, tick_of, micro_of, time_of}
 use Rattle.dv_time.specs.declared.time.Time.{Time}
 use Rattle.dv_bag.specs.Bag.{Counts}
-use Rattle.dv_bag.specs.Behaviour.{Behaviour, Component, Reaction, Moved, ◌>>=◌, is_at, is_due, ended, reaction, runs_out, rank_or_fault}
+use Rattle.dv_bag.specs.Behaviour.{Behaviour, Component, Reaction, ◌>>=◌, is_at, is_due, ended, reaction, runs_out, rank_or_fault}
 use Rattle.dv_bag.specs.Network.{IsFrom, AllFrom, reactions, earlier, least_next}
 use Rattle.dv_bag.specs.declared.fault.Fault.{Fault}
 use Rattle.dv_bag.specs.declared.state.State.{State}
@@ -72,11 +72,11 @@ next_along now r q e h = subst (λ (x : Reaction). IsFrom now x.component.next) 
 reaction-later : (limit : ℕ) (b : Behaviour) (now : ℕ) (c : Component) → IsFrom now c.next → (c.quiet ≡ true → c.next ≡ None) → IsFrom (suc now) (reaction limit b now c []).component.next
 reaction-later limit b now c from never =
     elim (cases_Bool c.quiet) [
-        inl quiet ↦ next_along (suc now) _ _ (reaction-quiet limit b now c quiet) (subst (IsFrom (suc now)) (sym (never quiet)) tt)
+      | inl quiet ↦ next_along (suc now) _ _ (reaction-quiet limit b now c quiet) (subst (IsFrom (suc now)) (sym (never quiet)) tt)
       | inr loud ↦ elim (cases_Bool (is_due now c)) [
-            inl due ↦ next_along (suc now) _ _ (reaction-due limit b now c loud due) (fires-later limit b now c (b.output c.state))
-          | inr not_due ↦ next_along (suc now) _ _ (reaction-not_due limit b now c not_due) (not_now now c.next from not_due)
-        ]
+        | inl due ↦ next_along (suc now) _ _ (reaction-due limit b now c loud due) (fires-later limit b now c (b.output c.state))
+        | inr not_due ↦ next_along (suc now) _ _ (reaction-not_due limit b now c not_due) (not_now now c.next from not_due)
+      ]
     ]
 
 -- a quiet component has no next time

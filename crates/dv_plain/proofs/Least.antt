@@ -1,7 +1,6 @@
 -- The earlier of two next times, and the least of all.
-use Rattle.std.proofs.Common.{◌≡◌, ℕ, ◌+◌, ◌<◌, ◌≤◌, min, List, [], ◌∷◌, map, length, drop, get_or, Option, Some, None, refl, ap, sym, ◌∙◌, arith}
+use Rattle.std.proofs.Common.{◌≡◌, ℕ, ◌+◌, ◌<◌, ◌≤◌, min, List, map, length, get_or, Option, Some, None, refl, ap, sym, ◌∙◌, arith}
 use Rattle.std.proofs.lemmas.List.{drop_all}
-use Rattle.dv_bag.specs.Behaviour.{Component}
 use Rattle.dv_bag.specs.Network.{earlier, least_next}
 use Rattle.dv_plain.specs.declared.component.Running.{Running}
 use Rattle.dv_plain.specs.Shown.{next_of_wait, shown}

@@ -1,5 +1,5 @@
 -- The lines of what leaves the model, port by port; and what is sent, as it was told.
-use Rattle.std.proofs.Common.{◌≡◌, ℕ, zero, suc, ◌+◌, ◌<◌, ◌≤◌, Bool, true, false, nat_eq, if◌then◌else◌, List, [], ◌∷◌, ◌++◌, map, length, drop, get_or, Option, Some, None, Result, Ok, Err, inl, inr, refl, ap, sym, ◌∙◌, append_assoc, append-nil}
+use Rattle.std.proofs.Common.{◌≡◌, ℕ, ◌+◌, ◌<◌, ◌≤◌, Bool, true, false, nat_eq, if◌then◌else◌, List, [], ◌∷◌, ◌++◌, map, length, drop, get_or, None, Result, Ok, Err, inl, inr, refl, ap, sym, ◌∙◌, append_assoc, append-nil}
 use Rattle.std.proofs.lemmas.Bool.{cases_Bool}
 use Rattle.std.proofs.lemmas.List.{drop_all, drop_more}
 use Rattle.dv_time.specs.Time.{IsOfRun, rank, time_of}
@@ -55,7 +55,7 @@ sent-quiet b now c never =
 sent-told : (limit : ℕ) (b : Behaviour) (now : ℕ) (r : Running) → sent_by (shown limit r) (emission b now (shown limit r)) ≡ sent_of (emission b now (shown limit r))
 sent-told limit b now r =
     elim (cases_Bool (is_quiet r.wait)) [
-        inl quiet ↦ sent-quiet b now (shown limit r) (quiet-none limit r.wait quiet)
+      | inl quiet ↦ sent-quiet b now (shown limit r) (quiet-none limit r.wait quiet)
       | inr loud ↦ sent-loud (shown limit r) (emission b now (shown limit r)) loud
     ]
 

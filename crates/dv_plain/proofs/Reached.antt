@@ -1,11 +1,10 @@
 -- How far a run has come: the components and the trace when every instant before a rank is over.
-use Rattle.std.proofs.Common.{◌≡◌, ℕ, zero, suc, ◌+◌, ◌-◌, ◌*◌, ◌<◌, ◌≤◌, List, [], ◌∷◌, ◌++◌, map, length, unwrap_or, Option, Some, None, refl, ap, sym, ◌∙◌, subst, arith}
+use Rattle.std.proofs.Common.{◌≡◌, ℕ, suc, ◌+◌, ◌-◌, ◌<◌, ◌≤◌, List, [], ◌∷◌, map, length, unwrap_or, Option, Some, None, refl, ap, sym, ◌∙◌, subst, arith}
 use Rattle.std.proofs.Math.Nat.{mul-le-mul_left}
 use Rattle.std.proofs.lemmas.List.{length-map}
 use Rattle.dv_time.specs.Time.{IsOfRun, rank, end_of}
 use Rattle.dv_time.specs.declared.time.Time.{Time}
 use Rattle.dv_syntax.specs.Trees.{FileTree}
-use Rattle.dv_bag.specs.Bag.{Counts}
 use Rattle.dv_bag.specs.Behaviour.{Component, Reaction}
 use Rattle.dv_bag.specs.Network.{AllFrom, IsFrom, after_instant, components_at, least_next, part_of_instant, trace_before}
 use Rattle.dv_bag.specs.Part.{PartOf, nothing, joined}

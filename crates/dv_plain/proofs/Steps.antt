@@ -4,23 +4,23 @@ use Rattle.std.specs.Prelude.{slice_get}
 use Rattle.std.specs.List.{All}
 use Rattle.std.proofs.lemmas.List.Elements.{All-get_or, All-set}
 use Rattle.std.proofs.lemmas.List.{append-nil, drop-set-lt, drop_all, drop_more, map_push, take_all, take_more_set}
-use Rattle.dv_syntax.specs.Trees.{AtomicTree, FileTree}
+use Rattle.dv_syntax.specs.Trees.{AtomicTree}
 use Rattle.dv_bag.specs.Bag.{Counts}
 use Rattle.dv_bag.specs.Behaviour.{Behaviour, Component, Reaction, emission, reaction, is_due, is_at}
-use Rattle.dv_bag.specs.Network.{reactions, emissions, sent_by, entries_from, entry_of}
+use Rattle.dv_bag.specs.Network.{reactions, entries_from, entry_of}
 use Rattle.dv_bag.specs.declared.fault.Fault.{Fault}
 use Rattle.dv_bag.specs.declared.entry.Entry.{Entry}
 use Rattle.dv_bag.specs.declared.entry.What.{What}
-use Rattle.dv_time.specs.Time.{IsOfRun, rank, time_of}
+use Rattle.dv_time.specs.Time.{IsOfRun, rank}
 use Rattle.dv_time.specs.declared.time.Time.{Time}
 use Rattle.dv_eval.specs.Scope.{Scope, scope_of}
-use Rattle.dv_tree.specs.Instances.{Instance, instances}
+use Rattle.dv_tree.specs.Instances.{Instance}
 use Rattle.dv_plain.specs.declared.component.Running.{Running}
 use Rattle.dv_plain.specs.declared.component.Wait.{Wait}
 use Rattle.dv_plain.specs.declared.component.Wait.TheVariants.{Until, Forever, Quiet}
 use Rattle.dv_plain.specs.Alone.{fires, told, told_by, sent_of, fault_of}
 use Rattle.dv_plain.specs.Shown.{IsWaitOfRun, shown, is_quiet, next_of_wait}
-use Rattle.dv_plain.specs.Source.{behaviour_of, network_of, start_of}
+use Rattle.dv_plain.specs.Source.{behaviour_of, start_of}
 use Rattle.dv_plain.proofs.Alone.{reaction-due}
 use Rattle.dv_plain.proofs.Later.{QuietNever}
 use Rattle.dv_plain.proofs.Times.{time_of-rank}

@@ -1,11 +1,11 @@
 -- Times of a run and their ranks.
-use Rattle.std.proofs.Common.{◌≡◌, ℕ, zero, suc, ◌+◌, ◌*◌, ◌/◌, ◌%◌, ◌<◌, ◌≤◌, List, Bool, true, false, ◌&&◌, nat_eq, inl, inr, if◌then◌else◌, nat_lt, Option, Some, None, Result, Ok, Err, refl, ap, sym, ◌∙◌, subst, arith}
+use Rattle.std.proofs.Common.{◌≡◌, ℕ, zero, suc, ◌+◌, ◌*◌, ◌<◌, ◌≤◌, List, Bool, true, false, ◌&&◌, nat_eq, inl, inr, if◌then◌else◌, nat_lt, Some, Result, Ok, Err, refl, ap, sym, ◌∙◌, subst, arith}
 use Rattle.std.specs.Ordering.{is_lt, is_some_and, nat_cmp, ordering_then, partial_ordering_then}
 use Rattle.std.specs.declared.cmp.Ordering.{Ordering}
 use Rattle.std.specs.declared.cmp.Ordering.TheVariants.{Less, Equal, Greater}
 use Rattle.std.proofs.lemmas.Nat.{div-mul-add, mod-mul-add}
 use Rattle.std.proofs.Math.Nat.{mul-le-mul_left}
-use Rattle.std.proofs.lemmas.Bool.{and_from, and_parts, cases_Bool, cases_order,  eq-eqb, eqb-false, eqb-true, le-ltb, lt-ltb, ltb-true, ne_eqb}
+use Rattle.std.proofs.lemmas.Bool.{and_from, and_parts, cases_Bool, cases_order, eq-eqb, eqb-false, eqb-true, le-ltb, lt-ltb, ltb-true, ne_eqb}
 use Rattle.dv_time.specs.Time.{IsOfRun, after, rank, tick_of, micro_of, time_cmp, time_of}
 use Rattle.dv_time.specs.declared.time.Time.{Time}
 use Rattle.dv_time.specs.declared.time.Microsteps.{Microsteps}
@@ -64,18 +64,18 @@ fires-sent limit b t c emitted sent h e =
 pub same_time-rank : (limit : ℕ) (t u : Time) → IsOfRun limit t → IsOfRun limit u → (nat_eq t.tick u.tick && nat_eq t.micro u.micro) ≡ nat_eq (rank limit t) (rank limit u)
 same_time-rank limit t u h k =
     elim (cases_Bool (nat_eq (rank limit t) (rank limit u))) [
-        inl e ↦
-            let same = same_from_rank limit t u h k (eqb-true (rank limit t) (rank limit u) e) in
-            and_from _ _ (eq-eqb t.tick u.tick (ap (λ (v : Time). v.tick) same)) (eq-eqb t.micro u.micro (ap (λ (v : Time). v.micro) same)) ∙ sym e
+      | inl e ↦
+          let same = same_from_rank limit t u h k (eqb-true (rank limit t) (rank limit u) e) in
+          and_from _ _ (eq-eqb t.tick u.tick (ap (λ (v : Time). v.tick) same)) (eq-eqb t.micro u.micro (ap (λ (v : Time). v.micro) same)) ∙ sym e
       | inr other ↦
-            elim (cases_Bool (nat_eq t.tick u.tick && nat_eq t.micro u.micro)) [
-                inl both ↦
-                    let parts = and_parts (nat_eq t.tick u.tick) (nat_eq t.micro u.micro) both in
-                    let tick : t.tick ≡ u.tick = eqb-true t.tick u.tick parts.0 in
-                    let micro : t.micro ≡ u.micro = eqb-true t.micro u.micro parts.1 in
-                    absurd (eqb-false (rank limit t) (rank limit u) other (ap (λ n. n * (limit + 1) + t.micro) tick ∙ ap (λ n. u.tick * (limit + 1) + n) micro))
-              | inr apart ↦ apart ∙ sym other
-            ]
+          elim (cases_Bool (nat_eq t.tick u.tick && nat_eq t.micro u.micro)) [
+            | inl both ↦
+                let parts = and_parts (nat_eq t.tick u.tick) (nat_eq t.micro u.micro) both in
+                let tick : t.tick ≡ u.tick = eqb-true t.tick u.tick parts.0 in
+                let micro : t.micro ≡ u.micro = eqb-true t.micro u.micro parts.1 in
+                absurd (eqb-false (rank limit t) (rank limit u) other (ap (λ n. n * (limit + 1) + t.micro) tick ∙ ap (λ n. u.tick * (limit + 1) + n) micro))
+            | inr apart ↦ apart ∙ sym other
+          ]
     ]
 
 -- by tick, then by microstep
@@ -114,7 +114,7 @@ micro-rank : (limit : ℕ) (a b : Time) → a.tick ≡ b.tick → is_lt (nat_cmp
 micro-rank limit a b same =
     let product : a.tick * (limit + 1) ≡ b.tick * (limit + 1) = ap (λ n. n * (limit + 1)) same in
     elim (cases_order a.micro b.micro) [
-        inl e ↦ let le : rank limit b ≤ rank limit a = omega arith in ap is_lt (cmp-same a.micro b.micro e) ∙ sym (le-ltb (rank limit a) (rank limit b) le)
+      | inl e ↦ let le : rank limit b ≤ rank limit a = omega arith in ap is_lt (cmp-same a.micro b.micro e) ∙ sym (le-ltb (rank limit a) (rank limit b) le)
       | inr (inl less) ↦ let lt : rank limit a < rank limit b = omega arith in ap is_lt (cmp-less a.micro b.micro less) ∙ sym (lt-ltb (rank limit a) (rank limit b) lt)
       | inr (inr more) ↦ let le : rank limit b ≤ rank limit a = omega arith in ap is_lt (cmp-more a.micro b.micro more) ∙ sym (le-ltb (rank limit a) (rank limit b) le)
     ]
@@ -122,7 +122,7 @@ micro-rank limit a b same =
 time_cmp-rank : (limit : ℕ) (a b : Time) → IsOfRun limit a → IsOfRun limit b → is_lt (time_cmp a b) ≡ nat_lt (rank limit a) (rank limit b)
 time_cmp-rank limit a b h k =
     elim (cases_order a.tick b.tick) [
-        inl same ↦ ap (λ o. is_lt (ordering_then o (nat_cmp a.micro b.micro))) (cmp-same a.tick b.tick same) ∙ micro-rank limit a b same
+      | inl same ↦ ap (λ o. is_lt (ordering_then o (nat_cmp a.micro b.micro))) (cmp-same a.tick b.tick same) ∙ micro-rank limit a b same
       | inr (inl less) ↦ time_cmp-less limit a b h k less
       | inr (inr more) ↦ time_cmp-more limit a b h k more
     ]

@@ -40,12 +40,7 @@ impl Running {
     /// # Errors
     ///
     /// No memory for the state.
-    pub fn start(
-        alloc: Global,
-        limit: u32,
-        model: &Atomic,
-        env: &Env,
-    ) -> Result<Self, AllocError>
+    pub fn start(alloc: Global, limit: u32, model: &Atomic, env: &Env) -> Result<Self, AllocError>
         requires { env.now ≡ scope_of (atomic_of model.now) }
         ensures start { IfOk result (λ r. shown limit r ≡ start_of limit (atomic_of model.now)) }
         ensures wait { IfOk result (λ r. IsWaitOfRun limit r.wait) }
@@ -187,13 +182,7 @@ fn transition(
 }
 
 // When the hold of a state that begins now runs out.
-fn hold_end(
-    limit: u32,
-    now: Time,
-    state: &State,
-    model: &Atomic,
-    env: &Env,
-) -> Result<Wait, Fault>
+fn hold_end(limit: u32, now: Time, state: &State, model: &Atomic, env: &Env) -> Result<Wait, Fault>
     requires scope { env.now ≡ scope_of (atomic_of model.now) }
     requires time { IsOfRun limit now }
     requires tick { now.tick ≤ 1_000_000_000_000 }
@@ -229,12 +218,7 @@ fn output(alloc: Global, state: &State, model: &Atomic, env: &Env) -> Result<Bag
 }
 
 // The state after the internal rule.
-fn internal(
-    alloc: Global,
-    state: &State,
-    model: &Atomic,
-    env: &Env,
-) -> Result<State, RuleError>
+fn internal(alloc: Global, state: &State, model: &Atomic, env: &Env) -> Result<State, RuleError>
     requires { env.now ≡ scope_of (atomic_of model.now) }
     ensures { Gives result (reached (behaviour_of (atomic_of model.now)) state.now) }
 {

@@ -112,8 +112,10 @@ fn react(
     requires wait { IsWaitOfRun limit component.old.wait }
     requires emitted { emission (behaviour_of (atomic_of model.now)) (rank limit now) (shown limit component.old) ≡ emitted }
     ensures component { OnOk result (shown limit component.new ≡ (reaction limit (behaviour_of (atomic_of model.now)) (rank limit now) (shown limit component.old) []).component) }
-    ensures entry { OnOk result (trace.new ≡ record trace.old { entries = trace.old.entries
-        ++ entry_of limit (rank limit now) number (reaction limit (behaviour_of (atomic_of model.now)) (rank limit now) (shown limit component.old) []).event }) }
+    ensures entry { OnOk result (trace.new ≡ record trace.old {
+      entries = trace.old.entries
+          ++ entry_of limit (rank limit now) number (reaction limit (behaviour_of (atomic_of model.now)) (rank limit now) (shown limit component.old) []).event;
+    }) }
     ensures wait { OnOk result (IsWaitOfRun limit component.new.wait) }
 {
     if component.is_due(now) {
@@ -145,8 +147,10 @@ fn react_all(
     requires sent { emitted.now.sent.items ≡ map sent_of (told (network_of limit (file_of tree.now.file)).behaviours (rank limit now) (map (shown limit) components.old)) }
     requires faults { emitted.now.faults.items ≡ map fault_of (told (network_of limit (file_of tree.now.file)).behaviours (rank limit now) (map (shown limit) components.old)) }
     ensures components { OnOk result (map (shown limit) components.new ≡ after_instant limit (network_of limit (file_of tree.now.file)) (rank limit now) [] (map (shown limit) components.old)) }
-    ensures entries { OnOk result (trace.new ≡ record trace.old { entries = trace.old.entries
-        ++ entries_from limit (rank limit now) 0 (instant limit (network_of limit (file_of tree.now.file)) (rank limit now) [] (map (shown limit) components.old)) }) }
+    ensures entries { OnOk result (trace.new ≡ record trace.old {
+      entries = trace.old.entries
+          ++ entries_from limit (rank limit now) 0 (instant limit (network_of limit (file_of tree.now.file)) (rank limit now) [] (map (shown limit) components.old));
+    }) }
     ensures waits { OnOk result (All (λ r. IsWaitOfRun limit r.wait) components.new) }
 {
     for k in 0..tree.component_count() {

@@ -84,13 +84,7 @@ fn earlier(next: Next, time: Time) -> Time
     ensures of_run { (limit : ℕ) → IsNextOfRun limit next → IsOfRun limit time → IsOfRun limit result }
 {
     match next {
-        Next::At(other) => {
-            if is_before(other, time) {
-                other
-            } else {
-                time
-            }
-        }
+        Next::At(other) => { if is_before(other, time) { other } else { time } }
         Next::Never => time,
     }
 }

@@ -1,8 +1,8 @@
-use Rattle.std.proofs.Common.{◌≡◌, ◌<◌, ◌+◌, ◌++◌, ◌∷◌, ◌∙◌, length, map, ap, sym, arith}
+use Rattle.std.proofs.Common.{◌<◌, ◌+◌, ◌++◌, ◌∙◌, length, map, ap, arith}
 use Rattle.dv_time.specs.Time.{rank}
 use Rattle.dv_syntax.specs.Trees.{atomic_of, file_of}
 use Rattle.dv_tree.specs.Instances.{instances}
-use Rattle.dv_plain.specs.Alone.{fault_of, sent_of, told}
+use Rattle.dv_plain.specs.Alone.{fault_of, sent_of}
 use Rattle.dv_plain.proofs.Steps.{one_more, scope-at, told_from, told_from-step, wait-at}
 use Rattle.dv_plain.proofs.instant.emit.Goals as goal
 

@@ -16,22 +16,22 @@ loop-port-preserved c =
     let within : k < length bags = omega (arith, c.loop-port-test.true, ap length c.as_slice-values-items.ensures) in
     let here : b ≡ get_or bags k b = c.values-item.is ∙ ap (λ xs. get_or xs k b) c.as_slice-values-items.ensures in
     elim c.if-not-is_empty.branch [
-        then-not-is_empty+in_ok-clone+in_ok-push_outer w ↦
-            let some : nat_eq (size b) 0 ≡ false = sym c.is_empty.ensures.size ∙ w.if-not-is_empty.true in
-            let pushed = w.trace-is ∙ w.in_ok-push_outer.ensures.ok in
-            record {
-              entries = ap (λ (p : PartOf). p.entries) pushed ∙ c.loop-port.invariant.entries;
-              outer = λ limit run.
-                  line-added limit c.args.now k bags b c.loop-port.trace.outer c.if-not-is_empty.trace.outer (c.args.trace.now.outer ++ outer_from limit (rank limit c.args.now) 0 bags) run within here some
-                  (ap (λ (p : PartOf). p.outer) pushed ∙ ap (λ (v : Counts). let o : Outer = record { time = c.args.now; port = k; values = v } in c.loop-port.trace.outer ++ o ∷ []) w.in_ok-clone.ensures.cases)
-                  (c.loop-port.invariant.outer limit run);
-            }
+      | then-not-is_empty+in_ok-clone+in_ok-push_outer w ↦
+          let some : nat_eq (size b) 0 ≡ false = sym c.is_empty.ensures.size ∙ w.if-not-is_empty.true in
+          let pushed = w.trace-is ∙ w.in_ok-push_outer.ensures.ok in
+          record {
+            entries = ap (λ (p : PartOf). p.entries) pushed ∙ c.loop-port.invariant.entries;
+            outer = λ limit run.
+                line-added limit c.args.now k bags b c.loop-port.trace.outer c.if-not-is_empty.trace.outer (c.args.trace.now.outer ++ outer_from limit (rank limit c.args.now) 0 bags) run within here some
+                (ap (λ (p : PartOf). p.outer) pushed ∙ ap (λ (v : Counts). let o : Outer = record { time = c.args.now; port = k; values = v } in c.loop-port.trace.outer ++ o ∷ []) w.in_ok-clone.ensures.cases)
+                (c.loop-port.invariant.outer limit run);
+          }
       | else-not-is_empty w ↦
-            let none : nat_eq (size b) 0 ≡ true = sym c.is_empty.ensures.size ∙ w.if-not-is_empty.false in
-            record {
-              entries = ap (λ (p : PartOf). p.entries) w.trace-is ∙ c.loop-port.invariant.entries;
-              outer = λ limit run.
-                  ap (λ (p : PartOf). p.outer ++ outer_from limit (rank limit c.args.now) (k + 1) (drop (k + 1) bags)) w.trace-is
-                  ∙ line-kept limit c.args.now k bags b c.loop-port.trace.outer (c.args.trace.now.outer ++ outer_from limit (rank limit c.args.now) 0 bags) within here none (c.loop-port.invariant.outer limit run);
-            }
+          let none : nat_eq (size b) 0 ≡ true = sym c.is_empty.ensures.size ∙ w.if-not-is_empty.false in
+          record {
+            entries = ap (λ (p : PartOf). p.entries) w.trace-is ∙ c.loop-port.invariant.entries;
+            outer = λ limit run.
+                ap (λ (p : PartOf). p.outer ++ outer_from limit (rank limit c.args.now) (k + 1) (drop (k + 1) bags)) w.trace-is
+                ∙ line-kept limit c.args.now k bags b c.loop-port.trace.outer (c.args.trace.now.outer ++ outer_from limit (rank limit c.args.now) 0 bags) within here none (c.loop-port.invariant.outer limit run);
+          }
     ]

@@ -1,4 +1,4 @@
-use Rattle.std.proofs.Common.{◌≡◌, List, [], ◌++◌, Option, Some, ◌∙◌, ap, sym, true}
+use Rattle.std.proofs.Common.{◌≡◌, List, [], ◌++◌, Some, ◌∙◌, ap, sym}
 use Rattle.dv_time.specs.Time.{rank}
 use Rattle.dv_syntax.specs.Trees.{atomic_of}
 use Rattle.dv_bag.specs.Bag.{Counts}
@@ -29,5 +29,5 @@ returns-in_ok-push_entry-clause-entry c =
     let event : What × List Counts = (c.in_ok-what.what, c.in_ok-what.sent) in
     c.in_ok-push_entry.ensures.ok
     ∙ ap (λ (es : List Entry). let p : PartOf = record { entries = c.args.trace.now.entries ++ es; outer = c.args.trace.now.outer } in p)
-        (entry-due c.args.limit c.args.now c.args.number event c.requires.time
-        ∙ ap (λ (r : Reaction). entry_of c.args.limit (rank c.args.limit c.args.now) c.args.number r.event) (sym (reacted c)))
+    (entry-due c.args.limit c.args.now c.args.number event c.requires.time
+    ∙ ap (λ (r : Reaction). entry_of c.args.limit (rank c.args.limit c.args.now) c.args.number r.event) (sym (reacted c)))

@@ -1,7 +1,7 @@
-use Rattle.std.proofs.Common.{◌≡◌, ◌<◌, ◌≤◌, ◌+◌, ◌++◌, List, [], length, get_or, map, drop, None, refl, ap, sym, ◌∙◌, arith}
+use Rattle.std.proofs.Common.{◌<◌, ◌≤◌, ◌+◌, ◌++◌, List, [], length, get_or, map, ap, sym, ◌∙◌, arith}
 use Rattle.std.proofs.lemmas.List.{get_or_default, length-map}
 use Rattle.dv_time.specs.Time.{rank}
-use Rattle.dv_syntax.specs.Trees.{AtomicTree, atomic_of, file_of}
+use Rattle.dv_syntax.specs.Trees.{atomic_of, file_of}
 use Rattle.dv_bag.specs.Behaviour.{Reaction, reaction}
 use Rattle.dv_bag.specs.Network.{entries_from, instant}
 use Rattle.dv_bag.specs.Part.{PartOf}
@@ -84,8 +84,8 @@ returns-clause-entries c =
     let first = c.args.components.now in
     let count : length is ≤ c.loop-k.k = omega (arith, c.component_count-k-end.ensures.value) in
     let entries =
-        entries-end limit now is first c.loop-k.k c.loop-k.trace.entries (c.args.trace.now.entries ++ entries_from limit now 0 (reactions_from limit is now first 0)) count c.loop-k.invariant.entries
-        ∙ ap (λ (rs : List Reaction). c.args.trace.now.entries ++ entries_from limit now 0 rs) (sym (instant-alone limit (file_of c.args.tree.now.file) now [] (map (shown limit) first)))
+    entries-end limit now is first c.loop-k.k c.loop-k.trace.entries (c.args.trace.now.entries ++ entries_from limit now 0 (reactions_from limit is now first 0)) count c.loop-k.invariant.entries
+    ∙ ap (λ (rs : List Reaction). c.args.trace.now.entries ++ entries_from limit now 0 rs) (sym (instant-alone limit (file_of c.args.tree.now.file) now [] (map (shown limit) first)))
     in
     ap (λ (es : List Entry). let p : PartOf = record { entries = es; outer = c.loop-k.trace.outer } in p) entries
     ∙ ap (λ os. let p : PartOf = record { entries = c.args.trace.now.entries ++ entries_from limit now 0 (instant limit (network_of limit (file_of c.args.tree.now.file)) now [] (map (shown limit) first)); outer = os } in p) c.loop-k.invariant.outer

@@ -1,9 +1,9 @@
-use Rattle.std.proofs.Common.{◌≡◌, ◌++◌, List, [], length, map, ap, sym, ◌∙◌}
+use Rattle.std.proofs.Common.{◌++◌, List, [], length, map, ap, sym, ◌∙◌}
 use Rattle.std.proofs.lemmas.List.{length-map}
 use Rattle.dv_time.specs.Time.{rank}
 use Rattle.dv_syntax.specs.Trees.{file_of}
 use Rattle.dv_bag.specs.Bag.{Counts}
-use Rattle.dv_bag.specs.Network.{emissions, entries_from, instant, outer_from}
+use Rattle.dv_bag.specs.Network.{entries_from, instant, outer_from}
 use Rattle.dv_bag.specs.Part.{PartOf}
 use Rattle.dv_tree.specs.Instances.{instances}
 use Rattle.dv_tree.specs.Routing.{leaves}

@@ -1,4 +1,4 @@
-use Rattle.std.proofs.Common.{◌≡◌, ◌<◌, ◌≤◌, Some, true, false, nat_lt, ◌∙◌, ap, sym, subst, arith}
+use Rattle.std.proofs.Common.{Some, ◌∙◌, ap, sym, subst}
 use Rattle.std.proofs.lemmas.Bool.{ltb-true, ltb-false}
 use Rattle.dv_time.specs.Time.{IsOfRun, next_rank, rank}
 use Rattle.dv_bag.specs.Network.{earlier}

@@ -1,7 +1,7 @@
-use Rattle.std.proofs.Common.{◌≡◌, ◌<◌, ◌≤◌, ◌+◌, length, map, arith}
+use Rattle.std.proofs.Common.{map}
 use Rattle.dv_time.specs.Time.{next_rank}
 use Rattle.dv_bag.specs.Network.{least_next}
-use Rattle.dv_plain.specs.Shown.{next_of_wait, shown}
+use Rattle.dv_plain.specs.Shown.{shown}
 use Rattle.dv_plain.proofs.Least.{least-all, least-step}
 use Rattle.dv_plain.proofs.Steps.{wait-at}
 use Rattle.dv_plain.proofs.run.next_time.Goals as goal

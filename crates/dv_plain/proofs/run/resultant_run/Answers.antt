@@ -1,11 +1,11 @@
-use Rattle.std.proofs.Common.{◌≡◌, ◌<◌, ◌≤◌, ◌∙◌, List, [], ℕ, length, map, Option, Some, None, ap, sym, subst, arith}
+use Rattle.std.proofs.Common.{◌≡◌, ◌<◌, ◌∙◌, List, [], length, map, Some, ap, sym, subst, arith}
 use Rattle.std.specs.List.{All}
 use Rattle.std.specs.Vec.{with_items}
 use Rattle.std.proofs.lemmas.List.{with_items_is}
 use Rattle.dv_time.specs.Time.{end_of, next_rank, rank}
 use Rattle.dv_syntax.specs.Trees.{file_of}
 use Rattle.dv_bag.specs.Network.{IsFrom, after_instant, least_next, part_of_instant}
-use Rattle.dv_bag.specs.Part.{PartOf, joined}
+use Rattle.dv_bag.specs.Part.{joined}
 use Rattle.dv_plain.specs.declared.component.Running.{Running}
 use Rattle.dv_plain.specs.Shown.{IsWaitOfRun, shown}
 use Rattle.dv_plain.specs.Source.{network_of}
@@ -63,6 +63,6 @@ returns c =
     let waits = subst (All (λ (r : Running). IsWaitOfRun limit r.wait)) (sym c.deref.ensures.value) c.instants.invariant.waits in
     let next : next_rank limit c.next_time.result ≡ least_next (map (shown limit) rs) = c.next_time.ensures.least limit waits ∙ ap (λ (xs : List Running). least_next (map (shown limit) xs)) c.deref.ensures.value in
     elim c.match-next_time.branch [
-        in-At+then-now-horizon w ↦ reached-end limit f c.args.horizon rs c.instants.trace c.instants.invariant.reached (subst (IsFrom end) (sym (ap (next_rank limit) w.in-At.is) ∙ next) (tick-past limit c.args.horizon w.in-At.now w.if-now-horizon.true))
+      | in-At+then-now-horizon w ↦ reached-end limit f c.args.horizon rs c.instants.trace c.instants.invariant.reached (subst (IsFrom end) (sym (ap (next_rank limit) w.in-At.is) ∙ next) (tick-past limit c.args.horizon w.in-At.now w.if-now-horizon.true))
       | in_default w ↦ reached-end limit f c.args.horizon rs c.instants.trace c.instants.invariant.reached (subst (IsFrom end) (sym (ap (next_rank limit) w.in_default.is) ∙ next) tt)
     ]

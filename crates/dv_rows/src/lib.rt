@@ -1,0 +1,14 @@
+//! Worked rows across all crates: whole model texts with the bytes and the endings wanted, the limits of the rule
+//! text at their values and one above, and writers that fail.
+#![tactic(auto)]
+
+#[cfg(test)]
+mod limits;
+#[cfg(test)]
+mod models;
+#[cfg(test)]
+mod rows;
+#[cfg(test)]
+mod runs;
+#[cfg(test)]
+mod writers;

@@ -1,0 +1,36 @@
+//! Model texts of the rows.
+
+/// A clock that ticks four times, and its output.
+pub const CLOCK: &str =
+    "atomic Tick { out beat; var n: 0..3 = 0; phases run, stop; start run; hold run: 5; hold stop: forever; output run { send beat n; } internal run { if n = 3 { goto stop; } else { n := n + 1; } } }
+coupled Top { out o; part t: Tick; link t.beat -> self.o; }
+root Top;
+";
+
+/// A hold of 0 without end.
+pub const SPIN: &str = "atomic Spin { phases go; start go; hold go: 0; }
+coupled Top { part s: Spin; }
+root Top;
+";
+
+/// A division by 0 in an output.
+pub const DIVISION: &str =
+    "atomic Div { out y; var v: 0..9 = 0; phases w; start w; hold w: 5; output w { send y 1 / v; } }
+coupled Top { part c: Div; }
+root Top;
+";
+
+/// A fault after the output: the output stays sent, and the other component goes on.
+pub const FAULT_AFTER_OUTPUT: &str =
+    "atomic Full { out y; var v: 0..1 = 1; phases w; start w; hold w: 2; output w { send y v; } internal w { v := v + 1; } }
+atomic Tick { out beat; var n: 0..9 = 0; phases w; start w; hold w: 3; output w { send beat n; } internal w { n := n + 1; } }
+coupled Top { out a; out b; part f: Full; part t: Tick; link f.y -> self.a; link t.beat -> self.b; link t.beat -> self.a; }
+root Top;
+";
+
+/// Each statement's effect is seen by the next one and by the hold; the last goto counts.
+pub const EFFECTS: &str =
+    "atomic Steps { out y; out z; var a: -5..90 = -3; var b: 0..9 = 0; phases p, q, r; start p; hold p: 1; hold q: a; hold r: forever; output p { send z a / 2; send y a % 2; send y a; send y -a; } output q { send y 7; } internal p { a := a + 5; b := a * 2; goto r; goto q; } internal q { goto r; } }
+coupled Top { out o; part s: Steps; link s.y -> self.o; }
+root Top;
+";

@@ -1,0 +1,63 @@
+//! The program: runs a model text and prints its trace.
+#![tactic(auto)]
+
+mod asked;
+mod request;
+mod told;
+
+use asked::asked;
+use dv_job::{JobError, Options, run_plain};
+use request::{AskError, Asked, Run};
+use std::io::Write;
+use std::process::ExitCode;
+use std::rt::Files;
+use std::{fs, io};
+use told::{line, status};
+
+/// The microstep limit where none is asked for.
+const USUAL_LIMIT: u32 = 20;
+
+/// The packets that a link holds.
+const LINK_CAPACITY: u32 = 16;
+
+/// A model that is refused, or cannot be read or run.
+const REFUSED: u8 = 1;
+
+/// Words that are no command.
+const USAGE: u8 = 2;
+
+fn main(rt: HostRuntime) -> io::Result<ExitCode> {
+    let words: Vec<String> = std::env::args(&rt)?.collect(rt.alloc())?;
+    match asked(rt.alloc(), words.as_slice()) {
+        Ok(Asked::Run(run)) => Ok(ExitCode::from(run_model(&rt, &run)?)),
+        Err(AskError::Usage(usage)) => {
+            eprint!(rt; "{}", usage.text)?;
+            Ok(ExitCode::from(USAGE))
+        }
+        Err(AskError::Memory) => {
+            eprintln!(rt; "pdevs: {}", JobError::Memory)?;
+            Ok(ExitCode::from(REFUSED))
+        }
+    }
+}
+
+/// Runs what was asked for, and answers the status.
+fn run_model<R: AllocGlobal + Files + Print + Eprint>(rt: &R, run: &Run) -> io::Result<u8> {
+    let Ok(model) = fs::read(rt, run.model.as_str()) else {
+        eprintln!(rt; "pdevs: cannot read {}", run.model)?;
+        return Ok(REFUSED);
+    };
+    let limit = run.microsteps.unwrap_or(USUAL_LIMIT);
+    let Some(options) = Options::new(run.horizon, limit, None, None, LINK_CAPACITY) else {
+        return Ok(USAGE);
+    };
+    let mut writer = io::writer(rt);
+    let mut result = run_plain(rt.alloc(), &model, &options, &mut writer);
+    if writer.flush().is_err() {
+        result = Err(JobError::Write);
+    }
+    if let Err(error) = &result {
+        eprintln!(rt; "{}", line(rt.alloc(), error)?)?;
+    }
+    Ok(status(&result))
+}

@@ -1,0 +1,41 @@
+//! What a command line asks for.
+
+use std::alloc::AllocError;
+
+/// A subcommand with its values.
+#[derive(Debug, Drop)]
+pub enum Asked {
+    Run(Run),
+}
+
+/// Run a model and print its trace.
+#[derive(Debug, Drop)]
+pub struct Run {
+    /// The file of the model.
+    pub model: String,
+    /// The last tick of the run.
+    pub horizon: u64,
+    /// The greatest microstep of a tick, where it was given.
+    pub microsteps: Option<u32>,
+}
+
+/// The text to print where the words are no command.
+#[derive(Debug, Drop)]
+pub struct Usage {
+    pub text: String,
+}
+
+/// Why nothing is asked for.
+#[derive(Debug, Drop)]
+pub enum AskError {
+    /// The words are no command, or ask for help.
+    Usage(Usage),
+    /// An allocation was refused.
+    Memory,
+}
+
+impl From<AllocError> for AskError {
+    fn from(_error: AllocError) -> Self {
+        AskError::Memory
+    }
+}
