@@ -6,3 +6,4 @@ pub mod Outcome
 pub mod Part
 pub mod Rows
 pub mod Same
+pub mod Words

@@ -2,6 +2,7 @@
 
 ghost use Rattle.std.specs.Cmp.{decided, partial_equiv_from_equiv};
 ghost use Rattle.std.specs.Prelude.{◌≡◌, ◌<◌, ◌≤◌, ◌*◌, ◌^◌, ◌*ℤ◌, ◌≤ℤ◌, neg_ℤ, pos, ◌↔◌, [], length, nat_eq, replicate, slice_set, IfOk, IfErr, OnOk, OnErr, IsOk, IsTrue};
+ghost use Rattle.smallvec.specs.SmallVec.{HasRoomFor};
 ghost use Rattle.dv_bag.specs.Bag.{IsBag, bag_at, count_of, least, most, place_of, size, size_of_all, sum_or_overflow, total, union, with_copies, without_one};
 ghost use Rattle.dv_bag.specs.Same.{same_bag, same_bags, same_bag-decides, same_bags-decides};
 
@@ -61,30 +62,23 @@ impl Bag {
         ensures err { OnErr result (self.new ≡ self.old) }
         ensures present { 0 < count_of value self.old → IsOk result }
     {
-        match self.search(value) {
-            Ok(place) => {
-                let present = self.pairs[place].1;
-                self.pairs[place] = (value, present.saturating_add(copies));
-                Ok(())
-            }
-            Err(place) => Ok(self.pairs.insert(place, (value, copies))?),
-        }
+        add_copies(&mut self.pairs, value, copies)
     }
 
     /// The values of another bag beside those that are here.
     ///
     /// # Errors
     ///
-    /// No memory for the values that the bag lacks. The bag is as before.
+    /// No memory for as many more values as the other bag has. The bag is as before.
     pub fn union(&mut self, other: &Bag) -> Result<(), AllocError>
         ensures ok { OnOk result (self.new ≡ union self.old other.now) }
         ensures err { OnErr result (self.new ≡ self.old) }
     {
-        let mut both = self.clone()?;
+        // With room for every pair, nothing after this fails.
+        self.pairs.reserve(other.pairs.len())?;
         for pair in other.pairs.as_slice() {
-            both.insert_copies(pair.0, pair.1)?;
+            add_copies(&mut self.pairs, pair.0, pair.1)?;
         }
-        *self = both;
         Ok(())
     }
 
@@ -92,7 +86,7 @@ impl Bag {
     pub fn drop_one(&mut self, value: i64)
         ensures { self.new ≡ without_one value self.old }
     {
-        if let Ok(place) = self.search(value) {
+        if let Ok(place) = search(self.pairs.as_slice(), value) {
             let present = self.pairs[place].1;
             if present == 1 {
                 self.pairs.remove(place);
@@ -161,7 +155,7 @@ impl Bag {
     pub fn times(&self, value: i64) -> u64
         ensures { result ≡ count_of value self.now }
     {
-        match self.search(value) {
+        match search(self.pairs.as_slice(), value) {
             Ok(place) => self.pairs[place].1,
             Err(_) => 0,
         }
@@ -174,16 +168,39 @@ impl Bag {
     {
         &self.pairs
     }
+}
 
-    // Where a value stands among the pairs, or where it would stand.
-    fn search(&self, value: i64) -> Result<usize, usize>
-        ensures found { IfOk result (λ place. (place ≡ place_of value self.now) × (place < length self.now) × (0 < count_of value self.now)) }
-        ensures absent { IfErr result (λ place. (place ≡ place_of value self.now) × (place ≤ length self.now) × (count_of value self.now ≡ 0)) }
-        ensures bag { IsBag self.now }
-    {
-        self.pairs
-            .as_slice()
-            .binary_search_by_key(&value, |&(present, _)| present)
+// Where a value stands among the pairs, or where it would stand.
+fn search(pairs: &[(i64, u64)], value: i64) -> Result<usize, usize>
+    requires { IsBag pairs.now }
+    ensures found { IfOk result (λ place. (place ≡ place_of value pairs.now) × (place < length pairs.now) × (0 < count_of value pairs.now)) }
+    ensures absent { IfErr result (λ place. (place ≡ place_of value pairs.now) × (place ≤ length pairs.now) × (count_of value pairs.now ≡ 0)) }
+{
+    pairs.binary_search_by_key(&value, |&(present, _)| present)
+}
+
+// So many more copies of a value among the pairs. It fails only where a new pair has no room.
+fn add_copies(
+    pairs: &mut SmallVec<(i64, u64), 2>,
+    value: i64,
+    copies: u64,
+) -> Result<(), AllocError>
+    requires bag { IsBag pairs.old.items }
+    requires some { 0 < copies }
+    ensures ok { OnOk result (pairs.new.items ≡ with_copies value copies pairs.old.items) }
+    ensures err { OnErr result (pairs.new ≡ pairs.old) }
+    ensures bag { IsBag pairs.new.items }
+    ensures present { 0 < count_of value pairs.old.items → IsOk result }
+    ensures succeeds { HasRoomFor pairs.old 1 → IsOk result }
+    ensures had_room { HasRoomFor pairs.old 1 → pairs.new.capacity ≡ pairs.old.capacity }
+{
+    match search(pairs.as_slice(), value) {
+        Ok(place) => {
+            let present = pairs[place].1;
+            pairs[place] = (value, present.saturating_add(copies));
+            Ok(())
+        }
+        Err(place) => Ok(pairs.insert(place, (value, copies))?),
     }
 }
 
@@ -292,7 +309,7 @@ impl Bags {
     ///
     /// # Errors
     ///
-    /// No memory for the values that the bag lacks. All bags are as before.
+    /// No memory for as many more values as the other bag has. All bags are as before.
     pub fn union_at(&mut self, port: usize, values: &Bag) -> Result<(), AllocError>
         requires { port < length self.old }
         ensures ok { OnOk result (self.new ≡ slice_set self.old port (union (bag_at self.old port) values.now)) }

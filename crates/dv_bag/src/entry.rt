@@ -7,6 +7,7 @@ use crate::fault::Fault;
 use crate::state::State;
 use dv_time::Time;
 use std::alloc::AllocError;
+use std::fmt;
 
 /// Which transition took place.
 #[derive(Clone, Copy, Debug, PartialEq, Eq)]
@@ -14,6 +15,21 @@ pub enum Kind {
     Internal,
     External,
     Confluent,
+}
+
+impl fmt::Display for Kind {
+    ghost use Rattle.std.specs.Prelude.{Some};
+    ghost use Rattle.dv_bag.specs.Words.{kind_word};
+
+    ghost output = { λ k. Some (kind_word k) };
+
+    fn fmt<W: fmt::Write>(&self, f: &mut fmt::Formatter<W>) -> fmt::Result {
+        f.write_str(match self {
+            Kind::Internal => "i",
+            Kind::External => "e",
+            Kind::Confluent => "c",
+        })
+    }
 }
 
 /// What happened to a component: a transition with the state after it, or a fault.

@@ -27,8 +27,13 @@ pub enum Fault {
 }
 
 impl fmt::Display for Fault {
+    ghost use Rattle.std.specs.Prelude.{Some};
+    ghost use Rattle.dv_bag.specs.Words.{fault_word};
+
+    ghost output = { λ f. Some (fault_word f) };
+
     fn fmt<W: fmt::Write>(&self, f: &mut fmt::Formatter<W>) -> fmt::Result {
-        let name = match self {
+        f.write_str(match self {
             Fault::Overflow => "overflow",
             Fault::Divide => "divide",
             Fault::Range => "range",
@@ -37,8 +42,7 @@ impl fmt::Display for Fault {
             Fault::Negative => "negative",
             Fault::Microsteps => "microsteps",
             Fault::Flood => "flood",
-        };
-        write!(f, "{name}")
+        })
     }
 }
 

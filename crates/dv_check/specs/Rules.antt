@@ -1,9 +1,9 @@
 -- The refusals of an atomic model: what is allowed where, phases and holds, ranges and the start.
 use Rattle.std.specs.Prelude.{ℕ, Bool, true, false, not, ◌&&◌, ◌||◌, int_lt, if◌then◌else◌, List, [], ◌∷◌, ◌++◌, map, filter_map, Option, Some, None, Result, Ok, Err}
-use Rattle.std.specs.List.{flat_map, list_all}
+use Rattle.std.specs.List.{flat_map}
 use Rattle.dv_lex.specs.declared.error.TextError.{TextError}
 use Rattle.dv_lex.specs.declared.error.Refusal.TheVariants.{E6, E7, E8, E9, E10, E11}
-use Rattle.dv_syntax.specs.Trees.{Expression, Statements, Done, Assign, Goto, Send, If, IfElse, AtomicItem, OutPort, Var, Phases, Start, Hold, Rule, AtomicTree}
+use Rattle.dv_syntax.specs.Trees.{Expression, Literal, Named, Parens, Negative, Binary, Statements, Done, Assign, Goto, Send, If, IfElse, AtomicItem, OutPort, Var, Phases, Start, Hold, Rule, AtomicTree}
 use Rattle.dv_syntax.specs.declared.tree.Name.{Name}
 use Rattle.dv_syntax.specs.declared.tree.Variable.{Variable}
 use Rattle.dv_syntax.specs.declared.tree.RuleSort.{RuleSort}
@@ -14,6 +14,7 @@ use Rattle.dv_check.specs.declared.items.NameSort.{NameSort}
 use Rattle.dv_check.specs.declared.items.NameSort.TheVariants.{Variable as ForVariable, Output as ForOutput}
 use Rattle.dv_check.specs.declared.expression.ValueType.TheVariants.{Number, Truth}
 use Rattle.dv_check.specs.declared.declarations.Declarations.{Declarations}
+use Rattle.dv_check.specs.declared.starts.Starts.{Starts}
 use Rattle.dv_check.specs.Names.{refused, refused_if, among, names_within, repeated, too_many}
 use Rattle.dv_check.specs.Tables.{first_of, looked_up, has}
 use Rattle.dv_check.specs.Items.{declared_by, declared_in, outputs_in, variables_in, phases_in, first_phases, ruled_in, held_in, phases_line, start_line, start_phase}
@@ -96,22 +97,47 @@ abbrev pub is_fault : {A B : Type 0} → Result A B → Bool
 is_fault (Ok x) = false
 is_fault (Err f) = true
 
--- no variable that is out of its range
-abbrev pub is_in_range : AtomicItem → Bool
-is_in_range (OutPort port) = true
-is_in_range (Var v) = not (is_out_of_range v)
-is_in_range (Phases line phases) = true
-is_in_range (Start line phase) = true
-is_in_range (Hold line phase ticks) = true
-is_in_range (Rule sort phase body) = true
-
 -- a known phase with a well typed hold
 abbrev pub is_hold_fine : Known → Name → List AtomicItem → Bool
 is_hold_fine known phase items = is_none_left (unknown_phase known phase ++ hold_refusals known (hold_ticks phase.number items))
 
--- a hold that can be asked: nothing is wrong with it, and the variables' start values are within their ranges
+-- the variable that an item declares
+abbrev pub variable_declared_by : AtomicItem → Option (Name × Variable)
+variable_declared_by (OutPort port) = None
+variable_declared_by (Var v) = Some (v.name, v)
+variable_declared_by (Phases line phases) = None
+variable_declared_by (Start line phase) = None
+variable_declared_by (Hold line phase ticks) = None
+variable_declared_by (Rule sort phase body) = None
+
+-- a variable that is there, and in range
+abbrev pub is_in_range : Option Variable → Bool
+is_in_range None = false
+is_in_range (Some v) = not (is_out_of_range v)
+
+-- a variable whose first declaration is not refused: it is one of the first 4,096, and in range
+abbrev pub is_start_known : List AtomicItem → ℕ → Bool
+is_start_known items name = among (names_within 4096 (variables_in items)) name && is_in_range (first_of variable_declared_by items name)
+
+-- what tables know
+abbrev pub is_start_known_by : Starts → ℕ → Bool
+is_start_known_by starts name = has starts.within name && is_in_range (looked_up starts.variables name)
+
+-- an expression without names but these
+abbrev pub names_only : (ℕ → Bool) → Expression → Bool
+names_only known (Literal n) = true
+names_only known (Named name) = known name.number
+names_only known (Parens line e) = names_only known e
+names_only known (Negative line e) = names_only known e
+names_only known (Binary operator a b) = names_only known a && names_only known b
+
+abbrev pub hold_names_only : (ℕ → Bool) → Option Expression → Bool
+hold_names_only known None = true
+hold_names_only known (Some e) = names_only known e
+
+-- a hold that can be asked: nothing is wrong with it, nor with the first declarations of the variables that it names
 abbrev pub can_ask_hold : Known → Name → List AtomicItem → Bool
-can_ask_hold known phase items = is_hold_fine known phase items && list_all is_in_range items
+can_ask_hold known phase items = is_hold_fine known phase items && hold_names_only (is_start_known items) (hold_ticks phase.number items)
 
 -- a start hold that faults, at the phase of start
 abbrev pub start_hold_refused : AtomicTree → Option Name → List TextError

@@ -1,7 +1,7 @@
 //! The checks of an atomic model.
 
-ghost use Rattle.std.specs.Prelude.{◌≡◌, map, OnOk};
-ghost use Rattle.std.specs.List.{flat_map, list_all};
+ghost use Rattle.std.specs.Prelude.{◌≡◌, map, IfOk, OnOk};
+ghost use Rattle.std.specs.List.{flat_map};
 ghost use Rattle.dv_syntax.specs.Trees.{atomic_of, item_of};
 ghost use Rattle.dv_check.specs.Findings.{noted};
 ghost use Rattle.dv_eval.specs.Scope.{hold_ticks};
@@ -9,13 +9,14 @@ ghost use Rattle.dv_lex.specs.declared.error.Refusal.TheVariants.{E6, E10};
 ghost use Rattle.dv_check.specs.Names.{refused, repeated};
 ghost use Rattle.dv_check.specs.Tables.{has};
 ghost use Rattle.dv_check.specs.Items.{phases_in, ruled_in, start_phase};
-ghost use Rattle.dv_check.specs.Rules.{atomic_refusals, can_ask_hold, hold_refusals, holds_missing, is_hold_fine, is_in_range, item_refusals, known_by, known_in, names_refusals, once_refusals, stands_once, start_hold_refused};
+ghost use Rattle.dv_check.specs.Rules.{atomic_refusals, can_ask_hold, hold_names_only, hold_refusals, holds_missing, is_hold_fine, is_start_known_by, item_refusals, known_by, known_in, names_refusals, once_refusals, stands_once, start_hold_refused};
 
-use crate::declarations::{Declarations, is_out_of_range};
+use crate::declarations::Declarations;
 use crate::findings::Findings;
 use crate::items;
 use crate::number_set::NumberSet;
 use crate::repeats::{find_repeats, find_too_many, within_limit};
+use crate::starts::Starts;
 use dv_eval::{Env, phase_hold, start_state};
 use dv_lex::Refusal;
 use dv_syntax::{Atomic, Item, Name, RuleSort};
@@ -138,7 +139,7 @@ fn check_start_hold(
     let Some(phase) = items::start_phase(&model.items) else {
         return Ok(());
     };
-    if can_ask_hold(declarations, &phase, &model.items) {
+    if can_ask_hold(alloc, declarations, &phase, &model.items)? {
         let env = Env::of(alloc, model)?;
         let state = start_state(alloc, model, &env)?;
         if phase_hold(model, phase.number, &state, &env).is_err() {
@@ -148,11 +149,20 @@ fn check_start_hold(
     Ok(())
 }
 
-// Whether nothing is wrong with the hold of a phase, nor with the variables.
-fn can_ask_hold(declarations: &Declarations, phase: &Name, items: &[Item]) -> bool
-    ensures { result ≡ can_ask_hold (known_by declarations.now) phase.now (map item_of items.now) }
+// Whether nothing is wrong with the hold of a phase, nor with the variables that it names.
+fn can_ask_hold(
+    alloc: Global,
+    declarations: &Declarations,
+    phase: &Name,
+    items: &[Item],
+) -> Result<bool, AllocError>
+    ensures { IfOk result (λ can_ask. can_ask ≡ can_ask_hold (known_by declarations.now) phase.now (map item_of items.now)) }
 {
-    is_hold_fine(declarations, phase, items) && are_in_range(items)
+    if !is_hold_fine(declarations, phase, items) {
+        return Ok(false);
+    }
+    let starts = Starts::of(alloc, items)?;
+    Ok(are_names_known(&starts, phase.number, items))
 }
 
 fn is_hold_fine(declarations: &Declarations, phase: &Name, items: &[Item]) -> bool
@@ -182,22 +192,20 @@ fn check_phase_hold(declarations: &Declarations, phase: u32, items: &[Item], fou
     }
 }
 
-fn are_in_range(items: &[Item]) -> bool
-    ensures { result ≡ list_all is_in_range (map item_of items.now) }
+// Whether nothing is wrong with the variables that the first hold of a phase names.
+fn are_names_known(starts: &Starts, phase: u32, items: &[Item]) -> bool
+    ensures { result ≡ hold_names_only (is_start_known_by starts.now) (hold_ticks phase (map item_of items.now)) }
 {
     for item in items {
-        if !is_in_range(item) {
-            return false;
+        if let Item::Hold {
+            phase: name,
+            ticks,
+            ..
+        } = item
+            && name.number == phase
+        {
+            return starts.know_ticks(ticks);
         }
     }
     true
-}
-
-fn is_in_range(item: &Item) -> bool
-    ensures { result ≡ is_in_range (item_of item.now) }
-{
-    match item {
-        Item::Var(variable) => !is_out_of_range(variable),
-        _ => true,
-    }
 }

@@ -19,6 +19,7 @@ mod models;
 mod number_set;
 mod parts;
 mod repeats;
+mod starts;
 #[cfg(test)]
 mod tests;
 

@@ -1,5 +1,5 @@
 -- What lists of statements do, one statement at a time.
-use Rattle.std.proofs.Common.{◌≡◌, ℕ, ◌+◌, ◌<◌, ◌≤◌, true, false, List, [], ◌∷◌, length, get_or, drop, set, Option, Some, None, slice_get, unwrap_or, Result, Ok, Err, refl, sym, ap, ◌∙◌, subst, ℤ, if◌then◌else◌}
+use Rattle.std.proofs.Common.{◌≡◌, ℕ, ◌+◌, ◌<◌, ◌≤◌, true, false, List, length, get_or, drop, set, Option, Some, Result, Ok, Err, refl, sym, ap, ◌∙◌, ℤ, if◌then◌else◌}
 use mathlib.Core.Former.{Count}
 use Rattle.std.proofs.lemmas.List.{at_drop_more, set_past}
 use Rattle.dv_syntax.specs.declared.tree.Expr.{Expr}
@@ -8,7 +8,7 @@ use Rattle.dv_syntax.specs.declared.tree.Stmt.{Stmt, Row_of-Stmt, end_of-Stmt, m
 use Rattle.dv_syntax.specs.declared.tree.Stmt as stmt
 use Rattle.dv_syntax.specs.Trees.{Statements, Done, If, IfElse, expression_of, statement_before, row_statements, statements_of}
 use Rattle.dv_bag.specs.Behaviour.{◌>>=◌}
-use Rattle.dv_bag.specs.Bag.{Counts, total, total_of_all, bag_at as bag_in, with_copies}
+use Rattle.dv_bag.specs.Bag.{Counts, total_of_all, bag_at, with_copies}
 use Rattle.dv_bag.specs.Outcome.{Fails}
 use Rattle.dv_bag.specs.declared.fault.Fault.{Fault}
 use Rattle.dv_bag.specs.declared.fault.Fault.TheVariants.{Flood}
@@ -16,10 +16,9 @@ use Rattle.dv_bag.specs.declared.fault.RuleError.{RuleError}
 use Rattle.dv_bag.specs.declared.fault.RuleError.TheVariants as error
 use Rattle.dv_bag.specs.declared.state.Effect.{Effect}
 use Rattle.dv_bag.specs.declared.value.Value.{Value}
-use Rattle.std.proofs.lemmas.Option.{unwrap_or-slice_get}
 use Rattle.std.proofs.lemmas.Bool.{lt-leb}
 use Rattle.dv_eval.specs.Scope.{Scope, place_of}
-use Rattle.dv_eval.specs.Meaning.{run, meaning, assigned, sends, sent_at, total_sent, bag_at, number_of, truth_of}
+use Rattle.dv_eval.specs.Meaning.{run, meaning, assigned, sends, sent_at, number_of, truth_of}
 
 -- a block in the code's tree, as a list
 statements_of-row : (n : Count) (row : Row_of-Stmt n) → statements_of (items-the_row-Stmt n row) ≡ row_statements row
@@ -82,35 +81,22 @@ run-drop_err scope ss i s e whole (error.Fault f) within is known step =
     sym known ∙ (run-drop scope ss i s e within is ∙ ap (λ m. m >>= run scope (statements_of (drop (i + 1) ss))) step)
 run-drop_err scope ss i s e whole error.Memory within is known step = tt
 
--- the values in all bags, counted
-total_sent-total_of_all : (bags : List Counts) → total_sent bags ≡ total_of_all bags
-total_sent-total_of_all [] = refl
-total_sent-total_of_all (b ∷ bags) = ap (λ n. total b + n) (total_sent-total_of_all bags)
-
-bag_at-unwrap_or : (bags : List Counts) (o : Option Counts) → bag_at bags o ≡ unwrap_or o []
-bag_at-unwrap_or bags None = refl
-bag_at-unwrap_or bags (Some b) = refl
-
-bag_at-slice_get : (bags : List Counts) (port : ℕ) → bag_at bags (slice_get bags port) ≡ bag_in bags port
-bag_at-slice_get bags port = bag_at-unwrap_or bags (slice_get bags port) ∙ unwrap_or-slice_get bags port []
-
 sends-within : (scope : Scope) (name : ℕ) (v : Value) (e : Effect) (place : Option ℕ) → total_of_all e.sent < 4096 → place_of name scope.outputs ≡ place → sends scope name v e ≡ Ok (sent_at place (number_of v) e)
 sends-within scope name v e place few at =
-    ap (λ b. if b then Err Flood else Ok (sent_at (place_of name scope.outputs) (number_of v) e)) (lt-leb 4096 (total_sent e.sent) (subst (λ n. n < 4096) (sym (total_sent-total_of_all e.sent)) few))
+    ap (λ b. if b then Err Flood else Ok (sent_at (place_of name scope.outputs) (number_of v) e)) (lt-leb 4096 (total_of_all e.sent) few)
     ∙ ap (λ p. Ok (sent_at p (number_of v) e)) at
 
 -- a value at a port
-pub sends-some : (scope : Scope) (name : ℕ) (v : Value) (e : Effect) (port : ℕ) (n : ℤ) (bags : List Counts) → total_of_all e.sent < 4096 → place_of name scope.outputs ≡ Some port → n ≡ number_of v → bags ≡ set e.sent port (with_copies n 1 (bag_in e.sent port)) → sends scope name v e ≡ Ok (record { state = e.state; sent = bags; goto = e.goto })
+pub sends-some : (scope : Scope) (name : ℕ) (v : Value) (e : Effect) (port : ℕ) (n : ℤ) (bags : List Counts) → total_of_all e.sent < 4096 → place_of name scope.outputs ≡ Some port → n ≡ number_of v → bags ≡ set e.sent port (with_copies n 1 (bag_at e.sent port)) → sends scope name v e ≡ Ok (record { state = e.state; sent = bags; goto = e.goto })
 sends-some scope name v e port n bags few at number is =
     sends-within scope name v e (Some port) few at
-    ∙ ap (λ b. Ok (record { state = e.state; sent = set e.sent port (with_copies (number_of v) 1 b); goto = e.goto })) (bag_at-slice_get e.sent port)
-    ∙ ap (λ x. Ok (record { state = e.state; sent = set e.sent port (with_copies x 1 (bag_in e.sent port)); goto = e.goto })) (sym number)
+    ∙ ap (λ x. Ok (record { state = e.state; sent = set e.sent port (with_copies x 1 (bag_at e.sent port)); goto = e.goto })) (sym number)
     ∙ ap (λ x. Ok (record { state = e.state; sent = x; goto = e.goto })) (sym is)
 
 -- a value at a port past the last
 pub sends-past : (scope : Scope) (name : ℕ) (v : Value) (e : Effect) (port : ℕ) → total_of_all e.sent < 4096 → place_of name scope.outputs ≡ Some port → length e.sent ≤ port → sends scope name v e ≡ Ok e
 sends-past scope name v e port few at past =
-    sends-some scope name v e port (number_of v) e.sent few at refl (sym (set_past e.sent port (with_copies (number_of v) 1 (bag_in e.sent port)) past))
+    sends-some scope name v e port (number_of v) e.sent few at refl (sym (set_past e.sent port (with_copies (number_of v) 1 (bag_at e.sent port)) past))
 
 -- what is left of a branch
 bind_ok : {A : Type 0} (m : Result A Fault) → (m >>= λ x. Ok x) ≡ m

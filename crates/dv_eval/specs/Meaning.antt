@@ -1,12 +1,12 @@
 -- The meaning of expressions, rules and holds, by recursion on the tree: a value or an effect, or the first fault from the left.
 -- A checked model knows its names and gives every operator what it wants; for all others a name that is not known counts
 -- as 0, and a truth value as 0 or 1.
-use Rattle.std.specs.Prelude.{ℕ, ℤ, pos, negsuc, neg_ℤ, ◌+ℤ◌, ◌-ℤ◌, ◌*ℤ◌, ◌^◌, Bool, true, false, not, ◌&&◌, if◌then◌else◌, nat_le, int_lt, int_div, int_rem, ◌+◌, List, [], ◌∷◌, length, replicate, slice_get, slice_set, Option, Some, None, Result, Ok, Err}
+use Rattle.std.specs.Prelude.{ℕ, ℤ, pos, negsuc, neg_ℤ, ◌+ℤ◌, ◌-ℤ◌, ◌*ℤ◌, ◌^◌, Bool, true, false, not, ◌&&◌, if◌then◌else◌, nat_le, int_lt, int_div, int_rem, List, [], length, replicate, slice_get, slice_set, Option, Some, None, Result, Ok, Err}
 use Rattle.std.specs.Ordering.{int_eq}
 use Rattle.dv_syntax.specs.Trees.{Expression, Literal, Named, Parens, Negative, Binary, Statements, Done, Assign, Goto, Send, If, IfElse}
 use Rattle.dv_syntax.specs.declared.tree.Operator.{Operator}
 use Rattle.dv_syntax.specs.declared.tree.Operator.TheVariants.{Add, Subtract, Multiply, Divide as DivideBy, Remainder, Equal, Unequal, Less, AtMost, Greater, AtLeast}
-use Rattle.dv_bag.specs.Bag.{Counts, with_copies, total}
+use Rattle.dv_bag.specs.Bag.{bag_at, total_of_all, with_copies}
 use Rattle.dv_bag.specs.Behaviour.{◌>>=◌}
 use Rattle.dv_bag.specs.declared.value.Value.{Value}
 use Rattle.dv_bag.specs.declared.value.Value.TheVariants.{Number, Truth}
@@ -109,22 +109,14 @@ assigned_at scope (Some place) n e = put (slice_get scope.variables place) place
 abbrev pub assigned : Scope → ℕ → Value → Effect → Result Effect Fault
 assigned scope name v e = assigned_at scope (place_of name (names_of scope.variables)) (number_of v) e
 
--- the number of values in all bags
-abbrev pub total_sent : List Counts → ℕ
-total_sent [] = 0
-total_sent (b ∷ bs) = total b + total_sent bs
-
-abbrev pub bag_at : List Counts → Option Counts → Counts
-bag_at bags None = []
-bag_at bags (Some b) = b
-
+-- one value more at a port
 abbrev pub sent_at : Option ℕ → ℤ → Effect → Effect
 sent_at None n e = e
-sent_at (Some port) n e = record { state = e.state; sent = slice_set e.sent port (with_copies n 1 (bag_at e.sent (slice_get e.sent port))); goto = e.goto }
+sent_at (Some port) n e = record { state = e.state; sent = slice_set e.sent port (with_copies n 1 (bag_at e.sent port)); goto = e.goto }
 
 -- a number sent by an output port; the 4,097th of one output is a flood
 abbrev pub sends : Scope → ℕ → Value → Effect → Result Effect Fault
-sends scope port v e = if nat_le 4096 (total_sent e.sent) then Err Flood else Ok (sent_at (place_of port scope.outputs) (number_of v) e)
+sends scope port v e = if nat_le 4096 (total_of_all e.sent) then Err Flood else Ok (sent_at (place_of port scope.outputs) (number_of v) e)
 
 abbrev pub goes_to : Option ℕ → Effect → Effect
 goes_to None e = e

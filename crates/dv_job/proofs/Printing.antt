@@ -14,7 +14,7 @@ use Rattle.dv_text.specs.declared.writing.Ending.TheVariants.{Whole}
 use Rattle.dv_text.specs.declared.writing.WriteError.{WriteError}
 use Rattle.dv_text.specs.declared.writing.WriteError.TheVariants as write
 use Rattle.dv_text.specs.Shown.{all_shown, root_ports}
-use Rattle.dv_text.specs.Writing.{AppendsBeginning, text_of}
+use Rattle.dv_text.specs.Writing.{StopsShort, text_of}
 use Rattle.dv_job.specs.declared.ended.JobEnded.{JobEnded}
 use Rattle.dv_job.specs.Job.{IsModelOf}
 use Rattle.dv_job.specs.Loading.{IsUnloaded}
@@ -42,12 +42,12 @@ prints text h l old new names file tree trace ended m same is_trace told written
 -- a trace of which a beginning was written
 pub prints_beginning : (text : List ℕ) (h l : ℕ) (old new : Option (List ℕ)) (names : List (List ℕ)) (file : File) (tree : Source) (trace : PartOf)
     → IsModelOf text names (file_of file) → (tree.file ≡ file) × (tree.names ≡ names) → trace ≡ trace_of (file_of tree.file) h l
-    → AppendsBeginning old new (text_of (all_shown tree) (root_ports tree) trace (Whole h)) → PrintsBeginning text h l old new
+    → StopsShort old new (text_of (all_shown tree) (root_ports tree) trace (Whole h)) → PrintsBeginning text h l old new
 prints_beginning text h l old new names file tree trace m same is_trace written = record {
   names = tree.names;
   file = file_of tree.file;
   model = model_of_tree text names file tree m same;
-  written = subst (λ (t : PartOf). AppendsBeginning old new (text_of (all_shown tree) (root_ports tree) t (Whole h))) is_trace written;
+  written = subst (λ (t : PartOf). StopsShort old new (text_of (all_shown tree) (root_ports tree) t (Whole h))) is_trace written;
 }
 
 -- whichever way the writing failed

@@ -1,5 +1,5 @@
 -- How a run of bytes ends, and what its writer then holds.
-use Rattle.std.specs.Prelude.{◌≡◌, ℕ, Bool, true, false, if◌then◌else◌, List, ◌⊎◌, Option, Result, Ok, Err}
+use Rattle.std.specs.Prelude.{◌≡◌, ℕ, Bool, true, false, if◌then◌else◌, List, ◌⊎◌, Option}
 use Rattle.std.specs.List.{list_any}
 use Rattle.std.specs.Io.KnownBytes.{Appends, Keeps}
 use Rattle.dv_bag.specs.Part.{PartOf}
@@ -8,7 +8,7 @@ use Rattle.dv_bag.specs.declared.entry.What.{What}
 use Rattle.dv_bag.specs.declared.entry.What.TheVariants as what
 use Rattle.dv_syntax.specs.Trees.{FileTree}
 use Rattle.dv_plain.specs.Source.{trace_of}
-use Rattle.dv_text.specs.Writing.{AppendsBeginning}
+use Rattle.dv_text.specs.Writing.{StopsShort}
 use Rattle.dv_job.specs.Job.{IsModelOf, IsRefusedModel, run_text}
 use Rattle.dv_job.specs.declared.ended.JobEnded.{JobEnded}
 use Rattle.dv_job.specs.declared.ended.JobEnded.TheVariants.{Whole, Faulted}
@@ -34,15 +34,15 @@ pub record PrintsTrace (text : List ℕ) (horizon limit : ℕ) (old new : Option
   pub told : ended ≡ ended_by (trace_of file horizon limit)
   pub written : Appends old new (run_text names file horizon limit)
 
--- The text is accepted, and the writer's bytes grew by a beginning of the whole text of its trace.
+-- The text is accepted, and the writer's bytes grew by a beginning of the whole text of its trace, but not by all of it.
 pub record PrintsBeginning (text : List ℕ) (horizon limit : ℕ) (old new : Option (List ℕ)) : Type 0 where
   pub names : List (List ℕ)
   pub file : FileTree
   pub model : IsModelOf text names file
-  pub written : AppendsBeginning old new (run_text names file horizon limit)
+  pub written : StopsShort old new (run_text names file horizon limit)
 
--- What an error leaves: at a refusal nothing was written, and the text really is refused; at a failed write a beginning;
--- at want of memory nothing or a beginning.
+-- What an error leaves: at a refusal nothing was written, and the text really is refused; at a failed write a beginning
+-- that is not all; at want of memory nothing or such a beginning.
 abbrev pub Leaves : JobError → List ℕ → (horizon limit : ℕ) → Option (List ℕ) → Option (List ℕ) → Type 0
 Leaves (error.Text e) text horizon limit old new = IsRefusedModel text e × Keeps old new
 Leaves error.Write text horizon limit old new = PrintsBeginning text horizon limit old new

@@ -22,10 +22,10 @@ pub enum JobError {
     /// The model text is refused; nothing was written.
     #[error("{0}")]
     Text(TextError),
-    /// A write failed; the writer holds a beginning of the trace's text.
+    /// A write failed; the writer holds a beginning of the trace's text, and not all of it.
     #[error("write")]
     Write,
-    /// An allocation was refused; the writer holds nothing or a beginning of the trace's text.
+    /// An allocation was refused; the writer holds nothing, or a beginning of the trace's text that is not all of it.
     #[error("E18")]
     Memory,
 }

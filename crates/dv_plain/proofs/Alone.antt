@@ -1,14 +1,17 @@
 -- Components that receive nothing: they react where they are imminent, and stay as they are where not.
-use Rattle.std.proofs.Common.{◌≡◌, ℕ, suc, ◌-◌, Bool, true, false, not, if◌then◌else◌, ◌&&◌, ◌||◌, List, [], ◌∷◌, map, Option, Some, None, Result, Ok, Err, refl, ap, ◌∙◌, arith, tests}
+use Rattle.std.proofs.Common.{◌≡◌, ℕ, ◌-◌, Bool, true, false, not, if◌then◌else◌, ◌&&◌, ◌||◌, List, [], ◌∷◌, map, Option, None, Result, Ok, Err, refl, ap, ◌∙◌}
 use Rattle.dv_time.specs.Time.{tick_of}
 use Rattle.dv_bag.specs.Bag.{Counts}
-use Rattle.dv_bag.specs.Behaviour.{Behaviour, Component, Reaction, Moved, ◌>>=◌, is_at, is_due, all_empty, emission, ended, reaction, runs_out, next_of, Hold, Begins, Continues, internal_of, external_of, held, happens}
-use Rattle.dv_bag.specs.Network.{IsFrom, reactions, sent_by}
+use Rattle.dv_bag.specs.Behaviour.{Behaviour, Component, Reaction, Moved, ◌>>=◌, is_due, emission, ended, reaction, runs_out, next_of, Hold, Begins, Continues, internal_of, external_of, held, happens}
+use Rattle.dv_bag.specs.Network.{instant, reactions, sent_by}
 use Rattle.dv_bag.specs.declared.fault.Fault.{Fault}
 use Rattle.dv_bag.specs.declared.state.State.{State}
 use Rattle.dv_bag.specs.declared.entry.Kind.{Kind}
 use Rattle.dv_bag.specs.declared.entry.Kind.TheVariants.{Internal, External}
+use Rattle.dv_syntax.specs.Trees.{FileTree}
+use Rattle.dv_tree.specs.Instances.{instances}
 use Rattle.dv_plain.specs.Alone.{waits_until, fires}
+use Rattle.dv_plain.specs.Source.{network_of}
 
 -- nobody receives anything
 pub reactions-none : {A : Type 0} (limit : ℕ) (bs : List Behaviour) (now : ℕ) (cs : List Component) (xs : List A) → reactions limit bs now cs (map (λ x. []) xs) ≡ reactions limit bs now cs []
@@ -17,25 +20,17 @@ reactions-none limit (b ∷ bs) now [] xs = refl
 reactions-none limit (b ∷ bs) now (c ∷ cs) [] = refl
 reactions-none limit (b ∷ bs) now (c ∷ cs) (x ∷ xs) = ap (λ rs. reaction limit b now c [] ∷ rs) (reactions-none limit bs now cs xs)
 
--- a later time is not now
-pub is_at-later : (now : ℕ) (next : Option ℕ) → IsFrom (suc now) next → is_at now next ≡ false
-is_at-later now None h = refl
-is_at-later now (Some k) h = search (arith, tests)
+-- an instant of a text's network, at which nobody receives anything
+pub instant-alone : (limit : ℕ) (f : FileTree) (now : ℕ) (input : List Counts) (cs : List Component) → instant limit (network_of limit f) now input cs ≡ reactions limit (network_of limit f).behaviours now cs []
+instant-alone limit f now input cs = reactions-none limit (network_of limit f).behaviours now cs (instances f)
 
 and-false : (b : Bool) → (b && false) ≡ false
 and-false true = refl
 and-false false = refl
 
--- who is not imminent stays as it is
-pub reaction-idle : (limit : ℕ) (b : Behaviour) (now : ℕ) (c : Component) → IsFrom (suc now) c.next → reaction limit b now c [] ≡ record { event = None; component = c }
-reaction-idle limit b now c h = rw (is_at-later now c.next h) (rw (and-false (not c.quiet)) refl)
-
--- and sends nothing
+-- a component that sends nothing
 pub sent_by-nothing : (c : Component) → sent_by c (Ok []) ≡ []
 sent_by-nothing c = elim c.quiet as (λ q. sent_by (record c { quiet = q }) (Ok []) ≡ []) [ true ↦ refl | false ↦ refl ]
-
-pub sent_by-idle : (b : Behaviour) (now : ℕ) (c : Component) → IsFrom (suc now) c.next → sent_by c (emission b now c) ≡ []
-sent_by-idle b now c h = rw (is_at-later now c.next h) (sent_by-nothing c)
 
 -- the hold of a state reached, and when it runs out
 abbrev hold_after : ℕ → ℕ → State → Result (Option ℕ) Fault → Result (State × Option ℕ) Fault
@@ -98,14 +93,6 @@ reaction-due limit b now c loud due =
     ∙ ap (λ (d : Bool). reaction_by limit b now c false d) due
     ∙ happens-due limit b now c due (b.output c.state)
 
--- a component that is quiet stays as it is
-pub reaction-quiet : (limit : ℕ) (b : Behaviour) (now : ℕ) (c : Component) → c.quiet ≡ true → reaction limit b now c [] ≡ record { event = None; component = c }
-reaction-quiet limit b now c quiet =
-    ap (λ (q : Bool). let r : Reaction = if not q && (is_due now c || not (all_empty [])) then happens limit b now c [] (emission b now c) else record { event = None; component = c } in r) quiet
-
+-- a component that is not imminent stays as it is
 pub reaction-not_due : (limit : ℕ) (b : Behaviour) (now : ℕ) (c : Component) → is_due now c ≡ false → reaction limit b now c [] ≡ record { event = None; component = c }
 reaction-not_due limit b now c h = rw h (rw (and-false (not c.quiet)) refl)
-
--- what a component that is not imminent sends
-pub sent_by-not_due : (b : Behaviour) (now : ℕ) (c : Component) → is_due now c ≡ false → sent_by c (emission b now c) ≡ []
-sent_by-not_due b now c h = rw h (sent_by-nothing c)

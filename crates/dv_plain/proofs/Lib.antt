@@ -1,8 +1,7 @@
 pub mod Alone
-pub mod Later
 pub mod Times
 pub mod Silence
-pub mod Idle
+pub mod Ready
 pub mod Steps
 pub mod Least
 pub mod Lines

@@ -1,59 +1,81 @@
--- Where nobody sends anything, nothing leaves.
-use Rattle.std.proofs.Common.{◌≡◌, ℕ, zero, suc, ◌+◌, List, [], ◌∷◌, length, replicate, slice_get, slice_set, Option, Some, None, refl, ap, ◌∙◌}
-use Rattle.std.proofs.lemmas.Bool.{cond_both}
+-- Where nobody sends anything, nothing arrives and nothing leaves.
+use Rattle.std.proofs.Common.{◌≡◌, ℕ, zero, suc, ◌+◌, nat_eq, IsTrue, List, [], ◌∷◌, map, length, replicate, Option, Some, None, refl, ap, ◌∙◌}
+use Rattle.std.specs.Prelude.{slice_set}
+use Rattle.std.proofs.lemmas.Bool.{and_from, and_parts, cond_both, eqb-true}
 use Rattle.dv_syntax.specs.Trees.{FileTree}
 use Rattle.dv_syntax.specs.declared.tree.Name.{Name}
 use Rattle.dv_syntax.specs.declared.tree.Link.{Link}
-use Rattle.dv_bag.specs.Bag.{Counts}
-use Rattle.dv_bag.specs.Network.{outer_from}
+use Rattle.dv_bag.specs.Bag.{Counts, bag_at, capped, size, union}
+use Rattle.dv_bag.specs.Behaviour.{all_empty}
+use Rattle.dv_bag.specs.Idle.{BringsNothing, LeavesWhatIsSent}
+use Rattle.dv_bag.specs.Network.{no_values}
+use Rattle.dv_check.specs.Couplings.{links_of}
 use Rattle.dv_eval.specs.Scope.{scope_of, place_of}
 use Rattle.dv_tree.specs.Instances.{Instance, instances, root_items}
-use Rattle.dv_check.specs.Couplings.{links_of}
-use Rattle.dv_tree.specs.Routing.{bag_in, bag_of_port, is_part, sent_from, carried, exit_of, joined_at, passed_on, root_outputs, leaves}
+use Rattle.dv_tree.specs.Routing.{bag_of_port, is_part, sent_from, carried, exit_of, joined_at, passed_on, root_outputs}
+use Rattle.dv_plain.specs.Source.{network_of, no_input}
 
--- everyone's bags are none
-abbrev pub AllSilent : List (List Counts) → Type 0
-AllSilent [] = Unit {0}
-AllSilent (bags ∷ sent) = (bags ≡ []) × AllSilent sent
+none_arrive : {A : Type 0} (xs : List A) → IsTrue (no_values (map (λ x. []) xs))
+none_arrive [] = refl
+none_arrive (x ∷ xs) = none_arrive xs
 
-bag_of_none : (port : Option ℕ) → bag_of_port port [] ≡ []
-bag_of_none None = refl
-bag_of_none (Some port) = refl
+pub nothing_arrives : (limit n : ℕ) (f : FileTree) → BringsNothing (network_of limit f) (no_input n)
+nothing_arrives limit n f sent none = none_arrive (instances f)
 
-sent_from-silent : (part port : ℕ) (parts : List Instance) (sent : List (List Counts)) → AllSilent sent → sent_from part port parts sent ≡ []
-sent_from-silent part port [] sent h = refl
-sent_from-silent part port (i ∷ rest) [] h = refl
-sent_from-silent part port (i ∷ rest) (bags ∷ sent) h =
-    cond_both (is_part part i.path) _ _ (λ (b : Counts). b ≡ [])
-    (λ _. ap (bag_of_port (place_of port (scope_of i.model).outputs)) h.0 ∙ bag_of_none (place_of port (scope_of i.model).outputs))
-    (λ _. sent_from-silent part port rest sent h.1)
+abbrev IsEmpty : Counts → Type 0
+IsEmpty b = IsTrue (nat_eq (size b) 0)
 
-carried-silent : (parts : List Instance) (sent : List (List Counts)) (part : Option Name) (port : ℕ) → AllSilent sent → carried parts sent part port ≡ []
-carried-silent parts sent None port h = refl
-carried-silent parts sent (Some part) port h = sent_from-silent part.number port parts sent h
+-- sizes add, as a law of bags has it
+abbrev pub SizesAdd : Type 0
+SizesAdd = (a b : Counts) → size (union a b) ≡ capped (size a + size b)
 
-set-same : (bags : List Counts) (port : ℕ) → slice_set bags port (bag_in (slice_get bags port)) ≡ bags
-set-same [] port = refl
-set-same (b ∷ bags) zero = refl
-set-same (b ∷ bags) (suc port) = ap (λ rest. b ∷ rest) (set-same bags port)
+union-empty : SizesAdd → (a b : Counts) → IsEmpty a → IsEmpty b → IsEmpty (union a b)
+union-empty add a b h g =
+    ap (λ n. nat_eq n 0) (add a b)
+    ∙ ap (λ n. nat_eq (capped (n + size b)) 0) (eqb-true (size a) 0 h)
+    ∙ ap (λ n. nat_eq (capped (0 + n)) 0) (eqb-true (size b) 0 g)
 
-joined_at-none : (port : Option ℕ) (bags : List Counts) → joined_at port [] bags ≡ bags
-joined_at-none None bags = refl
-joined_at-none (Some port) bags = set-same bags port
+bag-empty : (port : Option ℕ) (bags : List Counts) → IsTrue (all_empty bags) → IsEmpty (bag_of_port port bags)
+bag-empty None bags h = refl
+bag-empty (Some port) [] h = refl
+bag-empty (Some zero) (b ∷ bags) h = (and_parts (nat_eq (size b) 0) (all_empty bags) h).0
+bag-empty (Some (suc port)) (b ∷ bags) h = bag-empty (Some port) bags (and_parts (nat_eq (size b) 0) (all_empty bags) h).1
 
-passed_on-silent : (ports : List ℕ) (parts : List Instance) (sent : List (List Counts)) (links : List Link) (bags : List Counts) → AllSilent sent → passed_on ports parts sent links bags ≡ bags
-passed_on-silent ports parts sent [] bags h = refl
-passed_on-silent ports parts sent (l ∷ links) bags h =
-    ap (λ more. passed_on ports parts sent links (joined_at (exit_of ports l.to.part l.to.port.number) more bags)) (carried-silent parts sent l.from.part l.from.port.number h)
-    ∙ ap (passed_on ports parts sent links) (joined_at-none (exit_of ports l.to.part l.to.port.number) bags)
-    ∙ passed_on-silent ports parts sent links bags h
+sent_from-empty : (part port : ℕ) (parts : List Instance) (sent : List (List Counts)) → IsTrue (no_values sent) → IsEmpty (sent_from part port parts sent)
+sent_from-empty part port [] sent h = refl
+sent_from-empty part port (i ∷ rest) [] h = refl
+sent_from-empty part port (i ∷ rest) (bags ∷ sent) h =
+    let both = and_parts (all_empty bags) (no_values sent) h in
+    cond_both (is_part part i.path) _ _ IsEmpty
+    (λ _. bag-empty (place_of port (scope_of i.model).outputs) bags both.0)
+    (λ _. sent_from-empty part port rest sent both.1)
 
-outer_from-none : (limit now k n : ℕ) → outer_from limit now k (replicate n []) ≡ []
-outer_from-none limit now k zero = refl
-outer_from-none limit now k (suc n) = outer_from-none limit now (k + 1) n
+carried-empty : (parts : List Instance) (sent : List (List Counts)) (part : Option Name) (port : ℕ) → IsTrue (no_values sent) → IsEmpty (carried parts sent part port)
+carried-empty parts sent None port h = refl
+carried-empty parts sent (Some part) port h = sent_from-empty part.number port parts sent h
 
--- nothing leaves
-pub outer-silent : (limit now : ℕ) (f : FileTree) (sent : List (List Counts)) → AllSilent sent → outer_from limit now 0 (leaves f sent) ≡ []
-outer-silent limit now f sent h =
-    ap (outer_from limit now 0) (passed_on-silent (root_outputs f) (instances f) sent (links_of (root_items f)) (replicate (length (root_outputs f)) []) h)
-    ∙ outer_from-none limit now 0 (length (root_outputs f))
+set-empty : SizesAdd → (bags : List Counts) (port : ℕ) (more : Counts) → IsTrue (all_empty bags) → IsEmpty more → IsTrue (all_empty (slice_set bags port (union (bag_at bags port) more)))
+set-empty add [] port more h g = refl
+set-empty add (b ∷ bags) zero more h g =
+    let both = and_parts (nat_eq (size b) 0) (all_empty bags) h in
+    and_from _ _ (union-empty add b more both.0 g) both.1
+set-empty add (b ∷ bags) (suc port) more h g =
+    let both = and_parts (nat_eq (size b) 0) (all_empty bags) h in
+    and_from _ _ both.0 (set-empty add bags port more both.1 g)
+
+joined-empty : SizesAdd → (port : Option ℕ) (more : Counts) (bags : List Counts) → IsEmpty more → IsTrue (all_empty bags) → IsTrue (all_empty (joined_at port more bags))
+joined-empty add None more bags g h = h
+joined-empty add (Some port) more bags g h = set-empty add bags port more h g
+
+passed_on-empty : SizesAdd → (ports : List ℕ) (parts : List Instance) (sent : List (List Counts)) (links : List Link) (bags : List Counts) → IsTrue (no_values sent) → IsTrue (all_empty bags) → IsTrue (all_empty (passed_on ports parts sent links bags))
+passed_on-empty add ports parts sent [] bags none h = h
+passed_on-empty add ports parts sent (l ∷ links) bags none h =
+    passed_on-empty add ports parts sent links (joined_at (exit_of ports l.to.part l.to.port.number) (carried parts sent l.from.part l.from.port.number) bags) none
+    (joined-empty add (exit_of ports l.to.part l.to.port.number) (carried parts sent l.from.part l.from.port.number) bags (carried-empty parts sent l.from.part l.from.port.number none) h)
+
+no_bags : (n : ℕ) → IsTrue (all_empty (replicate n []))
+no_bags zero = refl
+no_bags (suc n) = no_bags n
+
+pub nothing_leaves : SizesAdd → (limit : ℕ) (f : FileTree) → LeavesWhatIsSent (network_of limit f)
+nothing_leaves add limit f sent none = passed_on-empty add (root_outputs f) (instances f) sent (links_of (root_items f)) (replicate (length (root_outputs f)) []) none (no_bags (length (root_outputs f)))

@@ -22,7 +22,6 @@ use Rattle.dv_plain.specs.Alone.{fires, told, told_by, sent_of, fault_of}
 use Rattle.dv_plain.specs.Shown.{IsWaitOfRun, shown, is_quiet, next_of_wait}
 use Rattle.dv_plain.specs.Source.{behaviour_of, start_of}
 use Rattle.dv_plain.proofs.Alone.{reaction-due}
-use Rattle.dv_plain.proofs.Later.{QuietNever}
 use Rattle.dv_plain.proofs.Times.{time_of-rank}
 
 -- the behaviours from a component on
@@ -60,10 +59,6 @@ pub quiet-none : (limit : ℕ) (w : Wait) → is_quiet w ≡ true → next_of_wa
 quiet-none limit (Until t) e = absurd (cc)
 quiet-none limit Forever e = refl
 quiet-none limit Quiet e = refl
-
-pub quiet-never : (limit : ℕ) (rs : List Running) → QuietNever (map (shown limit) rs)
-quiet-never limit [] = tt
-quiet-never limit (r ∷ rs) = (quiet-none limit r.wait, quiet-never limit rs)
 
 due-loud : (limit now : ℕ) (w : Wait) → is_at now (next_of_wait limit w) ≡ true → is_quiet w ≡ false
 due-loud limit now (Until t) e = refl

@@ -3,6 +3,7 @@
 
 mod component;
 mod instant;
+pub mod laws;
 pub mod run;
 
 pub use run::resultant_run;

@@ -10,7 +10,9 @@ ghost use Rattle.dv_plain.specs.Source.{network_of, trace_of};
 
 use crate::component::{Running, Wait};
 use crate::instant::run_instant;
-use dv_bag::{Part, Trace};
+use crate::laws::networks_of_texts;
+use dv_bag::laws::runs;
+use dv_bag::{Bags, Part, Trace};
 use dv_time::{Next, Time};
 use dv_tree::Tree;
 use std::alloc::{AllocError, Global};
@@ -32,6 +34,10 @@ pub fn resultant_run(
     requires greatest_limit { limit ≤ 1_000 }
     ensures { IfOk result (λ trace. trace ≡ trace_of (file_of tree.now.file) horizon limit) }
 {
+    // Between two events nothing happens, and none is missed: these are laws of every network.
+    networks_of_texts();
+    runs::next_times_rise::<Bags>();
+    runs::next_instant_is_the_least_next_time::<Bags>();
     let mut components = begin(alloc, tree, limit)?;
     let mut trace = Part::new(alloc);
     'instants: while let Next::At(now) = next_time(&components) {

@@ -1,6 +1,7 @@
 //! The syntax trees of a model text, and the parser.
 #![tactic(auto)]
 
+pub mod laws;
 pub mod parser;
 pub mod tree;
 

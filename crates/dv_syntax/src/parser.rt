@@ -7,8 +7,8 @@ mod fault;
 mod statement;
 mod token;
 
-ghost use Rattle.std.specs.Prelude.{◌≡◌, List, IfOk, IfErr, map};
-ghost use Rattle.dv_syntax.specs.Trees.{FileTree, model_of, file_of};
+ghost use Rattle.std.specs.Prelude.{◌≡◌, IfOk, IfErr, map};
+ghost use Rattle.dv_syntax.specs.Trees.{model_of, file_of};
 ghost use Rattle.dv_syntax.specs.Grammar.{IsFileOf, IsRefused};
 ghost use Rattle.dv_syntax.specs.Reading.{Gives, many_at, model_at, file_at};
 
@@ -87,9 +87,3 @@ pub fn parse(alloc: Global, tokens: &[Token], end_line: u32) -> Result<File, Loa
         Err(Fault::TooShort) => Err(refusal(Refusal::E4, end_line)),
     }
 }
-
-/// The tokens of a file are those of no other file.
-#[tactic(auto, using(crate::proofs::Models::file_unique))]
-pub fn one_tree()
-    ensures { (ts : List Token) (f g : FileTree) → IsFileOf ts f → IsFileOf ts g → f ≡ g }
-{}

@@ -6,11 +6,11 @@ use Rattle.std.specs.declared.cmp.Ordering.{Ordering}
 use Rattle.std.specs.declared.cmp.Ordering.TheVariants.{Less, Equal, Greater}
 use Rattle.std.proofs.lemmas.Bool.Decides.{nat_tests}
 use Rattle.dv_time.specs.declared.time.Time.{Time}
-use Rattle.dv_time.specs.Time.{time_cmp}
+use Rattle.dv_time.specs.Time.{time_cmp, time_text}
 use Rattle.dv_bag.specs.Part.{is_before}
 use Rattle.dv_bag.specs.declared.entry.Outer.{Outer}
 use Rattle.dv_tree.specs.Paths.{name_at}
-use Rattle.dv_text.specs.Texts.{group_text, grouped, groups_before, groups_from, port_text, put_before, time_text}
+use Rattle.dv_text.specs.Texts.{group_text, grouped, groups_before, groups_from, port_text, put_before}
 use Rattle.dv_text.specs.Writing.{first_text, other_groups}
 
 abbrev pub outer_text : List (List ℕ) → Outer → List ℕ

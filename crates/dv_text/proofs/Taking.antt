@@ -1,7 +1,8 @@
 -- What a writer took of a text, step by step.
-use Rattle.std.proofs.Common.{◌≡◌, ℕ, List, [], ◌++◌, take, drop, subst, take-append-drop, Option, None, Some, Result, Ok, Err, OnErr, refl, sym, ap, ◌∙◌, append_assoc, append-nil}
+use Rattle.std.proofs.Common.{◌≡◌, ℕ, ◌<◌, List, [], ◌++◌, length, arith, take, drop, subst, take-append-drop, Option, None, Some, Result, Ok, Err, OnErr, refl, sym, ap, ◌∙◌, append_assoc, append-nil}
+use Rattle.std.proofs.lemmas.List.{length-append}
 use Rattle.std.specs.Io.KnownBytes.{Appends}
-use Rattle.dv_text.specs.Writing.{AppendsBeginning, TakesFront}
+use Rattle.dv_text.specs.Writing.{AppendsBeginning, StopsShort, TakesFront}
 
 pub Appends-nothing : (known : Option (List ℕ)) → Appends known known []
 Appends-nothing None = tt
@@ -52,6 +53,24 @@ AppendsBeginning-nothing known text = record { rest = text; takes = TakesFront-n
 pub AppendsBeginning-after : {a b c : Option (List ℕ)} {s t : List ℕ} → TakesFront a b s t → AppendsBeginning b c t → AppendsBeginning a c s
 AppendsBeginning-after p q = record { rest = q.rest; takes = TakesFront-then p q.takes }
 
+-- a front that is not all
+pub StopsShort-from : {a b : Option (List ℕ)} {s t : List ℕ} → TakesFront a b s t → 0 < length t → StopsShort a b s
+StopsShort-from {a} {b} {s} {t} p some = record { rest = t; takes = p; more = some }
+
+pub StopsShort-after : {a b c : Option (List ℕ)} {s t : List ℕ} → TakesFront a b s t → StopsShort b c t → StopsShort a c s
+StopsShort-after p q = record { rest = q.rest; takes = TakesFront-then p q.takes; more = q.more }
+
+pub AppendsBeginning-short : {a b : Option (List ℕ)} {s : List ℕ} → StopsShort a b s → AppendsBeginning a b s
+AppendsBeginning-short p = record { rest = p.rest; takes = p.takes }
+
+-- what ends in some text is not empty
+pub some-behind : (front text : List ℕ) → 0 < length text → 0 < length (front ++ text)
+some-behind front text some = omega (arith, length-append front text)
+
+-- a beginning of a text is short of a longer one
+pub StopsShort-longer : {a b : Option (List ℕ)} {s : List ℕ} (more : List ℕ) → 0 < length more → AppendsBeginning a b s → StopsShort a b (s ++ more)
+StopsShort-longer more some p = record { rest = p.rest ++ more; takes = TakesFront-before more p.takes; more = some-behind p.rest more some }
+
 -- it is a beginning of a longer text too
 pub AppendsBeginning-longer : {a b : Option (List ℕ)} {s : List ℕ} (more : List ℕ) → AppendsBeginning a b s → AppendsBeginning a b (s ++ more)
 AppendsBeginning-longer more p = record { rest = p.rest ++ more; takes = TakesFront-before more p.takes }
@@ -87,6 +106,13 @@ AppendsBeginning-more line left text more before e next = AppendsBeginning-after
 
 pub AppendsBeginning-handed : {a b c : Option (List ℕ)} {whole : List ℕ} (line more : List ℕ) → TakesFront a b whole (line ++ more) → AppendsBeginning b c line → AppendsBeginning a c whole
 AppendsBeginning-handed line more before next = AppendsBeginning-after before (AppendsBeginning-longer more next)
+
+-- the next text failed, and more was to come
+pub StopsShort-more : {a b c : Option (List ℕ)} {whole : List ℕ} (line left text more : List ℕ) → TakesFront a b whole (line ++ left) → left ≡ text ++ more → 0 < length more → AppendsBeginning b c (line ++ text) → StopsShort a c whole
+StopsShort-more line left text more before e some next = StopsShort-after (TakesFront-left (apart line left text more e) before) (StopsShort-longer more some next)
+
+pub StopsShort-handed : {a b c : Option (List ℕ)} {whole : List ℕ} (line more : List ℕ) → TakesFront a b whole (line ++ more) → 0 < length more → AppendsBeginning b c line → StopsShort a c whole
+StopsShort-handed line more before some next = StopsShort-after before (StopsShort-longer more some next)
 
 -- nothing is left
 pub TakesFront-rest : {a b : Option (List ℕ)} {whole : List ℕ} (line more : List ℕ) → more ≡ [] → TakesFront a b whole (line ++ more) → TakesFront a b whole line

@@ -3,17 +3,14 @@ use Rattle.std.specs.Prelude.{ℕ, true, false, nat_eq, if◌then◌else◌, Lis
 use Rattle.std.specs.Fmt.{decimal, signed_decimal}
 use Rattle.std.specs.List.{flat_map}
 use Rattle.dv_time.specs.declared.time.Time.{Time}
-use Rattle.dv_time.specs.Time.{time_cmp}
+use Rattle.dv_time.specs.Time.{time_cmp, time_text}
 use Rattle.std.specs.Ordering.{is_eq}
 use Rattle.dv_tree.specs.Paths.{name_at}
 use Rattle.dv_bag.specs.Bag.{Counts, values_of, size}
 use Rattle.dv_bag.specs.Part.{PartOf, is_before}
-use Rattle.dv_bag.specs.declared.fault.Fault.{Fault}
-use Rattle.dv_bag.specs.declared.fault.Fault.TheVariants as fault
+use Rattle.dv_bag.specs.Words.{fault_word, kind_word}
 use Rattle.dv_bag.specs.declared.state.Datum.{Datum}
 use Rattle.dv_bag.specs.declared.state.Datum.TheVariants as datum
-use Rattle.dv_bag.specs.declared.entry.Kind.{Kind}
-use Rattle.dv_bag.specs.declared.entry.Kind.TheVariants as kind
 use Rattle.dv_bag.specs.declared.entry.What.{What}
 use Rattle.dv_bag.specs.declared.entry.What.TheVariants as what
 use Rattle.dv_bag.specs.declared.entry.Entry.{Entry}
@@ -25,9 +22,6 @@ pub record Shown : Type 0 where
   pub phases : List (List ℕ)
   pub variables : List (List ℕ)
   pub outputs : List (List ℕ)
-
-abbrev pub time_text : Time → List ℕ
-time_text t = decimal t.tick ++ (46 ∷ decimal t.micro)
 
 -- with a comma between them
 abbrev pub with_commas : List (List ℕ) → List ℕ
@@ -65,24 +59,9 @@ abbrev pub sent_text : List ℕ → List ℕ
 sent_text [] = []
 sent_text (c ∷ cs) = 32 ∷ 62 ∷ c ∷ cs
 
-abbrev pub kind_text : Kind → List ℕ
-kind_text kind.Internal = codes "i"
-kind_text kind.External = codes "e"
-kind_text kind.Confluent = codes "c"
-
-abbrev pub fault_text : Fault → List ℕ
-fault_text fault.Overflow = codes "overflow"
-fault_text fault.Divide = codes "divide"
-fault_text fault.Range = codes "range"
-fault_text fault.Empty = codes "empty"
-fault_text fault.Full = codes "full"
-fault_text fault.Negative = codes "negative"
-fault_text fault.Microsteps = codes "microsteps"
-fault_text fault.Flood = codes "flood"
-
 abbrev pub what_text : Shown → What → List ℕ
-what_text shown (what.Transition k s) = kind_text k ++ ((32 ∷ name_at shown.phases s.phase) ++ variables_text shown.variables s.variables)
-what_text shown (what.Fault f) = codes "fault " ++ fault_text f
+what_text shown (what.Transition k s) = kind_word k ++ ((32 ∷ name_at shown.phases s.phase) ++ variables_text shown.variables s.variables)
+what_text shown (what.Fault f) = codes "fault " ++ fault_word f
 
 abbrev pub no_words : Shown
 no_words = record { path = []; phases = []; variables = []; outputs = [] }

@@ -1,5 +1,5 @@
 -- What it is to write a text, piece by piece.
-use Rattle.std.specs.Prelude.{ℕ, ℤ, ◌≡◌, Bool, false, if◌then◌else◌, List, [], ◌∷◌, ◌++◌, Option}
+use Rattle.std.specs.Prelude.{ℕ, ℤ, ◌≡◌, ◌<◌, Bool, false, if◌then◌else◌, List, [], ◌∷◌, ◌++◌, length, Option}
 use Rattle.std.specs.Fmt.{signed_decimal}
 use Rattle.std.specs.Io.KnownBytes.{Appends}
 use Rattle.dv_time.specs.declared.time.Time.{Time}
@@ -18,6 +18,12 @@ pub record TakesFront (old new : Option (List ℕ)) (text rest : List ℕ) : Typ
 pub record AppendsBeginning (old new : Option (List ℕ)) (text : List ℕ) : Type 0 where
   pub rest : List ℕ
   pub takes : TakesFront old new text rest
+
+-- the known bytes of a writer grew by a beginning of a text, and the text goes on behind it
+pub record StopsShort (old new : Option (List ℕ)) (text : List ℕ) : Type 0 where
+  pub rest : List ℕ
+  pub takes : TakesFront old new text rest
+  pub more : 0 < length rest
 
 -- the line of the first group, and the groups after it
 abbrev pub first_text : List (Time × List ℕ) → List ℕ

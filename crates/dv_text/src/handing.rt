@@ -1,9 +1,9 @@
 //! Handing bytes to a writer.
 
-ghost use Rattle.std.specs.Prelude.{◌++◌, ◌<◌, length, OnErr, OnOk, replicate, string_bytes};
+ghost use Rattle.std.specs.Prelude.{◌++◌, ◌<◌, length, IsOk, OnErr, OnOk, replicate, string_bytes};
 ghost use Rattle.std.specs.Io.KnownBytes.{Appends};
 ghost use Rattle.dv_text.specs.Texts.{port_text, values_text};
-ghost use Rattle.dv_text.specs.Writing.{AppendsBeginning, TakesFront, values_from};
+ghost use Rattle.dv_text.specs.Writing.{AppendsBeginning, StopsShort, TakesFront, values_from};
 
 use crate::pieces::push_value;
 use crate::writing::WriteError;
@@ -16,7 +16,7 @@ const PIECE_LENGTH: usize = 65_536;
 /// Gives a writer all bytes of a piece, in as many writes as it takes. A write that failed is not tried again.
 pub fn hand_over<W: Write>(writer: &mut W, piece: &[u8]) -> Result<(), WriteError>
     ensures ok { OnOk result (Appends (W.contents writer.old) (W.contents writer.new) piece.now) }
-    ensures err { OnErr result (AppendsBeginning (W.contents writer.old) (W.contents writer.new) piece.now) }
+    ensures err { OnErr result (StopsShort (W.contents writer.old) (W.contents writer.new) piece.now) }
 {
     let mut rest = piece;
     while !rest.is_empty() {
@@ -32,7 +32,8 @@ pub fn hand_over<W: Write>(writer: &mut W, piece: &[u8]) -> Result<(), WriteErro
 pub fn hand_over_if_long<W: Write>(line: &mut String, writer: &mut W) -> Result<(), WriteError>
     ensures ok { OnOk result (TakesFront (W.contents writer.old) (W.contents writer.new) (string_bytes line.old) (string_bytes line.new)) }
     ensures short { OnOk result (length (string_bytes line.new) < PIECE_LENGTH) }
-    ensures err { OnErr result (AppendsBeginning (W.contents writer.old) (W.contents writer.new) (string_bytes line.old)) }
+    ensures waits { length (string_bytes line.old) < PIECE_LENGTH → IsOk result }
+    ensures err { OnErr result (StopsShort (W.contents writer.old) (W.contents writer.new) (string_bytes line.old)) }
 {
     if line.len() >= PIECE_LENGTH {
         hand_over(writer, line.as_bytes())?;

@@ -5,11 +5,11 @@ ghost use Rattle.std.specs.Ordering.{is_eq};
 ghost use Rattle.dv_time.specs.Time.{time_cmp};
 ghost use Rattle.dv_bag.specs.Part.{is_before};
 ghost use Rattle.std.specs.Fmt.{signed_decimal};
-ghost use Rattle.dv_text.specs.Texts.{datum_text, fault_text, kind_text, port_text, time_text, values_text};
+ghost use Rattle.dv_text.specs.Texts.{datum_text, port_text, values_text};
 ghost use Rattle.dv_text.specs.Writing.{ending_text, values_from};
 
 use crate::writing::Ending;
-use dv_bag::{Bag, Datum, Fault, Kind};
+use dv_bag::{Bag, Datum};
 use dv_time::Time;
 use std::alloc::AllocError;
 
@@ -24,37 +24,6 @@ pub fn is_same(first: Time, second: Time) -> bool
     ensures cmp { result ≡ is_eq (time_cmp first second) }
 {
     first == second
-}
-
-pub fn push_time(line: &mut String, time: Time) -> Result<(), AllocError>
-    ensures { OnOk result (string_bytes line.new ≡ string_bytes line.old ++ time_text time) }
-{
-    write!(line, "{time}")
-}
-
-pub fn push_kind(line: &mut String, kind: Kind) -> Result<(), AllocError>
-    ensures { OnOk result (string_bytes line.new ≡ string_bytes line.old ++ kind_text kind) }
-{
-    line.push(match kind {
-        Kind::Internal => 'i',
-        Kind::External => 'e',
-        Kind::Confluent => 'c',
-    })
-}
-
-pub fn push_fault(line: &mut String, fault: Fault) -> Result<(), AllocError>
-    ensures { OnOk result (string_bytes line.new ≡ string_bytes line.old ++ fault_text fault) }
-{
-    line.push_str(match fault {
-        Fault::Overflow => "overflow",
-        Fault::Divide => "divide",
-        Fault::Range => "range",
-        Fault::Empty => "empty",
-        Fault::Full => "full",
-        Fault::Negative => "negative",
-        Fault::Microsteps => "microsteps",
-        Fault::Flood => "flood",
-    })
 }
 
 /// A value, with a comma before it unless it is the first.

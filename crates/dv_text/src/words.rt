@@ -5,7 +5,7 @@ ghost use Rattle.dv_tree.specs.Paths.{name_at, texts_of};
 ghost use Rattle.dv_text.specs.Shown.{all_shown, root_ports};
 ghost use Rattle.dv_text.specs.Texts.{entry_text, ports_text, sent_text, shown_at, variables_text, what_text};
 
-use crate::pieces::{push_datum, push_fault, push_kind, push_port, push_time};
+use crate::pieces::{push_datum, push_port};
 use dv_bag::{Bags, Entry, Variables, What};
 use dv_tree::Tree;
 use std::alloc::AllocError;
@@ -104,14 +104,10 @@ fn push_what(line: &mut String, tree: &Tree, component: u32, what: &What) -> Res
 {
     match what {
         What::Transition { kind, state } => {
-            push_kind(line, *kind)?;
-            write!(line, " {}", phase_name(tree, component, state.phase))?;
+            write!(line, "{kind} {}", phase_name(tree, component, state.phase))?;
             push_variables(line, tree, variables(tree, component), &state.variables)
         }
-        What::Fault(fault) => {
-            line.push_str("fault ")?;
-            push_fault(line, *fault)
-        }
+        What::Fault(fault) => write!(line, "fault {fault}"),
     }
 }
 
@@ -119,8 +115,7 @@ fn push_what(line: &mut String, tree: &Tree, component: u32, what: &What) -> Res
 pub fn push_entry(line: &mut String, tree: &Tree, entry: &Entry) -> Result<(), AllocError>
     ensures { OnOk result (string_bytes line.new ≡ string_bytes line.old ++ entry_text (shown_at (all_shown tree.now) entry.now.component) entry.now) }
 {
-    push_time(line, entry.time)?;
-    write!(line, " {} ", path(tree, entry.component))?;
+    write!(line, "{} {} ", entry.time, path(tree, entry.component))?;
     push_what(line, tree, entry.component, &entry.what)?;
     push_sent(line, tree, outputs(tree, entry.component), &entry.sent)?;
     line.push('\n')

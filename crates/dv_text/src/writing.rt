@@ -5,10 +5,10 @@ ghost use Rattle.std.specs.Io.KnownBytes.{Appends};
 ghost use Rattle.std.specs.List.{flat_map};
 ghost use Rattle.dv_text.specs.Shown.{all_shown, root_ports};
 ghost use Rattle.dv_text.specs.Texts.{group_text, grouped, groups_before, groups_from};
-ghost use Rattle.dv_text.specs.Writing.{AppendsBeginning, TakesFront, first_text, other_groups, text_of};
+ghost use Rattle.dv_text.specs.Writing.{AppendsBeginning, StopsShort, TakesFront, first_text, other_groups, text_of};
 
 use crate::handing::{hand_over, hand_over_if_long, write_port};
-use crate::pieces::{is_before, is_same, push_end, push_time};
+use crate::pieces::{is_before, is_same, push_end};
 use crate::words::{push_entry, root_port};
 use dv_bag::{Outer, Trace};
 use dv_time::Time;
@@ -47,7 +47,7 @@ impl From<AllocError> for WriteError {
 /// # Errors
 ///
 /// `WriteError::Write` where a write failed or took nothing, `WriteError::Memory` where memory was refused. A
-/// beginning of the text was written then.
+/// beginning of the text was written then, and not all of it.
 pub fn write_trace<W: Write>(
     alloc: Global,
     trace: &Trace,
@@ -57,7 +57,7 @@ pub fn write_trace<W: Write>(
 ) -> Result<(), WriteError>
     ensures ok { OnOk result (Appends (W.contents writer.old) (W.contents writer.new)
         (text_of (all_shown tree.now) (root_ports tree.now) trace.now ending.now)) }
-    ensures err { OnErr result (AppendsBeginning (W.contents writer.old) (W.contents writer.new)
+    ensures err { OnErr result (StopsShort (W.contents writer.old) (W.contents writer.new)
         (text_of (all_shown tree.now) (root_ports tree.now) trace.now ending.now)) }
 {
     let mut line = String::new(alloc);
@@ -131,8 +131,7 @@ fn write_group<'o, W: Write>(
     let Some((first, after)) = outer.split_first() else {
         return Ok(outer);
     };
-    push_time(line, first.time)?;
-    line.push_str(" out")?;
+    write!(line, "{} out", first.time)?;
     write_port(line, writer, root_port(tree, first.port), &first.values)?;
     let mut rest = after;
     while let Some((next, after)) = rest.split_first()

@@ -1,5 +1,5 @@
 -- Ranks and times, there and back.
-use Rattle.std.proofs.Common.{◌≡◌, ℕ, ◌+◌, ◌*◌, ◌<◌, ◌≤◌, ap, arith, ◌∙◌}
+use Rattle.std.proofs.Common.{◌≡◌, ℕ, ◌+◌, ap, arith, ◌∙◌}
 use Rattle.std.proofs.lemmas.Nat.{div-mul-add, mod-mul-add}
 use Rattle.dv_time.specs.Time.{IsOfRun, rank, tick_of, micro_of, time_of}
 use Rattle.dv_time.specs.declared.time.Time.{Time}

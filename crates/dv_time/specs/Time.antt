@@ -1,6 +1,7 @@
 -- Superdense time under a microstep limit, and the natural numbers that count it.
 -- (Zeigler, Praehofer and Kim 2000; the limit is this project's.)
-use Rattle.std.specs.Prelude.{ℕ, zero, suc, ◌≡◌, ◌+◌, ◌*◌, ◌/◌, ◌%◌, ◌<◌, ◌≤◌, nat_lt, if◌then◌else◌, Option, Some, None, Result, Ok, Err}
+use Rattle.std.specs.Prelude.{ℕ, zero, suc, ◌+◌, ◌*◌, ◌/◌, ◌%◌, ◌≤◌, nat_lt, if◌then◌else◌, List, ◌∷◌, ◌++◌, Option, Some, None, Result, Ok, Err}
+use Rattle.std.specs.Fmt.{decimal}
 use Rattle.std.specs.Ordering.{nat_cmp, ordering_then}
 use Rattle.std.specs.declared.cmp.Ordering.{Ordering}
 use Rattle.dv_time.specs.declared.time.Time.{Time}
@@ -47,3 +48,7 @@ time_cmp a b = ordering_then (nat_cmp a.tick b.tick) (nat_cmp a.micro b.micro)
 abbrev pub next_rank : ℕ → Next → Option ℕ
 next_rank limit (At t) = Some (rank limit t)
 next_rank limit Never = None
+
+-- `T.K`
+abbrev pub time_text : Time → List ℕ
+time_text t = decimal t.tick ++ (46 ∷ decimal t.micro)

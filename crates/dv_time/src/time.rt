@@ -70,10 +70,10 @@ impl Time {
 }
 
 impl fmt::Display for Time {
-    ghost use Rattle.std.specs.Prelude.{Some, ◌++◌, ◌∷◌};
-    ghost use Rattle.std.specs.Fmt.{decimal};
+    ghost use Rattle.std.specs.Prelude.{Some};
+    ghost use Rattle.dv_time.specs.Time.{time_text};
 
-    ghost output = { λ t. Some (decimal t.tick ++ (46 ∷ decimal t.micro)) };
+    ghost output = { λ t. Some (time_text t) };
 
     fn fmt<W: fmt::Write>(&self, f: &mut fmt::Formatter<W>) -> fmt::Result {
         write!(f, "{}.{}", self.tick, self.micro)

@@ -2,9 +2,9 @@
 use Rattle.std.proofs.Common.{◌≡◌, ℕ, suc, ◌<◌, ◌≤◌, Bool, true, false, cond, eqb, List, [], ◌∷◌, length, map, get_or, replicate, refl, ap, sym, ◌∙◌, subst, arith}
 use Rattle.std.specs.Prelude.{Option, Some, None, option_map, slice_get, unwrap_or}
 use Rattle.std.specs.List.{filter_map, cons_option}
-use Rattle.std.proofs.lemmas.List.{set-get_or, set_past}
+use Rattle.std.proofs.lemmas.List.{get_or_default, get_or_past, set-get_or, set_past}
 use Rattle.std.proofs.Math.ListN.{set}
-use Rattle.std.proofs.lemmas.Option.{slice_get-map, slice_get_past, slice_get_read}
+use Rattle.std.proofs.lemmas.Option.{slice_get-map}
 use Rattle.dv_syntax.specs.Trees.{ModelTree, AtomicModel, FileTree, file_of}
 use Rattle.dv_syntax.specs.declared.tree.Name.{Name}
 use Rattle.dv_syntax.specs.declared.tree.Part.{Part}
@@ -14,7 +14,7 @@ use Rattle.dv_eval.specs.Scope.{Scope, nothing_declared, place_of, scope_of}
 use Rattle.dv_check.specs.Names.{parts_of}
 use Rattle.dv_tree.specs.Instances.{Instance, instances_from, instances, root_items}
 use Rattle.dv_check.specs.Couplings.{links_of}
-use Rattle.dv_tree.specs.Routing.{bag_in, bags_in, bag_of_port, sent_from, carried, exit_of, joined_at, passed_on, root_outputs, leaves}
+use Rattle.dv_tree.specs.Routing.{bag_of_port, sent_from, carried, exit_of, joined_at, passed_on, root_outputs, leaves}
 use Rattle.dv_check.specs.declared.checked.Checked.{Checked}
 use Rattle.dv_tree.specs.Tables.{Source, component_of, scope_of_model}
 use Rattle.dv_tree.specs.Exits.{part_numbers, source_of, scope_at, output_of, output_from, exit_between, exit_of_link, exits_of, sent_by, with_exit, with_exits}
@@ -22,11 +22,6 @@ use Rattle.dv_tree.specs.declared.tree.Component.{Component}
 use Rattle.dv_tree.specs.declared.tree.Exit.{Exit}
 use Rattle.dv_tree.proofs.PlaceLemmas.{place_of-cons}
 use Rattle.dv_tree.proofs.Accepted.{IsAtomicPart, AreAtomic, parts_accepted, has_place, instance_first, length-instances}
-
-bag_in-slice_get : (bags : List Counts) (port : ℕ) → bag_in (slice_get bags port) ≡ bag_at bags port
-bag_in-slice_get [] port = refl
-bag_in-slice_get (b ∷ bags) ℕ.zero = refl
-bag_in-slice_get (b ∷ bags) (suc port) = bag_in-slice_get bags port
 
 -- an exit by which nothing is sent, or whose port is not there
 pub adds_nothing : (sent : List (List Counts)) (bags : List Counts) (e : Exit) → sent_by sent e.component e.port ≡ [] → bags ≡ with_exit sent bags e
@@ -38,11 +33,11 @@ adds_past sent bags e past = sym (set_past bags e.root_port _ past)
 
 -- what is sent by a port, as the code looks it up
 pub sent_by_none : (sent : List (List Counts)) (component port : ℕ) → length sent ≤ component → sent_by sent component port ≡ []
-sent_by_none sent component port past = ap (λ o. bag_in (slice_get (bags_in o) port)) (slice_get_past sent component past)
+sent_by_none sent component port past = ap (λ bags. bag_at bags port) (get_or_past sent component [] past)
 
 pub sent_by_one : (sent : List (List Counts)) (component port : ℕ) (bags : List Counts) → component < length sent → bags ≡ get_or sent component bags → sent_by sent component port ≡ bag_at bags port
 sent_by_one sent component port bags within read =
-    ap (λ o. bag_in (slice_get (bags_in o) port)) (slice_get_read sent (length sent) component bags refl within read) ∙ bag_in-slice_get bags port
+    ap (λ b. bag_at b port) (get_or_default sent component [] bags within ∙ sym read)
 
 -- what is sent by the port of a component, where both are known
 abbrev sent_by_places : List (List Counts) → Option ℕ → Option ℕ → Counts
@@ -97,8 +92,7 @@ carried_is models parts h (Some part) port sent same = sent_from_is models parts
 
 joined_nothing : (bags : List Counts) (root_port : ℕ) (more : Counts) → more ≡ [] → bags ≡ joined_at (Some root_port) more bags
 joined_nothing bags root_port more none =
-    sym (ap (λ x. set bags root_port (union (bag_in (slice_get bags root_port)) x)) none
-    ∙ (ap (set bags root_port) (bag_in-slice_get bags root_port) ∙ set-get_or bags root_port []))
+    sym (ap (λ x. set bags root_port (union (bag_at bags root_port) x)) none ∙ set-get_or bags root_port [])
 
 exit_joins : (sent : List (List Counts)) (component port root_port : Option ℕ) (more : Counts) (bags : List Counts) (rest : List Exit) → more ≡ sent_by_places sent component port → with_exits sent bags (cons_option (exit_between component port root_port) rest) ≡ with_exits sent (joined_at root_port more bags) rest
 exit_joins sent None port None more bags rest e = refl
@@ -109,7 +103,7 @@ exit_joins sent None port (Some root_port) more bags rest e =
 exit_joins sent (Some component) None (Some root_port) more bags rest e =
     ap (λ x. with_exits sent x rest) (joined_nothing bags root_port more e)
 exit_joins sent (Some component) (Some port) (Some root_port) more bags rest e =
-    ap (λ x. with_exits sent (set bags root_port x) rest) (ap (λ x. union x (sent_by sent component port)) (sym (bag_in-slice_get bags root_port)) ∙ ap (union (bag_in (slice_get bags root_port))) (sym e))
+    ap (λ x. with_exits sent (set bags root_port x) rest) (ap (union (bag_at bags root_port)) (sym e))
 
 passed_by_exits : (models : List ModelTree) (parts : List Part) → AreAtomic models parts → (ports : List ℕ) (sent : List (List Counts)) → length sent ≡ length parts → (links : List Link) (bags : List Counts) → with_exits sent bags (filter_map (exit_of_link ports (part_numbers (map (component_of models) parts)) (map (component_of models) parts) (map scope_of_model models)) links) ≡ passed_on ports (instances_from models parts) sent links bags
 passed_by_exits models parts h ports sent same [] bags = refl

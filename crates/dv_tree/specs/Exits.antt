@@ -1,5 +1,5 @@
 -- The links of the root that lead out, as a table of numbers, and what leaves by them.
-use Rattle.std.specs.Prelude.{ℕ, List, map, slice_get, slice_set, unwrap_or, fold, Option, Some, None}
+use Rattle.std.specs.Prelude.{ℕ, List, [], map, slice_get, slice_index_or, slice_set, unwrap_or, fold, Option, Some, None}
 use Rattle.std.specs.List.{filter_map}
 use Rattle.dv_syntax.specs.Trees.{FileTree}
 use Rattle.dv_syntax.specs.declared.tree.Name.{Name}
@@ -8,7 +8,7 @@ use Rattle.dv_bag.specs.Bag.{Counts, bag_at, union}
 use Rattle.dv_eval.specs.Scope.{Scope, nothing_declared, place_of}
 use Rattle.dv_tree.specs.Instances.{root_items}
 use Rattle.dv_check.specs.Couplings.{links_of}
-use Rattle.dv_tree.specs.Routing.{bag_in, bags_in, exit_of, root_outputs}
+use Rattle.dv_tree.specs.Routing.{exit_of, root_outputs}
 use Rattle.dv_tree.specs.Tables.{components_of, scopes_of}
 use Rattle.dv_tree.specs.declared.tree.Component.{Component}
 use Rattle.dv_tree.specs.declared.tree.Exit.{Exit}
@@ -52,7 +52,7 @@ exits_of f =
 
 -- what a component sends by a port; past the last port there is nothing
 abbrev pub sent_by : List (List Counts) → ℕ → ℕ → Counts
-sent_by sent component port = bag_in (slice_get (bags_in (slice_get sent component)) port)
+sent_by sent component port = bag_at (slice_index_or sent component []) port
 
 -- with what an exit adds
 abbrev pub with_exit : List (List Counts) → List Counts → Exit → List Counts

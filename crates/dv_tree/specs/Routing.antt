@@ -1,28 +1,18 @@
 -- How values travel along the links of the root: each link carries one copy of every value, so a value arrives once for
 -- every path. (Closure under coupling.)
-use Rattle.std.specs.Prelude.{ℕ, ◌==◌, Bool, false, if◌then◌else◌, List, [], ◌∷◌, map, length, replicate, slice_get, slice_set, Option, Some, None}
+use Rattle.std.specs.Prelude.{ℕ, ◌==◌, Bool, false, if◌then◌else◌, List, [], ◌∷◌, map, length, replicate, slice_set, Option, Some, None}
 use Rattle.dv_syntax.specs.Trees.{FileTree}
 use Rattle.dv_syntax.specs.declared.tree.Name.{Name}
 use Rattle.dv_syntax.specs.declared.tree.Link.{Link}
-use Rattle.dv_bag.specs.Bag.{Counts, union}
+use Rattle.dv_bag.specs.Bag.{Counts, bag_at, union}
 use Rattle.dv_eval.specs.Scope.{scope_of, place_of}
-use Rattle.dv_syntax.specs.declared.tree.CoupledItem.{CoupledItem}
-use Rattle.dv_syntax.specs.declared.tree.CoupledItem.TheVariants as coupled
 use Rattle.dv_check.specs.Names.{ports_of_coupled}
 use Rattle.dv_check.specs.Couplings.{links_of}
 use Rattle.dv_tree.specs.Instances.{Instance, instances, root_items}
 
-abbrev pub bag_in : Option Counts → Counts
-bag_in None = []
-bag_in (Some b) = b
-
-abbrev pub bags_in : Option (List Counts) → List Counts
-bags_in None = []
-bags_in (Some bags) = bags
-
 abbrev pub bag_of_port : Option ℕ → List Counts → Counts
 bag_of_port None bags = []
-bag_of_port (Some port) bags = bag_in (slice_get bags port)
+bag_of_port (Some port) bags = bag_at bags port
 
 -- a path of one part
 abbrev pub is_part : ℕ → List ℕ → Bool
@@ -49,7 +39,7 @@ exit_of ports (Some part) port = None
 
 abbrev pub joined_at : Option ℕ → Counts → List Counts → List Counts
 joined_at None more bags = bags
-joined_at (Some port) more bags = slice_set bags port (union (bag_of_port (Some port) bags) more)
+joined_at (Some port) more bags = slice_set bags port (union (bag_at bags port) more)
 
 -- every link adds what it carries
 abbrev pub passed_on : List ℕ → List Instance → List (List Counts) → List Link → List Counts → List Counts

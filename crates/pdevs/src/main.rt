@@ -3,6 +3,8 @@
 
 mod asked;
 mod request;
+#[cfg(test)]
+mod tests;
 mod told;
 
 use asked::asked;

@@ -10,7 +10,7 @@ use Rattle.dv_tree.specs.Instances.{instances}
 use Rattle.dv_plain.specs.Alone.{fault_of, sent_of}
 use Rattle.dv_plain.specs.Shown.{shown}
 use Rattle.dv_plain.specs.Source.{behaviour_of, network_of}
-use Rattle.dv_plain.proofs.Idle.{instant-alone}
+use Rattle.dv_plain.proofs.Alone.{instant-alone}
 use Rattle.dv_plain.proofs.Steps.{components-end, components-turn, entries-end, entries-turn, length-told, reactions_from, reactions_from-step, rest-turn, same_from_drop, scope-at, told-at, told_from, waits-turn}
 use Rattle.dv_plain.proofs.instant.react_all.Goals as goal
 

@@ -2,12 +2,13 @@ use Rattle.std.specs.List.{All}
 use Rattle.dv_syntax.specs.Trees.{file_of}
 use Rattle.dv_plain.specs.declared.component.Running.{Running}
 use Rattle.dv_plain.specs.Shown.{IsWaitOfRun}
-use Rattle.dv_plain.proofs.Reached.{Reached, work}
+use Rattle.dv_plain.proofs.Reached.{Laws, Reached, work}
 use Rattle.dv_plain.proofs.run.resultant_run.Given as goal
 
--- every instant before some rank is over
+-- every instant before some rank is over, and the laws of runs are at hand
 abbrev pub invariant-instants : goal.invariant-instants
 invariant-instants l = record {
+  laws : Laws l.limit (file_of l.tree.file);
   reached : Reached l.limit (file_of l.tree.file) l.horizon l.components.items l.trace;
   waits : All (λ (r : Running). IsWaitOfRun l.limit r.wait) l.components.items;
 }

@@ -1,16 +1,14 @@
-use Rattle.std.proofs.Common.{◌++◌, ◌∷◌, [], codes, string_bytes, sym, ap, ◌∙◌, append_assoc, arith}
+use Rattle.std.proofs.Common.{◌++◌, ◌∷◌, [], codes, string_bytes, sym, ap, ◌∙◌, arith}
 use Rattle.dv_text.specs.Shown.{root_ports}
-use Rattle.dv_text.specs.Texts.{grouped, port_text, time_text}
+use Rattle.dv_time.specs.Time.{time_text}
+use Rattle.dv_text.specs.Texts.{grouped, port_text}
 use Rattle.dv_text.specs.Writing.{first_text}
 use Rattle.dv_text.proofs.Groups.{after_at-same, first_text-at, other_groups-at, outer_text, ports_at, ports_at-same}
 use Rattle.dv_text.proofs.Taking.{TakesFront-nothing, TakesFront-pushed, TakesFront-more, AppendsBeginning-nothing, AppendsBeginning-more, OnErr-always}
 use Rattle.dv_text.proofs.writing.write_group.Goals as goal
 
-pub returns-in_err-push_time-clause-err : goal.returns-in_err-push_time-clause-err
-returns-in_err-push_time-clause-err g c = OnErr-always _ (AppendsBeginning-nothing _ _)
-
-pub returns-in_err-push_str-clause-err : goal.returns-in_err-push_str-clause-err
-returns-in_err-push_str-clause-err g c = OnErr-always _ (AppendsBeginning-nothing _ _)
+pub returns-in_err-write-clause-err : goal.returns-in_err-write-clause-err
+returns-in_err-write-clause-err g c = OnErr-always _ (AppendsBeginning-nothing _ _)
 
 pub returns-in_err-write_port-clause-err : goal.returns-in_err-write_port-clause-err
 returns-in_err-write_port-clause-err g c =
@@ -20,9 +18,9 @@ returns-in_err-write_port-clause-err g c =
     let start = string_bytes c.args.line.now in
     let more = ports_at names first.time after ++ (10 ∷ []) in
     let head = first_text-at names c.args.outer.now first after c.in-Some.ensures.cases.0 in
-    let headed = c.in_ok-push_str.ensures.bytes ∙ ap (λ z. z ++ codes " out") c.in_ok-push_time.ensures ∙ append_assoc start (time_text first.time) (codes " out") in
-    let pushed = TakesFront-pushed start (string_bytes c.push_str.new.self) (first_text (grouped names c.args.outer.now)) (time_text first.time ++ codes " out") (outer_text names first ++ more) (TakesFront-nothing (g.W.Write.contents c.args.writer.now) (start ++ first_text (grouped names c.args.outer.now))) head headed in
-    OnErr-always _ (AppendsBeginning-more (string_bytes c.push_str.new.self) (outer_text names first ++ more) (port_text c.root_port.result.now first.values) more pushed (ap (λ n. port_text n first.values ++ more) (sym c.root_port.ensures)) c.in_err-write_port.ensures.err)
+    let headed = c.in_ok-write.ensures.bytes in
+    let pushed = TakesFront-pushed start (string_bytes c.write.new.self) (first_text (grouped names c.args.outer.now)) (time_text first.time ++ codes " out") (outer_text names first ++ more) (TakesFront-nothing (g.W.Write.contents c.args.writer.now) (start ++ first_text (grouped names c.args.outer.now))) head headed in
+    OnErr-always _ (AppendsBeginning-more (string_bytes c.write.new.self) (outer_text names first ++ more) (port_text c.root_port.result.now first.values) more pushed (ap (λ n. port_text n first.values ++ more) (sym c.root_port.ensures)) c.in_err-write_port.ensures.err)
 
 pub loop-next-init : goal.loop-next-init
 loop-next-init g c =
@@ -32,10 +30,10 @@ loop-next-init g c =
     let start = string_bytes c.args.line.now in
     let more = ports_at names first.time after ++ (10 ∷ []) in
     let head = first_text-at names c.args.outer.now first after c.in-Some.ensures.cases.0 in
-    let headed = c.in_ok-push_str.ensures.bytes ∙ ap (λ z. z ++ codes " out") c.in_ok-push_time.ensures ∙ append_assoc start (time_text first.time) (codes " out") in
-    let pushed = TakesFront-pushed start (string_bytes c.push_str.new.self) (first_text (grouped names c.args.outer.now)) (time_text first.time ++ codes " out") (outer_text names first ++ more) (TakesFront-nothing (g.W.Write.contents c.args.writer.now) (start ++ first_text (grouped names c.args.outer.now))) head headed in
+    let headed = c.in_ok-write.ensures.bytes in
+    let pushed = TakesFront-pushed start (string_bytes c.write.new.self) (first_text (grouped names c.args.outer.now)) (time_text first.time ++ codes " out") (outer_text names first ++ more) (TakesFront-nothing (g.W.Write.contents c.args.writer.now) (start ++ first_text (grouped names c.args.outer.now))) head headed in
     record {
-      text = TakesFront-more (string_bytes c.push_str.new.self) (string_bytes c.write_port.new.line) (outer_text names first ++ more) (port_text c.root_port.result.now first.values) more pushed (ap (λ n. port_text n first.values ++ more) (sym c.root_port.ensures)) c.in_ok-write_port.ensures.ok;
+      text = TakesFront-more (string_bytes c.write.new.self) (string_bytes c.write_port.new.line) (outer_text names first ++ more) (port_text c.root_port.result.now first.values) more pushed (ap (λ n. port_text n first.values ++ more) (sym c.root_port.ensures)) c.in_ok-write_port.ensures.ok;
       left = other_groups-at names c.args.outer.now first after c.in-Some.ensures.cases.0;
       fewer = omega (arith, c.in-Some.ensures.cases.1);
     }
