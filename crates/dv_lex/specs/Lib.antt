@@ -4,3 +4,4 @@ pub mod Reading
 pub mod Numbering
 pub mod Steps
 pub mod Texts
+pub mod Words

@@ -45,8 +45,31 @@ pub enum Refusal {
 }
 
 impl fmt::Display for Refusal {
+    ghost use Rattle.std.specs.Prelude.{Some};
+    ghost use Rattle.dv_lex.specs.Words.{refusal_word};
+
+    ghost output = { λ number. Some (refusal_word number) };
+
     fn fmt<W: fmt::Write>(&self, f: &mut fmt::Formatter<W>) -> fmt::Result {
-        write!(f, "{self:?}")
+        f.write_str(match self {
+            Refusal::E1 => "E1",
+            Refusal::E2 => "E2",
+            Refusal::E3 => "E3",
+            Refusal::E4 => "E4",
+            Refusal::E5 => "E5",
+            Refusal::E6 => "E6",
+            Refusal::E7 => "E7",
+            Refusal::E8 => "E8",
+            Refusal::E9 => "E9",
+            Refusal::E10 => "E10",
+            Refusal::E11 => "E11",
+            Refusal::E12 => "E12",
+            Refusal::E13 => "E13",
+            Refusal::E14 => "E14",
+            Refusal::E15 => "E15",
+            Refusal::E16 => "E16",
+            Refusal::E17 => "E17",
+        })
     }
 }
 
@@ -58,6 +81,11 @@ pub struct TextError {
 }
 
 impl fmt::Display for TextError {
+    ghost use Rattle.std.specs.Prelude.{Some};
+    ghost use Rattle.dv_lex.specs.Words.{error_words};
+
+    ghost output = { λ e. Some (error_words e) };
+
     fn fmt<W: fmt::Write>(&self, f: &mut fmt::Formatter<W>) -> fmt::Result {
         write!(f, "{} line {}", self.number, self.line)
     }
