@@ -18,6 +18,7 @@ use crate::items::{NameSort, declared_by};
 use crate::number_set::NumberSet;
 use dv_eval::Declaration;
 use dv_lex::Refusal;
+use dv_syntax::laws::trees_keep_blocks;
 use dv_syntax::{Item, Name, RuleSort, Stmt, Ticks, Variable};
 use std::alloc::{AllocError, Global};
 
@@ -109,6 +110,7 @@ impl Declarations {
     fn check_statement(&self, sort: RuleSort, statement: &Stmt, found: &mut Findings)
         ensures { (rest : Statements) → noted found.new (statements_refusals (known_by self.now) sort rest) ≡ noted found.old (statements_refusals (known_by self.now) sort (statement_before statement.now rest)) }
     {
+        trees_keep_blocks();
         match statement {
             Stmt::Assign { variable, value } => {
                 self.check_assigned(sort, variable, found);

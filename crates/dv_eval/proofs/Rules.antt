@@ -1,12 +1,9 @@
 -- What lists of statements do, one statement at a time.
-use Rattle.std.proofs.Common.{◌≡◌, ℕ, ◌+◌, ◌<◌, ◌≤◌, true, false, List, length, get_or, drop, set, Option, Some, Result, Ok, Err, refl, sym, ap, ◌∙◌, ℤ, if◌then◌else◌}
-use mathlib.Core.Former.{Count}
+use Rattle.std.proofs.Common.{◌≡◌, ℕ, ◌+◌, ◌<◌, ◌≤◌, Bool, true, List, length, get_or, drop, set, Option, Some, Result, Ok, Err, refl, sym, ap, ◌∙◌, ℤ, if◌then◌else◌}
 use Rattle.std.proofs.lemmas.List.{at_drop_more, set_past}
-use Rattle.dv_syntax.specs.declared.tree.Expr.{Expr}
-use Rattle.dv_syntax.specs.declared.tree.Block.{Block}
 use Rattle.dv_syntax.specs.declared.tree.Stmt.{Stmt, Row_of-Stmt, end_of-Stmt, more_of-Stmt, items-the_row-Stmt, items_hidden-the_row-Stmt-0}
 use Rattle.dv_syntax.specs.declared.tree.Stmt as stmt
-use Rattle.dv_syntax.specs.Trees.{Statements, Done, If, IfElse, expression_of, statement_before, row_statements, statements_of}
+use Rattle.dv_syntax.specs.Trees.{Expression, Statements, Done, If, IfElse, expression_of, statement_before, row_statements, statements_of}
 use Rattle.dv_bag.specs.Behaviour.{◌>>=◌}
 use Rattle.dv_bag.specs.Bag.{Counts, total_of_all, bag_at, with_copies}
 use Rattle.dv_bag.specs.Outcome.{Fails}
@@ -19,32 +16,6 @@ use Rattle.dv_bag.specs.declared.value.Value.{Value}
 use Rattle.std.proofs.lemmas.Bool.{lt-leb}
 use Rattle.dv_eval.specs.Scope.{Scope, place_of}
 use Rattle.dv_eval.specs.Meaning.{run, meaning, assigned, sends, sent_at, number_of, truth_of}
-
--- a block in the code's tree, as a list
-statements_of-row : (n : Count) (row : Row_of-Stmt n) → statements_of (items-the_row-Stmt n row) ≡ row_statements row
-statements_of-row n end_of-Stmt = refl
-statements_of-row n (more_of-Stmt s rest) = ap (statement_before s) (statements_of-row _ rest)
-
-abbrev then_row : Stmt → (n : Count) × Row_of-Stmt n
-then_row (stmt.If' line e shape block) = (_, block)
-then_row (stmt.IfElse' line e shape block other_shape other) = (_, block)
-then_row _ = (_, end_of-Stmt)
-
-abbrev else_row : Stmt → (n : Count) × Row_of-Stmt n
-else_row (stmt.IfElse' line e shape block other_shape other) = (_, other)
-else_row _ = (_, end_of-Stmt)
-
-pub statement_before-If : (line : ℕ) (e : Expr) (block : Block) (rest : Statements) → statement_before (stmt.If line e block) rest ≡ If line (expression_of e) (statements_of block.statements.items) rest
-statement_before-If line e block rest =
-    let row = then_row (stmt.If line e block) in
-    ap (λ b. If line (expression_of e) b rest) (sym (statements_of-row row.0 row.1) ∙ ap statements_of (items_hidden-the_row-Stmt-0 block.statements))
-
-pub statement_before-IfElse : (line : ℕ) (e : Expr) (block other : Block) (rest : Statements) → statement_before (stmt.IfElse line e block other) rest ≡ IfElse line (expression_of e) (statements_of block.statements.items) (statements_of other.statements.items) rest
-statement_before-IfElse line e block other rest =
-    let row = then_row (stmt.IfElse line e block other) in
-    let other_row = else_row (stmt.IfElse line e block other) in
-    ap (λ b. IfElse line (expression_of e) b (row_statements other_row.1) rest) (sym (statements_of-row row.0 row.1) ∙ ap statements_of (items_hidden-the_row-Stmt-0 block.statements))
-    ∙ ap (λ b. IfElse line (expression_of e) (statements_of block.statements.items) b rest) (sym (statements_of-row other_row.0 other_row.1) ∙ ap statements_of (items_hidden-the_row-Stmt-0 other.statements))
 
 -- to go on with a value is to keep it and then go on
 bind_kept : {A B : Type 0} (m : Result A Fault) (k : A → Result B Fault) → (m >>= k) ≡ ((m >>= λ x. Ok x) >>= k)
@@ -103,31 +74,16 @@ bind_ok : {A : Type 0} (m : Result A Fault) → (m >>= λ x. Ok x) ≡ m
 bind_ok (Ok x) = refl
 bind_ok (Err f) = refl
 
-pub run-If : (scope : Scope) (s : Stmt) (line : ℕ) (e : Expr) (block : Block) (items : List Stmt) (effect : Effect) (v : Value) → s ≡ stmt.If line e block → items ≡ block.statements.items → meaning scope effect.state (expression_of e) ≡ Ok v → truth_of v ≡ true → run scope (statement_before s Done) effect ≡ run scope (statements_of items) effect
-run-If scope s line e block items effect v is of value holds =
-    ap (λ x. run scope (statement_before x Done) effect) is
-    ∙ ap (λ x. run scope x effect) (statement_before-If line e block Done)
-    ∙ ap (λ m. m >>= λ x. (if truth_of x then run scope (statements_of block.statements.items) effect else Ok effect) >>= λ y. Ok y) value
-    ∙ ap (λ b. (if b then run scope (statements_of block.statements.items) effect else Ok effect) >>= λ y. Ok y) holds
-    ∙ bind_ok (run scope (statements_of block.statements.items) effect)
-    ∙ ap (λ x. run scope (statements_of x) effect) (sym of)
+pub run-If : (scope : Scope) (s : Stmt) (line : ℕ) (e : Expression) (block : Statements) (effect : Effect) (v : Value) → statement_before s Done ≡ If line e block Done → meaning scope effect.state e ≡ Ok v → truth_of v ≡ true → run scope (statement_before s Done) effect ≡ run scope block effect
+run-If scope s line e block effect v tree value holds =
+    ap (λ x. run scope x effect) tree
+    ∙ ap (λ m. m >>= λ x. (if truth_of x then run scope block effect else Ok effect) >>= λ y. Ok y) value
+    ∙ ap (λ b. (if b then run scope block effect else Ok effect) >>= λ y. Ok y) holds
+    ∙ bind_ok (run scope block effect)
 
-run_IfElse : (scope : Scope) (s : Stmt) (line : ℕ) (e : Expr) (block other : Block) (effect : Effect) (v : Value) → s ≡ stmt.IfElse line e block other → meaning scope effect.state (expression_of e) ≡ Ok v → run scope (statement_before s Done) effect ≡ ((if truth_of v then run scope (statements_of block.statements.items) effect else run scope (statements_of other.statements.items) effect) >>= λ y. Ok y)
-run_IfElse scope s line e block other effect v is value =
-    ap (λ x. run scope (statement_before x Done) effect) is
-    ∙ ap (λ x. run scope x effect) (statement_before-IfElse line e block other Done)
-    ∙ ap (λ m. m >>= λ x. (if truth_of x then run scope (statements_of block.statements.items) effect else run scope (statements_of other.statements.items) effect) >>= λ y. Ok y) value
-
-pub run-IfElse_true : (scope : Scope) (s : Stmt) (line : ℕ) (e : Expr) (block other : Block) (items : List Stmt) (effect : Effect) (v : Value) → s ≡ stmt.IfElse line e block other → items ≡ block.statements.items → meaning scope effect.state (expression_of e) ≡ Ok v → truth_of v ≡ true → run scope (statement_before s Done) effect ≡ run scope (statements_of items) effect
-run-IfElse_true scope s line e block other items effect v is of value holds =
-    run_IfElse scope s line e block other effect v is value
-    ∙ ap (λ b. (if b then run scope (statements_of block.statements.items) effect else run scope (statements_of other.statements.items) effect) >>= λ y. Ok y) holds
-    ∙ bind_ok (run scope (statements_of block.statements.items) effect)
-    ∙ ap (λ x. run scope (statements_of x) effect) (sym of)
-
-pub run-IfElse_false : (scope : Scope) (s : Stmt) (line : ℕ) (e : Expr) (block other : Block) (items : List Stmt) (effect : Effect) (v : Value) → s ≡ stmt.IfElse line e block other → items ≡ other.statements.items → meaning scope effect.state (expression_of e) ≡ Ok v → truth_of v ≡ false → run scope (statement_before s Done) effect ≡ run scope (statements_of items) effect
-run-IfElse_false scope s line e block other items effect v is of value holds =
-    run_IfElse scope s line e block other effect v is value
-    ∙ ap (λ b. (if b then run scope (statements_of block.statements.items) effect else run scope (statements_of other.statements.items) effect) >>= λ y. Ok y) holds
-    ∙ bind_ok (run scope (statements_of other.statements.items) effect)
-    ∙ ap (λ x. run scope (statements_of x) effect) (sym of)
+pub run-IfElse : (scope : Scope) (s : Stmt) (line : ℕ) (e : Expression) (block other : Statements) (effect : Effect) (v : Value) (holds : Bool) → statement_before s Done ≡ IfElse line e block other Done → meaning scope effect.state e ≡ Ok v → truth_of v ≡ holds → run scope (statement_before s Done) effect ≡ (if holds then run scope block effect else run scope other effect)
+run-IfElse scope s line e block other effect v holds tree value is =
+    ap (λ x. run scope x effect) tree
+    ∙ ap (λ m. m >>= λ x. (if truth_of x then run scope block effect else run scope other effect) >>= λ y. Ok y) value
+    ∙ ap (λ b. (if b then run scope block effect else run scope other effect) >>= λ y. Ok y) is
+    ∙ bind_ok (if holds then run scope block effect else run scope other effect)

@@ -8,6 +8,7 @@ ghost use Rattle.dv_eval.specs.Meaning.{assigned, effect_of, goes_to, meaning, r
 use crate::env::Env;
 use crate::expression::{eval, number_of, truth_of};
 use dv_bag::{Bags, Effect, Fault, RuleError, State, Value};
+use dv_syntax::laws::trees_keep_blocks;
 use dv_syntax::{Expr, Stmt};
 use std::alloc::Global;
 
@@ -51,6 +52,7 @@ fn run(statements: &[Stmt], env: &Env, mut effect: Effect) -> Result<Effect, Rul
 fn run_statement(statement: &Stmt, env: &Env, effect: Effect) -> Result<Effect, RuleError>
     ensures { Gives result (run env.now (statement_before statement.now Done) effect) }
 {
+    trees_keep_blocks();
     match statement {
         Stmt::Assign { variable, value } => {
             let value = value_of(value, &effect.state, env)?;

@@ -5,3 +5,4 @@ pub mod Climbing
 pub mod Statements
 pub mod Models
 pub mod Rows
+pub mod Blocks

@@ -1,7 +1,8 @@
-use Rattle.std.proofs.Common.{sym, ◌∙◌, subst}
+use Rattle.std.proofs.Common.{ap, sym, ◌∙◌, subst, true, false}
+use Rattle.dv_syntax.specs.Trees.{Done, If, IfElse, expression_of, statement_before, statements_of}
 use Rattle.std.proofs.lemmas.Result.{err_from_is_err_and}
 use Rattle.dv_bag.specs.Outcome.{Gives}
-use Rattle.dv_eval.proofs.Rules.{run-drop_ok, run-drop_err, run-If, run-IfElse_true, run-IfElse_false}
+use Rattle.dv_eval.proofs.Rules.{run-drop_ok, run-drop_err, run-If, run-IfElse}
 use Rattle.dv_eval.proofs.rule.+run.Goals as goal
 
 pub run-returns-in_err-effect : goal.run-returns-in_err-effect
@@ -16,15 +17,35 @@ run-loop-statement-preserved t c =
 
 pub run_statement-returns-then-truth_of : goal.run_statement-returns-then-truth_of
 run_statement-returns-then-truth_of t c =
+    let line = c.in-If.line in
+    let e = c.in-If.condition in
+    let tree =
+    ap (λ s. statement_before s Done) c.in-If.is
+    ∙ c.trees_keep_blocks.ensures.alone line e c.in-If.then_block Done
+    ∙ ap (λ items. If line (expression_of e) (statements_of items) Done) (sym c.deref.ensures.value) in
     let holds = sym c.truth_of.ensures ∙ c.if-truth_of.true in
-    subst (Gives c.run.result) (sym (run-If c.args.env.now c.args.statement.now c.in-If.line c.in-If.condition c.in-If.then_block c.deref.result.now c.args.effect c.in_ok-condition-in-If.condition c.in-If.is c.deref.ensures.value c.in_ok-condition-in-If.ensures holds)) c.run.ensures
+    subst (Gives c.run.result) (sym (run-If c.args.env.now c.args.statement.now line (expression_of e) (statements_of c.deref.result.now) c.args.effect c.in_ok-condition-in-If.condition tree c.in_ok-condition-in-If.ensures holds)) c.run.ensures
 
 pub run_statement-returns-then-truth_of-2 : goal.run_statement-returns-then-truth_of-2
 run_statement-returns-then-truth_of-2 t c =
+    let line = c.in-IfElse.line in
+    let e = c.in-IfElse.condition in
+    let other = statements_of c.in-IfElse.else_block.statements.items in
+    let tree =
+    ap (λ s. statement_before s Done) c.in-IfElse.is
+    ∙ c.trees_keep_blocks.ensures.with_else line e c.in-IfElse.then_block c.in-IfElse.else_block Done
+    ∙ ap (λ items. IfElse line (expression_of e) (statements_of items) other Done) (sym c.deref-then-truth_of-2.ensures.value) in
     let holds = sym c.truth_of-in-IfElse.ensures ∙ c.if-truth_of-2.true in
-    subst (Gives c.run-then-truth_of-2.result) (sym (run-IfElse_true c.args.env.now c.args.statement.now c.in-IfElse.line c.in-IfElse.condition c.in-IfElse.then_block c.in-IfElse.else_block c.deref-then-truth_of-2.result.now c.args.effect c.in_ok-condition-in-IfElse.condition c.in-IfElse.is c.deref-then-truth_of-2.ensures.value c.in_ok-condition-in-IfElse.ensures holds)) c.run-then-truth_of-2.ensures
+    subst (Gives c.run-then-truth_of-2.result) (sym (run-IfElse c.args.env.now c.args.statement.now line (expression_of e) (statements_of c.deref-then-truth_of-2.result.now) other c.args.effect c.in_ok-condition-in-IfElse.condition true tree c.in_ok-condition-in-IfElse.ensures holds)) c.run-then-truth_of-2.ensures
 
 pub run_statement-returns-else-truth_of-2 : goal.run_statement-returns-else-truth_of-2
 run_statement-returns-else-truth_of-2 t c =
+    let line = c.in-IfElse.line in
+    let e = c.in-IfElse.condition in
+    let block = statements_of c.in-IfElse.then_block.statements.items in
+    let tree =
+    ap (λ s. statement_before s Done) c.in-IfElse.is
+    ∙ c.trees_keep_blocks.ensures.with_else line e c.in-IfElse.then_block c.in-IfElse.else_block Done
+    ∙ ap (λ items. IfElse line (expression_of e) block (statements_of items) Done) (sym c.deref-else-truth_of-2.ensures.value) in
     let fails = sym c.truth_of-in-IfElse.ensures ∙ c.if-truth_of-2.false in
-    subst (Gives c.run-else-truth_of-2.result) (sym (run-IfElse_false c.args.env.now c.args.statement.now c.in-IfElse.line c.in-IfElse.condition c.in-IfElse.then_block c.in-IfElse.else_block c.deref-else-truth_of-2.result.now c.args.effect c.in_ok-condition-in-IfElse.condition c.in-IfElse.is c.deref-else-truth_of-2.ensures.value c.in_ok-condition-in-IfElse.ensures fails)) c.run-else-truth_of-2.ensures
+    subst (Gives c.run-else-truth_of-2.result) (sym (run-IfElse c.args.env.now c.args.statement.now line (expression_of e) block (statements_of c.deref-else-truth_of-2.result.now) c.args.effect c.in_ok-condition-in-IfElse.condition false tree c.in_ok-condition-in-IfElse.ensures fails)) c.run-else-truth_of-2.ensures
