@@ -10,8 +10,6 @@ pub mod fault;
 pub mod laws;
 pub mod part;
 pub mod state;
-#[cfg(test)]
-mod tests;
 pub mod value;
 
 pub use bag::{Bag, Bags};

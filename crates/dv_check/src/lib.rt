@@ -20,8 +20,6 @@ mod number_set;
 mod parts;
 mod repeats;
 mod starts;
-#[cfg(test)]
-mod tests;
 
 pub use checked::Checked;
 pub use checker::check;

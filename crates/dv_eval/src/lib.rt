@@ -6,8 +6,6 @@ pub mod expression;
 pub mod laws;
 pub mod model;
 pub mod rule;
-#[cfg(test)]
-mod tests;
 
 pub use env::{Declaration, Env};
 pub use expression::eval;

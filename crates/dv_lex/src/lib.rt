@@ -16,6 +16,3 @@ pub use error::{LoadError, Refusal, TextError};
 pub use lexer::{GREATEST_LENGTH, line_after, tokens};
 pub use names::Names;
 pub use token::{Keyword, Symbol, Token, TokenKind, Tokens};
-
-#[cfg(test)]
-mod tests;

@@ -43,6 +43,20 @@ fn failing_at(alloc: Global, fails_at: usize) -> Reluctant {
     }
 }
 
+/// A writer that takes nothing.
+#[derive(Drop)]
+struct Full;
+
+impl Write for Full {
+    fn write(&mut self, _buf: &[u8]) -> io::Result<usize> {
+        Ok(0)
+    }
+
+    fn flush(&mut self) -> io::Result<()> {
+        Ok(())
+    }
+}
+
 const WHOLE: &[u8; 76] =
     b"5.0 t i run n=1 > beat:0\n5.0 out o:0\n10.0 t i run n=2 > beat:1\n10.0 out o:1\n";
 
@@ -65,10 +79,19 @@ fn a_writer_that_fails_at_a_call(rt: HostRuntime) -> Result<(), Fail> {
         let ended = run_plain(rt.alloc(), CLOCK.as_bytes(), &options, &mut writer);
         assert!(rt; matches!(ended, Err(JobError::Write)), "call {n}");
         assert_eq!(rt; writer.bytes.len(), n - 1);
+        assert_eq!(rt; writer.calls, n, "a call that failed is not made again");
         assert!(rt;
             WHOLE.as_slice().starts_with(writer.bytes.as_slice()),
             "call {n}"
         );
     }
+    Ok(())
+}
+
+#[test]
+fn a_writer_that_takes_nothing(rt: HostRuntime) -> Result<(), Fail> {
+    let options = Options::new(12, 20, None, None, 16).ok_or("options")?;
+    let ended = run_plain(rt.alloc(), CLOCK.as_bytes(), &options, &mut Full);
+    assert!(rt; matches!(ended, Err(JobError::Write)));
     Ok(())
 }

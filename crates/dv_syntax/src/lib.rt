@@ -10,6 +10,3 @@ pub use tree::{
     Atomic, Block, Bound, Coupled, CoupledItem, End, Expr, File, Item, Link, Model, Name, Number,
     Operator, Part, RuleSort, Stmt, Ticks, Variable,
 };
-
-#[cfg(test)]
-mod tests;

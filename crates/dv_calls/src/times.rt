@@ -2,7 +2,7 @@
 
 ghost use Rattle.std.specs.Prelude.{◌≡◌};
 
-use crate::{Microsteps, Time};
+use dv_time::{Microsteps, Time};
 use std::test::Fail;
 
 fn at(tick: u64, micro: u32) -> Time

@@ -1,7 +1,7 @@
 //! Calls with ample memory, and what the description of the language says of them.
 
-use crate::{Env, eval, hold, run_rule, start_state};
 use dv_bag::{Datum, Fault, Value};
+use dv_eval::{Env, eval, hold, run_rule, start_state};
 use dv_syntax::{Atomic, Bound, Expr, Item, Name, Number, Operator, Stmt, Ticks, Variable};
 use std::alloc::{AllocError, Global};
 use std::test::Fail;

@@ -1,4 +1,6 @@
-use crate::{
+//! From texts to tokens.
+
+use dv_lex::{
     GREATEST_LENGTH, Keyword, LoadError, Names, Refusal, Symbol, TextError, Token, TokenKind,
     line_after, tokens,
 };

@@ -1,11 +1,8 @@
 //! What lies outside the proofs: that the calls succeed, and that the definitions say what is meant.
 
-use crate::bag::{Bag, Bags};
-use crate::entry::{Entry, Kind, Outer, What};
-use crate::fault::{Fault, RuleError};
-use crate::laws;
-use crate::part::Part;
-use crate::state::{Datum, State, Variables};
+use dv_bag::{
+    Bag, Bags, Datum, Entry, Fault, Kind, Outer, Part, RuleError, State, Variables, What, laws,
+};
 use dv_time::Time;
 use std::alloc::Global;
 use std::test::Fail;

@@ -1,7 +1,7 @@
 //! Each token of these texts stands on a line of its own, so a refusal's line is the number of its token.
 
-use super::*;
 use dv_lex::{Keyword, LoadError, Refusal, Symbol, TextError, Token, TokenKind};
+use dv_syntax::{File, parse};
 use std::alloc::{AllocError, Global};
 use std::test::Fail;
 

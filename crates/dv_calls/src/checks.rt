@@ -1,6 +1,6 @@
 //! Calls with ample memory: a text that breaks no rule, and texts that break one.
 
-use crate::check;
+use dv_check::check;
 use dv_lex::{LoadError, Names, Refusal, TextError};
 use dv_syntax::{
     Atomic, Bound, Coupled, CoupledItem, Expr, File, Item, Model, Name, Number, Operator, Part,
