@@ -1,5 +1,5 @@
 -- A bag as its ascending pairs: where a value stands, and what an edit there does.
-use Rattle.std.proofs.Common.{length-set, append-nil, drop, ◌≡◌, ◌⊎◌, inl, inr, Bool, true, false, ℕ, suc, zero, ◌+◌, ◌-◌, ◌^◌, ◌<◌, ◌≤◌, [], ◌∷◌, length, get_or, set, ℤ, pos, ◌<ℤ◌, Result, Ok, Err, Some, IfOk, IfErr, refl, sym, ap, ◌∙◌, subst, arith, cond, nat_eq}
+use Rattle.std.proofs.Common.{length-set, append-nil, drop, ◌≡◌, ◌⊎◌, inl, inr, Bool, true, false, ℕ, suc, zero, ◌+◌, ◌-◌, ◌^◌, ◌<◌, ◌≤◌, List, [], ◌∷◌, length, get_or, set, ℤ, pos, ◌<ℤ◌, Result, Ok, Err, Some, IfOk, IfErr, refl, sym, ap, ◌∙◌, subst, arith, cond, nat_eq}
 use Rattle.std.specs.List.{insert, remove, refill}
 use Rattle.std.specs.List.Sorted.{IsSearchInRange, IsBinarySearchResult, IsNonDecreasingBy}
 use Rattle.std.specs.Ordering.{int_cmp, match_ordering, MatchOrdering, ordering_index}
@@ -11,7 +11,7 @@ use Rattle.std.proofs.lemmas.Bool.{cases_lt}
 use Rattle.std.proofs.lemmas.Bool.Decides.{nat_tests}
 use Rattle.std.proofs.lemmas.List.{at_drop_more, drop_all, take_all}
 use Rattle.std.proofs.lemmas.List.Sorted.{IsNonDecreasingBy-from_default}
-use Rattle.dv_bag.specs.Bag.{Counts, IsAbove, IsBag, capped, count_of, most, place_of, union, with_copies, without_one}
+use Rattle.dv_bag.specs.Bag.{Counts, IsAbove, IsBag, capped, count_of, most, place_of, union, with_copies, with_some, without_one}
 
 -- the comparison of two numbers, from their order
 pub cmp_less : (v w : ℤ) → v <ℤ w → int_cmp v w ≡ Less
@@ -110,21 +110,21 @@ copies_at_place v (p ∷ ps) h = step (int_cmp v p.0) h (copies_at_place v ps)
     step Greater h rest = rest h
 
 -- more copies of a value that is there
-pub with_copies_present : (v : ℤ) (n : ℕ) (b : Counts) → 0 < count_of v b → with_copies v n b ≡ set b (place_of v b) (v, capped (count_of v b + n))
-with_copies_present v n [] h = absurd (omega arith)
-with_copies_present v n (p ∷ ps) h = step (int_cmp v p.0) (int_ranked v p.0 _ refl) h (with_copies_present v n ps)
+pub with_some_present : (v : ℤ) (n : ℕ) (b : Counts) → 0 < count_of v b → with_some v n b ≡ set b (place_of v b) (v, capped (count_of v b + n))
+with_some_present v n [] h = absurd (omega arith)
+with_some_present v n (p ∷ ps) h = step (int_cmp v p.0) (int_ranked v p.0 _ refl) h (with_some_present v n ps)
   where
-    step : (o : Ordering) → MatchOrdering o (v <ℤ p.0) (v ≡ p.0) (p.0 <ℤ v) → 0 < match_ordering o 0 p.1 (count_of v ps) → (0 < count_of v ps → with_copies v n ps ≡ set ps (place_of v ps) (v, capped (count_of v ps + n))) → match_ordering o ((v, capped n) ∷ p ∷ ps) ((p.0, capped (p.1 + n)) ∷ ps) (p ∷ with_copies v n ps) ≡ set (p ∷ ps) (match_ordering o 0 0 (suc (place_of v ps))) (v, capped (match_ordering o 0 p.1 (count_of v ps) + n))
+    step : (o : Ordering) → MatchOrdering o (v <ℤ p.0) (v ≡ p.0) (p.0 <ℤ v) → 0 < match_ordering o 0 p.1 (count_of v ps) → (0 < count_of v ps → with_some v n ps ≡ set ps (place_of v ps) (v, capped (count_of v ps + n))) → match_ordering o ((v, capped n) ∷ p ∷ ps) ((p.0, capped (p.1 + n)) ∷ ps) (p ∷ with_some v n ps) ≡ set (p ∷ ps) (match_ordering o 0 0 (suc (place_of v ps))) (v, capped (match_ordering o 0 p.1 (count_of v ps) + n))
     step Less m h rest = absurd (omega arith)
     step Equal m h rest = ap (λ (w : ℤ). (w, capped (p.1 + n)) ∷ ps) (sym m)
     step Greater m h rest = ap (λ qs. p ∷ qs) (rest h)
 
 -- copies of a value that is not there
-pub with_copies_absent : (v : ℤ) (n : ℕ) (b : Counts) → IsBag b → count_of v b ≡ 0 → with_copies v n b ≡ insert b (place_of v b) (v, capped n)
-with_copies_absent v n [] bag h = refl
-with_copies_absent v n (p ∷ ps) bag h = step (int_cmp v p.0) h (with_copies_absent v n ps (bag_from_above p.0 ps bag.2))
+pub with_some_absent : (v : ℤ) (n : ℕ) (b : Counts) → IsBag b → count_of v b ≡ 0 → with_some v n b ≡ insert b (place_of v b) (v, capped n)
+with_some_absent v n [] bag h = refl
+with_some_absent v n (p ∷ ps) bag h = step (int_cmp v p.0) h (with_some_absent v n ps (bag_from_above p.0 ps bag.2))
   where
-    step : (o : Ordering) → match_ordering o 0 p.1 (count_of v ps) ≡ 0 → (count_of v ps ≡ 0 → with_copies v n ps ≡ insert ps (place_of v ps) (v, capped n)) → match_ordering o ((v, capped n) ∷ p ∷ ps) ((p.0, capped (p.1 + n)) ∷ ps) (p ∷ with_copies v n ps) ≡ insert (p ∷ ps) (match_ordering o 0 0 (suc (place_of v ps))) (v, capped n)
+    step : (o : Ordering) → match_ordering o 0 p.1 (count_of v ps) ≡ 0 → (count_of v ps ≡ 0 → with_some v n ps ≡ insert ps (place_of v ps) (v, capped n)) → match_ordering o ((v, capped n) ∷ p ∷ ps) ((p.0, capped (p.1 + n)) ∷ ps) (p ∷ with_some v n ps) ≡ insert (p ∷ ps) (match_ordering o 0 0 (suc (place_of v ps))) (v, capped n)
     step Less h rest = refl
     step Equal h rest = absurd (omega (arith, bag.0))
     step Greater h rest = ap (λ qs. p ∷ qs) (rest h)
@@ -154,23 +154,23 @@ without_one_absent v (p ∷ ps) bag h = step (int_cmp v p.0) h (without_one_abse
     step Greater h rest = ap (λ qs. p ∷ qs) (rest h)
 
 -- the edits keep a bag a bag
-pub with_copies_above : (low v : ℤ) (n : ℕ) (b : Counts) → low <ℤ v → 0 < n → IsAbove low b → IsAbove low (with_copies v n b)
-with_copies_above low v n [] lt more h = (lt, omega arith, omega arith, tt)
-with_copies_above low v n (p ∷ ps) lt more h = step (int_cmp v p.0) (int_ranked v p.0 _ refl) (λ m. with_copies_above p.0 v n ps m more h.3)
+pub with_some_above : (low v : ℤ) (n : ℕ) (b : Counts) → low <ℤ v → 0 < n → IsAbove low b → IsAbove low (with_some v n b)
+with_some_above low v n [] lt more h = (lt, omega arith, omega arith, tt)
+with_some_above low v n (p ∷ ps) lt more h = step (int_cmp v p.0) (int_ranked v p.0 _ refl) (λ m. with_some_above p.0 v n ps m more h.3)
   where
-    step : (o : Ordering) → MatchOrdering o (v <ℤ p.0) (v ≡ p.0) (p.0 <ℤ v) → (p.0 <ℤ v → IsAbove p.0 (with_copies v n ps)) → IsAbove low (match_ordering o ((v, capped n) ∷ p ∷ ps) ((p.0, capped (p.1 + n)) ∷ ps) (p ∷ with_copies v n ps))
+    step : (o : Ordering) → MatchOrdering o (v <ℤ p.0) (v ≡ p.0) (p.0 <ℤ v) → (p.0 <ℤ v → IsAbove p.0 (with_some v n ps)) → IsAbove low (match_ordering o ((v, capped n) ∷ p ∷ ps) ((p.0, capped (p.1 + n)) ∷ ps) (p ∷ with_some v n ps))
     step Less m rest = (lt, omega arith, omega arith, (m, h.1, h.2, h.3))
     step Equal m rest = (h.0, omega (arith, h.1), omega arith, h.3)
     step Greater m rest = (h.0, h.1, h.2, rest m)
 
-pub with_copies_bag : (v : ℤ) (n : ℕ) (b : Counts) → 0 < n → IsBag b → IsBag (with_copies v n b)
-with_copies_bag v n [] more h = (omega arith, omega arith, tt)
-with_copies_bag v n (p ∷ ps) more h = step (int_cmp v p.0) (int_ranked v p.0 _ refl)
+pub with_some_bag : (v : ℤ) (n : ℕ) (b : Counts) → 0 < n → IsBag b → IsBag (with_some v n b)
+with_some_bag v n [] more h = (omega arith, omega arith, tt)
+with_some_bag v n (p ∷ ps) more h = step (int_cmp v p.0) (int_ranked v p.0 _ refl)
   where
-    step : (o : Ordering) → MatchOrdering o (v <ℤ p.0) (v ≡ p.0) (p.0 <ℤ v) → IsBag (match_ordering o ((v, capped n) ∷ p ∷ ps) ((p.0, capped (p.1 + n)) ∷ ps) (p ∷ with_copies v n ps))
+    step : (o : Ordering) → MatchOrdering o (v <ℤ p.0) (v ≡ p.0) (p.0 <ℤ v) → IsBag (match_ordering o ((v, capped n) ∷ p ∷ ps) ((p.0, capped (p.1 + n)) ∷ ps) (p ∷ with_some v n ps))
     step Less m = (omega arith, omega arith, (m, h.0, h.1, h.2))
     step Equal m = (omega (arith, h.0), omega arith, h.2)
-    step Greater m = (h.0, h.1, with_copies_above p.0 v n ps m more h.2)
+    step Greater m = (h.0, h.1, with_some_above p.0 v n ps m more h.2)
 
 more_than_one : (n : ℕ) → 0 < n → nat_eq n 1 ≡ false → 0 < n - 1
 more_than_one n h e = grind (arith, nat_tests)
@@ -196,10 +196,23 @@ without_one_bag v (p ∷ ps) h = step (int_cmp v p.0) (nat_eq p.1 1) refl
     step Greater t e = (h.0, h.1, without_one_above p.0 v ps h.2)
 
 -- a write into a slice of a vector leaves the vector with that element
-pub refill-set : (b : Counts) (i : ℕ) (p : ℤ × ℕ) → refill (length b) b (set b i p) ≡ set b i p
+pub refill-set : {X : Type 0} (b : List X) (i : ℕ) (p : X) → refill (length b) b (set b i p) ≡ set b i p
 refill-set b i p =
     let n = length-set b i p in
     rw (n, drop_all (length b) b (omega arith), append-nil, take_all (length b) (set b i p) (omega arith)) refl
+
+-- copies of which there is one at least
+pub some_copies : (v : ℤ) (n : ℕ) (b : Counts) → 0 < n → with_copies v n b ≡ with_some v n b
+some_copies v zero b more = absurd (omega arith)
+some_copies v (suc n) b more = refl
+
+-- what holds of a bag as it is, and with some copies more, holds with any copies more
+pub by_copies : (P : Counts → Type 0) (v : ℤ) (n : ℕ) (b : Counts) → (n ≡ 0 → P b) → (0 < n → P (with_some v n b)) → P (with_copies v n b)
+by_copies P v zero b none some = none refl
+by_copies P v (suc n) b none some = some (omega arith)
+
+pub with_copies_bag : (v : ℤ) (n : ℕ) (b : Counts) → IsBag b → IsBag (with_copies v n b)
+with_copies_bag v n b h = by_copies IsBag v n b (λ e. h) (λ more. with_some_bag v n b more h)
 
 -- what the code of the edits leaves
 module _ (v w : ℤ) (b items slice read : Counts) (place : ℕ) (number : w ≡ v) (view : items ≡ b) (wrote : slice ≡ items) (seen : read ≡ items) where
@@ -212,19 +225,19 @@ module _ (v w : ℤ) (b items slice read : Counts) (place : ℕ) (number : w ≡
       let at = copies_read found in
       omega arith
 
-  pub more_copies : (n sum : ℕ) → (place ≡ place_of w b) × (place < length b) × (0 < count_of w b) → sum ≡ capped (copies_at read place + n) → refill (length items) items (set slice place (w, sum)) ≡ with_copies v n b
+  pub more_copies : (n sum : ℕ) → (place ≡ place_of w b) × (place < length b) × (0 < count_of w b) → sum ≡ capped (copies_at read place + n) → refill (length items) items (set slice place (w, sum)) ≡ with_some v n b
   more_copies n sum found e =
       let there = subst (λ (v : ℤ). 0 < count_of v b) number found.2 in
       let at = copies_read found in
-      let meant = with_copies_present v n b there in
+      let meant = with_some_present v n b there in
       let same = found.0 in
       let filled = refill-set items place (w, sum) in
       cc
 
-  pub first_copies : (n : ℕ) (new : Counts) → IsBag b → n < 2 ^ 64 → (place ≡ place_of w b) × (place ≤ length b) × (count_of w b ≡ 0) → new ≡ insert items place (w, n) → new ≡ with_copies v n b
+  pub first_copies : (n : ℕ) (new : Counts) → IsBag b → n < 2 ^ 64 → (place ≡ place_of w b) × (place ≤ length b) × (count_of w b ≡ 0) → new ≡ insert items place (w, n) → new ≡ with_some v n b
   first_copies n new bag small absent e =
       let none = subst (λ (v : ℤ). count_of v b ≡ 0) number absent.2 in
-      let meant = with_copies_absent v n b bag none in
+      let meant = with_some_absent v n b bag none in
       let same = absent.0 in
       let kept : capped n ≡ n = omega arith in
       e ∙ rw (view, same, number) (sym (rw kept at meant))
@@ -250,14 +263,17 @@ module _ (v w : ℤ) (b items slice read : Counts) (place : ℕ) (number : w ≡
       cc
 
 -- at most one pair more
-pub with_copies_length : (v : ℤ) (n : ℕ) (b : Counts) → length (with_copies v n b) ≤ length b + 1
-with_copies_length v n [] = omega arith
-with_copies_length v n (p ∷ ps) = step (int_cmp v p.0) (with_copies_length v n ps)
+pub with_some_length : (v : ℤ) (n : ℕ) (b : Counts) → length (with_some v n b) ≤ length b + 1
+with_some_length v n [] = omega arith
+with_some_length v n (p ∷ ps) = step (int_cmp v p.0) (with_some_length v n ps)
   where
-    step : (o : Ordering) → length (with_copies v n ps) ≤ length ps + 1 → length (match_ordering o ((v, capped n) ∷ p ∷ ps) ((p.0, capped (p.1 + n)) ∷ ps) (p ∷ with_copies v n ps)) ≤ length (p ∷ ps) + 1
+    step : (o : Ordering) → length (with_some v n ps) ≤ length ps + 1 → length (match_ordering o ((v, capped n) ∷ p ∷ ps) ((p.0, capped (p.1 + n)) ∷ ps) (p ∷ with_some v n ps)) ≤ length (p ∷ ps) + 1
     step Less rest = omega arith
     step Equal rest = omega arith
     step Greater rest = omega arith
+
+pub with_copies_length : (v : ℤ) (n : ℕ) (b : Counts) → length (with_copies v n b) ≤ length b + 1
+with_copies_length v n b = by_copies (λ new. length new ≤ length b + 1) v n b (λ e. omega arith) (λ more. with_some_length v n b)
 
 -- a step of a union: the next pair goes in, and takes the place of at most one
 module _ (a new b : Counts) (i : ℕ) (within : i < length b) (added : new ≡ with_copies (value_at b i) (copies_at b i) a) where

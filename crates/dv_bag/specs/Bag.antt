@@ -1,6 +1,6 @@
 -- Bags: finite maps from whole numbers to counts above 0, as their pairs in ascending order.
 -- A count above 2^64 - 1 stands as that number.
-use Rattle.std.specs.Prelude.{ℕ, suc, ◌+◌, ◌-◌, ◌^◌, ◌<◌, min, nat_eq, nat_lt, Bool, if◌then◌else◌, List, [], ◌∷◌, ◌++◌, replicate, slice_index_or, ℤ, pos, negsuc, ◌+ℤ◌, ◌*ℤ◌, ◌<ℤ◌, Option, Some, None, Result, Ok, Err}
+use Rattle.std.specs.Prelude.{ℕ, zero, suc, ◌+◌, ◌-◌, ◌^◌, ◌<◌, min, nat_eq, nat_lt, Bool, if◌then◌else◌, List, [], ◌∷◌, ◌++◌, replicate, slice_index_or, ℤ, pos, negsuc, ◌+ℤ◌, ◌*ℤ◌, ◌<ℤ◌, Option, Some, None, Result, Ok, Err}
 use Rattle.std.specs.Ordering.{int_cmp, match_ordering}
 use Rattle.dv_bag.specs.declared.fault.Fault.{Fault}
 use Rattle.dv_bag.specs.declared.fault.Fault.TheVariants.{Overflow}
@@ -31,10 +31,15 @@ abbrev pub place_of : ℤ → Counts → ℕ
 place_of v [] = 0
 place_of v (p ∷ ps) = match_ordering (int_cmp v p.0) 0 0 (suc (place_of v ps))
 
--- so many more copies of a value
+-- so many more copies of a value, of which there is one at least
+abbrev pub with_some : ℤ → ℕ → Counts → Counts
+with_some v n [] = (v, capped n) ∷ []
+with_some v n (p ∷ ps) = match_ordering (int_cmp v p.0) ((v, capped n) ∷ p ∷ ps) ((p.0, capped (p.1 + n)) ∷ ps) (p ∷ with_some v n ps)
+
+-- so many more copies of a value; none leave the bag as it is
 abbrev pub with_copies : ℤ → ℕ → Counts → Counts
-with_copies v n [] = (v, capped n) ∷ []
-with_copies v n (p ∷ ps) = match_ordering (int_cmp v p.0) ((v, capped n) ∷ p ∷ ps) ((p.0, capped (p.1 + n)) ∷ ps) (p ∷ with_copies v n ps)
+with_copies v zero b = b
+with_copies v (suc n) b = with_some v (suc n) b
 
 -- one copy less, where there is one
 abbrev pub without_one : ℤ → Counts → Counts

@@ -1,9 +1,9 @@
+-- What a reader believes: values, bags, what a rule does, and the entries of a trace.
 pub mod Bag
-pub mod Behaviour
-pub mod Idle
-pub mod Network
 pub mod Outcome
 pub mod Part
-pub mod Rows
-pub mod Same
 pub mod Words
+-- What serves proofs.
+pub mod Reading
+pub mod Same
+pub mod Sent

@@ -13,3 +13,9 @@ Fails error.Memory meant = Unit {0}
 abbrev pub Gives : {X : Type 0} → Result X RuleError → Result X Fault → Type 0
 Gives (Ok x) meant = meant ≡ Ok x
 Gives (Err e) meant = Fails e meant
+
+infixl 10 ◌>>=◌
+-- goes on with a value, or ends with the fault
+abbrev pub ◌>>=◌ : {A B : Type 0} → Result A Fault → (A → Result B Fault) → Result B Fault
+(Ok x) >>= f = f x
+(Err e) >>= f = Err e

@@ -1,4 +1,4 @@
--- The words by which a trace tells what happened.
+-- The words of a trace.
 use Rattle.std.specs.Prelude.{ℕ, List, codes}
 use Rattle.dv_bag.specs.declared.entry.Kind.{Kind}
 use Rattle.dv_bag.specs.declared.entry.Kind.TheVariants.{Internal, External, Confluent}

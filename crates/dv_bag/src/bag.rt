@@ -6,16 +6,18 @@ ghost use Rattle.smallvec.specs.SmallVec.{HasRoomFor};
 ghost use Rattle.dv_bag.specs.Bag.{IsBag, bag_at, count_of, least, most, place_of, size, size_of_all, sum_or_overflow, total, union, with_copies, without_one};
 ghost use Rattle.dv_bag.specs.Same.{same_bag, same_bags, same_bag-decides, same_bags-decides};
 
+use crate::GREATEST_COUNT;
 use crate::fault::Fault;
+use crate::sent::Sent;
 use smallvec::SmallVec;
 use std::alloc::{AllocError, Global};
 use std::default::MadeWith;
 use std::marker::Model;
 
-/// A bag of whole numbers. A few distinct values lie inline.
+/// A bag of whole numbers. Copies of one value lie inline.
 #[derive(Debug, Drop)]
 pub struct Bag {
-    pairs: SmallVec<(i64, u64), 2>,
+    pairs: SmallVec<(i64, u64), 1>,
 }
 
 impl Model for Bag {
@@ -51,17 +53,19 @@ impl Bag {
         self.insert_copies(value, 1)
     }
 
-    /// So many more copies of a value.
+    /// So many more copies of a value. No copies change nothing.
     ///
     /// # Errors
     ///
     /// No memory for a value that the bag lacks. The bag is as before.
     pub fn insert_copies(&mut self, value: i64, copies: u64) -> Result<(), AllocError>
-        requires { 0 < copies }
         ensures ok { OnOk result (self.new ≡ with_copies value copies self.old) }
         ensures err { OnErr result (self.new ≡ self.old) }
         ensures present { 0 < count_of value self.old → IsOk result }
     {
+        if copies == 0 {
+            return Ok(());
+        }
         add_copies(&mut self.pairs, value, copies)
     }
 
@@ -121,7 +125,7 @@ impl Bag {
     ///
     /// `Fault::Overflow` where the exact sum is outside -2^63..2^63-1.
     pub fn sum(&self) -> Result<i64, Fault>
-        requires { total self.now ≤ 4096 }
+        requires { total self.now ≤ GREATEST_COUNT }
         ensures { result ≡ sum_or_overflow self.now }
     {
         let mut sum: i128 = 0;
@@ -181,7 +185,7 @@ fn search(pairs: &[(i64, u64)], value: i64) -> Result<usize, usize>
 
 // So many more copies of a value among the pairs. It fails only where a new pair has no room.
 fn add_copies(
-    pairs: &mut SmallVec<(i64, u64), 2>,
+    pairs: &mut SmallVec<(i64, u64), 1>,
     value: i64,
     copies: u64,
 ) -> Result<(), AllocError>
@@ -317,6 +321,25 @@ impl Bags {
     {
         let bag = &mut self.bags[port];
         bag.union(values)
+    }
+
+    /// What was sent at a port, beside the values that are at another.
+    ///
+    /// # Errors
+    ///
+    /// No memory for as many more values. All bags are as before.
+    pub fn union_sent(
+        &mut self,
+        port: usize,
+        sent: &Sent,
+        from_port: usize,
+    ) -> Result<(), AllocError>
+        requires { port < length self.old }
+        ensures ok { OnOk result (self.new ≡ slice_set self.old port (union (bag_at self.old port) (bag_at sent.now from_port))) }
+        ensures err { OnErr result (self.new ≡ self.old) }
+    {
+        let values = sent.bag(from_port)?;
+        self.union_at(port, &values)
     }
 
     /// The number of values in all bags, each copy counted. One above 2^64-1 stands as that number.

@@ -2,8 +2,9 @@
 
 ghost use Rattle.std.specs.Prelude.{◌≡◌};
 
-use crate::bag::{Bag, Bags};
+use crate::bag::Bag;
 use crate::fault::Fault;
+use crate::sent::Sent;
 use crate::state::State;
 use dv_time::Time;
 use std::alloc::AllocError;
@@ -59,7 +60,7 @@ pub struct Entry {
     pub time: Time,
     pub component: u32,
     pub what: What,
-    pub sent: Bags,
+    pub sent: Sent,
 }
 
 impl Clone for Entry {

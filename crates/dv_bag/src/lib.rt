@@ -1,20 +1,30 @@
-//! The words in which a simulation is told: values, bags, states, faults, and the entries of a trace.
-//!
-//! `specs/` holds the formalism itself, once for every side that cites it: behaviour, reaction, network,
-//! instant and run.
+//! What a trace is made of: values, bags, states, faults, and entries.
 #![tactic(auto)]
 
+/// Bags of values.
 pub mod bag;
+/// The entries of a trace.
 pub mod entry;
+/// Faults.
 pub mod fault;
+/// Laws of bags and of parts.
 pub mod laws;
+/// Parts of a trace.
 pub mod part;
+/// What a component sends.
+pub mod sent;
+/// States, and what a rule does to them.
 pub mod state;
+/// What an expression gives.
 pub mod value;
 
 pub use bag::{Bag, Bags};
 pub use entry::{Entry, Kind, Outer, What};
 pub use fault::{Fault, RuleError};
 pub use part::{Part, Trace};
-pub use state::{Datum, Effect, State, Variables};
+pub use sent::Sent;
+pub use state::{BoxedBag, Datum, DatumView, Effect, State, Variables};
 pub use value::Value;
+
+/// The most values that are sent in one output, come to one port at one instant, or lie in a bag of a state.
+pub const GREATEST_COUNT: u64 = 4096;

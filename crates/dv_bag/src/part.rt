@@ -1,11 +1,16 @@
 //! Parts of a trace.
 
-ghost use Rattle.std.specs.Prelude.{◌≡◌, [], ◌∷◌, ◌++◌, OnOk, OnErr};
+ghost use Rattle.std.specs.Iterator.Adapters.{IterYieldsInOrder};
+ghost use Rattle.std.specs.Prelude.{◌≡◌, ◌<◌, ◌^◌, [], ◌∷◌, ◌++◌, length, OnOk, OnErr};
+ghost use Rattle.std.specs.Slice.Iter.{iter_rest};
 ghost use Rattle.dv_bag.specs.Part.{nothing};
+ghost use Rattle.dv_bag.specs.declared.entry.Entry.{Entry};
+ghost use Rattle.dv_bag.specs.declared.entry.Outer.{Outer};
 
 use crate::entry::{Entry, Outer};
 use std::alloc::{AllocError, Global};
 use std::marker::Model;
+use std::slice::Iter;
 
 /// Entries by time and component, and what those components sent outside.
 #[derive(Debug, Drop)]
@@ -58,17 +63,21 @@ impl Part {
     }
 
     /// The entries, by time and component.
-    pub fn entries(&self) -> &[Entry]
-        ensures { result.now ≡ self.now.entries }
+    pub fn entries(&self) -> Iter<'_, Entry>
+        ensures rest { iter_rest result ≡ self.now.entries }
+        ensures fits { length self.now.entries < 2 ^ 64 }
+        ensures runs { IterYieldsInOrder Entry }
     {
-        &self.entries
+        self.entries.iter()
     }
 
     /// What was sent outside, by time and port.
-    pub fn outer(&self) -> &[Outer]
-        ensures { result.now ≡ self.now.outer }
+    pub fn outer(&self) -> Iter<'_, Outer>
+        ensures rest { iter_rest result ≡ self.now.outer }
+        ensures fits { length self.now.outer < 2 ^ 64 }
+        ensures runs { IterYieldsInOrder Outer }
     {
-        &self.outer
+        self.outer.iter()
     }
 }
 

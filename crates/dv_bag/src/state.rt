@@ -1,23 +1,93 @@
 //! States of atomic models, and what a rule does to them.
 
 ghost use Rattle.std.specs.Cmp.{decided, partial_equiv_from_equiv};
-ghost use Rattle.std.specs.Option.{option_copied};
-ghost use Rattle.std.specs.Prelude.{◌≡◌, ◌==◌, ◌<◌, [], ◌∷◌, ◌++◌, length, slice_get, slice_set, OnOk, OnErr};
-ghost use Rattle.dv_bag.specs.Same.{same_datum, same_datum-decides, same_variables, same_variables-decides};
+ghost use Rattle.std.specs.Option.{option_map};
+ghost use Rattle.std.specs.Prelude.{◌≡◌, ◌==◌, ◌<◌, [], ◌∷◌, ◌++◌, length, slice_get, slice_set, IfOk, OnOk, OnErr};
+ghost use Rattle.dv_bag.specs.Reading.{datum_of};
+ghost use Rattle.dv_bag.specs.Same.{same_bag, same_bag-decides, same_datum, same_datum-decides, same_variables, same_variables-decides};
 ghost use Rattle.dv_bag.specs.declared.state.Datum.TheVariants as datum;
 
-use crate::bag::{Bag, Bags};
+use crate::bag::Bag;
+use crate::sent::Sent;
 use smallvec::SmallVec;
 use std::alloc::{AllocError, Global};
 use std::default::MadeWith;
 use std::marker::Model;
 
-/// What a variable, a flag or a bag of a state holds.
+/// A bag in memory of its own. Two with the same values are equal, wherever they lie.
+#[derive(Debug, Drop)]
+pub struct BoxedBag {
+    bag: Box<Bag>,
+}
+
+impl Model for BoxedBag {
+    ghost use Rattle.dv_bag.specs.Bag.{Counts};
+
+    ghost Value = { Counts };
+
+    ghost view = { λ b. b.bag.value };
+}
+
+impl BoxedBag {
+    /// A bag, moved to memory of its own.
+    ///
+    /// # Errors
+    ///
+    /// No memory for it. The bag is dropped.
+    pub fn new(alloc: Global, bag: Bag) -> Result<Self, AllocError>
+        ensures { IfOk result (λ boxed. boxed ≡ bag) }
+    {
+        Ok(BoxedBag {
+            bag: Box::new(alloc, bag)?,
+        })
+    }
+
+    /// The bag.
+    pub fn as_bag(&self) -> &Bag
+        ensures { result.now ≡ self.now }
+    {
+        self.bag.as_ref()
+    }
+}
+
+impl Clone for BoxedBag {
+    ghost is_clone = { λ b c. c ≡ b };
+
+    fn clone(&self) -> Result<Self, AllocError> {
+        Ok(BoxedBag {
+            bag: self.bag.clone()?,
+        })
+    }
+}
+
+impl PartialEq for BoxedBag {
+    ghost eq = { same_bag };
+
+    ghost laws = { partial_equiv_from_equiv (decided same_bag same_bag-decides) };
+
+    fn eq(&self, other: &Self) -> bool {
+        self.bag == other.bag
+    }
+}
+
+impl Eq for BoxedBag {
+    ghost laws = { decided same_bag same_bag-decides };
+}
+
+/// What a variable, a flag or a bag of a state holds. A number takes no memory beside it.
 #[derive(Debug, Drop)]
 pub enum Datum {
     Number(i64),
     Flag(bool),
-    Bag(Bag),
+    Bag(BoxedBag),
+}
+
+/// A datum as it is read: numbers and flags by value, a bag where it lies.
+#[derive(Clone, Copy, Debug, PartialEq, Eq)]
+pub enum DatumView<'a> {
+    Number(i64),
+    Flag(bool),
+    Bag(&'a Bag),
 }
 
 impl MadeWith<Global> for Datum {
@@ -57,10 +127,10 @@ impl Eq for Datum {
     ghost laws = { decided same_datum same_datum-decides };
 }
 
-/// The variables, flags and bags of a state, in the order of their declaration.
+/// The variables, flags and bags of a state, in the order of their declaration. Two lie inline.
 #[derive(Debug, Drop)]
 pub struct Variables {
-    data: SmallVec<Datum, 4>,
+    data: SmallVec<Datum, 2>,
 }
 
 impl Model for Variables {
@@ -108,26 +178,24 @@ impl Variables {
         self.data.is_empty()
     }
 
-    /// The variable, flag or bag of this number, if there is one.
-    pub fn get(&self, index: usize) -> Option<&Datum>
-        ensures { option_copied result ≡ slice_get self.now index }
+    /// The variable, flag or bag at a place, if there is one.
+    pub fn get(&self, place: usize) -> Option<DatumView<'_>>
+        ensures { option_map datum_of result ≡ slice_get self.now place }
     {
-        self.data.as_slice().get(index)
+        match self.data.as_slice().get(place) {
+            None => None,
+            Some(Datum::Number(number)) => Some(DatumView::Number(*number)),
+            Some(Datum::Flag(flag)) => Some(DatumView::Flag(*flag)),
+            Some(Datum::Bag(bag)) => Some(DatumView::Bag(bag.as_bag())),
+        }
     }
 
     /// Another number at this place.
-    pub fn set_number(&mut self, index: usize, value: i64)
-        requires { index < length self.old }
-        ensures { self.new ≡ slice_set self.old index (datum.Number value) }
+    pub fn set_number(&mut self, place: usize, value: i64)
+        requires { place < length self.old }
+        ensures { self.new ≡ slice_set self.old place (datum.Number value) }
     {
-        self.data[index] = Datum::Number(value);
-    }
-
-    /// The variables, flags and bags, in the order of their declaration.
-    pub fn as_slice(&self) -> &[Datum]
-        ensures { result.now ≡ self.now }
-    {
-        self.data.as_slice()
+        self.data[place] = Datum::Number(value);
     }
 }
 
@@ -177,7 +245,7 @@ impl Clone for State {
 #[derive(Debug, Drop, PartialEq, Eq)]
 pub struct Effect {
     pub state: State,
-    pub sent: Bags,
+    pub sent: Sent,
     pub goto: Option<u32>,
 }
 

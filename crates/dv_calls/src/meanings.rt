@@ -1,144 +1,111 @@
-//! Calls with ample memory, and what the description of the language says of them.
+//! What expressions, rules and holds of texts do at their start.
 
-use dv_bag::{Datum, Fault, Value};
-use dv_eval::{Env, eval, hold, run_rule, start_state};
-use dv_syntax::{Atomic, Bound, Expr, Item, Name, Number, Operator, Stmt, Ticks, Variable};
-use std::alloc::{AllocError, Global};
+use dv_bag::{DatumView, Fault, Value};
+use dv_eval::{Scope, eval, hold, rule_body, run_rule, start_state};
+use dv_lex::{LoadError, tokens};
+use dv_syntax::{Atomic, File, Model, RuleSort, Ticks, parse};
+use std::alloc::Global;
 use std::test::Fail;
 
-const OUT: u32 = 1;
-
-const COUNT: u32 = 2;
-
-const WAIT: u32 = 3;
-
-fn name(number: u32) -> Name {
-    Name { number, line: 1 }
+/// A model with this hold and these statements of an internal rule. The names: 0 A, 1 y, 2 n, 3 z, 4 d.
+fn file_of(alloc: Global, ticks: &str, statements: &str) -> Result<File, LoadError> {
+    let text = format!(in alloc;
+        "atomic A {{ out y; var n: 0..9 = 3; phases z, d; start z; hold z: {ticks}; internal z {{ {statements} }} }} root A;"
+    )?;
+    let found = tokens(alloc, text.as_bytes())?;
+    parse(alloc, &found.tokens, text.len() as u32)
 }
 
-fn number(value: i64) -> Expr {
-    Expr::Literal(Number { value, line: 1 })
-}
+/// The name of the start phase.
+const START: u32 = 3;
 
-fn binary(alloc: Global, operator: Operator, left: Expr, right: Expr) -> Result<Expr, AllocError> {
-    let left = Box::new(alloc, left)?;
-    let right = Box::new(alloc, right)?;
-    Ok(Expr::Binary {
-        operator,
-        left,
-        right,
-    })
-}
-
-// 0 less a number.
-fn minus(alloc: Global, value: i64) -> Result<Expr, AllocError> {
-    binary(alloc, Operator::Subtract, number(0), number(value))
-}
-
-fn bound(value: i64) -> Bound {
-    Bound {
-        minus: None,
-        magnitude: Number { value, line: 1 },
+fn model_of(file: &File) -> Option<&Atomic> {
+    match file.models.first() {
+        Some(Model::Atomic(model)) => Some(model),
+        _ => None,
     }
 }
 
-// out out; var count: 0..9 = 3; phases wait;
-fn model(alloc: Global) -> Result<Atomic, AllocError> {
-    let count = Variable {
-        name: name(COUNT),
-        low: bound(0),
-        high: bound(9),
-        start: bound(3),
+// What a hold's expression gives at the start of the model.
+fn value(alloc: Global, expression: &str) -> Result<Option<Result<Value, Fault>>, LoadError> {
+    let file = file_of(alloc, expression, "")?;
+    let Some(model) = model_of(&file) else {
+        return Ok(None);
     };
-    let phases = Vec::from_array(alloc, [name(WAIT)])?;
-    let items = Vec::from_array(
-        alloc,
-        [
-            Item::Out(name(OUT)),
-            Item::Var(count),
-            Item::Phases { line: 1, phases },
-        ],
-    )?;
-    Ok(Atomic {
-        name: name(0),
-        items,
-    })
-}
-
-// The value at the start of the model.
-fn value(alloc: Global, expression: &Expr) -> Result<Result<Value, Fault>, AllocError> {
-    let model = model(alloc)?;
-    let env = Env::of(alloc, &model)?;
-    let state = start_state(alloc, &model, &env)?;
-    Ok(eval(expression, &state, &env))
+    let scope = Scope::of(alloc, model)?;
+    let state = start_state(alloc, model, &scope)?;
+    match model.holds.first() {
+        Some(hold) => match &hold.ticks {
+            Ticks::After(expression) => Ok(Some(eval(expression, &state, &scope))),
+            Ticks::Forever => Ok(None),
+        },
+        None => Ok(None),
+    }
 }
 
 // The ticks of a hold at the start of the model.
-fn ticks(alloc: Global, ticks: &Ticks) -> Result<Result<Option<u64>, Fault>, AllocError> {
-    let model = model(alloc)?;
-    let env = Env::of(alloc, &model)?;
-    let state = start_state(alloc, &model, &env)?;
-    Ok(hold(ticks, &state, &env))
-}
-
-// count := count * 2; goto wait;
-fn statements(alloc: Global) -> Result<Vec<Stmt>, AllocError> {
-    let value = binary(
-        alloc,
-        Operator::Multiply,
-        Expr::Named(name(COUNT)),
-        number(2),
-    )?;
-    let assign = Stmt::Assign {
-        variable: name(COUNT),
-        value,
+fn ticks(alloc: Global, ticks: &str) -> Result<Option<Result<Option<u64>, Fault>>, LoadError> {
+    let file = file_of(alloc, ticks, "")?;
+    let Some(model) = model_of(&file) else {
+        return Ok(None);
     };
-    let goto = Stmt::Goto {
-        line: 1,
-        phase: name(WAIT),
+    let scope = Scope::of(alloc, model)?;
+    let state = start_state(alloc, model, &scope)?;
+    match model.holds.first() {
+        Some(first) => Ok(Some(hold(&first.ticks, &state, &scope))),
+        None => Ok(None),
+    }
+}
+
+#[test]
+fn expressions_have_values(rt: HostRuntime) -> Result<(), Fail> {
+    let rows = [
+        ("9223372036854775807", Ok(Value::Number(i64::MAX))),
+        (
+            "(0 - 9223372036854775807 - 1) / (0 - 1)",
+            Err(Fault::Overflow),
+        ),
+        ("(0 - 7) / 2", Ok(Value::Number(-3))),
+        ("n * 2 + 1", Ok(Value::Number(7))),
+        ("n = 3", Ok(Value::Truth(true))),
+        ("n / (n - 3)", Err(Fault::Divide)),
+    ];
+    for (expression, wanted) in rows {
+        assert_eq!(rt;
+            value(rt.alloc(), expression)?,
+            Some(wanted),
+            "{expression}"
+        );
+    }
+    Ok(())
+}
+
+#[test]
+fn holds_have_ticks(rt: HostRuntime) -> Result<(), Fail> {
+    let rows = [
+        ("forever", Ok(None)),
+        ("n", Ok(Some(3))),
+        ("-n", Err(Fault::Negative)),
+        ("1 / 0", Err(Fault::Divide)),
+    ];
+    for (text, wanted) in rows {
+        assert_eq!(rt; ticks(rt.alloc(), text)?, Some(wanted), "{text}");
+    }
+    Ok(())
+}
+
+#[test]
+fn rules_assign_and_go(rt: HostRuntime) -> Result<(), Fail> {
+    let alloc = rt.alloc();
+    let file = file_of(alloc, "1", "n := n * 2; goto d;")?;
+    let Some(model) = model_of(&file) else {
+        panic!(rt; "no model");
     };
-    Ok(Vec::from_array(alloc, [assign, goto])?)
-}
-
-#[test]
-fn least_by_minus_one(rt: HostRuntime) -> Result<(), Fail> {
-    let alloc = rt.alloc();
-    let above = minus(alloc, i64::MAX)?;
-    let least = binary(alloc, Operator::Subtract, above, number(1))?;
-    let minus_one = minus(alloc, 1)?;
-    let quotient = binary(alloc, Operator::Divide, least, minus_one)?;
-    assert_eq!(rt; value(alloc, &quotient)?, Err(Fault::Overflow));
-    Ok(())
-}
-
-#[test]
-fn rounds_towards_zero(rt: HostRuntime) -> Result<(), Fail> {
-    let alloc = rt.alloc();
-    let minus_seven = minus(alloc, 7)?;
-    let quotient = binary(alloc, Operator::Divide, minus_seven, number(2))?;
-    assert_eq!(rt; value(alloc, &quotient)?, Ok(Value::Number(-3)));
-    Ok(())
-}
-
-#[test]
-fn assigns_and_goes(rt: HostRuntime) -> Result<(), Fail> {
-    let alloc = rt.alloc();
-    let model = model(alloc)?;
-    let env = Env::of(alloc, &model)?;
-    let state = start_state(alloc, &model, &env)?;
-    let statements = statements(alloc)?;
-    let effect = run_rule(alloc, &statements, &state, &env)?;
-    assert!(rt; matches!(effect.state.variables.get(0), Some(Datum::Number(6))));
-    assert_eq!(rt; effect.goto, Some(0));
-    Ok(())
-}
-
-#[test]
-fn holds(rt: HostRuntime) -> Result<(), Fail> {
-    let alloc = rt.alloc();
-    let two = Ticks::After(number(2));
-    assert_eq!(rt; ticks(alloc, &two)?, Ok(Some(2)));
-    let below = Ticks::After(minus(alloc, 1)?);
-    assert_eq!(rt; ticks(alloc, &below)?, Err(Fault::Negative));
+    let scope = Scope::of(alloc, model)?;
+    let state = start_state(alloc, model, &scope)?;
+    let statements = rule_body(model, RuleSort::Internal, START);
+    let effect = run_rule(alloc, statements, &state, &scope)?;
+    assert!(rt; matches!(effect.state.variables.get(0), Some(DatumView::Number(6))));
+    assert_eq!(rt; effect.goto, Some(1));
     Ok(())
 }

@@ -1,8 +1,8 @@
 //! From texts to tokens.
 
 use dv_lex::{
-    GREATEST_LENGTH, Keyword, LoadError, Names, Refusal, Symbol, TextError, Token, TokenKind,
-    line_after, tokens,
+    GREATEST_LENGTH, Keyword, LoadError, Names, Numeral, Refusal, RefusalNumber, Symbol, TextError,
+    Token, TokenKind, answer, tokens,
 };
 
 const CLOCK: &str = "atomic Tick { out beat; var n: 0..3 = 0; phases run; start run; # a clock
@@ -26,22 +26,21 @@ fn reads_a_model(rt: HostRuntime) {
     }
     assert_eq!(rt; found.names.len(), 7);
     let wanted = [
-        (0, TokenKind::Keyword(Keyword::Atomic), 1),
-        (1, TokenKind::Name(0), 1),
-        (2, TokenKind::Symbol(Symbol::OpenBrace), 1),
-        (9, TokenKind::Number(0), 1),
-        (10, TokenKind::Symbol(Symbol::Range), 1),
-        (21, TokenKind::Keyword(Keyword::Hold), 2),
-        (31, TokenKind::Symbol(Symbol::Unequal), 2),
-        (35, TokenKind::Symbol(Symbol::Assign), 2),
-        (59, TokenKind::Keyword(Keyword::Itself), 3),
-        (65, TokenKind::Name(4), 4),
-        (66, TokenKind::Symbol(Symbol::Semicolon), 4),
+        (0, TokenKind::Keyword(Keyword::Atomic), 0),
+        (1, TokenKind::Name(0), 7),
+        (2, TokenKind::Symbol(Symbol::OpenBrace), 12),
+        (10, TokenKind::Symbol(Symbol::Range), 32),
+        (21, TokenKind::Keyword(Keyword::Hold), 76),
+        (31, TokenKind::Symbol(Symbol::Unequal), 109),
+        (35, TokenKind::Symbol(Symbol::Assign), 118),
+        (59, TokenKind::Keyword(Keyword::Itself), 184),
+        (65, TokenKind::Name(4), 199),
+        (66, TokenKind::Symbol(Symbol::Semicolon), 202),
     ];
-    for (i, kind, line) in wanted {
+    for (i, kind, place) in wanted {
         assert_eq!(rt;
             found.tokens.get(i).copied(),
-            Some(Token { kind, line }),
+            Some(Token { kind, place }),
             "token {i}"
         );
     }
@@ -91,7 +90,7 @@ fn reads_each_keyword_and_symbol(rt: HostRuntime) {
         assert_eq!(rt; found.tokens.len(), 1);
         assert_eq!(rt;
             found.tokens.first().copied(),
-            Some(Token { kind, line: 1 }),
+            Some(Token { kind, place: 0 }),
             "{text}"
         );
     }
@@ -116,35 +115,48 @@ fn takes_the_longest_token(rt: HostRuntime) {
 
 #[test]
 fn reads_numbers_up_to_the_greatest(rt: HostRuntime) {
-    for text in [
-        "9223372036854775807",
-        "0000000000000000000000009223372036854775807",
+    for (text, value) in [
+        ("0", 0),
+        ("9223372036854775807", 9_223_372_036_854_775_807),
+        (
+            "0000000000000000000000009223372036854775807",
+            9_223_372_036_854_775_807,
+        ),
     ] {
-        let found = tokens(rt.alloc(), text.as_bytes()).expect(&rt, "the greatest number");
-        let kind = TokenKind::Number(i64::MAX);
+        let found = tokens(rt.alloc(), text.as_bytes()).expect(&rt, "a number");
+        let number = Numeral::new(value).expect(&rt, "a number of a text");
+        let kind = TokenKind::Number(number);
         assert_eq!(rt; found.tokens.len(), 1);
         assert_eq!(rt;
             found.tokens.first().copied(),
-            Some(Token { kind, line: 1 })
+            Some(Token { kind, place: 0 }),
+            "{text}"
         );
     }
 }
 
 #[test]
+fn numbers_end_below_two_to_the_63rd(rt: HostRuntime) {
+    let greatest = Numeral::new(9_223_372_036_854_775_807).expect(&rt, "the greatest number");
+    assert_eq!(rt; greatest.value(), i64::MAX);
+    assert!(rt; Numeral::new(9_223_372_036_854_775_808).is_none());
+}
+
+#[test]
 fn refuses(rt: HostRuntime) {
-    let texts: [(&[u8], Refusal, u32); 9] = [
-        (b"9223372036854775808", Refusal::E3, 1),
-        (b"1\n-9223372036854775808 $", Refusal::E3, 2),
-        (b"x\n\n $ 9223372036854775808", Refusal::E2, 3),
-        (b"!", Refusal::E2, 1),
-        (b"a\r\n\x0c", Refusal::E2, 2),
-        (b"a # \xc3\xa9\n\xc3\xa9", Refusal::E2, 2),
-        (b"\xff", Refusal::E1, 1),
-        (b"$\n# \xc3", Refusal::E1, 2),
-        (b"a\n\nb\xed\xa0\x80\n", Refusal::E1, 3),
+    let texts: [(&[u8], RefusalNumber, u32); 9] = [
+        (b"9223372036854775808", RefusalNumber::E3, 0),
+        (b"1\n-9223372036854775808 $", RefusalNumber::E3, 3),
+        (b"x\n\n $ 9223372036854775808", RefusalNumber::E2, 4),
+        (b"!", RefusalNumber::E2, 0),
+        (b"a\r\n\x0c", RefusalNumber::E2, 3),
+        (b"a # \xc3\xa9\n\xc3\xa9", RefusalNumber::E2, 7),
+        (b"\xff", RefusalNumber::E1, 0),
+        (b"$\n# \xc3", RefusalNumber::E1, 4),
+        (b"a\n\nb\xed\xa0\x80\n", RefusalNumber::E1, 4),
     ];
-    for (text, number, line) in texts {
-        let error = LoadError::Refused(TextError { number, line });
+    for (text, number, place) in texts {
+        let error = LoadError::Refused(Refusal { number, place });
         assert_eq!(rt; tokens(rt.alloc(), text).err(), Some(error));
     }
 }
@@ -154,17 +166,21 @@ fn reads_up_to_the_greatest_length(rt: HostRuntime) {
     let mut text = vec![in rt.alloc(); b' '; GREATEST_LENGTH].expect(&rt, "memory");
     assert!(rt; tokens(rt.alloc(), &text).is_ok());
     text.push(b' ').expect(&rt, "memory");
-    let error = LoadError::Refused(TextError {
-        number: Refusal::E17,
-        line: 1,
+    let error = LoadError::Refused(Refusal {
+        number: RefusalNumber::E17,
+        place: 0,
     });
     assert_eq!(rt; tokens(rt.alloc(), &text).err(), Some(error));
 }
 
 #[test]
-fn counts_lines(rt: HostRuntime) {
-    assert_eq!(rt; line_after(b""), 1);
-    assert_eq!(rt; line_after(b"a\nb\r\n\n"), 4);
+fn answers_with_lines(rt: HostRuntime) {
+    let number = RefusalNumber::E4;
+    for (place, line) in [(0, 1), (1, 1), (2, 2), (5, 3), (6, 4), (7, 4)] {
+        let refusal = Refusal { number, place };
+        let wanted = TextError { number, line };
+        assert_eq!(rt; answer(b"a\nb\r\n\nc", refusal), wanted, "{place}");
+    }
 }
 
 #[test]

@@ -1,153 +1,126 @@
-//! Each token of these texts stands on a line of its own, so a refusal's line is the number of its token.
+//! From tokens to trees: the limits on depth, and the place of a refusal.
 
-use dv_lex::{Keyword, LoadError, Refusal, Symbol, TextError, Token, TokenKind};
-use dv_syntax::{File, parse};
+use dv_lex::{LoadError, Refusal, RefusalNumber, tokens};
+use dv_syntax::{File, Model, parse};
 use std::alloc::{AllocError, Global};
 use std::test::Fail;
 
-const NAME: TokenKind = TokenKind::Name(0);
-
-const ONE: TokenKind = TokenKind::Number(1);
-
-const IF: TokenKind = TokenKind::Keyword(Keyword::If);
-
-const LESS: TokenKind = TokenKind::Symbol(Symbol::Less);
-
-const PLUS: TokenKind = TokenKind::Symbol(Symbol::Plus);
-
-const OPEN_PAREN: TokenKind = TokenKind::Symbol(Symbol::OpenParen);
-
-const CLOSE_PAREN: TokenKind = TokenKind::Symbol(Symbol::CloseParen);
-
-const OPEN_BRACE: TokenKind = TokenKind::Symbol(Symbol::OpenBrace);
-
-const CLOSE_BRACE: TokenKind = TokenKind::Symbol(Symbol::CloseBrace);
-
-const SEMICOLON: TokenKind = TokenKind::Symbol(Symbol::Semicolon);
-
-/// `atomic name { hold name :`, six tokens
-const BEFORE_TICKS: [TokenKind; 6] = [
-    TokenKind::Keyword(Keyword::Atomic),
-    NAME,
-    OPEN_BRACE,
-    TokenKind::Keyword(Keyword::Hold),
-    NAME,
-    TokenKind::Symbol(Symbol::Colon),
-];
-
-/// `; } root name ;`
-const AFTER_TICKS: [TokenKind; 5] = [
-    SEMICOLON,
-    CLOSE_BRACE,
-    TokenKind::Keyword(Keyword::Root),
-    NAME,
-    SEMICOLON,
-];
-
-/// `atomic name { output name {`, six tokens
-const BEFORE_STATEMENTS: [TokenKind; 6] = [
-    TokenKind::Keyword(Keyword::Atomic),
-    NAME,
-    OPEN_BRACE,
-    TokenKind::Keyword(Keyword::Output),
-    NAME,
-    OPEN_BRACE,
-];
-
-/// `} } root name ;`
-const AFTER_STATEMENTS: [TokenKind; 5] = [
-    CLOSE_BRACE,
-    CLOSE_BRACE,
-    TokenKind::Keyword(Keyword::Root),
-    NAME,
-    SEMICOLON,
-];
-
-fn add(tokens: &mut Vec<Token>, kinds: &[TokenKind]) -> Result<(), AllocError> {
-    for kind in kinds {
-        let line = tokens
-            .last()
-            .map_or(1, |token| token.line.saturating_add(1));
-        tokens.push(Token { kind: *kind, line })?;
-    }
-    Ok(())
+fn file_of(alloc: Global, text: &str) -> Result<File, LoadError> {
+    let found = tokens(alloc, text.as_bytes())?;
+    parse(alloc, &found.tokens, text.len() as u32)
 }
 
-fn add_times(tokens: &mut Vec<Token>, kinds: &[TokenKind], times: u32) -> Result<(), AllocError> {
+fn push_times(text: &mut String, piece: &str, times: u32) -> Result<(), AllocError> {
     for _ in 0..times {
-        add(tokens, kinds)?;
+        text.push_str(piece)?;
     }
     Ok(())
 }
 
-/// A hold of 1 in so many parentheses.
+/// A hold of 1 in so many parentheses; the first stands at the place 18.
 fn parentheses(alloc: Global, pairs: u32) -> Result<File, LoadError> {
-    let mut tokens = Vec::new(alloc);
-    add(&mut tokens, &BEFORE_TICKS)?;
-    add_times(&mut tokens, &[OPEN_PAREN], pairs)?;
-    add(&mut tokens, &[ONE])?;
-    add_times(&mut tokens, &[CLOSE_PAREN], pairs)?;
-    add(&mut tokens, &AFTER_TICKS)?;
-    parse(alloc, &tokens, 1000)
+    let mut text = String::from_str(alloc, "atomic A { hold z:")?;
+    push_times(&mut text, "(", pairs)?;
+    text.push_str("1")?;
+    push_times(&mut text, ")", pairs)?;
+    text.push_str("; } root A;")?;
+    file_of(alloc, text.as_str())
 }
 
-/// A hold of `1 + 1 + ..` with so many signs.
+/// A hold of `1+1+..` with so many signs; the first stands at the place 19.
 fn sum(alloc: Global, signs: u32) -> Result<File, LoadError> {
-    let mut tokens = Vec::new(alloc);
-    add(&mut tokens, &BEFORE_TICKS)?;
-    add(&mut tokens, &[ONE])?;
-    add_times(&mut tokens, &[PLUS, ONE], signs)?;
-    add(&mut tokens, &AFTER_TICKS)?;
-    parse(alloc, &tokens, 1000)
+    let mut text = String::from_str(alloc, "atomic A { hold z:1")?;
+    push_times(&mut text, "+1", signs)?;
+    text.push_str("; } root A;")?;
+    file_of(alloc, text.as_str())
 }
 
-/// A rule with so many `if`s in one another.
+/// A rule with so many `if`s in one another; the first stands at the place 21.
 fn conditions(alloc: Global, count: u32) -> Result<File, LoadError> {
-    let mut tokens = Vec::new(alloc);
-    add(&mut tokens, &BEFORE_STATEMENTS)?;
-    add_times(&mut tokens, &[IF, NAME, OPEN_BRACE], count)?;
-    add_times(&mut tokens, &[CLOSE_BRACE], count)?;
-    add(&mut tokens, &AFTER_STATEMENTS)?;
-    parse(alloc, &tokens, 1000)
+    let mut text = String::from_str(alloc, "atomic A { output z {")?;
+    push_times(&mut text, "if n {", count)?;
+    push_times(&mut text, "}", count)?;
+    text.push_str("} } root A;")?;
+    file_of(alloc, text.as_str())
 }
 
-fn refused(number: Refusal, line: u32) -> Option<LoadError> {
-    Some(LoadError::Refused(TextError { number, line }))
+fn refused(number: RefusalNumber, place: u32) -> Option<LoadError> {
+    Some(LoadError::Refused(Refusal { number, place }))
 }
 
 #[test]
 fn a_file_needs_a_root(rt: HostRuntime) {
-    assert_eq!(rt; parse(rt.alloc(), &[], 3).err(), refused(Refusal::E4, 3));
+    assert_eq!(rt;
+        parse(rt.alloc(), &[], 3).err(),
+        refused(RefusalNumber::E4, 3)
+    );
+    let e4 = RefusalNumber::E4;
+    for (text, place) in [
+        ("", 0),
+        ("\n\n# to come\n", 12),
+        ("root", 4),
+        ("root A", 6),
+        ("root A; root A;", 8),
+        ("atomic A { root A;", 11),
+        ("atomic A { out b }", 17),
+    ] {
+        assert_eq!(rt;
+            file_of(rt.alloc(), text).err(),
+            refused(e4, place),
+            "{text}"
+        );
+    }
+}
+
+#[test]
+fn items_are_sorted(rt: HostRuntime) -> Result<(), Fail> {
+    let text = "atomic A { hold z: 1; out b; start z; phases z; var n: 0..1 = 0; out c; } root A;";
+    let file = file_of(rt.alloc(), text)?;
+    let Some(Model::Atomic(model)) = file.models.first() else {
+        panic!(rt; "no atomic model");
+    };
+    assert_eq!(rt; model.declarations.len(), 3);
+    assert_eq!(rt; model.phases.len(), 1);
+    assert_eq!(rt; model.starts.len(), 1);
+    assert_eq!(rt; model.holds.len(), 1);
+    assert!(rt; model.rules.is_empty());
+    let text = "coupled B { link a.o -> self.p; out p; part a: A; } root B;";
+    let file = file_of(rt.alloc(), text)?;
+    let Some(Model::Coupled(model)) = file.models.first() else {
+        panic!(rt; "no coupled model");
+    };
+    assert_eq!(rt; model.outputs.len(), 1);
+    assert_eq!(rt; model.parts.len(), 1);
+    assert_eq!(rt; model.links.len(), 1);
+    Ok(())
 }
 
 #[test]
 fn expressions_are_64_deep(rt: HostRuntime) -> Result<(), Fail> {
+    let e5 = RefusalNumber::E5;
     let file = parentheses(rt.alloc(), 63)?;
     assert_eq!(rt; file.models.len(), 1);
-    assert_eq!(rt; parentheses(rt.alloc(), 64).err(), refused(Refusal::E5, 70));
+    assert_eq!(rt; parentheses(rt.alloc(), 64).err(), refused(e5, 18 + 63));
     let file = sum(rt.alloc(), 63)?;
     assert_eq!(rt; file.models.len(), 1);
-    assert_eq!(rt; sum(rt.alloc(), 64).err(), refused(Refusal::E5, 134));
+    assert_eq!(rt; sum(rt.alloc(), 64).err(), refused(e5, 19 + 2 * 63));
     Ok(())
 }
 
 #[test]
-fn comparisons_do_not_chain(rt: HostRuntime) -> Result<(), Fail> {
-    let mut tokens = Vec::new(rt.alloc());
-    add(&mut tokens, &BEFORE_TICKS)?;
-    add(&mut tokens, &[ONE, LESS, ONE, LESS, ONE])?;
-    add(&mut tokens, &AFTER_TICKS)?;
+fn comparisons_do_not_chain(rt: HostRuntime) {
+    let text = "atomic A { hold z: 1<2<3; } root A;";
     assert_eq!(rt;
-        parse(rt.alloc(), &tokens, 1000).err(),
-        refused(Refusal::E4, 10)
+        file_of(rt.alloc(), text).err(),
+        refused(RefusalNumber::E4, 22)
     );
-    Ok(())
 }
 
 #[test]
 fn blocks_are_16_deep(rt: HostRuntime) -> Result<(), Fail> {
     let file = conditions(rt.alloc(), 15)?;
-    assert_eq!(rt; file.root.line, 45 + 6 + 15 + 4);
-    assert_eq!(rt; conditions(rt.alloc(), 16).err(), refused(Refusal::E5, 52));
+    assert_eq!(rt; file.models.len(), 1);
+    let refusal = refused(RefusalNumber::E5, 21 + 6 * 15);
+    assert_eq!(rt; conditions(rt.alloc(), 16).err(), refusal);
     Ok(())
 }

@@ -1,54 +1,87 @@
--- Directories, one declaration more at a time.
+-- Directories, one value more at a time.
 use Rattle.std.proofs.Common.{◌≡◌, ℕ, ◌+◌, ◌<◌, ◌==◌, Bool, true, false, if◌then◌else◌, option_map, List, [], ◌∷◌, ◌++◌, length, get_or, take, map, refl, sym, ap, ◌∙◌, Option, Some, None}
 use Rattle.std.proofs.Math.Path.{fun_ext}
 use Rattle.std.specs.Option.{option_or}
 use Rattle.std.proofs.lemmas.List.{take_more, get_or_default, map-append, map-id}
-use Rattle.dv_syntax.specs.declared.tree.Name.{Name}
+use Rattle.dv_syntax.specs.declared.tree.Part.{Part}
+use Rattle.dv_syntax.specs.Trees.{ModelTree}
 use Rattle.dv_check.specs.declared.directory.Directory.{Directory}
 use Rattle.dv_check.specs.declared.models.ModelKind.{ModelKind}
-use Rattle.dv_check.specs.Models.{face_of_kind, faces_by}
-use Rattle.dv_check.specs.Tables.{at, first_of, looked_up, no_value, with_first, with_declared}
+use Rattle.dv_check.specs.Names.{model_named, name_of_model, part_named}
+use Rattle.dv_check.specs.Models.{face_of, face_of_kind, faces_by, faces_in}
+use Rattle.dv_check.specs.Couplings.{parts_in}
+use Rattle.dv_check.specs.Rules.{itself}
+use Rattle.dv_check.specs.Tables.{first_of, value_for, no_value, with_first}
 
-or_none : {V : Type 0} (o : Option V) → option_or o None ≡ o
-or_none None = refl
-or_none (Some v) = refl
+or_if : {V : Type 0} (b : Bool) (v : V) (o p : Option V) → (if b then Some v else option_or o p) ≡ option_or (if b then Some v else o) p
+or_if true v o p = refl
+or_if false v o p = refl
 
-or_assoc : {V : Type 0} (a b c : Option V) → option_or a (option_or b c) ≡ option_or (option_or a b) c
-or_assoc None b c = refl
-or_assoc (Some v) b c = refl
-
-first_of_push : {X V : Type 0} (declared : X → Option (Name × V)) (xs : List X) (x : X) (q : ℕ) → first_of declared (xs ++ x ∷ []) q ≡ option_or (first_of declared xs q) (at q (declared x))
+first_of_push : {X V : Type 0} (number : X → ℕ) (value : X → V) (xs : List X) (x : X) (q : ℕ) → first_of number value (xs ++ x ∷ []) q ≡ option_or (first_of number value xs q) (if number x == q then Some (value x) else None)
 unfolding first_of
-first_of_push declared [] x q = or_none (at q (declared x))
-first_of_push declared (y ∷ ys) x q =
-    ap (option_or (at q (declared y))) (first_of_push declared ys x q) ∙ or_assoc (at q (declared y)) (first_of declared ys q) (at q (declared x))
+first_of_push number value [] x q = refl
+first_of_push number value (y ∷ ys) x q =
+    ap (λ o. if number y == q then Some (value y) else o) (first_of_push number value ys x q)
+    ∙ or_if (number y == q) (value y) (first_of number value ys q) (if number x == q then Some (value x) else None)
 
-with_declared_at : {V : Type 0} (f : ℕ → Option V) (d : Option (Name × V)) (q : ℕ) → with_declared f d q ≡ option_or (f q) (at q d)
-unfolding with_first
-with_declared_at f None q = sym (or_none (f q))
-with_declared_at f (Some d) q = refl
-
-pub first_of_none : {X V : Type 0} (declared : X → Option (Name × V)) → first_of declared [] ≡ no_value
+pub first_of_none : {X V : Type 0} (number : X → ℕ) (value : X → V) → first_of number value [] ≡ no_value
 unfolding first_of no_value
-first_of_none declared = refl
+first_of_none number value = refl
 
-pub first_of_more : {X Y V : Type 0} (declared : Y → Option (Name × V)) (g : X → Y) (xs : List X) (i : ℕ) (d : X) → i < length xs → first_of declared (map g (take (i + 1) xs)) ≡ with_declared (first_of declared (map g (take i xs))) (declared (g (get_or xs i d)))
-first_of_more declared g xs i d h =
-    ap (λ ys. first_of declared (map g ys)) (take_more xs i d h)
-    ∙ (ap (first_of declared) (map-append g (take i xs) (get_or xs i d ∷ []))
-    ∙ fun_ext (λ q. first_of_push declared (map g (take i xs)) (g (get_or xs i d)) q ∙ sym (with_declared_at (first_of declared (map g (take i xs))) (declared (g (get_or xs i d))) q)))
+first_of_more : {X Y V : Type 0} (number : Y → ℕ) (value : Y → V) (g : X → Y) (xs : List X) (i : ℕ) (d : X) → i < length xs → first_of number value (map g (take (i + 1) xs)) ≡ with_first (first_of number value (map g (take i xs))) (number (g (get_or xs i d))) (value (g (get_or xs i d)))
+unfolding with_first
+first_of_more number value g xs i d h =
+    ap (λ ys. first_of number value (map g ys)) (take_more xs i d h)
+    ∙ (ap (first_of number value) (map-append g (take i xs) (get_or xs i d ∷ []))
+    ∙ fun_ext (λ q. first_of_push number value (map g (take i xs)) (g (get_or xs i d)) q))
 
--- a step of a loop that declares the items in turn
-pub first_of_step : {X Y V : Type 0} (declared : Y → Option (Name × V)) (g : X → Y) (xs : List X) (i : ℕ) (x : X) (before after : ℕ → Option V) (d : Option (Name × V)) → i < length xs → x ≡ get_or xs i x → d ≡ declared (g x) → before ≡ first_of declared (map g (take i xs)) → after ≡ with_declared before d → after ≡ first_of declared (map g (take (i + 1) xs))
-first_of_step declared g xs i x before after d h is by_item so_far step =
+-- a step of a loop that adds the elements in turn
+pub first_of_step : {X Y V : Type 0} (number : Y → ℕ) (value : Y → V) (g : X → Y) (xs : List X) (i : ℕ) (x : X) (before after : ℕ → Option V) (n : ℕ) (v : V) → i < length xs → x ≡ get_or xs i x → n ≡ number (g x) → v ≡ value (g x) → before ≡ first_of number value (map g (take i xs)) → after ≡ with_first before n v → after ≡ first_of number value (map g (take (i + 1) xs))
+first_of_step number value g xs i x before after n v h is by_number by_value so_far step =
     step
-    ∙ (ap (λ f. with_declared f d) so_far
-    ∙ (ap (with_declared (first_of declared (map g (take i xs)))) (by_item ∙ ap (λ y. declared (g y)) is)
-    ∙ sym (first_of_more declared g xs i x h)))
+    ∙ (ap (λ f. with_first f n v) so_far
+    ∙ (ap (λ k. with_first (first_of number value (map g (take i xs))) k v) (by_number ∙ ap (λ y. number (g y)) is)
+    ∙ (ap (with_first (first_of number value (map g (take i xs))) (number (g (get_or xs i x)))) (by_value ∙ ap (λ y. value (g y)) is)
+    ∙ sym (first_of_more number value g xs i x h))))
 
--- what models show outside: nothing is known of them at first
-pub faces_none : (kinds : Directory ModelKind) → looked_up kinds ≡ no_value → faces_by kinds ≡ no_value
-unfolding faces_by no_value
+-- the parts of a coupled model
+abbrev part_number : Part → ℕ
+part_number p = p.name.number
+
+part_at : (parts : List Part) (q : ℕ) → first_of part_number itself parts q ≡ part_named q parts
+unfolding first_of
+part_at [] q = refl
+part_at (p ∷ parts) q = ap (λ o. if p.name.number == q then Some p else o) (part_at parts q)
+
+parts_first : (parts : List Part) → first_of part_number itself parts ≡ parts_in parts
+unfolding parts_in
+parts_first parts = fun_ext (λ q. part_at parts q)
+
+pub parts_none : parts_in [] ≡ no_value
+unfolding parts_in no_value
+parts_none = refl
+
+-- the models by what they show outside
+abbrev model_number : ModelTree → ℕ
+model_number m = (name_of_model m).number
+
+face_at : (b : Bool) (m : ModelTree) (o : Option ModelTree) → (if b then Some (face_of m) else option_map face_of o) ≡ option_map face_of (if b then Some m else o)
+face_at true m o = refl
+face_at false m o = refl
+
+faces_at : (models : List ModelTree) (q : ℕ) → first_of model_number face_of models q ≡ option_map face_of (model_named q models)
+unfolding first_of
+faces_at [] q = refl
+faces_at (m ∷ models) q =
+    ap (λ o. if model_number m == q then Some (face_of m) else o) (faces_at models q) ∙ face_at (model_number m == q) m (model_named q models)
+
+faces_first : (models : List ModelTree) → first_of model_number face_of models ≡ faces_in models
+unfolding faces_in
+faces_first models = fun_ext (λ q. faces_at models q)
+
+-- nothing is known of the models at first
+pub faces_none : (kinds : Directory ModelKind) → value_for kinds ≡ no_value → faces_by kinds ≡ faces_in []
+unfolding faces_by faces_in no_value
 faces_none kinds e = ap (λ (f : ℕ → Option ModelKind). λ (q : ℕ). option_map face_of_kind (f q)) e
 
 map_or : {A B : Type 0} (f : A → B) (b : Bool) (v : A) (o : Option A) → option_map f (option_or o (if b then Some v else None)) ≡ option_or (option_map f o) (if b then Some (f v) else None)
@@ -56,13 +89,30 @@ map_or f b v (Some x) = refl
 map_or f true v None = refl
 map_or f false v None = refl
 
--- and then of one model more
-pub faces_more : (kinds more : Directory ModelKind) (name : Name) (kind : ModelKind) → looked_up more ≡ with_declared (looked_up kinds) (Some (name, kind)) → faces_by more ≡ with_declared (faces_by kinds) (Some (name, face_of_kind kind))
+faces_more : (kinds more : Directory ModelKind) (number : ℕ) (kind : ModelKind) → value_for more ≡ with_first (value_for kinds) number kind → faces_by more ≡ with_first (faces_by kinds) number (face_of_kind kind)
 unfolding faces_by with_first
-faces_more kinds more name kind e = fun_ext (λ q. ap (λ f. option_map face_of_kind (f q)) e ∙ map_or face_of_kind (name.number == q) kind (looked_up kinds q))
+faces_more kinds more number kind e = fun_ext (λ q. ap (λ f. option_map face_of_kind (f q)) e ∙ map_or face_of_kind (number == q) kind (value_for kinds q))
 
--- a step of a loop over the declarations themselves
-pub first_of_step_plain : {Y V : Type 0} (declared : Y → Option (Name × V)) (xs : List Y) (i : ℕ) (e : Y) (before after : ℕ → Option V) (d : Option (Name × V)) → i < length xs → d ≡ declared (get_or xs i e) → before ≡ first_of declared (take i xs) → after ≡ with_declared before d → after ≡ first_of declared (take (i + 1) xs)
-first_of_step_plain declared xs i e before after d h by_item so_far step =
-    first_of_step declared (λ y. y) xs i (get_or xs i e) before after d h (get_or_default xs i e (get_or xs i e) h) by_item (so_far ∙ ap (first_of declared) (sym (map-id (take i xs)))) step
-    ∙ ap (first_of declared) (map-id (take (i + 1) xs))
+module _ {X : Type 0} (xs : List X) (i : ℕ) (x : X) (within : i < length xs) (is : x ≡ get_or xs i x) where
+  -- one model more
+  pub faces_step : (g : X → ModelTree) (kinds more : Directory ModelKind) (number : ℕ) (kind : ModelKind) → number ≡ model_number (g x) → face_of_kind kind ≡ face_of (g x) → faces_by kinds ≡ faces_in (map g (take i xs)) → value_for more ≡ with_first (value_for kinds) number kind → faces_by more ≡ faces_in (map g (take (i + 1) xs))
+  faces_step g kinds more number kind by_number by_face so_far step =
+      first_of_step model_number face_of g xs i x (faces_by kinds) (faces_by more) number (face_of_kind kind) within is by_number by_face (so_far ∙ sym (faces_first (map g (take i xs)))) (faces_more kinds more number kind step)
+      ∙ faces_first (map g (take (i + 1) xs))
+
+-- a step of a loop over the elements themselves
+pub first_of_step_plain : {X V : Type 0} (number : X → ℕ) (value : X → V) (xs : List X) (i : ℕ) (d : X) (before after : ℕ → Option V) (n : ℕ) (v : V) → i < length xs → n ≡ number (get_or xs i d) → v ≡ value (get_or xs i d) → before ≡ first_of number value (take i xs) → after ≡ with_first before n v → after ≡ first_of number value (take (i + 1) xs)
+first_of_step_plain number value xs i d before after n v h by_number by_value so_far step =
+    first_of_step number value (λ x. x) xs i (get_or xs i d) before after n v h (get_or_default xs i d (get_or xs i d) h) by_number by_value (so_far ∙ ap (first_of number value) (sym (map-id (take i xs)))) step
+    ∙ ap (first_of number value) (map-id (take (i + 1) xs))
+
+-- one part more
+pub parts_step : (xs : List Part) (i : ℕ) (d : Part) (before after : ℕ → Option Part) (n : ℕ) (v : Part) → i < length xs → n ≡ part_number (get_or xs i d) → v ≡ get_or xs i d → before ≡ parts_in (take i xs) → after ≡ with_first before n v → after ≡ parts_in (take (i + 1) xs)
+parts_step xs i d before after n v h by_number by_value so_far step =
+    first_of_step_plain part_number itself xs i d before after n v h by_number by_value (so_far ∙ sym (parts_first (take i xs))) step
+    ∙ parts_first (take (i + 1) xs)
+
+-- and of one over owned elements, which are added by themselves
+pub first_of_step_itself : {X V : Type 0} (number : X → ℕ) (value : X → V) (xs : List X) (i : ℕ) (x : X) (before after : ℕ → Option V) (n : ℕ) (v : V) → i < length xs → x ≡ get_or xs i x → n ≡ number x → v ≡ value x → before ≡ first_of number value (take i xs) → after ≡ with_first before n v → after ≡ first_of number value (take (i + 1) xs)
+first_of_step_itself number value xs i x before after n v h is by_number by_value so_far step =
+    first_of_step_plain number value xs i x before after n v h (by_number ∙ ap number is) (by_value ∙ ap value is) so_far step

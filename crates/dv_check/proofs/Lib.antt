@@ -1,5 +1,10 @@
 pub mod Lists
 pub mod Firsts
+pub mod Found
 pub mod Statements
-pub mod Noted
-pub mod Within
+pub mod Declared
+pub mod Accepted
+pub mod Order
+pub mod Fitting
+pub mod Known
+pub mod Typed

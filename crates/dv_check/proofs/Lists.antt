@@ -25,3 +25,8 @@ among_more names i d h = fun_ext (λ q. list_any_more (λ (n : Name). n.number =
 pub filter_map_of_map : {A B C : Type 0} (f : B → Option C) (g : A → B) (xs : List A) → filter_map f (map g xs) ≡ filter_map (λ x. f (g x)) xs
 filter_map_of_map f g [] = refl
 filter_map_of_map f g (x ∷ xs) = ap (cons_option (f (g x))) (filter_map_of_map f g xs)
+
+-- a map of a list that was made from another
+pub map_of_map : {A B C : Type 0} (f : B → C) (g : A → B) (xs : List A) → map f (map g xs) ≡ map (λ x. f (g x)) xs
+map_of_map f g [] = refl
+map_of_map f g (x ∷ xs) = ap (λ ys. f (g x) ∷ ys) (map_of_map f g xs)

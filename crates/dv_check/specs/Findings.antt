@@ -1,18 +1,14 @@
--- What has been found wrong so far: the refusal of the least line, the first found of those on one line.
-use Rattle.std.specs.Prelude.{nat_lt, if◌then◌else◌, List, fold, Option, Some, None}
-use Rattle.dv_lex.specs.declared.error.TextError.{TextError}
+-- What has been found wrong so far: the first of the refusals.
+use Rattle.std.specs.Prelude.{List, fold, Some, None}
+use Rattle.dv_lex.specs.declared.error.Refusal.{Refusal}
+use Rattle.dv_lex.specs.Order.{earlier}
 use Rattle.dv_check.specs.declared.findings.Findings.{Findings}
 
-abbrev pub earlier : Option TextError → TextError → TextError
-earlier None e = e
-earlier (Some first) e = if nat_lt e.line first.line then e else first
+abbrev pub with_refusal : Findings → Refusal → Findings
+with_refusal found r = record { first = Some (earlier found.first r) }
 
-abbrev pub note : Findings → TextError → Findings
-note found e = record { first = Some (earlier found.first e) }
-
--- with these refusals too
-abbrev pub noted : Findings → List TextError → Findings
-noted found es = fold note found es
+abbrev pub with_refusals : Findings → List Refusal → Findings
+with_refusals found rs = fold with_refusal found rs
 
 abbrev pub nothing_found : Findings
 nothing_found = record { first = None }

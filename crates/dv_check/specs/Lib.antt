@@ -1,12 +1,17 @@
-pub mod Findings
+-- What a reader believes: the rules of a text, and which refusal is answered.
 pub mod Names
-pub mod Tables
-pub mod Items
 pub mod Types
 pub mod Rules
 pub mod Models
-pub mod Couplings
-pub mod Inside
 pub mod LinkSets
+pub mod Couplings
 pub mod Refusals
+-- What the laws speak of.
+pub mod Accepted
+pub mod Fitting
+-- Worked rows.
 pub mod Clock
+pub mod Broken
+-- What serves proofs.
+pub mod Findings
+pub mod Tables

@@ -1,44 +1,58 @@
--- The refusals of a whole text, and the texts that have none.
-use Rattle.std.specs.Prelude.{ℕ, Bool, if◌then◌else◌, List, [], ◌∷◌, ◌++◌, map, Option, Some, None, Contains, All, ◌≤◌}
-use Rattle.dv_lex.specs.declared.error.TextError.{TextError}
-use Rattle.dv_lex.specs.declared.error.Refusal.TheVariants.{E6, E7, E16, E17}
+-- Why a file is refused: every rule that it breaks, and the one that is answered.
+use Rattle.std.specs.Prelude.{◌≡◌, ℕ, List, [], ◌∷◌, ◌++◌, map, Option, Some, None}
+use Rattle.std.specs.List.{flat_map}
+use Rattle.std.specs.Option.{option_or}
+use Rattle.dv_lex.specs.declared.token.Token.{Token}
+use Rattle.dv_lex.specs.declared.error.Refusal.{Refusal}
+use Rattle.dv_lex.specs.declared.error.RefusalNumber.TheVariants.{E6, E7, E16, E17}
 use Rattle.dv_lex.specs.declared.error.LoadError.{LoadError}
 use Rattle.dv_lex.specs.declared.error.LoadError.TheVariants.{Refused, Memory}
+use Rattle.dv_lex.specs.Order.{first_refusal}
+use Rattle.dv_lex.specs.Texts.{IsTokensOf}
 use Rattle.dv_syntax.specs.Trees.{ModelTree, AtomicModel, CoupledModel, FileTree}
-use Rattle.dv_check.specs.Names.{refused, repeated, name_of_model, model_named, parts_of}
+use Rattle.dv_syntax.specs.Grammar.{IsFileOf}
+use Rattle.dv_check.specs.Names.{refusal, refusal_if, repeats, name_of_model, model_named}
 use Rattle.dv_check.specs.Rules.{atomic_refusals, is_none_left}
 use Rattle.dv_check.specs.Couplings.{coupled_refusals}
 
-abbrev pub model_refusals : List ModelTree → ModelTree → List TextError
+abbrev pub model_refusals : List ModelTree → ModelTree → List Refusal
 model_refusals models (AtomicModel m) = atomic_refusals m
 model_refusals models (CoupledModel m) = coupled_refusals models m
 
-abbrev pub models_refusals : List ModelTree → List ModelTree → List TextError
-models_refusals all [] = []
-models_refusals all (m ∷ models) = model_refusals all m ++ models_refusals all models
+-- the root: known, and coupled
+abbrev pub root_refusals : Option ModelTree → ℕ → List Refusal
+root_refusals None place = refusal E7 place ∷ []
+root_refusals (Some (AtomicModel m)) place = refusal E16 place ∷ []
+root_refusals (Some (CoupledModel m)) place = []
 
--- the root: known, coupled, and with a component
-abbrev pub root_refusals : Option ModelTree → ℕ → List TextError
-root_refusals None line = refused E7 line ∷ []
-root_refusals (Some (AtomicModel m)) line = refused E16 line ∷ []
-root_refusals (Some (CoupledModel m)) line = if is_none_left (parts_of m.items) then refused E17 line ∷ [] else []
-
--- every rule that a text breaks, with its line; the limit on links is not among them
-abbrev pub refusals : FileTree → List TextError
+-- every rule that a file breaks, each at its place, without the limits on the whole tree
+abbrev pub refusals : FileTree → List Refusal
 refusals f =
-    repeated E6 (map name_of_model f.models)
-    ++ (models_refusals f.models f.models
-    ++ root_refusals (model_named f.root.number f.models) f.root.line)
+    repeats E6 (map name_of_model f.models)
+    ++ (flat_map (model_refusals f.models) f.models
+    ++ root_refusals (model_named f.root.number f.models) f.root.place)
 
-abbrev pub is_accepted : FileTree → Bool
-is_accepted f = is_none_left (refusals f)
+abbrev pub root_limit_refusals : Option ModelTree → ℕ → List Refusal
+root_limit_refusals (Some (CoupledModel m)) place = refusal_if (is_none_left m.parts) E17 place
+root_limit_refusals (Some (AtomicModel m)) place = []
+root_limit_refusals None place = []
 
--- an error that names a rule that is broken; without memory nothing is known
-abbrev pub NamesRefusal : List TextError → LoadError → Type 0
-NamesRefusal es (Refused e) = Contains es e
-NamesRefusal es Memory = Unit {0}
+-- the limits on the whole tree that a file breaks, at the root's name: it has a component
+abbrev pub limit_refusals : FileTree → List Refusal
+limit_refusals f = root_limit_refusals (model_named f.root.number f.models) f.root.place
 
--- and no refusal stands on an earlier line
-abbrev pub IsOnFirstLine : List TextError → LoadError → Type 0
-IsOnFirstLine es (Refused e) = All (λ (x : TextError). e.line ≤ x.line) es
-IsOnFirstLine es Memory = Unit {0}
+-- The refusal that is answered: the first, or where there is none the first of the limits on the whole tree.
+abbrev pub refusal_of : FileTree → Option Refusal
+refusal_of f = option_or (first_refusal (refusals f)) (first_refusal (limit_refusals f))
+
+-- an error that is the file's refusal; of want of memory nothing is said
+abbrev pub IsAnswerTo : FileTree → LoadError → Type 0
+IsAnswerTo f (Refused r) = refusal_of f ≡ Some r
+IsAnswerTo f Memory = Unit {0}
+
+-- the names and the file are those of one text
+pub record AreOfOneText (names : List (List ℕ)) (f : FileTree) : Type 0 where
+  pub text : List ℕ
+  pub tokens : List Token
+  pub lexed : IsTokensOf text names tokens
+  pub parsed : IsFileOf tokens f

@@ -1,92 +1,184 @@
 -- The refusals of an atomic model: what is allowed where, phases and holds, ranges and the start.
 use Rattle.std.specs.Prelude.{ℕ, Bool, true, false, not, ◌&&◌, ◌||◌, int_lt, if◌then◌else◌, List, [], ◌∷◌, ◌++◌, map, filter_map, Option, Some, None, Result, Ok, Err}
-use Rattle.std.specs.List.{flat_map}
-use Rattle.dv_lex.specs.declared.error.TextError.{TextError}
-use Rattle.dv_lex.specs.declared.error.Refusal.TheVariants.{E6, E7, E8, E9, E10, E11}
-use Rattle.dv_syntax.specs.Trees.{Expression, Literal, Named, Parens, Negative, Binary, Statements, Done, Assign, Goto, Send, If, IfElse, AtomicItem, OutPort, Var, Phases, Start, Hold, Rule, AtomicTree}
+use Rattle.std.specs.List.{flat_map, list_any}
+use Rattle.dv_lex.specs.declared.error.Refusal.{Refusal}
+use Rattle.dv_lex.specs.declared.error.RefusalNumber.TheVariants.{E6, E7, E8, E9, E10, E11}
+use Rattle.dv_syntax.specs.Trees.{Expression, Literal, Named, Parens, Negative, Binary, Statements, Done, Assign, Goto, Send, If, IfElse, PhasesTree, HoldTree, RuleTree, AtomicTree}
 use Rattle.dv_syntax.specs.declared.tree.Name.{Name}
 use Rattle.dv_syntax.specs.declared.tree.Variable.{Variable}
+use Rattle.dv_syntax.specs.declared.tree.Declaration.{Declaration}
+use Rattle.dv_syntax.specs.declared.tree.Declaration.TheVariants.{Out, Var}
+use Rattle.dv_syntax.specs.declared.tree.Start.{Start}
 use Rattle.dv_syntax.specs.declared.tree.RuleSort.{RuleSort}
 use Rattle.dv_syntax.specs.declared.tree.RuleSort.TheVariants as rule
-use Rattle.dv_eval.specs.Scope.{scope_of, bound_value, same_sort, start_state, hold_ticks}
+use Rattle.dv_eval.specs.Scope.{scope_of, bound_value, same_sort, start_state, hold_ticks, outputs_in, variables_in, phases_in}
 use Rattle.dv_eval.specs.Meaning.{hold_of}
-use Rattle.dv_check.specs.declared.items.NameSort.{NameSort}
-use Rattle.dv_check.specs.declared.items.NameSort.TheVariants.{Variable as ForVariable, Output as ForOutput}
+use Rattle.dv_check.specs.declared.limits.TheConstants.{GREATEST_NAMES}
+use Rattle.dv_check.specs.declared.declarations.NameSort.{NameSort}
+use Rattle.dv_check.specs.declared.declarations.NameSort.TheVariants.{Variable as ForVariable, Output as ForOutput}
 use Rattle.dv_check.specs.declared.expression.ValueType.TheVariants.{Number, Truth}
 use Rattle.dv_check.specs.declared.declarations.Declarations.{Declarations}
 use Rattle.dv_check.specs.declared.starts.Starts.{Starts}
-use Rattle.dv_check.specs.Names.{refused, refused_if, among, names_within, repeated, too_many}
-use Rattle.dv_check.specs.Tables.{first_of, looked_up, has}
-use Rattle.dv_check.specs.Items.{declared_by, declared_in, outputs_in, variables_in, phases_in, first_phases, ruled_in, held_in, phases_line, start_line, start_phase}
+use Rattle.dv_check.specs.Names.{refusal, refusal_if, among, within_limit, repeats, excess}
+use Rattle.dv_check.specs.Tables.{first_of, value_for, has}
 use Rattle.dv_check.specs.Types.{place_refusals}
+
+-- ---- Names
+
+abbrev pub name_of_declaration : Declaration → Name
+name_of_declaration (Out port) = port
+name_of_declaration (Var v) = v.name
+
+abbrev pub number_of_declaration : Declaration → ℕ
+number_of_declaration d = (name_of_declaration d).number
+
+abbrev pub sort_of : Declaration → NameSort
+sort_of (Out port) = ForOutput
+sort_of (Var v) = ForVariable
+
+-- what a name of a port or variable stands for: of a name that is declared twice the first declaration counts
+abbrev pub sort_in : List Declaration → ℕ → Option NameSort
+sort_in declarations = first_of number_of_declaration sort_of declarations
 
 -- what is known of the names of an atomic model: what ports and variables stand for, and the phases
 pub record Known : Type 0 where
   pub sort : ℕ → Option NameSort
   pub has_phase : ℕ → Bool
 
--- of a name that is declared twice the first declaration counts; the phases of all items are known
-abbrev pub known_in : List AtomicItem → Known
-known_in items = record { sort = first_of declared_by items; has_phase = among (phases_in items) }
+-- the phases of all items of phases are known
+abbrev pub known_in : AtomicTree → Known
+known_in m = record { sort = sort_in m.declarations; has_phase = among (phases_in m.phases) }
 
 -- what tables know
 abbrev pub known_by : Declarations → Known
-known_by d = record { sort = looked_up d.sorts; has_phase = has d.phases }
+known_by d = record { sort = value_for d.sorts; has_phase = has d.phases }
+
+-- the phase of a rule of a sort
+abbrev pub ruled_phase : RuleSort → RuleTree → Option Name
+ruled_phase sort r = if same_sort r.sort sort then Some r.phase else None
+
+-- the phases that have rules of a sort, one for each rule
+abbrev pub ruled_phases : RuleSort → List RuleTree → List Name
+ruled_phases sort rules = filter_map (ruled_phase sort) rules
+
+-- the phase of a hold, at the place of the word `hold`
+abbrev pub held_phase : HoldTree → Name
+held_phase h = record { number = h.phase.number; place = h.place }
+
+abbrev pub held_phases : List HoldTree → List Name
+held_phases holds = map held_phase holds
+
+abbrev pub name_of_variable : Variable → Name
+name_of_variable v = v.name
+
+-- names that are declared twice, two rules of one sort for one phase, and more names of a kind than there may be
+abbrev pub names_refusals : AtomicTree → List Refusal
+names_refusals m =
+    repeats E6 (map name_of_declaration m.declarations)
+    ++ (repeats E6 (phases_in m.phases)
+    ++ (repeats E6 (ruled_phases rule.Output m.rules)
+    ++ (repeats E6 (ruled_phases rule.Internal m.rules)
+    ++ (excess (outputs_in m.declarations)
+    ++ (excess (map name_of_variable (variables_in m.declarations))
+    ++ excess (phases_in m.phases))))))
+
+-- ---- What has to stand once
+
+-- an item that has to stand once: missing at the model's name, again at the second one's word
+abbrev pub once_refusals : ℕ → List ℕ → List Refusal
+once_refusals model_place [] = refusal E10 model_place ∷ []
+once_refusals model_place (place ∷ []) = []
+once_refusals model_place (place ∷ (second ∷ more)) = refusal E10 second ∷ []
+
+-- the phases of the first item of phases
+abbrev pub first_phases : List PhasesTree → List Name
+first_phases [] = []
+first_phases (p ∷ items) = p.names
+
+-- a phase without a hold
+abbrev pub is_hold_missing : (ℕ → Bool) → List Name → Bool
+is_hold_missing held phases = list_any (λ (p : Name). not (held p.number)) phases
+
+-- a second hold of a phase, at its word; a phase without one, at the model's name: only phases of the first item and within
+-- the limit need one
+abbrev pub holds_once_refusals : AtomicTree → List Refusal
+holds_once_refusals m =
+    repeats E10 (held_phases m.holds)
+    ++ refusal_if (is_hold_missing (among (held_phases m.holds)) (within_limit GREATEST_NAMES (first_phases m.phases))) E10 m.name.place
+
+-- the places of the words `phases` and `start`
+abbrev pub phases_places : List PhasesTree → List ℕ
+phases_places items = map (λ (p : PhasesTree). p.place) items
+
+abbrev pub start_places : List Start → List ℕ
+start_places items = map (λ (s : Start). s.place) items
+
+-- phases, start and holds, each of which has to stand once
+abbrev pub standing_refusals : AtomicTree → List Refusal
+standing_refusals m =
+    once_refusals m.name.place (phases_places m.phases)
+    ++ (once_refusals m.name.place (start_places m.starts)
+    ++ holds_once_refusals m)
+
+-- ---- Statements, holds and ranges
 
 -- the variable of an assignment: known, a variable, and not in an output rule
-abbrev pub assigned_refused : RuleSort → Option NameSort → ℕ → List TextError
-assigned_refused sort None line = refused E7 line ∷ []
-assigned_refused sort (Some ForOutput) line = refused E8 line ∷ []
-assigned_refused sort (Some ForVariable) line = refused_if (same_sort sort rule.Output) E9 line
+abbrev pub assignment_refusals : RuleSort → Option NameSort → ℕ → List Refusal
+assignment_refusals sort None place = refusal E7 place ∷ []
+assignment_refusals sort (Some ForOutput) place = refusal E8 place ∷ []
+assignment_refusals sort (Some ForVariable) place = refusal_if (same_sort sort rule.Output) E9 place
 
 -- the port of a send: known, and an output
-abbrev pub sent_port_refused : Option NameSort → ℕ → List TextError
-sent_port_refused None line = refused E7 line ∷ []
-sent_port_refused (Some ForVariable) line = refused E8 line ∷ []
-sent_port_refused (Some ForOutput) line = []
+abbrev pub sent_port_refusals : Option NameSort → ℕ → List Refusal
+sent_port_refusals None place = refusal E7 place ∷ []
+sent_port_refusals (Some ForVariable) place = refusal E8 place ∷ []
+sent_port_refusals (Some ForOutput) place = []
 
-abbrev pub unknown_phase : Known → Name → List TextError
-unknown_phase known phase = refused_if (not (known.has_phase phase.number)) E7 phase.line
+abbrev pub phase_refusals : Known → Name → List Refusal
+phase_refusals known phase = refusal_if (not (known.has_phase phase.number)) E7 phase.place
 
-abbrev pub statements_refusals : Known → RuleSort → Statements → List TextError
+abbrev pub statements_refusals : Known → RuleSort → Statements → List Refusal
 statements_refusals known sort Done = []
 statements_refusals known sort (Assign variable value rest) =
-    assigned_refused sort (known.sort variable.number) variable.line ++ (place_refusals Number known.sort value ++ statements_refusals known sort rest)
-statements_refusals known sort (Goto line phase rest) =
-    refused_if (same_sort sort rule.Output) E9 line ++ (unknown_phase known phase ++ statements_refusals known sort rest)
-statements_refusals known sort (Send line port value rest) =
-    refused_if (not (same_sort sort rule.Output)) E9 line ++ (sent_port_refused (known.sort port.number) port.line ++ (place_refusals Number known.sort value ++ statements_refusals known sort rest))
-statements_refusals known sort (If line condition block rest) =
+    assignment_refusals sort (known.sort variable.number) variable.place ++ (place_refusals Number known.sort value ++ statements_refusals known sort rest)
+statements_refusals known sort (Goto place phase rest) =
+    refusal_if (same_sort sort rule.Output) E9 place ++ (phase_refusals known phase ++ statements_refusals known sort rest)
+statements_refusals known sort (Send place port value rest) =
+    refusal_if (not (same_sort sort rule.Output)) E9 place ++ (sent_port_refusals (known.sort port.number) port.place ++ (place_refusals Number known.sort value ++ statements_refusals known sort rest))
+statements_refusals known sort (If place condition block rest) =
     place_refusals Truth known.sort condition ++ (statements_refusals known sort block ++ statements_refusals known sort rest)
-statements_refusals known sort (IfElse line condition block other rest) =
+statements_refusals known sort (IfElse place condition block other rest) =
     place_refusals Truth known.sort condition ++ (statements_refusals known sort block ++ (statements_refusals known sort other ++ statements_refusals known sort rest))
 
 -- an empty range, or a start value outside of it
 abbrev pub is_out_of_range : Variable → Bool
 is_out_of_range v = int_lt (bound_value v.high) (bound_value v.low) || (int_lt (bound_value v.start) (bound_value v.low) || int_lt (bound_value v.high) (bound_value v.start))
 
-abbrev pub hold_refusals : Known → Option Expression → List TextError
-hold_refusals known None = []
-hold_refusals known (Some e) = place_refusals Number known.sort e
+abbrev pub variable_refusals : Variable → List Refusal
+variable_refusals v = refusal_if (is_out_of_range v) E11 v.name.place
 
--- what one item does wrong by itself
-abbrev pub item_refusals : Known → AtomicItem → List TextError
-item_refusals known (OutPort port) = []
-item_refusals known (Var v) = refused_if (is_out_of_range v) E11 v.name.line
-item_refusals known (Phases line phases) = []
-item_refusals known (Start line phase) = unknown_phase known phase
-item_refusals known (Hold line phase ticks) = unknown_phase known phase ++ hold_refusals known ticks
-item_refusals known (Rule sort phase body) = unknown_phase known phase ++ statements_refusals known sort body
+abbrev pub start_refusals : Known → Start → List Refusal
+start_refusals known s = phase_refusals known s.phase
 
--- an item that has to stand once: missing at the model's name, again at its own word
-abbrev pub stands_once : ℕ → List ℕ → List TextError
-stands_once model_line [] = refused E10 model_line ∷ []
-stands_once model_line (line ∷ again) = map (λ l. refused E10 l) again
+abbrev pub ticks_refusals : Known → Option Expression → List Refusal
+ticks_refusals known None = []
+ticks_refusals known (Some e) = place_refusals Number known.sort e
 
--- phases without a hold, at the model's name
-abbrev pub holds_missing : ℕ → (ℕ → Bool) → List Name → List TextError
-holds_missing model_line held [] = []
-holds_missing model_line held (p ∷ phases) = refused_if (not (held p.number)) E10 model_line ++ holds_missing model_line held phases
+abbrev pub hold_refusals : Known → HoldTree → List Refusal
+hold_refusals known h = phase_refusals known h.phase ++ ticks_refusals known h.ticks
+
+abbrev pub rule_refusals : Known → RuleTree → List Refusal
+rule_refusals known r = phase_refusals known r.phase ++ statements_refusals known r.sort r.body
+
+-- what the items do wrong, each by itself
+abbrev pub items_refusals : Known → AtomicTree → List Refusal
+items_refusals known m =
+    flat_map variable_refusals (variables_in m.declarations)
+    ++ (flat_map (start_refusals known) m.starts
+    ++ (flat_map (hold_refusals known) m.holds
+    ++ flat_map (rule_refusals known) m.rules))
+
+-- ---- The hold of the start phase
 
 -- a list without elements
 abbrev pub is_none_left : {A : Type 0} → List A → Bool
@@ -97,77 +189,57 @@ abbrev pub is_fault : {A B : Type 0} → Result A B → Bool
 is_fault (Ok x) = false
 is_fault (Err f) = true
 
--- a known phase with a well typed hold
-abbrev pub is_hold_fine : Known → Name → List AtomicItem → Bool
-is_hold_fine known phase items = is_none_left (unknown_phase known phase ++ hold_refusals known (hold_ticks phase.number items))
-
--- the variable that an item declares
-abbrev pub variable_declared_by : AtomicItem → Option (Name × Variable)
-variable_declared_by (OutPort port) = None
-variable_declared_by (Var v) = Some (v.name, v)
-variable_declared_by (Phases line phases) = None
-variable_declared_by (Start line phase) = None
-variable_declared_by (Hold line phase ticks) = None
-variable_declared_by (Rule sort phase body) = None
-
 -- a variable that is there, and in range
 abbrev pub is_in_range : Option Variable → Bool
 is_in_range None = false
 is_in_range (Some v) = not (is_out_of_range v)
 
--- a variable whose first declaration is not refused: it is one of the first 4,096, and in range
-abbrev pub is_start_known : List AtomicItem → ℕ → Bool
-is_start_known items name = among (names_within 4096 (variables_in items)) name && is_in_range (first_of variable_declared_by items name)
+abbrev pub number_of_variable : Variable → ℕ
+number_of_variable v = v.name.number
+
+abbrev pub itself : {A : Type 0} → A → A
+itself x = x
+
+-- a variable whose first declaration is not refused: it is within the limit, and in range
+unfoldable pub is_start_known : List Variable → ℕ → Bool
+is_start_known variables name = is_in_range (first_of number_of_variable itself (within_limit GREATEST_NAMES variables) name)
 
 -- what tables know
-abbrev pub is_start_known_by : Starts → ℕ → Bool
-is_start_known_by starts name = has starts.within name && is_in_range (looked_up starts.variables name)
+unfoldable pub is_start_known_by : Starts → ℕ → Bool
+is_start_known_by starts name = is_in_range (value_for starts.variables name)
 
 -- an expression without names but these
 abbrev pub names_only : (ℕ → Bool) → Expression → Bool
 names_only known (Literal n) = true
 names_only known (Named name) = known name.number
-names_only known (Parens line e) = names_only known e
-names_only known (Negative line e) = names_only known e
+names_only known (Parens place e) = names_only known e
+names_only known (Negative place e) = names_only known e
 names_only known (Binary operator a b) = names_only known a && names_only known b
 
-abbrev pub hold_names_only : (ℕ → Bool) → Option Expression → Bool
-hold_names_only known None = true
-hold_names_only known (Some e) = names_only known e
+abbrev pub ticks_names_only : (ℕ → Bool) → Option Expression → Bool
+ticks_names_only known None = true
+ticks_names_only known (Some e) = names_only known e
+
+-- a known phase with these ticks, and nothing wrong with them
+abbrev pub is_hold_fine : Known → Name → Option Expression → Bool
+is_hold_fine known phase ticks = is_none_left (phase_refusals known phase ++ ticks_refusals known ticks)
 
 -- a hold that can be asked: nothing is wrong with it, nor with the first declarations of the variables that it names
-abbrev pub can_ask_hold : Known → Name → List AtomicItem → Bool
-can_ask_hold known phase items = is_hold_fine known phase items && hold_names_only (is_start_known items) (hold_ticks phase.number items)
+abbrev pub can_ask_hold : Known → List Variable → Name → Option Expression → Bool
+can_ask_hold known variables phase ticks = is_hold_fine known phase ticks && ticks_names_only (is_start_known variables) ticks
 
--- a start hold that faults, at the phase of start
-abbrev pub start_hold_refused : AtomicTree → Option Name → List TextError
-start_hold_refused m None = []
-start_hold_refused m (Some phase) =
-    if can_ask_hold (known_in m.items) phase m.items
-    then refused_if (is_fault (hold_of (scope_of m) (hold_ticks phase.number m.items) (start_state m))) E11 phase.line
-    else []
+-- a hold that can be asked, and faults in the start state
+abbrev pub is_start_fault : Known → AtomicTree → Name → Bool
+is_start_fault known m phase =
+    can_ask_hold known (variables_in m.declarations) phase (hold_ticks phase.number m.holds)
+    && is_fault (hold_of (scope_of m) (hold_ticks phase.number m.holds) (start_state m))
 
-abbrev pub names_refusals : List AtomicItem → List TextError
-names_refusals items =
-    repeated E6 (declared_in items)
-    ++ (repeated E6 (phases_in items)
-    ++ (repeated E6 (ruled_in rule.Output items)
-    ++ (repeated E6 (ruled_in rule.Internal items)
-    ++ (too_many (outputs_in items)
-    ++ (too_many (variables_in items)
-    ++ too_many (phases_in items))))))
+-- the hold of the phase of the first start item
+abbrev pub start_hold_refusals : Known → AtomicTree → List Start → List Refusal
+start_hold_refusals known m [] = []
+start_hold_refusals known m (s ∷ starts) = refusal_if (is_start_fault known m s.phase) E11 s.phase.place
 
--- phases, start and holds, each of which has to stand once; phases past the limit need no hold
-abbrev pub once_refusals : ℕ → List AtomicItem → List TextError
-once_refusals model_line items =
-    stands_once model_line (filter_map phases_line items)
-    ++ (stands_once model_line (filter_map start_line items)
-    ++ (repeated E10 (held_in items)
-    ++ holds_missing model_line (among (held_in items)) (names_within 4096 (first_phases items))))
+-- ---- All of them
 
-abbrev pub atomic_refusals : AtomicTree → List TextError
-atomic_refusals m =
-    names_refusals m.items
-    ++ (once_refusals m.name.line m.items
-    ++ (flat_map (item_refusals (known_in m.items)) m.items
-    ++ start_hold_refused m (start_phase m.items)))
+abbrev pub atomic_refusals : AtomicTree → List Refusal
+atomic_refusals m = names_refusals m ++ (standing_refusals m ++ (items_refusals (known_in m) m ++ start_hold_refusals (known_in m) m m.starts))

@@ -1,57 +1,53 @@
 //! The checks of an atomic model.
 
-ghost use Rattle.std.specs.Prelude.{◌≡◌, map, IfOk, OnOk};
-ghost use Rattle.std.specs.List.{flat_map};
-ghost use Rattle.dv_syntax.specs.Trees.{atomic_of, item_of};
-ghost use Rattle.dv_check.specs.Findings.{noted};
-ghost use Rattle.dv_eval.specs.Scope.{hold_ticks};
-ghost use Rattle.dv_lex.specs.declared.error.Refusal.TheVariants.{E6, E10};
-ghost use Rattle.dv_check.specs.Names.{refused, repeated};
+ghost use Rattle.std.specs.Prelude.{◌≡◌, map, Some, None, IfOk, OnOk};
+ghost use Rattle.dv_syntax.specs.Trees.{atomic_of, phases_of, rule_of, ticks_of};
+ghost use Rattle.std.specs.Option.{option_copied};
+ghost use Rattle.dv_eval.specs.Scope.{hold_ticks, ticks_found, variables_in};
+ghost use Rattle.dv_lex.specs.declared.error.RefusalNumber.TheVariants.{E6, E10};
+ghost use Rattle.dv_check.specs.Findings.{with_refusals};
+ghost use Rattle.dv_check.specs.Names.{refusal_if, repeats};
 ghost use Rattle.dv_check.specs.Tables.{has};
-ghost use Rattle.dv_check.specs.Items.{phases_in, ruled_in, start_phase};
-ghost use Rattle.dv_check.specs.Rules.{atomic_refusals, can_ask_hold, hold_names_only, hold_refusals, holds_missing, is_hold_fine, is_start_known_by, item_refusals, known_by, known_in, names_refusals, once_refusals, stands_once, start_hold_refused};
+ghost use Rattle.dv_check.specs.Rules.{atomic_refusals, can_ask_hold, holds_once_refusals, is_hold_fine, is_hold_missing, is_start_fault, known_by, names_refusals, once_refusals, phases_places, ruled_phases, standing_refusals, start_hold_refusals, start_places, ticks_refusals};
 
 use crate::declarations::Declarations;
 use crate::findings::Findings;
-use crate::items;
+use crate::limits::GREATEST_NAMES;
+use crate::names;
 use crate::number_set::NumberSet;
-use crate::repeats::{find_repeats, find_too_many, within_limit};
+use crate::repeats::{find_excess, find_repeats, within_limit};
 use crate::starts::Starts;
-use dv_eval::{Env, phase_hold, start_state};
-use dv_lex::Refusal;
-use dv_syntax::{Atomic, Item, Name, RuleSort};
+use dv_eval::{Scope, phase_hold, phase_ticks, start_state};
+use dv_lex::RefusalNumber;
+use dv_syntax::{Atomic, Name, Phases, Rule, RuleSort, Start, Ticks};
 use std::alloc::{AllocError, Global};
 
 /// Tests an atomic model.
 pub fn check_atomic(alloc: Global, model: &Atomic, found: &mut Findings) -> Result<(), AllocError>
-    ensures { OnOk result (found.new ≡ noted found.old (atomic_refusals (atomic_of model.now))) }
+    ensures { OnOk result (found.new ≡ with_refusals found.old (atomic_refusals (atomic_of model.now))) }
 {
-    let phases = items::phases(alloc, &model.items)?;
-    check_names(alloc, &model.items, &phases, found)?;
-    check_once(alloc, model.name.line, &model.items, found)?;
-    let declarations = Declarations::of(alloc, &model.items, &phases)?;
-    check_items(&declarations, &model.items, found);
+    check_names(alloc, model, found)?;
+    check_standing(alloc, model, found)?;
+    let declarations = Declarations::of(alloc, model)?;
+    declarations.check_items(alloc, model, found)?;
     check_start_hold(alloc, model, &declarations, found)?;
     Ok(())
 }
 
 // Names that are declared twice or too often.
-fn check_names(
-    alloc: Global,
-    items: &[Item],
-    phases: &[Name],
-    found: &mut Findings,
-) -> Result<(), AllocError>
-    requires { phases.now ≡ phases_in (map item_of items.now) }
-    ensures { OnOk result (found.new ≡ noted found.old (names_refusals (map item_of items.now))) }
+fn check_names(alloc: Global, model: &Atomic, found: &mut Findings) -> Result<(), AllocError>
+    ensures { OnOk result (found.new ≡ with_refusals found.old (names_refusals (atomic_of model.now))) }
 {
-    find_repeats(alloc, Refusal::E6, &items::declared(alloc, items)?, found)?;
-    find_repeats(alloc, Refusal::E6, phases, found)?;
-    check_ruled(alloc, RuleSort::Output, items, found)?;
-    check_ruled(alloc, RuleSort::Internal, items, found)?;
-    find_too_many(&items::outputs(alloc, items)?, found);
-    find_too_many(&items::variables(alloc, items)?, found);
-    find_too_many(phases, found);
+    let phases = names::phases(alloc, &model.phases)?;
+    let variables = names::variables(alloc, &model.declarations)?;
+    let declared = names::declared(alloc, &model.declarations)?;
+    find_repeats(alloc, RefusalNumber::E6, &declared, found)?;
+    find_repeats(alloc, RefusalNumber::E6, &phases, found)?;
+    check_ruled(alloc, RuleSort::Output, &model.rules, found)?;
+    check_ruled(alloc, RuleSort::Internal, &model.rules, found)?;
+    find_excess(&names::outputs(alloc, &model.declarations)?, found);
+    find_excess(&names::names_of_variables(alloc, &variables)?, found);
+    find_excess(&phases, found);
     Ok(())
 }
 
@@ -59,71 +55,95 @@ fn check_names(
 fn check_ruled(
     alloc: Global,
     sort: RuleSort,
-    items: &[Item],
+    rules: &[Rule],
     found: &mut Findings,
 ) -> Result<(), AllocError>
-    ensures { OnOk result (found.new ≡ noted found.old (repeated E6 (ruled_in sort (map item_of items.now)))) }
+    ensures { OnOk result (found.new ≡ with_refusals found.old (repeats E6 (ruled_phases sort (map rule_of rules.now)))) }
 {
     find_repeats(
         alloc,
-        Refusal::E6,
-        &items::ruled(alloc, sort, items)?,
+        RefusalNumber::E6,
+        &names::ruled_phases(alloc, sort, rules)?,
         found,
     )
 }
 
 // `phases`, `start` and the holds, each of which has to stand once.
-fn check_once(
-    alloc: Global,
-    model_line: u32,
-    items: &[Item],
-    found: &mut Findings,
-) -> Result<(), AllocError>
-    ensures { OnOk result (found.new ≡ noted found.old (once_refusals model_line (map item_of items.now))) }
+fn check_standing(alloc: Global, model: &Atomic, found: &mut Findings) -> Result<(), AllocError>
+    ensures { OnOk result (found.new ≡ with_refusals found.old (standing_refusals (atomic_of model.now))) }
 {
-    check_stands_once(model_line, &items::phases_lines(alloc, items)?, found);
-    check_stands_once(model_line, &items::start_lines(alloc, items)?, found);
-    let held = items::held(alloc, items)?;
-    find_repeats(alloc, Refusal::E10, &held, found)?;
-    let held = NumberSet::of(alloc, &held)?;
-    let phases = within_limit(items::first_phases(items));
-    find_missing_holds(model_line, &held, phases, found);
+    check_phases_once(alloc, model, found)?;
+    check_start_once(alloc, model, found)?;
+    check_holds_once(alloc, model, found)
+}
+
+fn check_phases_once(alloc: Global, model: &Atomic, found: &mut Findings) -> Result<(), AllocError>
+    ensures { OnOk result (found.new ≡ with_refusals found.old (once_refusals model.now.name.place (phases_places (atomic_of model.now).phases))) }
+{
+    let places = phases_places(alloc, &model.phases)?;
+    check_once(model.name.place, &places, found);
     Ok(())
 }
 
-fn check_stands_once(model_line: u32, lines: &[u32], found: &mut Findings)
-    ensures { found.new ≡ noted found.old (stands_once model_line lines.now) }
+fn check_start_once(alloc: Global, model: &Atomic, found: &mut Findings) -> Result<(), AllocError>
+    ensures { OnOk result (found.new ≡ with_refusals found.old (once_refusals model.now.name.place (start_places (atomic_of model.now).starts))) }
 {
-    match lines {
-        [] => found.note(Refusal::E10, model_line),
-        [_, again @ ..] => note_again(again, found),
+    let places = start_places(alloc, &model.starts)?;
+    check_once(model.name.place, &places, found);
+    Ok(())
+}
+
+fn check_holds_once(alloc: Global, model: &Atomic, found: &mut Findings) -> Result<(), AllocError>
+    ensures { OnOk result (found.new ≡ with_refusals found.old (holds_once_refusals (atomic_of model.now))) }
+{
+    let held = names::held_phases(alloc, &model.holds)?;
+    find_repeats(alloc, RefusalNumber::E10, &held, found)?;
+    let held = NumberSet::of(alloc, &held)?;
+    let phases = within_limit(GREATEST_NAMES, names::first_phases(&model.phases));
+    check_holds_stand(model.name.place, &held, phases, found);
+    Ok(())
+}
+
+fn check_holds_stand(model_place: u32, held: &NumberSet, phases: &[Name], found: &mut Findings)
+    ensures { found.new ≡ with_refusals found.old (refusal_if (is_hold_missing (has held.now) phases.now) E10 model_place) }
+{
+    if is_hold_missing(held, phases) {
+        found.note(RefusalNumber::E10, model_place);
     }
 }
 
-fn note_again(lines: &[u32], found: &mut Findings)
-    ensures { found.new ≡ noted found.old (map (λ line. refused E10 line) lines.now) }
+#[tactic(auto, using(crate::proofs::Lists::map_of_map))]
+fn phases_places(alloc: Global, items: &[Phases]) -> Result<Vec<u32>, AllocError>
+    ensures { IfOk result (λ places. places.items ≡ phases_places (map phases_of items.now)) }
 {
-    for line in lines {
-        found.note(Refusal::E10, *line);
+    items.iter().map(|item| item.place).collect(alloc)
+}
+
+fn start_places(alloc: Global, items: &[Start]) -> Result<Vec<u32>, AllocError>
+    ensures { IfOk result (λ places. places.items ≡ start_places items.now) }
+{
+    items.iter().map(|item| item.place).collect(alloc)
+}
+
+fn check_once(model_place: u32, places: &[u32], found: &mut Findings)
+    ensures { found.new ≡ with_refusals found.old (once_refusals model_place places.now) }
+{
+    match places {
+        [] => found.note(RefusalNumber::E10, model_place),
+        [_] => {}
+        [_, second, ..] => found.note(RefusalNumber::E10, *second),
     }
 }
 
-fn find_missing_holds(model_line: u32, held: &NumberSet, phases: &[Name], found: &mut Findings)
-    ensures { found.new ≡ noted found.old (holds_missing model_line (has held.now) phases.now) }
+fn is_hold_missing(held: &NumberSet, phases: &[Name]) -> bool
+    ensures { result ≡ is_hold_missing (has held.now) phases.now }
 {
     for phase in phases {
         if !held.contains(phase.number) {
-            found.note(Refusal::E10, model_line);
+            return true;
         }
     }
-}
-
-fn check_items(declarations: &Declarations, items: &[Item], found: &mut Findings)
-    ensures { found.new ≡ noted found.old (flat_map (item_refusals (known_by declarations.now)) (map item_of items.now)) }
-{
-    for item in items {
-        declarations.check_item(item, found);
-    }
+    false
 }
 
 // The hold of the start phase, in the start state.
@@ -133,79 +153,67 @@ fn check_start_hold(
     declarations: &Declarations,
     found: &mut Findings,
 ) -> Result<(), AllocError>
-    requires { known_by declarations.now ≡ known_in (map item_of model.now.items.items) }
-    ensures { OnOk result (found.new ≡ noted found.old (start_hold_refused (atomic_of model.now) (start_phase (map item_of model.now.items.items)))) }
+    ensures { OnOk result (found.new ≡ with_refusals found.old (start_hold_refusals (known_by declarations.now) (atomic_of model.now) model.now.starts.items)) }
 {
-    let Some(phase) = items::start_phase(&model.items) else {
+    let Some(start) = model.starts.first() else {
         return Ok(());
     };
-    if can_ask_hold(alloc, declarations, &phase, &model.items)? {
-        let env = Env::of(alloc, model)?;
-        let state = start_state(alloc, model, &env)?;
-        if phase_hold(model, phase.number, &state, &env).is_err() {
-            found.note(Refusal::E11, phase.line);
-        }
+    if is_start_fault(alloc, declarations, model, &start.phase)? {
+        found.note(RefusalNumber::E11, start.phase.place);
     }
     Ok(())
+}
+
+// Whether the hold of a phase can be asked, and faults in the start state.
+fn is_start_fault(
+    alloc: Global,
+    declarations: &Declarations,
+    model: &Atomic,
+    phase: &Name,
+) -> Result<bool, AllocError>
+    ensures { IfOk result (λ faults. faults ≡ is_start_fault (known_by declarations.now) (atomic_of model.now) phase.now) }
+{
+    if !can_ask_hold(alloc, declarations, model, phase)? {
+        return Ok(false);
+    }
+    let scope = Scope::of(alloc, model)?;
+    let state = start_state(alloc, model, &scope)?;
+    Ok(phase_hold(model, phase.number, &state, &scope).is_err())
 }
 
 // Whether nothing is wrong with the hold of a phase, nor with the variables that it names.
 fn can_ask_hold(
     alloc: Global,
     declarations: &Declarations,
+    model: &Atomic,
     phase: &Name,
-    items: &[Item],
 ) -> Result<bool, AllocError>
-    ensures { IfOk result (λ can_ask. can_ask ≡ can_ask_hold (known_by declarations.now) phase.now (map item_of items.now)) }
+    ensures { IfOk result (λ can_ask. can_ask ≡ can_ask_hold (known_by declarations.now) (variables_in (atomic_of model.now).declarations) phase.now (hold_ticks phase.now.number (atomic_of model.now).holds)) }
 {
-    if !is_hold_fine(declarations, phase, items) {
+    let ticks = phase_ticks(model, phase.number);
+    if !is_hold_fine(declarations, phase, ticks) {
         return Ok(false);
     }
-    let starts = Starts::of(alloc, items)?;
-    Ok(are_names_known(&starts, phase.number, items))
+    let starts = Starts::of(alloc, &model.declarations)?;
+    Ok(match ticks {
+        Some(ticks) => starts.know_ticks(ticks),
+        None => true,
+    })
 }
 
-fn is_hold_fine(declarations: &Declarations, phase: &Name, items: &[Item]) -> bool
-    ensures { result ≡ is_hold_fine (known_by declarations.now) phase.now (map item_of items.now) }
+fn is_hold_fine(declarations: &Declarations, phase: &Name, ticks: Option<&Ticks>) -> bool
+    ensures { result ≡ is_hold_fine (known_by declarations.now) phase.now (ticks_found (option_copied ticks.entry)) }
 {
     let mut wrong = Findings::new();
     declarations.check_phase(phase, &mut wrong);
-    check_phase_hold(declarations, phase.number, items, &mut wrong);
+    check_found_ticks(declarations, ticks, &mut wrong);
     wrong.is_empty()
 }
 
-// Tests the first hold of a phase.
-fn check_phase_hold(declarations: &Declarations, phase: u32, items: &[Item], found: &mut Findings)
-    ensures { found.new ≡ noted found.old (hold_refusals (known_by declarations.now) (hold_ticks phase (map item_of items.now))) }
+fn check_found_ticks(declarations: &Declarations, ticks: Option<&Ticks>, found: &mut Findings)
+    ensures { found.new ≡ with_refusals found.old (ticks_refusals (known_by declarations.now) (ticks_found (option_copied ticks.entry))) }
 {
-    for item in items {
-        if let Item::Hold {
-            phase: name,
-            ticks,
-            ..
-        } = item
-            && name.number == phase
-        {
-            declarations.check_ticks(ticks, found);
-            return;
-        }
+    if let Some(ticks) = ticks {
+        declarations.check_ticks(ticks, found);
     }
-}
-
-// Whether nothing is wrong with the variables that the first hold of a phase names.
-fn are_names_known(starts: &Starts, phase: u32, items: &[Item]) -> bool
-    ensures { result ≡ hold_names_only (is_start_known_by starts.now) (hold_ticks phase (map item_of items.now)) }
-{
-    for item in items {
-        if let Item::Hold {
-            phase: name,
-            ticks,
-            ..
-        } = item
-            && name.number == phase
-        {
-            return starts.know_ticks(ticks);
-        }
-    }
-    true
 }

@@ -1,13 +1,15 @@
 //! The checks of a whole text.
 
-ghost use Rattle.std.specs.Prelude.{◌≡◌, List, [], map, IfErr, IfOk, OnOk};
-ghost use Rattle.dv_lex.specs.declared.error.Refusal.TheVariants.{E6};
-ghost use Rattle.dv_check.specs.Names.{model_named, name_of_model, parts_of, repeated};
+ghost use Rattle.std.specs.Prelude.{◌≡◌, List, map, option_map, Some, None, IfErr, IfOk, OnOk};
+ghost use Rattle.std.specs.Option.{option_copied};
+ghost use Rattle.std.specs.List.{flat_map};
+ghost use Rattle.dv_lex.specs.Order.{first_refusal};
+ghost use Rattle.dv_lex.specs.declared.error.RefusalNumber.TheVariants.{E6};
 ghost use Rattle.dv_syntax.specs.Trees.{file_of, model_of, ModelTree};
-ghost use Rattle.dv_check.specs.Findings.{noted};
+ghost use Rattle.dv_check.specs.Findings.{with_refusals};
 ghost use Rattle.dv_check.specs.Models.{faces_by, faces_in};
-ghost use Rattle.dv_check.specs.Rules.{is_none_left};
-ghost use Rattle.dv_check.specs.Refusals.{IsOnFirstLine, model_refusals, models_refusals, NamesRefusal, refusals, root_refusals};
+ghost use Rattle.dv_check.specs.Names.{model_named, name_of_model, repeats};
+ghost use Rattle.dv_check.specs.Refusals.{AreOfOneText, IsAnswerTo, limit_refusals, model_refusals, refusal_of, refusals, root_limit_refusals, root_refusals};
 
 use crate::atomic::check_atomic;
 use crate::checked::Checked;
@@ -16,50 +18,73 @@ use crate::directory::Directory;
 use crate::findings::Findings;
 use crate::models::{ModelKind, kinds_of, name_of};
 use crate::repeats::find_repeats;
-use dv_lex::{LoadError, Names, Refusal};
-use dv_syntax::{CoupledItem, File, Model, Name};
+use dv_lex::{LoadError, Names, Refusal, RefusalNumber};
+use dv_syntax::{File, Model, Name};
 use std::alloc::{AllocError, Global};
 
-/// Tests a file by every rule but the limit on links.
+/// Tests a file of a model text, whose names are in this table.
 ///
 /// # Errors
 ///
-/// `Refused` names a rule that the file breaks, and the file breaks none on an earlier line. `Memory`: no memory for
-/// the tables of names.
+/// `Refused` has the file's refusal: of all rules that the file breaks the one at the least place, and there the one
+/// of the least number. The limits on the whole tree are asked only where no other rule is broken. `Memory`: no memory
+/// for the tables of names.
 pub fn check(alloc: Global, file: File, names: Names) -> Result<Checked, LoadError>
+    requires { AreOfOneText names (file_of file) }
     ensures file { IfOk result (λ c. c.file ≡ file) }
     ensures names { IfOk result (λ c. c.names ≡ names) }
-    ensures accepted { OnOk result (refusals (file_of file) ≡ []) }
-    ensures refused { IfErr result (NamesRefusal (refusals (file_of file))) }
-    ensures first_line { IfErr result (IsOnFirstLine (refusals (file_of file))) }
+    ensures accepted { OnOk result (refusal_of (file_of file) ≡ None) }
+    ensures refused { IfErr result (IsAnswerTo (file_of file)) }
 {
-    let mut found = Findings::new();
-    check_file(alloc, &file, &mut found)?;
-    match found.first {
-        Some(first) => Err(LoadError::Refused(first)),
+    match refusal_of(alloc, &file)? {
+        Some(refusal) => Err(LoadError::Refused(refusal)),
         None => Ok(Checked { file, names }),
     }
 }
 
-fn check_file(alloc: Global, file: &File, found: &mut Findings) -> Result<(), AllocError>
-    ensures { OnOk result (found.new ≡ noted found.old (refusals (file_of file.now))) }
+fn refusal_of(alloc: Global, file: &File) -> Result<Option<Refusal>, AllocError>
+    ensures { IfOk result (λ answer. answer ≡ refusal_of (file_of file.now)) }
 {
-    let models = file.models.as_slice();
-    check_model_names(alloc, models, found)?;
-    check_models(alloc, models, found)?;
-    check_root(models, &file.root, found);
+    match broken_rule(alloc, file)? {
+        Some(refusal) => Ok(Some(refusal)),
+        None => Ok(passed_limit(file)),
+    }
+}
+
+// The first rule that a file breaks.
+fn broken_rule(alloc: Global, file: &File) -> Result<Option<Refusal>, AllocError>
+    ensures { IfOk result (λ first. first ≡ first_refusal (refusals (file_of file.now))) }
+{
+    let mut found = Findings::new();
+    check_file(alloc, file, &mut found)?;
+    Ok(found.first)
+}
+
+// The first limit on the whole tree that a file passes.
+fn passed_limit(file: &File) -> Option<Refusal>
+    ensures { result ≡ first_refusal (limit_refusals (file_of file.now)) }
+{
+    let mut found = Findings::new();
+    if let Some(model) = model_named(&file.models, file.root.number) {
+        check_root_limit(model, file.root.place, &mut found);
+    }
+    found.first
+}
+
+fn check_file(alloc: Global, file: &File, found: &mut Findings) -> Result<(), AllocError>
+    ensures { OnOk result (found.new ≡ with_refusals found.old (refusals (file_of file.now))) }
+{
+    check_model_names(alloc, file, found)?;
+    check_models(alloc, file, found)?;
+    check_root(file, found);
     Ok(())
 }
 
-fn check_model_names(
-    alloc: Global,
-    models: &[Model],
-    found: &mut Findings,
-) -> Result<(), AllocError>
-    ensures { OnOk result (found.new ≡ noted found.old (repeated E6 (map name_of_model (map model_of models.now)))) }
+fn check_model_names(alloc: Global, file: &File, found: &mut Findings) -> Result<(), AllocError>
+    ensures { OnOk result (found.new ≡ with_refusals found.old (repeats E6 (map name_of_model (file_of file.now).models))) }
 {
-    let names = names_of(alloc, models)?;
-    find_repeats(alloc, Refusal::E6, &names, found)?;
+    let names = names_of(alloc, &file.models)?;
+    find_repeats(alloc, RefusalNumber::E6, &names, found)?;
     Ok(())
 }
 
@@ -73,11 +98,11 @@ fn names_of(alloc: Global, models: &[Model]) -> Result<Vec<Name>, AllocError>
     Ok(names)
 }
 
-fn check_models(alloc: Global, models: &[Model], found: &mut Findings) -> Result<(), AllocError>
-    ensures { OnOk result (found.new ≡ noted found.old (models_refusals (map model_of models.now) (map model_of models.now))) }
+fn check_models(alloc: Global, file: &File, found: &mut Findings) -> Result<(), AllocError>
+    ensures { OnOk result (found.new ≡ with_refusals found.old (flat_map (model_refusals (file_of file.now).models) (file_of file.now).models)) }
 {
-    let kinds = kinds_of(alloc, models)?;
-    for model in models {
+    let kinds = kinds_of(alloc, &file.models)?;
+    for model in &file.models {
         check_model(alloc, &kinds, model, found)?;
     }
     Ok(())
@@ -89,7 +114,7 @@ fn check_model(
     model: &Model,
     found: &mut Findings,
 ) -> Result<(), AllocError>
-    ensures { OnOk result ((models : List ModelTree) → faces_by kinds.now ≡ faces_in models → found.new ≡ noted found.old (model_refusals models (model_of model.now))) }
+    ensures { OnOk result ((models : List ModelTree) → faces_by kinds.now ≡ faces_in models → found.new ≡ with_refusals found.old (model_refusals models (model_of model.now))) }
 {
     match model {
         Model::Atomic(atomic) => check_atomic(alloc, atomic, found)?,
@@ -98,38 +123,45 @@ fn check_model(
     Ok(())
 }
 
-fn check_root(models: &[Model], root: &Name, found: &mut Findings)
-    ensures { found.new ≡ noted found.old (root_refusals (model_named root.now.number (map model_of models.now)) root.now.line) }
+// The first model of a name.
+fn model_named(models: &[Model], number: u32) -> Option<&Model>
+    ensures { option_map model_of (option_copied result) ≡ model_named number (map model_of models.now) }
 {
     for model in models {
-        if name_of(model).number == root.number {
-            check_root_model(model, root.line, found);
-            return;
+        if name_of(model).number == number {
+            return Some(model);
         }
     }
-    found.note(Refusal::E7, root.line);
+    None
 }
 
-fn check_root_model(model: &Model, line: u32, found: &mut Findings)
-    ensures { found.new ≡ noted found.old (root_refusals (Some (model_of model.now)) line) }
+fn check_root(file: &File, found: &mut Findings)
+    ensures { found.new ≡ with_refusals found.old (root_refusals (model_named file.now.root.number (file_of file.now).models) file.now.root.place) }
+{
+    match model_named(&file.models, file.root.number) {
+        Some(model) => check_root_model(model, file.root.place, found),
+        None => found.note(RefusalNumber::E7, file.root.place),
+    }
+}
+
+fn check_root_model(model: &Model, place: u32, found: &mut Findings)
+    ensures { found.new ≡ with_refusals found.old (root_refusals (Some (model_of model.now)) place) }
 {
     match model {
-        Model::Atomic(_) => found.note(Refusal::E16, line),
+        Model::Atomic(_) => found.note(RefusalNumber::E16, place),
+        Model::Coupled(_) => {}
+    }
+}
+
+fn check_root_limit(model: &Model, place: u32, found: &mut Findings)
+    ensures { found.new ≡ with_refusals found.old (root_limit_refusals (Some (model_of model.now)) place) }
+{
+    match model {
+        Model::Atomic(_) => {}
         Model::Coupled(coupled) => {
-            if has_no_part(&coupled.items) {
-                found.note(Refusal::E17, line);
+            if coupled.parts.is_empty() {
+                found.note(RefusalNumber::E17, place);
             }
         }
     }
-}
-
-fn has_no_part(items: &[CoupledItem]) -> bool
-    ensures { result ≡ is_none_left (parts_of items.now) }
-{
-    for item in items {
-        if let CoupledItem::Part(_) = item {
-            return false;
-        }
-    }
-    true
 }

@@ -3,21 +3,19 @@
 ghost use Rattle.std.specs.Prelude.{◌≡◌, List, OnOk};
 ghost use Rattle.std.specs.List.{flat_map};
 ghost use Rattle.dv_syntax.specs.Trees.{coupled_of, ModelTree};
-ghost use Rattle.dv_check.specs.Findings.{noted};
+ghost use Rattle.dv_check.specs.Findings.{with_refusals};
 ghost use Rattle.dv_check.specs.LinkSets.{no_link};
 ghost use Rattle.dv_check.specs.Models.{faces_by, faces_in};
-ghost use Rattle.dv_check.specs.Rules.{is_none_left};
-ghost use Rattle.dv_check.specs.Couplings.{coupled_refusals, ends_refused, repeated_links_after};
-ghost use Rattle.dv_check.specs.Inside.{item_refused, within_by};
+ghost use Rattle.dv_check.specs.Couplings.{coupled_refusals, coupled_refusals_by, link_refusals, part_refusals, repeated_links_after, interior_by};
 
 use crate::directory::Directory;
 use crate::findings::Findings;
 use crate::link_set::LinkSet;
 use crate::models::ModelKind;
-use crate::parts::{Inside, check_coupled_item, check_ends, part_names, ports};
-use crate::repeats::{find_repeats, find_too_many};
-use dv_lex::Refusal;
-use dv_syntax::{Coupled, CoupledItem, Link};
+use crate::parts::{Interior, check_link, check_part_model, is_exit, part_names};
+use crate::repeats::{find_excess, find_repeats};
+use dv_lex::RefusalNumber;
+use dv_syntax::{Coupled, Link, Part};
 use std::alloc::{AllocError, Global};
 
 /// Tests a coupled model of a text with models of these kinds.
@@ -27,53 +25,60 @@ pub fn check_coupled(
     model: &Coupled,
     found: &mut Findings,
 ) -> Result<(), AllocError>
-    ensures { OnOk result ((models : List ModelTree) → faces_by kinds.now ≡ faces_in models → found.new ≡ noted found.old (coupled_refusals models (coupled_of model.now))) }
+    ensures { OnOk result ((models : List ModelTree) → faces_by kinds.now ≡ faces_in models → found.new ≡ with_refusals found.old (coupled_refusals models (coupled_of model.now))) }
 {
-    let items = model.items.as_slice();
-    let ports = ports(alloc, items)?;
-    let parts = part_names(alloc, items)?;
-    find_repeats(alloc, Refusal::E6, &ports, found)?;
-    find_repeats(alloc, Refusal::E6, &parts, found)?;
-    let inside = Inside::of(alloc, items, &ports, kinds)?;
-    check_coupled_items(&inside, items, found);
-    find_repeated_links(alloc, &inside, items, found)?;
-    find_too_many(&ports, found);
-    find_too_many(&parts, found);
+    let interior = Interior::of(alloc, model, kinds)?;
+    check_within(alloc, &interior, model, found)
+}
+
+fn check_within(
+    alloc: Global,
+    interior: &Interior,
+    model: &Coupled,
+    found: &mut Findings,
+) -> Result<(), AllocError>
+    ensures { OnOk result (found.new ≡ with_refusals found.old (coupled_refusals_by (interior_by interior.now) (coupled_of model.now))) }
+{
+    let parts = part_names(alloc, &model.parts)?;
+    find_repeats(alloc, RefusalNumber::E6, &model.outputs, found)?;
+    find_repeats(alloc, RefusalNumber::E6, &parts, found)?;
+    check_parts(interior, &model.parts, found);
+    check_links(interior, &model.links, found);
+    find_repeated_links(alloc, interior, &model.links, found)?;
+    find_excess(&model.outputs, found);
+    find_excess(&parts, found);
     Ok(())
 }
 
-fn check_coupled_items(inside: &Inside, items: &[CoupledItem], found: &mut Findings)
-    ensures { found.new ≡ noted found.old (flat_map (item_refused (within_by inside.now)) items.now) }
+fn check_parts(interior: &Interior, parts: &[Part], found: &mut Findings)
+    ensures { found.new ≡ with_refusals found.old (flat_map (part_refusals (interior_by interior.now)) parts.now) }
 {
-    for item in items {
-        check_coupled_item(inside, item, found);
+    for part in parts {
+        check_part_model(interior, part, found);
+    }
+}
+
+fn check_links(interior: &Interior, links: &[Link], found: &mut Findings)
+    ensures { found.new ≡ with_refusals found.old (flat_map (link_refusals (interior_by interior.now)) links.now) }
+{
+    for link in links {
+        check_link(interior, link, found);
     }
 }
 
 fn find_repeated_links(
     alloc: Global,
-    inside: &Inside,
-    items: &[CoupledItem],
+    interior: &Interior,
+    links: &[Link],
     found: &mut Findings,
 ) -> Result<(), AllocError>
-    ensures { OnOk result (found.new ≡ noted found.old (repeated_links_after (within_by inside.now) no_link items.now)) }
+    ensures { OnOk result (found.new ≡ with_refusals found.old (repeated_links_after (interior_by interior.now) no_link links.now)) }
 {
     let mut seen = LinkSet::new(alloc);
-    for item in items {
-        if let CoupledItem::Link(link) = item {
-            if !seen.insert(link)? && are_ends_fine(inside, link) {
-                found.note(Refusal::E14, link.line);
-            }
+    for link in links {
+        if !seen.insert(link)? && is_exit(interior, link) {
+            found.note(RefusalNumber::E14, link.place);
         }
     }
     Ok(())
-}
-
-#[tactic(auto, using(crate::proofs::Noted::nothing_noted))]
-fn are_ends_fine(inside: &Inside, link: &Link) -> bool
-    ensures { result ≡ is_none_left (ends_refused (within_by inside.now) link.now) }
-{
-    let mut wrong = Findings::new();
-    check_ends(inside, link, &mut wrong);
-    wrong.is_empty()
 }

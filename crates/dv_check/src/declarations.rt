@@ -1,26 +1,33 @@
 //! The names that an atomic model declares.
 
-ghost use Rattle.std.specs.Prelude.{◌≡◌, map, not, IfOk};
-ghost use Rattle.dv_syntax.specs.Trees.{item_of, statement_before, Statements, statements_of, ticks_of};
-ghost use Rattle.dv_check.specs.Findings.{noted};
+ghost use Rattle.std.specs.Prelude.{◌≡◌, map, not, IfOk, OnOk};
+ghost use Rattle.std.specs.List.{flat_map};
+ghost use Rattle.dv_syntax.specs.Trees.{atomic_of, hold_of, rule_of, statement_before, Statements, statements_of, ticks_of};
 ghost use Rattle.dv_syntax.specs.declared.tree.RuleSort.TheVariants.{Output};
 ghost use Rattle.dv_eval.specs.Scope.{same_sort};
-ghost use Rattle.dv_lex.specs.declared.error.Refusal.TheVariants.{E9};
-ghost use Rattle.dv_check.specs.Names.{refused_if};
-ghost use Rattle.dv_check.specs.Items.{declared_by, phases_in};
-ghost use Rattle.dv_check.specs.Tables.{first_of, looked_up};
-ghost use Rattle.dv_check.specs.Rules.{assigned_refused, is_out_of_range, sent_port_refused, hold_refusals, item_refusals, known_by, known_in, statements_refusals, unknown_phase};
+ghost use Rattle.dv_lex.specs.declared.error.RefusalNumber.TheVariants.{E9};
+ghost use Rattle.dv_check.specs.Findings.{with_refusals};
+ghost use Rattle.dv_check.specs.Names.{refusal_if};
+ghost use Rattle.dv_check.specs.Tables.{first_of, value_for};
+ghost use Rattle.dv_check.specs.Rules.{assignment_refusals, hold_refusals, is_out_of_range, items_refusals, known_by, known_in, phase_refusals, rule_refusals, sent_port_refusals, sort_in, sort_of, start_refusals, statements_refusals, ticks_refusals, variable_refusals};
 
 use crate::directory::Directory;
 use crate::expression::{ValueType, check_place};
 use crate::findings::Findings;
-use crate::items::{NameSort, declared_by};
+use crate::names;
 use crate::number_set::NumberSet;
-use dv_eval::Declaration;
-use dv_lex::Refusal;
+use dv_eval::VariableRange;
+use dv_lex::RefusalNumber;
 use dv_syntax::laws::trees_keep_blocks;
-use dv_syntax::{Item, Name, RuleSort, Stmt, Ticks, Variable};
+use dv_syntax::{Atomic, Declaration, Hold, Name, Rule, RuleSort, Start, Stmt, Ticks, Variable};
 use std::alloc::{AllocError, Global};
+
+/// What a name of an atomic model stands for.
+#[derive(Clone, Copy, Debug, PartialEq, Eq)]
+pub enum NameSort {
+    Variable,
+    Output,
+}
 
 /// The names that an atomic model declares.
 #[derive(Drop)]
@@ -29,56 +36,88 @@ pub struct Declarations {
     pub phases: NumberSet,
 }
 
-// What the names of ports and variables stand for.
-#[tactic(auto, using(crate::proofs::Firsts::first_of_none, crate::proofs::Firsts::first_of_more))]
-fn sorts_of(alloc: Global, items: &[Item]) -> Result<Directory<NameSort>, AllocError>
-    ensures { IfOk result (λ sorts. looked_up sorts ≡ first_of declared_by (map item_of items.now)) }
+fn sort_of(declaration: &Declaration) -> NameSort
+    ensures { result ≡ sort_of declaration.now }
+{
+    match declaration {
+        Declaration::Out(_) => NameSort::Output,
+        Declaration::Var(_) => NameSort::Variable,
+    }
+}
+
+/// What the names of ports and variables stand for.
+#[tactic(auto, using(crate::proofs::Firsts::first_of_none))]
+pub fn sorts_of(
+    alloc: Global,
+    declarations: &[Declaration],
+) -> Result<Directory<NameSort>, AllocError>
+    ensures { IfOk result (λ sorts. value_for sorts ≡ sort_in declarations.now) }
 {
     let mut sorts = Directory::new(alloc);
-    for item in items {
-        sorts.declare(declared_by(item))?;
+    for declaration in declarations {
+        let name = names::name_of_declaration(declaration);
+        sorts.add(name.number, sort_of(declaration))?;
     }
     Ok(sorts)
 }
 
 impl Declarations {
-    /// The names that these items declare, `phases` being the phases of all of them.
-    pub fn of(alloc: Global, items: &[Item], phases: &[Name]) -> Result<Self, AllocError>
-        requires { phases.now ≡ phases_in (map item_of items.now) }
-        ensures { IfOk result (λ d. known_by d ≡ known_in (map item_of items.now)) }
+    /// The names that a model declares.
+    pub fn of(alloc: Global, model: &Atomic) -> Result<Self, AllocError>
+        ensures { IfOk result (λ d. known_by d ≡ known_in (atomic_of model.now)) }
     {
+        let phases = names::phases(alloc, &model.phases)?;
         Ok(Declarations {
-            sorts: sorts_of(alloc, items)?,
-            phases: NumberSet::of(alloc, phases)?,
+            sorts: sorts_of(alloc, &model.declarations)?,
+            phases: NumberSet::of(alloc, &phases)?,
         })
     }
 
-    /// Tests an item by itself.
-    pub fn check_item(&self, item: &Item, found: &mut Findings)
-        ensures { found.new ≡ noted found.old (item_refusals (known_by self.now) (item_of item.now)) }
+    /// Tests the items of a model, each by itself.
+    pub fn check_items(
+        &self,
+        alloc: Global,
+        model: &Atomic,
+        found: &mut Findings,
+    ) -> Result<(), AllocError>
+        ensures { OnOk result (found.new ≡ with_refusals found.old (items_refusals (known_by self.now) (atomic_of model.now))) }
     {
-        match item {
-            Item::Out(_) | Item::Phases { .. } => {}
-            Item::Var(variable) => {
-                if is_out_of_range(variable) {
-                    found.note(Refusal::E11, variable.name.line);
-                }
-            }
-            Item::Start { phase, .. } => self.check_phase(phase, found),
-            Item::Hold { phase, ticks, .. } => {
-                self.check_phase(phase, found);
-                self.check_ticks(ticks, found);
-            }
-            Item::Rule { sort, phase, body } => {
-                self.check_phase(phase, found);
-                self.check_statements(*sort, &body.statements, found);
-            }
+        check_variables(&names::variables(alloc, &model.declarations)?, found);
+        self.check_starts(&model.starts, found);
+        self.check_holds(&model.holds, found);
+        self.check_rules(&model.rules, found);
+        Ok(())
+    }
+
+    fn check_starts(&self, starts: &[Start], found: &mut Findings)
+        ensures { found.new ≡ with_refusals found.old (flat_map (start_refusals (known_by self.now)) starts.now) }
+    {
+        for start in starts {
+            self.check_phase(&start.phase, found);
+        }
+    }
+
+    fn check_holds(&self, holds: &[Hold], found: &mut Findings)
+        ensures { found.new ≡ with_refusals found.old (flat_map (hold_refusals (known_by self.now)) (map hold_of holds.now)) }
+    {
+        for hold in holds {
+            self.check_phase(&hold.phase, found);
+            self.check_ticks(&hold.ticks, found);
+        }
+    }
+
+    fn check_rules(&self, rules: &[Rule], found: &mut Findings)
+        ensures { found.new ≡ with_refusals found.old (flat_map (rule_refusals (known_by self.now)) (map rule_of rules.now)) }
+    {
+        for rule in rules {
+            self.check_phase(&rule.phase, found);
+            self.check_statements(rule.sort, &rule.body.statements, found);
         }
     }
 
     /// Tests the ticks of a hold.
     pub fn check_ticks(&self, ticks: &Ticks, found: &mut Findings)
-        ensures { found.new ≡ noted found.old (hold_refusals (known_by self.now) (ticks_of ticks.now)) }
+        ensures { found.new ≡ with_refusals found.old (ticks_refusals (known_by self.now) (ticks_of ticks.now)) }
     {
         match ticks {
             Ticks::Forever => {}
@@ -90,16 +129,16 @@ impl Declarations {
 
     /// Tests that a phase is known.
     pub fn check_phase(&self, phase: &Name, found: &mut Findings)
-        ensures { found.new ≡ noted found.old (unknown_phase (known_by self.now) phase.now) }
+        ensures { found.new ≡ with_refusals found.old (phase_refusals (known_by self.now) phase.now) }
     {
         if !self.phases.contains(phase.number) {
-            found.note(Refusal::E7, phase.line);
+            found.note(RefusalNumber::E7, phase.place);
         }
     }
 
     #[cycle(statements)]
     fn check_statements(&self, sort: RuleSort, statements: &[Stmt], found: &mut Findings)
-        ensures { found.new ≡ noted found.old (statements_refusals (known_by self.now) sort (statements_of statements.now)) }
+        ensures { found.new ≡ with_refusals found.old (statements_refusals (known_by self.now) sort (statements_of statements.now)) }
     {
         for statement in statements {
             self.check_statement(sort, statement, found);
@@ -108,7 +147,7 @@ impl Declarations {
 
     #[cycle(statements)]
     fn check_statement(&self, sort: RuleSort, statement: &Stmt, found: &mut Findings)
-        ensures { (rest : Statements) → noted found.new (statements_refusals (known_by self.now) sort rest) ≡ noted found.old (statements_refusals (known_by self.now) sort (statement_before statement.now rest)) }
+        ensures { (rest : Statements) → with_refusals found.new (statements_refusals (known_by self.now) sort rest) ≡ with_refusals found.old (statements_refusals (known_by self.now) sort (statement_before statement.now rest)) }
     {
         trees_keep_blocks();
         match statement {
@@ -116,12 +155,12 @@ impl Declarations {
                 self.check_assigned(sort, variable, found);
                 check_place(ValueType::Number, &self.sorts, value, found);
             }
-            Stmt::Goto { line, phase } => {
-                deny_in_output(sort, *line, found);
+            Stmt::Goto { place, phase } => {
+                deny_in_output(sort, *place, found);
                 self.check_phase(phase, found);
             }
-            Stmt::Send { line, port, value } => {
-                deny_outside_output(sort, *line, found);
+            Stmt::Send { place, port, value } => {
+                deny_outside_output(sort, *place, found);
                 self.check_sent_port(port, found);
                 check_place(ValueType::Number, &self.sorts, value, found);
             }
@@ -147,41 +186,41 @@ impl Declarations {
     }
 
     fn check_assigned(&self, sort: RuleSort, variable: &Name, found: &mut Findings)
-        ensures { found.new ≡ noted found.old (assigned_refused sort (looked_up self.now.sorts variable.now.number) variable.now.line) }
+        ensures { found.new ≡ with_refusals found.old (assignment_refusals sort (value_for self.now.sorts variable.now.number) variable.now.place) }
     {
         match self.sorts.get(variable.number) {
-            None => found.note(Refusal::E7, variable.line),
-            Some(NameSort::Output) => found.note(Refusal::E8, variable.line),
-            Some(NameSort::Variable) => deny_in_output(sort, variable.line, found),
+            None => found.note(RefusalNumber::E7, variable.place),
+            Some(NameSort::Output) => found.note(RefusalNumber::E8, variable.place),
+            Some(NameSort::Variable) => deny_in_output(sort, variable.place, found),
         }
     }
 
     fn check_sent_port(&self, port: &Name, found: &mut Findings)
-        ensures { found.new ≡ noted found.old (sent_port_refused (looked_up self.now.sorts port.now.number) port.now.line) }
+        ensures { found.new ≡ with_refusals found.old (sent_port_refusals (value_for self.now.sorts port.now.number) port.now.place) }
     {
         match self.sorts.get(port.number) {
-            None => found.note(Refusal::E7, port.line),
-            Some(NameSort::Variable) => found.note(Refusal::E8, port.line),
+            None => found.note(RefusalNumber::E7, port.place),
+            Some(NameSort::Variable) => found.note(RefusalNumber::E8, port.place),
             Some(NameSort::Output) => {}
         }
     }
 }
 
 // What changes a state has no place in an output rule.
-fn deny_in_output(sort: RuleSort, line: u32, found: &mut Findings)
-    ensures { found.new ≡ noted found.old (refused_if (same_sort sort Output) E9 line) }
+fn deny_in_output(sort: RuleSort, place: u32, found: &mut Findings)
+    ensures { found.new ≡ with_refusals found.old (refusal_if (same_sort sort Output) E9 place) }
 {
     if sort == RuleSort::Output {
-        found.note(Refusal::E9, line);
+        found.note(RefusalNumber::E9, place);
     }
 }
 
 // And `send` none outside of one.
-fn deny_outside_output(sort: RuleSort, line: u32, found: &mut Findings)
-    ensures { found.new ≡ noted found.old (refused_if (not (same_sort sort Output)) E9 line) }
+fn deny_outside_output(sort: RuleSort, place: u32, found: &mut Findings)
+    ensures { found.new ≡ with_refusals found.old (refusal_if (not (same_sort sort Output)) E9 place) }
 {
     if sort != RuleSort::Output {
-        found.note(Refusal::E9, line);
+        found.note(RefusalNumber::E9, place);
     }
 }
 
@@ -189,6 +228,16 @@ fn deny_outside_output(sort: RuleSort, line: u32, found: &mut Findings)
 pub fn is_out_of_range(variable: &Variable) -> bool
     ensures { result ≡ is_out_of_range variable.now }
 {
-    let Declaration { low, high, start } = Declaration::of(variable);
+    let VariableRange { low, high, start } = VariableRange::of(variable);
     high < low || start < low || high < start
+}
+
+fn check_variables(variables: &[Variable], found: &mut Findings)
+    ensures { found.new ≡ with_refusals found.old (flat_map variable_refusals variables.now) }
+{
+    for variable in variables {
+        if is_out_of_range(variable) {
+            found.note(RefusalNumber::E11, variable.name.place);
+        }
+    }
 }

@@ -2,9 +2,8 @@
 
 ghost use Rattle.std.specs.Prelude.{◌≡◌, OnOk};
 ghost use Rattle.std.specs.Option.{option_copied};
-ghost use Rattle.dv_check.specs.Tables.{looked_up, no_value, with_declared, with_first};
+ghost use Rattle.dv_check.specs.Tables.{value_for, no_value, with_first};
 
-use dv_syntax::Name;
 use std::alloc::{AllocError, Global};
 use std::collections::HashMap;
 
@@ -14,19 +13,20 @@ pub struct Directory<V: Drop> {
     values: HashMap<u32, V>,
 }
 
-#[tactic(auto, unfolding(crate::specs::Tables::looked_up, crate::specs::Tables::no_value, crate::specs::Tables::with_first))]
+#[tactic(auto, unfolding(crate::specs::Tables::value_for, crate::specs::Tables::no_value, crate::specs::Tables::with_first))]
 impl<V: Drop> Directory<V> {
     /// No values.
     pub fn new(alloc: Global) -> Self
-        ensures { looked_up result ≡ no_value }
+        ensures { value_for result ≡ no_value }
     {
         Directory {
             values: HashMap::new(alloc),
         }
     }
 
-    fn add(&mut self, number: u32, value: V) -> Result<(), AllocError>
-        ensures { OnOk result (looked_up self.new ≡ with_first (looked_up self.old) number value) }
+    /// Adds a value, unless there is one for the number.
+    pub fn add(&mut self, number: u32, value: V) -> Result<(), AllocError>
+        ensures { OnOk result (value_for self.new ≡ with_first (value_for self.old) number value) }
     {
         if !self.values.contains_key(&number) {
             self.values.insert(number, value)?;
@@ -34,19 +34,9 @@ impl<V: Drop> Directory<V> {
         Ok(())
     }
 
-    /// Adds a declaration, unless there is one for the name.
-    pub fn declare(&mut self, declared: Option<(Name, V)>) -> Result<(), AllocError>
-        ensures { OnOk result (looked_up self.new ≡ with_declared (looked_up self.old) declared) }
-    {
-        match declared {
-            Some((name, value)) => self.add(name.number, value),
-            None => Ok(()),
-        }
-    }
-
     /// The value of a number.
     pub fn get(&self, number: u32) -> Option<&V>
-        ensures { option_copied result ≡ looked_up self.now number }
+        ensures { option_copied result ≡ value_for self.now number }
     {
         self.values.get(&number)
     }

@@ -2,14 +2,14 @@
 
 ghost use Rattle.std.specs.Prelude.{◌≡◌};
 ghost use Rattle.dv_syntax.specs.Trees.{expression_of};
-ghost use Rattle.dv_check.specs.Findings.{noted};
-ghost use Rattle.dv_check.specs.Tables.{looked_up};
-ghost use Rattle.dv_check.specs.Types.{alike, both_numbers, differ, is_of, numbers_wanted, type_if, expression_refusals, first_line, operands_refused, place_refusals, type_of, type_of_operator, type_of_name, value_name_refused, wrong_type};
+ghost use Rattle.dv_check.specs.Findings.{with_refusals};
+ghost use Rattle.dv_check.specs.Tables.{value_for};
+ghost use Rattle.dv_check.specs.Types.{alike, both_numbers, differ, is_of, numbers_wanted, type_if, expression_refusals, first_place, operand_refusals, place_refusals, type_of, type_of_operator, type_of_name, value_name_refusals, type_refusals};
 
+use crate::declarations::NameSort;
 use crate::directory::Directory;
 use crate::findings::Findings;
-use crate::items::NameSort;
-use dv_lex::Refusal;
+use dv_lex::RefusalNumber;
 use dv_syntax::{Expr, Name, Operator};
 
 /// The type of a value.
@@ -19,11 +19,11 @@ pub enum ValueType {
     Truth,
 }
 
-/// The type of an expression, unless it is refused, and the line of its first token.
+/// The type of an expression, unless it is refused, and the place of its first token.
 #[derive(Clone, Copy)]
 pub struct Typed {
     pub value_type: Option<ValueType>,
-    pub line: u32,
+    pub place: u32,
 }
 
 /// Tests an expression in a place that wants a type.
@@ -33,34 +33,34 @@ pub fn check_place(
     expression: &Expr,
     found: &mut Findings,
 )
-    ensures { found.new ≡ noted found.old (place_refusals wanted (looked_up sorts.now) (expression_of expression.now)) }
+    ensures { found.new ≡ with_refusals found.old (place_refusals wanted (value_for sorts.now) (expression_of expression.now)) }
 {
     let given = check_expression(sorts, expression, found);
     want(wanted, given, found);
 }
 
 fn check_expression(sorts: &Directory<NameSort>, expression: &Expr, found: &mut Findings) -> Typed
-    ensures value_type { result.value_type ≡ type_of (looked_up sorts.now) (expression_of expression.now) }
-    ensures line { result.line ≡ first_line (expression_of expression.now) }
-    ensures found { found.new ≡ noted found.old (expression_refusals (looked_up sorts.now) (expression_of expression.now)) }
+    ensures value_type { result.value_type ≡ type_of (value_for sorts.now) (expression_of expression.now) }
+    ensures place { result.place ≡ first_place (expression_of expression.now) }
+    ensures found { found.new ≡ with_refusals found.old (expression_refusals (value_for sorts.now) (expression_of expression.now)) }
 {
     match expression {
         Expr::Literal(number) => Typed {
             value_type: Some(ValueType::Number),
-            line: number.line,
+            place: number.place,
         },
         Expr::Named(name) => Typed {
             value_type: check_value_name(sorts, name, found),
-            line: name.line,
+            place: name.place,
         },
-        Expr::Parens { line, inner } => {
+        Expr::Parens { place, inner } => {
             let given = check_expression(sorts, inner, found);
             Typed {
                 value_type: given.value_type,
-                line: *line,
+                place: *place,
             }
         }
-        Expr::Negative { line, operand } => {
+        Expr::Negative { place, operand } => {
             let given = check_expression(sorts, operand, found);
             want(ValueType::Number, given, found);
             Typed {
@@ -68,7 +68,7 @@ fn check_expression(sorts: &Directory<NameSort>, expression: &Expr, found: &mut 
                     is_of(ValueType::Number, given.value_type),
                     ValueType::Number,
                 ),
-                line: *line,
+                place: *place,
             }
         }
         Expr::Binary {
@@ -80,7 +80,7 @@ fn check_expression(sorts: &Directory<NameSort>, expression: &Expr, found: &mut 
             let b = check_expression(sorts, right, found);
             Typed {
                 value_type: check_operands(*operator, a, b, found),
-                line: a.line,
+                place: a.place,
             }
         }
     }
@@ -92,13 +92,13 @@ fn check_value_name(
     name: &Name,
     found: &mut Findings,
 ) -> Option<ValueType>
-    ensures value_type { result ≡ type_of_name (looked_up sorts.now name.now.number) }
-    ensures found { found.new ≡ noted found.old (value_name_refused (looked_up sorts.now name.now.number) name.now.line) }
+    ensures value_type { result ≡ type_of_name (value_for sorts.now name.now.number) }
+    ensures found { found.new ≡ with_refusals found.old (value_name_refusals (value_for sorts.now name.now.number) name.now.place) }
 {
     match sorts.get(name.number) {
         Some(NameSort::Variable) => return Some(ValueType::Number),
-        Some(NameSort::Output) => found.note(Refusal::E8, name.line),
-        None => found.note(Refusal::E7, name.line),
+        Some(NameSort::Output) => found.note(RefusalNumber::E8, name.place),
+        None => found.note(RefusalNumber::E7, name.place),
     }
     None
 }
@@ -106,12 +106,12 @@ fn check_value_name(
 // What an operator makes of its operands.
 fn check_operands(operator: Operator, a: Typed, b: Typed, found: &mut Findings) -> Option<ValueType>
     ensures value_type { result ≡ type_of_operator operator a.value_type b.value_type }
-    ensures found { found.new ≡ noted found.old (operands_refused operator a.value_type a.line b.value_type b.line) }
+    ensures found { found.new ≡ with_refusals found.old (operand_refusals operator a.value_type a.place b.value_type b.place) }
 {
     match operator {
         Operator::Equal | Operator::Unequal => {
             if differ(a.value_type, b.value_type) {
-                found.note(Refusal::E8, b.line);
+                found.note(RefusalNumber::E8, b.place);
             }
             type_if(alike(a.value_type, b.value_type), ValueType::Truth)
         }
@@ -131,7 +131,7 @@ fn check_operands(operator: Operator, a: Typed, b: Typed, found: &mut Findings) 
 }
 
 fn want_numbers(a: Typed, b: Typed, found: &mut Findings)
-    ensures { found.new ≡ noted found.old (numbers_wanted a.value_type a.line b.value_type b.line) }
+    ensures { found.new ≡ with_refusals found.old (numbers_wanted a.value_type a.place b.value_type b.place) }
 {
     want(ValueType::Number, a, found);
     want(ValueType::Number, b, found);
@@ -139,11 +139,11 @@ fn want_numbers(a: Typed, b: Typed, found: &mut Findings)
 
 // Notes an expression of another type than its place wants.
 fn want(wanted: ValueType, given: Typed, found: &mut Findings)
-    ensures { found.new ≡ noted found.old (wrong_type wanted given.value_type given.line) }
+    ensures { found.new ≡ with_refusals found.old (type_refusals wanted given.value_type given.place) }
 {
     if let Some(value_type) = given.value_type {
         if value_type != wanted {
-            found.note(Refusal::E8, given.line);
+            found.note(RefusalNumber::E8, given.place);
         }
     }
 }

@@ -1,15 +1,16 @@
 //! What has been found wrong so far.
 
 ghost use Rattle.std.specs.Prelude.{◌≡◌, is_none};
-ghost use Rattle.dv_check.specs.Findings.{note, nothing_found};
-ghost use Rattle.dv_check.specs.Names.{refused};
+ghost use Rattle.dv_lex.specs.Order.{ordinal, precedes};
+ghost use Rattle.dv_check.specs.Findings.{nothing_found, with_refusal};
+ghost use Rattle.dv_check.specs.Names.{refusal};
 
-use dv_lex::{Refusal, TextError};
+use dv_lex::{Refusal, RefusalNumber};
 
-/// What has been found wrong so far: the refusal of the least line, the first found of those on one line.
+/// What has been found wrong so far: the first of the refusals.
 #[derive(Clone, Copy)]
 pub struct Findings {
-    pub first: Option<TextError>,
+    pub first: Option<Refusal>,
 }
 
 impl Findings {
@@ -28,12 +29,46 @@ impl Findings {
     }
 
     /// Notes a refusal.
-    pub fn note(&mut self, number: Refusal, line: u32)
-        ensures { self.new ≡ note self.old (refused number line) }
+    pub fn note(&mut self, number: RefusalNumber, place: u32)
+        ensures { self.new ≡ with_refusal self.old (refusal number place) }
     {
+        let refusal = Refusal { number, place };
         match self.first {
-            Some(first) if first.line <= line => {}
-            _ => self.first = Some(TextError { number, line }),
+            Some(first) if !precedes(refusal, first) => {}
+            _ => self.first = Some(refusal),
         }
+    }
+}
+
+// Whether the first refusal comes before the second.
+fn precedes(one: Refusal, other: Refusal) -> bool
+    ensures { result ≡ precedes one other }
+{
+    one.place < other.place
+        || (one.place == other.place && ordinal(one.number) < ordinal(other.number))
+}
+
+// The number of a refusal.
+fn ordinal(number: RefusalNumber) -> u8
+    ensures { result ≡ ordinal number }
+{
+    match number {
+        RefusalNumber::E1 => 1,
+        RefusalNumber::E2 => 2,
+        RefusalNumber::E3 => 3,
+        RefusalNumber::E4 => 4,
+        RefusalNumber::E5 => 5,
+        RefusalNumber::E6 => 6,
+        RefusalNumber::E7 => 7,
+        RefusalNumber::E8 => 8,
+        RefusalNumber::E9 => 9,
+        RefusalNumber::E10 => 10,
+        RefusalNumber::E11 => 11,
+        RefusalNumber::E12 => 12,
+        RefusalNumber::E13 => 13,
+        RefusalNumber::E14 => 14,
+        RefusalNumber::E15 => 15,
+        RefusalNumber::E16 => 16,
+        RefusalNumber::E17 => 17,
     }
 }

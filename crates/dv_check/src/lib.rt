@@ -1,25 +1,61 @@
 //! The static checks of a model text: names, types, phases and holds, couplings, limits.
 //!
-//! Each test is a function that notes in the findings what it finds wrong, and goes on. What a list of names
-//! stands for is looked up in tables, so that a text is tested in a time linear in its length.
+//! Each test is a function that notes in the findings what it finds wrong, and goes on; the findings keep the first
+//! refusal. What a list of names stands for is looked up in tables, so that a text is tested in a time linear in its
+//! length.
 #![tactic(auto)]
 
-mod atomic;
-pub mod checked;
+/// The checks of a whole text: the door of the crate.
 mod checker;
-mod coupled;
-mod declarations;
-mod directory;
-mod expression;
-mod findings;
-mod items;
+
+/// A model text that breaks no rule.
+pub mod checked;
+
+/// What acceptance says, and which refusal is answered.
 pub mod laws;
+
+/// The limits on a model text.
+pub mod limits;
+
+/// The checks of an atomic model.
+mod atomic;
+
+/// The checks of a coupled model.
+mod coupled;
+
+/// The names that an atomic model declares.
+mod declarations;
+
+/// What names stand for, where the first declaration counts.
+mod directory;
+
+/// The types of expressions.
+mod expression;
+
+/// What has been found wrong so far.
+mod findings;
+
+/// Sets of links.
 mod link_set;
+
+/// The models of a text as couplings see them.
 mod models;
+
+/// The names in the lists of an atomic model.
+mod names;
+
+/// Sets of the numbers of names.
 mod number_set;
+
+/// The parts and links of a coupled model.
 mod parts;
+
+/// Names that are declared twice or too often.
 mod repeats;
+
+/// The variables of an atomic model whose start values are known.
 mod starts;
 
 pub use checked::Checked;
 pub use checker::check;
+pub use limits::GREATEST_NAMES;

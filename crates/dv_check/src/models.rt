@@ -5,17 +5,16 @@ ghost use Rattle.dv_syntax.specs.Trees.{model_of};
 ghost use Rattle.dv_check.specs.Names.{name_of_model};
 ghost use Rattle.dv_check.specs.Models.{face_of, face_of_kind, faces_by, faces_in};
 
+use crate::declarations::{NameSort, sorts_of};
 use crate::directory::Directory;
-use crate::items;
-use crate::number_set::NumberSet;
 use dv_syntax::{Model, Name};
 use std::alloc::{AllocError, Global};
 
 /// What a model shows outside.
 #[derive(Drop)]
 pub enum ModelKind {
-    /// Its output ports.
-    Atomic(NumberSet),
+    /// What its names stand for, of which only ports can be coupled.
+    Atomic(Directory<NameSort>),
     Coupled,
 }
 
@@ -33,10 +32,7 @@ fn kind_of(alloc: Global, model: &Model) -> Result<ModelKind, AllocError>
     ensures { IfOk result (λ kind. face_of_kind kind ≡ face_of (model_of model.now)) }
 {
     match model {
-        Model::Atomic(atomic) => {
-            let outputs = items::outputs(alloc, &atomic.items)?;
-            Ok(ModelKind::Atomic(NumberSet::of(alloc, &outputs)?))
-        }
+        Model::Atomic(atomic) => Ok(ModelKind::Atomic(sorts_of(alloc, &atomic.declarations)?)),
         Model::Coupled(_) => Ok(ModelKind::Coupled),
     }
 }
@@ -47,7 +43,7 @@ pub fn kinds_of(alloc: Global, models: &[Model]) -> Result<Directory<ModelKind>,
 {
     let mut kinds = Directory::new(alloc);
     for model in models {
-        kinds.declare(Some((name_of(model), kind_of(alloc, model)?)))?;
+        kinds.add(name_of(model).number, kind_of(alloc, model)?)?;
     }
     Ok(kinds)
 }

@@ -1,62 +1,53 @@
 //! The variables of an atomic model whose start values are known.
 
-ghost use Rattle.std.specs.Prelude.{◌≡◌, map, IfOk};
+ghost use Rattle.std.specs.Prelude.{◌≡◌, IfOk};
 ghost use Rattle.std.specs.Option.{option_copied};
-ghost use Rattle.dv_syntax.specs.Trees.{expression_of, item_of, ticks_of};
-ghost use Rattle.dv_check.specs.Tables.{first_of, looked_up};
-ghost use Rattle.dv_check.specs.Rules.{hold_names_only, is_in_range, is_start_known, is_start_known_by, names_only, variable_declared_by};
+ghost use Rattle.dv_syntax.specs.Trees.{expression_of, ticks_of};
+ghost use Rattle.dv_eval.specs.Scope.{variables_in};
+ghost use Rattle.dv_check.specs.Tables.{first_of, value_for};
+ghost use Rattle.dv_check.specs.Rules.{is_in_range, is_start_known, is_start_known_by, itself, names_only, number_of_variable, ticks_names_only};
 
 use crate::declarations::is_out_of_range;
 use crate::directory::Directory;
-use crate::items;
-use crate::number_set::NumberSet;
+use crate::limits::GREATEST_NAMES;
+use crate::names;
 use crate::repeats::within_limit;
-use dv_syntax::{Expr, Item, Name, Ticks, Variable};
+use dv_syntax::{Declaration, Expr, Ticks, Variable};
 use std::alloc::{AllocError, Global};
 
-/// The variables of an atomic model: the names within the limit, and the first declaration of each name.
+/// The first declaration of each variable of an atomic model, within the limit.
 #[derive(Drop)]
 pub struct Starts {
-    pub within: NumberSet,
     pub variables: Directory<Variable>,
 }
 
-fn variable_declared_by(item: &Item) -> Option<(Name, Variable)>
-    ensures { result ≡ variable_declared_by (item_of item.now) }
-{
-    match item {
-        Item::Var(variable) => Some((variable.name, *variable)),
-        _ => None,
-    }
-}
-
 // The first declaration of each variable.
-#[tactic(auto, using(crate::proofs::Firsts::first_of_none, crate::proofs::Firsts::first_of_more))]
-fn variables_of(alloc: Global, items: &[Item]) -> Result<Directory<Variable>, AllocError>
-    ensures { IfOk result (λ variables. looked_up variables ≡ first_of variable_declared_by (map item_of items.now)) }
+#[tactic(auto, using(crate::proofs::Firsts::first_of_none))]
+fn directory_of(alloc: Global, variables: &[Variable]) -> Result<Directory<Variable>, AllocError>
+    ensures { IfOk result (λ directory. value_for directory ≡ first_of number_of_variable itself variables.now) }
 {
-    let mut variables = Directory::new(alloc);
-    for item in items {
-        variables.declare(variable_declared_by(item))?;
+    let mut directory = Directory::new(alloc);
+    for variable in variables {
+        directory.add(variable.name.number, *variable)?;
     }
-    Ok(variables)
+    Ok(directory)
 }
 
 impl Starts {
     /// The variables that these items declare.
-    pub fn of(alloc: Global, items: &[Item]) -> Result<Self, AllocError>
-        ensures { IfOk result (λ starts. is_start_known_by starts ≡ is_start_known (map item_of items.now)) }
+    #[tactic(auto, unfolding(crate::specs::Rules::is_start_known, crate::specs::Rules::is_start_known_by))]
+    pub fn of(alloc: Global, declarations: &[Declaration]) -> Result<Self, AllocError>
+        ensures { IfOk result (λ starts. is_start_known_by starts ≡ is_start_known (variables_in declarations.now)) }
     {
-        let names = items::variables(alloc, items)?;
+        let variables = names::variables(alloc, declarations)?;
         Ok(Starts {
-            within: NumberSet::of(alloc, within_limit(&names))?,
-            variables: variables_of(alloc, items)?,
+            variables: directory_of(alloc, within_limit(GREATEST_NAMES, &variables))?,
         })
     }
 
     /// Whether all variables that a hold names are known.
     pub fn know_ticks(&self, ticks: &Ticks) -> bool
-        ensures { result ≡ hold_names_only (is_start_known_by self.now) (ticks_of ticks.now) }
+        ensures { result ≡ ticks_names_only (is_start_known_by self.now) (ticks_of ticks.now) }
     {
         match ticks {
             Ticks::Forever => true,
@@ -76,10 +67,11 @@ impl Starts {
         }
     }
 
+    #[tactic(auto, unfolding(crate::specs::Rules::is_start_known_by))]
     fn know(&self, name: u32) -> bool
         ensures { result ≡ is_start_known_by self.now name }
     {
-        self.within.contains(name) && is_in_range(self.variables.get(name))
+        is_in_range(self.variables.get(name))
     }
 }
 

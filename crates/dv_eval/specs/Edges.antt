@@ -1,5 +1,5 @@
 -- Expressions of numbers alone, at the edges of 64 bits.
-use Rattle.std.specs.Prelude.{ℕ, pos, [], Result}
+use Rattle.std.specs.Prelude.{ℕ, [], Result}
 use Rattle.dv_syntax.specs.Trees.{Expression, Literal, Parens, Binary}
 use Rattle.dv_syntax.specs.declared.tree.Operator.TheVariants.{Add, Subtract, Divide}
 use Rattle.dv_bag.specs.declared.fault.Fault.{Fault}
@@ -8,7 +8,7 @@ use Rattle.dv_eval.specs.Scope.{nothing_declared}
 use Rattle.dv_eval.specs.Meaning.{meaning}
 
 abbrev pub number : ℕ → Expression
-number n = Literal (record { value = pos n; line = 1 })
+number n = Literal (record { value = n; place = 1 })
 
 -- 0 less a number, in parentheses
 abbrev pub minus : ℕ → Expression

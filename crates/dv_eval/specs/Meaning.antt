@@ -7,7 +7,7 @@ use Rattle.dv_syntax.specs.Trees.{Expression, Literal, Named, Parens, Negative, 
 use Rattle.dv_syntax.specs.declared.tree.Operator.{Operator}
 use Rattle.dv_syntax.specs.declared.tree.Operator.TheVariants.{Add, Subtract, Multiply, Divide as DivideBy, Remainder, Equal, Unequal, Less, AtMost, Greater, AtLeast}
 use Rattle.dv_bag.specs.Bag.{bag_at, total_of_all, with_copies}
-use Rattle.dv_bag.specs.Behaviour.{◌>>=◌}
+use Rattle.dv_bag.specs.Outcome.{◌>>=◌}
 use Rattle.dv_bag.specs.declared.value.Value.{Value}
 use Rattle.dv_bag.specs.declared.value.Value.TheVariants.{Number, Truth}
 use Rattle.dv_bag.specs.declared.fault.Fault.{Fault}
@@ -17,14 +17,15 @@ use Rattle.dv_bag.specs.declared.state.Datum.TheVariants as datum
 use Rattle.dv_bag.specs.declared.state.State.{State}
 use Rattle.dv_bag.specs.declared.state.Effect.{Effect}
 use Rattle.dv_eval.specs.Scope.{Scope, place_of, names_of}
-use Rattle.dv_eval.specs.declared.env.Declaration.{Declaration}
+use Rattle.dv_bag.specs.declared.TheConstants.{GREATEST_COUNT}
+use Rattle.dv_eval.specs.declared.scope.VariableRange.{VariableRange}
 
 -- within -2^63..2^63-1
 abbrev pub is_kept : ℤ → Bool
 is_kept n = not (int_lt n (neg_ℤ (pos (2 ^ 63)))) && int_lt n (pos (2 ^ 63))
 
-abbrev pub kept : ℤ → Result Value Fault
-kept n = if is_kept n then Ok (Number n) else Err Overflow
+abbrev pub number_or_overflow : ℤ → Result Value Fault
+number_or_overflow n = if is_kept n then Ok (Number n) else Err Overflow
 
 -- a value as a number, and as a truth value
 abbrev pub number_of : Value → ℤ
@@ -38,7 +39,7 @@ truth_of (Number n) = not (int_eq n (pos 0))
 
 -- towards 0
 abbrev pub quotient : ℤ → ℤ → Result Value Fault
-quotient a b = if int_eq b (pos 0) then Err Divide else kept (int_div a b)
+quotient a b = if int_eq b (pos 0) then Err Divide else number_or_overflow (int_div a b)
 
 -- what the exact quotient leaves
 abbrev pub remainder : ℤ → ℤ → Result Value Fault
@@ -51,18 +52,18 @@ same (Number a) (Truth b) = int_eq a (number_of (Truth b))
 same (Truth a) b = int_eq (number_of (Truth a)) (number_of b)
 
 -- what an operator gives
-abbrev pub applied : Operator → Value → Value → Result Value Fault
-applied Add a b = kept (number_of a +ℤ number_of b)
-applied Subtract a b = kept (number_of a -ℤ number_of b)
-applied Multiply a b = kept (number_of a *ℤ number_of b)
-applied DivideBy a b = quotient (number_of a) (number_of b)
-applied Remainder a b = remainder (number_of a) (number_of b)
-applied Equal a b = Ok (Truth (same a b))
-applied Unequal a b = Ok (Truth (not (same a b)))
-applied Less a b = Ok (Truth (int_lt (number_of a) (number_of b)))
-applied AtMost a b = Ok (Truth (not (int_lt (number_of b) (number_of a))))
-applied Greater a b = Ok (Truth (int_lt (number_of b) (number_of a)))
-applied AtLeast a b = Ok (Truth (not (int_lt (number_of a) (number_of b))))
+abbrev pub operator_result : Operator → Value → Value → Result Value Fault
+operator_result Add a b = number_or_overflow (number_of a +ℤ number_of b)
+operator_result Subtract a b = number_or_overflow (number_of a -ℤ number_of b)
+operator_result Multiply a b = number_or_overflow (number_of a *ℤ number_of b)
+operator_result DivideBy a b = quotient (number_of a) (number_of b)
+operator_result Remainder a b = remainder (number_of a) (number_of b)
+operator_result Equal a b = Ok (Truth (same a b))
+operator_result Unequal a b = Ok (Truth (not (same a b)))
+operator_result Less a b = Ok (Truth (int_lt (number_of a) (number_of b)))
+operator_result AtMost a b = Ok (Truth (not (int_lt (number_of b) (number_of a))))
+operator_result Greater a b = Ok (Truth (int_lt (number_of b) (number_of a)))
+operator_result AtLeast a b = Ok (Truth (not (int_lt (number_of a) (number_of b))))
 
 abbrev pub value_of_datum : Option Datum → Value
 value_of_datum (Some (datum.Number n)) = Number n
@@ -80,11 +81,11 @@ value_of_name scope s name = value_of_datum (datum_at s.variables (place_of name
 
 -- the value of an expression in a state
 abbrev pub meaning : Scope → State → Expression → Result Value Fault
-meaning scope s (Literal n) = Ok (Number n.value)
+meaning scope s (Literal n) = Ok (Number (pos n.value))
 meaning scope s (Named name) = Ok (value_of_name scope s name.number)
-meaning scope s (Parens line e) = meaning scope s e
-meaning scope s (Negative line e) = meaning scope s e >>= λ v. kept (neg_ℤ (number_of v))
-meaning scope s (Binary operator a b) = meaning scope s a >>= λ x. meaning scope s b >>= λ y. applied operator x y
+meaning scope s (Parens place e) = meaning scope s e
+meaning scope s (Negative place e) = meaning scope s e >>= λ v. number_or_overflow (neg_ℤ (number_of v))
+meaning scope s (Binary operator a b) = meaning scope s a >>= λ x. meaning scope s b >>= λ y. operator_result operator x y
 
 -- a number within a range
 abbrev pub is_within : ℤ → ℤ → ℤ → Bool
@@ -96,40 +97,40 @@ with_state e s = record { state = s; sent = e.sent; goto = e.goto }
 abbrev pub with_number : State → ℕ → ℤ → State
 with_number s place n = record { phase = s.phase; variables = slice_set s.variables place (datum.Number n) }
 
--- a number put into the variable at a place, where it is within the variable's range
-abbrev pub put : Option (ℕ × Declaration) → ℕ → ℤ → Effect → Result Effect Fault
-put None place n e = Ok e
-put (Some v) place n e = if is_within v.1.low v.1.high n then Ok (with_state e (with_number e.state place n)) else Err Range
+-- a number assignment_in_range into the variable at a place, where it is within the variable's range
+abbrev pub assignment_in_range : Option (ℕ × VariableRange) → ℕ → ℤ → Effect → Result Effect Fault
+assignment_in_range None place n e = Ok e
+assignment_in_range (Some v) place n e = if is_within v.1.low v.1.high n then Ok (with_state e (with_number e.state place n)) else Err Range
 
-abbrev pub assigned_at : Scope → Option ℕ → ℤ → Effect → Result Effect Fault
-assigned_at scope None n e = Ok e
-assigned_at scope (Some place) n e = put (slice_get scope.variables place) place n e
+abbrev pub assignment_at : Scope → Option ℕ → ℤ → Effect → Result Effect Fault
+assignment_at scope None n e = Ok e
+assignment_at scope (Some place) n e = assignment_in_range (slice_get scope.variables place) place n e
 
--- a number assigned to a variable
-abbrev pub assigned : Scope → ℕ → Value → Effect → Result Effect Fault
-assigned scope name v e = assigned_at scope (place_of name (names_of scope.variables)) (number_of v) e
+-- a number assignment to a variable
+abbrev pub assignment : Scope → ℕ → Value → Effect → Result Effect Fault
+assignment scope name v e = assignment_at scope (place_of name (names_of scope.variables)) (number_of v) e
 
 -- one value more at a port
-abbrev pub sent_at : Option ℕ → ℤ → Effect → Effect
-sent_at None n e = e
-sent_at (Some port) n e = record { state = e.state; sent = slice_set e.sent port (with_copies n 1 (bag_at e.sent port)); goto = e.goto }
+abbrev pub with_value_at : Option ℕ → ℤ → Effect → Effect
+with_value_at None n e = e
+with_value_at (Some port) n e = record { state = e.state; sent = slice_set e.sent port (with_copies n 1 (bag_at e.sent port)); goto = e.goto }
 
 -- a number sent by an output port; the 4,097th of one output is a flood
-abbrev pub sends : Scope → ℕ → Value → Effect → Result Effect Fault
-sends scope port v e = if nat_le 4096 (total_of_all e.sent) then Err Flood else Ok (sent_at (place_of port scope.outputs) (number_of v) e)
+abbrev pub sending : Scope → ℕ → Value → Effect → Result Effect Fault
+sending scope port v e = if nat_le GREATEST_COUNT (total_of_all e.sent) then Err Flood else Ok (with_value_at (place_of port scope.outputs) (number_of v) e)
 
-abbrev pub goes_to : Option ℕ → Effect → Effect
-goes_to None e = e
-goes_to (Some phase) e = record { state = e.state; sent = e.sent; goto = Some phase }
+abbrev pub with_goto : Option ℕ → Effect → Effect
+with_goto None e = e
+with_goto (Some phase) e = record { state = e.state; sent = e.sent; goto = Some phase }
 
 -- What a list of statements does, one after the other; the last goto that ran counts
 abbrev pub run : Scope → Statements → Effect → Result Effect Fault
 run scope Done e = Ok e
-run scope (Assign variable value rest) e = meaning scope e.state value >>= λ v. assigned scope variable.number v e >>= run scope rest
-run scope (Goto line phase rest) e = run scope rest (goes_to (place_of phase.number scope.phases) e)
-run scope (Send line port value rest) e = meaning scope e.state value >>= λ v. sends scope port.number v e >>= run scope rest
-run scope (If line condition block rest) e = meaning scope e.state condition >>= λ v. (if truth_of v then run scope block e else Ok e) >>= run scope rest
-run scope (IfElse line condition block other rest) e = meaning scope e.state condition >>= λ v. (if truth_of v then run scope block e else run scope other e) >>= run scope rest
+run scope (Assign variable value rest) e = meaning scope e.state value >>= λ v. assignment scope variable.number v e >>= run scope rest
+run scope (Goto place phase rest) e = run scope rest (with_goto (place_of phase.number scope.phases) e)
+run scope (Send place port value rest) e = meaning scope e.state value >>= λ v. sending scope port.number v e >>= run scope rest
+run scope (If place condition block rest) e = meaning scope e.state condition >>= λ v. (if truth_of v then run scope block e else Ok e) >>= run scope rest
+run scope (IfElse place condition block other rest) e = meaning scope e.state condition >>= λ v. (if truth_of v then run scope block e else run scope other e) >>= run scope rest
 
 -- the effect of a rule on a state
 abbrev pub effect_of : Scope → Statements → State → Result Effect Fault

@@ -1,22 +1,46 @@
 -- What an atomic model declares.
-use Rattle.std.specs.Prelude.{ℕ, ℤ, ◌+◌, ◌==◌, Bool, true, false, ◌&&◌, unwrap_or, slice_index, if◌then◌else◌, List, [], ◌∷◌, ◌++◌, map, Option, Some, None, pos, int_lt, neg_ℤ}
-use Rattle.std.specs.List.{list_any}
-use Rattle.dv_syntax.specs.Trees.{AtomicItem, OutPort, Var, Phases, Start, Hold, Rule, AtomicTree, Expression, Statements, Done}
+use Rattle.std.specs.Prelude.{ℕ, ℤ, ◌+◌, ◌==◌, Bool, true, false, ◌&&◌, unwrap_or, slice_index, if◌then◌else◌, List, [], ◌∷◌, ◌++◌, map, filter_map, Option, Some, None, pos, neg_ℤ}
+use Rattle.std.specs.List.{list_any, flat_map}
+use Rattle.dv_syntax.specs.Trees.{PhasesTree, HoldTree, RuleTree, AtomicTree, Expression, Statements, Done, ticks_of}
 use Rattle.dv_syntax.specs.declared.tree.Name.{Name}
 use Rattle.dv_syntax.specs.declared.tree.Bound.{Bound}
 use Rattle.dv_syntax.specs.declared.tree.Variable.{Variable}
+use Rattle.dv_syntax.specs.declared.tree.Declaration.{Declaration}
+use Rattle.dv_syntax.specs.declared.tree.Declaration.TheVariants.{Out, Var}
+use Rattle.dv_syntax.specs.declared.tree.Start.{Start}
+use Rattle.dv_syntax.specs.declared.tree.Ticks.{Ticks}
 use Rattle.dv_syntax.specs.declared.tree.RuleSort.{RuleSort}
 use Rattle.dv_syntax.specs.declared.tree.RuleSort.TheVariants.{Output, Internal}
 use Rattle.dv_bag.specs.declared.state.State.{State}
 use Rattle.dv_bag.specs.declared.state.Datum.{Datum}
 use Rattle.dv_bag.specs.declared.state.Datum.TheVariants as datum
-use Rattle.dv_eval.specs.declared.env.Declaration.{Declaration}
+use Rattle.dv_eval.specs.declared.scope.VariableRange.{VariableRange}
 
 -- variables with their ranges and start values, phases and output ports, each in the order of declaration
 pub record Scope : Type 0 where
-  pub variables : List (ℕ × Declaration)
+  pub variables : List (ℕ × VariableRange)
   pub phases : List ℕ
   pub outputs : List ℕ
+
+-- the output port that a declaration declares
+abbrev pub output_of : Declaration → Option Name
+output_of (Out port) = Some port
+output_of (Var v) = None
+
+-- the variable that it declares
+abbrev pub variable_of : Declaration → Option Variable
+variable_of (Out port) = None
+variable_of (Var v) = Some v
+
+abbrev pub outputs_in : List Declaration → List Name
+outputs_in declarations = filter_map output_of declarations
+
+abbrev pub variables_in : List Declaration → List Variable
+variables_in declarations = filter_map variable_of declarations
+
+-- the phases of all items of phases
+abbrev pub phases_in : List PhasesTree → List Name
+phases_in items = flat_map (λ p. p.names) items
 
 -- the place of a name in a list of names
 abbrev pub place_from : ℕ → ℕ → List ℕ → Option ℕ
@@ -40,39 +64,34 @@ abbrev pub with_names : List ℕ → List Name → List ℕ
 with_names names [] = names
 with_names names (n ∷ more) = with_names (with_name names n) more
 
--- a magnitude with its sign; one below 0, which no text has, stands as it is
-abbrev pub signed : Option ℕ → ℤ → ℤ
-signed None n = n
-signed (Some line) n = if int_lt n (pos 0) then n else neg_ℤ n
+-- a magnitude with its sign
+abbrev pub signed : Option ℕ → ℕ → ℤ
+signed None n = pos n
+signed (Some place) n = neg_ℤ (pos n)
 
 abbrev pub bound_value : Bound → ℤ
 bound_value b = signed b.minus b.magnitude.value
 
-abbrev pub declaration_of : Variable → Declaration
-declaration_of v = record { low = bound_value v.low; high = bound_value v.high; start = bound_value v.start }
+abbrev pub range_of : Variable → VariableRange
+range_of v = record { low = bound_value v.low; high = bound_value v.high; start = bound_value v.start }
 
-abbrev pub with_variable : List (ℕ × Declaration) → Variable → List (ℕ × Declaration)
-with_variable entries v = if is_declared v.name.number (names_of entries) then entries else entries ++ (v.name.number, declaration_of v) ∷ []
+abbrev pub with_variable : List (ℕ × VariableRange) → Variable → List (ℕ × VariableRange)
+with_variable entries v = if is_declared v.name.number (names_of entries) then entries else entries ++ (v.name.number, range_of v) ∷ []
+
+abbrev pub with_variables : List (ℕ × VariableRange) → List Variable → List (ℕ × VariableRange)
+with_variables entries [] = entries
+with_variables entries (v ∷ more) = with_variables (with_variable entries v) more
+
+-- what a model declares: of a name that is declared twice the first declaration counts
+abbrev pub scope_of : AtomicTree → Scope
+scope_of m = record {
+  variables = with_variables [] (variables_in m.declarations);
+  phases = with_names [] (phases_in m.phases);
+  outputs = with_names [] (outputs_in m.declarations);
+}
 
 abbrev pub nothing_declared : Scope
 nothing_declared = record { variables = []; phases = []; outputs = [] }
-
--- an item's declarations
-abbrev pub with_item : Scope → AtomicItem → Scope
-with_item scope (OutPort port) = record { variables = scope.variables; phases = scope.phases; outputs = with_name scope.outputs port }
-with_item scope (Var v) = record { variables = with_variable scope.variables v; phases = scope.phases; outputs = scope.outputs }
-with_item scope (Phases line phases) = record { variables = scope.variables; phases = with_names scope.phases phases; outputs = scope.outputs }
-with_item scope (Start line phase) = scope
-with_item scope (Hold line phase ticks) = scope
-with_item scope (Rule sort phase body) = scope
-
-abbrev pub with_items : Scope → List AtomicItem → Scope
-with_items scope [] = scope
-with_items scope (i ∷ items) = with_items (with_item scope i) items
-
--- what a model declares
-abbrev pub scope_of : AtomicTree → Scope
-scope_of m = with_items nothing_declared m.items
 
 abbrev pub same_sort : RuleSort → RuleSort → Bool
 same_sort Output Output = true
@@ -80,30 +99,32 @@ same_sort Internal Internal = true
 same_sort a b = false
 
 -- the variables' values at the start
-abbrev pub start_data : List (ℕ × Declaration) → List Datum
+abbrev pub start_data : List (ℕ × VariableRange) → List Datum
 start_data entries = map (λ e. datum.Number e.1.start) entries
 
 -- the place of the phase that the first start item names
-abbrev pub start_phase : Scope → List AtomicItem → ℕ
+abbrev pub start_phase : Scope → List Start → ℕ
 start_phase scope [] = 0
-start_phase scope (Start line phase ∷ items) = unwrap_or (place_of phase.number scope.phases) 0
-start_phase scope (i ∷ items) = start_phase scope items
+start_phase scope (s ∷ starts) = unwrap_or (place_of s.phase.number scope.phases) 0
 
 -- the state in which a component begins
 abbrev pub start_state : AtomicTree → State
-start_state m = record { phase = start_phase (scope_of m) m.items; variables = start_data (scope_of m).variables }
+start_state m = record { phase = start_phase (scope_of m) m.starts; variables = start_data (scope_of m).variables }
 
 -- the statements of the first rule of a sort for a phase; a missing rule is empty
-abbrev pub rule_body : RuleSort → ℕ → List AtomicItem → Statements
+abbrev pub rule_body : RuleSort → ℕ → List RuleTree → Statements
 rule_body sort phase [] = Done
-rule_body sort phase (Rule s p body ∷ items) = if same_sort s sort && (p.number == phase) then body else rule_body sort phase items
-rule_body sort phase (i ∷ items) = rule_body sort phase items
+rule_body sort phase (r ∷ rules) = if same_sort r.sort sort && (r.phase.number == phase) then r.body else rule_body sort phase rules
 
 -- the first hold of a phase; a missing one is forever
-abbrev pub hold_ticks : ℕ → List AtomicItem → Option Expression
+abbrev pub hold_ticks : ℕ → List HoldTree → Option Expression
 hold_ticks phase [] = None
-hold_ticks phase (Hold line p ticks ∷ items) = if p.number == phase then ticks else hold_ticks phase items
-hold_ticks phase (i ∷ items) = hold_ticks phase items
+hold_ticks phase (h ∷ holds) = if h.phase.number == phase then h.ticks else hold_ticks phase holds
+
+-- the ticks of a hold of the code, if there is one
+abbrev pub ticks_found : Option Ticks → Option Expression
+ticks_found None = None
+ticks_found (Some ticks) = ticks_of ticks
 
 -- the name of the phase at a place
 abbrev pub phase_name : Scope → ℕ → ℕ

@@ -2,10 +2,10 @@
 
 ghost use Rattle.std.specs.Prelude.{◌≡◌, ◌+ℤ◌, ◌-ℤ◌, ◌*ℤ◌, neg_ℤ};
 ghost use Rattle.dv_syntax.specs.Trees.{expression_of};
-ghost use Rattle.dv_eval.specs.Meaning.{applied, kept, meaning, number_of, quotient, remainder, same, truth_of, value_of_name};
+ghost use Rattle.dv_eval.specs.Meaning.{meaning, number_or_overflow, number_of, operator_result, quotient, remainder, same, truth_of, value_of_name};
 
-use crate::env::Env;
-use dv_bag::{Datum, Fault, State, Value};
+use crate::scope::Scope;
+use dv_bag::{DatumView, Fault, State, Value};
 use dv_syntax::{Expr, Operator};
 
 /// The value of an expression in a state.
@@ -13,43 +13,43 @@ use dv_syntax::{Expr, Operator};
 /// # Errors
 ///
 /// The first fault from the left: `Overflow` or `Divide`.
-pub fn eval(expression: &Expr, state: &State, env: &Env) -> Result<Value, Fault>
-    ensures { result ≡ meaning env.now state.now (expression_of expression.now) }
+pub fn eval(expression: &Expr, state: &State, scope: &Scope) -> Result<Value, Fault>
+    ensures { result ≡ meaning scope.now state.now (expression_of expression.now) }
 {
     match expression {
-        Expr::Literal(number) => Ok(Value::Number(number.value)),
-        Expr::Named(name) => Ok(value_of_name(name.number, state, env)),
-        Expr::Parens { inner, .. } => eval(inner, state, env),
-        Expr::Negative { operand, .. } => negated(eval(operand, state, env)?),
+        Expr::Literal(number) => Ok(Value::Number(number.value.value())),
+        Expr::Named(name) => Ok(value_of_name(name.number, state, scope)),
+        Expr::Parens { inner, .. } => eval(inner, state, scope),
+        Expr::Negative { operand, .. } => negated(eval(operand, state, scope)?),
         Expr::Binary {
             operator,
             left,
             right,
         } => {
-            let left = eval(left, state, env)?;
-            let right = eval(right, state, env)?;
-            applied(*operator, left, right)
+            let left = eval(left, state, scope)?;
+            let right = eval(right, state, scope)?;
+            operator_result(*operator, left, right)
         }
     }
 }
 
 // What a name stands for.
-fn value_of_name(name: u32, state: &State, env: &Env) -> Value
-    ensures { result ≡ value_of_name env.now state.now name }
+fn value_of_name(name: u32, state: &State, scope: &Scope) -> Value
+    ensures { result ≡ value_of_name scope.now state.now name }
 {
-    let Some(place) = env.variable(name) else {
+    let Some(place) = scope.variable(name) else {
         return Value::Number(0);
     };
     match state.variables.get(place) {
-        Some(Datum::Number(number)) => Value::Number(*number),
-        Some(Datum::Flag(truth)) => Value::Truth(*truth),
-        Some(Datum::Bag(_)) | None => Value::Number(0),
+        Some(DatumView::Number(number)) => Value::Number(number),
+        Some(DatumView::Flag(truth)) => Value::Truth(truth),
+        Some(DatumView::Bag(_)) | None => Value::Number(0),
     }
 }
 
 // What an operator gives.
-fn applied(operator: Operator, left: Value, right: Value) -> Result<Value, Fault>
-    ensures { result ≡ applied operator left right }
+fn operator_result(operator: Operator, left: Value, right: Value) -> Result<Value, Fault>
+    ensures { result ≡ operator_result operator left right }
 {
     let a = number_of(left);
     let b = number_of(right);
@@ -95,7 +95,7 @@ fn same(left: Value, right: Value) -> bool
 }
 
 fn sum(a: i64, b: i64) -> Result<Value, Fault>
-    ensures { result ≡ kept (a +ℤ b) }
+    ensures { result ≡ number_or_overflow (a +ℤ b) }
 {
     match a.checked_add(b) {
         Some(sum) => Ok(Value::Number(sum)),
@@ -104,7 +104,7 @@ fn sum(a: i64, b: i64) -> Result<Value, Fault>
 }
 
 fn difference(a: i64, b: i64) -> Result<Value, Fault>
-    ensures { result ≡ kept (a -ℤ b) }
+    ensures { result ≡ number_or_overflow (a -ℤ b) }
 {
     match a.checked_sub(b) {
         Some(difference) => Ok(Value::Number(difference)),
@@ -113,7 +113,7 @@ fn difference(a: i64, b: i64) -> Result<Value, Fault>
 }
 
 fn product(a: i64, b: i64) -> Result<Value, Fault>
-    ensures { result ≡ kept (a *ℤ b) }
+    ensures { result ≡ number_or_overflow (a *ℤ b) }
 {
     match a.checked_mul(b) {
         Some(product) => Ok(Value::Number(product)),
@@ -122,7 +122,7 @@ fn product(a: i64, b: i64) -> Result<Value, Fault>
 }
 
 fn negated(value: Value) -> Result<Value, Fault>
-    ensures { result ≡ kept (neg_ℤ (number_of value)) }
+    ensures { result ≡ number_or_overflow (neg_ℤ (number_of value)) }
 {
     match number_of(value).checked_neg() {
         Some(negated) => Ok(Value::Number(negated)),

@@ -1,13 +1,18 @@
 //! The meaning of expressions and rules, on trees, over the names that an atomic model declares.
 #![tactic(auto)]
 
-pub mod env;
+/// The values of expressions.
 pub mod expression;
+/// Laws of rules and holds.
 pub mod laws;
+/// The start, the rules and the holds of an atomic model.
 pub mod model;
+/// What a rule does.
 pub mod rule;
+/// What the names of an atomic model stand for.
+pub mod scope;
 
-pub use env::{Declaration, Env};
 pub use expression::eval;
-pub use model::{hold, phase_hold, rule_body, start_state};
+pub use model::{hold, phase_hold, phase_ticks, rule_body, start_state};
 pub use rule::run_rule;
+pub use scope::{Scope, VariableRange};

@@ -1,14 +1,15 @@
 //! What an atomic model says of its start, its rules and its holds.
 
 ghost use Rattle.std.specs.Prelude.{◌≡◌, ◌<◌, ◌^◌, IfOk, IfSome};
+ghost use Rattle.std.specs.Option.{option_copied};
 ghost use Rattle.dv_syntax.specs.Trees.{atomic_of, statements_of, ticks_of};
-ghost use Rattle.dv_eval.specs.Scope.{hold_ticks, rule_body, same_sort, scope_of, start_data, start_phase, start_state};
+ghost use Rattle.dv_eval.specs.Scope.{hold_ticks, rule_body, same_sort, scope_of, start_data, start_phase, start_state, ticks_found};
 ghost use Rattle.dv_eval.specs.Meaning.{hold_of};
 
-use crate::env::Env;
 use crate::expression::{eval, number_of};
+use crate::scope::Scope;
 use dv_bag::{Datum, Fault, State, Variables};
-use dv_syntax::{Atomic, Item, RuleSort, Stmt, Ticks};
+use dv_syntax::{Atomic, RuleSort, Stmt, Ticks};
 use std::alloc::{AllocError, Global};
 
 /// The state in which a component of the model begins.
@@ -16,51 +17,42 @@ use std::alloc::{AllocError, Global};
 /// # Errors
 ///
 /// No memory for the variables.
-pub fn start_state(alloc: Global, model: &Atomic, env: &Env) -> Result<State, AllocError>
-    requires { env.now ≡ scope_of (atomic_of model.now) }
+pub fn start_state(alloc: Global, model: &Atomic, scope: &Scope) -> Result<State, AllocError>
+    requires { scope.now ≡ scope_of (atomic_of model.now) }
     ensures { IfOk result (λ state. state ≡ start_state (atomic_of model.now)) }
 {
     Ok(State {
-        phase: start_phase(model, env),
-        variables: start_data(alloc, env)?,
+        phase: start_phase(model, scope),
+        variables: start_data(alloc, scope)?,
     })
 }
 
-fn start_phase(model: &Atomic, env: &Env) -> u32
-    ensures { result ≡ start_phase env.now (atomic_of model.now).items }
+fn start_phase(model: &Atomic, scope: &Scope) -> u32
+    ensures { result ≡ start_phase scope.now (atomic_of model.now).starts }
 {
-    for item in &model.items {
-        if let Item::Start { phase, .. } = item {
-            return env.phase(phase.number).unwrap_or(0);
-        }
+    match model.starts.first() {
+        Some(start) => scope.phase(start.phase.number).unwrap_or(0),
+        None => 0,
     }
-    0
 }
 
-fn start_data(alloc: Global, env: &Env) -> Result<Variables, AllocError>
-    ensures { IfOk result (λ variables. variables ≡ start_data env.now.variables) }
+fn start_data(alloc: Global, scope: &Scope) -> Result<Variables, AllocError>
+    ensures { IfOk result (λ variables. variables ≡ start_data scope.now.variables) }
 {
     let mut variables = Variables::new(alloc);
-    for declaration in env.declarations() {
-        variables.push(Datum::Number(declaration.start))?;
+    for range in scope.ranges() {
+        variables.push(Datum::Number(range.start))?;
     }
     Ok(variables)
 }
 
 /// The statements of the first rule of a sort for a phase, and none where there is no such rule.
 pub fn rule_body(model: &Atomic, sort: RuleSort, phase: u32) -> &[Stmt]
-    ensures { statements_of result.now ≡ rule_body sort phase (atomic_of model.now).items }
+    ensures { statements_of result.now ≡ rule_body sort phase (atomic_of model.now).rules }
 {
-    for item in &model.items {
-        if let Item::Rule {
-            sort: other,
-            phase: name,
-            body,
-        } = item
-            && *other == sort
-            && name.number == phase
-        {
-            return &body.statements;
+    for rule in &model.rules {
+        if rule.sort == sort && rule.phase.number == phase {
+            return &rule.body.statements;
         }
     }
     &[]
@@ -71,20 +63,32 @@ pub fn rule_body(model: &Atomic, sort: RuleSort, phase: u32) -> &[Stmt]
 /// # Errors
 ///
 /// The first fault of the expression, or `Negative` where its value is below 0.
-pub fn hold(ticks: &Ticks, state: &State, env: &Env) -> Result<Option<u64>, Fault>
-    ensures value { result ≡ hold_of env.now (ticks_of ticks.now) state.now }
+pub fn hold(ticks: &Ticks, state: &State, scope: &Scope) -> Result<Option<u64>, Fault>
+    ensures value { result ≡ hold_of scope.now (ticks_of ticks.now) state.now }
     ensures bound { IfOk result (λ ticks. IfSome ticks (λ n. n < 2 ^ 63)) }
 {
     match ticks {
         Ticks::Forever => Ok(None),
         Ticks::After(expression) => {
-            let ticks = number_of(eval(expression, state, env)?);
+            let ticks = number_of(eval(expression, state, scope)?);
             if ticks < 0 {
                 return Err(Fault::Negative);
             }
             Ok(Some(ticks as u64))
         }
     }
+}
+
+/// The ticks of the first hold of a phase, if it has one.
+pub fn phase_ticks(model: &Atomic, phase: u32) -> Option<&Ticks>
+    ensures { ticks_found (option_copied result) ≡ hold_ticks phase (atomic_of model.now).holds }
+{
+    for item in &model.holds {
+        if item.phase.number == phase {
+            return Some(&item.ticks);
+        }
+    }
+    None
 }
 
 /// The ticks of the first hold of a phase in a state. `None` is forever, also where the phase has no hold.
@@ -96,21 +100,13 @@ pub fn phase_hold(
     model: &Atomic,
     phase: u32,
     state: &State,
-    env: &Env,
+    scope: &Scope,
 ) -> Result<Option<u64>, Fault>
-    ensures value { result ≡ hold_of env.now (hold_ticks phase (atomic_of model.now).items) state.now }
+    ensures value { result ≡ hold_of scope.now (hold_ticks phase (atomic_of model.now).holds) state.now }
     ensures bound { IfOk result (λ ticks. IfSome ticks (λ n. n < 2 ^ 63)) }
 {
-    for item in &model.items {
-        if let Item::Hold {
-            phase: name,
-            ticks,
-            ..
-        } = item
-            && name.number == phase
-        {
-            return hold(ticks, state, env);
-        }
+    match phase_ticks(model, phase) {
+        Some(ticks) => hold(ticks, state, scope),
+        None => Ok(None),
     }
-    Ok(None)
 }

@@ -3,17 +3,14 @@
 ghost use Rattle.std.specs.Prelude.{◌≡◌};
 ghost use Rattle.dv_syntax.specs.Trees.{Done, expression_of, statement_before, statements_of};
 ghost use Rattle.dv_bag.specs.Outcome.{Gives};
-ghost use Rattle.dv_eval.specs.Meaning.{assigned, effect_of, goes_to, meaning, run, sends};
+ghost use Rattle.dv_eval.specs.Meaning.{assignment, effect_of, meaning, run, sending, with_goto};
 
-use crate::env::Env;
 use crate::expression::{eval, number_of, truth_of};
-use dv_bag::{Bags, Effect, Fault, RuleError, State, Value};
+use crate::scope::Scope;
+use dv_bag::{Effect, Fault, GREATEST_COUNT, RuleError, Sent, State, Value};
 use dv_syntax::laws::trees_keep_blocks;
 use dv_syntax::{Expr, Stmt};
 use std::alloc::Global;
-
-/// The greatest number of values of one output.
-pub const GREATEST_OUTPUT: u64 = 4096;
 
 /// The effect of a rule's statements on a state.
 ///
@@ -25,52 +22,52 @@ pub fn run_rule(
     alloc: Global,
     statements: &[Stmt],
     state: &State,
-    env: &Env,
+    scope: &Scope,
 ) -> Result<Effect, RuleError>
-    ensures { Gives result (effect_of env.now (statements_of statements.now) state.now) }
+    ensures { Gives result (effect_of scope.now (statements_of statements.now) state.now) }
 {
     let effect = Effect {
         state: state.clone()?,
-        sent: Bags::empty(alloc, env.output_count())?,
+        sent: Sent::empty(alloc, scope.output_count()),
         goto: None,
     };
-    run(statements, env, effect)
+    run(statements, scope, effect)
 }
 
 // What statements do, one after the other.
 #[cycle(run)]
-fn run(statements: &[Stmt], env: &Env, mut effect: Effect) -> Result<Effect, RuleError>
-    ensures { Gives result (run env.now (statements_of statements.now) effect) }
+fn run(statements: &[Stmt], scope: &Scope, mut effect: Effect) -> Result<Effect, RuleError>
+    ensures { Gives result (run scope.now (statements_of statements.now) effect) }
 {
     for statement in statements {
-        effect = run_statement(statement, env, effect)?;
+        effect = run_statement(statement, scope, effect)?;
     }
     Ok(effect)
 }
 
 #[cycle(run)]
-fn run_statement(statement: &Stmt, env: &Env, effect: Effect) -> Result<Effect, RuleError>
-    ensures { Gives result (run env.now (statement_before statement.now Done) effect) }
+fn run_statement(statement: &Stmt, scope: &Scope, effect: Effect) -> Result<Effect, RuleError>
+    ensures { Gives result (run scope.now (statement_before statement.now Done) effect) }
 {
     trees_keep_blocks();
     match statement {
         Stmt::Assign { variable, value } => {
-            let value = value_of(value, &effect.state, env)?;
-            assigned(variable.number, value, env, effect).map_err(RuleError::Fault)
+            let value = value_of(value, &effect.state, scope)?;
+            assign(variable.number, value, scope, effect).map_err(RuleError::Fault)
         }
-        Stmt::Goto { phase, .. } => Ok(goes_to(env.phase(phase.number), effect)),
+        Stmt::Goto { phase, .. } => Ok(with_goto(scope.phase(phase.number), effect)),
         Stmt::Send { port, value, .. } => {
-            let value = value_of(value, &effect.state, env)?;
-            send(port.number, value, env, effect)
+            let value = value_of(value, &effect.state, scope)?;
+            send(port.number, value, scope, effect)
         }
         Stmt::If {
             condition,
             then_block,
             ..
         } => {
-            let condition = value_of(condition, &effect.state, env)?;
+            let condition = value_of(condition, &effect.state, scope)?;
             if truth_of(condition) {
-                run(&then_block.statements, env, effect)
+                run(&then_block.statements, scope, effect)
             } else {
                 Ok(effect)
             }
@@ -81,34 +78,34 @@ fn run_statement(statement: &Stmt, env: &Env, effect: Effect) -> Result<Effect, 
             else_block,
             ..
         } => {
-            let condition = value_of(condition, &effect.state, env)?;
+            let condition = value_of(condition, &effect.state, scope)?;
             if truth_of(condition) {
-                run(&then_block.statements, env, effect)
+                run(&then_block.statements, scope, effect)
             } else {
-                run(&else_block.statements, env, effect)
+                run(&else_block.statements, scope, effect)
             }
         }
     }
 }
 
-fn value_of(expression: &Expr, state: &State, env: &Env) -> Result<Value, RuleError>
-    ensures { Gives result (meaning env.now state.now (expression_of expression.now)) }
+fn value_of(expression: &Expr, state: &State, scope: &Scope) -> Result<Value, RuleError>
+    ensures { Gives result (meaning scope.now state.now (expression_of expression.now)) }
 {
-    eval(expression, state, env).map_err(RuleError::Fault)
+    eval(expression, state, scope).map_err(RuleError::Fault)
 }
 
 // A value assigned to a variable, within the variable's range.
-fn assigned(name: u32, value: Value, env: &Env, mut effect: Effect) -> Result<Effect, Fault>
-    ensures { result ≡ assigned env.now name value effect }
+fn assign(name: u32, value: Value, scope: &Scope, mut effect: Effect) -> Result<Effect, Fault>
+    ensures { result ≡ assignment scope.now name value effect }
 {
-    let Some(place) = env.variable(name) else {
+    let Some(place) = scope.variable(name) else {
         return Ok(effect);
     };
-    let Some(declaration) = env.declaration(place) else {
+    let Some(range) = scope.range(place) else {
         return Ok(effect);
     };
     let number = number_of(value);
-    if number < declaration.low || declaration.high < number {
+    if number < range.low || range.high < number {
         return Err(Fault::Range);
     }
     if place < effect.state.variables.len() {
@@ -117,8 +114,8 @@ fn assigned(name: u32, value: Value, env: &Env, mut effect: Effect) -> Result<Ef
     Ok(effect)
 }
 
-fn goes_to(phase: Option<u32>, mut effect: Effect) -> Effect
-    ensures { result ≡ goes_to phase effect }
+fn with_goto(phase: Option<u32>, mut effect: Effect) -> Effect
+    ensures { result ≡ with_goto phase effect }
 {
     if phase.is_some() {
         effect.goto = phase;
@@ -127,13 +124,13 @@ fn goes_to(phase: Option<u32>, mut effect: Effect) -> Effect
 }
 
 // A value sent by an output port.
-fn send(name: u32, value: Value, env: &Env, mut effect: Effect) -> Result<Effect, RuleError>
-    ensures { Gives result (sends env.now name value effect) }
+fn send(name: u32, value: Value, scope: &Scope, mut effect: Effect) -> Result<Effect, RuleError>
+    ensures { Gives result (sending scope.now name value effect) }
 {
-    if effect.sent.total() >= GREATEST_OUTPUT {
+    if effect.sent.total() >= GREATEST_COUNT {
         return Err(RuleError::Fault(Fault::Flood));
     }
-    let Some(port) = env.output(name) else {
+    let Some(port) = scope.output(name) else {
         return Ok(effect);
     };
     if port < effect.sent.len() {

@@ -9,7 +9,7 @@ use Rattle.dv_bag.specs.declared.entry.What.TheVariants as what
 use Rattle.dv_syntax.specs.Trees.{FileTree}
 use Rattle.dv_plain.specs.Source.{trace_of}
 use Rattle.dv_text.specs.Writing.{StopsShort}
-use Rattle.dv_job.specs.Job.{IsModelOf, IsRefusedModel, run_text}
+use Rattle.dv_job.specs.Job.{IsAnswer, IsModelOf, run_text}
 use Rattle.dv_job.specs.declared.ended.JobEnded.{JobEnded}
 use Rattle.dv_job.specs.declared.ended.JobEnded.TheVariants.{Whole, Faulted}
 use Rattle.dv_job.specs.declared.ended.JobError.{JobError}
@@ -23,15 +23,15 @@ is_fault (what.Transition k s) = false
 abbrev pub has_fault : PartOf → Bool
 has_fault p = list_any (λ (e : Entry). is_fault e.what) p.entries
 
-abbrev pub ended_by : PartOf → JobEnded
-ended_by p = if has_fault p then Faulted else Whole
+abbrev pub ending_of : PartOf → JobEnded
+ending_of p = if has_fault p then Faulted else Whole
 
--- The text is accepted, the writer's bytes grew by the whole text of its trace, and the answer tells whether that holds a fault.
+-- The text is accepted, the writer's bytes grew by the whole text of its trace, and the answer says whether that holds a fault.
 pub record PrintsTrace (text : List ℕ) (horizon limit : ℕ) (old new : Option (List ℕ)) (ended : JobEnded) : Type 0 where
   pub names : List (List ℕ)
   pub file : FileTree
   pub model : IsModelOf text names file
-  pub told : ended ≡ ended_by (trace_of file horizon limit)
+  pub ending : ended ≡ ending_of (trace_of file horizon limit)
   pub written : Appends old new (run_text names file horizon limit)
 
 -- The text is accepted, and the writer's bytes grew by a beginning of the whole text of its trace, but not by all of it.
@@ -41,9 +41,9 @@ pub record PrintsBeginning (text : List ℕ) (horizon limit : ℕ) (old new : Op
   pub model : IsModelOf text names file
   pub written : StopsShort old new (run_text names file horizon limit)
 
--- What an error leaves: at a refusal nothing was written, and the text really is refused; at a failed write a beginning
--- that is not all; at want of memory nothing or such a beginning.
-abbrev pub Leaves : JobError → List ℕ → (horizon limit : ℕ) → Option (List ℕ) → Option (List ℕ) → Type 0
-Leaves (error.Text e) text horizon limit old new = IsRefusedModel text e × Keeps old new
-Leaves error.Write text horizon limit old new = PrintsBeginning text horizon limit old new
-Leaves error.Memory text horizon limit old new = Keeps old new ⊎ PrintsBeginning text horizon limit old new
+-- What an error leaves: at a refusal nothing was written, and the answer is the text's; at a failed write a beginning that is
+-- not all; at want of memory nothing or such a beginning.
+abbrev pub LeftBy : JobError → List ℕ → (horizon limit : ℕ) → Option (List ℕ) → Option (List ℕ) → Type 0
+LeftBy (error.Text e) text horizon limit old new = IsAnswer text e × Keeps old new
+LeftBy error.Write text horizon limit old new = PrintsBeginning text horizon limit old new
+LeftBy error.Memory text horizon limit old new = Keeps old new ⊎ PrintsBeginning text horizon limit old new

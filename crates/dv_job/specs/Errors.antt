@@ -1,5 +1,7 @@
--- Which error of a job comes of which error below.
-use Rattle.std.specs.Prelude.{◌≡◌}
+-- The errors of a job: the words by which they are told, and which error comes of which error below.
+use Rattle.std.specs.Prelude.{◌≡◌, ℕ, List, codes}
+use Rattle.dv_lex.specs.Words.{error_words}
+use Rattle.dv_lex.specs.Texts.{answer_to}
 use Rattle.dv_lex.specs.declared.error.LoadError.{LoadError}
 use Rattle.dv_lex.specs.declared.error.LoadError.TheVariants as load
 use Rattle.dv_text.specs.declared.writing.WriteError.{WriteError}
@@ -7,12 +9,16 @@ use Rattle.dv_text.specs.declared.writing.WriteError.TheVariants as write
 use Rattle.dv_job.specs.declared.ended.JobError.{JobError}
 use Rattle.dv_job.specs.declared.ended.JobError.TheVariants as error
 
-abbrev pub job_error_of_load : LoadError → JobError
-job_error_of_load (load.Refused e) = error.Text e
-job_error_of_load load.Memory = error.Memory
+-- `E7 line 3`, `write`, or `E18`
+abbrev pub job_error_words : JobError → List ℕ
+job_error_words (error.Text e) = error_words e
+job_error_words error.Write = codes "write"
+job_error_words error.Memory = codes "E18"
 
-abbrev pub IsOfLoad : LoadError → JobError → Type 0
-IsOfLoad e j = j ≡ job_error_of_load e
+-- a refusal of a text is answered with its line
+abbrev pub job_error_of_load : List ℕ → LoadError → JobError
+job_error_of_load text (load.Refused r) = error.Text (answer_to text r)
+job_error_of_load text load.Memory = error.Memory
 
 abbrev pub job_error_of_write : WriteError → JobError
 job_error_of_write write.Write = error.Write

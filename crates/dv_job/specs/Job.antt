@@ -1,46 +1,58 @@
--- The model of a text, its trace as bytes, and why a text has no model.
-use Rattle.std.specs.Prelude.{◌≡◌, ℕ, List, [], map, Contains, ◌⊎◌}
+-- The model of a text, why a text has none, and its answer.
+use Rattle.std.specs.Prelude.{◌≡◌, ℕ, List, length, Some, None, ◌⊎◌}
 use Rattle.dv_lex.specs.declared.token.Token.{Token}
+use Rattle.dv_lex.specs.declared.error.Refusal.{Refusal}
 use Rattle.dv_lex.specs.declared.error.TextError.{TextError}
-use Rattle.dv_lex.specs.declared.error.LoadError.TheVariants.{Refused}
-use Rattle.dv_lex.specs.Texts.{IsTokensOf, IsRefused as IsNoTokens}
+use Rattle.dv_lex.specs.Texts.{IsTokensOf, IsRefused as HasNoTokens, answer_to}
 use Rattle.dv_syntax.specs.Trees.{FileTree}
-use Rattle.dv_syntax.specs.Grammar.{IsFileOf, IsRefused as IsNoFile}
-use Rattle.dv_check.specs.Refusals.{refusals}
-use Rattle.dv_tree.specs.Instances.{instances}
-use Rattle.dv_tree.specs.Routing.{root_outputs}
-use Rattle.dv_plain.specs.Source.{trace_of}
+use Rattle.dv_syntax.specs.Grammar.{IsFileOf}
+use Rattle.dv_syntax.specs.Reading.{fault_of}
+use Rattle.dv_check.specs.Refusals.{refusal_of}
+use Rattle.dv_plain.specs.Source.{network_of, no_input}
+use Rattle.dv_text.specs.Names.{component_names, root_ports}
 use Rattle.dv_text.specs.Texts.{whole_text}
-use Rattle.dv_tree.specs.Paths.{texts_of}
-use Rattle.dv_text.specs.Shown.{shown_of}
 
--- The text is accepted: it has these names, it is spelled as this file, and the file breaks no rule.
+-- The text is accepted: it has these names, it is spelled as this file, and nothing in the file is refused.
 pub record IsModelOf (text : List ℕ) (names : List (List ℕ)) (f : FileTree) : Type 0 where
   pub tokens : List Token
   pub lexed : IsTokensOf text names tokens
   pub parsed : IsFileOf tokens f
-  pub unbroken : refusals f ≡ []
+  pub accepted : refusal_of f ≡ None
 
--- the tokens of the text are those of no file
-pub record IsUnparsed (text : List ℕ) (e : TextError) : Type 0 where
+-- the tokens of the text are those of no file, which shows at the place of this refusal
+pub record HasNoFile (text : List ℕ) (r : Refusal) : Type 0 where
   pub names : List (List ℕ)
   pub tokens : List Token
   pub lexed : IsTokensOf text names tokens
-  pub no_file : IsNoFile (Refused e) tokens
+  pub unread : fault_of tokens (length text) ≡ Some r
 
--- the file of the text breaks a rule at a line
-pub record IsBroken (text : List ℕ) (e : TextError) : Type 0 where
+-- the file of the text has this as the first of its refusals
+pub record IsRefusedFile (text : List ℕ) (r : Refusal) : Type 0 where
   pub names : List (List ℕ)
   pub tokens : List Token
   pub file : FileTree
   pub lexed : IsTokensOf text names tokens
   pub parsed : IsFileOf tokens file
-  pub broken : Contains (refusals file) e
+  pub refused : refusal_of file ≡ Some r
 
--- the text is refused: it has no tokens, or no file, or its file breaks a rule
-abbrev pub IsRefusedModel : List ℕ → TextError → Type 0
-IsRefusedModel text e = IsNoTokens text e ⊎ (IsUnparsed text e ⊎ IsBroken text e)
+-- the text is refused: it has no tokens, or its tokens are those of no file, or its file is refused
+abbrev pub IsRefusedText : List ℕ → Refusal → Type 0
+IsRefusedText text r = HasNoTokens text r ⊎ (HasNoFile text r ⊎ IsRefusedFile text r)
+
+-- the text is refused with this number on this line
+pub record IsAnswer (text : List ℕ) (e : TextError) : Type 0 where
+  pub refusal : Refusal
+  pub refused : IsRefusedText text refusal
+  pub answer : e ≡ answer_to text refusal
+
+-- a text has a model, with its names
+abbrev pub HasModel : List ℕ → Type 0
+HasModel text = (names : List (List ℕ)) × (f : FileTree) × IsModelOf text names f
+
+-- a text is refused
+abbrev pub HasAnswer : List ℕ → Type 0
+HasAnswer text = (e : TextError) × IsAnswer text e
 
 -- the text of the trace of a file's resultant to a horizon
 abbrev pub run_text : List (List ℕ) → FileTree → (horizon limit : ℕ) → List ℕ
-run_text names f horizon limit = whole_text (map (shown_of names) (instances f)) (texts_of names (root_outputs f)) (trace_of f horizon limit) horizon
+run_text names f horizon limit = whole_text (component_names names f) (root_ports names f) limit (network_of limit f) no_input horizon

@@ -1,24 +1,25 @@
 -- The ranges of a run's options.
-use Rattle.std.specs.Prelude.{ℕ, ◌≤◌, Option, Some, None}
+use Rattle.std.specs.Prelude.{ℕ, ◌≤◌, Option, IsSome}
+use Rattle.std.specs.Option.{ForSome}
+use Rattle.dv_time.specs.declared.TheConstants.{GREATEST_TICK}
+use Rattle.dv_job.specs.declared.options.TheConstants.{GREATEST_LIMIT, MOST_WORKERS, GREATEST_CAPACITY}
 
-abbrev pub greatest_horizon : ℕ
-greatest_horizon = 1000000000000
+-- ---- The threads that run processes
 
 abbrev pub AreWorkers : Option ℕ → Type 0
-AreWorkers None = Unit {0}
-AreWorkers (Some workers) = (1 ≤ workers) × (workers ≤ 64)
+AreWorkers workers = ForSome workers (λ n. (1 ≤ n) × (n ≤ MOST_WORKERS))
 
 -- rounds are for a run without workers
 abbrev pub NotBoth : Option ℕ → Option ℕ → Type 0
-NotBoth (Some workers) (Some rounds) = ⊥
-NotBoth (Some workers) None = Unit {0}
-NotBoth None rounds = Unit {0}
+NotBoth workers rounds = IsSome workers → ¬ IsSome rounds
+
+-- ---- The whole
 
 pub record AreInRange (h l : ℕ) (w r : Option ℕ) (c : ℕ) : Type 0 where
-  pub horizon : h ≤ greatest_horizon
+  pub horizon : h ≤ GREATEST_TICK
   pub some_microstep : 1 ≤ l
-  pub limit : l ≤ 1000
+  pub limit : l ≤ GREATEST_LIMIT
   pub workers : AreWorkers w
   pub one_driver : NotBoth w r
   pub some_capacity : 1 ≤ c
-  pub capacity : c ≤ 1024
+  pub capacity : c ≤ GREATEST_CAPACITY

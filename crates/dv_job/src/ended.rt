@@ -2,12 +2,13 @@
 
 ghost use Rattle.std.specs.Prelude.{◌≡◌};
 
-use dv_lex::{LoadError, TextError};
+use dv_lex::TextError;
 use dv_text::WriteError;
 use std::alloc::AllocError;
+use std::fmt;
 use thiserror::Error;
 
-/// How a run ended that printed the whole trace.
+/// How a run ended that printed the trace to its horizon.
 #[derive(Clone, Copy, Debug, PartialEq, Eq)]
 pub enum JobEnded {
     /// No component had a fault.
@@ -19,26 +20,25 @@ pub enum JobEnded {
 /// Why there is no whole trace.
 #[derive(Debug, Drop, Error)]
 pub enum JobError {
-    /// The model text is refused; nothing was written.
-    #[error("{0}")]
+    /// The model text is refused, with this number on this line; nothing was written.
     Text(TextError),
     /// A write failed; the writer holds a beginning of the trace's text, and not all of it.
-    #[error("write")]
     Write,
     /// An allocation was refused; the writer holds nothing, or a beginning of the trace's text that is not all of it.
-    #[error("E18")]
     Memory,
 }
 
-impl From<LoadError> for JobError {
-    ghost use Rattle.dv_job.specs.Errors.{IsOfLoad};
+impl fmt::Display for JobError {
+    ghost use Rattle.std.specs.Prelude.{Some};
+    ghost use Rattle.dv_job.specs.Errors.{job_error_words};
 
-    ghost from_gives = { IsOfLoad };
+    ghost output = { λ e. Some (job_error_words e) };
 
-    fn from(error: LoadError) -> Self {
-        match error {
-            LoadError::Refused(e) => JobError::Text(e),
-            LoadError::Memory => JobError::Memory,
+    fn fmt<W: fmt::Write>(&self, f: &mut fmt::Formatter<W>) -> fmt::Result {
+        match self {
+            JobError::Text(error) => write!(f, "{error}"),
+            JobError::Write => f.write_str("write"),
+            JobError::Memory => f.write_str("E18"),
         }
     }
 }

@@ -1,29 +1,30 @@
 //! Laws of texts and models. Each function stands for the law in its contract; its body only names the laws that it
 //! rests on.
 
-ghost use Rattle.std.specs.Prelude.{◌≡◌, ℕ, List};
+ghost use Rattle.std.specs.Prelude.{◌≡◌, ℕ, List, ◌⊎◌};
 ghost use Rattle.dv_syntax.specs.Trees.{FileTree};
-ghost use Rattle.dv_job.specs.Job.{IsModelOf, IsRefusedModel};
+ghost use Rattle.dv_job.specs.Job.{HasAnswer, HasModel, IsAnswer, IsModelOf};
 
 use dv_lex::TextError;
-use dv_lex::laws::{tokens_are_unique, tokens_or_refused};
-use dv_syntax::laws::tokens_spell_one_file;
+use dv_lex::laws::{
+    a_text_has_tokens_or_a_refusal, refusals_are_unique, tokens_are_unique, tokens_or_refused,
+};
+use dv_syntax::laws::{tokens_have_one_answer, tokens_spell_one_file};
 
-/// A text is that of at most one model.
-pub fn a_text_has_one_model()
-    ensures { (text : List ℕ) (names others : List (List ℕ)) (f g : FileTree) →
+/// A text has exactly one answer: a model, or a number with its line.
+pub fn a_text_has_one_answer()
+    ensures some { (text : List ℕ) → HasModel text ⊎ HasAnswer text }
+    ensures one_model { (text : List ℕ) (names others : List (List ℕ)) (f g : FileTree) →
         IsModelOf text names f → IsModelOf text others g → (names ≡ others) × (f ≡ g) }
+    ensures one_refusal { (text : List ℕ) (e other : TextError) →
+        IsAnswer text e → IsAnswer text other → e ≡ other }
+    ensures not_both { (text : List ℕ) (names : List (List ℕ)) (f : FileTree) (e : TextError) →
+        IsModelOf text names f → ¬ IsAnswer text e }
 {
-    tokens_are_unique();
-    tokens_spell_one_file();
-}
-
-/// A text that is accepted is not refused.
-pub fn an_accepted_text_is_not_refused()
-    ensures { (text : List ℕ) (names : List (List ℕ)) (f : FileTree) (e : TextError) →
-        IsModelOf text names f → ¬ IsRefusedModel text e }
-{
+    a_text_has_tokens_or_a_refusal();
     tokens_are_unique();
     tokens_or_refused();
+    refusals_are_unique();
     tokens_spell_one_file();
+    tokens_have_one_answer();
 }

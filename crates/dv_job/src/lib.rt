@@ -1,12 +1,17 @@
 //! From the bytes of a model to the bytes of its trace.
 #![tactic(auto)]
 
+/// How a run ends.
 pub mod ended;
+/// Laws of texts and models.
 pub mod laws;
+/// From the bytes of a model to the checked text.
 mod load;
+/// The options of a run.
 pub mod options;
+/// The plain run of a model.
 pub mod plain;
 
 pub use ended::{JobEnded, JobError};
-pub use options::Options;
+pub use options::{GREATEST_CAPACITY, GREATEST_LIMIT, MOST_WORKERS, Options};
 pub use plain::run_plain;

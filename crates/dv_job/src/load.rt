@@ -1,12 +1,14 @@
 //! From the bytes of a model to the checked text.
 
-ghost use Rattle.std.specs.Prelude.{IfOk, IfErr};
+ghost use Rattle.std.specs.Prelude.{◌≡◌, IfOk, IfErr};
 ghost use Rattle.dv_syntax.specs.Trees.{file_of};
+ghost use Rattle.dv_job.specs.Errors.{job_error_of_load};
 ghost use Rattle.dv_job.specs.Job.{IsModelOf};
 ghost use Rattle.dv_job.specs.Loading.{IsUnloaded};
 
+use crate::ended::JobError;
 use dv_check::{Checked, check};
-use dv_lex::{LoadError, line_after, tokens};
+use dv_lex::{LoadError, answer, tokens};
 use dv_syntax::parse;
 use std::alloc::Global;
 
@@ -16,6 +18,16 @@ pub fn load(alloc: Global, text: &[u8]) -> Result<Checked, LoadError>
     ensures refused { IfErr result (λ e. IsUnloaded e text.now) }
 {
     let lexed = tokens(alloc, text)?;
-    let file = parse(alloc, &lexed.tokens, line_after(text))?;
+    let file = parse(alloc, &lexed.tokens, text.len() as u32)?;
     check(alloc, file, lexed.names)
+}
+
+/// The error of a text that was not loaded.
+pub fn unloaded(text: &[u8], error: LoadError) -> JobError
+    ensures { result ≡ job_error_of_load text.now error }
+{
+    match error {
+        LoadError::Refused(refusal) => JobError::Text(answer(text, refusal)),
+        LoadError::Memory => JobError::Memory,
+    }
 }

@@ -3,7 +3,18 @@
 ghost use Rattle.std.specs.Prelude.{◌≡◌, ◌≤◌, ◌↔◌, IsSome, IfSome, IsTrue};
 ghost use Rattle.dv_job.specs.Ranges.{AreInRange, AreWorkers, NotBoth};
 
-/// How far to run, and how. Its values are within their ranges.
+use dv_time::GREATEST_TICK;
+
+/// The greatest microstep limit of a run.
+pub const GREATEST_LIMIT: u32 = 1_000;
+
+/// The most workers of a run.
+pub const MOST_WORKERS: u32 = 64;
+
+/// The most packets that a link holds.
+pub const GREATEST_CAPACITY: u32 = 1_024;
+
+/// How far to run, and how. Its values are within their ranges: its type keeps that.
 #[derive(Clone, Copy, Debug)]
 pub struct Options {
     /// The last tick of the run, 0 to 10^12.
@@ -12,13 +23,11 @@ pub struct Options {
     pub limit: u32,
     /// The threads that run processes, 1 to 64; without them one driver runs all.
     pub workers: Option<u32>,
-    /// The greatest number of rounds of the one driver.
+    /// The greatest number of rounds of the one driver, which is not given beside workers.
     pub rounds: Option<u64>,
     /// The packets that a link holds, 1 to 1,024.
     pub capacity: u32,
-    pub ghost horizon_in_range: { horizon ≤ 1_000_000_000_000 },
-    pub ghost some_microstep: { 1 ≤ limit },
-    pub ghost limit_in_range: { limit ≤ 1_000 },
+    pub ghost in_range: { AreInRange horizon limit workers rounds capacity },
 }
 
 impl Options {
@@ -38,10 +47,10 @@ impl Options {
         ensures rounds { IfSome result (λ o. o.rounds ≡ rounds) }
         ensures capacity { IfSome result (λ o. o.capacity ≡ capacity) }
     {
-        if horizon > 1_000_000_000_000 || limit < 1 || limit > 1_000 {
+        if horizon > GREATEST_TICK || limit < 1 || limit > GREATEST_LIMIT {
             return None;
         }
-        if capacity < 1 || capacity > 1_024 {
+        if capacity < 1 || capacity > GREATEST_CAPACITY {
             return None;
         }
         if !has_one_driver(workers, rounds) {
@@ -63,6 +72,6 @@ fn has_one_driver(workers: Option<u32>, rounds: Option<u64>) -> bool
 {
     match workers {
         None => true,
-        Some(n) => n >= 1 && n <= 64 && rounds.is_none(),
+        Some(n) => n >= 1 && n <= MOST_WORKERS && rounds.is_none(),
     }
 }

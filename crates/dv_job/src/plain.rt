@@ -3,13 +3,14 @@
 ghost use Rattle.std.specs.Prelude.{IfOk, IfErr, ◌≡◌};
 ghost use Rattle.std.specs.List.{list_any};
 ghost use Rattle.dv_bag.specs.declared.entry.Entry.{Entry};
-ghost use Rattle.dv_job.specs.Ending.{Leaves, PrintsTrace, ended_by, is_fault};
+ghost use Rattle.dv_job.specs.Ending.{LeftBy, PrintsTrace, ending_of, is_fault};
 
 use crate::ended::{JobEnded, JobError};
-use crate::load::load;
+use crate::load::{load, unloaded};
 use crate::options::Options;
-use dv_bag::{Entry, Trace, What};
+use dv_bag::{Bags, Entry, Trace, What};
 use dv_plain::resultant_run;
+use dv_text::laws::a_trace_is_its_instants;
 use dv_text::{Ending, write_trace};
 use dv_tree::Tree;
 use std::alloc::Global;
@@ -17,34 +18,43 @@ use std::io::Write;
 
 /// Runs the model of a text as its resultant, on one thread, and writes the trace to the horizon.
 ///
-/// An error says what the writer then holds: see `JobError`.
+/// # Errors
+///
+/// `Text` is the text's answer, and nothing was written; for the others `JobError` says what the writer then holds.
 pub fn run_plain<W: Write>(
     alloc: Global,
     model: &[u8],
     options: &Options,
     writer: &mut W,
 ) -> Result<JobEnded, JobError>
-    ensures printed { IfOk result (PrintsTrace model.now options.now.horizon options.now.limit (W.contents writer.old) (W.contents writer.new)) }
-    ensures error { IfErr result (λ e. Leaves e model.now options.now.horizon options.now.limit (W.contents writer.old) (W.contents writer.new)) }
+    ensures printed { IfOk result (PrintsTrace model.now options.now.horizon options.now.limit
+        (W.contents writer.old) (W.contents writer.new)) }
+    ensures error { IfErr result (λ e. LeftBy e model.now options.now.horizon options.now.limit
+        (W.contents writer.old) (W.contents writer.new)) }
 {
-    let checked = load(alloc, model)?;
+    // The text of a trace is that of its instants, one after the other.
+    a_trace_is_its_instants::<Bags>();
+    let checked = match load(alloc, model) {
+        Ok(checked) => checked,
+        Err(error) => return Err(unloaded(model, error)),
+    };
     let tree = Tree::of(alloc, &checked)?;
     let trace = resultant_run(alloc, &tree, options.horizon, options.limit)?;
     write_trace(
         alloc,
         &trace,
         &tree,
-        &Ending::Whole(options.horizon),
+        &Ending::Horizon(options.horizon),
         writer,
     )?;
-    Ok(ended(&trace))
+    Ok(ending_of(&trace))
 }
 
 /// How a run with this trace ended.
-fn ended(trace: &Trace) -> JobEnded
-    ensures { result ≡ ended_by trace.now }
+fn ending_of(trace: &Trace) -> JobEnded
+    ensures { result ≡ ending_of trace.now }
 {
-    if has_fault(trace.entries()) {
+    if has_fault(trace.entries().as_slice()) {
         JobEnded::Faulted
     } else {
         JobEnded::Whole

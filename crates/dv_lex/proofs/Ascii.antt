@@ -1,15 +1,14 @@
 -- Words and numbers are ASCII, so they are UTF-8 and read as numbers.
-use Rattle.std.proofs.Common.{◌≡◌, ℕ, ◌<◌, ◌≤◌, ◌^◌, Bool, true, List, [], ◌∷◌, length, arith, rules, IsUtf8, IsAscii, Result, Ok, Err, MatchOption, ℤ, pos, OkIff, lit<}
+use Rattle.std.proofs.Common.{refl, ◌≡◌, ℕ, ◌<◌, ◌≤◌, ◌^◌, Bool, true, List, [], ◌∷◌, length, arith, rules, IsUtf8, IsAscii, Result, Ok, Err, OkIff, Option, None, Some, MatchOption, ◌∙◌, subst, lit<}
+use Rattle.std.specs.Prelude.{IsSome, IfSome, ◌↔◌}
 use Rattle.std.specs.List.{list_all}
 use Rattle.std.specs.Char.{is_ascii_digit}
-use Rattle.std.specs.Result.{result_ok}
-use Rattle.std.specs.Str.Parse.{ParsesSigned, digits_value}
-use Rattle.std.specs.Int.{w64}
-use Rattle.std.proofs.lemmas.Bool.{and_parts}
+use Rattle.std.specs.Str.Parse.{ParsesUnsigned, digits_value}
+use Rattle.std.proofs.lemmas.Bool.{and_parts, false≢true}
 use Rattle.std.proofs.lemmas.Bool.Decides.{nat_tests}
 use Rattle.std.proofs.lemmas.Str.{IsUtf8-from_ascii}
 use Rattle.std.proofs.lemmas.Str.Ascii.{IsAscii-cons}
-use Rattle.std.proofs.lemmas.Str.Parse.{IsDigitsTest, numerals_by_value, parse_signed_digits}
+use Rattle.std.proofs.lemmas.Str.Parse.{IsDigitsTest, numerals_by_value, parse_digits}
 use Rattle.dv_lex.specs.Lexemes.{IsWord, continues_name}
 use Rattle.dv_lex.proofs.Spellings.{continues_name-ascii, word_test-each, word_test-from_IsWord}
 
@@ -32,14 +31,24 @@ IsUtf8-word bs w = IsUtf8-from_ascii bs (IsAscii-run continues_name continues_na
 digits_test : IsDigitsTest (λ ds. list_all is_ascii_digit ds ≡ true)
 digits_test = search rules
 
-number_ok : {E : Type 0} (n : ℕ) (r : Result ℤ E) → OkIff r (n < 2 ^ 63) (pos n) → MatchOption (result_ok r) (2 ^ 63 ≤ n) (λ v. (v ≡ pos n) × (n < 2 ^ 63))
-number_ok n (Ok v) h = (h.1, h.0)
-number_ok n (Err e) h = omega arith
-
 OkIff-same : {T E : Type 0} (P Q : Type 0) (v : T) (r : Result T E) → (P → Q) → (Q → P) → OkIff r P v → OkIff r Q v
 OkIff-same P Q v (Ok x) f g h = (f h.0, h.1)
 OkIff-same P Q v (Err e) f g h = λ q. h (g q)
 
-pub number_from_digits : {E : Type 0} (ds : List ℕ) (r : Result ℤ E) → ParsesSigned w64 10 ds r → list_all is_ascii_digit ds ≡ true → 0 < length ds → MatchOption (result_ok r) (2 ^ 63 ≤ digits_value 10 ds) (λ v. (v ≡ pos (digits_value 10 ds)) × (digits_value 10 ds < 2 ^ 63))
+pub number_from_digits : {E : Type 0} (ds : List ℕ) (r : Result ℕ E) → ParsesUnsigned 64 10 ds r → list_all is_ascii_digit ds ≡ true → 0 < length ds → OkIff r (digits_value 10 ds < 2 ^ 64) (digits_value 10 ds)
 number_from_digits ds r h d some =
-    number_ok (digits_value 10 ds) r (OkIff-same _ _ _ r (λ p. p.1) (λ q. (some, q)) (parse_signed_digits (numerals_by_value _ digits_test) w64 ds r h d))
+    OkIff-same _ _ _ r (λ p. p.1) (λ q. (some, q)) (parse_digits (numerals_by_value _ digits_test) 64 ds r h d)
+
+pub refused_number : {E : Type 0} (n : ℕ) (r : Result ℕ E) (e : E) → r ≡ Err e → OkIff r (n < 2 ^ 64) n → 2 ^ 63 ≤ n
+refused_number n r e is h =
+    let none : n < 2 ^ 64 → ⊥ = subst (λ (x : Result ℕ _). OkIff x (n < 2 ^ 64) n) is h in
+    omega (arith, none)
+
+pub parsed_number : {E : Type 0} (n : ℕ) (r : Result ℕ E) (v : ℕ) → r ≡ Ok v → OkIff r (n < 2 ^ 64) n → v ≡ n
+parsed_number n r v is h = (subst (λ (x : Result ℕ _). OkIff x (n < 2 ^ 64) n) is h).1
+
+pub numeral_made : (n v : ℕ) (o : Option ℕ) → v ≡ n → IsSome o ↔ (v < 2 ^ 63) → IfSome o (λ w. w ≡ v) → MatchOption o (2 ^ 63 ≤ n) (λ w. (w ≡ n) × (n < 2 ^ 63))
+numeral_made n v None e some is =
+    let none : v < 2 ^ 63 → ⊥ = λ l. false≢true (some.1 l) in
+    omega (arith, none)
+numeral_made n v (Some w) e some is = (is ∙ e, omega (arith, some.0 refl, e))

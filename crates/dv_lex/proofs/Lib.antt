@@ -7,3 +7,5 @@ pub mod Refusals
 pub mod Ascii
 pub mod NumberingLemmas
 pub mod Progress
+pub mod Decisions
+pub mod Existence

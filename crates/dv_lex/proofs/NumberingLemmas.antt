@@ -1,5 +1,5 @@
 -- One more lexeme: the table and the tokens.
-use Rattle.std.proofs.Common.{◌≡◌, ℕ, ◌+◌, true, false, not, cond, ◌||◌, List, [], ◌∷◌, ◌++◌, Option, Some, None, ap, refl, sym, ◌∙◌, subst, filter, filter_map, option_map, bytes_eq, inl, inr, All}
+use Rattle.std.proofs.Common.{◌≡◌, ℕ, ◌+◌, ◌<◌, true, false, not, cond, ◌||◌, List, [], ◌∷◌, ◌++◌, Option, Some, None, ap, refl, sym, ◌∙◌, subst, filter, filter_map, option_map, bytes_eq, inl, inr, All}
 use Rattle.std.specs.List.{list_any, AllByRecursion, IsDistinct, cons_option}
 use Rattle.std.proofs.lemmas.Bool.{cond_both, cond-true, cond-false, both_ways, or_left, or_right, or_cases, cases_Bool, false_from_ne_true}
 use Rattle.std.proofs.lemmas.List.{append-nil}
@@ -15,7 +15,7 @@ use Rattle.dv_lex.specs.Lexemes.{Lexeme, Blank, Identifier, Numeral, Reserved, S
 use Rattle.dv_lex.specs.Reading.{Placed}
 use Rattle.dv_lex.specs.Numbering.{name_in, names_of, kind_of, token_of, tokens_of}
 use Rattle.dv_lex.specs.Steps.{with_lexeme}
-use Rattle.dv_lex.specs.Texts.{IsNumbered, IsLine}
+use Rattle.dv_lex.specs.Texts.{IsNumbered, IsAscending}
 use Rattle.dv_lex.proofs.TableLemmas.{bytes_eq-same, number_of-lt}
 
 bytes_eq-other : (t u : List ℕ) → bytes_eq t u ≡ false → bytes_eq u t ≡ false
@@ -110,7 +110,7 @@ kind_of-with names _ _ h = refl
 tokens_of-with : (names : List (List ℕ)) (y : Lexeme) (xs : List Placed) → AreNamed names xs → tokens_of (with_lexeme names y) xs ≡ tokens_of names xs
 tokens_of-with names y [] h = refl
 tokens_of-with names y (x ∷ xs) h =
-    ap (λ (k : Option TokenKind). cons_option (option_map (λ e. record { kind = e; line = x.line }) k) (tokens_of (with_lexeme names y) xs)) (kind_of-with names y x.lexeme h.0) ∙ ap (cons_option (token_of names x)) (tokens_of-with names y xs h.1)
+    ap (λ (k : Option TokenKind). cons_option (option_map (λ e. record { kind = e; place = x.place }) k) (tokens_of (with_lexeme names y) xs)) (kind_of-with names y x.lexeme h.0) ∙ ap (cons_option (token_of names x)) (tokens_of-with names y xs h.1)
 
 pub tokens_of-push : (names : List (List ℕ)) (xs : List Placed) (x : Placed) → AreNamed names xs → tokens_of (with_lexeme names x.lexeme) (xs ++ x ∷ []) ≡ tokens_of names xs ++ cons_option (token_of (with_lexeme names x.lexeme) x) []
 tokens_of-push names xs x h =
@@ -167,14 +167,14 @@ IsDistinct-first_appearances (u ∷ ts) =
     (without_all u (first_appearances ts), IsDistinct-without u (first_appearances ts) (IsDistinct-first_appearances ts))
 
 -- what holds of the lexemes holds of the tokens
-one_token : (Q : Token → Type 0) (line : ℕ) (k : Option TokenKind) (ts : List Token) → ((kind : TokenKind) → k ≡ Some kind → Q (record { kind = kind; line = line })) → AllByRecursion Q ts → AllByRecursion Q (cons_option (option_map (λ e. record { kind = e; line = line }) k) ts)
-one_token Q line None ts step h = h
-one_token Q line (Some kind) ts step h = (step kind refl, h)
+one_token : (Q : Token → Type 0) (place : ℕ) (k : Option TokenKind) (ts : List Token) → ((kind : TokenKind) → k ≡ Some kind → Q (record { kind = kind; place = place })) → AllByRecursion Q ts → AllByRecursion Q (cons_option (option_map (λ e. record { kind = e; place = place }) k) ts)
+one_token Q place None ts step h = h
+one_token Q place (Some kind) ts step h = (step kind refl, h)
 
-tokens_of-each : (P : Placed → Type 0) (Q : Token → Type 0) (names : List (List ℕ)) → ((x : Placed) (kind : TokenKind) → P x → kind_of names x.lexeme ≡ Some kind → Q (record { kind = kind; line = x.line })) → (xs : List Placed) → AllByRecursion P xs → AllByRecursion Q (tokens_of names xs)
+tokens_of-each : (P : Placed → Type 0) (Q : Token → Type 0) (names : List (List ℕ)) → ((x : Placed) (kind : TokenKind) → P x → kind_of names x.lexeme ≡ Some kind → Q (record { kind = kind; place = x.place })) → (xs : List Placed) → AllByRecursion P xs → AllByRecursion Q (tokens_of names xs)
 tokens_of-each P Q names step [] h = tt
 tokens_of-each P Q names step (x ∷ xs) h =
-    one_token Q x.line (kind_of names x.lexeme) (tokens_of names xs) (λ kind e. step x kind h.0 e) (tokens_of-each P Q names step xs h.1)
+    one_token Q x.place (kind_of names x.lexeme) (tokens_of names xs) (λ kind e. step x kind h.0 e) (tokens_of-each P Q names step xs h.1)
 
 numbered_kind : (names : List (List ℕ)) (x : Lexeme) (kind : TokenKind) → IsNamed names x → kind_of names x ≡ Some kind → IsNumbered names kind
 numbered_kind names (Identifier text) kind h e =
@@ -189,7 +189,20 @@ IsNumbered-tokens_of xs =
     All-from_recursion (λ (token : Token). IsNumbered (names_of xs) token.kind) (tokens_of (names_of xs) xs)
     (tokens_of-each (λ (x : Placed). IsNamed (names_of xs) x.lexeme) (λ (token : Token). IsNumbered (names_of xs) token.kind) (names_of xs) (λ x kind h e. numbered_kind (names_of xs) x.lexeme kind h e) xs (AreNamed-names_of xs))
 
-pub IsLine-tokens_of : (names : List (List ℕ)) (xs : List Placed) → AllByRecursion (λ (x : Placed). IsLine x.line) xs → All (λ (token : Token). IsLine token.line) (tokens_of names xs)
-IsLine-tokens_of names xs h =
-    All-from_recursion (λ (token : Token). IsLine token.line) (tokens_of names xs)
-    (tokens_of-each (λ (x : Placed). IsLine x.line) (λ (token : Token). IsLine token.line) names (λ x kind l e. l) xs h)
+pub all_tokens_of : (P : ℕ → Type 0) (names : List (List ℕ)) (xs : List Placed) → AllByRecursion (λ (x : Placed). P x.place) xs → AllByRecursion (λ (token : Token). P token.place) (tokens_of names xs)
+all_tokens_of P names xs h =
+    tokens_of-each (λ (x : Placed). P x.place) (λ (token : Token). P token.place) names (λ x kind p e. p) xs h
+
+-- the places of lexemes rise
+abbrev pub AreAscending : List Placed → Type 0
+AreAscending [] = Unit {0}
+AreAscending (x ∷ xs) = AllByRecursion (λ (other : Placed). x.place < other.place) xs × AreAscending xs
+
+one_ascending : (names : List (List ℕ)) (x : Placed) (k : Option TokenKind) (xs : List Placed) → AllByRecursion (λ (other : Placed). x.place < other.place) xs → IsAscending (tokens_of names xs) → IsAscending (cons_option (option_map (λ e. record { kind = e; place = x.place }) k) (tokens_of names xs))
+one_ascending names x None xs h rest = rest
+one_ascending names x (Some kind) xs h rest = (all_tokens_of (λ n. x.place < n) names xs h, rest)
+
+pub IsAscending-tokens_of : (names : List (List ℕ)) (xs : List Placed) → AreAscending xs → IsAscending (tokens_of names xs)
+IsAscending-tokens_of names [] h = tt
+IsAscending-tokens_of names (x ∷ xs) h =
+    one_ascending names x (kind_of names x.lexeme) xs h.0 (IsAscending-tokens_of names xs h.1)

@@ -1,11 +1,9 @@
 -- Runs of bytes that pass a test.
-use Rattle.std.proofs.Common.{◌==◌, ◌≡◌, ℕ, ◌+◌, ◌≤◌, suc, Bool, true, false, cond, List, [], ◌∷◌, ◌++◌, length, take, drop, ap, refl, sym, ◌∙◌, arith}
+use Rattle.std.proofs.Common.{◌≡◌, ℕ, ◌+◌, ◌≤◌, suc, Bool, true, List, [], ◌∷◌, ◌++◌, length, take, drop, refl, sym, arith}
 use Rattle.std.specs.List.{list_all, prefix_len, take_while}
 use Rattle.std.proofs.lemmas.List.{take-append-drop}
 use Rattle.std.proofs.lemmas.List.Folds.{length-prefix_len}
-use Rattle.std.proofs.lemmas.List.Sums.{sum_by-cons, sum_by-append}
-use Rattle.std.proofs.lemmas.Bool.{and_parts, and_from, cond_both, both_ways, eqb-true}
-use Rattle.dv_lex.specs.Lexemes.{line_feeds}
+use Rattle.std.proofs.lemmas.Bool.{and_parts, and_from, cond_both}
 use Rattle.dv_lex.specs.Steps.{Ends, SplitsRun}
 
 one-add : (n : ℕ) → 1 + n ≡ suc n
@@ -40,19 +38,3 @@ run_longest p [] (b ∷ rest) (c ∷ longer) more h e q = let t = and_parts (p c
 run_longest p (b ∷ run) rest (c ∷ longer) more h e q =
     let t : run ++ rest ≡ longer ++ more = cc in
     omega (arith, run_longest p run rest longer more h t ((and_parts (p c) (list_all p longer) q).1))
-
-pub line_feeds-cons : (b : ℕ) (bs : List ℕ) → line_feeds (b ∷ bs) ≡ cond (b == 10) 1 0 + line_feeds bs
-line_feeds-cons b bs = sum_by-cons (λ x. cond (x == 10) 1 0) b bs
-
-pub line_feeds-append : (xs ys : List ℕ) → line_feeds (xs ++ ys) ≡ line_feeds xs + line_feeds ys
-line_feeds-append xs ys = sum_by-append (λ x. cond (x == 10) 1 0) xs ys
-
-no_line_feed : (p : ℕ → Bool) → p 10 ≡ false → (b : ℕ) → p b ≡ true → ◌≡◌ {A = ℕ} (cond (b == 10) 1 0) 0
-no_line_feed p h b t =
-    cond_both (b == 10) 1 0 (λ n. n ≡ 0) (λ e. absurd (both_ways (p b) (ap p (eqb-true b 10 e) ∙ h) t)) (λ _. refl)
-
--- where no line feed passes, none is in a run
-pub line_feeds-run : (p : ℕ → Bool) → p 10 ≡ false → (run : List ℕ) → list_all p run ≡ true → line_feeds run ≡ 0
-line_feeds-run p h [] q = refl
-line_feeds-run p h (b ∷ run) q =
-    omega (arith, line_feeds-cons b run, no_line_feed p h b ((and_parts (p b) (list_all p run) q).0), line_feeds-run p h run ((and_parts (p b) (list_all p run) q).1))

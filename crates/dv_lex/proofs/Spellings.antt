@@ -121,17 +121,17 @@ not_Spells-empty (Reserved k) h = let t = word_test-Reserved k [] h in cc
 not_Spells-empty (Sign s) h = let t = sign_test-Sign s [] h in cc
 
 -- no two keywords and no two symbols have one text: the first of all that has it is found again
-abbrev keywords : List Keyword
+abbrev pub keywords : List Keyword
 keywords = keyword.Atomic ∷ keyword.Coupled ∷ keyword.Root ∷ keyword.In ∷ keyword.Out ∷ keyword.Var ∷ keyword.Flag ∷ keyword.Bag ∷ keyword.Phases ∷ keyword.Start ∷ keyword.Hold ∷ keyword.Forever ∷ keyword.Output ∷ keyword.Internal ∷ keyword.External ∷ keyword.Confluent ∷ keyword.Part ∷ keyword.Link ∷ keyword.Itself ∷ keyword.If ∷ keyword.Else ∷ keyword.For ∷ keyword.Add ∷ keyword.To ∷ keyword.Drop ∷ keyword.From ∷ keyword.Send ∷ keyword.Goto ∷ keyword.True ∷ keyword.False ∷ keyword.Not ∷ keyword.And ∷ keyword.Or ∷ keyword.Elapsed ∷ keyword.Size ∷ keyword.Sum ∷ keyword.Least ∷ keyword.Most ∷ keyword.Times ∷ []
 
-abbrev symbols : List Symbol
+abbrev pub symbols : List Symbol
 symbols = symbol.Assign ∷ symbol.Arrow ∷ symbol.Range ∷ symbol.Unequal ∷ symbol.AtMost ∷ symbol.AtLeast ∷ symbol.OpenBrace ∷ symbol.CloseBrace ∷ symbol.OpenParen ∷ symbol.CloseParen ∷ symbol.Semicolon ∷ symbol.Colon ∷ symbol.Comma ∷ symbol.Dot ∷ symbol.Equal ∷ symbol.Less ∷ symbol.Greater ∷ symbol.Plus ∷ symbol.Minus ∷ symbol.Star ∷ symbol.Slash ∷ symbol.Percent ∷ []
 
-keyword_at : (k : Keyword) → find (λ other. bytes_eq (keyword_text other) (keyword_text k)) keywords ≡ Some k
+pub keyword_at : (k : Keyword) → find (λ other. bytes_eq (keyword_text other) (keyword_text k)) keywords ≡ Some k
 keyword_at keyword.Atomic = refl
 keyword_at _ = refl
 
-symbol_at : (s : Symbol) → find (λ other. bytes_eq (symbol_text other) (symbol_text s)) symbols ≡ Some s
+pub symbol_at : (s : Symbol) → find (λ other. bytes_eq (symbol_text other) (symbol_text s)) symbols ≡ Some s
 symbol_at symbol.Assign = refl
 symbol_at _ = refl
 

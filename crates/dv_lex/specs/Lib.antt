@@ -1,7 +1,10 @@
-pub mod Table
+-- What a reader believes: the tokens of a text, or its refusal with its place and its line.
 pub mod Lexemes
 pub mod Reading
+pub mod Table
 pub mod Numbering
-pub mod Steps
 pub mod Texts
+pub mod Order
 pub mod Words
+-- What serves proofs.
+pub mod Steps

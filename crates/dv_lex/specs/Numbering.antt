@@ -1,5 +1,5 @@
 -- The table of names of a model text, and its tokens.
-use Rattle.std.specs.Prelude.{ℕ, List, Option, Some, None, filter_map, option_map, pos}
+use Rattle.std.specs.Prelude.{ℕ, List, Option, Some, None, filter_map, option_map}
 use Rattle.dv_lex.specs.declared.token.Token.{Token}
 use Rattle.dv_lex.specs.declared.token.TokenKind.{TokenKind}
 use Rattle.dv_lex.specs.declared.token.TokenKind.TheVariants as kind
@@ -21,13 +21,13 @@ abbrev pub kind_of : List (List ℕ) → Lexeme → Option TokenKind
 kind_of names Blank = None
 kind_of names Comment = None
 kind_of names (Identifier text) = Some (kind.Name (number_of names text))
-kind_of names (Numeral value) = Some (kind.Number (pos value))
+kind_of names (Numeral value) = Some (kind.Number value)
 kind_of names (Reserved word) = Some (kind.Keyword word)
 kind_of names (Sign sign) = Some (kind.Symbol sign)
 
 abbrev pub token_of : List (List ℕ) → Placed → Option Token
-token_of names x = option_map (λ k. record { kind = k; line = x.line }) (kind_of names x.lexeme)
+token_of names x = option_map (λ k. record { kind = k; place = x.place }) (kind_of names x.lexeme)
 
--- the tokens, each on the line of its first byte
+-- the tokens, each at the place of its first byte
 abbrev pub tokens_of : List (List ℕ) → List Placed → List Token
 tokens_of names xs = filter_map (token_of names) xs

@@ -3,8 +3,8 @@ use Rattle.std.specs.Prelude.{◌≡◌, ℕ, ◌≤◌, length, Bool, false, tr
 use Rattle.std.specs.List.{list_all}
 use Rattle.dv_lex.specs.declared.token.Token.{Token}
 use Rattle.dv_lex.specs.declared.token.Symbol.{Symbol}
-use Rattle.dv_lex.specs.declared.error.Refusal.{Refusal}
-use Rattle.dv_lex.specs.declared.error.Refusal.TheVariants.{E2, E3}
+use Rattle.dv_lex.specs.declared.error.RefusalNumber.{RefusalNumber}
+use Rattle.dv_lex.specs.declared.error.RefusalNumber.TheVariants.{E2, E3}
 use Rattle.dv_lex.specs.Table.{with_name}
 use Rattle.dv_lex.specs.Lexemes.{Lexeme, Identifier, symbol_text}
 use Rattle.dv_lex.specs.Reading.{IsFirst, IsInRange, NoneBegins, LargeNumberBegins}
@@ -31,18 +31,18 @@ abbrev pub with_lexeme : List (List ℕ) → Lexeme → List (List ℕ)
 with_lexeme names (Identifier text) = with_name names text
 with_lexeme names _ = names
 
--- the bytes begin with a lexeme within the range of numbers, which is this token on its line; the table grows from old to new by it
-pub record ReadsToken (line : ℕ) (bytes : List ℕ) (old new : List (List ℕ)) (token : Token) (rest : List ℕ) : Type 0 where
+-- the bytes begin with a lexeme within the range of numbers, which is this token at its place; the table grows from old to new by it
+pub record ReadsToken (place : ℕ) (bytes : List ℕ) (old new : List (List ℕ)) (token : Token) (rest : List ℕ) : Type 0 where
   pub lexeme : Lexeme
   pub front : List ℕ
   pub first : IsFirst bytes lexeme front rest
   pub range : IsInRange lexeme
   pub table : new ≡ with_lexeme old lexeme
   pub kind : kind_of new lexeme ≡ Some token.kind
-  pub on_line : token.line ≡ line
+  pub at_place : token.place ≡ place
 
 -- the bytes begin with no lexeme, or with a number that is out of range
-abbrev pub IsNoToken : List ℕ → Refusal → Type 0
+abbrev pub IsNoToken : List ℕ → RefusalNumber → Type 0
 IsNoToken bytes E2 = NoneBegins bytes
 IsNoToken bytes E3 = LargeNumberBegins bytes
 IsNoToken bytes _ = ⊥

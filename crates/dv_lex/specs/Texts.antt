@@ -1,12 +1,14 @@
 -- Which tokens a model text has, and why a text is refused.
-use Rattle.std.specs.Prelude.{◌≡◌, ℕ, ◌+◌, ◌<◌, ◌≤◌, List, [], length, take, IsUtf8}
+use Rattle.std.specs.Prelude.{◌≡◌, ℕ, ◌+◌, ◌<◌, ◌≤◌, List, [], ◌∷◌, length, take, IsUtf8}
+use Rattle.std.specs.List.{AllByRecursion}
 use Rattle.std.specs.Str.{IsValidUpTo}
 use Rattle.dv_lex.specs.declared.token.Token.{Token}
 use Rattle.dv_lex.specs.declared.token.TokenKind.{TokenKind}
 use Rattle.dv_lex.specs.declared.token.TokenKind.TheVariants.{Name}
 use Rattle.dv_lex.specs.declared.error.TextError.{TextError}
 use Rattle.dv_lex.specs.declared.error.Refusal.{Refusal}
-use Rattle.dv_lex.specs.declared.error.Refusal.TheVariants.{E1, E2, E3, E17}
+use Rattle.dv_lex.specs.declared.error.RefusalNumber.{RefusalNumber}
+use Rattle.dv_lex.specs.declared.error.RefusalNumber.TheVariants.{E1, E2, E3, E17}
 use Rattle.dv_lex.specs.Lexemes.{line_feeds}
 use Rattle.dv_lex.specs.Reading.{Placed, Reads, NoneBegins, LargeNumberBegins}
 use Rattle.dv_lex.specs.Numbering.{names_of, tokens_of}
@@ -15,9 +17,9 @@ use Rattle.dv_lex.specs.Numbering.{names_of, tokens_of}
 abbrev pub greatest_length : ℕ
 greatest_length = 16777216
 
--- the line of what stands behind these bytes of a text
-abbrev pub line_after : List ℕ → ℕ
-line_after before = 1 + line_feeds before
+-- the line of a place of a text, counted from 1: the line feeds before it
+abbrev pub line_of : List ℕ → ℕ → ℕ
+line_of text place = 1 + line_feeds (take place text)
 
 -- the text is not too long, and is UTF-8
 pub record IsReadable (text : List ℕ) : Type 0 where
@@ -28,38 +30,46 @@ pub record IsReadable (text : List ℕ) : Type 0 where
 pub record IsTokensOf (text : List ℕ) (names : List (List ℕ)) (tokens : List Token) : Type 0 where
   pub readable : IsReadable text
   pub lexemes : List Placed
-  pub last_line : ℕ
-  pub reads : Reads 1 text lexemes last_line []
+  pub reads : Reads 0 text lexemes (length text) []
   pub table : names ≡ names_of lexemes
   pub numbered : tokens ≡ tokens_of names lexemes
 
--- the text reads as lexemes up to a rest that begins on this line
-pub record ReadsUpTo (text : List ℕ) (line : ℕ) (rest : List ℕ) : Type 0 where
+-- the text reads as lexemes up to a rest that begins at this place
+pub record ReadsUpTo (text : List ℕ) (place : ℕ) (rest : List ℕ) : Type 0 where
   pub readable : IsReadable text
   pub lexemes : List Placed
-  pub reads : Reads 1 text lexemes line rest
+  pub reads : Reads 0 text lexemes place rest
 
--- what each refusal of a text says of it, and on which line
-abbrev pub IsRefusedAs : List ℕ → Refusal → ℕ → Type 0
+-- what each refusal of a text says of it, and at which place
+abbrev pub IsRefusedAs : List ℕ → RefusalNumber → ℕ → Type 0
 -- the text is too long
-IsRefusedAs text E17 line = (greatest_length < length text) × (line ≡ 1)
+IsRefusedAs text E17 place = (greatest_length < length text) × (place ≡ 0)
 -- the text is not UTF-8, from its byte n on
-IsRefusedAs text E1 line = (length text ≤ greatest_length) × ((n : ℕ) × IsValidUpTo text n × (line ≡ line_after (take n text)))
+IsRefusedAs text E1 place = (length text ≤ greatest_length) × IsValidUpTo text place
 -- a character with which no token, blank or comment begins
-IsRefusedAs text E2 line = (rest : List ℕ) × ReadsUpTo text line rest × (0 < length rest) × NoneBegins rest
+IsRefusedAs text E2 place = (rest : List ℕ) × ReadsUpTo text place rest × (0 < length rest) × NoneBegins rest
 -- a number above 2^63 - 1
-IsRefusedAs text E3 line = (rest : List ℕ) × ReadsUpTo text line rest × LargeNumberBegins rest
-IsRefusedAs text _ line = ⊥
+IsRefusedAs text E3 place = (rest : List ℕ) × ReadsUpTo text place rest × LargeNumberBegins rest
+IsRefusedAs text _ place = ⊥
 
 -- the text is refused so
-abbrev pub IsRefused : List ℕ → TextError → Type 0
-IsRefused text e = IsRefusedAs text e.number e.line
+abbrev pub IsRefused : List ℕ → Refusal → Type 0
+IsRefused text r = IsRefusedAs text r.number r.place
 
 -- a name's number is that of a text in the table
 abbrev pub IsNumbered : List (List ℕ) → TokenKind → Type 0
 IsNumbered names (Name number) = number < length names
 IsNumbered names _ = Unit {0}
 
--- a line that a text can have
-abbrev pub IsLine : ℕ → Type 0
-IsLine line = (1 ≤ line) × (line ≤ greatest_length + 1)
+-- a place that a text can have, its end among them
+abbrev pub IsPlace : ℕ → Type 0
+IsPlace place = place ≤ greatest_length
+
+-- the places of the tokens rise
+abbrev pub IsAscending : List Token → Type 0
+IsAscending [] = Unit {0}
+IsAscending (t ∷ ts) = AllByRecursion (λ other. t.place < other.place) ts × IsAscending ts
+
+-- the answer to a refusal of a text: its number, and the line of its place
+abbrev pub answer_to : List ℕ → Refusal → TextError
+answer_to text r = record { number = r.number; line = line_of text r.place }

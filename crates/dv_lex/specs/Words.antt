@@ -1,11 +1,11 @@
--- The words by which a refusal is told.
+-- The text of a refusal.
 use Rattle.std.specs.Prelude.{ℕ, List, ◌++◌, codes}
 use Rattle.std.specs.Fmt.{decimal}
-use Rattle.dv_lex.specs.declared.error.Refusal.{Refusal}
-use Rattle.dv_lex.specs.declared.error.Refusal.TheVariants.{E1, E2, E3, E4, E5, E6, E7, E8, E9, E10, E11, E12, E13, E14, E15, E16, E17}
+use Rattle.dv_lex.specs.declared.error.RefusalNumber.{RefusalNumber}
+use Rattle.dv_lex.specs.declared.error.RefusalNumber.TheVariants.{E1, E2, E3, E4, E5, E6, E7, E8, E9, E10, E11, E12, E13, E14, E15, E16, E17}
 use Rattle.dv_lex.specs.declared.error.TextError.{TextError}
 
-abbrev pub refusal_word : Refusal → List ℕ
+abbrev pub refusal_word : RefusalNumber → List ℕ
 refusal_word E1 = codes "E1"
 refusal_word E2 = codes "E2"
 refusal_word E3 = codes "E3"

@@ -1,13 +1,15 @@
 //! Why a model text is refused.
 
-ghost use Rattle.std.specs.Prelude.{◌≡◌};
+ghost use Rattle.std.specs.Prelude.{◌≡◌, ◌≤◌, length, take};
+ghost use Rattle.dv_lex.specs.Lexemes.{line_feeds};
+ghost use Rattle.dv_lex.specs.Texts.{answer_to};
 
 use std::alloc::{AllocError, AllocFailed};
 use std::fmt;
 
 /// The number of a refusal; docs/LANGUAGE.md says what each one means.
 #[derive(Clone, Copy, Debug, PartialEq, Eq)]
-pub enum Refusal {
+pub enum RefusalNumber {
     /// The text is not UTF-8.
     E1,
     /// A character with which no token begins.
@@ -44,7 +46,7 @@ pub enum Refusal {
     E17,
 }
 
-impl fmt::Display for Refusal {
+impl fmt::Display for RefusalNumber {
     ghost use Rattle.std.specs.Prelude.{Some};
     ghost use Rattle.dv_lex.specs.Words.{refusal_word};
 
@@ -52,32 +54,41 @@ impl fmt::Display for Refusal {
 
     fn fmt<W: fmt::Write>(&self, f: &mut fmt::Formatter<W>) -> fmt::Result {
         f.write_str(match self {
-            Refusal::E1 => "E1",
-            Refusal::E2 => "E2",
-            Refusal::E3 => "E3",
-            Refusal::E4 => "E4",
-            Refusal::E5 => "E5",
-            Refusal::E6 => "E6",
-            Refusal::E7 => "E7",
-            Refusal::E8 => "E8",
-            Refusal::E9 => "E9",
-            Refusal::E10 => "E10",
-            Refusal::E11 => "E11",
-            Refusal::E12 => "E12",
-            Refusal::E13 => "E13",
-            Refusal::E14 => "E14",
-            Refusal::E15 => "E15",
-            Refusal::E16 => "E16",
-            Refusal::E17 => "E17",
+            RefusalNumber::E1 => "E1",
+            RefusalNumber::E2 => "E2",
+            RefusalNumber::E3 => "E3",
+            RefusalNumber::E4 => "E4",
+            RefusalNumber::E5 => "E5",
+            RefusalNumber::E6 => "E6",
+            RefusalNumber::E7 => "E7",
+            RefusalNumber::E8 => "E8",
+            RefusalNumber::E9 => "E9",
+            RefusalNumber::E10 => "E10",
+            RefusalNumber::E11 => "E11",
+            RefusalNumber::E12 => "E12",
+            RefusalNumber::E13 => "E13",
+            RefusalNumber::E14 => "E14",
+            RefusalNumber::E15 => "E15",
+            RefusalNumber::E16 => "E16",
+            RefusalNumber::E17 => "E17",
         })
     }
 }
 
-/// A refused text: which refusal, and the line, counted from 1.
+/// What is wrong with a text, and where: the place is that of the token which the refusal names, as the number of
+/// the bytes of the text before it. Of two refusals the one at the lesser place comes first, and at one place the one
+/// with the lesser number.
+#[derive(Clone, Copy, Debug, PartialEq, Eq)]
+pub struct Refusal {
+    pub number: RefusalNumber,
+    pub place: u32,
+}
+
+/// A refused text as it is answered: which refusal, and the line, counted from 1.
 #[derive(Clone, Copy, Debug, PartialEq, Eq)]
 pub struct TextError {
-    pub number: Refusal,
-    pub line: u32,
+    pub number: RefusalNumber,
+    pub line: u64,
 }
 
 impl fmt::Display for TextError {
@@ -91,11 +102,40 @@ impl fmt::Display for TextError {
     }
 }
 
+/// The answer to a refusal of the text: its number, and the line of its place. A place past the text's end lies on the
+/// last line.
+pub fn answer(text: &[u8], refusal: Refusal) -> TextError
+    ensures { result ≡ answer_to text.now refusal }
+{
+    TextError {
+        number: refusal.number,
+        line: 1 + line_feeds(front(text, refusal.place as usize)),
+    }
+}
+
+// The bytes before a place.
+fn front(text: &[u8], place: usize) -> &[u8]
+    ensures { result.now ≡ take place text.now }
+{
+    if place < text.len() {
+        &text[..place]
+    } else {
+        text
+    }
+}
+
+fn line_feeds(bytes: &[u8]) -> u64
+    ensures count { result ≡ line_feeds bytes.now }
+    ensures few { result ≤ length bytes.now }
+{
+    bytes.iter().filter(|byte| **byte == b'\n').count() as u64
+}
+
 /// Why a model could not be loaded.
 #[derive(Clone, Copy, Debug, PartialEq, Eq)]
 pub enum LoadError {
     /// The text is refused.
-    Refused(TextError),
+    Refused(Refusal),
     /// An allocation was refused.
     Memory,
 }

@@ -1,11 +1,11 @@
 //! Laws of the definitions: what holds of every text.
 
-ghost use Rattle.std.specs.Prelude.{◌≡◌, ℕ, List, ◌++◌, All, bytes_eq};
+ghost use Rattle.std.specs.Prelude.{◌≡◌, ◌≤◌, ◌<◌, ◌⊎◌, ℕ, List, ◌++◌, All, bytes_eq, length};
 ghost use Rattle.std.specs.List.{IsDistinct};
 ghost use Rattle.dv_lex.specs.Reading.{Placed, Reads};
-ghost use Rattle.dv_lex.specs.Texts.{IsTokensOf, IsRefused, IsNumbered, IsLine, line_after};
+ghost use Rattle.dv_lex.specs.Texts.{IsTokensOf, IsRefused, IsNumbered, IsPlace, IsAscending};
 
-use crate::error::TextError;
+use crate::error::Refusal;
 use crate::token::Token;
 
 /// A text has at most one table of names and one list of tokens.
@@ -16,13 +16,20 @@ pub fn tokens_are_unique()
 
 /// A text that has tokens is not refused.
 pub fn tokens_or_refused()
-    ensures { (text : List ℕ) (names : List (List ℕ)) (tokens : List Token) (e : TextError) →
-        IsTokensOf text names tokens → ¬ IsRefused text e }
+    ensures { (text : List ℕ) (names : List (List ℕ)) (tokens : List Token) (r : Refusal) →
+        IsTokensOf text names tokens → ¬ IsRefused text r }
 {}
 
-/// A text is refused in at most one way, and on one line.
+/// Every text has tokens or is refused.
+pub fn a_text_has_tokens_or_a_refusal()
+    ensures { (text : List ℕ) →
+        ((names : List (List ℕ)) × (tokens : List Token) × IsTokensOf text names tokens)
+        ⊎ ((r : Refusal) × IsRefused text r) }
+{}
+
+/// A text is refused in at most one way, and at one place.
 pub fn refusals_are_unique()
-    ensures { (text : List ℕ) (e other : TextError) → IsRefused text e → IsRefused text other → e ≡ other }
+    ensures { (text : List ℕ) (r other : Refusal) → IsRefused text r → IsRefused text other → r ≡ other }
 {}
 
 /// The table has each name once.
@@ -37,14 +44,22 @@ pub fn names_are_in_the_table()
         IsTokensOf text names tokens → All (λ token. IsNumbered names token.kind) tokens }
 {}
 
-/// What is read up to a place lies on the line that the line feeds before the place give it.
-pub fn lines_count_line_feeds()
-    ensures { (text : List ℕ) (xs : List Placed) (line : ℕ) (rest : List ℕ) →
-        Reads 1 text xs line rest → (before : List ℕ) × (text ≡ before ++ rest) × (line ≡ line_after before) }
+/// A place counts the bytes before it.
+pub fn places_count_bytes()
+    ensures { (text : List ℕ) (xs : List Placed) (place : ℕ) (rest : List ℕ) →
+        Reads 0 text xs place rest → (before : List ℕ) × (text ≡ before ++ rest) × (place ≡ length before) }
 {}
 
-/// Each token lies on a line from 1 up to one more than the greatest length.
-pub fn lines_are_small()
-    ensures { (text : List ℕ) (names : List (List ℕ)) (tokens : List Token) →
-        IsTokensOf text names tokens → All (λ token. IsLine token.line) tokens }
+/// Each token has a byte of the text at its place, and each but the first has a greater place than the one before.
+pub fn tokens_have_places()
+    ensures in_text { (text : List ℕ) (names : List (List ℕ)) (tokens : List Token) →
+        IsTokensOf text names tokens → All (λ token. token.place < length text) tokens }
+    ensures ascending { (text : List ℕ) (names : List (List ℕ)) (tokens : List Token) →
+        IsTokensOf text names tokens → IsAscending tokens }
+{}
+
+/// A text is refused at one of its places, or at its end.
+pub fn refusals_have_places()
+    ensures in_text { (text : List ℕ) (r : Refusal) → IsRefused text r → r.place ≤ length text }
+    ensures small { (text : List ℕ) (r : Refusal) → IsRefused text r → IsPlace r.place }
 {}

@@ -1,23 +1,31 @@
 //! From the bytes of a model text to its tokens.
 
-ghost use Rattle.std.specs.Prelude.{List, ◌++◌, ◌≡◌, ◌≢◌, ℕ, ◌+◌, ◌^◌, ◌<◌, ◌≤◌, false, length, slice_index, IfOk, MatchOption, Some, Err, pos, IsTrue, not, ◌==◌};
+ghost use Rattle.std.specs.Prelude.{List, ◌++◌, ◌≡◌, ◌≢◌, ℕ, ◌+◌, ◌-◌, ◌^◌, ◌<◌, ◌≤◌, false, length, slice_index, IfOk, MatchOption, Some, Err, IsTrue, not, ◌==◌};
 ghost use Rattle.std.specs.Char.{is_ascii_digit};
 ghost use Rattle.std.specs.List.{list_all, take_while};
 ghost use Rattle.std.specs.Str.Parse.{digits_value};
 ghost use Rattle.dv_lex.specs.Lexemes.{Lexeme, symbol_text, Spells, IsWord, is_blank, starts_name, continues_name};
 ghost use Rattle.dv_lex.specs.Numbering.{kind_of};
 ghost use Rattle.dv_lex.specs.Steps.{SplitsRun, IsLongestSymbol, ReadsToken, IsNoToken, with_lexeme};
-ghost use Rattle.dv_lex.specs.Texts.{IsTokensOf, IsRefused, IsReadable, greatest_length, line_after};
+ghost use Rattle.dv_lex.specs.Texts.{IsTokensOf, IsRefused, IsReadable, greatest_length};
 
-use crate::error::{LoadError, Refusal, TextError};
+use crate::error::{LoadError, Refusal, RefusalNumber};
 use crate::keywords::keyword;
 use crate::names::Names;
+use crate::numeral::Numeral;
 use crate::symbols::{double, single};
 use crate::token::{Symbol, Token, TokenKind, Tokens};
 use std::alloc::{AllocError, Global};
 
 /// The greatest length of a model text, in bytes.
 pub const GREATEST_LENGTH: usize = 16_777_216;
+
+/// Whether the character is a blank.
+fn is_blank(byte: u8) -> bool
+    ensures { result ≡ is_blank byte }
+{
+    matches!(byte, b' ' | b'\t' | b'\r' | b'\n')
+}
 
 /// Whether a name may begin with the character.
 fn starts_name(byte: u8) -> bool
@@ -82,16 +90,19 @@ fn split_line(bytes: &[u8]) -> (&[u8], &[u8])
 }
 
 /// The number that the digits write, if it is at most 2^63 - 1.
-fn number(digits: &[u8]) -> Option<i64>
+fn number(digits: &[u8]) -> Option<Numeral>
     requires some { 0 < length digits.now }
     requires digits { IsTrue (list_all is_ascii_digit digits.now) }
     ensures { MatchOption result (2 ^ 63 ≤ digits_value 10 digits.now)
-        (λ n. (n ≡ pos (digits_value 10 digits.now)) × (digits_value 10 digits.now < 2 ^ 63)) }
+        (λ n. (n ≡ digits_value 10 digits.now) × (digits_value 10 digits.now < 2 ^ 63)) }
 {
     let Ok(text) = str::from_utf8(digits) else {
         unreachable!()
     };
-    text.parse().ok()
+    match text.parse() {
+        Ok(value) => Numeral::new(value),
+        Err(_) => None,
+    }
 }
 
 /// What token a word is; a name is added to the table if it is new.
@@ -127,102 +138,102 @@ fn symbol(bytes: &[u8]) -> Option<(Symbol, &[u8])>
 }
 
 /// The refusal of a text.
-fn refused(number: Refusal, line: u32) -> LoadError
-    ensures { result ≡ LoadError.Refused (record { number = number; line = line }) }
+fn refused(number: RefusalNumber, place: u32) -> LoadError
+    ensures { result ≡ LoadError.Refused (record { number = number; place = place }) }
 {
-    LoadError::Refused(TextError { number, line })
+    LoadError::Refused(Refusal { number, place })
 }
 
-/// The token at the front of the bytes, which lie on this line, and what follows it.
+/// The token at the front of the bytes, which begin at this place, and what follows it.
 fn token<'a>(
     alloc: Global,
     names: &mut Names,
     bytes: &'a [u8],
-    line: u32,
+    place: u32,
 ) -> Result<(Token, &'a [u8]), LoadError>
     requires room { length names.old < 2 ^ 32 }
     requires more { 0 < length bytes.now }
     requires no_blank { is_blank (slice_index bytes.now 0) ≡ false }
     requires no_comment { slice_index bytes.now 0 ≢ 35 }
-    ensures token { IfOk result (λ r. ReadsToken line bytes.now names.old names.new r.0 r.1.now) }
-    ensures refused { (e : TextError) → result ≡ Err (LoadError.Refused e) → (e.line ≡ line) × IsNoToken bytes.now e.number }
+    ensures token { IfOk result (λ r. ReadsToken place bytes.now names.old names.new r.0 r.1.now) }
+    ensures refused { (r : Refusal) → result ≡ Err (LoadError.Refused r)
+        → (r.place ≡ place) × IsNoToken bytes.now r.number }
 {
     let first = bytes[0];
     if starts_name(first) {
         let (word, rest) = split_word(bytes);
         let kind = word_kind(alloc, names, word)?;
-        return Ok((Token { kind, line }, rest));
+        return Ok((Token { kind, place }, rest));
     }
     if first.is_ascii_digit() {
         let (digits, rest) = split_digits(bytes);
         let Some(value) = number(digits) else {
-            return Err(refused(Refusal::E3, line));
+            return Err(refused(RefusalNumber::E3, place));
         };
         let kind = TokenKind::Number(value);
-        return Ok((Token { kind, line }, rest));
+        return Ok((Token { kind, place }, rest));
     }
     let Some((symbol, rest)) = symbol(bytes) else {
-        return Err(refused(Refusal::E2, line));
+        return Err(refused(RefusalNumber::E2, place));
     };
     let kind = TokenKind::Symbol(symbol);
-    Ok((Token { kind, line }, rest))
+    Ok((Token { kind, place }, rest))
+}
+
+/// How many bytes of the text stand before a rest of it.
+fn place_of(text: &[u8], rest: &[u8]) -> u32
+    requires short { length text.now ≤ greatest_length }
+    requires part { length rest.now ≤ length text.now }
+    ensures { result ≡ length text.now - length rest.now }
+{
+    (text.len() - rest.len()) as u32
 }
 
 /// The tokens of a text that is UTF-8 and not too long.
 fn read(alloc: Global, text: &[u8]) -> Result<Tokens, LoadError>
     requires { IsReadable text.now }
     ensures tokens { IfOk result (λ r. IsTokensOf text.now r.names r.tokens.items) }
-    ensures refused { (e : TextError) → result ≡ Err (LoadError.Refused e) → IsRefused text.now e }
+    ensures refused { (r : Refusal) → result ≡ Err (LoadError.Refused r) → IsRefused text.now r }
 {
     let mut names = Names::new(alloc);
     let mut tokens = Vec::new(alloc);
-    let mut line = 1;
     let mut rest = text;
     while let [first, after @ ..] = rest {
-        match *first {
-            b'\n' => {
-                line += 1;
-                rest = after;
-            }
-            b' ' | b'\t' | b'\r' => rest = after,
-            b'#' => {
-                let (_, after) = split_line(after);
-                rest = after;
-            }
-            _ => {
-                let (token, after) = token(alloc, &mut names, rest, line)?;
-                tokens.push(token)?;
-                rest = after;
-            }
+        if is_blank(*first) {
+            rest = after;
+        } else if *first == b'#' {
+            let (_, after) = split_line(after);
+            rest = after;
+        } else {
+            let (token, after) = match token(alloc, &mut names, rest, place_of(text, rest)) {
+                Ok(read) => read,
+                Err(e) => return Err(e),
+            };
+            tokens.push(token)?;
+            rest = after;
         }
     }
     Ok(Tokens { names, tokens })
-}
-
-/// The line of what stands behind these bytes of a text, counted from 1.
-pub fn line_after(before: &[u8]) -> u32
-    requires { length before.now ≤ greatest_length }
-    ensures { result ≡ line_after before.now }
-{
-    1 + before.iter().filter(|byte| **byte == b'\n').count() as u32
 }
 
 /// The tokens of a model text.
 ///
 /// # Errors
 /// `Refused` where the text is too long, is not UTF-8, has a character with which no token begins, or a number
-/// above 2^63 - 1; the first of these that holds, in this order, the last two in reading order. `Memory` where an
-/// allocation was refused.
+/// above 2^63 - 1; the first of these that holds, in this order, the last two in reading order. A text that is too
+/// long is refused at its first byte, one that is not UTF-8 at the first byte of no whole character. `Memory` where
+/// an allocation was refused.
 pub fn tokens(alloc: Global, text: &[u8]) -> Result<Tokens, LoadError>
     ensures tokens { IfOk result (λ r. IsTokensOf text.now r.names r.tokens.items) }
-    ensures refused { (e : TextError) → result ≡ Err (LoadError.Refused e) → IsRefused text.now e }
-    ensures too_long { greatest_length < length text.now → result ≡ Err (LoadError.Refused (record { number = Refusal.E17; line = 1 })) }
+    ensures refused { (r : Refusal) → result ≡ Err (LoadError.Refused r) → IsRefused text.now r }
+    ensures too_long { greatest_length < length text.now
+        → result ≡ Err (LoadError.Refused (record { number = RefusalNumber.E17; place = 0 })) }
 {
     if text.len() > GREATEST_LENGTH {
-        return Err(refused(Refusal::E17, 1));
+        return Err(refused(RefusalNumber::E17, 0));
     }
     if let Err(e) = str::from_utf8(text) {
-        return Err(refused(Refusal::E1, line_after(&text[..e.valid_up_to()])));
+        return Err(refused(RefusalNumber::E1, e.valid_up_to() as u32));
     }
     read(alloc, text)
 }

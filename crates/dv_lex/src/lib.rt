@@ -4,15 +4,25 @@
 //! that everything above compares names by their numbers; the table of names keeps the texts.
 #![tactic(auto)]
 
+/// Refusals, and the answer to a text.
 pub mod error;
+/// Keywords by their spellings.
 mod keywords;
+/// Laws of texts and tokens.
 pub mod laws;
+/// The lexer.
 pub mod lexer;
+/// The table of names.
 pub mod names;
+/// The numbers of a text.
+pub mod numeral;
+/// Symbols by their spellings.
 mod symbols;
+/// The tokens.
 pub mod token;
 
-pub use error::{LoadError, Refusal, TextError};
-pub use lexer::{GREATEST_LENGTH, line_after, tokens};
+pub use error::{LoadError, Refusal, RefusalNumber, TextError, answer};
+pub use lexer::{GREATEST_LENGTH, tokens};
 pub use names::Names;
+pub use numeral::Numeral;
 pub use token::{Keyword, Symbol, Token, TokenKind, Tokens};

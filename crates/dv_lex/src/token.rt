@@ -1,6 +1,7 @@
 //! Tokens.
 
 use crate::names::Names;
+use crate::numeral::Numeral;
 
 /// A word that is never a name.
 #[derive(Clone, Copy, Debug, PartialEq, Eq)]
@@ -100,17 +101,16 @@ pub enum Symbol {
 pub enum TokenKind {
     /// A name, by its number in the table of names.
     Name(u32),
-    /// A number from 0 to 2^63 - 1.
-    Number(i64),
+    Number(Numeral),
     Keyword(Keyword),
     Symbol(Symbol),
 }
 
-/// A token, and the line of its first byte, counted from 1.
+/// A token, and its place: the number of the bytes of the text before it.
 #[derive(Clone, Copy, Debug, PartialEq, Eq)]
 pub struct Token {
     pub kind: TokenKind,
-    pub line: u32,
+    pub place: u32,
 }
 
 /// The tokens of a model text, and the table by which its names are numbered.

@@ -1,9 +1,9 @@
 -- The earlier of two next times, and the least of all.
 use Rattle.std.proofs.Common.{◌≡◌, ℕ, ◌+◌, ◌<◌, ◌≤◌, min, List, map, length, get_or, Option, Some, None, refl, ap, sym, ◌∙◌, arith}
 use Rattle.std.proofs.lemmas.List.{drop_all}
-use Rattle.dv_bag.specs.Network.{earlier, least_next}
+use Rattle.dv_devs.specs.NextTimes.{earlier, least_next}
 use Rattle.dv_plain.specs.declared.component.Running.{Running}
-use Rattle.dv_plain.specs.Shown.{next_of_wait, shown}
+use Rattle.dv_plain.specs.Components.{next_of_wait, component_of}
 use Rattle.dv_plain.proofs.Steps.{components_from, component-step}
 
 pub earlier-first : (x y : ℕ) → x < y → Some x ≡ earlier (Some x) (Some y)
@@ -34,4 +34,4 @@ least-step limit rs k r next sooner whole h e is kept =
 -- all components
 pub least-all : (limit : ℕ) (rs : List Running) (k : ℕ) (next whole : Option ℕ) → length rs ≤ k → earlier next (least_next (components_from limit k rs)) ≡ whole → next ≡ whole
 least-all limit rs k next whole h kept =
-    sym (earlier-none next) ∙ ap (λ (xs : List Running). earlier next (least_next (map (shown limit) xs))) (sym (drop_all k rs h)) ∙ kept
+    sym (earlier-none next) ∙ ap (λ (xs : List Running). earlier next (least_next (map (component_of limit) xs))) (sym (drop_all k rs h)) ∙ kept

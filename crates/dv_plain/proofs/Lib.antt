@@ -1,4 +1,4 @@
-pub mod Alone
+pub mod Reactions
 pub mod Times
 pub mod Silence
 pub mod Ready

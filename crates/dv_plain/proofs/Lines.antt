@@ -1,18 +1,18 @@
--- The lines of what leaves the model, port by port; and what is sent, as it was told.
+-- The lines of what leaves the model, port by port; and what is sent, by what the output functions give.
 use Rattle.std.proofs.Common.{◌≡◌, ℕ, ◌+◌, ◌<◌, ◌≤◌, Bool, true, false, nat_eq, if◌then◌else◌, List, [], ◌∷◌, ◌++◌, map, length, drop, get_or, None, Result, Ok, Err, inl, inr, refl, ap, sym, ◌∙◌, append_assoc, append-nil}
 use Rattle.std.proofs.lemmas.Bool.{cases_Bool}
 use Rattle.std.proofs.lemmas.List.{drop_all, drop_more}
 use Rattle.dv_time.specs.Time.{IsOfRun, rank, time_of}
 use Rattle.dv_time.specs.declared.time.Time.{Time}
 use Rattle.dv_bag.specs.Bag.{Counts, size}
-use Rattle.dv_bag.specs.Behaviour.{Behaviour, Component, emission, is_at}
-use Rattle.dv_bag.specs.Network.{emissions, outer_from, sent_by}
+use Rattle.dv_devs.specs.Behaviour.{Behaviour, Component, emission, is_at}
+use Rattle.dv_devs.specs.Network.{emissions, outer_from, sent_by}
 use Rattle.dv_bag.specs.declared.entry.Outer.{Outer}
 use Rattle.dv_bag.specs.declared.fault.Fault.{Fault}
 use Rattle.dv_plain.specs.declared.component.Running.{Running}
-use Rattle.dv_plain.specs.Alone.{sent_of, told}
-use Rattle.dv_plain.specs.Shown.{is_quiet, shown}
-use Rattle.dv_plain.proofs.Alone.{sent_by-nothing}
+use Rattle.dv_plain.specs.Outputs.{sent_of, outputs}
+use Rattle.dv_plain.specs.Components.{is_quiet, component_of}
+use Rattle.dv_plain.proofs.Reactions.{sent_by-nothing}
 use Rattle.dv_plain.proofs.Steps.{quiet-none}
 use Rattle.dv_plain.proofs.Times.{time_of-rank}
 
@@ -52,17 +52,17 @@ sent-quiet b now c never =
     let nothing : emission b now c ≡ Ok [] = ap (λ n. if is_at now n then b.output c.state else Ok []) never in
     ap (sent_by c) nothing ∙ sent_by-nothing c ∙ sym (ap sent_of nothing)
 
-sent-told : (limit : ℕ) (b : Behaviour) (now : ℕ) (r : Running) → sent_by (shown limit r) (emission b now (shown limit r)) ≡ sent_of (emission b now (shown limit r))
-sent-told limit b now r =
+sent_by-output : (limit : ℕ) (b : Behaviour) (now : ℕ) (r : Running) → sent_by (component_of limit r) (emission b now (component_of limit r)) ≡ sent_of (emission b now (component_of limit r))
+sent_by-output limit b now r =
     elim (cases_Bool (is_quiet r.wait)) [
-      | inl quiet ↦ sent-quiet b now (shown limit r) (quiet-none limit r.wait quiet)
-      | inr loud ↦ sent-loud (shown limit r) (emission b now (shown limit r)) loud
+      | inl quiet ↦ sent-quiet b now (component_of limit r) (quiet-none limit r.wait quiet)
+      | inr loud ↦ sent-loud (component_of limit r) (emission b now (component_of limit r)) loud
     ]
 
--- what the components send is what was told of it
-pub emissions-told : (limit : ℕ) (bs : List Behaviour) (now : ℕ) (rs : List Running) → emissions bs now (map (shown limit) rs) ≡ map sent_of (told bs now (map (shown limit) rs))
-emissions-told limit [] now rs = refl
-emissions-told limit (b ∷ bs) now [] = refl
-emissions-told limit (b ∷ bs) now (r ∷ rs) =
-    ap (λ s. s ∷ emissions bs now (map (shown limit) rs)) (sent-told limit b now r)
-    ∙ ap (λ rest. sent_of (emission b now (shown limit r)) ∷ rest) (emissions-told limit bs now rs)
+-- what the components send is what their output functions give
+pub emissions-outputs : (limit : ℕ) (bs : List Behaviour) (now : ℕ) (rs : List Running) → emissions bs now (map (component_of limit) rs) ≡ map sent_of (outputs bs now (map (component_of limit) rs))
+emissions-outputs limit [] now rs = refl
+emissions-outputs limit (b ∷ bs) now [] = refl
+emissions-outputs limit (b ∷ bs) now (r ∷ rs) =
+    ap (λ s. s ∷ emissions bs now (map (component_of limit) rs)) (sent_by-output limit b now r)
+    ∙ ap (λ rest. sent_of (emission b now (component_of limit r)) ∷ rest) (emissions-outputs limit bs now rs)

@@ -6,12 +6,11 @@ use Rattle.dv_syntax.specs.Trees.{FileTree}
 use Rattle.dv_syntax.specs.declared.tree.Name.{Name}
 use Rattle.dv_syntax.specs.declared.tree.Link.{Link}
 use Rattle.dv_bag.specs.Bag.{Counts, bag_at, capped, size, union}
-use Rattle.dv_bag.specs.Behaviour.{all_empty}
-use Rattle.dv_bag.specs.Idle.{BringsNothing, LeavesWhatIsSent}
-use Rattle.dv_bag.specs.Network.{no_values}
-use Rattle.dv_check.specs.Couplings.{links_of}
+use Rattle.dv_devs.specs.Behaviour.{all_empty}
+use Rattle.dv_devs.specs.Idle.{BringsNothing, LeavesOnlyWhatIsSent, nothing_sent}
+use Rattle.dv_devs.specs.Idle.{no_values}
 use Rattle.dv_eval.specs.Scope.{scope_of, place_of}
-use Rattle.dv_tree.specs.Instances.{Instance, instances, root_items}
+use Rattle.dv_tree.specs.Instances.{Instance, instances, root_links}
 use Rattle.dv_tree.specs.Routing.{bag_of_port, is_part, sent_from, carried, exit_of, joined_at, passed_on, root_outputs}
 use Rattle.dv_plain.specs.Source.{network_of, no_input}
 
@@ -20,7 +19,7 @@ none_arrive [] = refl
 none_arrive (x ∷ xs) = none_arrive xs
 
 pub nothing_arrives : (limit n : ℕ) (f : FileTree) → BringsNothing (network_of limit f) (no_input n)
-nothing_arrives limit n f sent none = none_arrive (instances f)
+nothing_arrives limit n f = none_arrive (instances f)
 
 abbrev IsEmpty : Counts → Type 0
 IsEmpty b = IsTrue (nat_eq (size b) 0)
@@ -77,5 +76,5 @@ no_bags : (n : ℕ) → IsTrue (all_empty (replicate n []))
 no_bags zero = refl
 no_bags (suc n) = no_bags n
 
-pub nothing_leaves : SizesAdd → (limit : ℕ) (f : FileTree) → LeavesWhatIsSent (network_of limit f)
-nothing_leaves add limit f sent none = passed_on-empty add (root_outputs f) (instances f) sent (links_of (root_items f)) (replicate (length (root_outputs f)) []) none (no_bags (length (root_outputs f)))
+pub nothing_leaves : SizesAdd → (limit : ℕ) (f : FileTree) → LeavesOnlyWhatIsSent (network_of limit f)
+nothing_leaves add limit f = passed_on-empty add (root_outputs f) (instances f) (nothing_sent (network_of limit f)) (root_links f) (replicate (length (root_outputs f)) []) (none_arrive (network_of limit f).behaviours) (no_bags (length (root_outputs f)))

@@ -1,12 +1,14 @@
 -- The resultant of a text: the network of its components, whose behaviours are the meanings of their rules.
-use Rattle.std.specs.Prelude.{ℕ, true, false, List, [], map, Option, Some, None, Result, Ok, Err}
+use Rattle.std.specs.Prelude.{ℕ, true, false, List, [], length, map, Option, Some, None, Result, Ok, Err}
+use Rattle.std.specs.List.{range_with_len}
 use Rattle.dv_time.specs.Time.{end_of}
 use Rattle.dv_syntax.specs.Trees.{AtomicTree, FileTree}
 use Rattle.dv_syntax.specs.declared.tree.RuleSort.{RuleSort}
 use Rattle.dv_syntax.specs.declared.tree.RuleSort.TheVariants.{Output, Internal}
 use Rattle.dv_bag.specs.Bag.{Counts}
-use Rattle.dv_bag.specs.Behaviour.{Behaviour, Component, Moved, ◌>>=◌, runs_out}
-use Rattle.dv_bag.specs.Network.{Network, trace_before}
+use Rattle.dv_devs.specs.Behaviour.{Behaviour, Change, Component, end_of_hold}
+use Rattle.dv_bag.specs.Outcome.{◌>>=◌}
+use Rattle.dv_devs.specs.Network.{Network, trace_before}
 use Rattle.dv_bag.specs.Part.{PartOf}
 use Rattle.dv_bag.specs.declared.fault.Fault.{Fault}
 use Rattle.dv_bag.specs.declared.state.State.{State}
@@ -16,43 +18,50 @@ use Rattle.dv_eval.specs.Meaning.{effect_of, hold_of}
 use Rattle.dv_tree.specs.Instances.{Instance, instances}
 use Rattle.dv_tree.specs.Routing.{arrives, leaves}
 
--- the last goto that ran sets the phase
-abbrev pub moved_to : State → Option ℕ → Moved
-moved_to s None = record { state = s; goes = false }
-moved_to s (Some phase) = record { state = record { phase = phase; variables = s.variables }; goes = true }
+-- what a rule leaves: the last goto that ran sets the phase
+abbrev pub state_by_goto : State → Option ℕ → Change
+state_by_goto s None = record { state = s; goes = false }
+state_by_goto s (Some phase) = record { state = record { phase = phase; variables = s.variables }; goes = true }
 
 -- the effect of a model's rule for the phase of a state
 abbrev pub rule_effect : AtomicTree → RuleSort → State → Result Effect Fault
-rule_effect m sort s = effect_of (scope_of m) (rule_body sort (phase_name (scope_of m) s.phase) m.items) s
+rule_effect m sort s = effect_of (scope_of m) (rule_body sort (phase_name (scope_of m) s.phase) m.rules) s
 
--- The behaviour of an atomic model of the text. At this stage of the rule text there are no external and no confluent rules:
--- a missing external rule is an empty one.
+-- The behaviour of an atomic model of the text. A text has no external and no confluent rules, and a missing external rule is
+-- an empty one.
 abbrev pub behaviour_of : AtomicTree → Behaviour
 behaviour_of m = record {
   output = λ s. rule_effect m Output s >>= λ e. Ok e.sent;
-  internal = λ s. rule_effect m Internal s >>= λ e. Ok (moved_to e.state e.goto);
+  internal = λ s. rule_effect m Internal s >>= λ e. Ok (state_by_goto e.state e.goto);
   external = λ elapsed bags s. Ok (record { state = s; goes = false });
   confluent = λ bags s. None;
-  hold = λ s. hold_of (scope_of m) (hold_ticks (phase_name (scope_of m) s.phase) m.items) s;
+  hold = λ s. hold_of (scope_of m) (hold_ticks (phase_name (scope_of m) s.phase) m.holds) s;
 }
 
--- a component at 0.0, once its start hold is known; a checked text has no start hold that faults
-abbrev pub begun : State → Result (Option ℕ) Fault → Component
-begun s (Ok next) = record { state = s; last = 0; next = next; quiet = false }
-begun s (Err f) = record { state = s; last = 0; next = None; quiet = true }
+-- when the hold of a state that begins now runs out
+abbrev pub hold_end : ℕ → Behaviour → ℕ → State → Result (Option ℕ) Fault
+hold_end limit b now s = b.hold s >>= end_of_hold limit now
 
+-- a component at 0.0, by the end of its start hold; a checked text has no start hold that faults
+abbrev pub first_component : State → Result (Option ℕ) Fault → Component
+first_component s (Ok next) = record { state = s; last = 0; next = next; quiet = false }
+first_component s (Err f) = record { state = s; last = 0; next = None; quiet = true }
+
+-- the component of a model at 0.0
 abbrev pub start_of : ℕ → AtomicTree → Component
-start_of limit m = begun (start_state m) ((behaviour_of m).hold (start_state m) >>= λ ticks. runs_out limit 0 ticks)
+start_of limit m = first_component (start_state m) (hold_end limit (behaviour_of m) 0 (start_state m))
 
 -- the network of a text
 abbrev pub network_of : ℕ → FileTree → Network (List Counts)
 network_of limit f = record {
+  numbers = range_with_len 0 (length (instances f));
   behaviours = map (λ (i : Instance). behaviour_of i.model) (instances f);
   start = map (λ (i : Instance). start_of limit i.model) (instances f);
   arrives = λ sent input. arrives f sent;
   leaves = leaves f;
 }
 
+-- nothing comes from outside
 abbrev pub no_input : ℕ → List Counts
 no_input n = []
 

@@ -3,7 +3,8 @@
 
 ghost use Rattle.std.specs.Prelude.{ℕ};
 ghost use Rattle.dv_syntax.specs.Trees.{FileTree};
-ghost use Rattle.dv_bag.specs.Idle.{BringsNothing, IsReady, LeavesWhatIsSent};
+ghost use Rattle.dv_devs.specs.Idle.{BringsNothing, LeavesOnlyWhatIsSent};
+ghost use Rattle.dv_devs.specs.NextTimes.{IsReady};
 ghost use Rattle.dv_plain.specs.Source.{network_of, no_input};
 
 use dv_bag::laws::bags;
@@ -12,8 +13,9 @@ use dv_bag::laws::bags;
 /// a component.
 pub fn networks_of_texts()
     ensures ready { (limit : ℕ) (f : FileTree) → IsReady (network_of limit f) }
-    ensures inputs { (limit n : ℕ) (f : FileTree) → BringsNothing (network_of limit f) (no_input n) }
-    ensures outputs { (limit : ℕ) (f : FileTree) → LeavesWhatIsSent (network_of limit f) }
+    ensures inputs { (limit n : ℕ) (f : FileTree)
+        → BringsNothing (network_of limit f) (no_input n) }
+    ensures outputs { (limit : ℕ) (f : FileTree) → LeavesOnlyWhatIsSent (network_of limit f) }
 {
     bags::sizes_add();
 }

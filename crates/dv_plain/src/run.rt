@@ -1,19 +1,22 @@
 //! The run of a resultant.
 
-ghost use Rattle.std.specs.List.{All};
-ghost use Rattle.std.specs.Prelude.{◌≡◌, ℕ, ◌≤◌, map, nat_lt, IfOk, Some};
+ghost use Rattle.std.specs.Prelude.{◌≡◌, ℕ, ◌≤◌, IfOk, Some};
 ghost use Rattle.dv_time.specs.Time.{IsOfRun, next_rank, rank};
 ghost use Rattle.dv_syntax.specs.Trees.{file_of};
-ghost use Rattle.dv_bag.specs.Network.{earlier, least_next};
-ghost use Rattle.dv_plain.specs.Shown.{IsNextOfRun, IsWaitOfRun, next_of_wait, shown};
+ghost use Rattle.dv_devs.specs.NextTimes.{earlier, least_next};
+ghost use Rattle.dv_plain.specs.Components.{AreWaitsOfRun, IsNextOfRun, IsWaitOfRun, components_of, next_of_wait};
 ghost use Rattle.dv_plain.specs.Source.{network_of, trace_of};
 
-use crate::component::{Running, Wait};
-use crate::instant::run_instant;
+use crate::atom::Atom;
+use crate::component::Running;
+use crate::instant::Instant;
 use crate::laws::networks_of_texts;
-use dv_bag::laws::runs;
+use crate::network::run_instant;
+use crate::wait::Wait;
 use dv_bag::{Bags, Part, Trace};
-use dv_time::{Next, Time};
+use dv_devs::laws::runs;
+use dv_time::laws::the_end_follows_the_horizon;
+use dv_time::{GREATEST_TICK, Next, Time};
 use dv_tree::Tree;
 use std::alloc::{AllocError, Global};
 
@@ -29,11 +32,12 @@ pub fn resultant_run(
     horizon: u64,
     limit: u32,
 ) -> Result<Trace, AllocError>
-    requires horizon { horizon ≤ 1_000_000_000_000 }
+    requires horizon { horizon ≤ GREATEST_TICK }
     requires least_limit { 1 ≤ limit }
     requires greatest_limit { limit ≤ 1_000 }
     ensures { IfOk result (λ trace. trace ≡ trace_of (file_of tree.now.file) horizon limit) }
 {
+    the_end_follows_the_horizon();
     // Between two events nothing happens, and none is missed: these are laws of every network.
     networks_of_texts();
     runs::next_times_rise::<Bags>();
@@ -44,27 +48,30 @@ pub fn resultant_run(
         if now.tick > horizon {
             break;
         }
-        run_instant(alloc, tree, limit, now, &mut components, &mut trace)?;
+        let instant = Instant { time: now, limit };
+        run_instant(alloc, tree, &instant, &mut components, &mut trace)?;
     }
     Ok(trace)
 }
 
 // The components at 0.0.
 fn begin(alloc: Global, tree: &Tree, limit: u32) -> Result<Vec<Running>, AllocError>
-    ensures start { IfOk result (λ components. map (shown limit) components.items ≡ (network_of limit (file_of tree.now.file)).start) }
-    ensures waits { IfOk result (λ components. All (λ r. IsWaitOfRun limit r.wait) components.items) }
+    ensures start { IfOk result (λ components.
+        components_of limit components.items ≡ (network_of limit (file_of tree.now.file)).start) }
+    ensures waits { IfOk result (λ components. AreWaitsOfRun limit components.items) }
 {
     let mut components = Vec::with_capacity(alloc, tree.component_count())?;
     for k in 0..tree.component_count() {
-        components.push(Running::start(alloc, limit, tree.atomic(k), tree.env(k))?)?;
+        components.push(Running::start(alloc, limit, &Atom::of(tree, k))?)?;
     }
     Ok(components)
 }
 
 // The least of the components' next times.
 fn next_time(components: &[Running]) -> Next
-    ensures least { (limit : ℕ) → All (λ r. IsWaitOfRun limit r.wait) components.now → next_rank limit result ≡ least_next (map (shown limit) components.now) }
-    ensures of_run { (limit : ℕ) → All (λ r. IsWaitOfRun limit r.wait) components.now → IsNextOfRun limit result }
+    ensures least { (limit : ℕ) → AreWaitsOfRun limit components.now
+        → next_rank limit result ≡ least_next (components_of limit components.now) }
+    ensures of_run { (limit : ℕ) → AreWaitsOfRun limit components.now → IsNextOfRun limit result }
 {
     let mut next = Next::Never;
     for component in components {
@@ -75,8 +82,10 @@ fn next_time(components: &[Running]) -> Next
 
 // The earlier of a next time and the end of a wait.
 fn sooner(next: Next, wait: Wait) -> Next
-    ensures least { (limit : ℕ) → IsNextOfRun limit next → IsWaitOfRun limit wait → next_rank limit result ≡ earlier (next_rank limit next) (next_of_wait limit wait) }
-    ensures of_run { (limit : ℕ) → IsNextOfRun limit next → IsWaitOfRun limit wait → IsNextOfRun limit result }
+    ensures least { (limit : ℕ) → IsNextOfRun limit next → IsWaitOfRun limit wait
+        → next_rank limit result ≡ earlier (next_rank limit next) (next_of_wait limit wait) }
+    ensures of_run { (limit : ℕ) → IsNextOfRun limit next → IsWaitOfRun limit wait
+        → IsNextOfRun limit result }
 {
     match wait {
         Wait::Until(time) => Next::At(earlier(next, time)),
@@ -86,18 +95,13 @@ fn sooner(next: Next, wait: Wait) -> Next
 
 // The earlier of a next time and a time.
 fn earlier(next: Next, time: Time) -> Time
-    ensures least { (limit : ℕ) → IsNextOfRun limit next → IsOfRun limit time → Some (rank limit result) ≡ earlier (next_rank limit next) (Some (rank limit time)) }
-    ensures of_run { (limit : ℕ) → IsNextOfRun limit next → IsOfRun limit time → IsOfRun limit result }
+    ensures least { (limit : ℕ) → IsNextOfRun limit next → IsOfRun limit time
+        → Some (rank limit result) ≡ earlier (next_rank limit next) (Some (rank limit time)) }
+    ensures of_run { (limit : ℕ) → IsNextOfRun limit next → IsOfRun limit time
+        → IsOfRun limit result }
 {
     match next {
-        Next::At(other) => { if is_before(other, time) { other } else { time } }
+        Next::At(other) => { if other.is_before(time) { other } else { time } }
         Next::Never => time,
     }
-}
-
-// Whether a time of a run is before another.
-fn is_before(a: Time, b: Time) -> bool
-    ensures { (limit : ℕ) → IsOfRun limit a → IsOfRun limit b → result ≡ nat_lt (rank limit a) (rank limit b) }
-{
-    a < b
 }

@@ -7,6 +7,8 @@ mod limits;
 #[cfg(test)]
 mod models;
 #[cfg(test)]
+mod order;
+#[cfg(test)]
 mod rows;
 #[cfg(test)]
 mod runs;

@@ -1,6 +1,6 @@
 //! The limits of the rule text, each at its value and one above.
 
-use crate::runs::told;
+use crate::runs::run_of;
 use dv_job::Options;
 use std::alloc::{AllocError, Global};
 use std::test::Fail;
@@ -60,12 +60,12 @@ fn nesting(rt: HostRuntime) -> Result<(), Fail> {
     let fine = "whole 0\nstatus 0";
     for (pairs, wanted) in [(62, fine), (63, fine), (64, "E5 line 1")] {
         let text = in_parentheses(rt.alloc(), pairs)?;
-        let got = told(rt.alloc(), text.as_bytes(), 0, 20)?;
+        let got = run_of(rt.alloc(), text.as_bytes(), 0, 20)?;
         assert_eq!(rt; got.as_str(), wanted, "{pairs} pairs");
     }
     for (blocks, wanted) in [(15, fine), (16, "E5 line 1")] {
         let text = in_blocks(rt.alloc(), blocks)?;
-        let got = told(rt.alloc(), text.as_bytes(), 0, 20)?;
+        let got = run_of(rt.alloc(), text.as_bytes(), 0, 20)?;
         assert_eq!(rt; got.as_str(), wanted, "{blocks} blocks");
     }
     Ok(())
@@ -78,16 +78,16 @@ fn names_of_one_kind(rt: HostRuntime) -> Result<(), Fail> {
     let a = "atomic A { phases z; start z; hold z: 9; } coupled Top { ";
     for (count, wanted) in [(4_096, fine), (4_097, "E17 line 1")] {
         let text = numbered(rt.alloc(), "atomic A { ", "out o", ";", count, z)?;
-        let got = told(rt.alloc(), text.as_bytes(), 0, 20)?;
+        let got = run_of(rt.alloc(), text.as_bytes(), 0, 20)?;
         assert_eq!(rt; got.as_str(), wanted, "{count} outputs");
         let text = numbered(rt.alloc(), "atomic A { ", "var v", ": 0..1 = 0;", count, z)?;
-        let got = told(rt.alloc(), text.as_bytes(), 0, 20)?;
+        let got = run_of(rt.alloc(), text.as_bytes(), 0, 20)?;
         assert_eq!(rt; got.as_str(), wanted, "{count} variables");
         let text = numbered(rt.alloc(), a, "part p", ": A;", count, "} root Top;")?;
-        let got = told(rt.alloc(), text.as_bytes(), 0, 20)?;
+        let got = run_of(rt.alloc(), text.as_bytes(), 0, 20)?;
         assert_eq!(rt; got.as_str(), wanted, "{count} parts");
         let text = numbered(rt.alloc(), a, "out o", ";", count, "part a: A; } root Top;")?;
-        let got = told(rt.alloc(), text.as_bytes(), 0, 20)?;
+        let got = run_of(rt.alloc(), text.as_bytes(), 0, 20)?;
         assert_eq!(rt; got.as_str(), wanted, "{count} outputs of the root");
     }
     Ok(())
@@ -102,7 +102,7 @@ fn phases_of_one_model(rt: HostRuntime) -> Result<(), Fail> {
             write!(text, "hold p{i}: 1;")?;
         }
         text.push_str("} coupled Top { part a: A; } root Top;")?;
-        let got = told(rt.alloc(), text.as_bytes(), 0, 20)?;
+        let got = run_of(rt.alloc(), text.as_bytes(), 0, 20)?;
         assert_eq!(rt; got.as_str(), wanted, "{count} phases beside z");
     }
     Ok(())
@@ -120,7 +120,7 @@ fn sends_of_one_output(rt: HostRuntime) -> Result<(), Fail> {
         let mut text = String::from_str(rt.alloc(), before)?;
         push_times(&mut text, "send y 1;", count)?;
         text.push_str(after)?;
-        let got = told(rt.alloc(), text.as_bytes(), 1, 20)?;
+        let got = run_of(rt.alloc(), text.as_bytes(), 1, 20)?;
         assert!(rt; got.as_str().ends_with(wanted), "{count} sends");
     }
     Ok(())
@@ -138,7 +138,7 @@ fn bytes_of_a_text(rt: HostRuntime) -> Result<(), Fail> {
         push_times(&mut text, LINES, missing / 64)?;
         push_times(&mut text, "\n", missing % 64)?;
         assert!(rt; text.len() == length, "{} bytes", text.len());
-        let got = told(rt.alloc(), text.as_bytes(), 0, 20)?;
+        let got = run_of(rt.alloc(), text.as_bytes(), 0, 20)?;
         assert_eq!(rt; got.as_str(), wanted, "{length} bytes");
     }
     Ok(())

@@ -1,7 +1,7 @@
 //! Rows: a model, a horizon, a microstep limit, and what comes of them.
 
 use crate::models::{CLOCK, DIVISION, EFFECTS, FAULT_AFTER_OUTPUT, SPIN};
-use crate::runs::told;
+use crate::runs::run_of;
 use std::test::Fail;
 
 #[test]
@@ -24,7 +24,7 @@ fn a_clock_ticks_and_stops(rt: HostRuntime) -> Result<(), Fail> {
     ];
     for (horizon, first, second, end) in rows {
         let wanted = format!(in rt.alloc(); "{first}{second}{end}")?;
-        let got = told(rt.alloc(), CLOCK.as_bytes(), horizon, 20)?;
+        let got = run_of(rt.alloc(), CLOCK.as_bytes(), horizon, 20)?;
         assert_eq!(rt; got.as_str(), wanted.as_str(), "horizon {horizon}");
     }
     Ok(())
@@ -56,7 +56,7 @@ fn faults_are_quiet(rt: HostRuntime) -> Result<(), Fail> {
         ),
     ];
     for (model, horizon, limit, wanted) in rows {
-        let got = told(rt.alloc(), model.as_bytes(), horizon, limit)?;
+        let got = run_of(rt.alloc(), model.as_bytes(), horizon, limit)?;
         assert_eq!(rt; got.as_str(), wanted);
     }
     Ok(())
@@ -75,7 +75,7 @@ fn texts_are_refused(rt: HostRuntime) -> Result<(), Fail> {
         ),
     ];
     for (model, wanted) in rows {
-        let got = told(rt.alloc(), model.as_bytes(), 5, 20)?;
+        let got = run_of(rt.alloc(), model.as_bytes(), 5, 20)?;
         assert_eq!(rt; got.as_str(), wanted, "{model}");
     }
     Ok(())
@@ -127,7 +127,7 @@ fn atomic_models_are_refused(rt: HostRuntime) -> Result<(), Fail> {
     ];
     for (model, wanted) in rows {
         let text = format!(in rt.alloc(); "{model} coupled Top {{ part a: A; }} root Top;")?;
-        let got = told(rt.alloc(), text.as_bytes(), 5, 20)?;
+        let got = run_of(rt.alloc(), text.as_bytes(), 5, 20)?;
         assert_eq!(rt; got.as_str(), wanted, "{model}");
     }
     Ok(())
@@ -151,7 +151,7 @@ fn coupled_models_are_refused(rt: HostRuntime) -> Result<(), Fail> {
     ];
     for (rest, wanted) in rows {
         let text = format!(in rt.alloc(); "{links}{rest}")?;
-        let got = told(rt.alloc(), text.as_bytes(), 0, 20)?;
+        let got = run_of(rt.alloc(), text.as_bytes(), 0, 20)?;
         assert_eq!(rt; got.as_str(), wanted, "{rest}");
     }
     Ok(())
@@ -159,9 +159,9 @@ fn coupled_models_are_refused(rt: HostRuntime) -> Result<(), Fail> {
 
 #[test]
 fn bytes_that_are_no_text(rt: HostRuntime) -> Result<(), Fail> {
-    let got = told(rt.alloc(), b"# a\xff\nroot", 5, 20)?;
+    let got = run_of(rt.alloc(), b"# a\xff\nroot", 5, 20)?;
     assert_eq!(rt; got.as_str(), "E1 line 1");
-    let got = told(rt.alloc(), b"\n#\n\xc3", 5, 20)?;
+    let got = run_of(rt.alloc(), b"\n#\n\xc3", 5, 20)?;
     assert_eq!(rt; got.as_str(), "E1 line 3");
     Ok(())
 }
@@ -201,7 +201,7 @@ fn expressions_at_the_edges(rt: HostRuntime) -> Result<(), Fail> {
         let text = format!(in rt.alloc();
             "atomic A {{ out y; phases z; start z; hold z: 1; output z {{ send y {expression}; }} }} coupled Top {{ part a: A; }} root Top;"
         )?;
-        let got = told(rt.alloc(), text.as_bytes(), 1, 20)?;
+        let got = run_of(rt.alloc(), text.as_bytes(), 1, 20)?;
         assert_eq!(rt; got.as_str(), wanted, "{expression}");
     }
     Ok(())

@@ -1,10 +1,10 @@
-//! Runs a model text with ample memory, and tells all that came of it as one text.
+//! Runs a model text with ample memory; what came of it is one text.
 
 use dv_job::{JobEnded, Options, run_plain};
 use std::alloc::{AllocError, Global};
 
 /// What was printed, and then how the run ended: `status 0`, `status 3`, or the error's text.
-pub fn told(alloc: Global, model: &[u8], horizon: u64, limit: u32) -> Result<String, AllocError> {
+pub fn run_of(alloc: Global, model: &[u8], horizon: u64, limit: u32) -> Result<String, AllocError> {
     let Some(options) = Options::new(horizon, limit, None, None, 16) else {
         return String::from_str(alloc, "no options");
     };

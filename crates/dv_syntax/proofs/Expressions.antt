@@ -1,6 +1,6 @@
 -- What is read as an expression is spelled so, and what is spelled so is read.
-use Rattle.std.proofs.Common.{◌≡◌, ℕ, zero, suc, ◌+◌, ◌<◌, ◌≤◌, Bool, true, false, ltb, leb, ◌&&◌, List, [], ◌∷◌, ◌++◌, pos, Option, Some, None, refl, ap, subst, ◌∙◌, inl, inr, arith}
-use Rattle.std.specs.Prelude.{IfSome, ◌≤ℤ◌}
+use Rattle.std.proofs.Common.{◌≡◌, ℕ, zero, suc, ◌+◌, ◌<◌, ◌≤◌, Bool, true, false, ltb, leb, ◌&&◌, List, [], ◌∷◌, ◌++◌, Option, Some, None, Ok, Err, refl, ap, subst, ◌∙◌, inl, inr, arith}
+use Rattle.std.specs.Prelude.{IfSome}
 use Rattle.std.proofs.lemmas.Bool.{ltb-true, leb-true, lt-ltb, lt-leb, le-leb, le-ltb}
 use Rattle.dv_lex.specs.declared.token.Token.{Token}
 use Rattle.dv_lex.specs.declared.token.TokenKind.{TokenKind}
@@ -13,11 +13,11 @@ use Rattle.dv_syntax.specs.declared.tree.Operator.{Operator}
 use Rattle.dv_syntax.specs.declared.tree.Operator.TheVariants as operator
 use Rattle.dv_syntax.specs.Trees.{Expression, Literal, Named, Parens, Negative, Binary}
 use Rattle.dv_syntax.specs.Grammar.{Spelled, At, Anywhere, Spells, sign, name, number, operator_symbol, operator_rank, left_rank, rank, depth, IsWellFormed, IsExpression, expression_spelling}
-use Rattle.dv_syntax.specs.Reading.{read_then, choose, maybe, begins, symbol_operator, operator_of, goes_on, operator_at, leaf_at, parens_at, negative_at, primary_at, turns, expression_at}
-use Rattle.dv_syntax.proofs.Tokens.{then_some, then_is, chosen, maybe_is, some_is, none_some, Spells-then, Spells-split, front, name_front, number_front, after_spells, after_spells_at, name_spells, number_spells}
+use Rattle.dv_syntax.specs.Reading.{Obstacle, TooDeep, Read, read_then, within, place_at, choose, maybe, begins, symbol_operator, operator_of, goes_on, operator_at, leaf_at, parens_at, negative_at, primary_at, turns, expression_at}
+use Rattle.dv_syntax.proofs.Tokens.{then_ok, then_is, chosen, maybe_is, ok_is, err_ok, some_is, none_some, Spells-then, Spells-split, front, name_front, number_front, after_spells, after_spells_at, name_spells, number_spells}
 
 abbrev pub Reader : Type 0
-Reader = ℕ → List Token → Option (Expression × List Token)
+Reader = ℕ → List Token → Read (Expression × List Token)
 
 -- an expression that was read, and what is known of it
 pub record IsRead (limit level : ℕ) (e : Expression) (ts rest : List Token) : Type 0 where
@@ -27,45 +27,54 @@ pub record IsRead (limit level : ℕ) (e : Expression) (ts rest : List Token) : 
   pub ranked : level ≤ rank e
 
 abbrev IsSound : Reader → ℕ → Type 0
-IsSound operand limit = (level : ℕ) (ts : List Token) (x : Expression × List Token) → level ≤ 7 → operand level ts ≡ Some x → IsRead limit level x.0 ts x.1
+IsSound operand limit = (level : ℕ) (ts : List Token) (x : Expression × List Token) → level ≤ 7 → operand level ts ≡ Ok x → IsRead limit level x.0 ts x.1
 
-leaf_read : (limit : ℕ) (ts : List Token) (x : Expression × List Token) → leaf_at ts ≡ Some x → IsRead (suc limit) 7 x.0 ts x.1
+leaf_read : (limit : ℕ) (ts : List Token) (x : Expression × List Token) → leaf_at ts ≡ Ok x → IsRead (suc limit) 7 x.0 ts x.1
 unfolding leaf_at
 leaf_read limit ts x e =
     elim (chosen _ _ _ _ e) [
       | inl p ↦
-          let a = then_some _ _ _ p.1 in
-          subst (λ (y : Expression × List Token). IsRead (suc limit) 7 y.0 ts y.1) (some_is _ _ a.2)
+          let a = then_ok _ _ _ p.1 in
+          subst (λ (y : Expression × List Token). IsRead (suc limit) 7 y.0 ts y.1) (ok_is _ _ a.2)
           (record { spelled = name_spells [] ts a.0.1 a.0 a.1 refl; formed = tt; within = omega arith; ranked = omega arith })
       | inr p ↦
-          let a = then_some _ _ _ p.1 in
-          let n = number_spells [] ts a.0.1 a.0 a.1 refl in
-          subst (λ (y : Expression × List Token). IsRead (suc limit) 7 y.0 ts y.1) (some_is _ _ a.2)
-          (record { spelled = n.0; formed = n.1; within = omega arith; ranked = omega arith })
+          let a = then_ok _ _ _ p.1 in
+          subst (λ (y : Expression × List Token). IsRead (suc limit) 7 y.0 ts y.1) (ok_is _ _ a.2)
+          (record { spelled = number_spells [] ts a.0.1 a.0 a.1 refl; formed = tt; within = omega arith; ranked = omega arith })
     ]
 
-parens_read : (operand : Reader) (limit : ℕ) → IsSound operand limit → (ts : List Token) (x : Expression × List Token) → parens_at operand ts ≡ Some x → IsRead (suc limit) 7 x.0 ts x.1
+pub within_ok : {A : Type 0} (limit place : ℕ) (read : Read A) (x : A) → within limit place read ≡ Ok x → read ≡ Ok x
+unfolding within
+within_ok zero place read x e = absurd (err_ok _ _ e)
+within_ok (suc limit) place read x e = e
+
+pub within_positive : {A : Type 0} (limit place : ℕ) (read : Read A) → 0 < limit → within limit place read ≡ read
+unfolding within
+within_positive zero place read lt = absurd (omega (arith, lt))
+within_positive (suc limit) place read lt = refl
+
+parens_read : (operand : Reader) (limit : ℕ) → IsSound operand limit → (ts : List Token) (x : Expression × List Token) → parens_at operand limit ts ≡ Ok x → IsRead (suc limit) 7 x.0 ts x.1
 unfolding parens_at
 parens_read operand limit sound ts x e =
-    let a = then_some _ _ _ e in
-    let b = then_some _ _ _ a.2 in
-    let c = then_some _ _ _ b.2 in
-    let r = sound 0 a.0 b.0 (omega arith) b.1 in
+    let a = then_ok _ _ _ e in
+    let b = then_ok _ _ _ a.2 in
+    let c = then_ok _ _ _ b.2 in
+    let r = sound 0 a.0 b.0 (omega arith) (within_ok _ _ _ _ b.1) in
     let close = after_spells (kind.Symbol symbol.CloseParen) [] b.0.1 c.0 c.0 c.1 refl in
     let inside = Spells-then (expression_spelling b.0.0) (sign symbol.CloseParen ∷ []) a.0 b.0.1 c.0 r.spelled close in
-    subst (λ (y : Expression × List Token). IsRead (suc limit) 7 y.0 ts y.1) (some_is _ _ c.2)
+    subst (λ (y : Expression × List Token). IsRead (suc limit) 7 y.0 ts y.1) (ok_is _ _ c.2)
     (record { spelled = after_spells_at (kind.Symbol symbol.OpenParen) (expression_spelling b.0.0 ++ sign symbol.CloseParen ∷ []) ts a.0 c.0 a.1 inside; formed = r.formed; within = omega (arith, r.within); ranked = omega arith })
 
-negative_read : (operand : Reader) (limit : ℕ) → IsSound operand limit → (ts : List Token) (x : Expression × List Token) → negative_at operand ts ≡ Some x → IsRead (suc limit) 7 x.0 ts x.1
+negative_read : (operand : Reader) (limit : ℕ) → IsSound operand limit → (ts : List Token) (x : Expression × List Token) → negative_at operand limit ts ≡ Ok x → IsRead (suc limit) 7 x.0 ts x.1
 unfolding negative_at
 negative_read operand limit sound ts x e =
-    let a = then_some _ _ _ e in
-    let b = then_some _ _ _ a.2 in
-    let r = sound 7 a.0 b.0 (omega arith) b.1 in
-    subst (λ (y : Expression × List Token). IsRead (suc limit) 7 y.0 ts y.1) (some_is _ _ b.2)
+    let a = then_ok _ _ _ e in
+    let b = then_ok _ _ _ a.2 in
+    let r = sound 7 a.0 b.0 (omega arith) (within_ok _ _ _ _ b.1) in
+    subst (λ (y : Expression × List Token). IsRead (suc limit) 7 y.0 ts y.1) (ok_is _ _ b.2)
     (record { spelled = after_spells_at (kind.Symbol symbol.Minus) (expression_spelling b.0.0) ts a.0 b.0.1 a.1 r.spelled; formed = (r.formed, r.ranked); within = omega (arith, r.within); ranked = omega arith })
 
-primary_read : (operand : Reader) (limit : ℕ) → IsSound operand limit → (ts : List Token) (x : Expression × List Token) → primary_at operand ts ≡ Some x → IsRead (suc limit) 7 x.0 ts x.1
+primary_read : (operand : Reader) (limit : ℕ) → IsSound operand limit → (ts : List Token) (x : Expression × List Token) → primary_at operand limit ts ≡ Ok x → IsRead (suc limit) 7 x.0 ts x.1
 unfolding primary_at
 primary_read operand limit sound ts x e =
     elim (chosen _ _ _ _ e) [
@@ -109,13 +118,15 @@ operator_at-next : (level : ℕ) (left : Expression) (ts : List Token) (x : Oper
 unfolding operator_at goes_on
 operator_at-next level left [] x e = absurd (none_some _ e)
 operator_at-next level left (t ∷ ts) x e =
-    let a = then_some _ _ _ e in
-    elim (chosen _ _ _ _ a.2) [
-      | inl p ↦
-          let both = and_true _ _ p.0 in
-          subst (λ (y : Operator × List Token). IsNext level left (t ∷ ts) y.0 y.1) (some_is _ _ p.1)
-          (record { spelled = (operator_of-is t.kind a.0 a.1, refl); above = leb-true _ _ both.0; fits = leb-true _ _ both.1 })
-      | inr p ↦ absurd (none_some _ p.1)
+    elim (maybe_is _ _ _ _ e) [
+      | inl a ↦ absurd (none_some _ a.1)
+      | inr a ↦ elim (chosen _ _ _ _ a.2) [
+        | inl p ↦
+            let both = and_true _ _ p.0 in
+            subst (λ (y : Operator × List Token). IsNext level left (t ∷ ts) y.0 y.1) (some_is _ _ p.1)
+            (record { spelled = (operator_of-is t.kind a.0 a.1, refl); above = leb-true _ _ both.0; fits = leb-true _ _ both.1 })
+        | inr p ↦ absurd (none_some _ p.1)
+      ]
     ]
 
 operator_rank-le : (o : Operator) → operator_rank o ≤ 6
@@ -145,22 +156,22 @@ operator_rank-left operator.Greater = omega arith
 operator_rank-left operator.AtLeast = omega arith
 
 turns_read : (operand : Reader) (limit : ℕ) → IsSound operand limit → (more level : ℕ) (left : Expression) (ts mid : List Token) (x : Expression × List Token)
-    → IsRead (suc limit) level left ts mid → turns operand (suc limit) more level left mid ≡ Some x → IsRead (suc limit) level x.0 ts x.1
+    → IsRead (suc limit) level left ts mid → turns operand (suc limit) more level left mid ≡ Ok x → IsRead (suc limit) level x.0 ts x.1
 turns_read operand limit sound zero level left ts mid x so_far e =
     elim (maybe_is _ _ _ _ e) [
-      | inl p ↦ subst (λ (y : Expression × List Token). IsRead (suc limit) level y.0 ts y.1) (some_is _ _ p.1) so_far
-      | inr p ↦ absurd (none_some _ p.2)
+      | inl p ↦ subst (λ (y : Expression × List Token). IsRead (suc limit) level y.0 ts y.1) (ok_is _ _ p.1) so_far
+      | inr p ↦ absurd (err_ok _ _ p.2)
     ]
 turns_read operand limit sound (suc more) level left ts mid x so_far e =
     elim (maybe_is _ _ _ _ e) [
-      | inl p ↦ subst (λ (y : Expression × List Token). IsRead (suc limit) level y.0 ts y.1) (some_is _ _ p.1) so_far
+      | inl p ↦ subst (λ (y : Expression × List Token). IsRead (suc limit) level y.0 ts y.1) (ok_is _ _ p.1) so_far
       | inr p ↦
           let o = p.0 in
           let next = operator_at-next level left mid o p.1 in
           elim (chosen _ _ _ _ p.2) [
             | inl q ↦
                 let shallow : depth left < suc limit = ltb-true _ _ q.0 in
-                let a = then_some _ _ _ q.1 in
+                let a = then_ok _ _ _ q.1 in
                 let right = a.0 in
                 let r = sound (operator_rank o.0 + 1) o.1 right (omega (arith, operator_rank-le o.0)) a.1 in
                 let operator_first = Spells-then (sign (operator_symbol o.0) ∷ []) (expression_spelling right.0) mid o.1 right.1 next.spelled r.spelled in
@@ -171,15 +182,15 @@ turns_read operand limit sound (suc more) level left ts mid x so_far e =
                   within = omega (arith, r.within, shallow);
                   ranked = next.above;
                 }) a.2
-            | inr q ↦ absurd (none_some _ q.1)
+            | inr q ↦ absurd (err_ok _ _ q.1)
           ]
     ]
 
-pub expression_read : (limit level : ℕ) (ts : List Token) (x : Expression × List Token) → level ≤ 7 → expression_at limit level ts ≡ Some x → IsRead limit level x.0 ts x.1
+pub expression_read : (limit level : ℕ) (ts : List Token) (x : Expression × List Token) → level ≤ 7 → expression_at limit level ts ≡ Ok x → IsRead limit level x.0 ts x.1
 unfolding expression_at
-expression_read zero level ts x low e = absurd (none_some _ e)
+expression_read zero level ts x low e = absurd (err_ok _ _ e)
 expression_read (suc limit) level ts x low e =
-    let a = then_some _ _ _ e in
+    let a = then_ok _ _ _ e in
     let sound : IsSound (expression_at limit) limit = λ l us y h f. expression_read limit l us y h f in
     let p = primary_read (expression_at limit) limit sound ts a.0 a.1 in
     turns_read (expression_at limit) limit sound (suc limit) level a.0.0 ts a.0.1 x
@@ -207,8 +218,8 @@ operator_of-symbol operator.Greater = refl
 operator_of-symbol operator.AtLeast = refl
 
 -- above what comes first no operator goes on
-stops_below : (level : ℕ) (left : Expression) (o : Option Operator) (r : ℕ) (ts : List Token) → IfSome o (λ o. operator_rank o ≤ r) → r < level → read_then {B = Operator × List Token} o (λ o. choose (goes_on level left o) (Some (o, ts)) None) ≡ None
-unfolding read_then goes_on choose
+stops_below : (level : ℕ) (left : Expression) (o : Option Operator) (r : ℕ) (ts : List Token) → IfSome o (λ o. operator_rank o ≤ r) → r < level → maybe {B = Option (Operator × List Token)} o None (λ o. choose (goes_on level left o) (Some (o, ts)) None) ≡ None
+unfolding maybe goes_on choose
 stops_below level left None r ts h lt = refl
 stops_below level left (Some o) r ts h lt =
     let low : leb level (operator_rank o) ≡ false = lt-leb _ _ (omega (arith, h)) in
@@ -220,28 +231,28 @@ operator_at-none level left r [] h lt = refl
 operator_at-none level left r (t ∷ ts) h lt = stops_below level left (operator_of t.kind) r ts h lt
 
 operator_at-some : (level : ℕ) (left : Expression) (o : Operator) (t : Token) (ts : List Token) → t.kind ≡ kind.Symbol (operator_symbol o) → level ≤ operator_rank o → left_rank o ≤ rank left → operator_at level left (t ∷ ts) ≡ Some (o, ts)
-unfolding operator_at goes_on choose read_then
+unfolding operator_at goes_on choose maybe
 operator_at-some level left o t ts k above fits =
     let is : operator_of t.kind ≡ Some o = ap operator_of k ∙ operator_of-symbol o in
     let a : leb level (operator_rank o) ≡ true = le-leb _ _ above in
     let f : leb (left_rank o) (rank left) ≡ true = le-leb _ _ fits in
     rw (is, a, f) refl
 
-same_choice : {A B : Type 0} (r : Option A) (b : Bool) (f g : A → Option B) → ((x : A) → f x ≡ g x) → choose b (read_then r f) None ≡ choose b (read_then r g) None
+same_choice : {A B : Type 0} (r : Read A) (b : Bool) (o : Obstacle) (f g : A → Read B) → ((x : A) → f x ≡ g x) → choose b (read_then r f) (Err o) ≡ choose b (read_then r g) (Err o)
 unfolding choose read_then
-same_choice (Some x) true f g h = h x
-same_choice None true f g h = refl
-same_choice r false f g h = refl
+same_choice (Ok x) true o f g h = h x
+same_choice (Err p) true o f g h = refl
+same_choice r false o f g h = refl
 
 same_maybe : {A B : Type 0} (o : Option A) (n : B) (f g : A → B) → ((x : A) → f x ≡ g x) → maybe o n f ≡ maybe o n g
 unfolding maybe
 same_maybe None n f g h = refl
 same_maybe (Some x) n f g h = h x
 
-same_then : {A B : Type 0} (r : Option A) (f g : A → Option B) → ((x : A) → f x ≡ g x) → read_then r f ≡ read_then r g
+same_then : {A B : Type 0} (r : Read A) (f g : A → Read B) → ((x : A) → f x ≡ g x) → read_then r f ≡ read_then r g
 unfolding read_then
-same_then (Some x) f g h = h x
-same_then None f g h = refl
+same_then (Ok x) f g h = h x
+same_then (Err o) f g h = refl
 
 weaker : (o : Option Operator) (r s : ℕ) → r ≤ s → IfSome o (λ o. operator_rank o ≤ r) → IfSome o (λ o. operator_rank o ≤ s)
 weaker None r s le h = tt
@@ -258,12 +269,12 @@ same_turns operand limit (suc a) zero level left ts ha hb =
     let deep : ltb (depth left) limit ≡ false = le-ltb _ _ (omega arith) in
     rw deep refl
 same_turns operand limit (suc a) (suc b) level left ts ha hb =
-    let each : (o : Operator × List Token) → (choose (ltb (depth left) limit) (read_then (operand (operator_rank o.0 + 1) o.1) (λ right. turns operand limit a level (Binary o.0 left right.0) right.1)) None)
-    ≡ (choose (ltb (depth left) limit) (read_then (operand (operator_rank o.0 + 1) o.1) (λ right. turns operand limit b level (Binary o.0 left right.0) right.1)) None) =
-    λ o. same_choice (operand (operator_rank o.0 + 1) o.1) (ltb (depth left) limit) _ _ (λ right. same_turns operand limit a b level (Binary o.0 left right.0) right.1 (omega arith) (omega arith)) in
+    let each : (o : Operator × List Token) → (choose (ltb (depth left) limit) (read_then (operand (operator_rank o.0 + 1) o.1) (λ right. turns operand limit a level (Binary o.0 left right.0) right.1)) (Err (TooDeep (place_at ts))))
+    ≡ (choose (ltb (depth left) limit) (read_then (operand (operator_rank o.0 + 1) o.1) (λ right. turns operand limit b level (Binary o.0 left right.0) right.1)) (Err (TooDeep (place_at ts)))) =
+    λ o. same_choice (operand (operator_rank o.0 + 1) o.1) (ltb (depth left) limit) (TooDeep (place_at ts)) _ _ (λ right. same_turns operand limit a b level (Binary o.0 left right.0) right.1 (omega arith) (omega arith)) in
     same_maybe (operator_at level left ts) _ _ _ each
 
-pub turns_stop : (operand : Reader) (limit more level : ℕ) (left : Expression) (ts : List Token) → operator_at level left ts ≡ None → turns operand limit more level left ts ≡ Some (left, ts)
+pub turns_stop : (operand : Reader) (limit more level : ℕ) (left : Expression) (ts : List Token) → operator_at level left ts ≡ None → turns operand limit more level left ts ≡ Ok (left, ts)
 unfolding maybe
 turns_stop operand limit zero level left ts e = rw e refl
 turns_stop operand limit (suc more) level left ts e = rw e refl
@@ -276,7 +287,7 @@ turns_step operand (suc m) level left ts o e lt =
     let shallow : ltb (depth left) (suc m) ≡ true = lt-ltb _ _ lt in
     rw (e, shallow) (same_then (operand (operator_rank o.0 + 1) o.1) _ _ (λ right. same_turns operand (suc m) m (suc m) level (Binary o.0 left right.0) right.1 (omega arith) (omega arith)))
 
-pub turns_deep : (operand : Reader) (limit more level : ℕ) (left : Expression) (ts : List Token) (o : Operator × List Token) → operator_at level left ts ≡ Some o → limit ≤ depth left → turns operand limit more level left ts ≡ None
+pub turns_deep : (operand : Reader) (limit more level : ℕ) (left : Expression) (ts : List Token) (o : Operator × List Token) → operator_at level left ts ≡ Some o → limit ≤ depth left → turns operand limit more level left ts ≡ Err (TooDeep (place_at ts))
 unfolding maybe choose
 turns_deep operand limit zero level left ts o e le = rw e refl
 turns_deep operand limit (suc more) level left ts o e le =
@@ -313,7 +324,7 @@ IsLoose-six [] = tt
 IsLoose-six (t ∷ ts) = below_six (operator_of t.kind)
 
 operator_at-closed : (level : ℕ) (left : Expression) (ts : List Token) → IsClosed ts → operator_at level left ts ≡ None
-unfolding operator_at read_then
+unfolding operator_at maybe
 operator_at-closed level left [] h = refl
 operator_at-closed level left (t ∷ ts) h = rw h refl
 
@@ -322,65 +333,65 @@ operator_at-front : (level : ℕ) (left : Expression) (o : Operator) (ss : List 
 operator_at-front level left o ss [] rest above fits h = absurd h
 operator_at-front level left o ss (t ∷ ts) rest above fits h = (ts, operator_at-some level left o t ts h.0 above fits, h.1)
 
-positive_depth : (e : Expression) → 0 < depth e
+pub positive_depth : (e : Expression) → 0 < depth e
 positive_depth (Literal n) = omega arith
 positive_depth (Named n) = omega arith
-positive_depth (Parens line e) = omega arith
-positive_depth (Negative line e) = omega arith
+positive_depth (Parens place e) = omega arith
+positive_depth (Negative place e) = omega arith
 positive_depth (Binary o a b) = omega arith
 
-primary_leaf : (operand : Reader) (ts : List Token) → begins (kind.Symbol symbol.OpenParen) ts ≡ false → begins (kind.Symbol symbol.Minus) ts ≡ false → primary_at operand ts ≡ leaf_at ts
+primary_leaf : (operand : Reader) (limit : ℕ) (ts : List Token) → begins (kind.Symbol symbol.OpenParen) ts ≡ false → begins (kind.Symbol symbol.Minus) ts ≡ false → primary_at operand limit ts ≡ leaf_at ts
 unfolding primary_at choose
-primary_leaf operand ts a b = rw (a, b) refl
+primary_leaf operand limit ts a b = rw (a, b) refl
 
-number_again : (operand : Reader) (n : Number) (ts rest : List Token) → pos 0 ≤ℤ n.value → Spells (number n ∷ []) ts rest → primary_at operand ts ≡ Some (Literal n, rest)
+number_again : (operand : Reader) (limit : ℕ) (n : Number) (ts rest : List Token) → Spells (number n ∷ []) ts rest → primary_at operand limit ts ≡ Ok (Literal n, rest)
 unfolding leaf_at choose read_then
-number_again operand n ts rest fits h =
+number_again operand limit n ts rest h =
     let f = front (number n) [] ts rest h in
-    let g = number_front n [] ts rest fits h in
-    primary_leaf operand ts (f.begins _) (f.begins _) ∙ rw (f.begins_name, g.1, g.2) refl
+    let g = number_front n [] ts rest h in
+    primary_leaf operand limit ts (f.begins _) (f.begins _) ∙ rw (f.begins_name, g.1, g.2) refl
 
-name_again : (operand : Reader) (n : Name) (ts rest : List Token) → Spells (name n ∷ []) ts rest → primary_at operand ts ≡ Some (Named n, rest)
+name_again : (operand : Reader) (limit : ℕ) (n : Name) (ts rest : List Token) → Spells (name n ∷ []) ts rest → primary_at operand limit ts ≡ Ok (Named n, rest)
 unfolding leaf_at choose read_then
-name_again operand n ts rest h =
+name_again operand limit n ts rest h =
     let f = front (name n) [] ts rest h in
     let g = name_front n [] ts rest h in
-    primary_leaf operand ts (f.begins _) (f.begins _) ∙ rw (f.begins_name, g.1, g.2) refl
+    primary_leaf operand limit ts (f.begins _) (f.begins _) ∙ rw (f.begins_name, g.1, g.2) refl
 
-parens_again : (operand : Reader) (line : ℕ) (e : Expression) (ts rest : List Token) → Spells (expression_spelling (Parens line e)) ts rest
-    → ((us vs : List Token) → Spells (expression_spelling e) us vs → IsClosed vs → operand 0 us ≡ Some (e, vs)) → primary_at operand ts ≡ Some (Parens line e, rest)
-unfolding primary_at parens_at choose read_then operator_of
-parens_again operand line e ts rest h inner =
-    let f = front (At (kind.Symbol symbol.OpenParen) line) (expression_spelling e ++ sign symbol.CloseParen ∷ []) ts rest h in
+parens_again : (operand : Reader) (limit place : ℕ) (e : Expression) (ts rest : List Token) → Spells (expression_spelling (Parens place e)) ts rest
+    → ((us vs : List Token) → Spells (expression_spelling e) us vs → IsClosed vs → operand 0 us ≡ Ok (e, vs)) → primary_at operand (suc limit) ts ≡ Ok (Parens place e, rest)
+unfolding primary_at parens_at within choose read_then operator_of
+parens_again operand limit place e ts rest h inner =
+    let f = front (At (kind.Symbol symbol.OpenParen) place) (expression_spelling e ++ sign symbol.CloseParen ∷ []) ts rest h in
     let s = Spells-split (expression_spelling e) (sign symbol.CloseParen ∷ []) f.behind rest f.spelled in
     let c = front (sign symbol.CloseParen) [] s.0 rest s.2 in
     let i = inner f.behind s.0 s.1 (IsClosed-front (kind.Symbol symbol.CloseParen) [] s.0 rest refl s.2) in
-    rw (f.begins (kind.Symbol symbol.OpenParen), f.after, i, c.after, f.line, c.spelled) refl
+    rw (f.begins (kind.Symbol symbol.OpenParen), f.after, i, c.after, f.place, c.spelled) refl
 
-negative_again : (operand : Reader) (line : ℕ) (e : Expression) (ts rest : List Token) → Spells (expression_spelling (Negative line e)) ts rest
-    → ((us : List Token) → Spells (expression_spelling e) us rest → operand 7 us ≡ Some (e, rest)) → primary_at operand ts ≡ Some (Negative line e, rest)
-unfolding primary_at negative_at choose read_then
-negative_again operand line e ts rest h inner =
-    let f = front (At (kind.Symbol symbol.Minus) line) (expression_spelling e) ts rest h in
+negative_again : (operand : Reader) (limit place : ℕ) (e : Expression) (ts rest : List Token) → Spells (expression_spelling (Negative place e)) ts rest
+    → ((us : List Token) → Spells (expression_spelling e) us rest → operand 7 us ≡ Ok (e, rest)) → primary_at operand (suc limit) ts ≡ Ok (Negative place e, rest)
+unfolding primary_at negative_at within choose read_then
+negative_again operand limit place e ts rest h inner =
+    let f = front (At (kind.Symbol symbol.Minus) place) (expression_spelling e) ts rest h in
     let i = inner f.behind f.spelled in
-    rw (f.begins (kind.Symbol symbol.OpenParen), f.begins (kind.Symbol symbol.Minus), f.after, i, f.line) refl
+    rw (f.begins (kind.Symbol symbol.OpenParen), f.begins (kind.Symbol symbol.Minus), f.after, i, f.place) refl
 
-then_turns : (limit level : ℕ) (e : Expression) (ts rest : List Token) → primary_at (expression_at limit) ts ≡ Some (e, rest) → expression_at (suc limit) level ts ≡ turns (expression_at limit) (suc limit) (suc limit) level e rest
+then_turns : (limit level : ℕ) (e : Expression) (ts rest : List Token) → primary_at (expression_at limit) limit ts ≡ Ok (e, rest) → expression_at (suc limit) level ts ≡ turns (expression_at limit) (suc limit) (suc limit) level e rest
 unfolding expression_at read_then
 then_turns limit level e ts rest h = rw h refl
 
 expression_again : (e : Expression) (limit level : ℕ) (ts rest : List Token) → IsWellFormed e → depth e ≤ suc limit → level ≤ rank e → level ≤ 7 → IsLoose (rank e) rest → Spells (expression_spelling e) ts rest
     → expression_at (suc limit) level ts ≡ turns (expression_at limit) (suc limit) (suc limit) level e rest
-expression_again (Literal n) limit level ts rest formed within ranked low loose h = then_turns limit level (Literal n) ts rest (number_again (expression_at limit) n ts rest formed h)
-expression_again (Named n) limit level ts rest formed within ranked low loose h = then_turns limit level (Named n) ts rest (name_again (expression_at limit) n ts rest h)
-expression_again (Parens line e) zero level ts rest formed within ranked low loose h = absurd (omega (arith, within, positive_depth e))
-expression_again (Parens line e) (suc limit) level ts rest formed within ranked low loose h =
-    then_turns (suc limit) level (Parens line e) ts rest (parens_again (expression_at (suc limit)) line e ts rest h (λ us vs k closed.
+expression_again (Literal n) limit level ts rest formed within ranked low loose h = then_turns limit level (Literal n) ts rest (number_again (expression_at limit) limit n ts rest h)
+expression_again (Named n) limit level ts rest formed within ranked low loose h = then_turns limit level (Named n) ts rest (name_again (expression_at limit) limit n ts rest h)
+expression_again (Parens place e) zero level ts rest formed within ranked low loose h = absurd (omega (arith, within, positive_depth e))
+expression_again (Parens place e) (suc limit) level ts rest formed within ranked low loose h =
+    then_turns (suc limit) level (Parens place e) ts rest (parens_again (expression_at (suc limit)) limit place e ts rest h (λ us vs k closed.
     expression_again e limit 0 us vs formed (omega (arith, within)) (omega arith) (omega arith) (IsLoose-closed (rank e) vs closed) k
     ∙ turns_stop (expression_at limit) (suc limit) (suc limit) 0 e vs (operator_at-closed 0 e vs closed)))
-expression_again (Negative line e) zero level ts rest formed within ranked low loose h = absurd (omega (arith, within, positive_depth e))
-expression_again (Negative line e) (suc limit) level ts rest formed within ranked low loose h =
-    then_turns (suc limit) level (Negative line e) ts rest (negative_again (expression_at (suc limit)) line e ts rest h (λ us k.
+expression_again (Negative place e) zero level ts rest formed within ranked low loose h = absurd (omega (arith, within, positive_depth e))
+expression_again (Negative place e) (suc limit) level ts rest formed within ranked low loose h =
+    then_turns (suc limit) level (Negative place e) ts rest (negative_again (expression_at (suc limit)) limit place e ts rest h (λ us k.
     expression_again e limit 7 us rest formed.0 (omega (arith, within)) formed.1 (omega arith) (IsLoose-weaker 7 (rank e) rest formed.1 loose) k
     ∙ turns_stop (expression_at limit) (suc limit) (suc limit) 7 e rest (operator_at-none 7 e 6 rest (IsLoose-six rest) (omega arith))))
 expression_again (Binary o a b) zero level ts rest formed within ranked low loose h = absurd (omega (arith, within, positive_depth a))
@@ -391,15 +402,15 @@ expression_again (Binary o a b) (suc limit) level ts rest formed within ranked l
     let left = expression_again a k level ts s.0 formed.0 (omega (arith, within)) (omega (arith, ranked, tight)) low (IsLoose-front (rank a) o (expression_spelling b) s.0 rest tight s.2) s.1 in
     let next = operator_at-front level a o (expression_spelling b) s.0 rest ranked formed.2 s.2 in
     let step = turns_step (expression_at k) (suc k) level a s.0 (o, next.0) next.1 (omega (arith, within)) in
-    let right : expression_at k (operator_rank o + 1) next.0 ≡ Some (b, rest) =
+    let right : expression_at k (operator_rank o + 1) next.0 ≡ Ok (b, rest) =
     expression_again b limit (operator_rank o + 1) next.0 rest formed.1 (omega (arith, within)) (omega (arith, formed.3)) (omega (arith, operator_rank-le o)) (IsLoose-weaker (operator_rank o) (rank b) rest (omega (arith, formed.3)) loose) next.2
     ∙ turns_stop (expression_at limit) k k (operator_rank o + 1) b rest (operator_at-none (operator_rank o + 1) b (operator_rank o) rest loose (omega arith)) in
     left ∙ step ∙ then_is (expression_at k (operator_rank o + 1) next.0) (λ right. turns (expression_at k) (suc k) (suc k) level (Binary o a right.0) right.1) (b, rest) right
 
-pub expression_complete : (e : Expression) (ts rest : List Token) → IsExpression e → Spells (expression_spelling e) ts rest → IsClosed rest → expression_at 64 0 ts ≡ Some (e, rest)
+pub expression_complete : (e : Expression) (ts rest : List Token) → IsExpression e → Spells (expression_spelling e) ts rest → IsClosed rest → expression_at 64 0 ts ≡ Ok (e, rest)
 expression_complete e ts rest is h closed =
     expression_again e 63 0 ts rest is.formed is.within (omega arith) (omega arith) (IsLoose-closed (rank e) rest closed) h
     ∙ turns_stop (expression_at 63) 64 64 0 e rest (operator_at-closed 0 e rest closed)
 
-pub expression_sound : (ts : List Token) (x : Expression × List Token) → expression_at 64 0 ts ≡ Some x → Spells (expression_spelling x.0) ts x.1 × IsExpression x.0
+pub expression_sound : (ts : List Token) (x : Expression × List Token) → expression_at 64 0 ts ≡ Ok x → Spells (expression_spelling x.0) ts x.1 × IsExpression x.0
 expression_sound ts x e = let r = expression_read 64 0 ts x (omega arith) e in (r.spelled, record { formed = r.formed; within = r.within })

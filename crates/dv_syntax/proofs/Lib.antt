@@ -4,5 +4,11 @@ pub mod Expressions
 pub mod Climbing
 pub mod Statements
 pub mod Models
+pub mod Sorting
+pub mod Steady
+pub mod SteadyReaders
+pub mod Completions
+pub mod Beginnings
+pub mod DeadEnds
 pub mod Rows
 pub mod Blocks

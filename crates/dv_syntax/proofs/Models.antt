@@ -1,11 +1,6 @@
 -- What is read as items, models and files is spelled so, and what is spelled so is read.
-use Rattle.std.proofs.Common.{◌≡◌, ℕ, ◌<◌, true, false, List, [], ◌∷◌, ◌++◌, length, Option, Some, None, pos, refl, sym, subst, ◌∙◌, ◌⊎◌, inl, inr, arith}
-use Rattle.std.specs.Prelude.{◌≤ℤ◌}
+use Rattle.std.proofs.Common.{◌≡◌, ℕ, ◌<◌, true, false, List, [], ◌∷◌, ◌++◌, length, Option, Some, None, Ok, Err, refl, sym, ap, subst, ◌∙◌, inl, inr, arith}
 use Rattle.std.specs.List.{flat_map, AllByRecursion}
-use Rattle.dv_lex.specs.declared.error.LoadError.{LoadError}
-use Rattle.dv_lex.specs.declared.error.LoadError.TheVariants as error
-use Rattle.dv_lex.specs.declared.error.Refusal.{Refusal}
-use Rattle.dv_lex.specs.declared.error.Refusal.TheVariants as refusal
 use Rattle.dv_lex.specs.declared.token.Token.{Token}
 use Rattle.dv_lex.specs.declared.token.TokenKind.TheVariants as kind
 use Rattle.dv_lex.specs.declared.token.Keyword.TheVariants as keyword
@@ -15,17 +10,17 @@ use Rattle.dv_syntax.specs.declared.tree.Name.{Name}
 use Rattle.dv_syntax.specs.declared.tree.Number.{Number}
 use Rattle.dv_syntax.specs.declared.tree.Bound.{Bound}
 use Rattle.dv_syntax.specs.declared.tree.Variable.{Variable}
+use Rattle.dv_syntax.specs.declared.tree.Declaration.TheVariants as declaration
 use Rattle.dv_syntax.specs.declared.tree.RuleSort.{RuleSort}
 use Rattle.dv_syntax.specs.declared.tree.RuleSort.TheVariants as sort
 use Rattle.dv_syntax.specs.declared.tree.End.{End}
 use Rattle.dv_syntax.specs.declared.tree.Part.{Part}
 use Rattle.dv_syntax.specs.declared.tree.Link.{Link}
-use Rattle.dv_syntax.specs.declared.tree.CoupledItem.{CoupledItem}
-use Rattle.dv_syntax.specs.declared.tree.CoupledItem.TheVariants as coupled_item
-use Rattle.dv_syntax.specs.Trees.{Expression, Statements, Literal, Named, Parens, Negative, Binary, AtomicItem, OutPort, Var, Phases, Start, Hold, Rule, AtomicTree, CoupledTree, ModelTree, AtomicModel, CoupledModel, FileTree}
-use Rattle.dv_syntax.specs.Grammar.{Spelled, name, number, sign, word, braces, operator_symbol, expression_spelling, minus_spelling, bound_spelling, variable_spelling, ticks_spelling, item_spelling, IsBound, AreTicks, IsItem, part_spelling, end_spelling, coupled_item_spelling, model_spelling, IsModel, file_spelling, IsFileOf, IsRefused}
-use Rattle.dv_syntax.specs.Reading.{read_then, choose, begins, operator_of, many_at, braces_at, bound_at, variable_at, further_name_at, phases_at, start_at, ticks_at, hold_at, rule_at, out_at, item_at, atomic_at, end_at, part_at, link_at, coupled_item_at, coupled_at, model_at, is_end, file_at}
-use Rattle.dv_syntax.proofs.Tokens.{then_some, chosen, some_is, none_some}
+use Rattle.dv_syntax.specs.Trees.{Expression, Statements, Literal, Named, Parens, Negative, Binary, FileTree}
+use Rattle.dv_syntax.specs.Written.{AtomicItem, Declares, Lists, Starts, Holds, Rules, CoupledItem, Outputs, Contains, Couples, WrittenModel, WrittenAtomic, WrittenCoupled, WrittenFile, sorted}
+use Rattle.dv_syntax.specs.Grammar.{Spelled, name, number, sign, word, braces, operator_symbol, expression_spelling, minus_spelling, bound_spelling, variable_spelling, ticks_spelling, phases_spelling, rule_spelling, item_spelling, AreTicks, IsItem, part_name_spelling, end_spelling, coupled_item_spelling, model_spelling, IsModel, file_spelling, IsWritten, IsFileOf}
+use Rattle.dv_syntax.specs.Reading.{Obstacle, read_then, choose, begins, operator_of, many_at, braces_at, bound_at, variable_at, further_name_at, phases_at, start_at, ticks_at, hold_at, rule_at, out_at, item_at, atomic_at, end_at, part_at, link_at, coupled_item_at, coupled_at, model_at, is_end, file_at}
+use Rattle.dv_syntax.proofs.Tokens.{then_ok, chosen, ok_is, err_ok}
 use Rattle.dv_syntax.proofs.Readers.{Spans, nothing, after_spans, after_spans_at, name_spans, number_spans, then_spans, split, first, first_name, first_number, span_end, IsReader, IsListed, many_reader, braces_reader, shortens, Shortens}
 use Rattle.dv_syntax.proofs.Expressions.{IsClosed-front}
 use Rattle.dv_syntax.proofs.Statements.{expression_reader, block_reader, IsBlock}
@@ -38,59 +33,57 @@ semicolon = sign symbol.Semicolon ∷ []
 
 -- ---- Bounds and variables
 
-bound_complete : (minus : Option ℕ) (n : Number) (ts rest : List Token) → pos 0 ≤ℤ n.value → Spans (minus_spelling minus ++ number n ∷ []) ts rest → bound_at ts ≡ Some (record { minus = minus; magnitude = n }, rest)
+bound_complete : (minus : Option ℕ) (n : Number) (ts rest : List Token) → Spans (minus_spelling minus ++ number n ∷ []) ts rest → bound_at ts ≡ Ok (record { minus = minus; magnitude = n }, rest)
 unfolding bound_at choose read_then
-bound_complete None n ts rest fits h =
+bound_complete None n ts rest h =
     let f = first h in
-    let m = first_number n fits h in
+    let m = first_number n h in
     rw (f.begins (kind.Symbol symbol.Minus), m.read, span_end m.spelled) refl
-bound_complete (Some line) n ts rest fits h =
+bound_complete (Some place) n ts rest h =
     let f = first h in
-    let m = first_number n fits f.spelled in
-    rw (f.begins (kind.Symbol symbol.Minus), f.after, m.read, f.line, span_end m.spelled) refl
+    let m = first_number n f.spelled in
+    rw (f.begins (kind.Symbol symbol.Minus), f.after, m.read, f.place, span_end m.spelled) refl
 
-bound_sound : (ts : List Token) (x : Bound × List Token) → bound_at ts ≡ Some x → Spans (bound_spelling x.0) ts x.1 × IsBound x.0
+bound_sound : (ts : List Token) (x : Bound × List Token) → bound_at ts ≡ Ok x → Spans (bound_spelling x.0) ts x.1
 unfolding bound_at
 bound_sound ts x e =
     elim (chosen _ _ _ _ e) [
       | inl p ↦
-          let a = then_some _ _ _ p.1 in
-          let b = then_some _ _ _ a.2 in
-          let n = number_spans b.1 nothing in
-          subst (λ (y : Bound × List Token). Spans (bound_spelling y.0) ts y.1 × IsBound y.0) (some_is _ _ b.2) (after_spans_at a.1 n.0, n.1)
+          let a = then_ok _ _ _ p.1 in
+          let b = then_ok _ _ _ a.2 in
+          subst (λ (y : Bound × List Token). Spans (bound_spelling y.0) ts y.1) (ok_is _ _ b.2) (after_spans_at a.1 (number_spans b.1 nothing))
       | inr p ↦
-          let a = then_some _ _ _ p.1 in
-          let n = number_spans a.1 nothing in
-          subst (λ (y : Bound × List Token). Spans (bound_spelling y.0) ts y.1 × IsBound y.0) (some_is _ _ a.2) (n.0, n.1)
+          let a = then_ok _ _ _ p.1 in
+          subst (λ (y : Bound × List Token). Spans (bound_spelling y.0) ts y.1) (ok_is _ _ a.2) (number_spans a.1 nothing)
     ]
 
-bound_reader : IsReader bound_at bound_spelling IsBound Always
+bound_reader : IsReader bound_at bound_spelling (λ b. Unit {0}) Always
 bound_reader = record {
-  sound = bound_sound;
-  complete = λ x ts rest is h ends. bound_complete x.minus x.magnitude ts rest is h;
+  sound = λ ts x e. (bound_sound ts x e, tt);
+  complete = λ x ts rest is h ends. bound_complete x.minus x.magnitude ts rest h;
 }
 
-variable_sound : (ts : List Token) (x : Variable × List Token) → variable_at ts ≡ Some x → Spans (variable_spelling x.0) ts x.1 × IsItem (Var x.0)
+variable_sound : (ts : List Token) (x : Variable × List Token) → variable_at ts ≡ Ok x → Spans (variable_spelling x.0) ts x.1
 unfolding variable_at
 variable_sound ts x e =
-    let a = then_some _ _ _ e in
-    let b = then_some _ _ _ a.2 in
-    let c = then_some _ _ _ b.2 in
-    let low = then_some _ _ _ c.2 in
-    let d = then_some _ _ _ low.2 in
-    let high = then_some _ _ _ d.2 in
-    let f = then_some _ _ _ high.2 in
-    let start = then_some _ _ _ f.2 in
-    let g = then_some _ _ _ start.2 in
+    let a = then_ok _ _ _ e in
+    let b = then_ok _ _ _ a.2 in
+    let c = then_ok _ _ _ b.2 in
+    let low = then_ok _ _ _ c.2 in
+    let d = then_ok _ _ _ low.2 in
+    let high = then_ok _ _ _ d.2 in
+    let f = then_ok _ _ _ high.2 in
+    let start = then_ok _ _ _ f.2 in
+    let g = then_ok _ _ _ start.2 in
     let l = bound_reader.sound c.0 low.0 low.1 in
     let h = bound_reader.sound d.0 high.0 high.1 in
     let s = bound_reader.sound f.0 start.0 start.1 in
-    subst (λ (y : Variable × List Token). Spans (variable_spelling y.0) ts y.1 × IsItem (Var y.0)) (some_is _ _ g.2)
-    (after_spans a.1 (name_spans b.1 (after_spans c.1 (then_spans l.0 (after_spans d.1 (then_spans h.0 (after_spans f.1 (then_spans s.0 (after_spans g.1 nothing)))))))), (l.1, h.1, s.1))
+    subst (λ (y : Variable × List Token). Spans (variable_spelling y.0) ts y.1) (ok_is _ _ g.2)
+    (after_spans a.1 (name_spans b.1 (after_spans c.1 (then_spans l.0 (after_spans d.1 (then_spans h.0 (after_spans f.1 (then_spans s.0 (after_spans g.1 nothing)))))))))
 
-variable_complete : (v : Variable) (ts rest : List Token) → IsItem (Var v) → Spans (variable_spelling v) ts rest → variable_at ts ≡ Some (v, rest)
+variable_complete : (v : Variable) (ts rest : List Token) → Spans (variable_spelling v) ts rest → variable_at ts ≡ Ok (v, rest)
 unfolding variable_at read_then
-variable_complete v ts rest is h =
+variable_complete v ts rest h =
     let a = first h in
     let b = first_name v.name a.spelled in
     let c = first b.spelled in
@@ -98,13 +91,13 @@ variable_complete v ts rest is h =
     let after_high : List Spelled = sign symbol.Equal ∷ (bound_spelling v.start ++ after_start) in
     let after_low : List Spelled = sign symbol.Range ∷ (bound_spelling v.high ++ after_high) in
     let l = split (bound_spelling v.low) after_low c.spelled in
-    let low = bound_reader.complete v.low c.behind l.0 is.0 l.1 tt in
+    let low = bound_reader.complete v.low c.behind l.0 tt l.1 tt in
     let d = first l.2 in
     let h' = split (bound_spelling v.high) after_high d.spelled in
-    let high = bound_reader.complete v.high d.behind h'.0 is.1 h'.1 tt in
+    let high = bound_reader.complete v.high d.behind h'.0 tt h'.1 tt in
     let f = first h'.2 in
     let s = split (bound_spelling v.start) after_start f.spelled in
-    let start = bound_reader.complete v.start f.behind s.0 is.2 s.1 tt in
+    let start = bound_reader.complete v.start f.behind s.0 tt s.1 tt in
     let g = first s.2 in
     rw (a.after, b.read, c.after, low, d.after, high, f.after, start, g.after, span_end g.spelled) refl
 
@@ -113,7 +106,7 @@ variable_complete v ts rest is h =
 further_reader : IsReader further_name_at (λ n. sign symbol.Comma ∷ name n ∷ []) (λ n. Unit {0}) Always
 unfolding further_name_at read_then
 further_reader = record {
-  sound = λ ts x e. let a = then_some _ _ _ e in (after_spans a.1 (name_spans a.2 nothing), tt);
+  sound = λ ts x e. let a = then_ok _ _ _ e in (after_spans a.1 (name_spans a.2 nothing), tt);
   complete = λ x ts rest is h ends.
       let a = first h in
       let b = first_name x a.spelled in
@@ -131,67 +124,67 @@ further_listed = record {
 abbrev ReadsItem : List Token → AtomicItem × List Token → Type 0
 ReadsItem ts x = Spans (item_spelling x.0) ts x.1 × IsItem x.0
 
-phases_sound : (ts : List Token) (x : AtomicItem × List Token) → phases_at ts ≡ Some x → ReadsItem ts x
+phases_sound : (ts : List Token) (x : AtomicItem × List Token) → phases_at ts ≡ Ok x → ReadsItem ts x
 unfolding phases_at
 phases_sound ts x e =
     let r = many_reader further_name_at _ _ _ further_reader (kind.Symbol symbol.Semicolon) further_listed in
-    let a = then_some _ _ _ e in
-    let b = then_some _ _ _ a.2 in
-    let c = then_some _ _ _ b.2 in
-    let d = then_some _ _ _ c.2 in
+    let a = then_ok _ _ _ e in
+    let b = then_ok _ _ _ a.2 in
+    let c = then_ok _ _ _ b.2 in
+    let d = then_ok _ _ _ c.2 in
     let s = r.sound b.0.1 c.0 c.1 in
-    subst (ReadsItem ts) (some_is _ _ d.2) (after_spans_at a.1 (name_spans b.1 (then_spans s.0 (after_spans d.1 nothing))), omega arith)
+    subst (ReadsItem ts) (ok_is _ _ d.2) (after_spans_at a.1 (name_spans b.1 (then_spans s.0 (after_spans d.1 nothing))), omega arith)
 
-start_sound : (ts : List Token) (x : AtomicItem × List Token) → start_at ts ≡ Some x → ReadsItem ts x
+start_sound : (ts : List Token) (x : AtomicItem × List Token) → start_at ts ≡ Ok x → ReadsItem ts x
 unfolding start_at
 start_sound ts x e =
-    let a = then_some _ _ _ e in
-    let b = then_some _ _ _ a.2 in
-    let c = then_some _ _ _ b.2 in
-    subst (ReadsItem ts) (some_is _ _ c.2) (after_spans_at a.1 (name_spans b.1 (after_spans c.1 nothing)), tt)
+    let a = then_ok _ _ _ e in
+    let b = then_ok _ _ _ a.2 in
+    let c = then_ok _ _ _ b.2 in
+    subst (ReadsItem ts) (ok_is _ _ c.2) (after_spans_at a.1 (name_spans b.1 (after_spans c.1 nothing)), tt)
 
-ticks_sound : (ts : List Token) (x : Option Expression × List Token) → ticks_at ts ≡ Some x → Spans (ticks_spelling x.0) ts x.1 × AreTicks x.0
+ticks_sound : (ts : List Token) (x : Option Expression × List Token) → ticks_at ts ≡ Ok x → Spans (ticks_spelling x.0) ts x.1 × AreTicks x.0
 unfolding ticks_at
 ticks_sound ts x e =
     elim (chosen _ _ _ _ e) [
       | inl p ↦
-          let a = then_some _ _ _ p.1 in
-          subst (λ (y : Option Expression × List Token). Spans (ticks_spelling y.0) ts y.1 × AreTicks y.0) (some_is _ _ a.2) (after_spans a.1 nothing, tt)
+          let a = then_ok _ _ _ p.1 in
+          subst (λ (y : Option Expression × List Token). Spans (ticks_spelling y.0) ts y.1 × AreTicks y.0) (ok_is _ _ a.2) (after_spans a.1 nothing, tt)
       | inr p ↦
-          let a = then_some _ _ _ p.1 in
+          let a = then_ok _ _ _ p.1 in
           let s = expression_reader.sound ts a.0 a.1 in
-          subst (λ (y : Option Expression × List Token). Spans (ticks_spelling y.0) ts y.1 × AreTicks y.0) (some_is _ _ a.2) (s.0, s.1)
+          subst (λ (y : Option Expression × List Token). Spans (ticks_spelling y.0) ts y.1 × AreTicks y.0) (ok_is _ _ a.2) (s.0, s.1)
     ]
 
-hold_sound : (ts : List Token) (x : AtomicItem × List Token) → hold_at ts ≡ Some x → ReadsItem ts x
+hold_sound : (ts : List Token) (x : AtomicItem × List Token) → hold_at ts ≡ Ok x → ReadsItem ts x
 unfolding hold_at
 hold_sound ts x e =
-    let a = then_some _ _ _ e in
-    let b = then_some _ _ _ a.2 in
-    let c = then_some _ _ _ b.2 in
-    let d = then_some _ _ _ c.2 in
-    let f = then_some _ _ _ d.2 in
+    let a = then_ok _ _ _ e in
+    let b = then_ok _ _ _ a.2 in
+    let c = then_ok _ _ _ b.2 in
+    let d = then_ok _ _ _ c.2 in
+    let f = then_ok _ _ _ d.2 in
     let s = ticks_sound c.0 d.0 d.1 in
-    subst (ReadsItem ts) (some_is _ _ f.2) (after_spans_at a.1 (name_spans b.1 (after_spans c.1 (then_spans s.0 (after_spans f.1 nothing)))), s.1)
+    subst (ReadsItem ts) (ok_is _ _ f.2) (after_spans_at a.1 (name_spans b.1 (after_spans c.1 (then_spans s.0 (after_spans f.1 nothing)))), s.1)
 
-rule_sound : (sort : RuleSort) (ts : List Token) (x : AtomicItem × List Token) → rule_at sort ts ≡ Some x → ReadsItem ts x
+rule_sound : (sort : RuleSort) (ts : List Token) (x : AtomicItem × List Token) → rule_at sort ts ≡ Ok x → ReadsItem ts x
 unfolding rule_at
 rule_sound sort ts x e =
-    let a = then_some _ _ _ e in
-    let b = then_some _ _ _ a.2 in
-    let c = then_some _ _ _ b.2 in
+    let a = then_ok _ _ _ e in
+    let b = then_ok _ _ _ a.2 in
+    let c = then_ok _ _ _ b.2 in
     let s = (block_reader 16).sound b.0.1 c.0 c.1 in
-    subst (ReadsItem ts) (some_is _ _ c.2) (after_spans a.1 (name_spans b.1 s.0), s.1)
+    subst (ReadsItem ts) (ok_is _ _ c.2) (after_spans a.1 (name_spans b.1 s.0), s.1)
 
 -- `out port;`
 out_reader : IsReader out_at (λ n. word keyword.Out ∷ name n ∷ semicolon) (λ n. Unit {0}) Always
 unfolding out_at read_then
 out_reader = record {
   sound = λ ts x e.
-      let a = then_some _ _ _ e in
-      let b = then_some _ _ _ a.2 in
-      let c = then_some _ _ _ b.2 in
-      subst (λ (y : Name × List Token). Spans (word keyword.Out ∷ name y.0 ∷ semicolon) ts y.1 × Unit {0}) (some_is _ _ c.2) (after_spans a.1 (name_spans b.1 (after_spans c.1 nothing)), tt);
+      let a = then_ok _ _ _ e in
+      let b = then_ok _ _ _ a.2 in
+      let c = then_ok _ _ _ b.2 in
+      subst (λ (y : Name × List Token). Spans (word keyword.Out ∷ name y.0 ∷ semicolon) ts y.1 × Unit {0}) (ok_is _ _ c.2) (after_spans a.1 (name_spans b.1 (after_spans c.1 nothing)), tt);
   complete = λ x ts rest is h ends.
       let a = first h in
       let b = first_name x a.spelled in
@@ -199,13 +192,13 @@ out_reader = record {
       rw (a.after, b.read, c.after, span_end c.spelled) refl;
 }
 
-item_sound : (ts : List Token) (x : AtomicItem × List Token) → item_at ts ≡ Some x → ReadsItem ts x
+item_sound : (ts : List Token) (x : AtomicItem × List Token) → item_at ts ≡ Ok x → ReadsItem ts x
 unfolding item_at
 item_sound ts x e =
     elim (chosen _ _ _ _ e) [
-      | inl p ↦ let a = then_some _ _ _ p.1 in let s = out_reader.sound ts a.0 a.1 in subst (ReadsItem ts) (some_is _ _ a.2) (s.0, tt)
+      | inl p ↦ let a = then_ok _ _ _ p.1 in let s = out_reader.sound ts a.0 a.1 in subst (ReadsItem ts) (ok_is _ _ a.2) (s.0, tt)
       | inr p ↦ elim (chosen _ _ _ _ p.1) [
-        | inl q ↦ let a = then_some _ _ _ q.1 in let s = variable_sound ts a.0 a.1 in subst (ReadsItem ts) (some_is _ _ a.2) s
+        | inl q ↦ let a = then_ok _ _ _ q.1 in let s = variable_sound ts a.0 a.1 in subst (ReadsItem ts) (ok_is _ _ a.2) (s, tt)
         | inr q ↦ elim (chosen _ _ _ _ q.1) [
           | inl w ↦ phases_sound ts x w.1
           | inr w ↦ elim (chosen _ _ _ _ w.1) [
@@ -222,7 +215,7 @@ item_sound ts x e =
       ]
     ]
 
-rule_complete : (sort : RuleSort) (p : Name) (body : Statements) (ts rest : List Token) → IsBlock 16 body → Spans (item_spelling (Rule sort p body)) ts rest → rule_at sort ts ≡ Some (Rule sort p body, rest)
+rule_complete : (sort : RuleSort) (p : Name) (body : Statements) (ts rest : List Token) → IsBlock 16 body → Spans (rule_spelling (record { sort = sort; phase = p; body = body })) ts rest → rule_at sort ts ≡ Ok (Rules (record { sort = sort; phase = p; body = body }), rest)
 unfolding rule_at read_then
 rule_complete sort p body ts rest is h =
     let a = first h in
@@ -234,8 +227,8 @@ rule_complete sort p body ts rest is h =
 expression_no_word : (e : Expression) (ts rest : List Token) → Spans (expression_spelling e) ts rest → begins (kind.Keyword keyword.Forever) ts ≡ false
 expression_no_word (Literal n) ts rest h = (first h).begins _
 expression_no_word (Named n) ts rest h = (first h).begins _
-expression_no_word (Parens line e) ts rest h = (first h).begins _
-expression_no_word (Negative line e) ts rest h = (first h).begins _
+expression_no_word (Parens place e) ts rest h = (first h).begins _
+expression_no_word (Negative place e) ts rest h = (first h).begins _
 expression_no_word (Binary o a b) ts rest h = expression_no_word a ts _ (split (expression_spelling a) (sign (operator_symbol o) ∷ expression_spelling b) h).1
 
 all_names : (ns : List Name) → AllByRecursion (λ n. Unit {0}) ns
@@ -243,7 +236,7 @@ all_names [] = tt
 all_names (n ∷ ns) = (tt, all_names ns)
 
 ticks_complete : (ticks : Option Expression) (ts rest : List Token) → AreTicks ticks → Spans (ticks_spelling ticks ++ semicolon) ts rest
-    → (mid : List Token) × (ticks_at ts ≡ Some (ticks, mid)) × Spans semicolon mid rest
+    → (mid : List Token) × (ticks_at ts ≡ Ok (ticks, mid)) × Spans semicolon mid rest
 unfolding ticks_at choose read_then operator_of
 ticks_complete None ts rest is h =
     let a = first h in
@@ -253,61 +246,72 @@ ticks_complete (Some e) ts rest is h =
     let v = expression_reader.complete e ts s.0 is s.1 (IsClosed-front (kind.Symbol symbol.Semicolon) [] s.0 rest refl s.2.spells) in
     (s.0, rw (expression_no_word e ts s.0 s.1, v) refl, s.2)
 
-item_complete : (x : AtomicItem) (ts rest : List Token) → IsItem x → Spans (item_spelling x) ts rest → item_at ts ≡ Some (x, rest)
-unfolding item_at phases_at start_at hold_at choose read_then
-item_complete (OutPort n) ts rest is h =
+rule_item_complete : (sort : RuleSort) (p : Name) (body : Statements) (ts rest : List Token) → IsBlock 16 body → Spans (rule_spelling (record { sort = sort; phase = p; body = body })) ts rest → item_at ts ≡ Ok (Rules (record { sort = sort; phase = p; body = body }), rest)
+unfolding item_at choose
+rule_item_complete sort.Output p body ts rest is h =
     let a = first h in
-    let o = out_reader.complete n ts rest tt h tt in
-    rw (a.begins (kind.Keyword keyword.Out), o) refl
-item_complete (Var v) ts rest is h =
+    let r = rule_complete sort.Output p body ts rest is h in
+    rw (a.begins (kind.Keyword keyword.Out), a.begins (kind.Keyword keyword.Var), a.begins (kind.Keyword keyword.Phases), a.begins (kind.Keyword keyword.Start), a.begins (kind.Keyword keyword.Hold), a.begins (kind.Keyword keyword.Output), r) refl
+rule_item_complete sort.Internal p body ts rest is h =
     let a = first h in
-    let o = variable_complete v ts rest is h in
-    rw (a.begins (kind.Keyword keyword.Out), a.begins (kind.Keyword keyword.Var), o) refl
-item_complete (Phases line []) ts rest is h = absurd (omega (arith, is))
-item_complete (Phases line (n ∷ ns)) ts rest is h =
+    let r = rule_complete sort.Internal p body ts rest is h in
+    rw (a.begins (kind.Keyword keyword.Out), a.begins (kind.Keyword keyword.Var), a.begins (kind.Keyword keyword.Phases), a.begins (kind.Keyword keyword.Start), a.begins (kind.Keyword keyword.Hold), a.begins (kind.Keyword keyword.Output), r) refl
+
+phases_complete : (place : ℕ) (names : List Name) (ts rest : List Token) → 0 < length names → Spans (phases_spelling (record { place = place; names = names })) ts rest → phases_at ts ≡ Ok (Lists (record { place = place; names = names }), rest)
+unfolding phases_at read_then
+phases_complete place [] ts rest is h = absurd (omega (arith, is))
+phases_complete place (n ∷ ns) ts rest is h =
     let r = many_reader further_name_at _ _ _ further_reader (kind.Symbol symbol.Semicolon) further_listed in
     let a = first h in
     let b = first_name n a.spelled in
     let s = split (flat_map (λ n. sign symbol.Comma ∷ name n ∷ []) ns) semicolon b.spelled in
     let c = first s.2 in
     let m = r.complete ns b.behind s.0 (all_names ns) s.1 (c.begins (kind.Symbol symbol.Semicolon)) in
-    rw (a.begins (kind.Keyword keyword.Out), a.begins (kind.Keyword keyword.Var), a.begins (kind.Keyword keyword.Phases), a.after, b.read, m, c.after, a.line, span_end c.spelled) refl
-item_complete (Start line p) ts rest is h =
+    rw (a.after, b.read, m, c.after, a.place, span_end c.spelled) refl
+
+item_complete : (x : AtomicItem) (ts rest : List Token) → IsItem x → Spans (item_spelling x) ts rest → item_at ts ≡ Ok (x, rest)
+unfolding item_at start_at hold_at choose read_then
+item_complete (Declares (declaration.Out n)) ts rest is h =
     let a = first h in
-    let b = first_name p a.spelled in
+    let o = out_reader.complete n ts rest tt h tt in
+    rw (a.begins (kind.Keyword keyword.Out), o) refl
+item_complete (Declares (declaration.Var v)) ts rest is h =
+    let a = first h in
+    let o = variable_complete v ts rest h in
+    rw (a.begins (kind.Keyword keyword.Out), a.begins (kind.Keyword keyword.Var), o) refl
+item_complete (Lists p) ts rest is h =
+    let a = first h in
+    let o = phases_complete p.place p.names ts rest is h in
+    rw (a.begins (kind.Keyword keyword.Out), a.begins (kind.Keyword keyword.Var), a.begins (kind.Keyword keyword.Phases), o) refl
+item_complete (Starts s) ts rest is h =
+    let a = first h in
+    let b = first_name s.phase a.spelled in
     let c = first b.spelled in
-    rw (a.begins (kind.Keyword keyword.Out), a.begins (kind.Keyword keyword.Var), a.begins (kind.Keyword keyword.Phases), a.begins (kind.Keyword keyword.Start), a.after, b.read, c.after, a.line, span_end c.spelled) refl
-item_complete (Hold line p ticks) ts rest is h =
+    rw (a.begins (kind.Keyword keyword.Out), a.begins (kind.Keyword keyword.Var), a.begins (kind.Keyword keyword.Phases), a.begins (kind.Keyword keyword.Start), a.after, b.read, c.after, a.place, span_end c.spelled) refl
+item_complete (Holds d) ts rest is h =
     let a = first h in
-    let b = first_name p a.spelled in
+    let b = first_name d.phase a.spelled in
     let c = first b.spelled in
-    let t = ticks_complete ticks c.behind rest is c.spelled in
-    let d = first t.2 in
-    rw (a.begins (kind.Keyword keyword.Out), a.begins (kind.Keyword keyword.Var), a.begins (kind.Keyword keyword.Phases), a.begins (kind.Keyword keyword.Start), a.begins (kind.Keyword keyword.Hold), a.after, b.read, c.after, t.1, d.after, a.line, span_end d.spelled) refl
-item_complete (Rule sort.Output p body) ts rest is h =
-    let a = first h in
-    let r = rule_complete sort.Output p body ts rest is h in
-    rw (a.begins (kind.Keyword keyword.Out), a.begins (kind.Keyword keyword.Var), a.begins (kind.Keyword keyword.Phases), a.begins (kind.Keyword keyword.Start), a.begins (kind.Keyword keyword.Hold), a.begins (kind.Keyword keyword.Output), r) refl
-item_complete (Rule sort.Internal p body) ts rest is h =
-    let a = first h in
-    let r = rule_complete sort.Internal p body ts rest is h in
-    rw (a.begins (kind.Keyword keyword.Out), a.begins (kind.Keyword keyword.Var), a.begins (kind.Keyword keyword.Phases), a.begins (kind.Keyword keyword.Start), a.begins (kind.Keyword keyword.Hold), a.begins (kind.Keyword keyword.Output), r) refl
+    let t = ticks_complete d.ticks c.behind rest is c.spelled in
+    let e = first t.2 in
+    rw (a.begins (kind.Keyword keyword.Out), a.begins (kind.Keyword keyword.Var), a.begins (kind.Keyword keyword.Phases), a.begins (kind.Keyword keyword.Start), a.begins (kind.Keyword keyword.Hold), a.after, b.read, c.after, t.1, e.after, a.place, span_end e.spelled) refl
+item_complete (Rules r) ts rest is h = rule_item_complete r.sort r.phase r.body ts rest is h
 
 item_opens : (k : Symbol) (x : AtomicItem) (ts rest : List Token) → Spans (item_spelling x) ts rest → begins (kind.Symbol k) ts ≡ false
-item_opens k (OutPort n) ts rest h = (first h).begins _
-item_opens k (Var v) ts rest h = (first h).begins _
-item_opens k (Phases line ns) ts rest h = (first h).begins _
-item_opens k (Start line p) ts rest h = (first h).begins _
-item_opens k (Hold line p ticks) ts rest h = (first h).begins _
-item_opens k (Rule sort p body) ts rest h = (first h).begins _
+item_opens k (Declares (declaration.Out n)) ts rest h = (first h).begins _
+item_opens k (Declares (declaration.Var v)) ts rest h = (first h).begins _
+item_opens k (Lists p) ts rest h = (first h).begins _
+item_opens k (Starts s) ts rest h = (first h).begins _
+item_opens k (Holds d) ts rest h = (first h).begins _
+item_opens k (Rules r) ts rest h = (first h).begins _
 
 item_some : (x : AtomicItem) → 0 < length (item_spelling x)
-item_some (OutPort n) = omega arith
-item_some (Var v) = omega arith
-item_some (Phases line ns) = omega arith
-item_some (Start line p) = omega arith
-item_some (Hold line p ticks) = omega arith
-item_some (Rule sort p body) = omega arith
+item_some (Declares (declaration.Out n)) = omega arith
+item_some (Declares (declaration.Var v)) = omega arith
+item_some (Lists p) = omega arith
+item_some (Starts s) = omega arith
+item_some (Holds d) = omega arith
+item_some (Rules r) = omega arith
 
 item_reader : IsReader item_at item_spelling IsItem Always
 item_reader = record { sound = item_sound; complete = λ x ts rest is h ends. item_complete x ts rest is h }
@@ -323,48 +327,45 @@ further_name_shortens = shortens further_name_at _ _ Always (kind.Symbol symbol.
 
 -- ---- Atomic models
 
-atomic_spelling : AtomicTree → List Spelled
-atomic_spelling m = model_spelling (AtomicModel m)
-
 items_reader : IsReader (braces_at item_at) (λ items. braces (flat_map item_spelling items)) (AllByRecursion IsItem) Always
 items_reader = braces_reader item_at item_spelling IsItem Always item_reader item_listed
 
-atomic_sound : (ts : List Token) (x : AtomicTree × List Token) → atomic_at ts ≡ Some x → Spans (model_spelling (AtomicModel x.0)) ts x.1 × AllByRecursion IsItem x.0.items
+atomic_sound : (ts : List Token) (x : (Name × List AtomicItem) × List Token) → atomic_at ts ≡ Ok x → Spans (model_spelling (WrittenAtomic x.0.0 x.0.1)) ts x.1 × AllByRecursion IsItem x.0.1
 unfolding atomic_at
 atomic_sound ts x e =
-    let a = then_some _ _ _ e in
-    let b = then_some _ _ _ a.2 in
-    let c = then_some _ _ _ b.2 in
+    let a = then_ok _ _ _ e in
+    let b = then_ok _ _ _ a.2 in
+    let c = then_ok _ _ _ b.2 in
     let s = items_reader.sound b.0.1 c.0 c.1 in
-    subst (λ (y : AtomicTree × List Token). Spans (model_spelling (AtomicModel y.0)) ts y.1 × AllByRecursion IsItem y.0.items) (some_is _ _ c.2) (after_spans a.1 (name_spans b.1 s.0), s.1)
+    subst (λ (y : (Name × List AtomicItem) × List Token). Spans (model_spelling (WrittenAtomic y.0.0 y.0.1)) ts y.1 × AllByRecursion IsItem y.0.1) (ok_is _ _ c.2) (after_spans a.1 (name_spans b.1 s.0), s.1)
 
-atomic_complete : (m : AtomicTree) (ts rest : List Token) → AllByRecursion IsItem m.items → Spans (model_spelling (AtomicModel m)) ts rest → atomic_at ts ≡ Some (m, rest)
+atomic_complete : (n : Name) (items : List AtomicItem) (ts rest : List Token) → AllByRecursion IsItem items → Spans (model_spelling (WrittenAtomic n items)) ts rest → atomic_at ts ≡ Ok ((n, items), rest)
 unfolding atomic_at read_then
-atomic_complete m ts rest is h =
+atomic_complete n items ts rest is h =
     let a = first h in
-    let b = first_name m.name a.spelled in
-    let c = items_reader.complete m.items b.behind rest is b.spelled tt in
+    let b = first_name n a.spelled in
+    let c = items_reader.complete items b.behind rest is b.spelled tt in
     rw (a.after, b.read, c) refl
 
 -- ---- Coupled models
 
-end_sound : (ts : List Token) (x : End × List Token) → end_at ts ≡ Some x → Spans (end_spelling x.0) ts x.1
+end_sound : (ts : List Token) (x : End × List Token) → end_at ts ≡ Ok x → Spans (end_spelling x.0) ts x.1
 unfolding end_at
 end_sound ts x e =
     elim (chosen _ _ _ _ e) [
       | inl p ↦
-          let a = then_some _ _ _ p.1 in
-          let b = then_some _ _ _ a.2 in
-          let c = then_some _ _ _ b.2 in
-          subst (λ (y : End × List Token). Spans (end_spelling y.0) ts y.1) (some_is _ _ c.2) (after_spans a.1 (after_spans b.1 (name_spans c.1 nothing)))
+          let a = then_ok _ _ _ p.1 in
+          let b = then_ok _ _ _ a.2 in
+          let c = then_ok _ _ _ b.2 in
+          subst (λ (y : End × List Token). Spans (end_spelling y.0) ts y.1) (ok_is _ _ c.2) (after_spans a.1 (after_spans b.1 (name_spans c.1 nothing)))
       | inr p ↦
-          let a = then_some _ _ _ p.1 in
-          let b = then_some _ _ _ a.2 in
-          let c = then_some _ _ _ b.2 in
-          subst (λ (y : End × List Token). Spans (end_spelling y.0) ts y.1) (some_is _ _ c.2) (name_spans a.1 (after_spans b.1 (name_spans c.1 nothing)))
+          let a = then_ok _ _ _ p.1 in
+          let b = then_ok _ _ _ a.2 in
+          let c = then_ok _ _ _ b.2 in
+          subst (λ (y : End × List Token). Spans (end_spelling y.0) ts y.1) (ok_is _ _ c.2) (name_spans a.1 (after_spans b.1 (name_spans c.1 nothing)))
     ]
 
-end_complete : (part : Option Name) (port : Name) (ts rest : List Token) → Spans (part_spelling part ∷ sign symbol.Dot ∷ name port ∷ []) ts rest → end_at ts ≡ Some (record { part = part; port = port }, rest)
+end_complete : (part : Option Name) (port : Name) (ts rest : List Token) → Spans (part_name_spelling part ∷ sign symbol.Dot ∷ name port ∷ []) ts rest → end_at ts ≡ Ok (record { part = part; port = port }, rest)
 unfolding end_at choose read_then
 end_complete None port ts rest h =
     let a = first h in
@@ -381,52 +382,52 @@ end_complete (Some part) port ts rest h =
 abbrev ReadsCoupled : List Token → CoupledItem × List Token → Type 0
 ReadsCoupled ts x = Spans (coupled_item_spelling x.0) ts x.1 × Unit {0}
 
-part_sound : (ts : List Token) (x : Part × List Token) → part_at ts ≡ Some x → ReadsCoupled ts (coupled_item.Part x.0, x.1)
+part_sound : (ts : List Token) (x : Part × List Token) → part_at ts ≡ Ok x → ReadsCoupled ts (Contains x.0, x.1)
 unfolding part_at
 part_sound ts x e =
-    let a = then_some _ _ _ e in
-    let b = then_some _ _ _ a.2 in
-    let c = then_some _ _ _ b.2 in
-    let d = then_some _ _ _ c.2 in
-    let f = then_some _ _ _ d.2 in
-    subst (λ (y : Part × List Token). ReadsCoupled ts (coupled_item.Part y.0, y.1)) (some_is _ _ f.2) (after_spans a.1 (name_spans b.1 (after_spans c.1 (name_spans d.1 (after_spans f.1 nothing)))), tt)
+    let a = then_ok _ _ _ e in
+    let b = then_ok _ _ _ a.2 in
+    let c = then_ok _ _ _ b.2 in
+    let d = then_ok _ _ _ c.2 in
+    let f = then_ok _ _ _ d.2 in
+    subst (λ (y : Part × List Token). ReadsCoupled ts (Contains y.0, y.1)) (ok_is _ _ f.2) (after_spans a.1 (name_spans b.1 (after_spans c.1 (name_spans d.1 (after_spans f.1 nothing)))), tt)
 
-link_sound : (ts : List Token) (x : Link × List Token) → link_at ts ≡ Some x → ReadsCoupled ts (coupled_item.Link x.0, x.1)
+link_sound : (ts : List Token) (x : Link × List Token) → link_at ts ≡ Ok x → ReadsCoupled ts (Couples x.0, x.1)
 unfolding link_at
 link_sound ts x e =
-    let a = then_some _ _ _ e in
-    let b = then_some _ _ _ a.2 in
-    let c = then_some _ _ _ b.2 in
-    let d = then_some _ _ _ c.2 in
-    let f = then_some _ _ _ d.2 in
-    subst (λ (y : Link × List Token). ReadsCoupled ts (coupled_item.Link y.0, y.1)) (some_is _ _ f.2)
+    let a = then_ok _ _ _ e in
+    let b = then_ok _ _ _ a.2 in
+    let c = then_ok _ _ _ b.2 in
+    let d = then_ok _ _ _ c.2 in
+    let f = then_ok _ _ _ d.2 in
+    subst (λ (y : Link × List Token). ReadsCoupled ts (Couples y.0, y.1)) (ok_is _ _ f.2)
     (after_spans_at a.1 (then_spans (end_sound a.0 b.0 b.1) (after_spans c.1 (then_spans (end_sound c.0 d.0 d.1) (after_spans f.1 nothing)))), tt)
 
-coupled_item_sound : (ts : List Token) (x : CoupledItem × List Token) → coupled_item_at ts ≡ Some x → ReadsCoupled ts x
+coupled_item_sound : (ts : List Token) (x : CoupledItem × List Token) → coupled_item_at ts ≡ Ok x → ReadsCoupled ts x
 unfolding coupled_item_at
 coupled_item_sound ts x e =
     elim (chosen _ _ _ _ e) [
-      | inl p ↦ let a = then_some _ _ _ p.1 in let s = out_reader.sound ts a.0 a.1 in subst (ReadsCoupled ts) (some_is _ _ a.2) (s.0, tt)
+      | inl p ↦ let a = then_ok _ _ _ p.1 in let s = out_reader.sound ts a.0 a.1 in subst (ReadsCoupled ts) (ok_is _ _ a.2) (s.0, tt)
       | inr p ↦ elim (chosen _ _ _ _ p.1) [
-        | inl q ↦ let a = then_some _ _ _ q.1 in subst (ReadsCoupled ts) (some_is _ _ a.2) (part_sound ts a.0 a.1)
-        | inr q ↦ let a = then_some _ _ _ q.1 in subst (ReadsCoupled ts) (some_is _ _ a.2) (link_sound ts a.0 a.1)
+        | inl q ↦ let a = then_ok _ _ _ q.1 in subst (ReadsCoupled ts) (ok_is _ _ a.2) (part_sound ts a.0 a.1)
+        | inr q ↦ let a = then_ok _ _ _ q.1 in subst (ReadsCoupled ts) (ok_is _ _ a.2) (link_sound ts a.0 a.1)
       ]
     ]
 
-coupled_item_complete : (x : CoupledItem) (ts rest : List Token) → Spans (coupled_item_spelling x) ts rest → coupled_item_at ts ≡ Some (x, rest)
+coupled_item_complete : (x : CoupledItem) (ts rest : List Token) → Spans (coupled_item_spelling x) ts rest → coupled_item_at ts ≡ Ok (x, rest)
 unfolding coupled_item_at part_at link_at choose read_then
-coupled_item_complete (coupled_item.Out n) ts rest h =
+coupled_item_complete (Outputs n) ts rest h =
     let a = first h in
     let o = out_reader.complete n ts rest tt h tt in
     rw (a.begins (kind.Keyword keyword.Out), o) refl
-coupled_item_complete (coupled_item.Part p) ts rest h =
+coupled_item_complete (Contains p) ts rest h =
     let a = first h in
     let b = first_name p.name a.spelled in
     let c = first b.spelled in
     let d = first_name p.model c.spelled in
     let f = first d.spelled in
     rw (a.begins (kind.Keyword keyword.Out), a.begins (kind.Keyword keyword.Part), a.after, b.read, c.after, d.read, f.after, span_end f.spelled) refl
-coupled_item_complete (coupled_item.Link l) ts rest h =
+coupled_item_complete (Couples l) ts rest h =
     let a = first h in
     let s = split (end_spelling l.from) (sign symbol.Arrow ∷ (end_spelling l.to ++ semicolon)) a.spelled in
     let source = end_complete l.from.part l.from.port a.behind s.0 s.1 in
@@ -434,17 +435,17 @@ coupled_item_complete (coupled_item.Link l) ts rest h =
     let t = split (end_spelling l.to) semicolon b.spelled in
     let target = end_complete l.to.part l.to.port b.behind t.0 t.1 in
     let c = first t.2 in
-    rw (a.begins (kind.Keyword keyword.Out), a.begins (kind.Keyword keyword.Part), a.after, source, b.after, target, c.after, a.line, span_end c.spelled) refl
+    rw (a.begins (kind.Keyword keyword.Out), a.begins (kind.Keyword keyword.Part), a.after, source, b.after, target, c.after, a.place, span_end c.spelled) refl
 
 coupled_item_opens : (x : CoupledItem) (ts rest : List Token) → Spans (coupled_item_spelling x) ts rest → begins (kind.Symbol symbol.CloseBrace) ts ≡ false
-coupled_item_opens (coupled_item.Out n) ts rest h = (first h).begins _
-coupled_item_opens (coupled_item.Part p) ts rest h = (first h).begins _
-coupled_item_opens (coupled_item.Link l) ts rest h = (first h).begins _
+coupled_item_opens (Outputs n) ts rest h = (first h).begins _
+coupled_item_opens (Contains p) ts rest h = (first h).begins _
+coupled_item_opens (Couples l) ts rest h = (first h).begins _
 
 coupled_item_some : (x : CoupledItem) → 0 < length (coupled_item_spelling x)
-coupled_item_some (coupled_item.Out n) = omega arith
-coupled_item_some (coupled_item.Part p) = omega arith
-coupled_item_some (coupled_item.Link l) = omega arith
+coupled_item_some (Outputs n) = omega arith
+coupled_item_some (Contains p) = omega arith
+coupled_item_some (Couples l) = omega arith
 
 coupled_item_reader : IsReader coupled_item_at coupled_item_spelling (λ x. Unit {0}) Always
 coupled_item_reader = record { sound = coupled_item_sound; complete = λ x ts rest is h ends. coupled_item_complete x ts rest h }
@@ -462,49 +463,49 @@ all_coupled : (items : List CoupledItem) → AllByRecursion (λ x. Unit {0}) ite
 all_coupled [] = tt
 all_coupled (x ∷ items) = (tt, all_coupled items)
 
-coupled_sound : (ts : List Token) (x : CoupledTree × List Token) → coupled_at ts ≡ Some x → Spans (model_spelling (CoupledModel x.0)) ts x.1
+coupled_sound : (ts : List Token) (x : (Name × List CoupledItem) × List Token) → coupled_at ts ≡ Ok x → Spans (model_spelling (WrittenCoupled x.0.0 x.0.1)) ts x.1
 unfolding coupled_at
 coupled_sound ts x e =
-    let a = then_some _ _ _ e in
-    let b = then_some _ _ _ a.2 in
-    let c = then_some _ _ _ b.2 in
+    let a = then_ok _ _ _ e in
+    let b = then_ok _ _ _ a.2 in
+    let c = then_ok _ _ _ b.2 in
     let s = coupled_items_reader.sound b.0.1 c.0 c.1 in
-    subst (λ (y : CoupledTree × List Token). Spans (model_spelling (CoupledModel y.0)) ts y.1) (some_is _ _ c.2) (after_spans a.1 (name_spans b.1 s.0))
+    subst (λ (y : (Name × List CoupledItem) × List Token). Spans (model_spelling (WrittenCoupled y.0.0 y.0.1)) ts y.1) (ok_is _ _ c.2) (after_spans a.1 (name_spans b.1 s.0))
 
-coupled_complete : (m : CoupledTree) (ts rest : List Token) → Spans (model_spelling (CoupledModel m)) ts rest → coupled_at ts ≡ Some (m, rest)
+coupled_complete : (n : Name) (items : List CoupledItem) (ts rest : List Token) → Spans (model_spelling (WrittenCoupled n items)) ts rest → coupled_at ts ≡ Ok ((n, items), rest)
 unfolding coupled_at read_then
-coupled_complete m ts rest h =
+coupled_complete n items ts rest h =
     let a = first h in
-    let b = first_name m.name a.spelled in
-    let c = coupled_items_reader.complete m.items b.behind rest (all_coupled m.items) b.spelled tt in
+    let b = first_name n a.spelled in
+    let c = coupled_items_reader.complete items b.behind rest (all_coupled items) b.spelled tt in
     rw (a.after, b.read, c) refl
 
 -- ---- Files
 
-model_sound : (ts : List Token) (x : ModelTree × List Token) → model_at ts ≡ Some x → Spans (model_spelling x.0) ts x.1 × IsModel x.0
+model_sound : (ts : List Token) (x : WrittenModel × List Token) → model_at ts ≡ Ok x → Spans (model_spelling x.0) ts x.1 × IsModel x.0
 unfolding model_at
 model_sound ts x e =
     elim (chosen _ _ _ _ e) [
       | inl p ↦
-          let a = then_some _ _ _ p.1 in
-          subst (λ (y : ModelTree × List Token). Spans (model_spelling y.0) ts y.1 × IsModel y.0) (some_is _ _ a.2) (coupled_sound ts a.0 a.1, tt)
+          let a = then_ok _ _ _ p.1 in
+          subst (λ (y : WrittenModel × List Token). Spans (model_spelling y.0) ts y.1 × IsModel y.0) (ok_is _ _ a.2) (coupled_sound ts a.0 a.1, tt)
       | inr p ↦
-          let a = then_some _ _ _ p.1 in
-          subst (λ (y : ModelTree × List Token). Spans (model_spelling y.0) ts y.1 × IsModel y.0) (some_is _ _ a.2) (atomic_sound ts a.0 a.1)
+          let a = then_ok _ _ _ p.1 in
+          subst (λ (y : WrittenModel × List Token). Spans (model_spelling y.0) ts y.1 × IsModel y.0) (ok_is _ _ a.2) (atomic_sound ts a.0 a.1)
     ]
 
-model_complete : (x : ModelTree) (ts rest : List Token) → IsModel x → Spans (model_spelling x) ts rest → model_at ts ≡ Some (x, rest)
+model_complete : (x : WrittenModel) (ts rest : List Token) → IsModel x → Spans (model_spelling x) ts rest → model_at ts ≡ Ok (x, rest)
 unfolding model_at choose read_then
-model_complete (AtomicModel m) ts rest is h = rw ((first h).begins (kind.Keyword keyword.Coupled), atomic_complete m ts rest is h) refl
-model_complete (CoupledModel m) ts rest is h = rw ((first h).begins (kind.Keyword keyword.Coupled), coupled_complete m ts rest h) refl
+model_complete (WrittenAtomic n items) ts rest is h = rw ((first h).begins (kind.Keyword keyword.Coupled), atomic_complete n items ts rest is h) refl
+model_complete (WrittenCoupled n items) ts rest is h = rw ((first h).begins (kind.Keyword keyword.Coupled), coupled_complete n items ts rest h) refl
 
-model_opens : (x : ModelTree) (ts rest : List Token) → Spans (model_spelling x) ts rest → begins (kind.Keyword keyword.Root) ts ≡ false
-model_opens (AtomicModel m) ts rest h = (first h).begins _
-model_opens (CoupledModel m) ts rest h = (first h).begins _
+model_opens : (x : WrittenModel) (ts rest : List Token) → Spans (model_spelling x) ts rest → begins (kind.Keyword keyword.Root) ts ≡ false
+model_opens (WrittenAtomic n items) ts rest h = (first h).begins _
+model_opens (WrittenCoupled n items) ts rest h = (first h).begins _
 
-model_some : (x : ModelTree) → 0 < length (model_spelling x)
-model_some (AtomicModel m) = omega arith
-model_some (CoupledModel m) = omega arith
+model_some : (x : WrittenModel) → 0 < length (model_spelling x)
+model_some (WrittenAtomic n items) = omega arith
+model_some (WrittenCoupled n items) = omega arith
 
 model_reader : IsReader model_at model_spelling IsModel Always
 model_reader = record { sound = model_sound; complete = λ x ts rest is h ends. model_complete x ts rest is h }
@@ -522,23 +523,23 @@ end_of : (ts : List Token) → is_end ts ≡ true → ts ≡ []
 end_of [] e = refl
 end_of (t ∷ ts) e = absurd cc
 
-pub file_sound : (ts : List Token) (f : FileTree) → file_at ts ≡ Some f → IsFileOf ts f
+pub file_sound : (ts : List Token) (f : WrittenFile) → file_at ts ≡ Ok f → IsWritten ts f
 unfolding file_at
 file_sound ts f e =
-    let a = then_some _ _ _ e in
-    let b = then_some _ _ _ a.2 in
-    let c = then_some _ _ _ b.2 in
-    let d = then_some _ _ _ c.2 in
+    let a = then_ok _ _ _ e in
+    let b = then_ok _ _ _ a.2 in
+    let c = then_ok _ _ _ b.2 in
+    let d = then_ok _ _ _ c.2 in
     elim (chosen _ _ _ _ d.2) [
       | inl p ↦
           let s = models_reader.sound ts a.0 a.1 in
           let last : Spans [] d.0 [] = record { spells = end_of d.0 p.0 } in
           let h = then_spans s.0 (after_spans b.1 (name_spans c.1 (after_spans d.1 last))) in
-          subst (IsFileOf ts) (some_is _ _ p.1) (record { spelled = h.spells; models = s.1 })
-      | inr p ↦ absurd (none_some _ p.1)
+          subst (IsWritten ts) (ok_is _ _ p.1) (record { spelled = h.spells; models = s.1 })
+      | inr p ↦ absurd (err_ok _ _ p.1)
     ]
 
-pub file_complete : (ts : List Token) (f : FileTree) → IsFileOf ts f → file_at ts ≡ Some f
+pub file_complete : (ts : List Token) (f : WrittenFile) → IsWritten ts f → file_at ts ≡ Ok f
 unfolding file_at choose read_then
 file_complete ts f is =
     let h : Spans (file_spelling f) ts [] = record { spells = is.spelled } in
@@ -550,10 +551,9 @@ file_complete ts f is =
     rw (m, a.after, b.read, c.after, span_end c.spelled) refl
 
 pub file_unique : (ts : List Token) (f g : FileTree) → IsFileOf ts f → IsFileOf ts g → f ≡ g
-file_unique ts f g p q = some_is f g (sym (file_complete ts f p) ∙ file_complete ts g q)
+file_unique ts f g p q =
+    let same : p.written ≡ q.written = ok_is _ _ (sym (file_complete ts p.written p.read) ∙ file_complete ts q.written q.read) in
+    p.tree ∙ ap sorted same ∙ sym q.tree
 
-pub file_refused : (ts : List Token) → file_at ts ≡ None → (f : FileTree) → IsFileOf ts f → ⊥
-file_refused ts e f is = none_some f (sym e ∙ file_complete ts f is)
-
-pub refused_at : (e : LoadError) (number : Refusal) (line : ℕ) (ts : List Token) → e ≡ error.Refused (record { number = number; line = line }) → (number ≡ refusal.E4) ⊎ (number ≡ refusal.E5) → file_at ts ≡ None → IsRefused e ts
-refused_at e number line ts is which none = rw is (which, file_refused ts none)
+pub file_refused : (ts : List Token) (o : Obstacle) → file_at ts ≡ Err o → (f : FileTree) → IsFileOf ts f → ⊥
+file_refused ts o e f is = err_ok o is.written (sym e ∙ file_complete ts is.written is.read)

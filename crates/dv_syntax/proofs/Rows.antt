@@ -12,10 +12,10 @@ row_items n (more_of-Stmt s rest) = ap (statement_before s) (row_items _ rest)
 -- the statements of a list, as single ones
 one_before : (s : Stmt) (rest : Statements) → single_before (single_of s) rest ≡ statement_before s rest
 one_before (stmt.Assign n e) rest = refl
-one_before (stmt.Goto line p) rest = refl
-one_before (stmt.Send line p e) rest = refl
-one_before (stmt.If' line e shape block) rest = refl
-one_before (stmt.IfElse' line e shape block other_shape other) rest = refl
+one_before (stmt.Goto place p) rest = refl
+one_before (stmt.Send place p e) rest = refl
+one_before (stmt.If' place e shape block) rest = refl
+one_before (stmt.IfElse' place e shape block other_shape other) rest = refl
 
 pub joined_items : (items : List Stmt) → joined (map single_of items) ≡ statements_of items
 joined_items [] = refl

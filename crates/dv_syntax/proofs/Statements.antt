@@ -1,5 +1,5 @@
 -- What is read as statements and blocks is spelled so, and what is spelled so is read.
-use Rattle.std.proofs.Common.{◌≡◌, ℕ, zero, suc, ◌-◌, ◌<◌, ◌≤◌, true, false, List, [], ◌∷◌, ◌++◌, length, Option, Some, None, refl, ap, subst, ◌∙◌, append_assoc, inl, inr, arith}
+use Rattle.std.proofs.Common.{◌≡◌, ℕ, zero, suc, ◌-◌, ◌<◌, ◌≤◌, true, false, List, [], ◌∷◌, ◌++◌, length, Ok, Err, refl, ap, subst, ◌∙◌, append_assoc, inl, inr, arith}
 use Rattle.std.specs.List.{flat_map, AllByRecursion}
 use Rattle.std.proofs.lemmas.List.{append-nil}
 use Rattle.dv_lex.specs.declared.token.Token.{Token}
@@ -11,10 +11,10 @@ use Rattle.dv_syntax.specs.Trees.{Expression, Statements, Done, Assign, Goto, Se
 use Rattle.dv_syntax.specs.Grammar.{Spelled, name, sign, word, word_at, braces, IsExpression, expression_spelling, statements_spelling, block_depth, AreStatements}
 use Rattle.dv_syntax.specs.declared.parser.fault.Fault.{Fault}
 use Rattle.dv_syntax.specs.declared.parser.fault.Fault.TheVariants as fault
-use Rattle.dv_syntax.specs.Reading.{Fails, read_then, choose, same_kind, begins, after, operator_of, expression_at, braces_at, Single, SingleAssign, SingleGoto, SingleSend, SingleIf, SingleIfElse, single_before, joined, assign_at, goto_at, send_at, else_at, if_at, statement_at, block_at}
-use Rattle.dv_syntax.proofs.Tokens.{then_some, chosen, some_is, none_some, same_kind-true}
+use Rattle.dv_syntax.specs.Reading.{Obstacle, TooDeep, Read, Fails, read_then, place_at, within, choose, same_kind, begins, after, operator_of, expression_at, braces_at, Single, SingleAssign, SingleGoto, SingleSend, SingleIf, SingleIfElse, single_before, joined, assign_at, goto_at, send_at, else_at, if_at, statement_at, block_at}
+use Rattle.dv_syntax.proofs.Tokens.{then_ok, chosen, ok_is, err_ok, same_kind-true}
 use Rattle.dv_syntax.proofs.Readers.{Spans, nothing, after_spans, after_spans_at, name_spans, then_spans, split, first, first_name, span_end, IsReader, IsListed, braces_reader, shortens, Shortens}
-use Rattle.dv_syntax.proofs.Expressions.{IsClosed, IsClosed-front, expression_complete, expression_sound}
+use Rattle.dv_syntax.proofs.Expressions.{within_ok, within_positive, IsClosed, IsClosed-front, expression_complete, expression_sound}
 
 pub expression_reader : IsReader (expression_at 64 0) expression_spelling IsExpression IsClosed
 expression_reader = record {
@@ -26,77 +26,77 @@ expression_reader = record {
 
 abbrev pub single_spelling : Single → List Spelled
 single_spelling (SingleAssign n e) = name n ∷ sign symbol.Assign ∷ (expression_spelling e ++ sign symbol.Semicolon ∷ [])
-single_spelling (SingleGoto line p) = word_at keyword.Goto line ∷ name p ∷ sign symbol.Semicolon ∷ []
-single_spelling (SingleSend line p e) = word_at keyword.Send line ∷ name p ∷ (expression_spelling e ++ sign symbol.Semicolon ∷ [])
-single_spelling (SingleIf line e block) = word_at keyword.If line ∷ (expression_spelling e ++ braces (statements_spelling block))
-single_spelling (SingleIfElse line e block other) = word_at keyword.If line ∷ (expression_spelling e ++ (braces (statements_spelling block) ++ (word keyword.Else ∷ braces (statements_spelling other))))
+single_spelling (SingleGoto place p) = word_at keyword.Goto place ∷ name p ∷ sign symbol.Semicolon ∷ []
+single_spelling (SingleSend place p e) = word_at keyword.Send place ∷ name p ∷ (expression_spelling e ++ sign symbol.Semicolon ∷ [])
+single_spelling (SingleIf place e block) = word_at keyword.If place ∷ (expression_spelling e ++ braces (statements_spelling block))
+single_spelling (SingleIfElse place e block other) = word_at keyword.If place ∷ (expression_spelling e ++ (braces (statements_spelling block) ++ (word keyword.Else ∷ braces (statements_spelling other))))
 
 abbrev pub IsBlock : ℕ → Statements → Type 0
 IsBlock limit s = AreStatements s × (block_depth s ≤ limit)
 
 abbrev pub IsSingle : ℕ → Single → Type 0
 IsSingle limit (SingleAssign n e) = IsExpression e
-IsSingle limit (SingleGoto line p) = Unit {0}
-IsSingle limit (SingleSend line p e) = IsExpression e
-IsSingle limit (SingleIf line e block) = IsExpression e × IsBlock limit block
-IsSingle limit (SingleIfElse line e block other) = IsExpression e × IsBlock limit block × IsBlock limit other
+IsSingle limit (SingleGoto place p) = Unit {0}
+IsSingle limit (SingleSend place p e) = IsExpression e
+IsSingle limit (SingleIf place e block) = IsExpression e × IsBlock limit block
+IsSingle limit (SingleIfElse place e block other) = IsExpression e × IsBlock limit block × IsBlock limit other
 
 abbrev pub block_spelling : Statements → List Spelled
 block_spelling s = braces (statements_spelling s)
 
-abbrev pub BlockReader : ℕ → (List Token → Option (Statements × List Token)) → Type 0
+abbrev pub BlockReader : ℕ → (List Token → Read (Statements × List Token)) → Type 0
 BlockReader limit block = IsReader block block_spelling (IsBlock limit) (λ rest. Unit {0})
 
 -- what is known of a statement that was read
 abbrev Reads : ℕ → List Token → Single × List Token → Type 0
 Reads limit ts x = Spans (single_spelling x.0) ts x.1 × IsSingle limit x.0
 
-assign_sound : (limit : ℕ) (ts : List Token) (x : Single × List Token) → assign_at ts ≡ Some x → Reads limit ts x
+assign_sound : (limit : ℕ) (ts : List Token) (x : Single × List Token) → assign_at ts ≡ Ok x → Reads limit ts x
 unfolding assign_at
 assign_sound limit ts x e =
-    let a = then_some _ _ _ e in
-    let b = then_some _ _ _ a.2 in
-    let c = then_some _ _ _ b.2 in
-    let d = then_some _ _ _ c.2 in
+    let a = then_ok _ _ _ e in
+    let b = then_ok _ _ _ a.2 in
+    let c = then_ok _ _ _ b.2 in
+    let d = then_ok _ _ _ c.2 in
     let s = expression_reader.sound b.0 c.0 c.1 in
-    subst (Reads limit ts) (some_is _ _ d.2) (name_spans a.1 (after_spans b.1 (then_spans s.0 (after_spans d.1 nothing))), s.1)
+    subst (Reads limit ts) (ok_is _ _ d.2) (name_spans a.1 (after_spans b.1 (then_spans s.0 (after_spans d.1 nothing))), s.1)
 
-goto_sound : (limit : ℕ) (ts : List Token) (x : Single × List Token) → goto_at ts ≡ Some x → Reads limit ts x
+goto_sound : (limit : ℕ) (ts : List Token) (x : Single × List Token) → goto_at ts ≡ Ok x → Reads limit ts x
 unfolding goto_at
 goto_sound limit ts x e =
-    let a = then_some _ _ _ e in
-    let b = then_some _ _ _ a.2 in
-    let c = then_some _ _ _ b.2 in
-    subst (Reads limit ts) (some_is _ _ c.2) (after_spans_at a.1 (name_spans b.1 (after_spans c.1 nothing)), tt)
+    let a = then_ok _ _ _ e in
+    let b = then_ok _ _ _ a.2 in
+    let c = then_ok _ _ _ b.2 in
+    subst (Reads limit ts) (ok_is _ _ c.2) (after_spans_at a.1 (name_spans b.1 (after_spans c.1 nothing)), tt)
 
-send_sound : (limit : ℕ) (ts : List Token) (x : Single × List Token) → send_at ts ≡ Some x → Reads limit ts x
+send_sound : (limit : ℕ) (ts : List Token) (x : Single × List Token) → send_at ts ≡ Ok x → Reads limit ts x
 unfolding send_at
 send_sound limit ts x e =
-    let a = then_some _ _ _ e in
-    let b = then_some _ _ _ a.2 in
-    let c = then_some _ _ _ b.2 in
-    let d = then_some _ _ _ c.2 in
+    let a = then_ok _ _ _ e in
+    let b = then_ok _ _ _ a.2 in
+    let c = then_ok _ _ _ b.2 in
+    let d = then_ok _ _ _ c.2 in
     let s = expression_reader.sound b.0.1 c.0 c.1 in
-    subst (Reads limit ts) (some_is _ _ d.2) (after_spans_at a.1 (name_spans b.1 (then_spans s.0 (after_spans d.1 nothing))), s.1)
+    subst (Reads limit ts) (ok_is _ _ d.2) (after_spans_at a.1 (name_spans b.1 (then_spans s.0 (after_spans d.1 nothing))), s.1)
 
-if_sound : (limit : ℕ) (block : List Token → Option (Statements × List Token)) → BlockReader limit block → (ts : List Token) (x : Single × List Token) → if_at block ts ≡ Some x → Reads limit ts x
+if_sound : (limit : ℕ) (block : List Token → Read (Statements × List Token)) → BlockReader limit block → (ts : List Token) (x : Single × List Token) → if_at block limit ts ≡ Ok x → Reads limit ts x
 unfolding if_at else_at
 if_sound limit block r ts x e =
-    let a = then_some _ _ _ e in
-    let b = then_some _ _ _ a.2 in
-    let c = then_some _ _ _ b.2 in
-    let s = expression_reader.sound a.0 b.0 b.1 in
+    let a = then_ok _ _ _ e in
+    let b = then_ok _ _ _ a.2 in
+    let c = then_ok _ _ _ b.2 in
+    let s = expression_reader.sound a.0 b.0 (within_ok _ _ _ _ b.1) in
     let t = r.sound b.0.1 c.0 c.1 in
     elim (chosen _ _ _ _ c.2) [
       | inl p ↦
-          let d = then_some _ _ _ p.1 in
-          let o = then_some _ _ _ d.2 in
+          let d = then_ok _ _ _ p.1 in
+          let o = then_ok _ _ _ d.2 in
           let u = r.sound d.0 o.0 o.1 in
-          subst (Reads limit ts) (some_is _ _ o.2) (after_spans_at a.1 (then_spans s.0 (then_spans t.0 (after_spans d.1 u.0))), (s.1, t.1, u.1))
-      | inr p ↦ subst (Reads limit ts) (some_is _ _ p.1) (after_spans_at a.1 (then_spans s.0 t.0), (s.1, t.1))
+          subst (Reads limit ts) (ok_is _ _ o.2) (after_spans_at a.1 (then_spans s.0 (then_spans t.0 (after_spans d.1 u.0))), (s.1, t.1, u.1))
+      | inr p ↦ subst (Reads limit ts) (ok_is _ _ p.1) (after_spans_at a.1 (then_spans s.0 t.0), (s.1, t.1))
     ]
 
-statement_sound : (limit : ℕ) (block : List Token → Option (Statements × List Token)) → BlockReader limit block → (ts : List Token) (x : Single × List Token) → statement_at block ts ≡ Some x → Reads limit ts x
+statement_sound : (limit : ℕ) (block : List Token → Read (Statements × List Token)) → BlockReader limit block → (ts : List Token) (x : Single × List Token) → statement_at block limit ts ≡ Ok x → Reads limit ts x
 unfolding statement_at
 statement_sound limit block r ts x e =
     elim (chosen _ _ _ _ e) [
@@ -121,8 +121,16 @@ braces_closed : (s : Statements) (ss : List Spelled) (ts rest : List Token) → 
 unfolding operator_of
 braces_closed s ss ts rest h = IsClosed-front (kind.Symbol symbol.OpenBrace) _ ts rest refl h.spells
 
-statement_complete : (limit : ℕ) (block : List Token → Option (Statements × List Token)) → BlockReader limit block → (x : Single) (ts rest : List Token) → IsSingle limit x → Spans (single_spelling x) ts rest → begins (kind.Keyword keyword.Else) rest ≡ false
-    → statement_at block ts ≡ Some (x, rest)
+positive_block : (s : Statements) → 0 < block_depth s
+positive_block Done = omega arith
+positive_block (Assign n e rest) = positive_block rest
+positive_block (Goto place p rest) = positive_block rest
+positive_block (Send place p e rest) = positive_block rest
+positive_block (If place e b rest) = omega arith
+positive_block (IfElse place e b o rest) = omega arith
+
+statement_complete : (limit : ℕ) (block : List Token → Read (Statements × List Token)) → BlockReader limit block → (x : Single) (ts rest : List Token) → IsSingle limit x → Spans (single_spelling x) ts rest → begins (kind.Keyword keyword.Else) rest ≡ false
+    → statement_at block limit ts ≡ Ok (x, rest)
 unfolding statement_at assign_at goto_at send_at if_at else_at choose read_then
 statement_complete limit block r (SingleAssign n e) ts rest is h ends =
     let f = first h in
@@ -132,26 +140,27 @@ statement_complete limit block r (SingleAssign n e) ts rest is h ends =
     let v = expression_reader.complete e b.behind s.0 is s.1 (semicolon_closed s.0 rest s.2) in
     let c = first s.2 in
     rw (f.begins (kind.Keyword keyword.Goto), f.begins (kind.Keyword keyword.Send), f.begins (kind.Keyword keyword.If), n'.read, b.after, v, c.after, span_end c.spelled) refl
-statement_complete limit block r (SingleGoto line p) ts rest is h ends =
+statement_complete limit block r (SingleGoto place p) ts rest is h ends =
     let f = first h in
     let n' = first_name p f.spelled in
     let c = first n'.spelled in
-    rw (f.begins (kind.Keyword keyword.Goto), f.after, n'.read, c.after, f.line, span_end c.spelled) refl
-statement_complete limit block r (SingleSend line p e) ts rest is h ends =
+    rw (f.begins (kind.Keyword keyword.Goto), f.after, n'.read, c.after, f.place, span_end c.spelled) refl
+statement_complete limit block r (SingleSend place p e) ts rest is h ends =
     let f = first h in
     let n' = first_name p f.spelled in
     let s = split (expression_spelling e) semicolon n'.spelled in
     let v = expression_reader.complete e n'.behind s.0 is s.1 (semicolon_closed s.0 rest s.2) in
     let c = first s.2 in
-    rw (f.begins (kind.Keyword keyword.Goto), f.begins (kind.Keyword keyword.Send), f.after, n'.read, v, c.after, f.line, span_end c.spelled) refl
-statement_complete limit block r (SingleIf line e b) ts rest is h ends =
+    rw (f.begins (kind.Keyword keyword.Goto), f.begins (kind.Keyword keyword.Send), f.after, n'.read, v, c.after, f.place, span_end c.spelled) refl
+statement_complete limit block r (SingleIf place e b) ts rest is h ends =
     let f = first h in
     let s = split (expression_spelling e) (block_spelling b) f.spelled in
     let closed : Spans (block_spelling b ++ []) s.0 rest = rw append-nil s.2 in
     let v = expression_reader.complete e f.behind s.0 is.0 s.1 (braces_closed b [] s.0 rest closed) in
     let c = r.complete b s.0 rest is.1 s.2 tt in
-    rw (f.begins (kind.Keyword keyword.Goto), f.begins (kind.Keyword keyword.Send), f.begins (kind.Keyword keyword.If), f.after, v, c, ends, f.line) refl
-statement_complete limit block r (SingleIfElse line e b o) ts rest is h ends =
+    let room = within_positive limit (place_at ts) (expression_at 64 0 f.behind) (omega (arith, is.1.1, positive_block b)) in
+    rw (f.begins (kind.Keyword keyword.Goto), f.begins (kind.Keyword keyword.Send), f.begins (kind.Keyword keyword.If), f.after, room, v, c, ends, f.place) refl
+statement_complete limit block r (SingleIfElse place e b o) ts rest is h ends =
     let f = first h in
     let tail : List Spelled = word keyword.Else ∷ block_spelling o in
     let s = split (expression_spelling e) (block_spelling b ++ tail) f.spelled in
@@ -160,33 +169,34 @@ statement_complete limit block r (SingleIfElse line e b o) ts rest is h ends =
     let c = r.complete b s.0 t.0 is.1 t.1 tt in
     let w = first t.2 in
     let d = r.complete o w.behind rest is.2 w.spelled tt in
-    rw (f.begins (kind.Keyword keyword.Goto), f.begins (kind.Keyword keyword.Send), f.begins (kind.Keyword keyword.If), f.after, v, c, w.begins (kind.Keyword keyword.Else), w.after, d, f.line) refl
+    let room = within_positive limit (place_at ts) (expression_at 64 0 f.behind) (omega (arith, is.1.1, positive_block b)) in
+    rw (f.begins (kind.Keyword keyword.Goto), f.begins (kind.Keyword keyword.Send), f.begins (kind.Keyword keyword.If), f.after, room, v, c, w.begins (kind.Keyword keyword.Else), w.after, d, f.place) refl
 
-pub statement_reader : (limit : ℕ) (block : List Token → Option (Statements × List Token)) → BlockReader limit block → IsReader (statement_at block) single_spelling (IsSingle limit) (λ rest. begins (kind.Keyword keyword.Else) rest ≡ false)
+pub statement_reader : (limit : ℕ) (block : List Token → Read (Statements × List Token)) → BlockReader limit block → IsReader (statement_at block limit) single_spelling (IsSingle limit) (λ rest. begins (kind.Keyword keyword.Else) rest ≡ false)
 statement_reader limit block r = record { sound = statement_sound limit block r; complete = statement_complete limit block r }
 
 single_opens : (x : Single) (ts rest : List Token) → Spans (single_spelling x) ts rest → (begins (kind.Symbol symbol.CloseBrace) ts ≡ false) × (begins (kind.Keyword keyword.Else) ts ≡ false)
 single_opens (SingleAssign n e) ts rest h = let f = first h in (f.begins _, f.begins _)
-single_opens (SingleGoto line p) ts rest h = let f = first h in (f.begins _, f.begins _)
-single_opens (SingleSend line p e) ts rest h = let f = first h in (f.begins _, f.begins _)
-single_opens (SingleIf line e b) ts rest h = let f = first h in (f.begins _, f.begins _)
-single_opens (SingleIfElse line e b o) ts rest h = let f = first h in (f.begins _, f.begins _)
+single_opens (SingleGoto place p) ts rest h = let f = first h in (f.begins _, f.begins _)
+single_opens (SingleSend place p e) ts rest h = let f = first h in (f.begins _, f.begins _)
+single_opens (SingleIf place e b) ts rest h = let f = first h in (f.begins _, f.begins _)
+single_opens (SingleIfElse place e b o) ts rest h = let f = first h in (f.begins _, f.begins _)
 
 single_some : (x : Single) → 0 < length (single_spelling x)
 single_some (SingleAssign n e) = omega arith
-single_some (SingleGoto line p) = omega arith
-single_some (SingleSend line p e) = omega arith
-single_some (SingleIf line e b) = omega arith
-single_some (SingleIfElse line e b o) = omega arith
+single_some (SingleGoto place p) = omega arith
+single_some (SingleSend place p e) = omega arith
+single_some (SingleIf place e b) = omega arith
+single_some (SingleIfElse place e b o) = omega arith
 
 -- ---- Statements as a list of single ones
 
 single_before-spelling : (s : Single) (rest : Statements) → statements_spelling (single_before s rest) ≡ single_spelling s ++ statements_spelling rest
 single_before-spelling (SingleAssign n e) rest = simp append_assoc
-single_before-spelling (SingleGoto line p) rest = refl
-single_before-spelling (SingleSend line p e) rest = simp append_assoc
-single_before-spelling (SingleIf line e b) rest = simp append_assoc
-single_before-spelling (SingleIfElse line e b o) rest = simp append_assoc
+single_before-spelling (SingleGoto place p) rest = refl
+single_before-spelling (SingleSend place p e) rest = simp append_assoc
+single_before-spelling (SingleIf place e b) rest = simp append_assoc
+single_before-spelling (SingleIfElse place e b o) rest = simp append_assoc
 
 joined-spelling : (ss : List Single) → statements_spelling (joined ss) ≡ flat_map single_spelling ss
 joined-spelling [] = refl
@@ -195,42 +205,34 @@ joined-spelling (s ∷ ss) = single_before-spelling s (joined ss) ∙ ap (λ (t 
 abbrev apart : Statements → List Single
 apart Done = []
 apart (Assign n e rest) = SingleAssign n e ∷ apart rest
-apart (Goto line p rest) = SingleGoto line p ∷ apart rest
-apart (Send line p e rest) = SingleSend line p e ∷ apart rest
-apart (If line e block rest) = SingleIf line e block ∷ apart rest
-apart (IfElse line e block other rest) = SingleIfElse line e block other ∷ apart rest
+apart (Goto place p rest) = SingleGoto place p ∷ apart rest
+apart (Send place p e rest) = SingleSend place p e ∷ apart rest
+apart (If place e block rest) = SingleIf place e block ∷ apart rest
+apart (IfElse place e block other rest) = SingleIfElse place e block other ∷ apart rest
 
 joined-apart : (s : Statements) → joined (apart s) ≡ s
 joined-apart Done = refl
 joined-apart (Assign n e rest) = ap (Assign n e) (joined-apart rest)
-joined-apart (Goto line p rest) = ap (Goto line p) (joined-apart rest)
-joined-apart (Send line p e rest) = ap (Send line p e) (joined-apart rest)
-joined-apart (If line e block rest) = ap (If line e block) (joined-apart rest)
-joined-apart (IfElse line e block other rest) = ap (IfElse line e block other) (joined-apart rest)
+joined-apart (Goto place p rest) = ap (Goto place p) (joined-apart rest)
+joined-apart (Send place p e rest) = ap (Send place p e) (joined-apart rest)
+joined-apart (If place e block rest) = ap (If place e block) (joined-apart rest)
+joined-apart (IfElse place e block other rest) = ap (IfElse place e block other) (joined-apart rest)
 
 are_joined : (limit : ℕ) (ss : List Single) → AllByRecursion (IsSingle limit) ss → IsBlock (suc limit) (joined ss)
 are_joined limit [] all = (tt, omega arith)
 are_joined limit (SingleAssign n e ∷ ss) all = let r = are_joined limit ss all.1 in ((all.0, r.0), r.1)
-are_joined limit (SingleGoto line p ∷ ss) all = let r = are_joined limit ss all.1 in (r.0, r.1)
-are_joined limit (SingleSend line p e ∷ ss) all = let r = are_joined limit ss all.1 in ((all.0, r.0), r.1)
-are_joined limit (SingleIf line e b ∷ ss) all = let r = are_joined limit ss all.1 in ((all.0.0, all.0.1.0, r.0), omega (arith, r.1, all.0.1.1))
-are_joined limit (SingleIfElse line e b o ∷ ss) all = let r = are_joined limit ss all.1 in ((all.0.0, all.0.1.0, all.0.2.0, r.0), omega (arith, r.1, all.0.1.1, all.0.2.1))
+are_joined limit (SingleGoto place p ∷ ss) all = let r = are_joined limit ss all.1 in (r.0, r.1)
+are_joined limit (SingleSend place p e ∷ ss) all = let r = are_joined limit ss all.1 in ((all.0, r.0), r.1)
+are_joined limit (SingleIf place e b ∷ ss) all = let r = are_joined limit ss all.1 in ((all.0.0, all.0.1.0, r.0), omega (arith, r.1, all.0.1.1))
+are_joined limit (SingleIfElse place e b o ∷ ss) all = let r = are_joined limit ss all.1 in ((all.0.0, all.0.1.0, all.0.2.0, r.0), omega (arith, r.1, all.0.1.1, all.0.2.1))
 
 are_apart : (limit : ℕ) (s : Statements) → IsBlock (suc limit) s → AllByRecursion (IsSingle limit) (apart s)
 are_apart limit Done is = tt
 are_apart limit (Assign n e rest) is = (is.0.0, are_apart limit rest (is.0.1, is.1))
-are_apart limit (Goto line p rest) is = (tt, are_apart limit rest (is.0, is.1))
-are_apart limit (Send line p e rest) is = (is.0.0, are_apart limit rest (is.0.1, is.1))
-are_apart limit (If line e b rest) is = ((is.0.0, (is.0.1, omega (arith, is.1))), are_apart limit rest (is.0.2, omega (arith, is.1)))
-are_apart limit (IfElse line e b o rest) is = ((is.0.0, (is.0.1, omega (arith, is.1)), (is.0.2, omega (arith, is.1))), are_apart limit rest (is.0.3, omega (arith, is.1)))
-
-positive_block : (s : Statements) → 0 < block_depth s
-positive_block Done = omega arith
-positive_block (Assign n e rest) = positive_block rest
-positive_block (Goto line p rest) = positive_block rest
-positive_block (Send line p e rest) = positive_block rest
-positive_block (If line e b rest) = omega arith
-positive_block (IfElse line e b o rest) = omega arith
+are_apart limit (Goto place p rest) is = (tt, are_apart limit rest (is.0, is.1))
+are_apart limit (Send place p e rest) is = (is.0.0, are_apart limit rest (is.0.1, is.1))
+are_apart limit (If place e b rest) is = ((is.0.0, (is.0.1, omega (arith, is.1))), are_apart limit rest (is.0.2, omega (arith, is.1)))
+are_apart limit (IfElse place e b o rest) is = ((is.0.0, (is.0.1, omega (arith, is.1)), (is.0.2, omega (arith, is.1))), are_apart limit rest (is.0.3, omega (arith, is.1)))
 
 -- ---- Blocks
 
@@ -249,60 +251,60 @@ single_listed = record {
 pub block_reader : (limit : ℕ) → BlockReader limit (block_at limit)
 unfolding block_at read_then
 block_reader zero = record {
-  sound = λ ts x e. absurd (none_some _ e);
+  sound = λ ts x e. absurd (err_ok _ _ e);
   complete = λ x ts rest is h ends. absurd (omega (arith, is.1, positive_block x));
 }
 block_reader (suc limit) =
     let r = statement_reader limit (block_at limit) (block_reader limit) in
-    let all = braces_reader (statement_at (block_at limit)) single_spelling (IsSingle limit) (λ rest. begins (kind.Keyword keyword.Else) rest ≡ false) r single_listed in
+    let all = braces_reader (statement_at (block_at limit) limit) single_spelling (IsSingle limit) (λ rest. begins (kind.Keyword keyword.Else) rest ≡ false) r single_listed in
     record {
       sound = λ ts x e.
-          let a = then_some _ _ _ e in
+          let a = then_ok _ _ _ e in
           let s = all.sound ts a.0 a.1 in
           let spelled : Spans (block_spelling (joined a.0.0)) ts a.0.1 = rw (joined-spelling a.0.0) s.0 in
-          subst (λ (y : Statements × List Token). Spans (block_spelling y.0) ts y.1 × IsBlock (suc limit) y.0) (some_is _ _ a.2) (spelled, are_joined limit a.0.0 s.1);
+          subst (λ (y : Statements × List Token). Spans (block_spelling y.0) ts y.1 × IsBlock (suc limit) y.0) (ok_is _ _ a.2) (spelled, are_joined limit a.0.0 s.1);
       complete = λ x ts rest is h ends.
           let spelled : Spans (braces (flat_map single_spelling (apart x))) ts rest = rw (← joined-spelling (apart x), joined-apart x) h in
           let c = all.complete (apart x) ts rest (are_apart limit x is) spelled tt in
           rw (c, joined-apart x) refl;
     }
 
-pub statement_shortens : (limit : ℕ) → Shortens (statement_at (block_at limit))
-statement_shortens limit = shortens (statement_at (block_at limit)) single_spelling (IsSingle limit) _ _ (statement_reader limit (block_at limit) (block_reader limit)) single_listed
-
-no_expression : {B : Type 0} (r : Option (Expression × List Token)) → read_then {B = B} r (λ e. None) ≡ None
-unfolding read_then
-no_expression None = refl
-no_expression (Some x) = refl
-
-no_block : {B : Type 0} (r : Option (List Token)) → read_then {B = B} r (λ behind. read_then (expression_at 64 0 behind) (λ e. None)) ≡ None
-unfolding read_then
-no_block None = refl
-no_block (Some x) = no_expression (expression_at 64 0 x)
+pub statement_shortens : (limit : ℕ) → Shortens (statement_at (block_at limit) limit)
+statement_shortens limit = shortens (statement_at (block_at limit) limit) single_spelling (IsSingle limit) _ _ (statement_reader limit (block_at limit) (block_reader limit)) single_listed
 
 -- an `if` where no block may follow
-pub if_deep : (limit : ℕ) (ts : List Token) → limit ≡ 1 → if_at (block_at (limit - 1)) ts ≡ None
-unfolding if_at block_at read_then
-if_deep limit ts e = rw e (no_block (after (kind.Keyword keyword.If) ts))
+pub if_deep : (limit : ℕ) (ts behind : List Token) → limit ≡ 1 → after (kind.Keyword keyword.If) ts ≡ Ok behind → if_at (block_at (limit - 1)) (limit - 1) ts ≡ Err (TooDeep (place_at ts))
+unfolding if_at within read_then
+if_deep limit ts behind e h = rw (e, h) refl
 
-pub block_some : (limit : ℕ) (ts : List Token) (ss : List Single) (rest : List Token) → 0 < limit → braces_at (statement_at (block_at (limit - 1))) ts ≡ Some (ss, rest) → block_at limit ts ≡ Some (joined ss, rest)
+-- what follows the condition of an `if`
+abbrev pub block_behind : (limit place : ℕ) → Expression → List Token → Read (Single × List Token)
+block_behind limit place e ts = read_then (block_at limit ts) (λ block. choose (begins (kind.Keyword keyword.Else) block.1) (else_at (block_at limit) place e block.0 block.1) (Ok (SingleIf place e block.0, block.1)))
+
+pub if_some : (limit : ℕ) (ts behind : List Token) → 1 < limit → after (kind.Keyword keyword.If) ts ≡ Ok behind → if_at (block_at (limit - 1)) (limit - 1) ts ≡ read_then (expression_at 64 0 behind) (λ e. block_behind (limit - 1) (place_at ts) e.0 e.1)
+unfolding if_at read_then
+if_some limit ts behind lt h =
+    let room = within_positive (limit - 1) (place_at ts) (expression_at 64 0 behind) (omega (arith, lt)) in
+    rw (h, room) refl
+
+pub block_some : (limit : ℕ) (ts : List Token) (ss : List Single) (rest : List Token) → 0 < limit → braces_at (statement_at (block_at (limit - 1)) (limit - 1)) ts ≡ Ok (ss, rest) → block_at limit ts ≡ Ok (joined ss, rest)
 unfolding block_at read_then
 block_some zero ts ss rest lt e = absurd (omega (arith, lt))
 block_some (suc limit) ts ss rest lt e =
     let k : suc limit - 1 ≡ limit = omega arith in
-    let f : braces_at (statement_at (block_at limit)) ts ≡ Some (ss, rest) = subst (λ (n : ℕ). braces_at (statement_at (block_at n)) ts ≡ Some (ss, rest)) k e in
+    let f : braces_at (statement_at (block_at limit) limit) ts ≡ Ok (ss, rest) = subst (λ (n : ℕ). braces_at (statement_at (block_at n) n) ts ≡ Ok (ss, rest)) k e in
     rw f refl
 
-block_none : (limit : ℕ) (ts : List Token) → 0 < limit → braces_at (statement_at (block_at (limit - 1))) ts ≡ None → block_at limit ts ≡ None
+block_err : (limit : ℕ) (ts : List Token) (o : Obstacle) → 0 < limit → braces_at (statement_at (block_at (limit - 1)) (limit - 1)) ts ≡ Err o → block_at limit ts ≡ Err o
 unfolding block_at read_then
-block_none zero ts lt e = refl
-block_none (suc limit) ts lt e =
+block_err zero ts o lt e = absurd (omega (arith, lt))
+block_err (suc limit) ts o lt e =
     let k : suc limit - 1 ≡ limit = omega arith in
-    let f : braces_at (statement_at (block_at limit)) ts ≡ None = subst (λ (n : ℕ). braces_at (statement_at (block_at n)) ts ≡ None) k e in
+    let f : braces_at (statement_at (block_at limit) limit) ts ≡ Err o = subst (λ (n : ℕ). braces_at (statement_at (block_at n) n) ts ≡ Err o) k e in
     rw f refl
 
-pub block_fails : (e : Fault) (limit : ℕ) (ts : List Token) → 0 < limit → Fails e (braces_at (statement_at (block_at (limit - 1))) ts) → Fails e (block_at limit ts)
+pub block_fails : (e : Fault) (limit : ℕ) (ts : List Token) → 0 < limit → Fails e (braces_at (statement_at (block_at (limit - 1)) (limit - 1)) ts) → Fails e (block_at limit ts)
 block_fails fault.Memory limit ts lt f = tt
-block_fails (fault.Unexpected line) limit ts lt f = block_none limit ts lt f
-block_fails (fault.TooDeep line) limit ts lt f = block_none limit ts lt f
-block_fails fault.TooShort limit ts lt f = block_none limit ts lt f
+block_fails (fault.Unexpected place) limit ts lt f = block_err limit ts _ lt f
+block_fails (fault.TooDeep place) limit ts lt f = block_err limit ts _ lt f
+block_fails fault.TooShort limit ts lt f = block_err limit ts _ lt f

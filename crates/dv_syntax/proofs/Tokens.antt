@@ -1,9 +1,7 @@
 -- Spellings one after the other, and single tokens.
-use Rattle.std.proofs.Common.{◌≡◌, ℕ, ◌+◌, Bool, true, false, eqb, List, [], ◌∷◌, ◌++◌, length, get_or, ℤ, pos, negsuc, Option, Some, None, refl, sym, ap, subst, ◌∙◌, ◌⊎◌, inl, inr, arith}
-use Rattle.std.specs.Prelude.{◌≤ℤ◌, IsTrue, ◌↔◌}
-use Rattle.std.proofs.lemmas.Int.{ints}
+use Rattle.std.proofs.Common.{◌≡◌, ℕ, ◌+◌, Bool, true, false, eqb, List, [], ◌∷◌, ◌++◌, length, get_or, Option, Some, None, Ok, Err, refl, sym, ap, subst, ◌∙◌, ◌⊎◌, inl, inr, arith}
+use Rattle.std.specs.Prelude.{IsTrue, ◌↔◌}
 use Rattle.std.proofs.lemmas.Bool.{eqb-true, eq-eqb, false≢true}
-use Rattle.std.proofs.lemmas.Bool.Decides.{Decides-int_eq}
 use Rattle.dv_lex.specs.declared.token.Token.{Token}
 use Rattle.dv_lex.specs.declared.token.TokenKind.{TokenKind}
 use Rattle.dv_lex.specs.declared.token.TokenKind.TheVariants as kind
@@ -14,16 +12,16 @@ use Rattle.dv_lex.specs.declared.token.Symbol.TheVariants as symbol
 use Rattle.dv_syntax.specs.declared.tree.Name.{Name}
 use Rattle.dv_syntax.specs.declared.tree.Number.{Number}
 use Rattle.dv_syntax.specs.Grammar.{Spelled, At, Anywhere, Spells, name, number}
-use Rattle.dv_syntax.specs.Reading.{read_then, choose, maybe, keyword_number, symbol_number, same_kind, begins, after, is_name, begins_name, name_of, name_at, number_of, number_at, line_at}
+use Rattle.dv_syntax.specs.Reading.{Obstacle, Read, read_then, choose, maybe, keyword_number, symbol_number, same_kind, begins, after, is_name, begins_name, name_of, name_at, number_of, number_at, place_at}
 
--- ---- What was not none
+-- ---- What was read
 
-pub then_some : {A B : Type 0} (r : Option A) (f : A → Option B) (y : B) → read_then r f ≡ Some y → (x : A) × (r ≡ Some x) × (f x ≡ Some y)
+pub then_ok : {A B : Type 0} (r : Read A) (f : A → Read B) (y : B) → read_then r f ≡ Ok y → (x : A) × (r ≡ Ok x) × (f x ≡ Ok y)
 unfolding read_then
-then_some (Some x) f y e = (x, refl, e)
-then_some None f y e = absurd cc
+then_ok (Ok x) f y e = (x, refl, e)
+then_ok (Err o) f y e = absurd cc
 
-pub then_is : {A B : Type 0} (r : Option A) (f : A → Option B) (x : A) → r ≡ Some x → read_then r f ≡ f x
+pub then_is : {A B : Type 0} (r : Read A) (f : A → Read B) (x : A) → r ≡ Ok x → read_then r f ≡ f x
 unfolding read_then
 then_is r f x e = rw e refl
 
@@ -47,6 +45,12 @@ maybe_is (Some x) n s z e = inr (x, refl, e)
 
 pub some_is : {A : Type 0} (x y : A) → Some x ≡ Some y → x ≡ y
 some_is x y e = cc
+
+pub ok_is : {A : Type 0} (x y : A) → ◌≡◌ {A = Read A} (Ok x) (Ok y) → x ≡ y
+ok_is x y e = cc
+
+pub err_ok : {A : Type 0} (o : Obstacle) (x : A) → ◌≡◌ {A = Read A} (Err o) (Ok x) → ⊥
+err_ok o x e = cc
 
 pub none_some : {A : Type 0} (x : A) → None ≡ Some x → ⊥
 none_some x e = cc
@@ -151,14 +155,14 @@ same_symbol a b e = sym (symbol_again a) ∙ ap (λ (n : ℕ). get_or symbols n 
 
 pub same_kind-true : (a b : TokenKind) → same_kind a b ≡ true → a ≡ b
 same_kind-true (kind.Name a) (kind.Name b) e = ap kind.Name (eqb-true _ _ e)
-same_kind-true (kind.Number a) (kind.Number b) e = ap kind.Number ((Decides-int_eq a b).0 e)
+same_kind-true (kind.Number a) (kind.Number b) e = ap kind.Number (eqb-true _ _ e)
 same_kind-true (kind.Keyword a) (kind.Keyword b) e = ap kind.Keyword (same_keyword a b e)
 same_kind-true (kind.Symbol a) (kind.Symbol b) e = ap kind.Symbol (same_symbol a b e)
 same_kind-true _ _ e = absurd cc
 
 pub same_kind-same : (a : TokenKind) → same_kind a a ≡ true
 same_kind-same (kind.Name a) = eq-eqb a a refl
-same_kind-same (kind.Number a) = (Decides-int_eq a a).1 refl
+same_kind-same (kind.Number a) = eq-eqb a a refl
 same_kind-same (kind.Keyword a) = eq-eqb _ _ refl
 same_kind-same (kind.Symbol a) = eq-eqb _ _ refl
 
@@ -175,31 +179,31 @@ same_kind_decided false a b h = is_false (same_kind a b) (λ e. false≢true (h.
 
 -- the kind that a spelling asks for
 abbrev pub kind_of : Spelled → TokenKind
-kind_of (At k line) = k
+kind_of (At k place) = k
 kind_of (Anywhere k) = k
 
-abbrev pub OnLine : Spelled → ℕ → Type 0
-OnLine (At k line) n = n ≡ line
-OnLine (Anywhere k) n = Unit {0}
+abbrev pub AtPlace : Spelled → ℕ → Type 0
+AtPlace (At k place) n = n ≡ place
+AtPlace (Anywhere k) n = Unit {0}
 
 -- what is known of tokens that begin with a token so spelled
 pub record Front (s : Spelled) (ss : List Spelled) (ts rest : List Token) : Type 0 where
   pub behind : List Token
-  pub after : after (kind_of s) ts ≡ Some behind
+  pub after : after (kind_of s) ts ≡ Ok behind
   pub begins : (k : TokenKind) → begins k ts ≡ same_kind (kind_of s) k
   pub begins_name : begins_name ts ≡ is_name (kind_of s)
-  pub line : OnLine s (line_at ts)
+  pub place : AtPlace s (place_at ts)
   pub spelled : Spells ss behind rest
 
 pub front : (s : Spelled) (ss : List Spelled) (ts rest : List Token) → Spells (s ∷ ss) ts rest → Front s ss ts rest
-unfolding after choose line_at
+unfolding after choose place_at
 front s ss [] rest h = absurd h
-front (At k line) ss (t ∷ ts) rest h = record {
+front (At k place) ss (t ∷ ts) rest h = record {
   behind = ts;
   after = rw (h.0.0, same_kind-same k) refl;
   begins = λ j. ap (λ (i : TokenKind). same_kind i j) h.0.0;
   begins_name = ap is_name h.0.0;
-  line = h.0.1;
+  place = h.0.1;
   spelled = h.1;
 }
 front (Anywhere k) ss (t ∷ ts) rest h = record {
@@ -207,56 +211,49 @@ front (Anywhere k) ss (t ∷ ts) rest h = record {
   after = rw (h.0, same_kind-same k) refl;
   begins = λ j. ap (λ (i : TokenKind). same_kind i j) h.0;
   begins_name = ap is_name h.0;
-  line = tt;
+  place = tt;
   spelled = h.1;
 }
 
-pub name_front : (n : Name) (ss : List Spelled) (ts rest : List Token) → Spells (name n ∷ ss) ts rest → (behind : List Token) × (name_at ts ≡ Some (n, behind)) × Spells ss behind rest
+pub name_front : (n : Name) (ss : List Spelled) (ts rest : List Token) → Spells (name n ∷ ss) ts rest → (behind : List Token) × (name_at ts ≡ Ok (n, behind)) × Spells ss behind rest
 unfolding name_at
 name_front n ss [] rest h = absurd h
 name_front n ss (t ∷ ts) rest h = (ts, rw (h.0.0, h.0.1) refl, h.1)
 
-number_of-natural : (v : ℤ) (line : ℕ) (ts : List Token) → pos 0 ≤ℤ v → number_of (kind.Number v) line ts ≡ Some (record { value = v; line = line }, ts)
-number_of-natural (pos n) line ts fits = refl
-number_of-natural (negsuc n) line ts fits = absurd fits.le
-
-pub number_front : (n : Number) (ss : List Spelled) (ts rest : List Token) → pos 0 ≤ℤ n.value → Spells (number n ∷ ss) ts rest → (behind : List Token) × (number_at ts ≡ Some (n, behind)) × Spells ss behind rest
+pub number_front : (n : Number) (ss : List Spelled) (ts rest : List Token) → Spells (number n ∷ ss) ts rest → (behind : List Token) × (number_at ts ≡ Ok (n, behind)) × Spells ss behind rest
 unfolding number_at
-number_front n ss [] rest fits h = absurd h
-number_front n ss (t ∷ ts) rest fits h = (ts, rw (h.0.0, h.0.1) (number_of-natural n.value n.line ts fits), h.1)
+number_front n ss [] rest h = absurd h
+number_front n ss (t ∷ ts) rest h = (ts, rw (h.0.0, h.0.1) refl, h.1)
 
 -- the other way: a token that was read, before what is spelled
-pub after_spells : (k : TokenKind) (ss : List Spelled) (ts mid rest : List Token) → after k ts ≡ Some mid → Spells ss mid rest → Spells (Anywhere k ∷ ss) ts rest
+pub after_spells : (k : TokenKind) (ss : List Spelled) (ts mid rest : List Token) → after k ts ≡ Ok mid → Spells ss mid rest → Spells (Anywhere k ∷ ss) ts rest
 unfolding after
 after_spells k ss [] mid rest e h = absurd cc
 after_spells k ss (t ∷ ts) mid rest e h =
     elim (chosen _ _ _ _ e) [
-      | inl p ↦ (same_kind-true _ _ p.0, subst (λ (x : List Token). Spells ss x rest) (sym (some_is _ _ p.1)) h)
-      | inr p ↦ absurd (none_some _ p.1)
+      | inl p ↦ (same_kind-true _ _ p.0, subst (λ (x : List Token). Spells ss x rest) (sym (ok_is _ _ p.1)) h)
+      | inr p ↦ absurd (err_ok _ _ p.1)
     ]
 
-pub after_spells_at : (k : TokenKind) (ss : List Spelled) (ts mid rest : List Token) → after k ts ≡ Some mid → Spells ss mid rest → Spells (At k (line_at ts) ∷ ss) ts rest
-unfolding after line_at
+pub after_spells_at : (k : TokenKind) (ss : List Spelled) (ts mid rest : List Token) → after k ts ≡ Ok mid → Spells ss mid rest → Spells (At k (place_at ts) ∷ ss) ts rest
+unfolding after place_at
 after_spells_at k ss [] mid rest e h = absurd cc
 after_spells_at k ss (t ∷ ts) mid rest e h = let s = after_spells k ss (t ∷ ts) mid rest e h in ((s.0, refl), s.1)
 
-name_of-name : (k : TokenKind) (line : ℕ) (ts : List Token) (x : Name × List Token) → name_of k line ts ≡ Some x → (k ≡ kind.Name x.0.number) × (line ≡ x.0.line) × (ts ≡ x.1)
-name_of-name (kind.Name n) line ts x e = let p = some_is _ _ e in (ap (λ (y : Name × List Token). kind.Name y.0.number) p, ap (λ (y : Name × List Token). y.0.line) p, ap (λ (y : Name × List Token). y.1) p)
-name_of-name _ line ts x e = absurd (none_some _ e)
+name_of-name : (k : TokenKind) (place : ℕ) (ts : List Token) (x : Name × List Token) → name_of k place ts ≡ Ok x → (k ≡ kind.Name x.0.number) × (place ≡ x.0.place) × (ts ≡ x.1)
+name_of-name (kind.Name n) place ts x e = let p = ok_is _ _ e in (ap (λ (y : Name × List Token). kind.Name y.0.number) p, ap (λ (y : Name × List Token). y.0.place) p, ap (λ (y : Name × List Token). y.1) p)
+name_of-name _ place ts x e = absurd (err_ok _ _ e)
 
-pub name_spells : (ss : List Spelled) (ts rest : List Token) (x : Name × List Token) → name_at ts ≡ Some x → Spells ss x.1 rest → Spells (name x.0 ∷ ss) ts rest
+pub name_spells : (ss : List Spelled) (ts rest : List Token) (x : Name × List Token) → name_at ts ≡ Ok x → Spells ss x.1 rest → Spells (name x.0 ∷ ss) ts rest
 unfolding name_at
-name_spells ss [] rest x e h = absurd (none_some _ e)
-name_spells ss (t ∷ ts) rest x e h = let p = name_of-name t.kind t.line ts x e in ((p.0, p.1), subst (λ (y : List Token). Spells ss y rest) (sym p.2) h)
+name_spells ss [] rest x e h = absurd (err_ok _ _ e)
+name_spells ss (t ∷ ts) rest x e h = let p = name_of-name t.kind t.place ts x e in ((p.0, p.1), subst (λ (y : List Token). Spells ss y rest) (sym p.2) h)
 
-natural : (n : ℕ) → pos 0 ≤ℤ pos n
-natural n = omega (arith, ints)
+number_of-number : (k : TokenKind) (place : ℕ) (ts : List Token) (x : Number × List Token) → number_of k place ts ≡ Ok x → (k ≡ kind.Number x.0.value) × (place ≡ x.0.place) × (ts ≡ x.1)
+number_of-number (kind.Number n) place ts x e = let p = ok_is _ _ e in (ap (λ (y : Number × List Token). kind.Number y.0.value) p, ap (λ (y : Number × List Token). y.0.place) p, ap (λ (y : Number × List Token). y.1) p)
+number_of-number _ place ts x e = absurd (err_ok _ _ e)
 
-number_of-number : (k : TokenKind) (line : ℕ) (ts : List Token) (x : Number × List Token) → number_of k line ts ≡ Some x → (k ≡ kind.Number x.0.value) × (line ≡ x.0.line) × (ts ≡ x.1) × (pos 0 ≤ℤ x.0.value)
-number_of-number (kind.Number (pos n)) line ts x e = let p = some_is _ _ e in (ap (λ (y : Number × List Token). kind.Number y.0.value) p, ap (λ (y : Number × List Token). y.0.line) p, ap (λ (y : Number × List Token). y.1) p, subst (λ (y : Number × List Token). pos 0 ≤ℤ y.0.value) p (natural n))
-number_of-number _ line ts x e = absurd (none_some _ e)
-
-pub number_spells : (ss : List Spelled) (ts rest : List Token) (x : Number × List Token) → number_at ts ≡ Some x → Spells ss x.1 rest → Spells (number x.0 ∷ ss) ts rest × (pos 0 ≤ℤ x.0.value)
+pub number_spells : (ss : List Spelled) (ts rest : List Token) (x : Number × List Token) → number_at ts ≡ Ok x → Spells ss x.1 rest → Spells (number x.0 ∷ ss) ts rest
 unfolding number_at
-number_spells ss [] rest x e h = absurd (none_some _ e)
-number_spells ss (t ∷ ts) rest x e h = let p = number_of-number t.kind t.line ts x e in (((p.0, p.1), subst (λ (y : List Token). Spells ss y rest) (sym p.2) h), p.3)
+number_spells ss [] rest x e h = absurd (err_ok _ _ e)
+number_spells ss (t ∷ ts) rest x e h = let p = number_of-number t.kind t.place ts x e in ((p.0, p.1), subst (λ (y : List Token). Spells ss y rest) (sym p.2) h)

@@ -1,9 +1,6 @@
 -- The grammar of model texts: how a tree is spelled by tokens, and which trees are those of a text.
-use Rattle.std.specs.Prelude.{◌≡◌, ℕ, ◌+◌, ◌<◌, ◌≤◌, List, [], ◌∷◌, ◌++◌, length, Option, Some, None, max, pos, ◌≤ℤ◌, ◌⊎◌}
+use Rattle.std.specs.Prelude.{◌≡◌, ℕ, ◌+◌, ◌<◌, ◌≤◌, List, [], ◌∷◌, ◌++◌, length, Option, Some, None, max}
 use Rattle.std.specs.List.{flat_map, AllByRecursion}
-use Rattle.dv_lex.specs.declared.error.LoadError.{LoadError}
-use Rattle.dv_lex.specs.declared.error.LoadError.TheVariants as error
-use Rattle.dv_lex.specs.declared.error.Refusal.TheVariants as refusal
 use Rattle.dv_lex.specs.declared.token.Token.{Token}
 use Rattle.dv_lex.specs.declared.token.TokenKind.{TokenKind}
 use Rattle.dv_lex.specs.declared.token.TokenKind.TheVariants as kind
@@ -17,22 +14,26 @@ use Rattle.dv_syntax.specs.declared.tree.Operator.{Operator}
 use Rattle.dv_syntax.specs.declared.tree.Operator.TheVariants as operator
 use Rattle.dv_syntax.specs.declared.tree.Bound.{Bound}
 use Rattle.dv_syntax.specs.declared.tree.Variable.{Variable}
+use Rattle.dv_syntax.specs.declared.tree.Declaration.{Declaration}
+use Rattle.dv_syntax.specs.declared.tree.Declaration.TheVariants as declaration
+use Rattle.dv_syntax.specs.declared.tree.Part.{Part}
+use Rattle.dv_syntax.specs.declared.tree.Link.{Link}
+use Rattle.dv_syntax.specs.declared.tree.Start.{Start}
 use Rattle.dv_syntax.specs.declared.tree.RuleSort.{RuleSort}
 use Rattle.dv_syntax.specs.declared.tree.RuleSort.TheVariants as sort
 use Rattle.dv_syntax.specs.declared.tree.End.{End}
-use Rattle.dv_syntax.specs.declared.tree.CoupledItem.{CoupledItem}
-use Rattle.dv_syntax.specs.declared.tree.CoupledItem.TheVariants as coupled_item
-use Rattle.dv_syntax.specs.Trees.{Expression, Literal, Named, Parens, Negative, Binary, Statements, Done, Assign, Goto, Send, If, IfElse, AtomicItem, OutPort, Var, Phases, Start, Hold, Rule, ModelTree, AtomicModel, CoupledModel, FileTree}
+use Rattle.dv_syntax.specs.Trees.{Expression, Literal, Named, Parens, Negative, Binary, Statements, Done, Assign, Goto, Send, If, IfElse, PhasesTree, HoldTree, RuleTree, FileTree}
+use Rattle.dv_syntax.specs.Written.{AtomicItem, Declares, Lists, Starts, Holds, Rules, CoupledItem, Outputs, Contains, Couples, WrittenModel, WrittenAtomic, WrittenCoupled, WrittenFile, sorted}
 
 -- ---- Spellings
 
--- what a tree asks of a token: its kind, and its line where the tree keeps that
+-- what a tree asks of a token: its kind, and its place where the tree keeps that
 pub data Spelled : Type 0 where
-  At : (kind : TokenKind) → (line : ℕ) → Spelled
+  At : (kind : TokenKind) → (place : ℕ) → Spelled
   Anywhere : (kind : TokenKind) → Spelled
 
 abbrev pub IsSpelled : Token → Spelled → Type 0
-IsSpelled t (At k line) = (t.kind ≡ k) × (t.line ≡ line)
+IsSpelled t (At k place) = (t.kind ≡ k) × (t.place ≡ place)
 IsSpelled t (Anywhere k) = t.kind ≡ k
 
 -- the tokens begin as it is spelled, and then the rest follows
@@ -47,15 +48,15 @@ sign s = Anywhere (kind.Symbol s)
 abbrev pub word : Keyword → Spelled
 word k = Anywhere (kind.Keyword k)
 
--- a word whose line the tree keeps
+-- a word whose place the tree keeps
 abbrev pub word_at : Keyword → ℕ → Spelled
-word_at k line = At (kind.Keyword k) line
+word_at k place = At (kind.Keyword k) place
 
 abbrev pub name : Name → Spelled
-name n = At (kind.Name n.number) n.line
+name n = At (kind.Name n.number) n.place
 
 abbrev pub number : Number → Spelled
-number n = At (kind.Number n.value) n.line
+number n = At (kind.Number n.value) n.place
 
 abbrev pub braces : List Spelled → List Spelled
 braces inside = sign symbol.OpenBrace ∷ (inside ++ sign symbol.CloseBrace ∷ [])
@@ -78,8 +79,8 @@ operator_symbol operator.AtLeast = symbol.AtLeast
 abbrev pub expression_spelling : Expression → List Spelled
 expression_spelling (Literal n) = number n ∷ []
 expression_spelling (Named n) = name n ∷ []
-expression_spelling (Parens line e) = At (kind.Symbol symbol.OpenParen) line ∷ (expression_spelling e ++ sign symbol.CloseParen ∷ [])
-expression_spelling (Negative line e) = At (kind.Symbol symbol.Minus) line ∷ expression_spelling e
+expression_spelling (Parens place e) = At (kind.Symbol symbol.OpenParen) place ∷ (expression_spelling e ++ sign symbol.CloseParen ∷ [])
+expression_spelling (Negative place e) = At (kind.Symbol symbol.Minus) place ∷ expression_spelling e
 expression_spelling (Binary o a b) = expression_spelling a ++ sign (operator_symbol o) ∷ expression_spelling b
 
 -- How tightly an operator binds. Ranks 1 to 3 are for `or`, `and` and `not`.
@@ -114,23 +115,23 @@ left_rank operator.AtLeast = 5
 abbrev pub rank : Expression → ℕ
 rank (Literal n) = 8
 rank (Named n) = 8
-rank (Parens line e) = 8
-rank (Negative line e) = 7
+rank (Parens place e) = 8
+rank (Negative place e) = 7
 rank (Binary o a b) = operator_rank o
 
--- each operand has a rank that the grammar allows there, and no number is negative
+-- each operand has a rank that the grammar allows there
 abbrev pub IsWellFormed : Expression → Type 0
-IsWellFormed (Literal n) = pos 0 ≤ℤ n.value
+IsWellFormed (Literal n) = Unit {0}
 IsWellFormed (Named n) = Unit {0}
-IsWellFormed (Parens line e) = IsWellFormed e
-IsWellFormed (Negative line e) = IsWellFormed e × (7 ≤ rank e)
+IsWellFormed (Parens place e) = IsWellFormed e
+IsWellFormed (Negative place e) = IsWellFormed e × (7 ≤ rank e)
 IsWellFormed (Binary o a b) = IsWellFormed a × IsWellFormed b × (left_rank o ≤ rank a) × (operator_rank o < rank b)
 
 abbrev pub depth : Expression → ℕ
 depth (Literal n) = 1
 depth (Named n) = 1
-depth (Parens line e) = depth e + 1
-depth (Negative line e) = depth e + 1
+depth (Parens place e) = depth e + 1
+depth (Negative place e) = depth e + 1
 depth (Binary o a b) = max (depth a) (depth b) + 1
 
 pub record IsExpression (e : Expression) : Type 0 where
@@ -142,33 +143,33 @@ pub record IsExpression (e : Expression) : Type 0 where
 abbrev pub statements_spelling : Statements → List Spelled
 statements_spelling Done = []
 statements_spelling (Assign n e rest) = name n ∷ sign symbol.Assign ∷ (expression_spelling e ++ sign symbol.Semicolon ∷ statements_spelling rest)
-statements_spelling (Goto line p rest) = word_at keyword.Goto line ∷ name p ∷ sign symbol.Semicolon ∷ statements_spelling rest
-statements_spelling (Send line p e rest) = word_at keyword.Send line ∷ name p ∷ (expression_spelling e ++ sign symbol.Semicolon ∷ statements_spelling rest)
-statements_spelling (If line e block rest) = word_at keyword.If line ∷ (expression_spelling e ++ (braces (statements_spelling block) ++ statements_spelling rest))
-statements_spelling (IfElse line e block other rest) = word_at keyword.If line ∷ (expression_spelling e ++ (braces (statements_spelling block) ++ (word keyword.Else ∷ (braces (statements_spelling other) ++ statements_spelling rest))))
+statements_spelling (Goto place p rest) = word_at keyword.Goto place ∷ name p ∷ sign symbol.Semicolon ∷ statements_spelling rest
+statements_spelling (Send place p e rest) = word_at keyword.Send place ∷ name p ∷ (expression_spelling e ++ sign symbol.Semicolon ∷ statements_spelling rest)
+statements_spelling (If place e block rest) = word_at keyword.If place ∷ (expression_spelling e ++ (braces (statements_spelling block) ++ statements_spelling rest))
+statements_spelling (IfElse place e block other rest) = word_at keyword.If place ∷ (expression_spelling e ++ (braces (statements_spelling block) ++ (word keyword.Else ∷ (braces (statements_spelling other) ++ statements_spelling rest))))
 
 -- how many blocks lie in one another here, the one that holds these statements counted
 abbrev pub block_depth : Statements → ℕ
 block_depth Done = 1
 block_depth (Assign n e rest) = block_depth rest
-block_depth (Goto line p rest) = block_depth rest
-block_depth (Send line p e rest) = block_depth rest
-block_depth (If line e block rest) = max (block_depth block + 1) (block_depth rest)
-block_depth (IfElse line e block other rest) = max (max (block_depth block + 1) (block_depth other + 1)) (block_depth rest)
+block_depth (Goto place p rest) = block_depth rest
+block_depth (Send place p e rest) = block_depth rest
+block_depth (If place e block rest) = max (block_depth block + 1) (block_depth rest)
+block_depth (IfElse place e block other rest) = max (max (block_depth block + 1) (block_depth other + 1)) (block_depth rest)
 
 abbrev pub AreStatements : Statements → Type 0
 AreStatements Done = Unit {0}
 AreStatements (Assign n e rest) = IsExpression e × AreStatements rest
-AreStatements (Goto line p rest) = AreStatements rest
-AreStatements (Send line p e rest) = IsExpression e × AreStatements rest
-AreStatements (If line e block rest) = IsExpression e × AreStatements block × AreStatements rest
-AreStatements (IfElse line e block other rest) = IsExpression e × AreStatements block × AreStatements other × AreStatements rest
+AreStatements (Goto place p rest) = AreStatements rest
+AreStatements (Send place p e rest) = IsExpression e × AreStatements rest
+AreStatements (If place e block rest) = IsExpression e × AreStatements block × AreStatements rest
+AreStatements (IfElse place e block other rest) = IsExpression e × AreStatements block × AreStatements other × AreStatements rest
 
 -- ---- Atomic models
 
 abbrev pub minus_spelling : Option ℕ → List Spelled
 minus_spelling None = []
-minus_spelling (Some line) = At (kind.Symbol symbol.Minus) line ∷ []
+minus_spelling (Some place) = At (kind.Symbol symbol.Minus) place ∷ []
 
 abbrev pub bound_spelling : Bound → List Spelled
 bound_spelling b = minus_spelling b.minus ++ number b.magnitude ∷ []
@@ -176,75 +177,96 @@ bound_spelling b = minus_spelling b.minus ++ number b.magnitude ∷ []
 abbrev pub variable_spelling : Variable → List Spelled
 variable_spelling v = word keyword.Var ∷ name v.name ∷ sign symbol.Colon ∷ (bound_spelling v.low ++ (sign symbol.Range ∷ (bound_spelling v.high ++ (sign symbol.Equal ∷ (bound_spelling v.start ++ sign symbol.Semicolon ∷ [])))))
 
+abbrev pub output_spelling : Name → List Spelled
+output_spelling n = word keyword.Out ∷ name n ∷ sign symbol.Semicolon ∷ []
+
+abbrev pub declaration_spelling : Declaration → List Spelled
+declaration_spelling (declaration.Out n) = output_spelling n
+declaration_spelling (declaration.Var v) = variable_spelling v
+
 -- names with commas between them
 abbrev pub names_spelling : List Name → List Spelled
 names_spelling [] = []
 names_spelling (n ∷ ns) = name n ∷ flat_map (λ n. sign symbol.Comma ∷ name n ∷ []) ns
 
+abbrev pub phases_spelling : PhasesTree → List Spelled
+phases_spelling p = word_at keyword.Phases p.place ∷ (names_spelling p.names ++ sign symbol.Semicolon ∷ [])
+
+abbrev pub start_spelling : Start → List Spelled
+start_spelling s = word_at keyword.Start s.place ∷ name s.phase ∷ sign symbol.Semicolon ∷ []
+
 abbrev pub ticks_spelling : Option Expression → List Spelled
 ticks_spelling None = word keyword.Forever ∷ []
 ticks_spelling (Some e) = expression_spelling e
+
+abbrev pub hold_spelling : HoldTree → List Spelled
+hold_spelling h = word_at keyword.Hold h.place ∷ name h.phase ∷ sign symbol.Colon ∷ (ticks_spelling h.ticks ++ sign symbol.Semicolon ∷ [])
 
 abbrev pub sort_word : RuleSort → Keyword
 sort_word sort.Output = keyword.Output
 sort_word sort.Internal = keyword.Internal
 
-abbrev pub item_spelling : AtomicItem → List Spelled
-item_spelling (OutPort n) = word keyword.Out ∷ name n ∷ sign symbol.Semicolon ∷ []
-item_spelling (Var v) = variable_spelling v
-item_spelling (Phases line ns) = word_at keyword.Phases line ∷ (names_spelling ns ++ sign symbol.Semicolon ∷ [])
-item_spelling (Start line p) = word_at keyword.Start line ∷ name p ∷ sign symbol.Semicolon ∷ []
-item_spelling (Hold line p ticks) = word_at keyword.Hold line ∷ name p ∷ sign symbol.Colon ∷ (ticks_spelling ticks ++ sign symbol.Semicolon ∷ [])
-item_spelling (Rule sort p body) = word (sort_word sort) ∷ name p ∷ braces (statements_spelling body)
+abbrev pub rule_spelling : RuleTree → List Spelled
+rule_spelling r = word (sort_word r.sort) ∷ name r.phase ∷ braces (statements_spelling r.body)
 
-abbrev pub IsBound : Bound → Type 0
-IsBound b = pos 0 ≤ℤ b.magnitude.value
+abbrev pub item_spelling : AtomicItem → List Spelled
+item_spelling (Declares d) = declaration_spelling d
+item_spelling (Lists p) = phases_spelling p
+item_spelling (Starts s) = start_spelling s
+item_spelling (Holds h) = hold_spelling h
+item_spelling (Rules r) = rule_spelling r
 
 abbrev pub AreTicks : Option Expression → Type 0
 AreTicks None = Unit {0}
 AreTicks (Some e) = IsExpression e
 
 abbrev pub IsItem : AtomicItem → Type 0
-IsItem (OutPort n) = Unit {0}
-IsItem (Var v) = IsBound v.low × IsBound v.high × IsBound v.start
-IsItem (Phases line ns) = 0 < length ns
-IsItem (Start line p) = Unit {0}
-IsItem (Hold line p ticks) = AreTicks ticks
-IsItem (Rule sort p body) = AreStatements body × (block_depth body ≤ 16)
+IsItem (Declares d) = Unit {0}
+IsItem (Lists p) = 0 < length p.names
+IsItem (Starts s) = Unit {0}
+IsItem (Holds h) = AreTicks h.ticks
+IsItem (Rules r) = AreStatements r.body × (block_depth r.body ≤ 16)
 
 -- ---- Coupled models
 
-abbrev pub part_spelling : Option Name → Spelled
-part_spelling None = word keyword.Itself
-part_spelling (Some n) = name n
+abbrev pub part_name_spelling : Option Name → Spelled
+part_name_spelling None = word keyword.Itself
+part_name_spelling (Some n) = name n
 
 abbrev pub end_spelling : End → List Spelled
-end_spelling e = part_spelling e.part ∷ sign symbol.Dot ∷ name e.port ∷ []
+end_spelling e = part_name_spelling e.part ∷ sign symbol.Dot ∷ name e.port ∷ []
+
+abbrev pub part_spelling : Part → List Spelled
+part_spelling p = word keyword.Part ∷ name p.name ∷ sign symbol.Colon ∷ name p.model ∷ sign symbol.Semicolon ∷ []
+
+abbrev pub link_spelling : Link → List Spelled
+link_spelling l = word_at keyword.Link l.place ∷ (end_spelling l.from ++ (sign symbol.Arrow ∷ (end_spelling l.to ++ sign symbol.Semicolon ∷ [])))
 
 abbrev pub coupled_item_spelling : CoupledItem → List Spelled
-coupled_item_spelling (coupled_item.Out n) = word keyword.Out ∷ name n ∷ sign symbol.Semicolon ∷ []
-coupled_item_spelling (coupled_item.Part p) = word keyword.Part ∷ name p.name ∷ sign symbol.Colon ∷ name p.model ∷ sign symbol.Semicolon ∷ []
-coupled_item_spelling (coupled_item.Link l) = word_at keyword.Link l.line ∷ (end_spelling l.from ++ (sign symbol.Arrow ∷ (end_spelling l.to ++ sign symbol.Semicolon ∷ [])))
+coupled_item_spelling (Outputs n) = output_spelling n
+coupled_item_spelling (Contains p) = part_spelling p
+coupled_item_spelling (Couples l) = link_spelling l
 
 -- ---- Files
 
-abbrev pub model_spelling : ModelTree → List Spelled
-model_spelling (AtomicModel m) = word keyword.Atomic ∷ name m.name ∷ braces (flat_map item_spelling m.items)
-model_spelling (CoupledModel m) = word keyword.Coupled ∷ name m.name ∷ braces (flat_map coupled_item_spelling m.items)
+abbrev pub model_spelling : WrittenModel → List Spelled
+model_spelling (WrittenAtomic n items) = word keyword.Atomic ∷ name n ∷ braces (flat_map item_spelling items)
+model_spelling (WrittenCoupled n items) = word keyword.Coupled ∷ name n ∷ braces (flat_map coupled_item_spelling items)
 
-abbrev pub IsModel : ModelTree → Type 0
-IsModel (AtomicModel m) = AllByRecursion IsItem m.items
-IsModel (CoupledModel m) = Unit {0}
+abbrev pub IsModel : WrittenModel → Type 0
+IsModel (WrittenAtomic n items) = AllByRecursion IsItem items
+IsModel (WrittenCoupled n items) = Unit {0}
 
-abbrev pub file_spelling : FileTree → List Spelled
+abbrev pub file_spelling : WrittenFile → List Spelled
 file_spelling f = flat_map model_spelling f.models ++ word keyword.Root ∷ name f.root ∷ sign symbol.Semicolon ∷ []
 
--- the tokens are those of the file, to the last one, and the file is one of the grammar within the limits on depth
-pub record IsFileOf (ts : List Token) (f : FileTree) : Type 0 where
+-- the tokens are those of the file as it is written, to the last one, and the file is one of the grammar within the limits on depth
+pub record IsWritten (ts : List Token) (f : WrittenFile) : Type 0 where
   pub spelled : Spells (file_spelling f) ts []
   pub models : AllByRecursion IsModel f.models
 
--- only want of memory, or E4 or E5 where the tokens are those of no file
-abbrev pub IsRefused : LoadError → List Token → Type 0
-IsRefused error.Memory ts = Unit {0}
-IsRefused (error.Refused e) ts = ((e.number ≡ refusal.E4) ⊎ (e.number ≡ refusal.E5)) × ((f : FileTree) → IsFileOf ts f → ⊥)
+-- the tokens are those of a file with this tree
+pub record IsFileOf (ts : List Token) (f : FileTree) : Type 0 where
+  pub written : WrittenFile
+  pub read : IsWritten ts written
+  pub tree : f ≡ sorted written

@@ -1,3 +1,7 @@
+-- What a reader believes: the trees, the tokens that spell them, and the refusal of tokens that spell none.
+pub mod Trees
+pub mod Written
 pub mod Grammar
 pub mod Reading
-pub mod Trees
+-- What the laws speak of.
+pub mod Refusals

@@ -1,7 +1,6 @@
--- Reading from left to right: a reader answers with what stands at the front of the tokens and the tokens after it,
--- or with none.
-use Rattle.std.specs.Prelude.{◌≡◌, ℕ, zero, suc, ◌+◌, ◌-◌, List, [], ◌∷◌, ◌++◌, length, Bool, true, false, ◌&&◌, Option, Some, None, Result, Ok, Err, pos, nat_lt, nat_le, ◌==◌}
-use Rattle.std.specs.Ordering.{int_eq}
+-- Reading from left to right: a reader answers with what stands at the front of the tokens and the tokens after it, or
+-- with what stops it.
+use Rattle.std.specs.Prelude.{◌≡◌, ℕ, zero, suc, ◌+◌, ◌-◌, List, [], ◌∷◌, ◌++◌, length, Bool, true, false, ◌&&◌, Option, Some, None, Result, Ok, Err, nat_lt, nat_le, ◌==◌}
 use Rattle.dv_lex.specs.declared.token.Token.{Token}
 use Rattle.dv_lex.specs.declared.token.TokenKind.{TokenKind}
 use Rattle.dv_lex.specs.declared.token.TokenKind.TheVariants as kind
@@ -20,40 +19,51 @@ use Rattle.dv_syntax.specs.declared.tree.RuleSort.TheVariants as sort
 use Rattle.dv_syntax.specs.declared.tree.End.{End}
 use Rattle.dv_syntax.specs.declared.tree.Part.{Part}
 use Rattle.dv_syntax.specs.declared.tree.Link.{Link}
-use Rattle.dv_syntax.specs.declared.tree.CoupledItem.{CoupledItem}
-use Rattle.dv_syntax.specs.declared.tree.CoupledItem.TheVariants as coupled_item
+use Rattle.dv_syntax.specs.declared.tree.Declaration.TheVariants as declaration
+use Rattle.dv_syntax.specs.declared.parser.atomic.AtomicItem.{AtomicItem as CodeItem}
+use Rattle.dv_syntax.specs.declared.parser.atomic.AtomicItem.TheVariants as item
+use Rattle.dv_syntax.specs.declared.parser.coupled.CoupledItem.{CoupledItem as CodeCoupledItem}
+use Rattle.dv_syntax.specs.declared.parser.coupled.CoupledItem.TheVariants as coupled_item
 use Rattle.dv_syntax.specs.declared.parser.fault.Fault.{Fault}
 use Rattle.dv_syntax.specs.declared.parser.fault.Fault.TheVariants as fault
 use Rattle.dv_syntax.specs.declared.tree.Stmt.{Stmt}
 use Rattle.dv_syntax.specs.declared.tree.Stmt as stmt
-use Rattle.dv_syntax.specs.Trees.{expression_of, row_statements, Expression, Literal, Named, Parens, Negative, Binary, Statements, Done, Assign, Goto, Send, If, IfElse, AtomicItem, OutPort, Var, Phases, Start, Hold, Rule, AtomicTree, CoupledTree, ModelTree, AtomicModel, CoupledModel, FileTree}
+use Rattle.dv_lex.specs.declared.error.LoadError.{LoadError}
+use Rattle.dv_lex.specs.declared.error.LoadError.TheVariants as error
+use Rattle.dv_lex.specs.declared.error.Refusal.{Refusal}
+use Rattle.dv_lex.specs.declared.error.RefusalNumber.TheVariants.{E4, E5}
+use Rattle.dv_syntax.specs.Trees.{expression_of, row_statements, phases_of, hold_of, rule_of, Expression, Literal, Named, Parens, Negative, Binary, Statements, Done, Assign, Goto, Send, If, IfElse, AtomicTree, CoupledTree, ModelTree, AtomicModel, CoupledModel, FileTree}
+use Rattle.dv_syntax.specs.Written.{AtomicItem, Declares, Lists, Starts, Holds, Rules, CoupledItem, Outputs, Contains, Couples, WrittenModel, WrittenAtomic, WrittenCoupled, WrittenFile, sorted_items, sorted_coupled_items}
 use Rattle.dv_syntax.specs.Grammar.{operator_rank, left_rank, rank, depth, sort_word}
 
+-- What stops a reader: the token at a place can't stand there, or what begins with it, or what it joins, lies too deep; or
+-- more tokens have to follow.
+pub data Obstacle : Type 0 where
+  Unexpected : (place : ℕ) → Obstacle
+  TooDeep : (place : ℕ) → Obstacle
+  TooShort : Obstacle
+
+abbrev pub Read : Type 0 → Type 0
+Read A = Result A Obstacle
+
 -- what was read, and then a reader that uses it
-unfoldable pub read_then : {A B : Type 0} → Option A → (A → Option B) → Option B
-read_then (Some x) f = f x
-read_then None f = None
+unfoldable pub read_then : {A B : Type 0} → Read A → (A → Read B) → Read B
+read_then (Ok x) f = f x
+read_then (Err o) f = Err o
 
 -- What a function returned, seen by `view`, is what reading gives, unless memory ran out.
-abbrev pub Fails : {Y : Type 0} → Fault → Option Y → Type 0
+abbrev pub Fails : {Y : Type 0} → Fault → Read Y → Type 0
 Fails fault.Memory read = Unit {0}
-Fails (fault.Unexpected line) read = read ≡ None
-Fails (fault.TooDeep line) read = read ≡ None
-Fails fault.TooShort read = read ≡ None
+Fails (fault.Unexpected place) read = read ≡ Err (Unexpected place)
+Fails (fault.TooDeep place) read = read ≡ Err (TooDeep place)
+Fails fault.TooShort read = read ≡ Err TooShort
 
-abbrev pub Gives : {X Y : Type 0} → (X → Y) → Result X Fault → Option Y → Type 0
-Gives view (Ok x) read = read ≡ Some (view x)
+abbrev pub Gives : {X Y : Type 0} → (X → Y) → Result X Fault → Read Y → Type 0
+Gives view (Ok x) read = read ≡ Ok (view x)
 Gives view (Err e) read = Fails e read
 
--- not want of memory
-abbrev pub IsRefusal : Fault → Type 0
-IsRefusal fault.Memory = ⊥
-IsRefusal (fault.Unexpected line) = Unit {0}
-IsRefusal (fault.TooDeep line) = Unit {0}
-IsRefusal fault.TooShort = Unit {0}
-
 infixl 10 ◌>>=◌
-abbrev pub ◌>>=◌ : {A B : Type 0} → Option A → (A → Option B) → Option B
+abbrev pub ◌>>=◌ : {A B : Type 0} → Read A → (A → Read B) → Read B
 r >>= f = read_then r f
 
 unfoldable pub choose : {A : Type 0} → Bool → A → A → A
@@ -133,7 +143,7 @@ symbol_number symbol.Percent = 21
 
 abbrev pub same_kind : TokenKind → TokenKind → Bool
 same_kind (kind.Name a) (kind.Name b) = a == b
-same_kind (kind.Number a) (kind.Number b) = int_eq a b
+same_kind (kind.Number a) (kind.Number b) = a == b
 same_kind (kind.Keyword a) (kind.Keyword b) = keyword_number a == keyword_number b
 same_kind (kind.Symbol a) (kind.Symbol b) = symbol_number a == symbol_number b
 same_kind _ _ = false
@@ -143,31 +153,43 @@ abbrev pub begins : TokenKind → List Token → Bool
 begins k [] = false
 begins k (t ∷ ts) = same_kind t.kind k
 
+-- the place of the first token
+unfoldable pub place_at : List Token → ℕ
+place_at [] = 0
+place_at (t ∷ ts) = t.place
+
+-- the first token can't stand there, or there is none
+unfoldable pub obstacle_at : List Token → Obstacle
+obstacle_at [] = TooShort
+obstacle_at (t ∷ ts) = Unexpected t.place
+
+-- what a fault of the code says
+abbrev pub IsFault : Fault → Obstacle → Type 0
+IsFault fault.Memory o = ⊥
+IsFault (fault.Unexpected place) o = o ≡ Unexpected place
+IsFault (fault.TooDeep place) o = o ≡ TooDeep place
+IsFault fault.TooShort o = o ≡ TooShort
+
 -- the tokens after one of this kind
-unfoldable pub after : TokenKind → List Token → Option (List Token)
-after k [] = None
-after k (t ∷ ts) = choose (same_kind t.kind k) (Some ts) None
+unfoldable pub after : TokenKind → List Token → Read (List Token)
+after k [] = Err TooShort
+after k (t ∷ ts) = choose (same_kind t.kind k) (Ok ts) (Err (Unexpected t.place))
 
-abbrev pub name_of : TokenKind → ℕ → List Token → Option (Name × List Token)
-name_of (kind.Name n) line ts = Some (record { number = n; line = line }, ts)
-name_of _ line ts = None
+abbrev pub name_of : TokenKind → ℕ → List Token → Read (Name × List Token)
+name_of (kind.Name n) place ts = Ok (record { number = n; place = place }, ts)
+name_of _ place ts = Err (Unexpected place)
 
-unfoldable pub name_at : List Token → Option (Name × List Token)
-name_at [] = None
-name_at (t ∷ ts) = name_of t.kind t.line ts
+unfoldable pub name_at : List Token → Read (Name × List Token)
+name_at [] = Err TooShort
+name_at (t ∷ ts) = name_of t.kind t.place ts
 
-abbrev pub number_of : TokenKind → ℕ → List Token → Option (Number × List Token)
-number_of (kind.Number (pos n)) line ts = Some (record { value = pos n; line = line }, ts)
-number_of _ line ts = None
+abbrev pub number_of : TokenKind → ℕ → List Token → Read (Number × List Token)
+number_of (kind.Number n) place ts = Ok (record { value = n; place = place }, ts)
+number_of _ place ts = Err (Unexpected place)
 
-unfoldable pub number_at : List Token → Option (Number × List Token)
-number_at [] = None
-number_at (t ∷ ts) = number_of t.kind t.line ts
-
--- the line of the first token
-unfoldable pub line_at : List Token → ℕ
-line_at [] = 0
-line_at (t ∷ ts) = t.line
+unfoldable pub number_at : List Token → Read (Number × List Token)
+number_at [] = Err TooShort
+number_at (t ∷ ts) = number_of t.kind t.place ts
 
 -- ---- Expressions
 
@@ -195,7 +217,7 @@ goes_on level left o = nat_le level (operator_rank o) && nat_le (left_rank o) (r
 
 unfoldable pub operator_at : ℕ → Expression → List Token → Option (Operator × List Token)
 operator_at level left [] = None
-operator_at level left (t ∷ ts) = operator_of t.kind >>= λ o. choose (goes_on level left o) (Some (o, ts)) None
+operator_at level left (t ∷ ts) = maybe (operator_of t.kind) None (λ o. choose (goes_on level left o) (Some (o, ts)) None)
 
 abbrev pub is_name : TokenKind → Bool
 is_name (kind.Name n) = true
@@ -206,79 +228,89 @@ begins_name [] = false
 begins_name (t ∷ ts) = is_name t.kind
 
 -- a name or a number
-unfoldable pub leaf_at : List Token → Option (Expression × List Token)
-leaf_at ts = choose (begins_name ts) (name_at ts >>= λ n. Some (Named n.0, n.1)) (number_at ts >>= λ n. Some (Literal n.0, n.1))
+unfoldable pub leaf_at : List Token → Read (Expression × List Token)
+leaf_at ts = choose (begins_name ts) (name_at ts >>= λ n. Ok (Named n.0, n.1)) (number_at ts >>= λ n. Ok (Literal n.0, n.1))
 
--- An operand that no operator joins to another. `operand` reads what lies behind a sign or a parenthesis, at a level.
-unfoldable pub parens_at : (ℕ → List Token → Option (Expression × List Token)) → List Token → Option (Expression × List Token)
-parens_at operand ts = do
+-- what a reader reads where there is room for it, and else an obstacle at the place of what owes it
+unfoldable pub within : {A : Type 0} → (limit place : ℕ) → Read A → Read A
+within zero place read = Err (TooDeep place)
+within (suc limit) place read = read
+
+-- An operand that no operator joins to another. `operand` reads what lies behind a sign or a parenthesis, at a level, no
+-- deeper than the limit.
+unfoldable pub parens_at : (ℕ → List Token → Read (Expression × List Token)) → ℕ → List Token → Read (Expression × List Token)
+parens_at operand limit ts = do
   inside ← after (kind.Symbol symbol.OpenParen) ts
-  e ← operand 0 inside
+  e ← within limit (place_at ts) (operand 0 inside)
   rest ← after (kind.Symbol symbol.CloseParen) e.1
-  Some (Parens (line_at ts) e.0, rest)
+  Ok (Parens (place_at ts) e.0, rest)
 
-unfoldable pub negative_at : (ℕ → List Token → Option (Expression × List Token)) → List Token → Option (Expression × List Token)
-negative_at operand ts = do
+unfoldable pub negative_at : (ℕ → List Token → Read (Expression × List Token)) → ℕ → List Token → Read (Expression × List Token)
+negative_at operand limit ts = do
   behind ← after (kind.Symbol symbol.Minus) ts
-  e ← operand 7 behind
-  Some (Negative (line_at ts) e.0, e.1)
+  e ← within limit (place_at ts) (operand 7 behind)
+  Ok (Negative (place_at ts) e.0, e.1)
 
-unfoldable pub primary_at : (ℕ → List Token → Option (Expression × List Token)) → List Token → Option (Expression × List Token)
-primary_at operand ts = choose (begins (kind.Symbol symbol.OpenParen) ts) (parens_at operand ts) (choose (begins (kind.Symbol symbol.Minus) ts) (negative_at operand ts) (leaf_at ts))
+unfoldable pub primary_at : (ℕ → List Token → Read (Expression × List Token)) → ℕ → List Token → Read (Expression × List Token)
+primary_at operand limit ts = choose (begins (kind.Symbol symbol.OpenParen) ts) (parens_at operand limit ts) (choose (begins (kind.Symbol symbol.Minus) ts) (negative_at operand limit ts) (leaf_at ts))
 
 -- What follows a left operand, as long as an operator of the level goes on with it. `more` counts the turns that are left.
-abbrev pub turns : (ℕ → List Token → Option (Expression × List Token)) → (limit more level : ℕ) → Expression → List Token → Option (Expression × List Token)
-turns operand limit zero level left ts = maybe (operator_at level left ts) (Some (left, ts)) (λ o. None)
-turns operand limit (suc more) level left ts = maybe (operator_at level left ts) (Some (left, ts)) (λ o.
-    choose (nat_lt (depth left) limit) (operand (operator_rank o.0 + 1) o.1 >>= λ right. turns operand limit more level (Binary o.0 left right.0) right.1) None)
+abbrev pub turns : (ℕ → List Token → Read (Expression × List Token)) → (limit more level : ℕ) → Expression → List Token → Read (Expression × List Token)
+turns operand limit zero level left ts = maybe (operator_at level left ts) (Ok (left, ts)) (λ o. Err (TooDeep (place_at ts)))
+turns operand limit (suc more) level left ts = maybe (operator_at level left ts) (Ok (left, ts)) (λ o.
+    choose (nat_lt (depth left) limit) (operand (operator_rank o.0 + 1) o.1 >>= λ right. turns operand limit more level (Binary o.0 left right.0) right.1) (Err (TooDeep (place_at ts))))
 
 -- An expression no deeper than the limit, at whose top no operator below the level stands
-unfoldable pub expression_at : ℕ → ℕ → List Token → Option (Expression × List Token)
-expression_at zero level ts = None
-expression_at (suc limit) level ts = primary_at (expression_at limit) ts >>= λ e. turns (expression_at limit) (suc limit) (suc limit) level e.0 e.1
+unfoldable pub expression_at : ℕ → ℕ → List Token → Read (Expression × List Token)
+expression_at zero level ts = Err TooShort
+expression_at (suc limit) level ts = primary_at (expression_at limit) limit ts >>= λ e. turns (expression_at limit) (suc limit) (suc limit) level e.0 e.1
 
 -- what follows a left operand, within the limit
-unfoldable pub more_at : ℕ → ℕ → Expression → List Token → Option (Expression × List Token)
+unfoldable pub more_at : ℕ → ℕ → Expression → List Token → Read (Expression × List Token)
 more_at limit level left ts = turns (expression_at (limit - 1)) limit limit level left ts
 
 -- ---- Lists
 
 -- As many as stand before a token of this kind. The number counts how many more may come.
-abbrev pub many : {A : Type 0} → (List Token → Option (A × List Token)) → TokenKind → ℕ → List Token → Option (List A × List Token)
-many one stop zero ts = None
-many one stop (suc more) ts = choose (begins stop ts) (Some ([], ts)) (one ts >>= λ x. many one stop more x.1 >>= λ xs. Some (x.0 ∷ xs.0, xs.1))
+abbrev pub many : {A : Type 0} → (List Token → Read (A × List Token)) → TokenKind → ℕ → List Token → Read (List A × List Token)
+many one stop zero ts = Err TooShort
+many one stop (suc more) ts = choose (begins stop ts) (Ok ([], ts)) (one ts >>= λ x. many one stop more x.1 >>= λ xs. Ok (x.0 ∷ xs.0, xs.1))
 
-unfoldable pub many_at : {A : Type 0} → (List Token → Option (A × List Token)) → TokenKind → List Token → Option (List A × List Token)
+unfoldable pub many_at : {A : Type 0} → (List Token → Read (A × List Token)) → TokenKind → List Token → Read (List A × List Token)
 many_at one stop ts = many one stop (suc (length ts)) ts
 
+-- what the list that is read becomes
+abbrev pub becoming : {A B : Type 0} → (List A → B) → Read (List A × List Token) → Read (B × List Token)
+becoming f read = read_then read (λ x. Ok (f x.0, x.1))
+
 -- what was read before, and then what is read
-abbrev pub with_front : {A : Type 0} → List A → Option (List A × List Token) → Option (List A × List Token)
-with_front front read = read_then read (λ x. Some (front ++ x.0, x.1))
+abbrev pub with_front : {A : Type 0} → List A → Read (List A × List Token) → Read (List A × List Token)
+with_front front read = becoming (λ xs. front ++ xs) read
 
 -- in braces
-unfoldable pub braces_at : {A : Type 0} → (List Token → Option (A × List Token)) → List Token → Option (List A × List Token)
+unfoldable pub braces_at : {A : Type 0} → (List Token → Read (A × List Token)) → List Token → Read (List A × List Token)
 braces_at one ts = do
   inside ← after (kind.Symbol symbol.OpenBrace) ts
   xs ← many_at one (kind.Symbol symbol.CloseBrace) inside
   rest ← after (kind.Symbol symbol.CloseBrace) xs.1
-  Some (xs.0, rest)
+  Ok (xs.0, rest)
 
 -- ---- Statements
 
 -- a statement by itself
 pub data Single : Type 0 where
   SingleAssign : (variable : Name) → (value : Expression) → Single
-  SingleGoto : (line : ℕ) → (phase : Name) → Single
-  SingleSend : (line : ℕ) → (port : Name) → (value : Expression) → Single
-  SingleIf : (line : ℕ) → (condition : Expression) → (block : Statements) → Single
-  SingleIfElse : (line : ℕ) → (condition : Expression) → (block other : Statements) → Single
+  SingleGoto : (place : ℕ) → (phase : Name) → Single
+  SingleSend : (place : ℕ) → (port : Name) → (value : Expression) → Single
+  SingleIf : (place : ℕ) → (condition : Expression) → (block : Statements) → Single
+  SingleIfElse : (place : ℕ) → (condition : Expression) → (block other : Statements) → Single
 
 abbrev pub single_before : Single → Statements → Statements
 single_before (SingleAssign n e) rest = Assign n e rest
-single_before (SingleGoto line p) rest = Goto line p rest
-single_before (SingleSend line p e) rest = Send line p e rest
-single_before (SingleIf line e block) rest = If line e block rest
-single_before (SingleIfElse line e block other) rest = IfElse line e block other rest
+single_before (SingleGoto place p) rest = Goto place p rest
+single_before (SingleSend place p e) rest = Send place p e rest
+single_before (SingleIf place e block) rest = If place e block rest
+single_before (SingleIfElse place e block other) rest = IfElse place e block other rest
 
 abbrev pub joined : List Single → Statements
 joined [] = Done
@@ -286,68 +318,69 @@ joined (s ∷ ss) = single_before s (joined ss)
 
 abbrev pub single_of : Stmt → Single
 single_of (stmt.Assign n e) = SingleAssign n (expression_of e)
-single_of (stmt.Goto line p) = SingleGoto line p
-single_of (stmt.Send line p e) = SingleSend line p (expression_of e)
-single_of (stmt.If' line e shape block) = SingleIf line (expression_of e) (row_statements block)
-single_of (stmt.IfElse' line e shape block other_shape other) = SingleIfElse line (expression_of e) (row_statements block) (row_statements other)
+single_of (stmt.Goto place p) = SingleGoto place p
+single_of (stmt.Send place p e) = SingleSend place p (expression_of e)
+single_of (stmt.If' place e shape block) = SingleIf place (expression_of e) (row_statements block)
+single_of (stmt.IfElse' place e shape block other_shape other) = SingleIfElse place (expression_of e) (row_statements block) (row_statements other)
 
-unfoldable pub assign_at : List Token → Option (Single × List Token)
+unfoldable pub assign_at : List Token → Read (Single × List Token)
 assign_at ts = do
   n ← name_at ts
   behind ← after (kind.Symbol symbol.Assign) n.1
   e ← expression_at 64 0 behind
   rest ← after (kind.Symbol symbol.Semicolon) e.1
-  Some (SingleAssign n.0 e.0, rest)
+  Ok (SingleAssign n.0 e.0, rest)
 
-unfoldable pub goto_at : List Token → Option (Single × List Token)
+unfoldable pub goto_at : List Token → Read (Single × List Token)
 goto_at ts = do
   behind ← after (kind.Keyword keyword.Goto) ts
   n ← name_at behind
   rest ← after (kind.Symbol symbol.Semicolon) n.1
-  Some (SingleGoto (line_at ts) n.0, rest)
+  Ok (SingleGoto (place_at ts) n.0, rest)
 
-unfoldable pub send_at : List Token → Option (Single × List Token)
+unfoldable pub send_at : List Token → Read (Single × List Token)
 send_at ts = do
   behind ← after (kind.Keyword keyword.Send) ts
   n ← name_at behind
   e ← expression_at 64 0 n.1
   rest ← after (kind.Symbol symbol.Semicolon) e.1
-  Some (SingleSend (line_at ts) n.0 e.0, rest)
+  Ok (SingleSend (place_at ts) n.0 e.0, rest)
 
 -- what follows the block of an `if`
-unfoldable pub else_at : (List Token → Option (Statements × List Token)) → ℕ → Expression → Statements → List Token → Option (Single × List Token)
-else_at block_at line e block ts = do
+unfoldable pub else_at : (List Token → Read (Statements × List Token)) → ℕ → Expression → Statements → List Token → Read (Single × List Token)
+else_at block_at place e block ts = do
   behind ← after (kind.Keyword keyword.Else) ts
   other ← block_at behind
-  Some (SingleIfElse line e block other.0, other.1)
+  Ok (SingleIfElse place e block other.0, other.1)
 
-unfoldable pub if_at : (List Token → Option (Statements × List Token)) → List Token → Option (Single × List Token)
-if_at block_at ts = do
+-- The limit is that of the blocks.
+unfoldable pub if_at : (List Token → Read (Statements × List Token)) → ℕ → List Token → Read (Single × List Token)
+if_at block_at limit ts = do
   behind ← after (kind.Keyword keyword.If) ts
-  e ← expression_at 64 0 behind
+  e ← within limit (place_at ts) (expression_at 64 0 behind)
   block ← block_at e.1
-  choose (begins (kind.Keyword keyword.Else) block.1) (else_at block_at (line_at ts) e.0 block.0 block.1) (Some (SingleIf (line_at ts) e.0 block.0, block.1))
+  choose (begins (kind.Keyword keyword.Else) block.1) (else_at block_at (place_at ts) e.0 block.0 block.1) (Ok (SingleIf (place_at ts) e.0 block.0, block.1))
 
-unfoldable pub statement_at : (List Token → Option (Statements × List Token)) → List Token → Option (Single × List Token)
-statement_at block_at ts =
+unfoldable pub statement_at : (List Token → Read (Statements × List Token)) → ℕ → List Token → Read (Single × List Token)
+statement_at block_at limit ts =
     choose (begins (kind.Keyword keyword.Goto) ts) (goto_at ts)
     (choose (begins (kind.Keyword keyword.Send) ts) (send_at ts)
-    (choose (begins (kind.Keyword keyword.If) ts) (if_at block_at ts)
+    (choose (begins (kind.Keyword keyword.If) ts) (if_at block_at limit ts)
     (assign_at ts)))
 
 -- a block in which blocks lie in one another no deeper than the limit
-unfoldable pub block_at : ℕ → List Token → Option (Statements × List Token)
-block_at zero ts = None
-block_at (suc limit) ts = braces_at (statement_at (block_at limit)) ts >>= λ x. Some (joined x.0, x.1)
+unfoldable pub block_at : ℕ → List Token → Read (Statements × List Token)
+block_at zero ts = Err TooShort
+block_at (suc limit) ts = braces_at (statement_at (block_at limit) limit) ts >>= λ x. Ok (joined x.0, x.1)
 
 -- ---- Atomic models
 
-unfoldable pub bound_at : List Token → Option (Bound × List Token)
+unfoldable pub bound_at : List Token → Read (Bound × List Token)
 bound_at ts = choose (begins (kind.Symbol symbol.Minus) ts)
-    (after (kind.Symbol symbol.Minus) ts >>= λ behind. number_at behind >>= λ n. Some (record { minus = Some (line_at ts); magnitude = n.0 }, n.1))
-    (number_at ts >>= λ n. Some (record { minus = None; magnitude = n.0 }, n.1))
+    (after (kind.Symbol symbol.Minus) ts >>= λ behind. number_at behind >>= λ n. Ok (record { minus = Some (place_at ts); magnitude = n.0 }, n.1))
+    (number_at ts >>= λ n. Ok (record { minus = None; magnitude = n.0 }, n.1))
 
-unfoldable pub variable_at : List Token → Option (Variable × List Token)
+unfoldable pub variable_at : List Token → Read (Variable × List Token)
 variable_at ts = do
   behind ← after (kind.Keyword keyword.Var) ts
   n ← name_at behind
@@ -358,127 +391,222 @@ variable_at ts = do
   equal ← after (kind.Symbol symbol.Equal) high.1
   start ← bound_at equal
   rest ← after (kind.Symbol symbol.Semicolon) start.1
-  Some (record { name = n.0; low = low.0; high = high.0; start = start.0 }, rest)
+  Ok (record { name = n.0; low = low.0; high = high.0; start = start.0 }, rest)
 
 -- a comma and a name
-unfoldable pub further_name_at : List Token → Option (Name × List Token)
+unfoldable pub further_name_at : List Token → Read (Name × List Token)
 further_name_at ts = after (kind.Symbol symbol.Comma) ts >>= λ behind. name_at behind
 
-unfoldable pub phases_at : List Token → Option (AtomicItem × List Token)
+unfoldable pub phases_at : List Token → Read (AtomicItem × List Token)
 phases_at ts = do
   behind ← after (kind.Keyword keyword.Phases) ts
   first ← name_at behind
   others ← many_at further_name_at (kind.Symbol symbol.Semicolon) first.1
   rest ← after (kind.Symbol symbol.Semicolon) others.1
-  Some (Phases (line_at ts) (first.0 ∷ others.0), rest)
+  Ok (Lists (record { place = place_at ts; names = first.0 ∷ others.0 }), rest)
 
-unfoldable pub start_at : List Token → Option (AtomicItem × List Token)
+unfoldable pub start_at : List Token → Read (AtomicItem × List Token)
 start_at ts = do
   behind ← after (kind.Keyword keyword.Start) ts
   n ← name_at behind
   rest ← after (kind.Symbol symbol.Semicolon) n.1
-  Some (Start (line_at ts) n.0, rest)
+  Ok (Starts (record { place = place_at ts; phase = n.0 }), rest)
 
-unfoldable pub ticks_at : List Token → Option (Option Expression × List Token)
+unfoldable pub ticks_at : List Token → Read (Option Expression × List Token)
 ticks_at ts = choose (begins (kind.Keyword keyword.Forever) ts)
-    (after (kind.Keyword keyword.Forever) ts >>= λ rest. Some (None, rest))
-    (expression_at 64 0 ts >>= λ e. Some (Some e.0, e.1))
+    (after (kind.Keyword keyword.Forever) ts >>= λ rest. Ok (None, rest))
+    (expression_at 64 0 ts >>= λ e. Ok (Some e.0, e.1))
 
-unfoldable pub hold_at : List Token → Option (AtomicItem × List Token)
+unfoldable pub hold_at : List Token → Read (AtomicItem × List Token)
 hold_at ts = do
   behind ← after (kind.Keyword keyword.Hold) ts
   n ← name_at behind
   colon ← after (kind.Symbol symbol.Colon) n.1
   ticks ← ticks_at colon
   rest ← after (kind.Symbol symbol.Semicolon) ticks.1
-  Some (Hold (line_at ts) n.0 ticks.0, rest)
+  Ok (Holds (record { place = place_at ts; phase = n.0; ticks = ticks.0 }), rest)
 
-unfoldable pub rule_at : RuleSort → List Token → Option (AtomicItem × List Token)
+unfoldable pub rule_at : RuleSort → List Token → Read (AtomicItem × List Token)
 rule_at sort ts = do
   behind ← after (kind.Keyword (sort_word sort)) ts
   n ← name_at behind
   body ← block_at 16 n.1
-  Some (Rule sort n.0 body.0, body.1)
+  Ok (Rules (record { sort = sort; phase = n.0; body = body.0 }), body.1)
 
 -- `out port;`
-unfoldable pub out_at : List Token → Option (Name × List Token)
+unfoldable pub out_at : List Token → Read (Name × List Token)
 out_at ts = do
   behind ← after (kind.Keyword keyword.Out) ts
   n ← name_at behind
   rest ← after (kind.Symbol symbol.Semicolon) n.1
-  Some (n.0, rest)
+  Ok (n.0, rest)
 
-unfoldable pub item_at : List Token → Option (AtomicItem × List Token)
+unfoldable pub item_at : List Token → Read (AtomicItem × List Token)
 item_at ts =
-    choose (begins (kind.Keyword keyword.Out) ts) (out_at ts >>= λ n. Some (OutPort n.0, n.1))
-    (choose (begins (kind.Keyword keyword.Var) ts) (variable_at ts >>= λ v. Some (Var v.0, v.1))
+    choose (begins (kind.Keyword keyword.Out) ts) (out_at ts >>= λ n. Ok (Declares (declaration.Out n.0), n.1))
+    (choose (begins (kind.Keyword keyword.Var) ts) (variable_at ts >>= λ v. Ok (Declares (declaration.Var v.0), v.1))
     (choose (begins (kind.Keyword keyword.Phases) ts) (phases_at ts)
     (choose (begins (kind.Keyword keyword.Start) ts) (start_at ts)
     (choose (begins (kind.Keyword keyword.Hold) ts) (hold_at ts)
     (choose (begins (kind.Keyword keyword.Output) ts) (rule_at sort.Output ts)
     (rule_at sort.Internal ts))))))
 
-unfoldable pub atomic_at : List Token → Option (AtomicTree × List Token)
+unfoldable pub atomic_at : List Token → Read ((Name × List AtomicItem) × List Token)
 atomic_at ts = do
   behind ← after (kind.Keyword keyword.Atomic) ts
   n ← name_at behind
   items ← braces_at item_at n.1
-  Some (record { name = n.0; items = items.0 }, items.1)
+  Ok ((n.0, items.0), items.1)
 
 -- ---- Coupled models
 
-unfoldable pub end_at : List Token → Option (End × List Token)
+unfoldable pub end_at : List Token → Read (End × List Token)
 end_at ts = choose (begins (kind.Keyword keyword.Itself) ts)
-    (after (kind.Keyword keyword.Itself) ts >>= λ behind. after (kind.Symbol symbol.Dot) behind >>= λ dot. name_at dot >>= λ port. Some (record { part = None; port = port.0 }, port.1))
-    (name_at ts >>= λ part. after (kind.Symbol symbol.Dot) part.1 >>= λ dot. name_at dot >>= λ port. Some (record { part = Some part.0; port = port.0 }, port.1))
+    (after (kind.Keyword keyword.Itself) ts >>= λ behind. after (kind.Symbol symbol.Dot) behind >>= λ dot. name_at dot >>= λ port. Ok (record { part = None; port = port.0 }, port.1))
+    (name_at ts >>= λ part. after (kind.Symbol symbol.Dot) part.1 >>= λ dot. name_at dot >>= λ port. Ok (record { part = Some part.0; port = port.0 }, port.1))
 
-unfoldable pub part_at : List Token → Option (Part × List Token)
+unfoldable pub part_at : List Token → Read (Part × List Token)
 part_at ts = do
   behind ← after (kind.Keyword keyword.Part) ts
   n ← name_at behind
   colon ← after (kind.Symbol symbol.Colon) n.1
   model ← name_at colon
   rest ← after (kind.Symbol symbol.Semicolon) model.1
-  Some (record { name = n.0; model = model.0 }, rest)
+  Ok (record { name = n.0; model = model.0 }, rest)
 
-unfoldable pub link_at : List Token → Option (Link × List Token)
+unfoldable pub link_at : List Token → Read (Link × List Token)
 link_at ts = do
   behind ← after (kind.Keyword keyword.Link) ts
   source ← end_at behind
   arrow ← after (kind.Symbol symbol.Arrow) source.1
   target ← end_at arrow
   rest ← after (kind.Symbol symbol.Semicolon) target.1
-  Some (record { line = line_at ts; from = source.0; to = target.0 }, rest)
+  Ok (record { place = place_at ts; from = source.0; to = target.0 }, rest)
 
-unfoldable pub coupled_item_at : List Token → Option (CoupledItem × List Token)
+unfoldable pub coupled_item_at : List Token → Read (CoupledItem × List Token)
 coupled_item_at ts =
-    choose (begins (kind.Keyword keyword.Out) ts) (out_at ts >>= λ n. Some (coupled_item.Out n.0, n.1))
-    (choose (begins (kind.Keyword keyword.Part) ts) (part_at ts >>= λ p. Some (coupled_item.Part p.0, p.1))
-    (link_at ts >>= λ l. Some (coupled_item.Link l.0, l.1)))
+    choose (begins (kind.Keyword keyword.Out) ts) (out_at ts >>= λ n. Ok (Outputs n.0, n.1))
+    (choose (begins (kind.Keyword keyword.Part) ts) (part_at ts >>= λ p. Ok (Contains p.0, p.1))
+    (link_at ts >>= λ l. Ok (Couples l.0, l.1)))
 
-unfoldable pub coupled_at : List Token → Option (CoupledTree × List Token)
+unfoldable pub coupled_at : List Token → Read ((Name × List CoupledItem) × List Token)
 coupled_at ts = do
   behind ← after (kind.Keyword keyword.Coupled) ts
   n ← name_at behind
   items ← braces_at coupled_item_at n.1
-  Some (record { name = n.0; items = items.0 }, items.1)
+  Ok ((n.0, items.0), items.1)
 
 -- ---- Files
 
-unfoldable pub model_at : List Token → Option (ModelTree × List Token)
+unfoldable pub model_at : List Token → Read (WrittenModel × List Token)
 model_at ts = choose (begins (kind.Keyword keyword.Coupled) ts)
-    (coupled_at ts >>= λ m. Some (CoupledModel m.0, m.1))
-    (atomic_at ts >>= λ m. Some (AtomicModel m.0, m.1))
+    (coupled_at ts >>= λ m. Ok (WrittenCoupled m.0.0 m.0.1, m.1))
+    (atomic_at ts >>= λ m. Ok (WrittenAtomic m.0.0 m.0.1, m.1))
 
 abbrev pub is_end : List Token → Bool
 is_end [] = true
 is_end (t ∷ ts) = false
 
 -- a file, of all the tokens
-unfoldable pub file_at : List Token → Option FileTree
+unfoldable pub file_at : List Token → Read WrittenFile
 file_at ts = do
   models ← many_at model_at (kind.Keyword keyword.Root) ts
   behind ← after (kind.Keyword keyword.Root) models.1
   n ← name_at behind
   rest ← after (kind.Symbol symbol.Semicolon) n.1
-  choose (is_end rest) (Some (record { models = models.0; root = n.0 })) None
+  choose (is_end rest) (Ok (record { models = models.0; root = n.0 })) (Err (obstacle_at rest))
+
+-- what stops a reader is answered by this refusal; `end` is the place of the end of the text
+abbrev pub refusal_of : Obstacle → ℕ → Refusal
+refusal_of (Unexpected place) end = record { number = E4; place = place }
+refusal_of (TooDeep place) end = record { number = E5; place = place }
+refusal_of TooShort end = record { number = E4; place = end }
+
+abbrev pub refusal_in : {A : Type 0} → Read A → ℕ → Option Refusal
+refusal_in (Ok x) end = None
+refusal_in (Err o) end = Some (refusal_of o end)
+
+-- the refusal of the tokens of a text that ends at this place, unless they are those of a file
+abbrev pub fault_of : List Token → ℕ → Option Refusal
+fault_of ts end = refusal_in (file_at ts) end
+
+-- the error is the answer to the tokens, or want of memory
+abbrev pub IsRefused : LoadError → List Token → ℕ → Type 0
+IsRefused error.Memory ts end = Unit {0}
+IsRefused (error.Refused r) ts end = fault_of ts end ≡ Some r
+
+-- ---- What the code reads: items are sorted as they are read
+
+abbrev pub item_of : CodeItem → AtomicItem
+item_of (item.Declares d) = Declares d
+item_of (item.Lists p) = Lists (phases_of p)
+item_of (item.Starts s) = Starts s
+item_of (item.Holds h) = Holds (hold_of h)
+item_of (item.Rules r) = Rules (rule_of r)
+
+abbrev pub coupled_item_of : CodeCoupledItem → CoupledItem
+coupled_item_of (coupled_item.Outputs port) = Outputs port
+coupled_item_of (coupled_item.Contains part) = Contains part
+coupled_item_of (coupled_item.Couples link) = Couples link
+
+-- a model, and behind its items those of a list
+abbrev pub with_items : AtomicTree → List AtomicItem → AtomicTree
+with_items m items = record {
+  name = m.name;
+  declarations = m.declarations ++ (sorted_items m.name items).declarations;
+  phases = m.phases ++ (sorted_items m.name items).phases;
+  starts = m.starts ++ (sorted_items m.name items).starts;
+  holds = m.holds ++ (sorted_items m.name items).holds;
+  rules = m.rules ++ (sorted_items m.name items).rules;
+}
+
+abbrev pub with_item : AtomicTree → AtomicItem → AtomicTree
+with_item m i = with_items m (i ∷ [])
+
+abbrev pub empty_atomic : Name → AtomicTree
+empty_atomic name = sorted_items name []
+
+abbrev pub with_coupled_items : CoupledTree → List CoupledItem → CoupledTree
+with_coupled_items m items = record {
+  name = m.name;
+  outputs = m.outputs ++ (sorted_coupled_items m.name items).outputs;
+  parts = m.parts ++ (sorted_coupled_items m.name items).parts;
+  links = m.links ++ (sorted_coupled_items m.name items).links;
+}
+
+abbrev pub with_coupled_item : CoupledTree → CoupledItem → CoupledTree
+with_coupled_item m i = with_coupled_items m (i ∷ [])
+
+abbrev pub empty_coupled : Name → CoupledTree
+empty_coupled name = sorted_coupled_items name []
+
+unfoldable pub atomic_tree_at : List Token → Read (AtomicTree × List Token)
+atomic_tree_at ts = do
+  behind ← after (kind.Keyword keyword.Atomic) ts
+  n ← name_at behind
+  inside ← after (kind.Symbol symbol.OpenBrace) n.1
+  m ← becoming (with_items (empty_atomic n.0)) (many_at item_at (kind.Symbol symbol.CloseBrace) inside)
+  rest ← after (kind.Symbol symbol.CloseBrace) m.1
+  Ok (m.0, rest)
+
+unfoldable pub coupled_tree_at : List Token → Read (CoupledTree × List Token)
+coupled_tree_at ts = do
+  behind ← after (kind.Keyword keyword.Coupled) ts
+  n ← name_at behind
+  inside ← after (kind.Symbol symbol.OpenBrace) n.1
+  m ← becoming (with_coupled_items (empty_coupled n.0)) (many_at coupled_item_at (kind.Symbol symbol.CloseBrace) inside)
+  rest ← after (kind.Symbol symbol.CloseBrace) m.1
+  Ok (m.0, rest)
+
+unfoldable pub tree_at : List Token → Read (ModelTree × List Token)
+tree_at ts = choose (begins (kind.Keyword keyword.Coupled) ts)
+    (coupled_tree_at ts >>= λ m. Ok (CoupledModel m.0, m.1))
+    (atomic_tree_at ts >>= λ m. Ok (AtomicModel m.0, m.1))
+
+unfoldable pub file_tree_at : List Token → Read FileTree
+file_tree_at ts = do
+  models ← many_at tree_at (kind.Keyword keyword.Root) ts
+  behind ← after (kind.Keyword keyword.Root) models.1
+  n ← name_at behind
+  rest ← after (kind.Symbol symbol.Semicolon) n.1
+  choose (is_end rest) (Ok (record { models = models.0; root = n.0 })) (Err (obstacle_at rest))

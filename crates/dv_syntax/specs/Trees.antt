@@ -1,11 +1,14 @@
--- Syntax trees without where they lie in memory, and the tree that a value of the code stands for.
+-- Syntax trees without where they lie in memory, and the tree that a value of the code stands for. The items of a model are
+-- sorted by what they say, each kind in the order of the text: every question about a model is asked of these lists.
 use Rattle.std.specs.Prelude.{ℕ, List, [], ◌∷◌, Option, Some, None, map}
 use Rattle.dv_syntax.specs.declared.tree.Name.{Name}
 use Rattle.dv_syntax.specs.declared.tree.Number.{Number}
 use Rattle.dv_syntax.specs.declared.tree.Operator.{Operator}
-use Rattle.dv_syntax.specs.declared.tree.Variable.{Variable}
+use Rattle.dv_syntax.specs.declared.tree.Declaration.{Declaration}
+use Rattle.dv_syntax.specs.declared.tree.Start.{Start}
 use Rattle.dv_syntax.specs.declared.tree.RuleSort.{RuleSort}
-use Rattle.dv_syntax.specs.declared.tree.CoupledItem.{CoupledItem}
+use Rattle.dv_syntax.specs.declared.tree.Part.{Part}
+use Rattle.dv_syntax.specs.declared.tree.Link.{Link}
 use Rattle.dv_syntax.specs.declared.tree.Expr.{Expr}
 use Rattle.dv_syntax.specs.declared.tree.Expr.TheVariants as expr
 use Rattle.dv_syntax.specs.declared.tree.Stmt.{Stmt, Row_of-Stmt, end_of-Stmt, more_of-Stmt}
@@ -13,8 +16,9 @@ use Rattle.dv_syntax.specs.declared.tree.Stmt as stmt
 use Rattle.dv_syntax.specs.declared.tree.Block.{Block}
 use Rattle.dv_syntax.specs.declared.tree.Ticks.{Ticks}
 use Rattle.dv_syntax.specs.declared.tree.Ticks.TheVariants as ticks
-use Rattle.dv_syntax.specs.declared.tree.Item.{Item}
-use Rattle.dv_syntax.specs.declared.tree.Item.TheVariants as item
+use Rattle.dv_syntax.specs.declared.tree.Phases.{Phases}
+use Rattle.dv_syntax.specs.declared.tree.Hold.{Hold}
+use Rattle.dv_syntax.specs.declared.tree.Rule.{Rule}
 use Rattle.dv_syntax.specs.declared.tree.Atomic.{Atomic}
 use Rattle.dv_syntax.specs.declared.tree.Coupled.{Coupled}
 use Rattle.dv_syntax.specs.declared.tree.Model.{Model}
@@ -25,35 +29,50 @@ use Rattle.dv_syntax.specs.declared.tree.File.{File}
 pub data Expression : Type 0 where
   Literal : (number : Number) → Expression
   Named : (name : Name) → Expression
-  Parens : (line : ℕ) → (inner : Expression) → Expression
-  Negative : (line : ℕ) → (operand : Expression) → Expression
+  Parens : (place : ℕ) → (inner : Expression) → Expression
+  Negative : (place : ℕ) → (operand : Expression) → Expression
   Binary : (operator : Operator) → (left right : Expression) → Expression
 
 -- a list of statements: none, or one and the rest
 pub data Statements : Type 0 where
   Done : Statements
   Assign : (variable : Name) → (value : Expression) → (rest : Statements) → Statements
-  Goto : (line : ℕ) → (phase : Name) → (rest : Statements) → Statements
-  Send : (line : ℕ) → (port : Name) → (value : Expression) → (rest : Statements) → Statements
-  If : (line : ℕ) → (condition : Expression) → (block rest : Statements) → Statements
-  IfElse : (line : ℕ) → (condition : Expression) → (block other rest : Statements) → Statements
+  Goto : (place : ℕ) → (phase : Name) → (rest : Statements) → Statements
+  Send : (place : ℕ) → (port : Name) → (value : Expression) → (rest : Statements) → Statements
+  If : (place : ℕ) → (condition : Expression) → (block rest : Statements) → Statements
+  IfElse : (place : ℕ) → (condition : Expression) → (block other rest : Statements) → Statements
 
--- an item of an atomic model; a hold of None is forever
-pub data AtomicItem : Type 0 where
-  OutPort : (port : Name) → AtomicItem
-  Var : (variable : Variable) → AtomicItem
-  Phases : (line : ℕ) → (phases : List Name) → AtomicItem
-  Start : (line : ℕ) → (phase : Name) → AtomicItem
-  Hold : (line : ℕ) → (phase : Name) → (ticks : Option Expression) → AtomicItem
-  Rule : (sort : RuleSort) → (phase : Name) → (body : Statements) → AtomicItem
+-- an item of phases
+pub record PhasesTree : Type 0 where
+  pub place : ℕ
+  pub names : List Name
 
+-- a hold; one of None is forever
+pub record HoldTree : Type 0 where
+  pub place : ℕ
+  pub phase : Name
+  pub ticks : Option Expression
+
+pub record RuleTree : Type 0 where
+  pub sort : RuleSort
+  pub phase : Name
+  pub body : Statements
+
+-- an atomic model: ports and variables, which share their names; phases; starts; holds; rules
 pub record AtomicTree : Type 0 where
   pub name : Name
-  pub items : List AtomicItem
+  pub declarations : List Declaration
+  pub phases : List PhasesTree
+  pub starts : List Start
+  pub holds : List HoldTree
+  pub rules : List RuleTree
 
+-- a coupled model: its output ports, its parts, its links
 pub record CoupledTree : Type 0 where
   pub name : Name
-  pub items : List CoupledItem
+  pub outputs : List Name
+  pub parts : List Part
+  pub links : List Link
 
 pub data ModelTree : Type 0 where
   AtomicModel : (model : AtomicTree) → ModelTree
@@ -66,19 +85,19 @@ pub record FileTree : Type 0 where
 abbrev pub expression_of : Expr → Expression
 expression_of (expr.Literal n) = Literal n
 expression_of (expr.Named n) = Named n
-expression_of (expr.Parens' line p e) = Parens line (expression_of e)
-expression_of (expr.Negative' line p e) = Negative line (expression_of e)
+expression_of (expr.Parens' place p e) = Parens place (expression_of e)
+expression_of (expr.Negative' place p e) = Negative place (expression_of e)
 expression_of (expr.Binary' o p a q b) = Binary o (expression_of a) (expression_of b)
 
 abbrev mutual
   -- a statement of the code, before a rest
   pub statement_before : Stmt → Statements → Statements
   statement_before (stmt.Assign name e) rest = Assign name (expression_of e) rest
-  statement_before (stmt.Goto line phase) rest = Goto line phase rest
-  statement_before (stmt.Send line port e) rest = Send line port (expression_of e) rest
-  statement_before (stmt.If' line e shape block) rest = If line (expression_of e) (row_statements block) rest
-  statement_before (stmt.IfElse' line e shape block other_shape other) rest =
-      IfElse line (expression_of e) (row_statements block) (row_statements other) rest
+  statement_before (stmt.Goto place phase) rest = Goto place phase rest
+  statement_before (stmt.Send place port e) rest = Send place port (expression_of e) rest
+  statement_before (stmt.If' place e shape block) rest = If place (expression_of e) (row_statements block) rest
+  statement_before (stmt.IfElse' place e shape block other_shape other) rest =
+      IfElse place (expression_of e) (row_statements block) (row_statements other) rest
 
   pub row_statements : {n : _} → Row_of-Stmt n → Statements
   row_statements end_of-Stmt = Done
@@ -96,19 +115,27 @@ abbrev pub ticks_of : Ticks → Option Expression
 ticks_of ticks.Forever = None
 ticks_of (ticks.After e) = Some (expression_of e)
 
-abbrev pub item_of : Item → AtomicItem
-item_of (item.Out port) = OutPort port
-item_of (item.Var variable) = Var variable
-item_of (item.Phases line phases) = Phases line phases.items
-item_of (item.Start line phase) = Start line phase
-item_of (item.Hold line phase ticks) = Hold line phase (ticks_of ticks)
-item_of (item.Rule sort phase body) = Rule sort phase (block_of body)
+abbrev pub phases_of : Phases → PhasesTree
+phases_of p = record { place = p.place; names = p.names.items }
+
+abbrev pub hold_of : Hold → HoldTree
+hold_of h = record { place = h.place; phase = h.phase; ticks = ticks_of h.ticks }
+
+abbrev pub rule_of : Rule → RuleTree
+rule_of r = record { sort = r.sort; phase = r.phase; body = block_of r.body }
 
 abbrev pub atomic_of : Atomic → AtomicTree
-atomic_of m = record { name = m.name; items = map item_of m.items.items }
+atomic_of m = record {
+  name = m.name;
+  declarations = m.declarations.items;
+  phases = map phases_of m.phases.items;
+  starts = m.starts.items;
+  holds = map hold_of m.holds.items;
+  rules = map rule_of m.rules.items;
+}
 
 abbrev pub coupled_of : Coupled → CoupledTree
-coupled_of m = record { name = m.name; items = m.items.items }
+coupled_of m = record { name = m.name; outputs = m.outputs.items; parts = m.parts.items; links = m.links.items }
 
 abbrev pub model_of : Model → ModelTree
 model_of (model.Atomic m) = AtomicModel (atomic_of m)

@@ -1,12 +1,15 @@
 //! The syntax trees of a model text, and the parser.
 #![tactic(auto)]
 
+/// Laws of tokens and trees.
 pub mod laws;
+/// The parser.
 pub mod parser;
+/// The trees.
 pub mod tree;
 
 pub use parser::parse;
 pub use tree::{
-    Atomic, Block, Bound, Coupled, CoupledItem, End, Expr, File, Item, Link, Model, Name, Number,
-    Operator, Part, RuleSort, Stmt, Ticks, Variable,
+    Atomic, Block, Bound, Coupled, Declaration, End, Expr, File, Hold, Link, Model, Name, Number,
+    Operator, Part, Phases, Rule, RuleSort, Start, Stmt, Ticks, Variable,
 };

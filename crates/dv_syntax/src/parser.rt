@@ -9,21 +9,21 @@ mod token;
 
 ghost use Rattle.std.specs.Prelude.{◌≡◌, IfOk, IfErr, map};
 ghost use Rattle.dv_syntax.specs.Trees.{model_of, file_of};
-ghost use Rattle.dv_syntax.specs.Grammar.{IsFileOf, IsRefused};
-ghost use Rattle.dv_syntax.specs.Reading.{Gives, many_at, model_at, file_at};
+ghost use Rattle.dv_syntax.specs.Grammar.{IsFileOf};
+ghost use Rattle.dv_syntax.specs.Reading.{Gives, IsRefused, many_at, tree_at, file_tree_at};
 
 use self::atomic::atomic;
 use self::coupled::coupled;
 use self::fault::Fault;
 use self::token::{after_keyword, after_symbol, begins_with_keyword, name};
 use crate::tree::{File, Model};
-use dv_lex::{Keyword, LoadError, Refusal, Symbol, TextError, Token, TokenKind};
+use dv_lex::{Keyword, LoadError, Refusal, RefusalNumber, Symbol, Token, TokenKind};
 use std::alloc::Global;
 
 /// A model at the front.
-#[tactic(auto, unfolding(crate::specs::Reading::model_at, crate::specs::Reading::read_then, crate::specs::Reading::choose))]
+#[tactic(auto, unfolding(crate::specs::Reading::tree_at, crate::specs::Reading::read_then, crate::specs::Reading::choose))]
 fn model(alloc: Global, tokens: &[Token]) -> Result<(Model, &[Token]), Fault>
-    ensures { Gives (λ x. (model_of x.0, x.1.now)) result (model_at tokens.now) }
+    ensures { Gives (λ x. (model_of x.0, x.1.now)) result (tree_at tokens.now) }
 {
     if begins_with_keyword(tokens, Keyword::Coupled) {
         let (coupled, rest) = coupled(alloc, tokens)?;
@@ -37,7 +37,7 @@ fn model(alloc: Global, tokens: &[Token]) -> Result<(Model, &[Token]), Fault>
 /// The models before `root`.
 fn models(alloc: Global, tokens: &[Token]) -> Result<(Vec<Model>, &[Token]), Fault>
     ensures { Gives (λ x. (map model_of x.0.items, x.1.now)) result
-        (many_at model_at (TokenKind.Keyword Keyword.Root) tokens.now) }
+        (many_at tree_at (TokenKind.Keyword Keyword.Root) tokens.now) }
 {
     let mut models = Vec::new(alloc);
     let mut rest = tokens;
@@ -50,9 +50,9 @@ fn models(alloc: Global, tokens: &[Token]) -> Result<(Vec<Model>, &[Token]), Fau
 }
 
 /// All the tokens as a file.
-#[tactic(auto, unfolding(crate::specs::Reading::file_at, crate::specs::Reading::read_then, crate::specs::Reading::choose))]
+#[tactic(auto, unfolding(crate::specs::Reading::file_tree_at, crate::specs::Reading::obstacle_at, crate::specs::Reading::read_then, crate::specs::Reading::choose))]
 fn file(alloc: Global, tokens: &[Token]) -> Result<File, Fault>
-    ensures { Gives file_of result (file_at tokens.now) }
+    ensures { Gives file_of result (file_tree_at tokens.now) }
 {
     let (models, rest) = models(alloc, tokens)?;
     let rest = after_keyword(rest, Keyword::Root)?;
@@ -60,30 +60,30 @@ fn file(alloc: Global, tokens: &[Token]) -> Result<File, Fault>
     let rest = after_symbol(rest, Symbol::Semicolon)?;
     match rest {
         [] => Ok(File { models, root }),
-        [Token { line, .. }, ..] => Err(Fault::Unexpected(*line)),
+        [Token { place, .. }, ..] => Err(Fault::Unexpected(*place)),
     }
 }
 
-fn refusal(number: Refusal, line: u32) -> LoadError
-    ensures { result ≡ LoadError.Refused (record { number = number; line = line }) }
+fn refused(number: RefusalNumber, place: u32) -> LoadError
+    ensures { result ≡ LoadError.Refused (record { number = number; place = place }) }
 {
-    LoadError::Refused(TextError { number, line })
+    LoadError::Refused(Refusal { number, place })
 }
 
-/// The file that the tokens spell. `end_line` is the line of the end of the text.
+/// The file that the tokens spell. `end` is the place of the end of the text.
 ///
-/// `Err(LoadError::Refused(..))` names E4 or E5: the tokens are those of no file. The line is that of the first
+/// `Err(LoadError::Refused(..))` names E4 or E5: the tokens are those of no file. The place is that of the first
 /// token with which the tokens no longer begin a file within the limits on depth: E5 where they still begin one
 /// without these limits, else E4. Where they end too early it is E4 at the end of the text.
-pub fn parse(alloc: Global, tokens: &[Token], end_line: u32) -> Result<File, LoadError>
+pub fn parse(alloc: Global, tokens: &[Token], end: u32) -> Result<File, LoadError>
     ensures tree { IfOk result (λ file. IsFileOf tokens.now (file_of file)) }
-    ensures refused { IfErr result (λ e. IsRefused e tokens.now) }
+    ensures refused { IfErr result (λ e. IsRefused e tokens.now end) }
 {
     match file(alloc, tokens) {
         Ok(file) => Ok(file),
         Err(Fault::Memory) => Err(LoadError::Memory),
-        Err(Fault::Unexpected(line)) => Err(refusal(Refusal::E4, line)),
-        Err(Fault::TooDeep(line)) => Err(refusal(Refusal::E5, line)),
-        Err(Fault::TooShort) => Err(refusal(Refusal::E4, end_line)),
+        Err(Fault::Unexpected(place)) => Err(refused(RefusalNumber::E4, place)),
+        Err(Fault::TooDeep(place)) => Err(refused(RefusalNumber::E5, place)),
+        Err(Fault::TooShort) => Err(refused(RefusalNumber::E4, end)),
     }
 }

@@ -1,18 +1,20 @@
-//! Syntax trees, as a text writes them: parentheses are kept, items stand in the order of the text, and a tree
-//! has the lines that refusals name.
+//! Syntax trees: what a model text says, its items sorted by what they say, with the parentheses and the places that
+//! refusals name. A place is the number of the bytes of the text before a token.
 
-/// A name where it stands: its number in the table of names, and its line.
+use dv_lex::Numeral;
+
+/// A name where it stands: its number in the table of names, and its place.
 #[derive(Clone, Copy, Debug, PartialEq, Eq)]
 pub struct Name {
     pub number: u32,
-    pub line: u32,
+    pub place: u32,
 }
 
-/// A number where it stands, from 0 to 2^63 - 1.
+/// A number where it stands.
 #[derive(Clone, Copy, Debug, PartialEq, Eq)]
 pub struct Number {
-    pub value: i64,
-    pub line: u32,
+    pub value: Numeral,
+    pub place: u32,
 }
 
 /// An operator between two operands.
@@ -31,17 +33,17 @@ pub enum Operator {
     AtLeast,
 }
 
-/// An expression. A line is that of the node's first token where no operand has it.
+/// An expression. A place is that of the node's first token where no operand has it.
 #[derive(Debug, Drop)]
 pub enum Expr {
     Literal(Number),
     Named(Name),
     Parens {
-        line: u32,
+        place: u32,
         inner: Box<Expr>,
     },
     Negative {
-        line: u32,
+        place: u32,
         operand: Box<Expr>,
     },
     Binary {
@@ -51,7 +53,7 @@ pub enum Expr {
     },
 }
 
-/// A statement. A line is that of its first word.
+/// A statement. A place is that of its first word.
 #[derive(Debug, Drop)]
 #[cycle(statements)]
 pub enum Stmt {
@@ -62,24 +64,24 @@ pub enum Stmt {
     },
     /// `goto phase;`
     Goto {
-        line: u32,
+        place: u32,
         phase: Name,
     },
     /// `send port value;`
     Send {
-        line: u32,
+        place: u32,
         port: Name,
         value: Expr,
     },
     /// `if condition { .. }`
     If {
-        line: u32,
+        place: u32,
         condition: Expr,
         then_block: Block,
     },
     /// `if condition { .. } else { .. }`
     IfElse {
-        line: u32,
+        place: u32,
         condition: Expr,
         then_block: Block,
         else_block: Block,
@@ -93,7 +95,7 @@ pub struct Block {
     pub statements: Vec<Stmt>,
 }
 
-/// A bound of a range or a start value: a number, perhaps behind a minus sign whose line is kept.
+/// A bound of a range or a start value: a number, perhaps behind a minus sign whose place is kept.
 #[derive(Clone, Copy, Debug, PartialEq, Eq)]
 pub struct Bound {
     pub minus: Option<u32>,
@@ -109,11 +111,42 @@ pub struct Variable {
     pub start: Bound,
 }
 
-/// The hold of a phase, in ticks.
+/// What declares a name that ports and variables share.
+#[derive(Clone, Copy, Debug, PartialEq, Eq)]
+pub enum Declaration {
+    /// `out port;`
+    Out(Name),
+    /// `var name: low..high = start;`
+    Var(Variable),
+}
+
+/// `phases first, second, ..;` and the place of its first word.
+#[derive(Debug, Drop)]
+pub struct Phases {
+    pub place: u32,
+    pub names: Vec<Name>,
+}
+
+/// `start phase;` and the place of its first word.
+#[derive(Clone, Copy, Debug, PartialEq, Eq)]
+pub struct Start {
+    pub place: u32,
+    pub phase: Name,
+}
+
+/// How long a phase is held, in ticks.
 #[derive(Debug, Drop)]
 pub enum Ticks {
     Forever,
     After(Expr),
+}
+
+/// `hold phase: ticks;` and the place of its first word.
+#[derive(Debug, Drop)]
+pub struct Hold {
+    pub place: u32,
+    pub phase: Name,
+    pub ticks: Ticks,
 }
 
 /// What a rule is for.
@@ -123,42 +156,23 @@ pub enum RuleSort {
     Internal,
 }
 
-/// An item of an atomic model. A line is that of the item's first word.
+/// `output phase { .. }` or `internal phase { .. }`
 #[derive(Debug, Drop)]
-pub enum Item {
-    /// `out port;`
-    Out(Name),
-    /// `var name: low..high = start;`
-    Var(Variable),
-    /// `phases first, second, ..;`
-    Phases {
-        line: u32,
-        phases: Vec<Name>,
-    },
-    /// `start phase;`
-    Start {
-        line: u32,
-        phase: Name,
-    },
-    /// `hold phase: ticks;`
-    Hold {
-        line: u32,
-        phase: Name,
-        ticks: Ticks,
-    },
-    /// `output phase { .. }` or `internal phase { .. }`
-    Rule {
-        sort: RuleSort,
-        phase: Name,
-        body: Block,
-    },
+pub struct Rule {
+    pub sort: RuleSort,
+    pub phase: Name,
+    pub body: Block,
 }
 
-/// `atomic name { .. }`
+/// `atomic name { .. }`: its items by what they say, each kind in the order of the text.
 #[derive(Debug, Drop)]
 pub struct Atomic {
     pub name: Name,
-    pub items: Vec<Item>,
+    pub declarations: Vec<Declaration>,
+    pub phases: Vec<Phases>,
+    pub starts: Vec<Start>,
+    pub holds: Vec<Hold>,
+    pub rules: Vec<Rule>,
 }
 
 /// An end of a link: a port of a part, or of the coupled model itself where there is no part.
@@ -175,28 +189,21 @@ pub struct Part {
     pub model: Name,
 }
 
-/// `link from -> to;` and the line of `link`.
+/// `link from -> to;` and the place of `link`.
 #[derive(Clone, Copy, Debug, PartialEq, Eq)]
 pub struct Link {
-    pub line: u32,
+    pub place: u32,
     pub from: End,
     pub to: End,
 }
 
-/// An item of a coupled model.
-#[derive(Clone, Copy, Debug, PartialEq, Eq)]
-pub enum CoupledItem {
-    /// `out port;`
-    Out(Name),
-    Part(Part),
-    Link(Link),
-}
-
-/// `coupled name { .. }`
+/// `coupled name { .. }`: its items by what they say, each kind in the order of the text.
 #[derive(Debug, Drop)]
 pub struct Coupled {
     pub name: Name,
-    pub items: Vec<CoupledItem>,
+    pub outputs: Vec<Name>,
+    pub parts: Vec<Part>,
+    pub links: Vec<Link>,
 }
 
 /// A model.

@@ -7,14 +7,10 @@ use Rattle.std.specs.declared.cmp.Ordering.TheVariants.{Less, Equal, Greater}
 use Rattle.std.proofs.lemmas.Bool.Decides.{nat_tests}
 use Rattle.dv_time.specs.declared.time.Time.{Time}
 use Rattle.dv_time.specs.Time.{time_cmp, time_text}
-use Rattle.dv_bag.specs.Part.{is_before}
+use Rattle.dv_time.specs.Time.{is_before}
 use Rattle.dv_bag.specs.declared.entry.Outer.{Outer}
-use Rattle.dv_tree.specs.Paths.{name_at}
-use Rattle.dv_text.specs.Texts.{group_text, grouped, groups_before, groups_from, port_text, put_before}
-use Rattle.dv_text.specs.Writing.{first_text, other_groups}
-
-abbrev pub outer_text : List (List ℕ) → Outer → List ℕ
-outer_text names o = port_text (name_at names o.port) o.values
+use Rattle.dv_text.specs.Merging.{first_text, group_text, groups_before, groups_from, groups_of, other_groups, with_text}
+use Rattle.dv_text.specs.Texts.{outer_text}
 
 -- the ports at the front with a time, and what is after them
 abbrev pub ports_at : List (List ℕ) → Time → List Outer → List ℕ
@@ -38,24 +34,24 @@ same_time t u h =
     let both = both_equal (nat_cmp t.tick u.tick) (nat_cmp t.micro u.micro) h in
     ap (λ n. let x : Time = record { tick = n; micro = t.micro } in x) (same_number t.tick u.tick both.0) ∙ ap (λ n. let x : Time = record { tick = u.tick; micro = n } in x) (same_number t.micro u.micro both.1)
 
-put_case : (names : List (List ℕ)) (o p : Outer) (os : List Outer) → grouped names (p ∷ os) ≡ (p.time, outer_text names p ++ ports_at names p.time os) ∷ grouped names (after_at p.time os) → (e : Bool) → is_eq (time_cmp o.time p.time) ≡ e → cond e ((o.time, outer_text names o ++ (outer_text names p ++ ports_at names p.time os)) ∷ grouped names (after_at p.time os)) ((o.time, outer_text names o) ∷ (p.time, outer_text names p ++ ports_at names p.time os) ∷ grouped names (after_at p.time os)) ≡ (o.time, outer_text names o ++ cond e (outer_text names p ++ ports_at names o.time os) []) ∷ grouped names (cond e (after_at o.time os) (p ∷ os))
-put_case names o p os ih true h = ap (λ (t : Time). (o.time, outer_text names o ++ (outer_text names p ++ ports_at names t os)) ∷ grouped names (after_at t os)) (sym (same_time o.time p.time h))
-put_case names o p os ih false h = ap (λ (z : List ℕ). (o.time, z) ∷ (p.time, outer_text names p ++ ports_at names p.time os) ∷ grouped names (after_at p.time os)) (sym (append-nil (outer_text names o))) ∙ ap (λ (gs : List (Time × List ℕ)). (o.time, outer_text names o ++ []) ∷ gs) (sym ih)
+put_case : (names : List (List ℕ)) (o p : Outer) (os : List Outer) → groups_of names (p ∷ os) ≡ (p.time, outer_text names p ++ ports_at names p.time os) ∷ groups_of names (after_at p.time os) → (e : Bool) → is_eq (time_cmp o.time p.time) ≡ e → cond e ((o.time, outer_text names o ++ (outer_text names p ++ ports_at names p.time os)) ∷ groups_of names (after_at p.time os)) ((o.time, outer_text names o) ∷ (p.time, outer_text names p ++ ports_at names p.time os) ∷ groups_of names (after_at p.time os)) ≡ (o.time, outer_text names o ++ cond e (outer_text names p ++ ports_at names o.time os) []) ∷ groups_of names (cond e (after_at o.time os) (p ∷ os))
+put_case names o p os ih true h = ap (λ (t : Time). (o.time, outer_text names o ++ (outer_text names p ++ ports_at names t os)) ∷ groups_of names (after_at t os)) (sym (same_time o.time p.time h))
+put_case names o p os ih false h = ap (λ (z : List ℕ). (o.time, z) ∷ (p.time, outer_text names p ++ ports_at names p.time os) ∷ groups_of names (after_at p.time os)) (sym (append-nil (outer_text names o))) ∙ ap (λ (gs : List (Time × List ℕ)). (o.time, outer_text names o ++ []) ∷ gs) (sym ih)
 
 -- the first group has all that is at the front with its time
-pub grouped_at : (names : List (List ℕ)) (o : Outer) (os : List Outer) → grouped names (o ∷ os) ≡ (o.time, outer_text names o ++ ports_at names o.time os) ∷ grouped names (after_at o.time os)
-grouped_at names o [] = ap (λ (z : List ℕ). (o.time, z) ∷ []) (sym (append-nil (outer_text names o)))
-grouped_at names o (p ∷ os) = ap (put_before o.time (outer_text names o)) (grouped_at names p os) ∙ put_case names o p os (grouped_at names p os) (is_eq (time_cmp o.time p.time)) refl
+pub groups_of-cons : (names : List (List ℕ)) (o : Outer) (os : List Outer) → groups_of names (o ∷ os) ≡ (o.time, outer_text names o ++ ports_at names o.time os) ∷ groups_of names (after_at o.time os)
+groups_of-cons names o [] = ap (λ (z : List ℕ). (o.time, z) ∷ []) (sym (append-nil (outer_text names o)))
+groups_of-cons names o (p ∷ os) = ap (with_text o.time (outer_text names o)) (groups_of-cons names p os) ∙ put_case names o p os (groups_of-cons names p os) (is_eq (time_cmp o.time p.time)) refl
 
 -- the line of the first group
-pub first_text-at : (names : List (List ℕ)) (all : List Outer) (o : Outer) (os : List Outer) → all ≡ o ∷ os → first_text (grouped names all) ≡ (time_text o.time ++ codes " out") ++ (outer_text names o ++ (ports_at names o.time os ++ (10 ∷ [])))
+pub first_text-at : (names : List (List ℕ)) (all : List Outer) (o : Outer) (os : List Outer) → all ≡ o ∷ os → first_text (groups_of names all) ≡ (time_text o.time ++ codes " out") ++ (outer_text names o ++ (ports_at names o.time os ++ (10 ∷ [])))
 first_text-at names all o os e =
-    ap (λ xs. first_text (grouped names xs)) e ∙ ap first_text (grouped_at names o os)
+    ap (λ xs. first_text (groups_of names xs)) e ∙ ap first_text (groups_of-cons names o os)
     ∙ ap (λ t. time_text o.time ++ (codes " out" ++ t)) (append_assoc (outer_text names o) (ports_at names o.time os) (10 ∷ []))
     ∙ sym (append_assoc (time_text o.time) (codes " out") (outer_text names o ++ (ports_at names o.time os ++ (10 ∷ []))))
 
-pub other_groups-at : (names : List (List ℕ)) (all : List Outer) (o : Outer) (os : List Outer) → all ≡ o ∷ os → grouped names (after_at o.time os) ≡ other_groups (grouped names all)
-other_groups-at names all o os e = sym (ap (λ xs. other_groups (grouped names xs)) e ∙ ap other_groups (grouped_at names o os))
+pub other_groups-at : (names : List (List ℕ)) (all : List Outer) (o : Outer) (os : List Outer) → all ≡ o ∷ os → groups_of names (after_at o.time os) ≡ other_groups (groups_of names all)
+other_groups-at names all o os e = sym (ap (λ xs. other_groups (groups_of names xs)) e ∙ ap other_groups (groups_of-cons names o os))
 
 -- one more port of the group
 pub ports_at-same : (names : List (List ℕ)) (t : Time) (all : List Outer) (o : Outer) (os : List Outer) → all ≡ o ∷ os → is_eq (time_cmp t o.time) ≡ true → ports_at names t all ++ (10 ∷ []) ≡ outer_text names o ++ (ports_at names t os ++ (10 ∷ []))
@@ -78,12 +74,12 @@ first_before t gs g others e h = ap (groups_before t) e ∙ ap (λ (b : Bool). c
 first_passed : (t : Time) (gs : List (Time × List ℕ)) (g : Time × List ℕ) (others : List (Time × List ℕ)) → gs ≡ g ∷ others → is_before g.0 t ≡ true → groups_from t gs ≡ groups_from t (other_groups gs)
 first_passed t gs g others e h = ap (groups_from t) e ∙ ap (λ (b : Bool). cond b (groups_from t others) (g ∷ others)) h ∙ sym (ap (λ hs. groups_from t (other_groups hs)) e)
 
-group_at : (names : List (List ℕ)) (all : List Outer) (o : Outer) (os : List Outer) → all ≡ o ∷ os → grouped names all ≡ (o.time, outer_text names o ++ ports_at names o.time os) ∷ grouped names (after_at o.time os)
-group_at names all o os e = ap (grouped names) e ∙ grouped_at names o os
+group_at : (names : List (List ℕ)) (all : List Outer) (o : Outer) (os : List Outer) → all ≡ o ∷ os → groups_of names all ≡ (o.time, outer_text names o ++ ports_at names o.time os) ∷ groups_of names (after_at o.time os)
+group_at names all o os e = ap (groups_of names) e ∙ groups_of-cons names o os
 
 -- the first group is before a time
-pub groups_before-more : (names : List (List ℕ)) (t : Time) (all : List Outer) (o : Outer) (os : List Outer) → all ≡ o ∷ os → is_before o.time t ≡ true → groups_before t (grouped names all) ≡ first_text (grouped names all) ++ groups_before t (other_groups (grouped names all))
-groups_before-more names t all o os e h = first_before t (grouped names all) (o.time, outer_text names o ++ ports_at names o.time os) (grouped names (after_at o.time os)) (group_at names all o os e) h
+pub groups_before-more : (names : List (List ℕ)) (t : Time) (all : List Outer) (o : Outer) (os : List Outer) → all ≡ o ∷ os → is_before o.time t ≡ true → groups_before t (groups_of names all) ≡ first_text (groups_of names all) ++ groups_before t (other_groups (groups_of names all))
+groups_before-more names t all o os e h = first_before t (groups_of names all) (o.time, outer_text names o ++ ports_at names o.time os) (groups_of names (after_at o.time os)) (group_at names all o os e) h
 
-pub groups_from-more : (names : List (List ℕ)) (t : Time) (all : List Outer) (o : Outer) (os : List Outer) → all ≡ o ∷ os → is_before o.time t ≡ true → groups_from t (grouped names all) ≡ groups_from t (other_groups (grouped names all))
-groups_from-more names t all o os e h = first_passed t (grouped names all) (o.time, outer_text names o ++ ports_at names o.time os) (grouped names (after_at o.time os)) (group_at names all o os e) h
+pub groups_from-more : (names : List (List ℕ)) (t : Time) (all : List Outer) (o : Outer) (os : List Outer) → all ≡ o ∷ os → is_before o.time t ≡ true → groups_from t (groups_of names all) ≡ groups_from t (other_groups (groups_of names all))
+groups_from-more names t all o os e h = first_passed t (groups_of names all) (o.time, outer_text names o ++ ports_at names o.time os) (groups_of names (after_at o.time os)) (group_at names all o os e) h

@@ -1,6 +1,7 @@
 pub mod Groups
-pub mod Merged
+pub mod Instants
+pub mod Merging
+pub mod NamesLemmas
 pub mod Sent
-pub mod ShownLemmas
 pub mod Taking
 pub mod Values

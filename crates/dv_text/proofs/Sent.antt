@@ -3,12 +3,8 @@ use Rattle.std.proofs.Common.{◌≡◌, ◌⊎◌, inl, inr, nat_eq, cond, subs
 use Rattle.dv_bag.specs.Bag.{Counts, size}
 use Rattle.dv_bag.specs.declared.state.Datum.{Datum}
 use Rattle.dv_tree.specs.Paths.{name_at, texts_of}
+use Rattle.dv_text.specs.Writing.{sent_from}
 use Rattle.dv_text.specs.Texts.{datum_text, port_text, ports_text, sent_text, values_text, variables_text}
-
--- what is left of what was sent, with the mark before it if nothing was written yet
-abbrev pub sent_from : Bool → List ℕ → List ℕ
-sent_from true text = sent_text text
-sent_from false text = text
 
 -- one more variable
 pub variables_step : (names : List (List ℕ)) (line line1 line2 whole : List ℕ) (ns ns' : List ℕ) (ds ds' : List Datum) (n : ℕ) (d : Datum) → ns ≡ n ∷ ns' → ds ≡ d ∷ ds' → line ++ variables_text (texts_of names ns) ds ≡ whole → line1 ≡ line ++ ((32 ∷ name_at names n) ++ (61 ∷ [])) → line2 ≡ line1 ++ datum_text d → line2 ++ variables_text (texts_of names ns') ds' ≡ whole
@@ -58,14 +54,15 @@ sent_from-nothing false = refl
 pub sent_end : (names : List (List ℕ)) (line whole : List ℕ) (is_first : Bool) (ns : List ℕ) (bags : List Counts) → (ns ≡ []) ⊎ (bags ≡ []) → line ++ sent_from is_first (ports_text (texts_of names ns) bags) ≡ whole → line ≡ whole
 sent_end names line whole is_first ns bags none before = sym (append-nil line) ∙ ap (λ t. line ++ t) (sym (ap (sent_from is_first) (no_ports (texts_of names ns) bags (either_texts names ns bags none)) ∙ sent_from-nothing is_first)) ∙ before
 
-left_ports : (names : List (List ℕ)) (line whole : List ℕ) (is_first : Bool) (ns ns' : List ℕ) (bags bags' : List Counts) (n : ℕ) (b : Counts) → ns ≡ n ∷ ns' → bags ≡ b ∷ bags' → line ++ sent_from is_first (ports_text (texts_of names ns) bags) ≡ whole → line ++ sent_from is_first (port_text (name_at names n) b ++ ports_text (texts_of names ns') bags') ≡ whole
+-- the next port is in front of what is left
+pub left_ports : (names : List (List ℕ)) (line whole : List ℕ) (is_first : Bool) (ns ns' : List ℕ) (bags bags' : List Counts) (n : ℕ) (b : Counts) → ns ≡ n ∷ ns' → bags ≡ b ∷ bags' → line ++ sent_from is_first (ports_text (texts_of names ns) bags) ≡ whole → line ++ sent_from is_first (port_text (name_at names n) b ++ ports_text (texts_of names ns') bags') ≡ whole
 left_ports names line whole is_first ns ns' bags bags' n b en eb before =
     ap (λ t. line ++ sent_from is_first t) (sym (ap (λ ms. ports_text (texts_of names ms) bags) en ∙ ap (ports_text (texts_of names (n ∷ ns'))) eb)) ∙ before
 
 -- a port with no values is passed over
-pub sent_skip : (names : List (List ℕ)) (line whole : List ℕ) (is_first : Bool) (ns ns' : List ℕ) (bags bags' : List Counts) (n : ℕ) (b : Counts) → ns ≡ n ∷ ns' → bags ≡ b ∷ bags' → line ++ sent_from is_first (ports_text (texts_of names ns) bags) ≡ whole → nat_eq (size b) 0 ≡ true → line ++ sent_from is_first (ports_text (texts_of names ns') bags') ≡ whole
-sent_skip names line whole is_first ns ns' bags bags' n b en eb before none =
-    ap (λ (e : Bool). line ++ sent_from is_first (cond e [] ((32 ∷ name_at names n) ++ (58 ∷ values_text b)) ++ ports_text (texts_of names ns') bags')) (sym none) ∙ left_ports names line whole is_first ns ns' bags bags' n b en eb before
+pub no_port : (line : List ℕ) (is_first : Bool) (name : List ℕ) (b : Counts) (rest : List ℕ) → nat_eq (size b) 0 ≡ true → line ++ sent_from is_first rest ≡ line ++ sent_from is_first (port_text name b ++ rest)
+no_port line is_first name b rest none =
+    ap (λ (e : Bool). line ++ sent_from is_first (cond e [] ((32 ∷ name) ++ (58 ∷ values_text b)) ++ rest)) (sym none)
 
 marked : (is_first : Bool) (name : List ℕ) (b : Counts) (rest : List ℕ) → nat_eq (size b) 0 ≡ false → cond is_first (32 ∷ 62 ∷ []) [] ++ (port_text name b ++ rest) ≡ sent_from is_first (port_text name b ++ rest)
 marked true name b rest some =
@@ -74,12 +71,10 @@ marked true name b rest some =
 marked false name b rest some = refl
 
 -- a port with values, and the mark before it if it is the first
-pub sent_step : (names : List (List ℕ)) (line line1 line2 whole : List ℕ) (is_first : Bool) (ns ns' : List ℕ) (bags bags' : List Counts) (n : ℕ) (b : Counts) → ns ≡ n ∷ ns' → bags ≡ b ∷ bags' → line ++ sent_from is_first (ports_text (texts_of names ns) bags) ≡ whole → nat_eq (size b) 0 ≡ false → line1 ≡ line ++ cond is_first (32 ∷ 62 ∷ []) [] → line2 ≡ line1 ++ port_text (name_at names n) b → line2 ++ ports_text (texts_of names ns') bags' ≡ whole
-sent_step names line line1 line2 whole is_first ns ns' bags bags' n b en eb before some mark port =
-    let rest = ports_text (texts_of names ns') bags' in
-    let text = port_text (name_at names n) b in
+pub next_port : (line line1 line2 : List ℕ) (is_first : Bool) (name : List ℕ) (b : Counts) (rest : List ℕ) → nat_eq (size b) 0 ≡ false → line1 ≡ line ++ cond is_first (32 ∷ 62 ∷ []) [] → line2 ≡ line1 ++ port_text name b → line2 ++ rest ≡ line ++ sent_from is_first (port_text name b ++ rest)
+next_port line line1 line2 is_first name b rest some mark port =
+    let text = port_text name b in
     ap (λ t. t ++ rest) (port ∙ ap (λ t. t ++ text) mark)
     ∙ append_assoc (line ++ cond is_first (32 ∷ 62 ∷ []) []) text rest
     ∙ append_assoc line (cond is_first (32 ∷ 62 ∷ []) []) (text ++ rest)
-    ∙ ap (λ t. line ++ t) (marked is_first (name_at names n) b rest some)
-    ∙ left_ports names line whole is_first ns ns' bags bags' n b en eb before
+    ∙ ap (λ t. line ++ t) (marked is_first name b rest some)

@@ -3,7 +3,7 @@ use Rattle.std.proofs.Common.{◌≡◌, ℕ, zero, suc, ◌+◌, ◌-◌, ◌<�
 use Rattle.std.proofs.lemmas.List.{at_drop_more, at_drop_all}
 use Rattle.std.specs.Fmt.{signed_decimal}
 use Rattle.dv_bag.specs.Bag.{Counts, IsBag, IsAbove, values_of}
-use Rattle.dv_text.specs.Texts.{with_commas, values_text}
+use Rattle.dv_text.specs.Texts.{values_text, with_commas}
 use Rattle.dv_text.specs.Writing.{values_from}
 
 -- commas between are commas before all but the first

@@ -1,13 +1,12 @@
--- The bytes of a trace: a line for each entry, a line for what leaves at an instant, and the end.
-use Rattle.std.specs.Prelude.{ℕ, true, false, nat_eq, if◌then◌else◌, List, [], ◌∷◌, ◌++◌, map, slice_get, unwrap_or, codes}
+-- The bytes of a trace: the text of each instant, one after the other, and the end.
+use Rattle.std.specs.Prelude.{ℕ, zero, suc, true, false, nat_eq, if◌then◌else◌, List, [], ◌∷◌, ◌++◌, map, slice_get, unwrap_or, codes}
 use Rattle.std.specs.Fmt.{decimal, signed_decimal}
 use Rattle.std.specs.List.{flat_map}
 use Rattle.dv_time.specs.declared.time.Time.{Time}
-use Rattle.dv_time.specs.Time.{time_cmp, time_text}
-use Rattle.std.specs.Ordering.{is_eq}
+use Rattle.dv_time.specs.Time.{end_of, time_of, time_text}
 use Rattle.dv_tree.specs.Paths.{name_at}
 use Rattle.dv_bag.specs.Bag.{Counts, values_of, size}
-use Rattle.dv_bag.specs.Part.{PartOf, is_before}
+use Rattle.dv_bag.specs.Part.{PartOf}
 use Rattle.dv_bag.specs.Words.{fault_word, kind_word}
 use Rattle.dv_bag.specs.declared.state.Datum.{Datum}
 use Rattle.dv_bag.specs.declared.state.Datum.TheVariants as datum
@@ -15,9 +14,12 @@ use Rattle.dv_bag.specs.declared.entry.What.{What}
 use Rattle.dv_bag.specs.declared.entry.What.TheVariants as what
 use Rattle.dv_bag.specs.declared.entry.Entry.{Entry}
 use Rattle.dv_bag.specs.declared.entry.Outer.{Outer}
+use Rattle.dv_devs.specs.Network.{Network, components_at, part_of_instant}
+use Rattle.dv_text.specs.declared.writing.Ending.{Ending}
+use Rattle.dv_text.specs.declared.writing.Ending.TheVariants.{Horizon}
 
--- the words by which a component is shown: its path, and the names that its model declares, in order
-pub record Shown : Type 0 where
+-- the names by which a component is written: its path, and the names that its model declares, in order
+pub record ComponentNames : Type 0 where
   pub path : List ℕ
   pub phases : List (List ℕ)
   pub variables : List (List ℕ)
@@ -59,58 +61,46 @@ abbrev pub sent_text : List ℕ → List ℕ
 sent_text [] = []
 sent_text (c ∷ cs) = 32 ∷ 62 ∷ c ∷ cs
 
-abbrev pub what_text : Shown → What → List ℕ
-what_text shown (what.Transition k s) = kind_word k ++ ((32 ∷ name_at shown.phases s.phase) ++ variables_text shown.variables s.variables)
-what_text shown (what.Fault f) = codes "fault " ++ fault_word f
+abbrev pub what_text : ComponentNames → What → List ℕ
+what_text names (what.Transition k s) = kind_word k ++ ((32 ∷ name_at names.phases s.phase) ++ variables_text names.variables s.variables)
+what_text names (what.Fault f) = codes "fault " ++ fault_word f
 
-abbrev pub no_words : Shown
-no_words = record { path = []; phases = []; variables = []; outputs = [] }
+abbrev pub no_names : ComponentNames
+no_names = record { path = []; phases = []; variables = []; outputs = [] }
 
-abbrev pub shown_at : List Shown → ℕ → Shown
-shown_at all k = unwrap_or (slice_get all k) no_words
+abbrev pub names_at : List ComponentNames → ℕ → ComponentNames
+names_at all k = unwrap_or (slice_get all k) no_names
 
 -- the line of an entry
-abbrev pub entry_text : Shown → Entry → List ℕ
-entry_text shown e =
-    time_text e.time ++ ((32 ∷ shown.path) ++ ((32 ∷ what_text shown e.what) ++ (sent_text (ports_text shown.outputs e.sent) ++ (10 ∷ []))))
+abbrev pub entry_text : ComponentNames → Entry → List ℕ
+entry_text names e =
+    time_text e.time ++ ((32 ∷ names.path) ++ ((32 ∷ what_text names e.what) ++ (sent_text (ports_text names.outputs e.sent) ++ (10 ∷ []))))
 
--- a text before the others of its time
-abbrev pub put_before : Time → List ℕ → List (Time × List ℕ) → List (Time × List ℕ)
-put_before t text [] = (t, text) ∷ []
-put_before t text (g ∷ gs) = if is_eq (time_cmp t g.0) then (t, text ++ g.1) ∷ gs else (t, text) ∷ g ∷ gs
+-- what leaves at one port
+abbrev pub outer_text : List (List ℕ) → Outer → List ℕ
+outer_text outputs o = port_text (name_at outputs o.port) o.values
 
--- what leaves at one time, port after port
-abbrev pub grouped : List (List ℕ) → List Outer → List (Time × List ℕ)
-grouped names [] = []
-grouped names (o ∷ os) = put_before o.time (port_text (name_at names o.port) o.values) (grouped names os)
+-- the line of what leaves at an instant, port after port, where something does
+abbrev pub outers_text : List (List ℕ) → Time → List Outer → List ℕ
+outers_text outputs t [] = []
+outers_text outputs t (o ∷ os) = time_text t ++ (codes " out" ++ (flat_map (outer_text outputs) (o ∷ os) ++ (10 ∷ [])))
 
--- the line of what leaves at one time
-abbrev pub group_text : Time × List ℕ → List ℕ
-group_text g = time_text g.0 ++ (codes " out" ++ (g.1 ++ (10 ∷ [])))
+-- the lines of an instant: those of its entries, and then that of what leaves
+abbrev pub instant_text : List ComponentNames → List (List ℕ) → Time → PartOf → List ℕ
+instant_text all outputs t p = flat_map (λ (e : Entry). entry_text (names_at all e.component) e) p.entries ++ outers_text outputs t p.outer
 
--- the groups from the first that is not before a time
-abbrev pub groups_from : Time → List (Time × List ℕ) → List (Time × List ℕ)
-groups_from t [] = []
-groups_from t (g ∷ gs) = if is_before g.0 t then groups_from t gs else g ∷ gs
+-- the lines of all instants of a run before a rank, one instant after the other
+abbrev pub instants_text : {I : Type 0} → List ComponentNames → List (List ℕ) → (limit : ℕ) → Network I → (ℕ → I) → ℕ → List ℕ
+instants_text all outputs limit net inputs zero = []
+instants_text all outputs limit net inputs (suc n) =
+    instants_text all outputs limit net inputs n
+    ++ instant_text all outputs (time_of limit n) (part_of_instant limit net n (inputs n) (components_at limit net inputs n))
 
--- the lines of the groups before that
-abbrev pub groups_before : Time → List (Time × List ℕ) → List ℕ
-groups_before t [] = []
-groups_before t (g ∷ gs) = if is_before g.0 t then group_text g ++ groups_before t gs else []
+-- how a text ends
+abbrev pub ending_text : Ending → List ℕ
+ending_text (Horizon horizon) = codes "whole " ++ (decimal horizon ++ (10 ∷ []))
 
--- The lines by time: those of the entries, and after them what leaves at that time
-abbrev pub merged : List Shown → List Entry → List (Time × List ℕ) → List ℕ
-merged all [] gs = flat_map group_text gs
-merged all (e ∷ es) gs =
-    groups_before e.time gs ++ (entry_text (shown_at all e.component) e ++ merged all es (groups_from e.time gs))
-
--- the lines of a trace
-abbrev pub trace_text : List Shown → List (List ℕ) → PartOf → List ℕ
-trace_text all outputs p = merged all p.entries (grouped outputs p.outer)
-
-abbrev pub end_text : ℕ → List ℕ
-end_text horizon = codes "whole " ++ (decimal horizon ++ (10 ∷ []))
-
--- the text of a whole run to a horizon
-abbrev pub whole_text : List Shown → List (List ℕ) → PartOf → ℕ → List ℕ
-whole_text all outputs p horizon = trace_text all outputs p ++ end_text horizon
+-- the text of a run of a network to a horizon
+abbrev pub whole_text : {I : Type 0} → List ComponentNames → List (List ℕ) → (limit : ℕ) → Network I → (ℕ → I) → (horizon : ℕ) → List ℕ
+whole_text all outputs limit net inputs horizon =
+    instants_text all outputs limit net inputs (end_of limit horizon) ++ ending_text (Horizon horizon)

@@ -16,7 +16,8 @@ const PIECE_LENGTH: usize = 65_536;
 /// Gives a writer all bytes of a piece, in as many writes as it takes. A write that failed is not tried again.
 pub fn hand_over<W: Write>(writer: &mut W, piece: &[u8]) -> Result<(), WriteError>
     ensures ok { OnOk result (Appends (W.contents writer.old) (W.contents writer.new) piece.now) }
-    ensures err { OnErr result (StopsShort (W.contents writer.old) (W.contents writer.new) piece.now) }
+    ensures err { OnErr result (StopsShort (W.contents writer.old) (W.contents writer.new)
+        piece.now) }
 {
     let mut rest = piece;
     while !rest.is_empty() {
@@ -30,10 +31,12 @@ pub fn hand_over<W: Write>(writer: &mut W, piece: &[u8]) -> Result<(), WriteErro
 
 /// Gives a writer the text so far, once there is a piece of it.
 pub fn hand_over_if_long<W: Write>(line: &mut String, writer: &mut W) -> Result<(), WriteError>
-    ensures ok { OnOk result (TakesFront (W.contents writer.old) (W.contents writer.new) (string_bytes line.old) (string_bytes line.new)) }
+    ensures ok { OnOk result (TakesFront (W.contents writer.old) (W.contents writer.new)
+        (string_bytes line.old) (string_bytes line.new)) }
     ensures short { OnOk result (length (string_bytes line.new) < PIECE_LENGTH) }
     ensures waits { length (string_bytes line.old) < PIECE_LENGTH → IsOk result }
-    ensures err { OnErr result (StopsShort (W.contents writer.old) (W.contents writer.new) (string_bytes line.old)) }
+    ensures err { OnErr result (StopsShort (W.contents writer.old) (W.contents writer.new)
+        (string_bytes line.old)) }
 {
     if line.len() >= PIECE_LENGTH {
         hand_over(writer, line.as_bytes())?;
@@ -49,8 +52,10 @@ pub fn write_port<W: Write>(
     name: &str,
     values: &Bag,
 ) -> Result<(), WriteError>
-    ensures ok { OnOk result (TakesFront (W.contents writer.old) (W.contents writer.new) (string_bytes line.old ++ port_text name.now values.now) (string_bytes line.new)) }
-    ensures err { OnErr result (AppendsBeginning (W.contents writer.old) (W.contents writer.new) (string_bytes line.old ++ port_text name.now values.now)) }
+    ensures ok { OnOk result (TakesFront (W.contents writer.old) (W.contents writer.new)
+        (string_bytes line.old ++ port_text name.now values.now) (string_bytes line.new)) }
+    ensures err { OnErr result (AppendsBeginning (W.contents writer.old) (W.contents writer.new)
+        (string_bytes line.old ++ port_text name.now values.now)) }
 {
     if values.is_empty() {
         return Ok(());
@@ -60,8 +65,10 @@ pub fn write_port<W: Write>(
 }
 
 fn write_values<W: Write>(line: &mut String, writer: &mut W, values: &Bag) -> Result<(), WriteError>
-    ensures ok { OnOk result (TakesFront (W.contents writer.old) (W.contents writer.new) (string_bytes line.old ++ values_text values.now) (string_bytes line.new)) }
-    ensures err { OnErr result (AppendsBeginning (W.contents writer.old) (W.contents writer.new) (string_bytes line.old ++ values_text values.now)) }
+    ensures ok { OnOk result (TakesFront (W.contents writer.old) (W.contents writer.new)
+        (string_bytes line.old ++ values_text values.now) (string_bytes line.new)) }
+    ensures err { OnErr result (AppendsBeginning (W.contents writer.old) (W.contents writer.new)
+        (string_bytes line.old ++ values_text values.now)) }
 {
     let mut is_first = true;
     for pair in values.pairs() {
@@ -79,8 +86,11 @@ fn write_copies<W: Write>(
     value: i64,
     copies: u64,
 ) -> Result<(), WriteError>
-    ensures ok { OnOk result (TakesFront (W.contents writer.old) (W.contents writer.new) (string_bytes line.old ++ values_from is_first (replicate copies value)) (string_bytes line.new)) }
-    ensures err { OnErr result (AppendsBeginning (W.contents writer.old) (W.contents writer.new) (string_bytes line.old ++ values_from is_first (replicate copies value))) }
+    ensures ok { OnOk result (TakesFront (W.contents writer.old) (W.contents writer.new)
+        (string_bytes line.old ++ values_from is_first (replicate copies value))
+        (string_bytes line.new)) }
+    ensures err { OnErr result (AppendsBeginning (W.contents writer.old) (W.contents writer.new)
+        (string_bytes line.old ++ values_from is_first (replicate copies value))) }
 {
     let mut is_first = is_first;
     for _copy in 0..copies {

@@ -1,11 +1,36 @@
-//! Worked texts, computed in the definitions alone.
+//! Laws of the text of a trace. Each function stands for the law in its contract; its body only names
+//! those that it rests on.
 
-ghost use Rattle.std.specs.Prelude.{◌≡◌, [], ◌∷◌, ◌++◌, codes};
-ghost use Rattle.dv_text.specs.Clock.{clock_outputs, clock_shown, first_tick};
-ghost use Rattle.dv_text.specs.Texts.{whole_text};
+ghost use Rattle.std.specs.Prelude.{◌≡◌, ℕ, [], ◌∷◌, ◌++◌, List, codes};
+ghost use Rattle.dv_time.specs.Time.{end_of};
+ghost use Rattle.dv_devs.specs.Network.{Network, trace_before};
+ghost use Rattle.dv_devs.specs.Models.{clock};
+ghost use Rattle.dv_devs.specs.Rows.{no_input};
+ghost use Rattle.dv_text.specs.Clock.{clock_names, clock_outputs};
+ghost use Rattle.dv_text.specs.Merging.{text_of, trace_text};
+ghost use Rattle.dv_text.specs.declared.writing.Ending.TheVariants.{Horizon};
+ghost use Rattle.dv_text.specs.Texts.{ComponentNames, instants_text, whole_text};
 
-/// The lines of a clock's first tick: what it did, and what left.
+use dv_devs::laws::parts::instants_are_at_their_time;
+
+/// The lines of a trace, merged by time, are those of its instants one after the other. So is a whole text.
+pub fn a_trace_is_its_instants<I>()
+    ensures lines { (all : List ComponentNames) (outputs : List (List ℕ))
+        → (limit : ℕ) (net : Network I) (inputs : ℕ → I) (n : ℕ)
+        → trace_text all outputs (trace_before limit net inputs n)
+        ≡ instants_text all outputs limit net inputs n }
+    ensures whole { (all : List ComponentNames) (outputs : List (List ℕ))
+        → (limit : ℕ) (net : Network I) (inputs : ℕ → I) (horizon : ℕ)
+        → text_of all outputs (trace_before limit net inputs (end_of limit horizon)) (Horizon horizon)
+        ≡ whole_text all outputs limit net inputs horizon }
+{
+    instants_are_at_their_time::<I>();
+}
+
+/// The text of a clock to a horizon of 12: what it did, and what left, at 5.0 and at 10.0.
 pub fn a_clock_ticks()
-    ensures { whole_text clock_shown clock_outputs first_tick 12 ≡
-        codes "5.0 t i run n=1 > beat:0" ++ (10 ∷ (codes "5.0 out o:0" ++ (10 ∷ (codes "whole 12" ++ (10 ∷ []))))) }
+    ensures { whole_text clock_names clock_outputs 1 clock no_input 12 ≡
+        codes "5.0 t i run n=1 > beat:0" ++ (10 ∷ (codes "5.0 out o:0" ++ (10 ∷
+        (codes "10.0 t i run n=2 > beat:1" ++ (10 ∷ (codes "10.0 out o:1" ++ (10 ∷
+        (codes "whole 12" ++ (10 ∷ []))))))))) }
 {}

@@ -3,21 +3,15 @@
 ghost use Rattle.std.specs.Prelude.{◌≡◌, ◌↔◌, ◌++◌, ◌∷◌, [], IsTrue, OnOk, if◌then◌else◌, replicate, string_bytes};
 ghost use Rattle.std.specs.Ordering.{is_eq};
 ghost use Rattle.dv_time.specs.Time.{time_cmp};
-ghost use Rattle.dv_bag.specs.Part.{is_before};
+ghost use Rattle.dv_bag.specs.Reading.{datum_of};
 ghost use Rattle.std.specs.Fmt.{signed_decimal};
-ghost use Rattle.dv_text.specs.Texts.{datum_text, port_text, values_text};
-ghost use Rattle.dv_text.specs.Writing.{ending_text, values_from};
+ghost use Rattle.dv_text.specs.Texts.{datum_text, ending_text, port_text, values_text};
+ghost use Rattle.dv_text.specs.Writing.{values_from};
 
 use crate::writing::Ending;
-use dv_bag::{Bag, Datum};
+use dv_bag::{Bag, DatumView};
 use dv_time::Time;
 use std::alloc::AllocError;
-
-pub fn is_before(first: Time, second: Time) -> bool
-    ensures { result ≡ is_before first second }
-{
-    first < second
-}
 
 pub fn is_same(first: Time, second: Time) -> bool
     ensures same { IsTrue result ↔ (first ≡ second) }
@@ -28,7 +22,8 @@ pub fn is_same(first: Time, second: Time) -> bool
 
 /// A value, with a comma before it unless it is the first.
 pub fn push_value(line: &mut String, is_first: bool, value: i64) -> Result<(), AllocError>
-    ensures { OnOk result (string_bytes line.new ≡ string_bytes line.old ++ ((if is_first then [] else 44 ∷ []) ++ signed_decimal value)) }
+    ensures { OnOk result (string_bytes line.new ≡
+        string_bytes line.old ++ ((if is_first then [] else 44 ∷ []) ++ signed_decimal value)) }
 {
     if is_first {
         write!(line, "{value}")
@@ -44,7 +39,8 @@ pub fn push_copies(
     value: i64,
     copies: u64,
 ) -> Result<(), AllocError>
-    ensures { OnOk result (string_bytes line.new ≡ string_bytes line.old ++ values_from is_first (replicate copies value)) }
+    ensures { OnOk result (string_bytes line.new ≡
+        string_bytes line.old ++ values_from is_first (replicate copies value)) }
 {
     let mut is_first = is_first;
     for _copy in 0..copies {
@@ -55,7 +51,8 @@ pub fn push_copies(
 }
 
 pub fn push_values(line: &mut String, values: &Bag) -> Result<(), AllocError>
-    ensures { OnOk result (string_bytes line.new ≡ string_bytes line.old ++ values_text values.now) }
+    ensures { OnOk result (string_bytes line.new ≡
+        string_bytes line.old ++ values_text values.now) }
 {
     let mut is_first = true;
     for pair in values.pairs() {
@@ -65,13 +62,14 @@ pub fn push_values(line: &mut String, values: &Bag) -> Result<(), AllocError>
     Ok(())
 }
 
-pub fn push_datum(line: &mut String, datum: &Datum) -> Result<(), AllocError>
-    ensures { OnOk result (string_bytes line.new ≡ string_bytes line.old ++ datum_text datum.now) }
+pub fn push_datum(line: &mut String, datum: DatumView) -> Result<(), AllocError>
+    ensures { OnOk result (string_bytes line.new ≡
+        string_bytes line.old ++ datum_text (datum_of datum.entry)) }
 {
     match datum {
-        Datum::Number(number) => write!(line, "{number}"),
-        Datum::Flag(flag) => write!(line, "{flag}"),
-        Datum::Bag(values) => {
+        DatumView::Number(number) => write!(line, "{number}"),
+        DatumView::Flag(flag) => write!(line, "{flag}"),
+        DatumView::Bag(values) => {
             line.push('[')?;
             push_values(line, values)?;
             line.push(']')
@@ -81,7 +79,8 @@ pub fn push_datum(line: &mut String, datum: &Datum) -> Result<(), AllocError>
 
 /// A port with its values, unless it has none.
 pub fn push_port(line: &mut String, name: &str, values: &Bag) -> Result<(), AllocError>
-    ensures { OnOk result (string_bytes line.new ≡ string_bytes line.old ++ port_text name.now values.now) }
+    ensures { OnOk result (string_bytes line.new ≡
+        string_bytes line.old ++ port_text name.now values.now) }
 {
     if values.is_empty() {
         return Ok(());
@@ -91,9 +90,10 @@ pub fn push_port(line: &mut String, name: &str, values: &Bag) -> Result<(), Allo
 }
 
 pub fn push_end(line: &mut String, ending: &Ending) -> Result<(), AllocError>
-    ensures { OnOk result (string_bytes line.new ≡ string_bytes line.old ++ ending_text ending.now) }
+    ensures { OnOk result (string_bytes line.new ≡
+        string_bytes line.old ++ ending_text ending.now) }
 {
     match ending {
-        Ending::Whole(horizon) => writeln!(line, "whole {horizon}"),
+        Ending::Horizon(horizon) => writeln!(line, "whole {horizon}"),
     }
 }

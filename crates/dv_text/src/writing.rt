@@ -3,14 +3,14 @@
 ghost use Rattle.std.specs.Prelude.{◌≡◌, ◌++◌, ◌-◌, ◌≤◌, length, OnErr, OnOk, IfOk, string_bytes};
 ghost use Rattle.std.specs.Io.KnownBytes.{Appends};
 ghost use Rattle.std.specs.List.{flat_map};
-ghost use Rattle.dv_text.specs.Shown.{all_shown, root_ports};
-ghost use Rattle.dv_text.specs.Texts.{group_text, grouped, groups_before, groups_from};
-ghost use Rattle.dv_text.specs.Writing.{AppendsBeginning, StopsShort, TakesFront, first_text, other_groups, text_of};
+ghost use Rattle.dv_text.specs.Merging.{first_text, group_text, groups_before, groups_from, groups_of, other_groups, text_of};
+ghost use Rattle.dv_text.specs.Names.{tree_names, tree_ports};
+ghost use Rattle.dv_text.specs.Writing.{AppendsBeginning, StopsShort, TakesFront};
 
 use crate::handing::{hand_over, hand_over_if_long, write_port};
-use crate::pieces::{is_before, is_same, push_end};
+use crate::pieces::{is_same, push_end};
 use crate::words::{push_entry, root_port};
-use dv_bag::{Outer, Trace};
+use dv_bag::{Entry, Outer, Trace};
 use dv_time::Time;
 use dv_tree::Tree;
 use std::alloc::{AllocError, Global};
@@ -19,8 +19,8 @@ use std::io::Write;
 /// How a text ends.
 #[derive(Clone, Copy, Debug, PartialEq, Eq)]
 pub enum Ending {
-    /// The trace is whole, up to this horizon in ticks.
-    Whole(u64),
+    /// The trace reaches this horizon, in ticks.
+    Horizon(u64),
 }
 
 /// Why a text is not written to its end.
@@ -56,13 +56,13 @@ pub fn write_trace<W: Write>(
     writer: &mut W,
 ) -> Result<(), WriteError>
     ensures ok { OnOk result (Appends (W.contents writer.old) (W.contents writer.new)
-        (text_of (all_shown tree.now) (root_ports tree.now) trace.now ending.now)) }
+        (text_of (tree_names tree.now) (tree_ports tree.now) trace.now ending.now)) }
     ensures err { OnErr result (StopsShort (W.contents writer.old) (W.contents writer.new)
-        (text_of (all_shown tree.now) (root_ports tree.now) trace.now ending.now)) }
+        (text_of (tree_names tree.now) (tree_ports tree.now) trace.now ending.now)) }
 {
     let mut line = String::new(alloc);
-    let mut outer = trace.outer();
-    for entry in trace.entries() {
+    let mut outer = outer_of(trace);
+    for entry in entries_of(trace) {
         outer = write_before(&mut line, writer, tree, entry.time, outer)?;
         push_entry(&mut line, tree, entry)?;
         hand_over_if_long(&mut line, writer)?;
@@ -70,6 +70,18 @@ pub fn write_trace<W: Write>(
     write_groups(&mut line, writer, tree, outer)?;
     push_end(&mut line, ending)?;
     hand_over(writer, line.as_bytes())
+}
+
+fn entries_of(trace: &Trace) -> &[Entry]
+    ensures { result.now ≡ trace.now.entries }
+{
+    trace.entries().as_slice()
+}
+
+fn outer_of(trace: &Trace) -> &[Outer]
+    ensures { result.now ≡ trace.now.outer }
+{
+    trace.outer().as_slice()
 }
 
 // The lines of what left before a time. What left from then on is returned.
@@ -81,14 +93,16 @@ fn write_before<'o, W: Write>(
     outer: &'o [Outer],
 ) -> Result<&'o [Outer], WriteError>
     ensures ok { OnOk result (TakesFront (W.contents writer.old) (W.contents writer.new)
-        (string_bytes line.old ++ groups_before time (grouped (root_ports tree.now) outer.now)) (string_bytes line.new)) }
-    ensures left { IfOk result (λ left. grouped (root_ports tree.now) left.now ≡ groups_from time (grouped (root_ports tree.now) outer.now)) }
+        (string_bytes line.old ++ groups_before time (groups_of (tree_ports tree.now) outer.now))
+        (string_bytes line.new)) }
+    ensures left { IfOk result (λ left. groups_of (tree_ports tree.now) left.now
+        ≡ groups_from time (groups_of (tree_ports tree.now) outer.now)) }
     ensures err { OnErr result (AppendsBeginning (W.contents writer.old) (W.contents writer.new)
-        (string_bytes line.old ++ groups_before time (grouped (root_ports tree.now) outer.now))) }
+        (string_bytes line.old ++ groups_before time (groups_of (tree_ports tree.now) outer.now))) }
 {
     let mut rest = outer;
     while let Some((first, _)) = rest.split_first()
-        && is_before(first.time, time)
+        && first.time.is_before(time)
     {
         rest = write_group(line, writer, tree, rest)?;
     }
@@ -103,9 +117,10 @@ fn write_groups<W: Write>(
     outer: &[Outer],
 ) -> Result<(), WriteError>
     ensures ok { OnOk result (TakesFront (W.contents writer.old) (W.contents writer.new)
-        (string_bytes line.old ++ flat_map group_text (grouped (root_ports tree.now) outer.now)) (string_bytes line.new)) }
+        (string_bytes line.old ++ flat_map group_text (groups_of (tree_ports tree.now) outer.now))
+        (string_bytes line.new)) }
     ensures err { OnErr result (AppendsBeginning (W.contents writer.old) (W.contents writer.new)
-        (string_bytes line.old ++ flat_map group_text (grouped (root_ports tree.now) outer.now))) }
+        (string_bytes line.old ++ flat_map group_text (groups_of (tree_ports tree.now) outer.now))) }
 {
     let mut rest = outer;
     while !rest.is_empty() {
@@ -122,11 +137,13 @@ fn write_group<'o, W: Write>(
     outer: &'o [Outer],
 ) -> Result<&'o [Outer], WriteError>
     ensures ok { OnOk result (TakesFront (W.contents writer.old) (W.contents writer.new)
-        (string_bytes line.old ++ first_text (grouped (root_ports tree.now) outer.now)) (string_bytes line.new)) }
-    ensures left { IfOk result (λ left. grouped (root_ports tree.now) left.now ≡ other_groups (grouped (root_ports tree.now) outer.now)) }
+        (string_bytes line.old ++ first_text (groups_of (tree_ports tree.now) outer.now))
+        (string_bytes line.new)) }
+    ensures left { IfOk result (λ left. groups_of (tree_ports tree.now) left.now
+        ≡ other_groups (groups_of (tree_ports tree.now) outer.now)) }
     ensures fewer { IfOk result (λ left. length left.now ≤ length outer.now - 1) }
     ensures err { OnErr result (AppendsBeginning (W.contents writer.old) (W.contents writer.new)
-        (string_bytes line.old ++ first_text (grouped (root_ports tree.now) outer.now))) }
+        (string_bytes line.old ++ first_text (groups_of (tree_ports tree.now) outer.now))) }
 {
     let Some((first, after)) = outer.split_first() else {
         return Ok(outer);

@@ -1,8 +1,8 @@
 -- Superdense time under a microstep limit, and the natural numbers that count it.
 -- (Zeigler, Praehofer and Kim 2000; the limit is this project's.)
-use Rattle.std.specs.Prelude.{ℕ, zero, suc, ◌+◌, ◌*◌, ◌/◌, ◌%◌, ◌≤◌, nat_lt, if◌then◌else◌, List, ◌∷◌, ◌++◌, Option, Some, None, Result, Ok, Err}
+use Rattle.std.specs.Prelude.{ℕ, zero, suc, ◌+◌, ◌*◌, ◌/◌, ◌%◌, ◌≤◌, nat_lt, Bool, if◌then◌else◌, List, ◌∷◌, ◌++◌, Option, Some, None, Result, Ok, Err}
 use Rattle.std.specs.Fmt.{decimal}
-use Rattle.std.specs.Ordering.{nat_cmp, ordering_then}
+use Rattle.std.specs.Ordering.{is_lt, nat_cmp, ordering_then}
 use Rattle.std.specs.declared.cmp.Ordering.{Ordering}
 use Rattle.dv_time.specs.declared.time.Time.{Time}
 use Rattle.dv_time.specs.declared.time.Next.{Next}
@@ -43,6 +43,10 @@ end_of limit horizon = (horizon + 1) * (limit + 1)
 -- by tick, then by microstep
 abbrev pub time_cmp : Time → Time → Ordering
 time_cmp a b = ordering_then (nat_cmp a.tick b.tick) (nat_cmp a.micro b.micro)
+
+-- is the first time before the second
+abbrev pub is_before : Time → Time → Bool
+is_before a b = is_lt (time_cmp a b)
 
 -- the place of a next time, if there is one
 abbrev pub next_rank : ℕ → Next → Option ℕ

@@ -1,8 +1,9 @@
 //! Laws of superdense time. Each function stands for the law in its contract; its body does nothing.
 
-ghost use Rattle.std.specs.Prelude.{◌≡◌, ℕ, ◌+◌, ◌*◌, ◌<◌, ◌≤◌, Ok, suc};
+ghost use Rattle.std.specs.Prelude.{◌≡◌, ◌↔◌, ℕ, ◌+◌, ◌*◌, ◌<◌, ◌≤◌, IsTrue, Ok, nat_lt, suc};
+ghost use Rattle.std.specs.Ordering.{is_eq};
 ghost use Rattle.std.specs.declared.cmp.Ordering.TheVariants.{Less};
-ghost use Rattle.dv_time.specs.Time.{IsOfRun, after, end_of, rank, succ, time_cmp, time_of};
+ghost use Rattle.dv_time.specs.Time.{IsOfRun, after, end_of, is_before, rank, succ, time_cmp, time_of};
 ghost use Rattle.dv_time.specs.declared.time.Time.{Time};
 
 /// The times of a run are in order with the natural numbers.
@@ -10,6 +11,8 @@ pub fn ranks_are_the_order_of_times()
     ensures earlier_tick { (limit : ℕ) (a b : Time) → IsOfRun limit a → IsOfRun limit b → a.tick < b.tick → rank limit a < rank limit b }
     ensures earlier_microstep { (limit : ℕ) (a b : Time) → a.tick ≡ b.tick → a.micro < b.micro → rank limit a < rank limit b }
     ensures before { (limit : ℕ) (a b : Time) → IsOfRun limit a → IsOfRun limit b → rank limit a < rank limit b → time_cmp a b ≡ Less }
+    ensures is_before { (limit : ℕ) (a b : Time) → IsOfRun limit a → IsOfRun limit b → is_before a b ≡ nat_lt (rank limit a) (rank limit b) }
+    ensures same { (a b : Time) → IsTrue (is_eq (time_cmp a b)) ↔ (a ≡ b) }
     ensures time_at_rank { (limit : ℕ) (t : Time) → IsOfRun limit t → time_of limit (rank limit t) ≡ t }
     ensures rank_at_time { (limit n : ℕ) → rank limit (time_of limit n) ≡ n }
     ensures of_run { (limit n : ℕ) → IsOfRun limit (time_of limit n) }

@@ -4,7 +4,12 @@
 //! every definition that walks over time walks over ranks.
 #![tactic(auto)]
 
+/// Laws of times and of ranks.
 pub mod laws;
+/// Times, the next time, and when a hold runs out.
 pub mod time;
 
 pub use time::{Microsteps, Next, Time};
+
+/// The greatest tick of a horizon or of an input.
+pub const GREATEST_TICK: u64 = 1_000_000_000_000;

@@ -1,12 +1,17 @@
 //! Times, the next time, and when a hold runs out.
 
-ghost use Rattle.std.specs.Prelude.{◌≡◌, ◌+◌, ◌^◌, ◌<◌, ◌≤◌, Some};
-ghost use Rattle.dv_time.specs.Time.{IsOfRun, after, succ};
+ghost use Rattle.std.specs.Prelude.{◌≡◌, ◌+◌, ◌^◌, ◌<◌, ◌≤◌, ℕ, Some, nat_lt};
+ghost use Rattle.std.proofs.Common.{rules};
+ghost use Rattle.std.specs.Cmp.{partial_order_from_own_ties};
+ghost use Rattle.std.specs.Cmp.Rules.{comparing};
+ghost use Rattle.dv_time.specs.Time.{IsOfRun, after, is_before, rank, succ, time_cmp};
 
+use crate::GREATEST_TICK;
+use std::cmp::Ordering;
 use std::fmt;
 
 /// A time of a simulation: a tick and a microstep within it.
-#[derive(Clone, Copy, Debug, PartialEq, Eq, PartialOrd, Ord, Hash)]
+#[derive(Clone, Copy, Debug, PartialEq, Eq, Hash)]
 pub struct Time {
     /// The whole ticks since the start.
     pub tick: u64,
@@ -31,7 +36,7 @@ impl Time {
 
     /// The next time: the next microstep where the limit allows one, else the next tick.
     pub fn succ(self, limit: u32) -> Time
-        requires { self.tick ≤ 1_000_000_000_001 }
+        requires { self.tick ≤ GREATEST_TICK + 1 }
         ensures { result ≡ succ limit self }
     {
         if self.micro < limit {
@@ -49,7 +54,7 @@ impl Time {
 
     /// When a hold of so many ticks that begins now runs out.
     pub fn after(self, hold: u64, limit: u32) -> Result<Time, Microsteps>
-        requires tick { self.tick ≤ 1_000_000_000_001 }
+        requires tick { self.tick ≤ GREATEST_TICK + 1 }
         requires hold { hold < 2 ^ 63 }
         ensures { result ≡ after limit self hold }
     {
@@ -66,6 +71,40 @@ impl Time {
         } else {
             Err(Microsteps)
         }
+    }
+
+    /// Whether this time is before another, as `<` says too.
+    pub fn is_before(self, other: Time) -> bool
+        ensures order { result ≡ is_before self other }
+        ensures rank { (limit : ℕ) → IsOfRun limit self → IsOfRun limit other → result ≡ nat_lt (rank limit self) (rank limit other) }
+    {
+        self < other
+    }
+}
+
+impl PartialOrd for Time {
+    ghost partial_cmp = { λ a b. Some (time_cmp a b) };
+
+    ghost laws = { partial_order_from_own_ties (Prim.search (comparing, rules)) (Prim.search (comparing, rules)) };
+
+    fn partial_cmp(&self, other: &Self) -> Option<Ordering> {
+        Some(self.cmp(other))
+    }
+}
+
+impl Ord for Time {
+    ghost cmp = { time_cmp };
+
+    ghost total = { Prim.search (comparing, rules) };
+
+    ghost matches_partial_cmp = { Prim.search (comparing, rules) };
+
+    ghost matches_eq = { Prim.search (comparing, rules) };
+
+    fn cmp(&self, other: &Self) -> Ordering {
+        self.tick
+            .cmp(&other.tick)
+            .then(self.micro.cmp(&other.micro))
     }
 }
 

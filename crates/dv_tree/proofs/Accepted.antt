@@ -1,84 +1,31 @@
 -- What a text that breaks no rule is: its root is a coupled model, whose parts name atomic models.
-use Rattle.std.proofs.Common.{◌≡◌, ℕ, suc, ◌<◌, Bool, true, false, cond, eqb, IsTrue, List, [], ◌∷◌, ◌++◌, length, map, refl, ap, sym, ◌∙◌, arith}
+use Rattle.std.proofs.Common.{◌≡◌, ℕ, suc, ◌<◌, ◌≤◌, Bool, true, false, cond, eqb, List, [], ◌∷◌, ◌++◌, length, map, refl, ap, sym, ◌∙◌, arith}
 use Rattle.std.specs.Prelude.{Option, Some, None, option_map, slice_get}
+use Rattle.std.specs.List.{AllByRecursion}
 use Rattle.std.proofs.Common.{get_or, subst}
 use Rattle.std.proofs.lemmas.Option.{slice_get-map, slice_get_within, get_or_from_slice_get}
-use Rattle.dv_syntax.specs.Trees.{ModelTree, AtomicModel, CoupledModel, AtomicTree, FileTree, atomic_of, model_of}
+use Rattle.dv_syntax.specs.Trees.{ModelTree, AtomicModel, AtomicTree, FileTree, atomic_of, file_of, model_of}
 use Rattle.dv_syntax.specs.declared.tree.Atomic.{Atomic}
 use Rattle.dv_syntax.specs.declared.tree.Model.{Model}
 use Rattle.dv_syntax.specs.declared.tree.Model.TheVariants as model
-use Rattle.dv_syntax.specs.declared.tree.CoupledItem.{CoupledItem}
-use Rattle.dv_syntax.specs.declared.tree.CoupledItem.TheVariants as coupled
 use Rattle.dv_syntax.specs.declared.tree.Part.{Part}
-use Rattle.dv_syntax.specs.Trees.{file_of}
 use Rattle.dv_syntax.specs.declared.tree.File.{File}
 use Rattle.dv_eval.specs.Scope.{Scope, place_of, scope_of}
+use Rattle.dv_check.specs.Accepted.{IsAcceptedFile, IsAtomicPart}
 use Rattle.dv_check.specs.declared.checked.Checked.{Checked}
-use Rattle.dv_check.specs.Rules.{is_none_left}
-use Rattle.dv_check.specs.Names.{name_of_model, model_named, parts_of}
-use Rattle.dv_check.specs.Couplings.{part_model_refused, coupled_items_refusals}
-use Rattle.dv_check.specs.Refusals.{model_refusals, models_refusals, root_refusals, is_accepted}
-use Rattle.dv_tree.specs.Instances.{Instance, instances_from, instances, items_of_root, root_items}
+use Rattle.dv_check.specs.Names.{name_of_model, model_named}
+use Rattle.dv_tree.specs.Instances.{Instance, coupled_model, instances_from, instances, parts_in, root_parts}
 use Rattle.dv_tree.specs.Tables.{Source, model_names, component_of, components_of, scope_of_model, scopes_of}
 use Rattle.dv_tree.specs.declared.tree.Component.{Component}
 use Rattle.dv_tree.proofs.PlaceLemmas.{place_of-cons}
 
--- a part whose model is atomic
-pub record IsAtomicPart (models : List ModelTree) (p : Part) : Type 0 where
-  pub model : AtomicTree
-  pub named : model_named p.model.number models ≡ Some (AtomicModel model)
-
 abbrev pub AreAtomic : List ModelTree → List Part → Type 0
-AreAtomic models [] = Unit {0}
-AreAtomic models (p ∷ parts) = IsAtomicPart models p × AreAtomic models parts
-
-pub none_left : {A : Type 0} (xs : List A) → IsTrue (is_none_left xs) → xs ≡ []
-none_left [] h = refl
-none_left (x ∷ xs) h = absurd (cc)
-
--- lists that are empty together
-pub both_nil : {A : Type 0} (xs ys : List A) → xs ++ ys ≡ [] → (xs ≡ []) × (ys ≡ [])
-both_nil [] ys e = (refl, e)
-both_nil (x ∷ xs) ys e = absurd (cc)
-
-atomic_part_at : (models : List ModelTree) (p : Part) (o : Option ModelTree) (line : ℕ) → model_named p.model.number models ≡ o → part_model_refused o line ≡ [] → IsAtomicPart models p
-atomic_part_at models p None line is e = absurd (cc)
-atomic_part_at models p (Some (AtomicModel m)) line is e = record { model = m; named = is }
-atomic_part_at models p (Some (CoupledModel m)) line is e = absurd (cc)
-
-parts_atomic : (models : List ModelTree) (all items : List CoupledItem) → coupled_items_refusals models all items ≡ [] → AreAtomic models (parts_of items)
-parts_atomic models all [] e = tt
-parts_atomic models all (coupled.Out port ∷ items) e = parts_atomic models all items e
-parts_atomic models all (coupled.Part p ∷ items) e =
-    let both = both_nil (part_model_refused (model_named p.model.number models) p.model.line) (coupled_items_refusals models all items) e in
-    (atomic_part_at models p (model_named p.model.number models) p.model.line refl both.0, parts_atomic models all items both.1)
-parts_atomic models all (coupled.Link l ∷ items) e =
-    parts_atomic models all items (both_nil _ (coupled_items_refusals models all items) e).1
-
--- a model of the text breaks no rule
-model_accepted_at : (all : List ModelTree) (b : Bool) (x m : ModelTree) (o : Option ModelTree) → model_refusals all x ≡ [] → (o ≡ Some m → model_refusals all m ≡ []) → cond b (Some x) o ≡ Some m → model_refusals all m ≡ []
-model_accepted_at all true x m o here later e = let same : x ≡ m = cc in rw (← same) here
-model_accepted_at all false x m o here later e = later e
-
-pub model_accepted : (all models : List ModelTree) (number : ℕ) (m : ModelTree) → models_refusals all models ≡ [] → model_named number models ≡ Some m → model_refusals all m ≡ []
-model_accepted all [] number m none e = absurd (cc)
-model_accepted all (x ∷ models) number m none e =
-    let both = both_nil (model_refusals all x) (models_refusals all models) none in
-    model_accepted_at all (eqb (name_of_model x).number number) x m (model_named number models) both.0 (model_accepted all models number m both.1) e
-
-parts_of_root : (models : List ModelTree) (o : Option ModelTree) (line : ℕ) → root_refusals o line ≡ [] → ((m : ModelTree) → o ≡ Some m → model_refusals models m ≡ []) → AreAtomic models (parts_of (items_of_root o))
-parts_of_root models None line e each = absurd (cc)
-parts_of_root models (Some (AtomicModel m)) line e each = absurd (cc)
-parts_of_root models (Some (CoupledModel m)) line e each =
-    let none = each (CoupledModel m) refl in
-    parts_atomic models m.items m.items (both_nil (coupled_items_refusals models m.items m.items) _ (both_nil _ _ (both_nil _ _ none).1).1).0
+AreAtomic models parts = AllByRecursion (IsAtomicPart models) parts
 
 -- each part of the root names an atomic model
-pub parts_accepted : (f : FileTree) → IsTrue (is_accepted f) → AreAtomic f.models (parts_of (root_items f))
+pub parts_accepted : (f : FileTree) → IsAcceptedFile f → AreAtomic f.models (root_parts f)
 parts_accepted f h =
-    let behind = (both_nil _ _ (none_left _ h)).1 in
-    let both = both_nil (models_refusals f.models f.models) _ behind in
-    parts_of_root f.models (model_named f.root.number f.models) f.root.line both.1 (λ m e. model_accepted f.models f.models f.root.number m both.0 e)
+    let Each : Option ModelTree → Type 0 = λ o. AreAtomic f.models (parts_in (coupled_model o)) in subst Each (sym h.named) h.coupled.parts
 
 -- the place of a model that a name stands for
 pub record HasPlace (number : ℕ) (models : List ModelTree) (m : ModelTree) : Type 0 where
@@ -173,10 +120,10 @@ pub record IsFound (file : File) (f : FileTree) (components : List Component) (s
   pub there : slice_get file.models.items place ≡ Some (model.Atomic atomic)
   pub shown : slice_get (instances f) k ≡ Some (record { path = part ∷ []; model = atomic_of atomic })
 
-found_in : (checked : Checked) (k : ℕ) → k < length (instances (file_of checked.file)) → IsFound checked.file (file_of checked.file) (components_of (file_of checked.file)) (scopes_of (file_of checked.file)) k
-found_in checked k within =
+found_in : (checked : Checked) (k : ℕ) → IsAcceptedFile (file_of checked.file) → k < length (instances (file_of checked.file)) → IsFound checked.file (file_of checked.file) (components_of (file_of checked.file)) (scopes_of (file_of checked.file)) k
+found_in checked k accepted within =
     let f = file_of checked.file in
-    let is = component_at f.models (parts_of (root_items f)) k (parts_accepted f checked.accepted) within in
+    let is = component_at f.models (root_parts f) k (parts_accepted f accepted) within in
     let has = has_atomic checked.file.models.items is.place is.model is.there in
     record {
       part = is.part.name.number;
@@ -188,12 +135,12 @@ found_in checked k within =
       shown = rw has.shows is.shown;
     }
 
-pub found : (checked : Checked) (s : Source) (components : List Component) (scopes : List Scope) (k : ℕ) → record { file = checked.file; names = checked.names } ≡ s → components ≡ components_of (file_of checked.file) → scopes ≡ scopes_of (file_of checked.file) → k < length (instances (file_of s.file)) → IsFound checked.file (file_of s.file) components scopes k
-found checked s components scopes k view same_components same_scopes within =
+pub found : (checked : Checked) (s : Source) (components : List Component) (scopes : List Scope) (k : ℕ) → IsAcceptedFile (file_of checked.file) → record { file = checked.file; names = checked.names } ≡ s → components ≡ components_of (file_of checked.file) → scopes ≡ scopes_of (file_of checked.file) → k < length (instances (file_of s.file)) → IsFound checked.file (file_of s.file) components scopes k
+found checked s components scopes k accepted view same_components same_scopes within =
     let e = ap (λ (x : Source). file_of x.file) view in
     let Within : FileTree → Type 0 = λ x. k < length (instances x) in
     let Found : FileTree → Type 0 = λ x. IsFound checked.file x (components_of (file_of checked.file)) (scopes_of (file_of checked.file)) k in
-    rw (same_components, same_scopes) (subst Found e (found_in checked k (subst Within (sym e) within)))
+    rw (same_components, same_scopes) (subst Found e (found_in checked k accepted (subst Within (sym e) within)))
 
 -- what indexing reads
 read_is : {X : Type 0} (xs : List X) (i : ℕ) (x y : X) → slice_get xs i ≡ Some x → y ≡ get_or xs i y → y ≡ x

@@ -11,9 +11,7 @@ use Rattle.dv_syntax.specs.declared.tree.Part.{Part}
 use Rattle.dv_syntax.specs.declared.tree.Link.{Link}
 use Rattle.dv_bag.specs.Bag.{Counts, bag_at, union}
 use Rattle.dv_eval.specs.Scope.{Scope, nothing_declared, place_of, scope_of}
-use Rattle.dv_check.specs.Names.{parts_of}
-use Rattle.dv_tree.specs.Instances.{Instance, instances_from, instances, root_items}
-use Rattle.dv_check.specs.Couplings.{links_of}
+use Rattle.dv_tree.specs.Instances.{Instance, instances_from, instances, root_links, root_parts}
 use Rattle.dv_tree.specs.Routing.{bag_of_port, sent_from, carried, exit_of, joined_at, passed_on, root_outputs, leaves}
 use Rattle.dv_check.specs.declared.checked.Checked.{Checked}
 use Rattle.dv_tree.specs.Tables.{Source, component_of, scope_of_model}
@@ -21,7 +19,8 @@ use Rattle.dv_tree.specs.Exits.{part_numbers, source_of, scope_at, output_of, ou
 use Rattle.dv_tree.specs.declared.tree.Component.{Component}
 use Rattle.dv_tree.specs.declared.tree.Exit.{Exit}
 use Rattle.dv_tree.proofs.PlaceLemmas.{place_of-cons}
-use Rattle.dv_tree.proofs.Accepted.{IsAtomicPart, AreAtomic, parts_accepted, has_place, instance_first, length-instances}
+use Rattle.dv_check.specs.Accepted.{IsAcceptedFile, IsAtomicPart}
+use Rattle.dv_tree.proofs.Accepted.{AreAtomic, parts_accepted, has_place, instance_first, length-instances}
 
 -- an exit by which nothing is sent, or whose port is not there
 pub adds_nothing : (sent : List (List Counts)) (bags : List Counts) (e : Exit) → sent_by sent e.component e.port ≡ [] → bags ≡ with_exit sent bags e
@@ -117,12 +116,12 @@ passed_by_exits models parts h ports sent same (l ∷ links) bags =
     ∙ passed_by_exits models parts h ports sent same links (joined_at root_port more bags)
 
 -- what leaves by the exits is what leaves by the links
-pub leaves_by_exits : (f : FileTree) → AreAtomic f.models (parts_of (root_items f)) → (sent : List (List Counts)) → length sent ≡ length (instances f) → with_exits sent (replicate (length (root_outputs f)) []) (exits_of f) ≡ leaves f sent
+pub leaves_by_exits : (f : FileTree) → AreAtomic f.models (root_parts f) → (sent : List (List Counts)) → length sent ≡ length (instances f) → with_exits sent (replicate (length (root_outputs f)) []) (exits_of f) ≡ leaves f sent
 leaves_by_exits f h sent same =
-    passed_by_exits f.models (parts_of (root_items f)) h (root_outputs f) sent (same ∙ length-instances f.models (parts_of (root_items f)) h) (links_of (root_items f)) (replicate (length (root_outputs f)) [])
+    passed_by_exits f.models (root_parts f) h (root_outputs f) sent (same ∙ length-instances f.models (root_parts f) h) (root_links f) (replicate (length (root_outputs f)) [])
 
-pub route_made : (checked : Checked) (s : Source) (exits : List Exit) (sent : List (List Counts)) (ports : ℕ) (first last : List Counts) → record { file = checked.file; names = checked.names } ≡ s → exits ≡ exits_of (file_of checked.file) → ports ≡ length (root_outputs (file_of s.file)) → first ≡ replicate ports [] → last ≡ with_exits sent first exits → length sent ≡ length (instances (file_of s.file)) → last ≡ leaves (file_of s.file) sent
-route_made checked s exits sent ports first last view exits_are ports_are first_is last_is same =
+pub route_made : (checked : Checked) → IsAcceptedFile (file_of checked.file) → (s : Source) (exits : List Exit) (sent : List (List Counts)) (ports : ℕ) (first last : List Counts) → record { file = checked.file; names = checked.names } ≡ s → exits ≡ exits_of (file_of checked.file) → ports ≡ length (root_outputs (file_of s.file)) → first ≡ replicate ports [] → last ≡ with_exits sent first exits → length sent ≡ length (instances (file_of s.file)) → last ≡ leaves (file_of s.file) sent
+route_made checked accepted s exits sent ports first last view exits_are ports_are first_is last_is same =
     let e = ap (λ (x : Source). file_of x.file) view in
     let Leaves : FileTree → Type 0 = λ f. ports ≡ length (root_outputs f) → length sent ≡ length (instances f) → last ≡ leaves f sent in
     let here : Leaves (file_of checked.file) = λ all_ports all.
@@ -130,5 +129,5 @@ route_made checked s exits sent ports first last view exits_are ports_are first_
     ∙ (ap (λ (x : List Counts). with_exits sent x exits) first_is
     ∙ (ap (λ (n : ℕ). with_exits sent (replicate n []) exits) all_ports
     ∙ (ap (with_exits sent (replicate (length (root_outputs (file_of checked.file))) [])) exits_are
-    ∙ leaves_by_exits (file_of checked.file) (parts_accepted (file_of checked.file) checked.accepted) sent all))) in
+    ∙ leaves_by_exits (file_of checked.file) (parts_accepted (file_of checked.file) accepted) sent all))) in
     subst Leaves e here ports_are same

@@ -6,8 +6,7 @@ use Rattle.dv_syntax.specs.declared.tree.Name.{Name}
 use Rattle.dv_syntax.specs.declared.tree.Link.{Link}
 use Rattle.dv_bag.specs.Bag.{Counts, bag_at, union}
 use Rattle.dv_eval.specs.Scope.{Scope, nothing_declared, place_of}
-use Rattle.dv_tree.specs.Instances.{root_items}
-use Rattle.dv_check.specs.Couplings.{links_of}
+use Rattle.dv_tree.specs.Instances.{root_links}
 use Rattle.dv_tree.specs.Routing.{exit_of, root_outputs}
 use Rattle.dv_tree.specs.Tables.{components_of, scopes_of}
 use Rattle.dv_tree.specs.declared.tree.Component.{Component}
@@ -48,7 +47,7 @@ exit_of_link ports parts components scopes l =
 -- the exits of a text, in the order of the links
 abbrev pub exits_of : FileTree → List Exit
 exits_of f =
-    filter_map (exit_of_link (root_outputs f) (part_numbers (components_of f)) (components_of f) (scopes_of f)) (links_of (root_items f))
+    filter_map (exit_of_link (root_outputs f) (part_numbers (components_of f)) (components_of f) (scopes_of f)) (root_links f)
 
 -- what a component sends by a port; past the last port there is nothing
 abbrev pub sent_by : List (List Counts) → ℕ → ℕ → Counts

@@ -6,9 +6,7 @@ use Rattle.dv_syntax.specs.declared.tree.Name.{Name}
 use Rattle.dv_syntax.specs.declared.tree.Link.{Link}
 use Rattle.dv_bag.specs.Bag.{Counts, bag_at, union}
 use Rattle.dv_eval.specs.Scope.{scope_of, place_of}
-use Rattle.dv_check.specs.Names.{ports_of_coupled}
-use Rattle.dv_check.specs.Couplings.{links_of}
-use Rattle.dv_tree.specs.Instances.{Instance, instances, root_items}
+use Rattle.dv_tree.specs.Instances.{Instance, instances, root_links, root_ports}
 
 abbrev pub bag_of_port : Option ℕ → List Counts → Counts
 bag_of_port None bags = []
@@ -49,11 +47,11 @@ passed_on ports parts sent (l ∷ links) bags =
 
 -- the names of the root's output ports
 abbrev pub root_outputs : FileTree → List ℕ
-root_outputs f = map (λ (n : Name). n.number) (ports_of_coupled (root_items f))
+root_outputs f = map (λ (n : Name). n.number) (root_ports f)
 
 -- what leaves by the root's output ports, from what the components send
 abbrev pub leaves : FileTree → List (List Counts) → List Counts
-leaves f sent = passed_on (root_outputs f) (instances f) sent (links_of (root_items f)) (replicate (length (root_outputs f)) [])
+leaves f sent = passed_on (root_outputs f) (instances f) sent (root_links f) (replicate (length (root_outputs f)) [])
 
 -- what each component receives: the components of this stage have no input ports
 abbrev pub arrives : FileTree → List (List Counts) → List (List Counts)

@@ -8,8 +8,7 @@ use Rattle.dv_syntax.specs.declared.tree.Name.{Name}
 use Rattle.dv_syntax.specs.declared.tree.Part.{Part}
 use Rattle.dv_eval.specs.Scope.{Scope, scope_of, nothing_declared, place_of}
 use Rattle.dv_check.specs.Names.{name_of_model}
-use Rattle.dv_check.specs.Names.{parts_of}
-use Rattle.dv_tree.specs.Instances.{root_items}
+use Rattle.dv_tree.specs.Instances.{root_parts}
 use Rattle.dv_tree.specs.declared.tree.Component.{Component}
 
 -- a checked file and the texts of its names
@@ -38,7 +37,7 @@ abbrev pub component_of : List ModelTree → Part → Component
 component_of models p = component_by (model_names models) p
 
 abbrev pub components_of : FileTree → List Component
-components_of f = map (component_of f.models) (parts_of (root_items f))
+components_of f = map (component_of f.models) (root_parts f)
 
 -- what each model declares; a coupled model declares nothing here
 abbrev pub scope_of_model : ModelTree → Scope

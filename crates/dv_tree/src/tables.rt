@@ -1,20 +1,19 @@
 //! The tables of a tree, made from a file.
 
-ghost use Rattle.std.specs.Prelude.{◌≡◌, ◌++◌, [], ◌∷◌, map, Some, IfOk, OnOk};
+ghost use Rattle.std.specs.Prelude.{◌≡◌, map, option_map, Some, IfOk};
 ghost use Rattle.std.specs.List.{filter_map};
-ghost use Rattle.dv_syntax.specs.Trees.{file_of, model_of};
-ghost use Rattle.dv_check.specs.Names.{parts_of, ports_of_coupled};
+ghost use Rattle.std.specs.Option.{option_copied};
+ghost use Rattle.dv_syntax.specs.Trees.{coupled_of, file_of, model_of};
 ghost use Rattle.dv_check.specs.Names.{name_of_model};
 ghost use Rattle.dv_tree.specs.Exits.{exit_of_link, output_of, part_numbers, source_of};
-ghost use Rattle.dv_tree.specs.Instances.{items_of_root, root_items};
-ghost use Rattle.dv_check.specs.Couplings.{links_of};
+ghost use Rattle.dv_tree.specs.Instances.{coupled_model, links_in, outputs_in, parts_in, root_of};
 ghost use Rattle.dv_tree.specs.Routing.{exit_of};
 ghost use Rattle.dv_tree.specs.Tables.{component_by, model_names, numbers, scope_of_model};
 
 use crate::places::Places;
 use crate::tree::{Component, Exit};
-use dv_eval::Env;
-use dv_syntax::{Atomic, CoupledItem, End, File, Link, Model, Part};
+use dv_eval::Scope;
+use dv_syntax::{Coupled, End, File, Link, Model, Name, Part};
 use std::alloc::{AllocError, Global};
 
 fn number_of(model: &Model) -> u32
@@ -38,98 +37,96 @@ pub(crate) fn model_numbers(alloc: Global, models: &[Model]) -> Result<Vec<u32>,
 }
 
 /// What each model declares, in the order of the text.
-pub(crate) fn envs(alloc: Global, models: &[Model]) -> Result<Vec<Env>, AllocError>
-    ensures { IfOk result (λ envs. envs.items ≡ map scope_of_model (map model_of models.now)) }
+pub(crate) fn scopes(alloc: Global, models: &[Model]) -> Result<Vec<Scope>, AllocError>
+    ensures { IfOk result (λ scopes. scopes.items ≡ map scope_of_model (map model_of models.now)) }
 {
-    let mut envs = Vec::with_capacity(alloc, models.len())?;
+    let mut scopes = Vec::with_capacity(alloc, models.len())?;
     for model in models {
-        envs.push(env_of(alloc, model)?)?;
+        scopes.push(scope_of(alloc, model)?)?;
     }
-    Ok(envs)
+    Ok(scopes)
 }
 
-fn env_of(alloc: Global, model: &Model) -> Result<Env, AllocError>
-    ensures { IfOk result (λ env. env ≡ scope_of_model (model_of model.now)) }
+fn scope_of(alloc: Global, model: &Model) -> Result<Scope, AllocError>
+    ensures { IfOk result (λ scope. scope ≡ scope_of_model (model_of model.now)) }
 {
     match model {
-        Model::Atomic(atomic) => Env::of(alloc, atomic),
-        Model::Coupled(coupled) => {
-            let empty = Atomic {
-                name: coupled.name,
-                items: Vec::new(alloc),
-            };
-            Env::of(alloc, &empty)
-        }
+        Model::Atomic(atomic) => Scope::of(alloc, atomic),
+        Model::Coupled(_) => Ok(Scope::new(alloc)),
     }
 }
 
-/// The items of the root.
-pub(crate) fn root_items(file: &File) -> &[CoupledItem]
-    ensures { result.now ≡ root_items (file_of file.now) }
+/// The root: the first model of its name, where that is coupled.
+pub(crate) fn root(file: &File) -> Option<&Coupled>
+    ensures { option_map coupled_of (option_copied result) ≡ root_of (file_of file.now) }
 {
     for model in &file.models {
         if number_of(model) == file.root.number {
-            return items_of(model);
+            return coupled(model);
         }
     }
-    &[]
+    None
 }
 
-fn items_of(model: &Model) -> &[CoupledItem]
-    ensures { result.now ≡ items_of_root (Some (model_of model.now)) }
+fn coupled(model: &Model) -> Option<&Coupled>
+    ensures { option_map coupled_of (option_copied result) ≡ coupled_model (Some (model_of model.now)) }
 {
     match model {
-        Model::Atomic(_) => &[],
-        Model::Coupled(coupled) => &coupled.items,
+        Model::Coupled(coupled) => Some(coupled),
+        Model::Atomic(_) => None,
     }
 }
 
-/// The names of the output ports among the items of a coupled model.
-pub(crate) fn outputs(alloc: Global, items: &[CoupledItem]) -> Result<Vec<u32>, AllocError>
-    ensures { IfOk result (λ outputs. outputs.items ≡ numbers (ports_of_coupled items.now)) }
+/// The parts of a root.
+pub(crate) fn parts_of(root: Option<&Coupled>) -> &[Part]
+    ensures { result.now ≡ parts_in (option_map coupled_of (option_copied root.entry)) }
 {
-    let mut outputs = Vec::new(alloc);
-    for item in items {
-        push_output(&mut outputs, item)?;
+    match root {
+        Some(coupled) => &coupled.parts,
+        None => &[],
     }
-    Ok(outputs)
 }
 
-fn push_output(outputs: &mut Vec<u32>, item: &CoupledItem) -> Result<(), AllocError>
-    ensures { OnOk result (outputs.new.items ≡ outputs.old.items ++ numbers (ports_of_coupled (item.now ∷ []))) }
+/// The links of a root.
+pub(crate) fn links_of(root: Option<&Coupled>) -> &[Link]
+    ensures { result.now ≡ links_in (option_map coupled_of (option_copied root.entry)) }
 {
-    if let CoupledItem::Out(port) = item {
-        outputs.push(port.number)?;
+    match root {
+        Some(coupled) => &coupled.links,
+        None => &[],
     }
-    Ok(())
 }
 
-/// The components that the parts among the items of a coupled model are.
+/// The output ports of a root.
+pub(crate) fn outputs_of(root: Option<&Coupled>) -> &[Name]
+    ensures { result.now ≡ outputs_in (option_map coupled_of (option_copied root.entry)) }
+{
+    match root {
+        Some(coupled) => &coupled.outputs,
+        None => &[],
+    }
+}
+
+/// The numbers of names.
+pub(crate) fn numbers(alloc: Global, names: &[Name]) -> Result<Vec<u32>, AllocError>
+    ensures { IfOk result (λ found. found.items ≡ numbers names.now) }
+{
+    names.iter().map(|name| name.number).collect(alloc)
+}
+
+/// The components that parts are.
 pub(crate) fn components(
     alloc: Global,
-    items: &[CoupledItem],
+    parts: &[Part],
     models: &Places,
 ) -> Result<Vec<Component>, AllocError>
-    ensures { IfOk result (λ components. components.items ≡ map (component_by models.now) (parts_of items.now)) }
+    ensures { IfOk result (λ components. components.items ≡ map (component_by models.now) parts.now) }
 {
-    let mut components = Vec::new(alloc);
-    for item in items {
-        push_component(&mut components, item, models)?;
-    }
-    Ok(components)
-}
-
-fn push_component(
-    components: &mut Vec<Component>,
-    item: &CoupledItem,
-    models: &Places,
-) -> Result<(), AllocError>
-    ensures { OnOk result (components.new.items ≡ components.old.items ++ map (component_by models.now) (parts_of (item.now ∷ []))) }
-{
-    if let CoupledItem::Part(part) = item {
+    let mut components = Vec::with_capacity(alloc, parts.len())?;
+    for part in parts {
         components.push(component_by(part, models))?;
     }
-    Ok(())
+    Ok(components)
 }
 
 fn component_by(part: &Part, models: &Places) -> Component
@@ -151,40 +148,25 @@ pub(crate) fn part_numbers(alloc: Global, components: &[Component]) -> Result<Ve
         .collect(alloc)
 }
 
-/// The exits that the links among the items of a coupled model are.
+/// The exits that links are.
 pub(crate) fn exits(
     alloc: Global,
-    items: &[CoupledItem],
+    links: &[Link],
     ports: &Places,
     parts: &Places,
     components: &[Component],
-    envs: &[Env],
+    scopes: &[Scope],
 ) -> Result<Vec<Exit>, AllocError>
-    ensures { IfOk result (λ exits. exits.items ≡ filter_map (exit_of_link ports.now parts.now components.now envs.now) (links_of items.now)) }
+    ensures { IfOk result (λ exits. exits.items
+        ≡ filter_map (exit_of_link ports.now parts.now components.now scopes.now) links.now) }
 {
     let mut exits = Vec::new(alloc);
-    for item in items {
-        push_exit(&mut exits, item, ports, parts, components, envs)?;
+    for link in links {
+        if let Some(exit) = exit_of_link(link, ports, parts, components, scopes) {
+            exits.push(exit)?;
+        }
     }
     Ok(exits)
-}
-
-fn push_exit(
-    exits: &mut Vec<Exit>,
-    item: &CoupledItem,
-    ports: &Places,
-    parts: &Places,
-    components: &[Component],
-    envs: &[Env],
-) -> Result<(), AllocError>
-    ensures { OnOk result (exits.new.items ≡ exits.old.items ++ filter_map (exit_of_link ports.now parts.now components.now envs.now) (links_of (item.now ∷ []))) }
-{
-    if let CoupledItem::Link(link) = item
-        && let Some(exit) = exit_of_link(link, ports, parts, components, envs)
-    {
-        exits.push(exit)?;
-    }
-    Ok(())
 }
 
 fn exit_of_link(
@@ -192,12 +174,12 @@ fn exit_of_link(
     ports: &Places,
     parts: &Places,
     components: &[Component],
-    envs: &[Env],
+    scopes: &[Scope],
 ) -> Option<Exit>
-    ensures { result ≡ exit_of_link ports.now parts.now components.now envs.now link.now }
+    ensures { result ≡ exit_of_link ports.now parts.now components.now scopes.now link.now }
 {
     let component = source_of(&link.from, parts)?;
-    let port = output_of(component, link.from.port.number, components, envs)?;
+    let port = output_of(component, link.from.port.number, components, scopes)?;
     let root_port = exit_of(&link.to, ports)?;
     Some(Exit {
         component,
@@ -214,11 +196,16 @@ fn source_of(end: &End, parts: &Places) -> Option<usize>
 }
 
 // The place of a component's output port.
-fn output_of(component: usize, port: u32, components: &[Component], envs: &[Env]) -> Option<usize>
-    ensures { result ≡ output_of components.now envs.now component port }
+fn output_of(
+    component: usize,
+    port: u32,
+    components: &[Component],
+    scopes: &[Scope],
+) -> Option<usize>
+    ensures { result ≡ output_of components.now scopes.now component port }
 {
     let model = components.get(component)?.model;
-    envs.get(model)?.output(port)
+    scopes.get(model)?.output(port)
 }
 
 // The place of the root's port at a link's right end.

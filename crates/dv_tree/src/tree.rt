@@ -9,10 +9,14 @@ ghost use Rattle.dv_tree.specs.Routing.{leaves, root_outputs};
 ghost use Rattle.dv_tree.specs.Exits.{with_exit};
 
 use crate::places::Places;
-use crate::tables::{components, envs, exits, model_numbers, outputs, part_numbers, root_items};
-use dv_bag::Bags;
-use dv_check::Checked;
-use dv_eval::Env;
+use crate::tables::{
+    components, exits, links_of, model_numbers, numbers, outputs_of, part_numbers, parts_of, root,
+    scopes,
+};
+use dv_bag::{Bags, Sent};
+use dv_check::laws::accepted_files;
+use dv_check::{Checked, GREATEST_NAMES};
+use dv_eval::Scope;
 use dv_syntax::{Atomic, Model as ModelItem};
 use std::alloc::{AllocError, Global};
 use std::marker::Model;
@@ -38,7 +42,7 @@ pub struct Exit {
 pub struct Tree<'c> {
     checked: &'c Checked,
     components: Vec<Component>,
-    envs: Vec<Env>,
+    scopes: Vec<Scope>,
     outputs: Vec<u32>,
     exits: Vec<Exit>,
 }
@@ -56,7 +60,7 @@ impl<'c> Model for Tree<'c> {
 
     ghost view = { λ t. record { file = t.checked.now.file; names = t.checked.now.names } };
 
-    ghost invariant = { λ t. (t.components.items ≡ components_of (file_of t.checked.now.file)) × (t.envs.items ≡ scopes_of (file_of t.checked.now.file)) × (t.outputs.items ≡ root_outputs (file_of t.checked.now.file)) × (t.exits.items ≡ exits_of (file_of t.checked.now.file)) };
+    ghost invariant = { λ t. (t.components.items ≡ components_of (file_of t.checked.now.file)) × (t.scopes.items ≡ scopes_of (file_of t.checked.now.file)) × (t.outputs.items ≡ root_outputs (file_of t.checked.now.file)) × (t.exits.items ≡ exits_of (file_of t.checked.now.file)) };
 }
 
 impl<'c> Tree<'c> {
@@ -70,16 +74,16 @@ impl<'c> Tree<'c> {
     {
         let file = &checked.file;
         let models = Places::of(alloc, model_numbers(alloc, &file.models)?)?;
-        let items = root_items(file);
-        let components = components(alloc, items, &models)?;
-        let envs = envs(alloc, &file.models)?;
-        let ports = Places::of(alloc, outputs(alloc, items)?)?;
+        let root = root(file);
+        let components = components(alloc, parts_of(root), &models)?;
+        let scopes = scopes(alloc, &file.models)?;
+        let ports = Places::of(alloc, numbers(alloc, outputs_of(root))?)?;
         let parts = Places::of(alloc, part_numbers(alloc, &components)?)?;
-        let exits = exits(alloc, items, &ports, &parts, &components, &envs)?;
+        let exits = exits(alloc, links_of(root), &ports, &parts, &components, &scopes)?;
         Ok(Tree {
             checked,
             components,
-            envs,
+            scopes,
             outputs: ports.into_numbers(),
             exits,
         })
@@ -88,8 +92,9 @@ impl<'c> Tree<'c> {
     /// The number of components.
     pub fn component_count(&self) -> usize
         ensures value { result ≡ length (instances (file_of self.now.file)) }
-        ensures at_most { result ≤ 4096 }
+        ensures at_most { result ≤ GREATEST_NAMES }
     {
+        accepted_files();
         self.components.len()
     }
 
@@ -98,6 +103,7 @@ impl<'c> Tree<'c> {
         requires { component < length (instances (file_of self.now.file)) }
         ensures { slice_get (map (λ i. i.model) (instances (file_of self.now.file))) component ≡ Some (atomic_of result.now) }
     {
+        accepted_files();
         let place = self.components[component].model;
         match &self.checked.file.models[place] {
             ModelItem::Atomic(model) => model,
@@ -106,11 +112,12 @@ impl<'c> Tree<'c> {
     }
 
     /// What the model of a component declares.
-    pub fn env(&self, component: usize) -> &Env
+    pub fn scope(&self, component: usize) -> &Scope
         requires { component < length (instances (file_of self.now.file)) }
         ensures { slice_get (map (λ i. scope_of i.model) (instances (file_of self.now.file))) component ≡ Some result.now }
     {
-        &self.envs[self.components[component].model]
+        accepted_files();
+        &self.scopes[self.components[component].model]
     }
 
     /// The path of a component: the names of the parts that lead to it, joined by dots.
@@ -118,6 +125,7 @@ impl<'c> Tree<'c> {
         requires { component < length (instances (file_of self.now.file)) }
         ensures { slice_get (map (λ i. with_dots (texts_of self.now.names i.path)) (instances (file_of self.now.file))) component ≡ Some result.now }
     {
+        accepted_files();
         self.name(self.components[component].part)
     }
 
@@ -151,11 +159,12 @@ impl<'c> Tree<'c> {
     /// # Errors
     ///
     /// No memory for the values.
-    pub fn route(&self, alloc: Global, sent: &[Bags]) -> Result<Bags, AllocError>
+    pub fn route(&self, alloc: Global, sent: &[Sent]) -> Result<Bags, AllocError>
         requires { length sent.now ≡ length (instances (file_of self.now.file)) }
         ensures value { IfOk result (λ bags. bags ≡ leaves (file_of self.now.file) sent.now) }
-        ensures at_most { IfOk result (λ bags. length bags ≤ 4096) }
+        ensures at_most { IfOk result (λ bags. length bags ≤ GREATEST_NAMES) }
     {
+        accepted_files();
         let mut bags = Bags::empty(alloc, self.output_count())?;
         for exit in &self.exits {
             join(&mut bags, exit, sent)?;
@@ -165,17 +174,14 @@ impl<'c> Tree<'c> {
 }
 
 // What a component sends by a port leaves by a port of the root.
-fn join(bags: &mut Bags, exit: &Exit, sent: &[Bags]) -> Result<(), AllocError>
+fn join(bags: &mut Bags, exit: &Exit, sent: &[Sent]) -> Result<(), AllocError>
     ensures { OnOk result (bags.new ≡ with_exit sent.now bags.old exit.now) }
 {
     let Some(outputs) = sent.get(exit.component) else {
         return Ok(());
     };
-    if exit.port < outputs.len() && exit.root_port < bags.len() {
-        let values = outputs.get(exit.port);
-        if !values.is_empty() {
-            bags.union_at(exit.root_port, values)?;
-        }
+    if exit.root_port < bags.len() {
+        bags.union_sent(exit.root_port, outputs, exit.port)?;
     }
     Ok(())
 }

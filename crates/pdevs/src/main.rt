@@ -1,20 +1,20 @@
 //! The program: runs a model text and prints its trace.
 #![tactic(auto)]
 
-mod asked;
+mod command_line;
+mod report;
 mod request;
 #[cfg(test)]
 mod tests;
-mod told;
 
-use asked::asked;
+use command_line::request_of;
 use dv_job::{JobError, Options, run_plain};
-use request::{AskError, Asked, Run};
+use report::{line, status};
+use request::{Request, RequestError, Run};
 use std::io::Write;
 use std::process::ExitCode;
 use std::rt::Files;
 use std::{fs, io};
-use told::{line, status};
 
 /// The microstep limit where none is asked for.
 const USUAL_LIMIT: u32 = 20;
@@ -30,13 +30,13 @@ const USAGE: u8 = 2;
 
 fn main(rt: HostRuntime) -> io::Result<ExitCode> {
     let words: Vec<String> = std::env::args(&rt)?.collect(rt.alloc())?;
-    match asked(rt.alloc(), words.as_slice()) {
-        Ok(Asked::Run(run)) => Ok(ExitCode::from(run_model(&rt, &run)?)),
-        Err(AskError::Usage(usage)) => {
+    match request_of(rt.alloc(), words.as_slice()) {
+        Ok(Request::Run(run)) => Ok(ExitCode::from(run_model(&rt, &run)?)),
+        Err(RequestError::Usage(usage)) => {
             eprint!(rt; "{}", usage.text)?;
             Ok(ExitCode::from(USAGE))
         }
-        Err(AskError::Memory) => {
+        Err(RequestError::Memory) => {
             eprintln!(rt; "pdevs: {}", JobError::Memory)?;
             Ok(ExitCode::from(REFUSED))
         }

@@ -4,7 +4,7 @@ use std::alloc::AllocError;
 
 /// A subcommand with its values.
 #[derive(Debug, Drop)]
-pub enum Asked {
+pub enum Request {
     Run(Run),
 }
 
@@ -27,15 +27,15 @@ pub struct Usage {
 
 /// Why nothing is asked for.
 #[derive(Debug, Drop)]
-pub enum AskError {
+pub enum RequestError {
     /// The words are no command, or ask for help.
     Usage(Usage),
     /// An allocation was refused.
     Memory,
 }
 
-impl From<AllocError> for AskError {
+impl From<AllocError> for RequestError {
     fn from(_error: AllocError) -> Self {
-        AskError::Memory
+        RequestError::Memory
     }
 }

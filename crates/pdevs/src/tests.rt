@@ -1,27 +1,29 @@
-//! What the words of a command line ask for, and what is told of how a run ended.
+//! What the words of a command line ask for, and what is reported of how a run ended.
 
-use crate::asked::asked;
-use crate::request::{AskError, Asked};
-use crate::told::{line, status};
+use crate::command_line::request_of;
+use crate::report::{line, status};
+use crate::request::{Request, RequestError};
 use dv_job::{JobEnded, JobError, Options, run_plain};
 use std::alloc::{AllocError, Global};
 use std::test::Fail;
 
 // What is asked for by words behind the program's name: model, horizon and microstep limit, or usage.
-fn told(alloc: Global, words: &[&str]) -> Result<String, AllocError> {
+fn summary(alloc: Global, words: &[&str]) -> Result<String, AllocError> {
     let mut all = Vec::new(alloc);
     all.push(String::from_str(alloc, "pdevs")?)?;
     for word in words {
         all.push(String::from_str(alloc, word)?)?;
     }
-    match asked(alloc, &all) {
-        Ok(Asked::Run(run)) => match run.microsteps {
+    match request_of(alloc, &all) {
+        Ok(Request::Run(run)) => match run.microsteps {
             None => format!(in alloc; "{} {}", run.model, run.horizon),
             Some(limit) => format!(in alloc; "{} {} {limit}", run.model, run.horizon),
         },
-        Err(AskError::Usage(usage)) if usage.text.is_empty() => String::from_str(alloc, "nothing"),
-        Err(AskError::Usage(_)) => String::from_str(alloc, "usage"),
-        Err(AskError::Memory) => Err(AllocError),
+        Err(RequestError::Usage(usage)) if usage.text.is_empty() => String::from_str(
+            alloc, "nothing",
+        ),
+        Err(RequestError::Usage(_)) => String::from_str(alloc, "usage"),
+        Err(RequestError::Memory) => Err(AllocError),
     }
 }
 
@@ -50,7 +52,7 @@ fn a_run_is_asked_for(rt: HostRuntime) -> Result<(), Fail> {
         (&["run", "-", "--horizon", "5"], "- 5"),
     ];
     for (words, wanted) in rows {
-        assert_eq!(rt; told(rt.alloc(), words)?.as_str(), wanted);
+        assert_eq!(rt; summary(rt.alloc(), words)?.as_str(), wanted);
     }
     Ok(())
 }
@@ -80,7 +82,7 @@ fn other_words_are_usage(rt: HostRuntime) -> Result<(), Fail> {
         &["run", "m.pd", "--horizon", "5", "--microsteps", "1001"],
     ];
     for words in rows {
-        assert_eq!(rt; told(rt.alloc(), words)?.as_str(), "usage");
+        assert_eq!(rt; summary(rt.alloc(), words)?.as_str(), "usage");
     }
     Ok(())
 }
@@ -98,8 +100,8 @@ fn endings_have_statuses_and_lines(rt: HostRuntime) -> Result<(), Fail> {
     Ok(())
 }
 
-// What the program tells of a text that it runs.
-fn told_of(alloc: Global, model: &[u8]) -> Result<String, AllocError> {
+// What the program reports of a text that it runs.
+fn report_of(alloc: Global, model: &[u8]) -> Result<String, AllocError> {
     let Some(options) = Options::new(5, 20, None, None, 16) else {
         return String::from_str(alloc, "no options");
     };
@@ -117,8 +119,8 @@ fn told_of(alloc: Global, model: &[u8]) -> Result<String, AllocError> {
 }
 
 #[test]
-fn a_refusal_is_told_with_its_line(rt: HostRuntime) -> Result<(), Fail> {
-    let told = told_of(rt.alloc(), b"root Top;\n?")?;
-    assert_eq!(rt; told.as_str(), "0 bytes, pdevs: E2 line 2, status 1");
+fn a_refusal_is_reported_with_its_line(rt: HostRuntime) -> Result<(), Fail> {
+    let report = report_of(rt.alloc(), b"root Top;\n?")?;
+    assert_eq!(rt; report.as_str(), "0 bytes, pdevs: E2 line 2, status 1");
     Ok(())
 }

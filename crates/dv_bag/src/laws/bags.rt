@@ -18,11 +18,24 @@ pub fn bags_are_a_commutative_monoid()
 /// alone, and union adds counts.
 pub fn bags_are_their_counts()
     ensures equal { (a b : Counts) → IsBag a → IsBag b → ((v : ℤ) → count_of v a ≡ count_of v b) → a ≡ b }
-    ensures more { (v : ℤ) (n : ℕ) (b : Counts) → count_of v (with_copies v n b) ≡ capped (count_of v b + n) }
+    ensures more { (v : ℤ) (n : ℕ) (b : Counts) → IsBag b → count_of v (with_copies v n b) ≡ capped (count_of v b + n) }
     ensures more_others { (w v : ℤ) (n : ℕ) (b : Counts) → w ≢ v → count_of w (with_copies v n b) ≡ count_of w b }
     ensures less { (v : ℤ) (b : Counts) → IsBag b → count_of v (without_one v b) ≡ count_of v b - 1 }
     ensures less_others { (w v : ℤ) (b : Counts) → IsBag b → w ≢ v → count_of w (without_one v b) ≡ count_of w b }
     ensures both { (v : ℤ) (a b : Counts) → IsBag a → IsBag b → count_of v (union a b) ≡ capped (count_of v a + count_of v b) }
+{}
+
+/// An edit of a bag leaves a bag.
+pub fn edits_leave_bags()
+    ensures more { (v : ℤ) (n : ℕ) (b : Counts) → IsBag b → IsBag (with_copies v n b) }
+    ensures less { (v : ℤ) (b : Counts) → IsBag b → IsBag (without_one v b) }
+{}
+
+/// Copies go in in either order, and copies of one value join, whatever the list of pairs.
+pub fn copies_commute_and_join()
+    ensures either { (v w : ℤ) (n m : ℕ) (b : Counts) → with_copies v n (with_copies w m b) ≡ with_copies w m (with_copies v n b) }
+    ensures joined { (v : ℤ) (n m : ℕ) (b : Counts) → with_copies v n (with_copies v m b) ≡ with_copies v (n + m) b }
+    ensures capped { (v : ℤ) (n : ℕ) (b : Counts) → with_copies v (capped n) b ≡ with_copies v n b }
 {}
 
 /// Sizes add.

@@ -1,22 +1,34 @@
 //! Atomic models and their items.
 
-ghost use Rattle.std.specs.Prelude.{◌≡◌, map};
-ghost use Rattle.dv_syntax.specs.Trees.{ticks_of, item_of, atomic_of};
+ghost use Rattle.std.specs.Prelude.{◌≡◌, [], OnOk, IfErr};
+ghost use Rattle.dv_syntax.specs.Trees.{ticks_of, atomic_of};
 ghost use Rattle.dv_syntax.specs.Grammar.{sort_word};
-ghost use Rattle.dv_syntax.specs.Reading.{Gives, with_front, many_at, braces_at, bound_at, variable_at, further_name_at, phases_at, start_at, ticks_at, hold_at, rule_at, out_at, item_at, atomic_at};
+ghost use Rattle.dv_syntax.specs.Reading.{Gives, with_front, many_at, braces_at, bound_at, variable_at, further_name_at, phases_at, start_at, ticks_at, hold_at, rule_at, out_at, item_at, item_of, with_item, with_items, empty_atomic, becoming, atomic_tree_at};
 
 use super::expression::expression;
 use super::fault::Fault;
 use super::statement::block;
 use super::token::{
-    after_keyword, after_symbol, begins_with_keyword, begins_with_symbol, first_line, name, number,
+    after_keyword, after_symbol, begins_with_keyword, begins_with_symbol, first_place, name, number,
 };
-use crate::tree::{Atomic, Bound, Item, Name, RuleSort, Ticks, Variable};
+use crate::tree::{
+    Atomic, Bound, Declaration, Hold, Name, Phases, Rule, RuleSort, Start, Ticks, Variable,
+};
 use dv_lex::{Keyword, Symbol, Token, TokenKind};
 use std::alloc::Global;
 
 /// How deep the blocks of a rule may lie in one another.
 const BLOCK_LIMIT: u32 = 16;
+
+/// An item of an atomic model.
+#[derive(Debug, Drop)]
+pub enum AtomicItem {
+    Declares(Declaration),
+    Lists(Phases),
+    Starts(Start),
+    Holds(Hold),
+    Rules(Rule),
+}
 
 /// A number, perhaps behind a minus sign.
 #[tactic(auto, unfolding(crate::specs::Reading::bound_at, crate::specs::Reading::read_then, crate::specs::Reading::choose))]
@@ -24,18 +36,24 @@ fn bound(tokens: &[Token]) -> Result<(Bound, &[Token]), Fault>
     ensures { Gives (λ x. (x.0, x.1.now)) result (bound_at tokens.now) }
 {
     if begins_with_symbol(tokens, Symbol::Minus) {
-        let line = first_line(tokens);
+        let place = first_place(tokens);
         let rest = after_symbol(tokens, Symbol::Minus)?;
-        let (magnitude, rest) = number(rest)?;
+        let (magnitude, rest) = match number(rest) {
+            Ok(read) => read,
+            Err(fault) => return Err(fault),
+        };
         Ok((
             Bound {
-                minus: Some(line),
+                minus: Some(place),
                 magnitude,
             },
             rest,
         ))
     } else {
-        let (magnitude, rest) = number(tokens)?;
+        let (magnitude, rest) = match number(tokens) {
+            Ok(read) => read,
+            Err(fault) => return Err(fault),
+        };
         Ok((
             Bound {
                 minus: None,
@@ -54,11 +72,20 @@ fn variable(tokens: &[Token]) -> Result<(Variable, &[Token]), Fault>
     let rest = after_keyword(tokens, Keyword::Var)?;
     let (name, rest) = name(rest)?;
     let rest = after_symbol(rest, Symbol::Colon)?;
-    let (low, rest) = bound(rest)?;
+    let (low, rest) = match bound(rest) {
+        Ok(read) => read,
+        Err(fault) => return Err(fault),
+    };
     let rest = after_symbol(rest, Symbol::Range)?;
-    let (high, rest) = bound(rest)?;
+    let (high, rest) = match bound(rest) {
+        Ok(read) => read,
+        Err(fault) => return Err(fault),
+    };
     let rest = after_symbol(rest, Symbol::Equal)?;
-    let (start, rest) = bound(rest)?;
+    let (start, rest) = match bound(rest) {
+        Ok(read) => read,
+        Err(fault) => return Err(fault),
+    };
     let rest = after_symbol(rest, Symbol::Semicolon)?;
     Ok((
         Variable {
@@ -96,29 +123,29 @@ fn further_names(mut names: Vec<Name>, tokens: &[Token]) -> Result<(Vec<Name>, &
 
 /// `phases first, second, ..;`
 #[tactic(auto, unfolding(crate::specs::Reading::phases_at, crate::specs::Reading::read_then))]
-fn phases(alloc: Global, tokens: &[Token]) -> Result<(Item, &[Token]), Fault>
+fn phases(alloc: Global, tokens: &[Token]) -> Result<(AtomicItem, &[Token]), Fault>
     ensures { Gives (λ x. (item_of x.0, x.1.now)) result (phases_at tokens.now) }
 {
-    let line = first_line(tokens);
+    let place = first_place(tokens);
     let rest = after_keyword(tokens, Keyword::Phases)?;
     let (first, rest) = name(rest)?;
-    let mut phases = Vec::new(alloc);
-    phases.push(first)?;
-    let (phases, rest) = further_names(phases, rest)?;
+    let mut names = Vec::new(alloc);
+    names.push(first)?;
+    let (names, rest) = further_names(names, rest)?;
     let rest = after_symbol(rest, Symbol::Semicolon)?;
-    Ok((Item::Phases { line, phases }, rest))
+    Ok((AtomicItem::Lists(Phases { place, names }), rest))
 }
 
 /// `start phase;`
 #[tactic(auto, unfolding(crate::specs::Reading::start_at, crate::specs::Reading::read_then))]
-fn start(tokens: &[Token]) -> Result<(Item, &[Token]), Fault>
+fn start(tokens: &[Token]) -> Result<(AtomicItem, &[Token]), Fault>
     ensures { Gives (λ x. (item_of x.0, x.1.now)) result (start_at tokens.now) }
 {
-    let line = first_line(tokens);
+    let place = first_place(tokens);
     let rest = after_keyword(tokens, Keyword::Start)?;
     let (phase, rest) = name(rest)?;
     let rest = after_symbol(rest, Symbol::Semicolon)?;
-    Ok((Item::Start { line, phase }, rest))
+    Ok((AtomicItem::Starts(Start { place, phase }), rest))
 }
 
 /// `forever`, or an expression.
@@ -137,16 +164,21 @@ fn ticks(alloc: Global, tokens: &[Token]) -> Result<(Ticks, &[Token]), Fault>
 
 /// `hold phase: ticks;`
 #[tactic(auto, unfolding(crate::specs::Reading::hold_at, crate::specs::Reading::read_then))]
-fn hold(alloc: Global, tokens: &[Token]) -> Result<(Item, &[Token]), Fault>
+fn hold(alloc: Global, tokens: &[Token]) -> Result<(AtomicItem, &[Token]), Fault>
     ensures { Gives (λ x. (item_of x.0, x.1.now)) result (hold_at tokens.now) }
 {
-    let line = first_line(tokens);
+    let place = first_place(tokens);
     let rest = after_keyword(tokens, Keyword::Hold)?;
     let (phase, rest) = name(rest)?;
     let rest = after_symbol(rest, Symbol::Colon)?;
     let (ticks, rest) = ticks(alloc, rest)?;
     let rest = after_symbol(rest, Symbol::Semicolon)?;
-    Ok((Item::Hold { line, phase, ticks }, rest))
+    let hold = Hold {
+        place,
+        phase,
+        ticks,
+    };
+    Ok((AtomicItem::Holds(hold), rest))
 }
 
 /// The word with which a rule of this sort begins.
@@ -161,13 +193,13 @@ fn word_of(sort: RuleSort) -> Keyword
 
 /// `output phase { .. }` or `internal phase { .. }`
 #[tactic(auto, unfolding(crate::specs::Reading::rule_at, crate::specs::Reading::read_then))]
-fn rule(alloc: Global, tokens: &[Token], sort: RuleSort) -> Result<(Item, &[Token]), Fault>
+fn rule(alloc: Global, tokens: &[Token], sort: RuleSort) -> Result<(AtomicItem, &[Token]), Fault>
     ensures { Gives (λ x. (item_of x.0, x.1.now)) result (rule_at sort tokens.now) }
 {
     let rest = after_keyword(tokens, word_of(sort))?;
     let (phase, rest) = name(rest)?;
     let (body, rest) = block(alloc, rest, BLOCK_LIMIT)?;
-    Ok((Item::Rule { sort, phase, body }, rest))
+    Ok((AtomicItem::Rules(Rule { sort, phase, body }), rest))
 }
 
 /// `out port;`
@@ -183,15 +215,18 @@ pub fn out(tokens: &[Token]) -> Result<(Name, &[Token]), Fault>
 
 /// An item at the front.
 #[tactic(auto, unfolding(crate::specs::Reading::item_at, crate::specs::Reading::read_then, crate::specs::Reading::choose))]
-fn item(alloc: Global, tokens: &[Token]) -> Result<(Item, &[Token]), Fault>
+fn item(alloc: Global, tokens: &[Token]) -> Result<(AtomicItem, &[Token]), Fault>
     ensures { Gives (λ x. (item_of x.0, x.1.now)) result (item_at tokens.now) }
 {
     if begins_with_keyword(tokens, Keyword::Out) {
         let (port, rest) = out(tokens)?;
-        Ok((Item::Out(port), rest))
+        Ok((AtomicItem::Declares(Declaration::Out(port)), rest))
     } else if begins_with_keyword(tokens, Keyword::Var) {
-        let (variable, rest) = variable(tokens)?;
-        Ok((Item::Var(variable), rest))
+        let (variable, rest) = match variable(tokens) {
+            Ok(read) => read,
+            Err(fault) => return Err(fault),
+        };
+        Ok((AtomicItem::Declares(Declaration::Var(variable)), rest))
     } else if begins_with_keyword(tokens, Keyword::Phases) {
         phases(alloc, tokens)
     } else if begins_with_keyword(tokens, Keyword::Start) {
@@ -205,30 +240,58 @@ fn item(alloc: Global, tokens: &[Token]) -> Result<(Item, &[Token]), Fault>
     }
 }
 
-/// The items before the brace that closes their model.
-fn items(alloc: Global, tokens: &[Token]) -> Result<(Vec<Item>, &[Token]), Fault>
-    ensures { Gives (λ x. (map item_of x.0.items, x.1.now)) result
-        (many_at item_at (TokenKind.Symbol Symbol.CloseBrace) tokens.now) }
+/// Adds an item to those of its kind.
+fn add(atomic: &mut Atomic, item: AtomicItem) -> Result<(), Fault>
+    ensures added { OnOk result (atomic_of atomic.new ≡ with_item (atomic_of atomic.old) (item_of item)) }
+    ensures memory { IfErr result (λ e. e ≡ Fault.Memory) }
 {
-    let mut items = Vec::new(alloc);
+    match item {
+        AtomicItem::Declares(declaration) => atomic.declarations.push(declaration)?,
+        AtomicItem::Lists(phases) => atomic.phases.push(phases)?,
+        AtomicItem::Starts(start) => atomic.starts.push(start)?,
+        AtomicItem::Holds(hold) => atomic.holds.push(hold)?,
+        AtomicItem::Rules(rule) => atomic.rules.push(rule)?,
+    }
+    Ok(())
+}
+
+/// Adds the items before the brace that closes their model.
+fn items(alloc: Global, mut atomic: Atomic, tokens: &[Token]) -> Result<(Atomic, &[Token]), Fault>
+    ensures { Gives (λ x. (atomic_of x.0, x.1.now)) result
+        (becoming (with_items (atomic_of atomic)) (many_at item_at (TokenKind.Symbol Symbol.CloseBrace) tokens.now)) }
+{
     let mut rest = tokens;
     while !begins_with_symbol(rest, Symbol::CloseBrace) {
         let (item, after) = item(alloc, rest)?;
-        items.push(item)?;
+        add(&mut atomic, item)?;
         rest = after;
     }
-    Ok((items, rest))
+    Ok((atomic, rest))
+}
+
+/// An atomic model without items.
+fn empty(alloc: Global, name: Name) -> Atomic
+    ensures { atomic_of result ≡ empty_atomic name }
+{
+    Atomic {
+        name,
+        declarations: Vec::new(alloc),
+        phases: Vec::new(alloc),
+        starts: Vec::new(alloc),
+        holds: Vec::new(alloc),
+        rules: Vec::new(alloc),
+    }
 }
 
 /// `atomic name { .. }`
-#[tactic(auto, unfolding(crate::specs::Reading::atomic_at, crate::specs::Reading::braces_at, crate::specs::Reading::read_then))]
+#[tactic(auto, unfolding(crate::specs::Reading::atomic_tree_at, crate::specs::Reading::atomic_at, crate::specs::Reading::braces_at, crate::specs::Reading::read_then))]
 pub fn atomic(alloc: Global, tokens: &[Token]) -> Result<(Atomic, &[Token]), Fault>
-    ensures { Gives (λ x. (atomic_of x.0, x.1.now)) result (atomic_at tokens.now) }
+    ensures { Gives (λ x. (atomic_of x.0, x.1.now)) result (atomic_tree_at tokens.now) }
 {
     let rest = after_keyword(tokens, Keyword::Atomic)?;
     let (name, rest) = name(rest)?;
     let rest = after_symbol(rest, Symbol::OpenBrace)?;
-    let (items, rest) = items(alloc, rest)?;
+    let (atomic, rest) = items(alloc, empty(alloc, name), rest)?;
     let rest = after_symbol(rest, Symbol::CloseBrace)?;
-    Ok((Atomic { name, items }, rest))
+    Ok((atomic, rest))
 }

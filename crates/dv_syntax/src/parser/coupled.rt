@@ -1,16 +1,25 @@
 //! Coupled models and their items.
 
+ghost use Rattle.std.specs.Prelude.{◌≡◌, OnOk, IfErr};
 ghost use Rattle.dv_syntax.specs.Trees.{coupled_of};
-ghost use Rattle.dv_syntax.specs.Reading.{Gives, many_at, braces_at, end_at, part_at, link_at, coupled_item_at, coupled_at};
+ghost use Rattle.dv_syntax.specs.Reading.{Gives, many_at, braces_at, end_at, part_at, link_at, coupled_item_at, coupled_item_of, with_coupled_item, with_coupled_items, empty_coupled, becoming, coupled_tree_at};
 
 use super::atomic::out;
 use super::fault::Fault;
 use super::token::{
-    after_keyword, after_symbol, begins_with_keyword, begins_with_symbol, first_line, name,
+    after_keyword, after_symbol, begins_with_keyword, begins_with_symbol, first_place, name,
 };
-use crate::tree::{Coupled, CoupledItem, End, Link, Part};
+use crate::tree::{Coupled, End, Link, Name, Part};
 use dv_lex::{Keyword, Symbol, Token, TokenKind};
 use std::alloc::Global;
+
+/// An item of a coupled model.
+#[derive(Clone, Copy, Debug, PartialEq, Eq)]
+pub enum CoupledItem {
+    Outputs(Name),
+    Contains(Part),
+    Couples(Link),
+}
 
 /// `self.port` or `part.port`
 #[tactic(auto, unfolding(crate::specs::Reading::end_at, crate::specs::Reading::read_then, crate::specs::Reading::choose))]
@@ -54,56 +63,80 @@ fn part(tokens: &[Token]) -> Result<(Part, &[Token]), Fault>
 fn link(tokens: &[Token]) -> Result<(Link, &[Token]), Fault>
     ensures { Gives (λ x. (x.0, x.1.now)) result (link_at tokens.now) }
 {
-    let line = first_line(tokens);
+    let place = first_place(tokens);
     let rest = after_keyword(tokens, Keyword::Link)?;
     let (from, rest) = end(rest)?;
     let rest = after_symbol(rest, Symbol::Arrow)?;
     let (to, rest) = end(rest)?;
     let rest = after_symbol(rest, Symbol::Semicolon)?;
-    Ok((Link { line, from, to }, rest))
+    Ok((Link { place, from, to }, rest))
 }
 
 /// An item at the front.
 #[tactic(auto, unfolding(crate::specs::Reading::coupled_item_at, crate::specs::Reading::read_then, crate::specs::Reading::choose))]
 fn item(tokens: &[Token]) -> Result<(CoupledItem, &[Token]), Fault>
-    ensures { Gives (λ x. (x.0, x.1.now)) result (coupled_item_at tokens.now) }
+    ensures { Gives (λ x. (coupled_item_of x.0, x.1.now)) result (coupled_item_at tokens.now) }
 {
     if begins_with_keyword(tokens, Keyword::Out) {
         let (port, rest) = out(tokens)?;
-        Ok((CoupledItem::Out(port), rest))
+        Ok((CoupledItem::Outputs(port), rest))
     } else if begins_with_keyword(tokens, Keyword::Part) {
         let (part, rest) = part(tokens)?;
-        Ok((CoupledItem::Part(part), rest))
+        Ok((CoupledItem::Contains(part), rest))
     } else {
         let (link, rest) = link(tokens)?;
-        Ok((CoupledItem::Link(link), rest))
+        Ok((CoupledItem::Couples(link), rest))
     }
 }
 
-/// The items before the brace that closes their model.
-fn items(alloc: Global, tokens: &[Token]) -> Result<(Vec<CoupledItem>, &[Token]), Fault>
-    ensures { Gives (λ x. (x.0.items, x.1.now)) result
-        (many_at coupled_item_at (TokenKind.Symbol Symbol.CloseBrace) tokens.now) }
+/// Adds an item to those of its kind.
+fn add(coupled: &mut Coupled, item: CoupledItem) -> Result<(), Fault>
+    ensures added { OnOk result (coupled_of coupled.new ≡ with_coupled_item (coupled_of coupled.old) (coupled_item_of item)) }
+    ensures memory { IfErr result (λ e. e ≡ Fault.Memory) }
 {
-    let mut items = Vec::new(alloc);
+    match item {
+        CoupledItem::Outputs(port) => coupled.outputs.push(port)?,
+        CoupledItem::Contains(part) => coupled.parts.push(part)?,
+        CoupledItem::Couples(link) => coupled.links.push(link)?,
+    }
+    Ok(())
+}
+
+/// Adds the items before the brace that closes their model.
+fn items(mut coupled: Coupled, tokens: &[Token]) -> Result<(Coupled, &[Token]), Fault>
+    ensures { Gives (λ x. (coupled_of x.0, x.1.now)) result
+        (becoming (with_coupled_items (coupled_of coupled)) (many_at coupled_item_at (TokenKind.Symbol Symbol.CloseBrace) tokens.now)) }
+{
     let mut rest = tokens;
     while !begins_with_symbol(rest, Symbol::CloseBrace) {
         let (item, after) = item(rest)?;
-        items.push(item)?;
+        add(&mut coupled, item)?;
         rest = after;
     }
-    Ok((items, rest))
+    Ok((coupled, rest))
+}
+
+/// A coupled model without items.
+fn empty(alloc: Global, name: Name) -> Coupled
+    ensures { coupled_of result ≡ empty_coupled name }
+{
+    Coupled {
+        name,
+        outputs: Vec::new(alloc),
+        parts: Vec::new(alloc),
+        links: Vec::new(alloc),
+    }
 }
 
 /// `coupled name { .. }`
-#[tactic(auto, unfolding(crate::specs::Reading::coupled_at, crate::specs::Reading::braces_at, crate::specs::Reading::read_then))]
+#[tactic(auto, unfolding(crate::specs::Reading::coupled_tree_at, crate::specs::Reading::coupled_at, crate::specs::Reading::braces_at, crate::specs::Reading::read_then))]
 pub fn coupled(alloc: Global, tokens: &[Token]) -> Result<(Coupled, &[Token]), Fault>
-    ensures { Gives (λ x. (coupled_of x.0, x.1.now)) result (coupled_at tokens.now) }
+    ensures { Gives (λ x. (coupled_of x.0, x.1.now)) result (coupled_tree_at tokens.now) }
 {
     let rest = after_keyword(tokens, Keyword::Coupled)?;
     let (name, rest) = name(rest)?;
     let rest = after_symbol(rest, Symbol::OpenBrace)?;
-    let (items, rest) = items(alloc, rest)?;
+    let (coupled, rest) = items(empty(alloc, name), rest)?;
     let rest = after_symbol(rest, Symbol::CloseBrace)?;
-    Ok((Coupled { name, items }, rest))
+    Ok((coupled, rest))
 }

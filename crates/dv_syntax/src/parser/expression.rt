@@ -3,10 +3,10 @@
 ghost use Rattle.std.specs.Prelude.{◌≡◌, ◌+◌, ◌-◌, ◌<◌, ◌≤◌, IfOk, MatchOption, None, Some};
 ghost use Rattle.dv_syntax.specs.Trees.{expression_of};
 ghost use Rattle.dv_syntax.specs.Grammar.{operator_rank, left_rank, rank, depth};
-ghost use Rattle.dv_syntax.specs.Reading.{Gives, operator_of, goes_on, operator_at, leaf_at, parens_at, negative_at, primary_at, expression_at};
+ghost use Rattle.dv_syntax.specs.Reading.{Gives, operator_of, goes_on, operator_at, place_at, leaf_at, parens_at, negative_at, primary_at, expression_at};
 
 use super::fault::Fault;
-use super::token::{after_symbol, begins_with_name, begins_with_symbol, first_line, name, number};
+use super::token::{after_symbol, begins_with_name, begins_with_symbol, first_place, name, number};
 use crate::tree::{Expr, Operator};
 use dv_lex::{Symbol, Token, TokenKind};
 use std::alloc::Global;
@@ -81,8 +81,8 @@ fn rank_of(expression: &Expr) -> u32
     }
 }
 
-/// The operator at the front that goes on with the left operand at this level, its line, and what follows it.
-#[tactic(auto, unfolding(crate::specs::Reading::operator_at, crate::specs::Reading::goes_on, crate::specs::Reading::read_then, crate::specs::Reading::choose))]
+/// The operator at the front that goes on with the left operand at this level, its place, and what follows it.
+#[tactic(auto, unfolding(crate::specs::Reading::operator_at, crate::specs::Reading::place_at, crate::specs::Reading::goes_on, crate::specs::Reading::maybe, crate::specs::Reading::choose))]
 fn next_operator<'a>(
     tokens: &'a [Token],
     level: u32,
@@ -90,14 +90,14 @@ fn next_operator<'a>(
 ) -> Option<(Operator, u32, &'a [Token])>
     ensures { MatchOption result
         (operator_at level (expression_of left.now) tokens.now ≡ None)
-        (λ x. operator_at level (expression_of left.now) tokens.now ≡ Some (x.0, x.2.now)) }
+        (λ x. (operator_at level (expression_of left.now) tokens.now ≡ Some (x.0, x.2.now)) × (x.1 ≡ place_at tokens.now)) }
 {
-    let [Token { kind, line }, rest @ ..] = tokens else {
+    let [Token { kind, place }, rest @ ..] = tokens else {
         return None;
     };
     let operator = operator(*kind)?;
     if level <= rank_of_operator(operator) && least_left_rank(operator) <= rank_of(left) {
-        Some((operator, *line, rest))
+        Some((operator, *place, rest))
     } else {
         None
     }
@@ -113,50 +113,53 @@ fn leaf(tokens: &[Token]) -> Result<(Expr, &[Token]), Fault>
         let (name, rest) = name(tokens)?;
         Ok((Expr::Named(name), rest))
     } else {
-        let (number, rest) = number(tokens)?;
+        let (number, rest) = match number(tokens) {
+            Ok(read) => read,
+            Err(fault) => return Err(fault),
+        };
         Ok((Expr::Literal(number), rest))
     }
 }
 
 /// An expression in parentheses.
 #[cycle(expression)]
-#[tactic(auto, using(crate::proofs::Climbing::parens_deep), unfolding(crate::specs::Reading::parens_at, crate::specs::Reading::read_then))]
+#[tactic(auto, unfolding(crate::specs::Reading::parens_at, crate::specs::Reading::within, crate::specs::Reading::read_then))]
 fn parens(alloc: Global, tokens: &[Token], limit: u32) -> Result<(Expr, u32, &[Token]), Fault>
     requires positive { 0 < limit }
     requires bounded { limit ≤ 64 }
-    ensures gives { Gives (λ x. (expression_of x.0, x.2.now)) result (parens_at (expression_at (limit - 1)) tokens.now) }
+    ensures gives { Gives (λ x. (expression_of x.0, x.2.now)) result (parens_at (expression_at (limit - 1)) (limit - 1) tokens.now) }
     ensures depth { IfOk result (λ x. x.1 ≡ depth (expression_of x.0)) }
     ensures within { IfOk result (λ x. (0 < x.1) × (x.1 ≤ limit)) }
 {
-    let line = first_line(tokens);
+    let place = first_place(tokens);
     let inside = after_symbol(tokens, Symbol::OpenParen)?;
     if limit == 1 {
-        return Err(Fault::TooDeep(line));
+        return Err(Fault::TooDeep(place));
     }
     let (inner, depth, rest) = within(alloc, inside, limit - 1, 0)?;
     let rest = after_symbol(rest, Symbol::CloseParen)?;
     let inner = Box::new(alloc, inner)?;
-    Ok((Expr::Parens { line, inner }, depth + 1, rest))
+    Ok((Expr::Parens { place, inner }, depth + 1, rest))
 }
 
 /// An operand behind a minus sign.
 #[cycle(expression)]
-#[tactic(auto, using(crate::proofs::Climbing::negative_deep), unfolding(crate::specs::Reading::negative_at, crate::specs::Reading::read_then))]
+#[tactic(auto, unfolding(crate::specs::Reading::negative_at, crate::specs::Reading::within, crate::specs::Reading::read_then))]
 fn negative(alloc: Global, tokens: &[Token], limit: u32) -> Result<(Expr, u32, &[Token]), Fault>
     requires positive { 0 < limit }
     requires bounded { limit ≤ 64 }
-    ensures gives { Gives (λ x. (expression_of x.0, x.2.now)) result (negative_at (expression_at (limit - 1)) tokens.now) }
+    ensures gives { Gives (λ x. (expression_of x.0, x.2.now)) result (negative_at (expression_at (limit - 1)) (limit - 1) tokens.now) }
     ensures depth { IfOk result (λ x. x.1 ≡ depth (expression_of x.0)) }
     ensures within { IfOk result (λ x. (0 < x.1) × (x.1 ≤ limit)) }
 {
-    let line = first_line(tokens);
+    let place = first_place(tokens);
     let behind = after_symbol(tokens, Symbol::Minus)?;
     if limit == 1 {
-        return Err(Fault::TooDeep(line));
+        return Err(Fault::TooDeep(place));
     }
     let (operand, depth, rest) = within(alloc, behind, limit - 1, PREFIXED)?;
     let operand = Box::new(alloc, operand)?;
-    Ok((Expr::Negative { line, operand }, depth + 1, rest))
+    Ok((Expr::Negative { place, operand }, depth + 1, rest))
 }
 
 /// An operand that no operator joins to another.
@@ -165,7 +168,7 @@ fn negative(alloc: Global, tokens: &[Token], limit: u32) -> Result<(Expr, u32, &
 fn primary(alloc: Global, tokens: &[Token], limit: u32) -> Result<(Expr, u32, &[Token]), Fault>
     requires positive { 0 < limit }
     requires bounded { limit ≤ 64 }
-    ensures gives { Gives (λ x. (expression_of x.0, x.2.now)) result (primary_at (expression_at (limit - 1)) tokens.now) }
+    ensures gives { Gives (λ x. (expression_of x.0, x.2.now)) result (primary_at (expression_at (limit - 1)) (limit - 1) tokens.now) }
     ensures depth { IfOk result (λ x. x.1 ≡ depth (expression_of x.0)) }
     ensures within { IfOk result (λ x. (0 < x.1) × (x.1 ≤ limit)) }
 {
@@ -196,9 +199,9 @@ fn within(
     ensures within { IfOk result (λ x. (0 < x.1) × (x.1 ≤ limit)) }
 {
     let (mut left, mut depth, mut rest) = primary(alloc, tokens, limit)?;
-    while let Some((operator, line, after)) = next_operator(rest, level, &left) {
+    while let Some((operator, place, after)) = next_operator(rest, level, &left) {
         if depth >= limit {
-            return Err(Fault::TooDeep(line));
+            return Err(Fault::TooDeep(place));
         }
         let right_level = rank_of_operator(operator) + 1;
         let (right, right_depth, next) = within(alloc, after, limit - 1, right_level)?;

@@ -2,7 +2,7 @@
 
 use std::alloc::{AllocError, AllocFailed};
 
-/// Why the tokens could not be read. A line is that of the token at which it shows.
+/// Why the tokens could not be read. A place is that of the token at which it shows.
 #[derive(Clone, Copy, Debug, PartialEq, Eq)]
 pub enum Fault {
     /// An allocation was refused.

@@ -7,7 +7,7 @@ ghost use Rattle.dv_syntax.specs.Reading.{Gives, single_of, many_at, assign_at, 
 use super::expression::expression;
 use super::fault::Fault;
 use super::token::{
-    after_keyword, after_symbol, begins_with_keyword, begins_with_symbol, first_line, name,
+    after_keyword, after_symbol, begins_with_keyword, begins_with_symbol, first_place, name,
 };
 use crate::tree::{Block, Stmt};
 use dv_lex::{Keyword, Symbol, Token, TokenKind};
@@ -30,11 +30,11 @@ fn assign(alloc: Global, tokens: &[Token]) -> Result<(Stmt, &[Token]), Fault>
 fn goto(tokens: &[Token]) -> Result<(Stmt, &[Token]), Fault>
     ensures { Gives (λ x. (single_of x.0, x.1.now)) result (goto_at tokens.now) }
 {
-    let line = first_line(tokens);
+    let place = first_place(tokens);
     let rest = after_keyword(tokens, Keyword::Goto)?;
     let (phase, rest) = name(rest)?;
     let rest = after_symbol(rest, Symbol::Semicolon)?;
-    Ok((Stmt::Goto { line, phase }, rest))
+    Ok((Stmt::Goto { place, phase }, rest))
 }
 
 /// `send port value;`
@@ -42,25 +42,25 @@ fn goto(tokens: &[Token]) -> Result<(Stmt, &[Token]), Fault>
 fn send(alloc: Global, tokens: &[Token]) -> Result<(Stmt, &[Token]), Fault>
     ensures { Gives (λ x. (single_of x.0, x.1.now)) result (send_at tokens.now) }
 {
-    let line = first_line(tokens);
+    let place = first_place(tokens);
     let rest = after_keyword(tokens, Keyword::Send)?;
     let (port, rest) = name(rest)?;
     let (value, rest) = expression(alloc, rest)?;
     let rest = after_symbol(rest, Symbol::Semicolon)?;
-    Ok((Stmt::Send { line, port, value }, rest))
+    Ok((Stmt::Send { place, port, value }, rest))
 }
 
 /// `if condition { .. }`, and its `else` where that follows.
 #[cycle(block)]
-#[tactic(auto, using(crate::proofs::Statements::if_deep), unfolding(crate::specs::Reading::if_at, crate::specs::Reading::else_at, crate::specs::Reading::read_then, crate::specs::Reading::choose))]
+#[tactic(auto, unfolding(crate::specs::Reading::if_at, crate::specs::Reading::within, crate::specs::Reading::else_at, crate::specs::Reading::read_then, crate::specs::Reading::choose))]
 fn if_statement(alloc: Global, tokens: &[Token], limit: u32) -> Result<(Stmt, &[Token]), Fault>
     requires { 0 < limit }
-    ensures { Gives (λ x. (single_of x.0, x.1.now)) result (if_at (block_at (limit - 1)) tokens.now) }
+    ensures { Gives (λ x. (single_of x.0, x.1.now)) result (if_at (block_at (limit - 1)) (limit - 1) tokens.now) }
 {
-    let line = first_line(tokens);
+    let place = first_place(tokens);
     let rest = after_keyword(tokens, Keyword::If)?;
     if limit == 1 {
-        return Err(Fault::TooDeep(line));
+        return Err(Fault::TooDeep(place));
     }
     let (condition, rest) = expression(alloc, rest)?;
     let (then_block, rest) = block(alloc, rest, limit - 1)?;
@@ -69,7 +69,7 @@ fn if_statement(alloc: Global, tokens: &[Token], limit: u32) -> Result<(Stmt, &[
         let (else_block, rest) = block(alloc, rest, limit - 1)?;
         Ok((
             Stmt::IfElse {
-                line,
+                place,
                 condition,
                 then_block,
                 else_block,
@@ -79,7 +79,7 @@ fn if_statement(alloc: Global, tokens: &[Token], limit: u32) -> Result<(Stmt, &[
     } else {
         Ok((
             Stmt::If {
-                line,
+                place,
                 condition,
                 then_block,
             },
@@ -93,7 +93,7 @@ fn if_statement(alloc: Global, tokens: &[Token], limit: u32) -> Result<(Stmt, &[
 #[tactic(auto, unfolding(crate::specs::Reading::statement_at, crate::specs::Reading::choose))]
 fn statement(alloc: Global, tokens: &[Token], limit: u32) -> Result<(Stmt, &[Token]), Fault>
     requires { 0 < limit }
-    ensures { Gives (λ x. (single_of x.0, x.1.now)) result (statement_at (block_at (limit - 1)) tokens.now) }
+    ensures { Gives (λ x. (single_of x.0, x.1.now)) result (statement_at (block_at (limit - 1)) (limit - 1) tokens.now) }
 {
     if begins_with_keyword(tokens, Keyword::Goto) {
         goto(tokens)
@@ -111,7 +111,7 @@ fn statement(alloc: Global, tokens: &[Token], limit: u32) -> Result<(Stmt, &[Tok
 fn statements(alloc: Global, tokens: &[Token], limit: u32) -> Result<(Vec<Stmt>, &[Token]), Fault>
     requires { 0 < limit }
     ensures { Gives (λ x. (map single_of x.0.items, x.1.now)) result
-        (many_at (statement_at (block_at (limit - 1))) (TokenKind.Symbol Symbol.CloseBrace) tokens.now) }
+        (many_at (statement_at (block_at (limit - 1)) (limit - 1)) (TokenKind.Symbol Symbol.CloseBrace) tokens.now) }
 {
     let mut statements = Vec::new(alloc);
     let mut rest = tokens;
@@ -132,7 +132,7 @@ fn braced_statements(
     limit: u32,
 ) -> Result<(Vec<Stmt>, &[Token]), Fault>
     requires { 0 < limit }
-    ensures { Gives (λ x. (map single_of x.0.items, x.1.now)) result (braces_at (statement_at (block_at (limit - 1))) tokens.now) }
+    ensures { Gives (λ x. (map single_of x.0.items, x.1.now)) result (braces_at (statement_at (block_at (limit - 1)) (limit - 1)) tokens.now) }
 {
     let inside = after_symbol(tokens, Symbol::OpenBrace)?;
     let (statements, rest) = statements(alloc, inside, limit)?;

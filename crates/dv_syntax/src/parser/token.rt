@@ -1,7 +1,7 @@
 //! Single tokens.
 
 ghost use Rattle.std.specs.Prelude.{◌≡◌};
-ghost use Rattle.dv_syntax.specs.Reading.{Gives, IsRefusal, same_kind, begins, begins_name, after, line_at, name_at, number_at};
+ghost use Rattle.dv_syntax.specs.Reading.{Gives, IsFault, obstacle_at, same_kind, begins, begins_name, after, place_at, name_at, number_at};
 
 use super::fault::Fault;
 use crate::tree::{Name, Number};
@@ -50,29 +50,30 @@ pub fn begins_with_name(tokens: &[Token]) -> bool
     )
 }
 
-/// The line of the first token.
-#[tactic(auto, unfolding(crate::specs::Reading::line_at))]
-pub fn first_line(tokens: &[Token]) -> u32
-    ensures { result ≡ line_at tokens.now }
+/// The place of the first token.
+#[tactic(auto, unfolding(crate::specs::Reading::place_at))]
+pub fn first_place(tokens: &[Token]) -> u32
+    ensures { result ≡ place_at tokens.now }
 {
     match tokens {
-        [first, ..] => first.line,
+        [first, ..] => first.place,
         [] => 0,
     }
 }
 
 /// What refuses the first token.
+#[tactic(auto, unfolding(crate::specs::Reading::obstacle_at))]
 pub fn unexpected(tokens: &[Token]) -> Fault
-    ensures { IsRefusal result }
+    ensures { IsFault result (obstacle_at tokens.now) }
 {
     match tokens {
-        [first, ..] => Fault::Unexpected(first.line),
+        [first, ..] => Fault::Unexpected(first.place),
         [] => Fault::TooShort,
     }
 }
 
 /// The tokens after one of this kind.
-#[tactic(auto, unfolding(crate::specs::Reading::after, crate::specs::Reading::choose))]
+#[tactic(auto, unfolding(crate::specs::Reading::after, crate::specs::Reading::obstacle_at, crate::specs::Reading::choose))]
 fn after_kind(tokens: &[Token], kind: TokenKind) -> Result<&[Token], Fault>
     ensures { Gives (λ rest. rest.now) result (after kind tokens.now) }
 {
@@ -95,7 +96,7 @@ pub fn after_keyword(tokens: &[Token], keyword: Keyword) -> Result<&[Token], Fau
 }
 
 /// The name at the front, and what follows it.
-#[tactic(auto, unfolding(crate::specs::Reading::name_at))]
+#[tactic(auto, unfolding(crate::specs::Reading::name_at, crate::specs::Reading::obstacle_at))]
 pub fn name(tokens: &[Token]) -> Result<(Name, &[Token]), Fault>
     ensures { Gives (λ x. (x.0, x.1.now)) result (name_at tokens.now) }
 {
@@ -103,13 +104,13 @@ pub fn name(tokens: &[Token]) -> Result<(Name, &[Token]), Fault>
         [
             Token {
                 kind: TokenKind::Name(number),
-                line,
+                place,
             },
             rest @ ..,
         ] => Ok((
             Name {
                 number: *number,
-                line: *line,
+                place: *place,
             },
             rest,
         )),
@@ -118,7 +119,7 @@ pub fn name(tokens: &[Token]) -> Result<(Name, &[Token]), Fault>
 }
 
 /// The number at the front, and what follows it.
-#[tactic(auto, unfolding(crate::specs::Reading::number_at))]
+#[tactic(auto, unfolding(crate::specs::Reading::number_at, crate::specs::Reading::obstacle_at))]
 pub fn number(tokens: &[Token]) -> Result<(Number, &[Token]), Fault>
     ensures { Gives (λ x. (x.0, x.1.now)) result (number_at tokens.now) }
 {
@@ -126,13 +127,13 @@ pub fn number(tokens: &[Token]) -> Result<(Number, &[Token]), Fault>
         [
             Token {
                 kind: TokenKind::Number(value),
-                line,
+                place,
             },
             rest @ ..,
-        ] if *value >= 0 => Ok((
+        ] => Ok((
             Number {
                 value: *value,
-                line: *line,
+                place: *place,
             },
             rest,
         )),

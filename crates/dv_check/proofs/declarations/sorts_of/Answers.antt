@@ -1,8 +1,8 @@
-use Rattle.dv_syntax.specs.Trees.{item_of}
-use Rattle.dv_check.specs.Items.{declared_by}
-use Rattle.dv_check.proofs.Firsts.{first_of_step}
+use Rattle.std.proofs.Common.{ap}
+use Rattle.dv_check.specs.Rules.{number_of_declaration, sort_of}
+use Rattle.dv_check.proofs.Firsts.{first_of_step_itself}
 use Rattle.dv_check.proofs.declarations.sorts_of.Goals as goal
 
-pub loop-item-preserved : goal.loop-item-preserved
-loop-item-preserved c =
-    first_of_step declared_by item_of c.args.items.now c.loop-item.item-index c.item-item.result _ _ c.declared_by.result c.loop-item-test.true c.item-item.is c.declared_by.ensures c.loop-item.invariant c.in_ok-declare.ensures
+pub loop-declaration-preserved : goal.loop-declaration-preserved
+loop-declaration-preserved c =
+    first_of_step_itself number_of_declaration sort_of c.args.declarations.now c.loop-declaration.declaration-index c.declaration-item.result _ _ _ _ c.loop-declaration-test.true c.declaration-item.is (ap (λ n. n.number) c.name_of_declaration-name.ensures) c.sort_of.ensures c.loop-declaration.invariant c.in_ok-add.ensures

@@ -1,8 +1,7 @@
-use Rattle.std.proofs.Common.{◌≡◌, map, take}
-use Rattle.dv_syntax.specs.Trees.{item_of}
-use Rattle.dv_check.specs.Items.{declared_by}
-use Rattle.dv_check.specs.Tables.{first_of, looked_up}
+use Rattle.std.proofs.Common.{◌≡◌, take}
+use Rattle.dv_check.specs.Tables.{value_for}
+use Rattle.dv_check.specs.Rules.{sort_in}
 use Rattle.dv_check.proofs.declarations.sorts_of.Given as goal
 
-abbrev pub invariant-loop-item : goal.invariant-loop-item
-invariant-loop-item l = looked_up l.sorts ≡ first_of declared_by (map item_of (take l.item-index l.items))
+abbrev pub invariant-loop-declaration : goal.invariant-loop-declaration
+invariant-loop-declaration l = value_for l.sorts ≡ sort_in (take l.declaration-index l.declarations)

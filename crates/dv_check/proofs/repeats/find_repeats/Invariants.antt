@@ -1,8 +1,8 @@
 use Rattle.std.proofs.Common.{◌≡◌, drop}
-use Rattle.dv_check.specs.Findings.{noted}
+use Rattle.dv_check.specs.Findings.{with_refusals}
 use Rattle.dv_check.specs.Tables.{has}
-use Rattle.dv_check.specs.Names.{repeated, repeated_after}
+use Rattle.dv_check.specs.Names.{repeats, repeats_after}
 use Rattle.dv_check.proofs.repeats.find_repeats.Given as goal
 
 abbrev pub invariant-loop-name : goal.invariant-loop-name
-invariant-loop-name l = noted l.found (repeated_after (has l.seen) l.number (drop l.name-index l.names)) ≡ noted l.initial.found (repeated l.number l.names)
+invariant-loop-name l = with_refusals l.found (repeats_after (has l.seen) l.number (drop l.name-index l.names)) ≡ with_refusals l.initial.found (repeats l.number l.names)

@@ -6,6 +6,6 @@ use Rattle.dv_eval.proofs.model.start_data.Goals as goal
 
 pub returns : goal.returns
 returns c =
-    c.loop-declaration.invariant
-    ∙ ap (map (λ d. Number d.start)) (take_all c.loop-declaration.declaration-index c.declarations-declaration-items.result.now (omega arith) ∙ c.declarations-declaration-items.ensures)
-    ∙ map-map (λ d. Number d.start) (λ v. v.1) c.args.env.now.variables
+    c.loop-range.invariant
+    ∙ ap (map (λ d. Number d.start)) (take_all c.loop-range.range-index c.ranges-range-items.result.now (omega arith) ∙ c.ranges-range-items.ensures)
+    ∙ map-map (λ d. Number d.start) (λ v. v.1) c.args.scope.now.variables

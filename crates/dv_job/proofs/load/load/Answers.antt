@@ -1,5 +1,5 @@
 use Rattle.std.proofs.lemmas.Result.{err_from_is_err_and}
-use Rattle.dv_job.proofs.Printing.{unlexed}
+use Rattle.dv_job.proofs.Loading.{unlexed}
 use Rattle.dv_job.proofs.load.load.Goals as goal
 
 pub returns-in_err-lexed-clause-refused : goal.returns-in_err-lexed-clause-refused

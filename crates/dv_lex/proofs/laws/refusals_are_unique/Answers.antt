@@ -1,5 +1,5 @@
-use Rattle.dv_lex.proofs.Refusals.{same_error}
+use Rattle.dv_lex.proofs.Refusals.{refusal_unique}
 use Rattle.dv_lex.proofs.laws.refusals_are_unique.Goals as goal
 
 pub returns : goal.returns
-returns c = same_error
+returns c = refusal_unique

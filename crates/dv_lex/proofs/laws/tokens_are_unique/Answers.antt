@@ -1,10 +1,10 @@
-use Rattle.std.proofs.Common.{◌≡◌, ap, sym, ◌∙◌}
+use Rattle.std.proofs.Common.{◌≡◌, ap, sym, ◌∙◌, length}
 use Rattle.dv_lex.specs.Numbering.{names_of, tokens_of}
 use Rattle.dv_lex.proofs.Readings.{Reads-same}
 use Rattle.dv_lex.proofs.laws.tokens_are_unique.Goals as goal
 
 pub returns : goal.returns
 returns c = λ text names others tokens more a b.
-    let same = Reads-same 1 text a.lexemes b.lexemes a.last_line b.last_line a.reads b.reads in
+    let same = Reads-same 0 text a.lexemes b.lexemes (length text) (length text) a.reads b.reads in
     let tables : names ≡ others = a.table ∙ (ap names_of same ∙ sym b.table) in
     (tables, a.numbered ∙ (ap (tokens_of names) same ∙ (ap (λ ns. tokens_of ns b.lexemes) tables ∙ sym b.numbered)))

@@ -1,9 +1,7 @@
-use Rattle.std.proofs.Common.{ap, refl, sym, ◌∙◌, rules, Some, FitsSigned}
-use Rattle.std.specs.Int.{w64}
+use Rattle.std.proofs.Common.{ap, refl, sym, ◌∙◌, Some}
 use Rattle.std.specs.Str.Parse.{digits_value}
-use Rattle.std.proofs.lemmas.Int.{to_z-of_z}
 use Rattle.dv_lex.specs.declared.token.TokenKind.TheVariants as kind
-use Rattle.dv_lex.specs.declared.error.Refusal.TheVariants.{E2, E3}
+use Rattle.dv_lex.specs.declared.error.RefusalNumber.TheVariants.{E2, E3}
 use Rattle.dv_lex.specs.Lexemes.{Numeral, Sign, symbol_text}
 use Rattle.dv_lex.specs.Steps.{IsNoToken}
 use Rattle.dv_lex.proofs.Firsts.{IsFirst-word, IsFirst-numeral, IsFirst-sign, IsWord-split, digits-split, NoneBegins-first, word_class, word_in_range}
@@ -26,13 +24,13 @@ returns-then-starts_name-clause-token c =
       range = word_in_range c.in_ok-kind.ensures.0 class;
       table = c.in_ok-kind.ensures.2;
       kind = c.in_ok-kind.ensures.3;
-      on_line = refl;
+      at_place = refl;
     }
 
 -- a number
 pub returns-in_default-clause-refused : goal.returns-in_default-clause-refused
 returns-in_default-clause-refused c = λ e was.
-    refused_so (IsNoToken c.args.bytes.now) E3 c.args.line c.refused.result e c.refused.ensures was (
+    refused_so (IsNoToken c.args.bytes.now) E3 c.args.place c.refused.result e c.refused.ensures was (
       digits_value 10 c.split_digits.result.0.now,
       c.split_digits.result.0.now,
       c.split_digits.result.1.now,
@@ -43,7 +41,6 @@ returns-in_default-clause-refused c = λ e was.
 
 pub returns-then-is_ascii_digit-clause-token : goal.returns-then-is_ascii_digit-clause-token
 returns-then-is_ascii_digit-clause-token c =
-    let fits : FitsSigned w64 c.in-Some.value = search rules in
     record {
       lexeme = Numeral (digits_value 10 c.split_digits.result.0.now);
       front = c.split_digits.result.0.now;
@@ -51,14 +48,14 @@ returns-then-is_ascii_digit-clause-token c =
           (digits-split c.args.bytes.now c.split_digits.result.0.now c.split_digits.result.1.now c.requires.more (sym c.is_ascii_digit.ensures.value ∙ c.if-is_ascii_digit.true) c.split_digits.ensures);
       range = c.in-Some.ensures.1;
       table = refl;
-      kind = ap (λ z. Some (kind.Number z)) (sym (to_z-of_z w64 c.in-Some.value fits ∙ c.in-Some.ensures.0));
-      on_line = refl;
+      kind = ap (λ n. Some (kind.Number n)) (sym c.in-Some.ensures.0);
+      at_place = refl;
     }
 
 -- a symbol
 pub returns-in_default-symbol-clause-refused : goal.returns-in_default-symbol-clause-refused
 returns-in_default-symbol-clause-refused c = λ e was.
-    refused_so (IsNoToken c.args.bytes.now) E2 c.args.line c.refused-in_default-symbol.result e c.refused-in_default-symbol.ensures was
+    refused_so (IsNoToken c.args.bytes.now) E2 c.args.place c.refused-in_default-symbol.result e c.refused-in_default-symbol.ensures was
     (NoneBegins-first c.args.bytes.now c.requires.more c.requires.no_blank c.requires.no_comment (sym c.starts_name.ensures ∙ c.if-starts_name.false) (sym c.is_ascii_digit.ensures.value ∙ c.if-is_ascii_digit.false) c.in_default-symbol.ensures)
 
 pub returns-clause-token : goal.returns-clause-token
@@ -69,5 +66,5 @@ returns-clause-token c = record {
   range = tt;
   table = refl;
   kind = refl;
-  on_line = refl;
+  at_place = refl;
 }

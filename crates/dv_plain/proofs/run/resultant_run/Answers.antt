@@ -4,12 +4,13 @@ use Rattle.std.specs.Vec.{with_items}
 use Rattle.std.proofs.lemmas.List.{with_items_is}
 use Rattle.dv_time.specs.Time.{end_of, next_rank, rank}
 use Rattle.dv_syntax.specs.Trees.{file_of}
-use Rattle.dv_bag.specs.Network.{IsFrom, after_instant, least_next, part_of_instant}
+use Rattle.dv_devs.specs.Network.{components_after, part_of_instant}
+use Rattle.dv_devs.specs.NextTimes.{IsFrom, least_next}
 use Rattle.dv_bag.specs.Part.{joined}
 use Rattle.dv_plain.specs.declared.component.Running.{Running}
-use Rattle.dv_plain.specs.Shown.{IsWaitOfRun, shown}
+use Rattle.dv_plain.specs.Components.{IsWaitOfRun, component_of}
 use Rattle.dv_plain.specs.Source.{network_of, no_input}
-use Rattle.dv_plain.proofs.Reached.{Reached, reached-end, reached-matched, reached-start, reached-step, tick-past, tick-within, work, work-step}
+use Rattle.dv_plain.proofs.Reached.{Reached, reached-end, reached-matched, reached-start, reached-step, work, work-step}
 use Rattle.dv_plain.proofs.run.resultant_run.Goals as goal
 use Rattle.dv_plain.proofs.run.resultant_run.Goals.{in-At+then-now-horizon, in_default}
 
@@ -45,14 +46,14 @@ written c = with_items_is c.instants.components c.run_instant.new.components (ke
 waiting : (c : goal.In_ok-run_instant) → All (λ (r : Running). IsWaitOfRun c.args.limit r.wait) c.deref.result.now
 waiting c = subst (All (λ (r : Running). IsWaitOfRun c.args.limit r.wait)) (sym c.deref.ensures.value) c.instants.invariant.waits
 
-least : (c : goal.In_ok-run_instant) → Some (rank c.args.limit c.in-At.now) ≡ least_next (map (shown c.args.limit) c.instants.components.items)
-least c = c.in-At.ensures.least c.args.limit (waiting c) ∙ ap (λ (rs : List Running). least_next (map (shown c.args.limit) rs)) c.deref.ensures.value
+least : (c : goal.In_ok-run_instant) → Some (rank c.args.limit c.in-At.now) ≡ least_next (map (component_of c.args.limit) c.instants.components.items)
+least c = c.in-At.ensures.least c.args.limit (waiting c) ∙ ap (λ (rs : List Running). least_next (map (component_of c.args.limit) rs)) c.deref.ensures.value
 
-changed : (c : goal.In_ok-run_instant) → map (shown c.args.limit) c.run_instant.new.components ≡ after_instant c.args.limit (network_of c.args.limit (file_of c.args.tree.now.file)) (rank c.args.limit c.in-At.now) [] (map (shown c.args.limit) c.instants.components.items)
-changed c = c.in_ok-run_instant.ensures.components ∙ ap (λ (rs : List Running). after_instant c.args.limit (network_of c.args.limit (file_of c.args.tree.now.file)) (rank c.args.limit c.in-At.now) [] (map (shown c.args.limit) rs)) c.deref_mut.ensures.value
+changed : (c : goal.In_ok-run_instant) → map (component_of c.args.limit) c.run_instant.new.components ≡ components_after c.args.limit (network_of c.args.limit (file_of c.args.tree.now.file)) (rank c.args.limit c.in-At.now) [] (map (component_of c.args.limit) c.instants.components.items)
+changed c = c.in_ok-run_instant.ensures.components ∙ ap (λ (rs : List Running). components_after c.args.limit (network_of c.args.limit (file_of c.args.tree.now.file)) (rank c.args.limit c.in-At.now) [] (map (component_of c.args.limit) rs)) c.deref_mut.ensures.value
 
 within : (c : goal.In_ok-run_instant) → rank c.args.limit c.in-At.now < end_of c.args.limit c.args.horizon
-within c = tick-within c.args.limit c.args.horizon c.in-At.now (c.in-At.ensures.of_run c.args.limit (waiting c)) c.if-now-horizon.false
+within c = c.the_end_follows_the_horizon.ensures.within c.args.limit c.args.horizon c.in-At.now (c.in-At.ensures.of_run c.args.limit (waiting c)) c.if-now-horizon.false
 
 pub instants-smaller : goal.instants-smaller
 instants-smaller c =
@@ -65,7 +66,7 @@ instants-preserved c =
     let f = file_of c.args.tree.now.file in
     let rs = c.instants.components.items in
     let new = c.run_instant.new.components in
-    let part = c.in_ok-run_instant.ensures.trace ∙ ap (λ (xs : List Running). joined c.instants.trace (part_of_instant limit (network_of limit f) (rank limit c.in-At.now) [] (map (shown limit) xs))) c.deref_mut.ensures.value in
+    let part = c.in_ok-run_instant.ensures.trace ∙ ap (λ (xs : List Running). joined c.instants.trace (part_of_instant limit (network_of limit f) (rank limit c.in-At.now) [] (map (component_of limit) xs))) c.deref_mut.ensures.value in
     record {
       laws = c.instants.invariant.laws;
       reached = subst (λ (xs : List Running). Reached limit f c.args.horizon xs c.run_instant.new.trace) (sym (written c))
@@ -80,8 +81,8 @@ returns c =
     let end = end_of limit c.args.horizon in
     let rs = c.instants.components.items in
     let waits = subst (All (λ (r : Running). IsWaitOfRun limit r.wait)) (sym c.deref.ensures.value) c.instants.invariant.waits in
-    let next : next_rank limit c.next_time.result ≡ least_next (map (shown limit) rs) = c.next_time.ensures.least limit waits ∙ ap (λ (xs : List Running). least_next (map (shown limit) xs)) c.deref.ensures.value in
+    let next : next_rank limit c.next_time.result ≡ least_next (map (component_of limit) rs) = c.next_time.ensures.least limit waits ∙ ap (λ (xs : List Running). least_next (map (component_of limit) xs)) c.deref.ensures.value in
     elim c.match-next_time.branch [
-      | in-At+then-now-horizon w ↦ reached-end limit f c.args.horizon rs c.instants.trace c.instants.invariant.laws c.instants.invariant.reached (subst (IsFrom end) (sym (ap (next_rank limit) w.in-At.is) ∙ next) (tick-past limit c.args.horizon w.in-At.now w.if-now-horizon.true))
+      | in-At+then-now-horizon w ↦ reached-end limit f c.args.horizon rs c.instants.trace c.instants.invariant.laws c.instants.invariant.reached (subst (IsFrom end) (sym (ap (next_rank limit) w.in-At.is) ∙ next) (c.the_end_follows_the_horizon.ensures.past limit c.args.horizon w.in-At.now w.if-now-horizon.true))
       | in_default w ↦ reached-end limit f c.args.horizon rs c.instants.trace c.instants.invariant.laws c.instants.invariant.reached (subst (IsFrom end) (sym (ap (next_rank limit) w.in_default.is) ∙ next) tt)
     ]

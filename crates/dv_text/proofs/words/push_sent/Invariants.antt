@@ -1,10 +1,8 @@
-use Rattle.std.proofs.Common.{◌≡◌, ◌++◌, string_bytes}
-use Rattle.std.specs.Iterator.Adapters.{zip_first, zip_second}
-use Rattle.std.specs.Slice.Iter.{iter_rest}
+use Rattle.std.proofs.Common.{◌≡◌, ◌++◌, drop, string_bytes}
 use Rattle.dv_tree.specs.Paths.{texts_of}
 use Rattle.dv_text.specs.Texts.{ports_text, sent_text}
-use Rattle.dv_text.proofs.Sent.{sent_from}
+use Rattle.dv_text.specs.Writing.{sent_from}
 use Rattle.dv_text.proofs.words.push_sent.Given as goal
 
-abbrev pub invariant-loop-name : goal.invariant-loop-name
-invariant-loop-name l = string_bytes l.line ++ sent_from l.is_first (ports_text (texts_of l.tree.names (iter_rest (zip_first l.name-iterator))) (iter_rest (zip_second l.name-iterator))) ≡ string_bytes l.initial.line ++ sent_text (ports_text (texts_of l.tree.names l.names) l.sent)
+abbrev pub invariant-loop-port : goal.invariant-loop-port
+invariant-loop-port l = string_bytes l.line ++ sent_from l.is_first (ports_text (texts_of l.tree.names (drop l.port l.names)) (drop l.port l.sent)) ≡ string_bytes l.initial.line ++ sent_text (ports_text (texts_of l.tree.names l.names) l.sent)

@@ -1,12 +1,37 @@
-use Rattle.std.proofs.Common.{ℕ, List, ap, ◌∙◌, ◌++◌, ◌∷◌, [], string_bytes}
-use Rattle.std.proofs.lemmas.Slice.Zip.{either_empty_from_Zip}
+use Rattle.std.proofs.Common.{◌≡◌, ◌≤◌, ◌+◌, ℕ, List, [], ap, ◌∙◌, sym, ◌++◌, ◌∷◌, inl, inr, length, drop, get_or, string_bytes}
+use Rattle.std.proofs.lemmas.List.{drop_all, drop_more}
+use Rattle.std.proofs.lemmas.Option.{get_or_from_slice_get, slice_get_cases, slice_get_within}
+use Rattle.std.specs.Prelude.{None, Some, slice_get}
+use Rattle.dv_bag.specs.Reading.{datum_of}
+use Rattle.dv_bag.specs.declared.state.Datum.{Datum}
 use Rattle.dv_text.proofs.Sent.{variables_step, variables_end}
 use Rattle.dv_text.proofs.words.push_variables.Goals as goal
 
-pub loop-name-preserved : goal.loop-name-preserved
-loop-name-preserved c =
-    let next = c.in-Some.ensures.steps in
-    variables_step c.args.tree.now.names _ _ _ _ _ _ _ _ _ _ next.0 next.1 c.loop-name.invariant (c.in_ok-write.ensures.bytes ∙ ap (λ (t : List ℕ). string_bytes c.loop-name.line ++ (32 ∷ (t ++ (61 ∷ [])))) c.name.ensures) c.in_ok-push_datum.ensures
+-- a place with a datum has it in front of what is left
+left_at : (ds : List Datum) (i : ℕ) (d : Datum) → slice_get ds i ≡ Some d → drop i ds ≡ d ∷ drop (i + 1) ds
+left_at ds i d there =
+    drop_more ds i d (slice_get_within ds i d there) ∙ ap (λ (x : Datum). x ∷ drop (i + 1) ds) (get_or_from_slice_get ds i d d there)
+
+-- a place without one is past them all
+none_left : (ds : List Datum) (i : ℕ) → None ≡ slice_get ds i → drop i ds ≡ []
+none_left ds i none = elim (slice_get_cases ds i).1 [
+  | inl within ↦ absurd (let h : None ≡ Some within.0 = none ∙ within.2 in cc)
+  | inr past ↦ drop_all i ds past.0
+]
+
+pub loop-place-preserved : goal.loop-place-preserved
+loop-place-preserved c =
+    let names = c.args.names.now in
+    let values = c.args.variables.now in
+    let i = c.loop-place.place in
+    variables_step c.args.tree.now.names _ _ _ _ (drop i names) (drop (i + 1) names) (drop i values) (drop (i + 1) values) (get_or names i 0) (datum_of c.in-Some.datum) (drop_more names i 0 c.loop-place-test.true) (left_at values i (datum_of c.in-Some.datum) (sym c.in-Some.ensures)) c.loop-place.invariant (c.in_ok-write.ensures.bytes ∙ ap (λ (t : List ℕ). string_bytes c.loop-place.line ++ (32 ∷ (t ++ (61 ∷ [])))) c.name.ensures) c.in_ok-push_datum.ensures
+
+pub returns-in_default : goal.returns-in_default
+returns-in_default c =
+    let i = c.loop-place.place in
+    variables_end c.args.tree.now.names _ _ (drop i c.args.names.now) (drop i c.args.variables.now) (inr (none_left c.args.variables.now i c.in_default.ensures)) c.loop-place.invariant
 
 pub returns : goal.returns
-returns c = variables_end c.args.tree.now.names _ _ _ _ (either_empty_from_Zip c.loop-name.name-iterator c.next.new.self c.next.result c.in-None.is c.next.ensures.steps) c.loop-name.invariant
+returns c =
+    let i = c.loop-place.place in
+    variables_end c.args.tree.now.names _ _ (drop i c.args.names.now) (drop i c.args.variables.now) (inl (drop_all i c.args.names.now c.loop-place-test.false)) c.loop-place.invariant

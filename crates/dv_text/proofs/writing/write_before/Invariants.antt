@@ -1,13 +1,13 @@
 use Rattle.std.proofs.Common.{◌≡◌, ◌++◌, length, string_bytes}
-use Rattle.dv_text.specs.Shown.{root_ports}
-use Rattle.dv_text.specs.Texts.{grouped, groups_before, groups_from}
+use Rattle.dv_text.specs.Merging.{groups_before, groups_from, groups_of}
+use Rattle.dv_text.specs.Names.{tree_ports}
 use Rattle.dv_text.specs.Writing.{TakesFront}
 use Rattle.dv_text.proofs.writing.write_before.Given as goal
 
 abbrev pub invariant-loop-first : goal.invariant-loop-first
 invariant-loop-first g l = record {
-  text : TakesFront (g.W.Write.contents l.fn.writer) (g.W.Write.contents l.writer) (string_bytes l.fn.line ++ groups_before l.time (grouped (root_ports l.tree) l.outer)) (string_bytes l.line ++ groups_before l.time (grouped (root_ports l.tree) l.rest));
-  left : groups_from l.time (grouped (root_ports l.tree) l.rest) ≡ groups_from l.time (grouped (root_ports l.tree) l.outer);
+  text : TakesFront (g.W.Write.contents l.fn.writer) (g.W.Write.contents l.writer) (string_bytes l.fn.line ++ groups_before l.time (groups_of (tree_ports l.tree) l.outer)) (string_bytes l.line ++ groups_before l.time (groups_of (tree_ports l.tree) l.rest));
+  left : groups_from l.time (groups_of (tree_ports l.tree) l.rest) ≡ groups_from l.time (groups_of (tree_ports l.tree) l.outer);
 }
 
 abbrev pub decreases-loop-first : goal.decreases-loop-first

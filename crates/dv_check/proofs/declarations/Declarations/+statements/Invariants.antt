@@ -1,10 +1,10 @@
 use Rattle.std.proofs.Common.{◌≡◌, drop}
 use Rattle.dv_syntax.specs.Trees.{statements_of}
-use Rattle.dv_check.specs.Findings.{noted}
+use Rattle.dv_check.specs.Findings.{with_refusals}
 use Rattle.dv_check.specs.Rules.{known_by, statements_refusals}
 use Rattle.dv_check.proofs.declarations.Declarations.+statements.Given as goal
 
 abbrev pub invariant-check_statements-loop-statement :
     goal.invariant-check_statements-loop-statement
 invariant-check_statements-loop-statement l =
-    noted l.found (statements_refusals (known_by l.self) l.sort (statements_of (drop l.statement-index l.statements))) ≡ noted l.initial.found (statements_refusals (known_by l.self) l.sort (statements_of l.statements))
+    with_refusals l.found (statements_refusals (known_by l.self) l.sort (statements_of (drop l.statement-index l.statements))) ≡ with_refusals l.initial.found (statements_refusals (known_by l.self) l.sort (statements_of l.statements))

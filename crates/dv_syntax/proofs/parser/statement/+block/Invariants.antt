@@ -21,7 +21,7 @@ decreases-if_statement l = 5 * l.limit
 
 abbrev pub invariant-statements-loop-alloc : goal.invariant-statements-loop-alloc
 invariant-statements-loop-alloc l =
-    with_front (map single_of l.statements.items) (many_at (statement_at (block_at (l.limit - 1))) (kind.Symbol symbol.CloseBrace) l.rest) ≡ many_at (statement_at (block_at (l.limit - 1))) (kind.Symbol symbol.CloseBrace) l.tokens
+    with_front (map single_of l.statements.items) (many_at (statement_at (block_at (l.limit - 1)) (l.limit - 1)) (kind.Symbol symbol.CloseBrace) l.rest) ≡ many_at (statement_at (block_at (l.limit - 1)) (l.limit - 1)) (kind.Symbol symbol.CloseBrace) l.tokens
 
 abbrev pub decreases-statements-loop-alloc : goal.decreases-statements-loop-alloc
 decreases-statements-loop-alloc l = length l.rest

@@ -1,8 +1,0 @@
-use Rattle.dv_bag.proofs.Stretches.{resting_components, resting_trace}
-use Rattle.dv_bag.proofs.laws.runs.runs_rest_between_instants.Goals as goal
-
-pub returns-clause-components : goal.returns-clause-components
-returns-clause-components g c = resting_components
-
-pub returns-clause-trace : goal.returns-clause-trace
-returns-clause-trace g c limit net inputs ready leaves n = resting_trace limit net inputs ready n leaves

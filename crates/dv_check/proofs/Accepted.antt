@@ -1,0 +1,211 @@
+-- What the refusals that a file does not have say of it.
+use Rattle.std.proofs.Common.{subst, ⊎_elim, ◌≡◌, ℕ, ◌<◌, ◌≤◌, ◌==◌, Bool, true, false, not, if◌then◌else◌, List, [], ◌∷◌, ◌++◌, length, map, refl, sym, ap, ◌∙◌, Option, Some, None, option_map, Contains, arith}
+use Rattle.std.specs.List.{AllByRecursion, flat_map, slice_get}
+use Rattle.std.specs.Option.{option_or}
+use Rattle.std.proofs.lemmas.Option.{slice_get_cases}
+use Rattle.std.proofs.lemmas.List.{length-map}
+use Rattle.std.proofs.lemmas.List.Elements.{All-contains, All-from_recursion}
+use Rattle.dv_lex.specs.declared.error.RefusalNumber.{RefusalNumber}
+use Rattle.dv_lex.specs.declared.error.RefusalNumber.TheVariants.{E6}
+use Rattle.dv_check.specs.LinkSets.{no_link}
+use Rattle.dv_lex.specs.Order.{first_refusal}
+use Rattle.dv_syntax.specs.declared.tree.Name.{Name}
+use Rattle.dv_syntax.specs.declared.tree.Part.{Part}
+use Rattle.dv_syntax.specs.declared.tree.Link.{Link}
+use Rattle.dv_syntax.specs.Trees.{ModelTree, AtomicModel, CoupledModel, CoupledTree, FileTree}
+use Rattle.dv_eval.specs.Scope.{is_declared, scope_of}
+use Rattle.dv_check.specs.declared.limits.TheConstants.{GREATEST_NAMES}
+use Rattle.dv_check.specs.Names.{excess, excess_of, excess_past, model_named, name_of_model, part_named, refusal, repeats, refusal_if}
+use Rattle.dv_check.specs.Models.{Simple, face_of, faces_in}
+use Rattle.dv_check.specs.Rules.{is_none_left, sort_in}
+use Rattle.dv_check.specs.Couplings.{interior_of, coupled_refusals, link_refusals, name_of_part, part_model_refusals, part_refusals, part_source_refusals, part_target_refusals, parts_in, repeated_links_after, source_refusals, source_at_part, target_refusals, target_at_part}
+use Rattle.dv_check.specs.Refusals.{limit_refusals, model_refusals, refusal_of, refusals, root_limit_refusals, root_refusals}
+use Rattle.dv_check.specs.Accepted.{IsAtomicPart, IsOutputOfPart, IsOwnOutput, LeadsOut, IsAcceptedCoupled, IsAcceptedModel, IsAcceptedFile, IsThrough}
+use Rattle.dv_check.proofs.Declared.{output_declared}
+use Rattle.dv_check.proofs.Order.{none_first}
+
+-- ---- Lists without refusals
+
+neither : {A : Type 0} (a b : Option A) → option_or a b ≡ None → (a ≡ None) × (b ≡ None)
+neither None b e = (refl, e)
+neither (Some x) b e = absurd (cc)
+
+pub nothing_refused : (f : FileTree) → refusal_of f ≡ None → (refusals f ≡ []) × (limit_refusals f ≡ [])
+nothing_refused f e =
+    let both = neither (first_refusal (refusals f)) (first_refusal (limit_refusals f)) e in
+    (none_first (refusals f) both.0, none_first (limit_refusals f) both.1)
+
+-- lists that are empty together
+pub both_nil : {A : Type 0} (xs ys : List A) → xs ++ ys ≡ [] → (xs ≡ []) × (ys ≡ [])
+both_nil [] ys e = (refl, e)
+both_nil (x ∷ xs) ys e = absurd (cc)
+
+pub not_refused : (b : Bool) (number : RefusalNumber) (place : ℕ) → refusal_if b number place ≡ [] → b ≡ false
+not_refused true number place e = absurd (cc)
+not_refused false number place e = refl
+
+pub not_false : (b : Bool) → not b ≡ false → b ≡ true
+not_false true e = refl
+not_false false e = absurd (cc)
+
+some_none : {A : Type 0} (x : A) → Some x ≡ None → ⊥
+some_none x e = cc
+
+few_of : (names : List Name) (limit : ℕ) (o : Option Name) → slice_get names limit ≡ o → excess_of o ≡ [] → length names ≤ limit
+few_of names limit None is e = ⊎_elim (λ h. absurd (some_none h.0 (sym h.2 ∙ is))) (λ h. h.0) (slice_get_cases names limit).1
+few_of names limit (Some n) is e = absurd (cc)
+
+-- no name is past the limit
+few : (limit : ℕ) (names : List Name) → excess_past limit names ≡ [] → length names ≤ limit
+unfolding excess_past
+few limit names e = few_of names limit (slice_get names limit) refl e
+
+-- ---- Models and parts
+
+model_accepted_if : (all : List ModelTree) (b : Bool) (x m : ModelTree) (o : Option ModelTree) → model_refusals all x ≡ [] → (o ≡ Some m → model_refusals all m ≡ []) → (if b then Some x else o) ≡ Some m → model_refusals all m ≡ []
+model_accepted_if all true x m o here later e = let same : x ≡ m = cc in rw (← same) here
+model_accepted_if all false x m o here later e = later e
+
+pub model_accepted : (all models : List ModelTree) (number : ℕ) (m : ModelTree) → flat_map (model_refusals all) models ≡ [] → model_named number models ≡ Some m → model_refusals all m ≡ []
+model_accepted all [] number m none e = absurd (cc)
+model_accepted all (x ∷ models) number m none e =
+    let both = both_nil (model_refusals all x) (flat_map (model_refusals all) models) none in
+    model_accepted_if all ((name_of_model x).number == number) x m (model_named number models) both.0 (model_accepted all models number m both.1) e
+
+part_atomic_of : (models : List ModelTree) (p : Part) (o : Option ModelTree) → model_named p.model.number models ≡ o → part_model_refusals (option_map face_of o) p.model.place ≡ [] → IsAtomicPart models p
+part_atomic_of models p None is e = absurd (cc)
+part_atomic_of models p (Some (AtomicModel m)) is e = record { model = m; named = is }
+part_atomic_of models p (Some (CoupledModel m)) is e = absurd (cc)
+
+part_atomic : (models : List ModelTree) (p : Part) → part_model_refusals (faces_in models p.model.number) p.model.place ≡ [] → IsAtomicPart models p
+unfolding faces_in
+part_atomic models p e = part_atomic_of models p (model_named p.model.number models) refl e
+
+parts_atomic : (models : List ModelTree) (m : CoupledTree) (parts : List Part) → flat_map (part_refusals (interior_of models m)) parts ≡ [] → AllByRecursion (IsAtomicPart models) parts
+parts_atomic models m [] e = tt
+parts_atomic models m (p ∷ parts) e =
+    let both = both_nil (part_refusals (interior_of models m) p) (flat_map (part_refusals (interior_of models m)) parts) e in
+    (part_atomic models p both.0, parts_atomic models m parts both.1)
+
+part_with_if : (P : Part → Type 0) (b : Bool) (x p : Part) (o : Option Part) → P x → (o ≡ Some p → P p) → (if b then Some x else o) ≡ Some p → P p
+part_with_if P true x p o here later e = let same : x ≡ p = cc in subst P same here
+part_with_if P false x p o here later e = later e
+
+part_with : (P : Part → Type 0) (parts : List Part) (number : ℕ) (p : Part) → AllByRecursion P parts → part_named number parts ≡ Some p → P p
+part_with P [] number p all e = absurd (cc)
+part_with P (x ∷ parts) number p all e = part_with_if P (x.name.number == number) x p (part_named number parts) all.0 (part_with P parts number p all.1) e
+
+-- ---- Links
+
+face_atomic : (models : List ModelTree) (p : Part) (h : IsAtomicPart models p) → faces_in models p.model.number ≡ Some (Simple (sort_in h.model.declarations))
+unfolding faces_in
+face_atomic models p h = ap (option_map face_of) h.named
+
+module _ (models : List ModelTree) (m : CoupledTree) (atomic : AllByRecursion (IsAtomicPart models) m.parts) where
+  own_source : (b : Bool) (number other : RefusalNumber) (place : ℕ) → (if b then refusal number place ∷ [] else refusal other place ∷ []) ≡ [] → ⊥
+  own_source true number other place e = cc
+  own_source false number other place e = cc
+
+  output_of_atomic : (p : Part) (h : IsAtomicPart models p) (port : Name) → part_source_refusals (faces_in models p.model.number) port ≡ [] → is_declared port.number (scope_of h.model).outputs ≡ true
+  output_of_atomic p h port e =
+      let tested : part_source_refusals (Some (Simple (sort_in h.model.declarations))) port ≡ [] = sym (ap (λ o. part_source_refusals o port) (face_atomic models p h)) ∙ e in
+      output_declared port.number h.model.declarations [] (not_false _ (not_refused _ _ _ tested))
+
+  source_at : (o : Option Part) (part_name : Option Name) (name port : Name) → part_name ≡ Some name → part_named name.number m.parts ≡ o → source_at_part (interior_of models m) o name port ≡ [] → IsOutputOfPart models m.parts part_name port
+  source_at None part_name name port at is e = absurd (cc)
+  source_at (Some p) part_name name port at is e =
+      let h = part_with (IsAtomicPart models) m.parts name.number p atomic is in
+      record { name = name; at_part = at; part = p; known = is; atomic = h; output = output_of_atomic p h port e }
+
+  source_found : (part_name : Option Name) (port : Name) → source_refusals (interior_of models m) part_name port ≡ [] → IsOutputOfPart models m.parts part_name port
+  unfolding parts_in
+  source_found None port e = absurd (own_source _ _ _ _ e)
+  source_found (Some name) port e = source_at (part_named name.number m.parts) (Some name) name port refl refl e
+
+  no_target_of_atomic : (p : Part) (h : IsAtomicPart models p) (port : Name) → part_target_refusals (faces_in models p.model.number) port ≡ [] → ⊥
+  no_target_of_atomic p h port e =
+      let tested : part_target_refusals (Some (Simple (sort_in h.model.declarations))) port ≡ [] = sym (ap (λ o. part_target_refusals o port) (face_atomic models p h)) ∙ e in
+      own_source _ _ _ _ tested
+
+  no_target_at : (o : Option Part) (name port : Name) → part_named name.number m.parts ≡ o → target_at_part (interior_of models m) o name port ≡ [] → ⊥
+  no_target_at None name port is e = cc
+  no_target_at (Some p) name port is e = no_target_of_atomic p (part_with (IsAtomicPart models) m.parts name.number p atomic is) port e
+
+  target_found : (part_name : Option Name) (port : Name) → target_refusals (interior_of models m) part_name port ≡ [] → IsOwnOutput m part_name port
+  unfolding parts_in
+  target_found None port e = record { at_itself = refl; output = not_false _ (not_refused _ _ _ e) }
+  target_found (Some name) port e = absurd (no_target_at (part_named name.number m.parts) name port refl e)
+
+  links_lead_out : (links : List Link) → flat_map (link_refusals (interior_of models m)) links ≡ [] → AllByRecursion (LeadsOut models m) links
+  links_lead_out [] e = tt
+  links_lead_out (l ∷ links) e =
+      let w = interior_of models m in
+      let both = both_nil (link_refusals w l) (flat_map (link_refusals w) links) e in
+      let ends = both_nil (source_refusals w l.from.part l.from.port) (target_refusals w l.to.part l.to.port) both.0 in
+      (record { source = source_found l.from.part l.from.port ends.0; target = target_found l.to.part l.to.port ends.1 }, links_lead_out links both.1)
+
+-- ---- Coupled models, and the file
+
+few_named : (parts : List Part) (n : ℕ) → length (map name_of_part parts) ≤ n → length parts ≤ n
+few_named parts n e = omega (arith, e, length-map parts name_of_part)
+
+pub coupled_accepted : (models : List ModelTree) (m : CoupledTree) → coupled_refusals models m ≡ [] → IsAcceptedCoupled models m
+coupled_accepted models m e =
+    let w = interior_of models m in
+    let names = map name_of_part m.parts in
+    let many = excess m.outputs ++ excess names in
+    let twice = repeated_links_after w no_link m.links in
+    let ends = flat_map (link_refusals w) m.links in
+    let sorts = flat_map (part_refusals w) m.parts in
+    let behind_outputs = (both_nil (repeats E6 m.outputs) (repeats E6 names ++ (sorts ++ (ends ++ (twice ++ many)))) e).1 in
+    let parts = both_nil sorts (ends ++ (twice ++ many)) (both_nil (repeats E6 names) (sorts ++ (ends ++ (twice ++ many))) behind_outputs).1 in
+    let links = both_nil ends (twice ++ many) parts.1 in
+    let few_both = both_nil (excess m.outputs) (excess names) (both_nil twice many links.1).1 in
+    let atomic = parts_atomic models m m.parts parts.0 in
+    record {
+      parts = atomic;
+      links = links_lead_out models m atomic m.links links.0;
+      few_parts = few_named m.parts GREATEST_NAMES (few GREATEST_NAMES names few_both.1);
+      few_outputs = few GREATEST_NAMES m.outputs few_both.0;
+    }
+
+not_empty : (parts : List Part) → is_none_left parts ≡ false → 0 < length parts
+not_empty [] e = absurd (cc)
+not_empty (p ∷ parts) e = omega arith
+
+model_accepted_as : (models : List ModelTree) (m : ModelTree) → model_refusals models m ≡ [] → IsAcceptedModel models m
+model_accepted_as models (AtomicModel m) e = e
+model_accepted_as models (CoupledModel m) e = coupled_accepted models m e
+
+models_accepted : (all models : List ModelTree) → flat_map (model_refusals all) models ≡ [] → AllByRecursion (IsAcceptedModel all) models
+models_accepted all [] e = tt
+models_accepted all (m ∷ models) e =
+    let both = both_nil (model_refusals all m) (flat_map (model_refusals all) models) e in
+    (model_accepted_as all m both.0, models_accepted all models both.1)
+
+root_accepted : (f : FileTree) (o : Option ModelTree) → model_named f.root.number f.models ≡ o → root_refusals o f.root.place ≡ [] → root_limit_refusals o f.root.place ≡ [] → flat_map (model_refusals f.models) f.models ≡ [] → IsAcceptedFile f
+root_accepted f None is e limit none = absurd (cc)
+root_accepted f (Some (AtomicModel m)) is e limit none = absurd (cc)
+root_accepted f (Some (CoupledModel m)) is e limit none = record {
+  models = models_accepted f.models f.models none;
+  root = m;
+  named = is;
+  not_empty = not_empty m.parts (not_refused _ _ _ limit);
+  coupled = coupled_accepted f.models m (model_accepted f.models f.models f.root.number (CoupledModel m) none is);
+}
+
+pub file_accepted : (f : FileTree) → refusal_of f ≡ None → IsAcceptedFile f
+file_accepted f e =
+    let nothing = nothing_refused f e in
+    let models = flat_map (model_refusals f.models) f.models in
+    let root = root_refusals (model_named f.root.number f.models) f.root.place in
+    let both = both_nil models root (both_nil (repeats E6 (map name_of_model f.models)) (models ++ root) nothing.0).1 in
+    root_accepted f (model_named f.root.number f.models) refl both.1 nothing.1 both.0
+
+no_through : (models : List ModelTree) (m : CoupledTree) (l : Link) → LeadsOut models m l → IsThrough l → ⊥
+no_through models m l leads through = let e : Some leads.source.name ≡ None = sym leads.source.at_part ∙ through.0 in cc
+
+pub none_through : (f : FileTree) (m : CoupledTree) (l : Link) → refusal_of f ≡ None → Contains f.models (CoupledModel m) → Contains m.links l → IsThrough l → ⊥
+none_through f m l e has has_link =
+    let accepted : IsAcceptedModel f.models (CoupledModel m) = All-contains (IsAcceptedModel f.models) f.models (CoupledModel m) (All-from_recursion (IsAcceptedModel f.models) f.models (file_accepted f e).models) has in
+    no_through f.models m l (All-contains (LeadsOut f.models m) m.links l (All-from_recursion (LeadsOut f.models m) m.links accepted.links) has_link)

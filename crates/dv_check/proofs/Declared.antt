@@ -1,0 +1,61 @@
+-- Declared names: what stands for a port or a variable is declared in the scope of its model.
+use Rattle.std.proofs.Common.{◌≡◌, ℕ, ◌==◌, Bool, true, false, arith, ◌||◌, if◌then◌else◌, List, [], ◌∷◌, ◌++◌, refl, ◌∙◌, Option, Some}
+use Rattle.std.proofs.lemmas.List.Folds.{list_any-append}
+use Rattle.dv_syntax.specs.declared.tree.Name.{Name}
+use Rattle.dv_syntax.specs.declared.tree.Declaration.{Declaration}
+use Rattle.dv_syntax.specs.declared.tree.Declaration.TheVariants.{Out, Var}
+use Rattle.dv_eval.specs.Scope.{is_declared, outputs_in, with_name, with_names}
+use Rattle.dv_check.specs.declared.declarations.NameSort.{NameSort}
+use Rattle.dv_check.specs.declared.declarations.NameSort.TheVariants.{Variable as ForVariable, Output as ForOutput}
+use Rattle.dv_check.specs.Couplings.{is_output}
+use Rattle.dv_check.specs.Rules.{sort_in}
+use Rattle.dv_check.specs.Tables.{first_of}
+
+or_left : (a b : Bool) → a ≡ true → (a || b) ≡ true
+or_left a b e = rw e refl
+
+or_right : (a b : Bool) → b ≡ true → (a || b) ≡ true
+or_right true b e = refl
+or_right false b e = e
+
+-- a declared name stays declared
+in_front : (q : ℕ) (names more : List ℕ) → is_declared q names ≡ true → is_declared q (names ++ more) ≡ true
+in_front q names more e = list_any-append (λ n. n == q) names more ∙ or_left (is_declared q names) (is_declared q more) e
+
+keeps_if : (b : Bool) (q : ℕ) (names more : List ℕ) → is_declared q names ≡ true → is_declared q (if b then names else names ++ more) ≡ true
+keeps_if true q names more e = e
+keeps_if false q names more e = in_front q names more e
+
+pub stays_declared : (q : ℕ) (names : List ℕ) (more : List Name) → is_declared q names ≡ true → is_declared q (with_names names more) ≡ true
+stays_declared q names [] e = e
+stays_declared q names (n ∷ more) e = stays_declared q (with_name names n) more (keeps_if (is_declared n.number names) q names (n.number ∷ []) e)
+
+-- the last name is declared
+last_declared : (q n : ℕ) (names : List ℕ) → (n == q) ≡ true → is_declared q (names ++ n ∷ []) ≡ true
+last_declared q n names same = list_any-append (λ m. m == q) names (n ∷ []) ∙ or_right (is_declared q names) _ (or_left (n == q) false same)
+
+same_declared : (q n : ℕ) (names : List ℕ) → (n == q) ≡ true → is_declared n names ≡ true → is_declared q names ≡ true
+same_declared q n names same there = let is : n ≡ q = grind (arith, same) in rw (← is) there
+
+new_declared_if : (b : Bool) (q n : ℕ) (names : List ℕ) → (n == q) ≡ true → is_declared n names ≡ b → is_declared q (if b then names else names ++ n ∷ []) ≡ true
+new_declared_if true q n names same there = same_declared q n names same there
+new_declared_if false q n names same there = last_declared q n names same
+
+pub new_declared : (q : ℕ) (names : List ℕ) (n : Name) → (n.number == q) ≡ true → is_declared q (with_name names n) ≡ true
+new_declared q names n same = new_declared_if (is_declared n.number names) q n.number names same refl
+
+-- a name that stands for an output
+output_if : (b : Bool) (o : Option NameSort) → is_output (if b then Some ForVariable else o) ≡ true → is_output o ≡ true
+output_if true o e = absurd (cc)
+output_if false o e = e
+
+module _ (q : ℕ) where
+  output_first : (b : Bool) (port : Name) (ds : List Declaration) (names : List ℕ) → (port.number == q) ≡ b → is_output (if b then Some ForOutput else sort_in ds q) ≡ true → (is_output (sort_in ds q) ≡ true → is_declared q (with_names (with_name names port) (outputs_in ds)) ≡ true) → is_declared q (with_names (with_name names port) (outputs_in ds)) ≡ true
+  output_first true port ds names same e later = stays_declared q (with_name names port) (outputs_in ds) (new_declared q names port same)
+  output_first false port ds names other e later = later e
+
+  pub output_declared : (ds : List Declaration) (names : List ℕ) → is_output (sort_in ds q) ≡ true → is_declared q (with_names names (outputs_in ds)) ≡ true
+  unfolding first_of
+  output_declared [] names e = absurd (cc)
+  output_declared (Out port ∷ ds) names e = output_first (port.number == q) port ds names refl e (output_declared ds (with_name names port))
+  output_declared (Var v ∷ ds) names e = output_declared ds names (output_if (v.name.number == q) (sort_in ds q) e)

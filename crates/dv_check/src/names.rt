@@ -1,0 +1,142 @@
+//! The names in the lists of an atomic model.
+
+ghost use Rattle.std.specs.Prelude.{◌≡◌, map, filter_map, IfOk};
+ghost use Rattle.dv_syntax.specs.Trees.{hold_of, phases_of, rule_of};
+ghost use Rattle.dv_eval.specs.Scope.{output_of, outputs_in, phases_in, variable_of, variables_in};
+ghost use Rattle.dv_check.specs.Rules.{first_phases, held_phase, held_phases, name_of_declaration, name_of_variable, ruled_phase, ruled_phases};
+
+use dv_syntax::{Declaration, Hold, Name, Phases, Rule, RuleSort, Variable};
+use std::alloc::{AllocError, Global};
+
+/// The name of a port or variable.
+pub fn name_of_declaration(declaration: &Declaration) -> Name
+    ensures { result ≡ name_of_declaration declaration.now }
+{
+    match declaration {
+        Declaration::Out(port) => *port,
+        Declaration::Var(variable) => variable.name,
+    }
+}
+
+/// The names of ports and variables.
+pub fn declared(alloc: Global, declarations: &[Declaration]) -> Result<Vec<Name>, AllocError>
+    ensures { IfOk result (λ names. names.items ≡ map name_of_declaration declarations.now) }
+{
+    declarations
+        .iter()
+        .map(|declaration| name_of_declaration(declaration))
+        .collect(alloc)
+}
+
+fn output_of(declaration: &Declaration) -> Option<Name>
+    ensures { result ≡ output_of declaration.now }
+{
+    match declaration {
+        Declaration::Out(port) => Some(*port),
+        Declaration::Var(_) => None,
+    }
+}
+
+/// The output ports.
+pub fn outputs(alloc: Global, declarations: &[Declaration]) -> Result<Vec<Name>, AllocError>
+    ensures { IfOk result (λ names. names.items ≡ outputs_in declarations.now) }
+{
+    declarations
+        .iter()
+        .filter_map(|declaration| output_of(declaration))
+        .collect(alloc)
+}
+
+fn variable_of(declaration: &Declaration) -> Option<Variable>
+    ensures { result ≡ variable_of declaration.now }
+{
+    match declaration {
+        Declaration::Out(_) => None,
+        Declaration::Var(variable) => Some(*variable),
+    }
+}
+
+/// The variables.
+pub fn variables(alloc: Global, declarations: &[Declaration]) -> Result<Vec<Variable>, AllocError>
+    ensures { IfOk result (λ variables. variables.items ≡ variables_in declarations.now) }
+{
+    declarations
+        .iter()
+        .filter_map(|declaration| variable_of(declaration))
+        .collect(alloc)
+}
+
+fn name_of_variable(variable: &Variable) -> Name
+    ensures { result ≡ name_of_variable variable.now }
+{
+    variable.name
+}
+
+/// The names of variables.
+pub fn names_of_variables(alloc: Global, variables: &[Variable]) -> Result<Vec<Name>, AllocError>
+    ensures { IfOk result (λ names. names.items ≡ map name_of_variable variables.now) }
+{
+    variables
+        .iter()
+        .map(|variable| name_of_variable(variable))
+        .collect(alloc)
+}
+
+/// The phases of all items of phases.
+pub fn phases(alloc: Global, items: &[Phases]) -> Result<Vec<Name>, AllocError>
+    ensures { IfOk result (λ names. names.items ≡ phases_in (map phases_of items.now)) }
+{
+    let mut names = Vec::new(alloc);
+    for item in items {
+        names.extend_from_slice(&item.names)?;
+    }
+    Ok(names)
+}
+
+/// The phases of the first item of phases.
+pub fn first_phases(items: &[Phases]) -> &[Name]
+    ensures { result.now ≡ first_phases (map phases_of items.now) }
+{
+    match items.first() {
+        Some(item) => &item.names,
+        None => &[],
+    }
+}
+
+fn ruled_phase(sort: RuleSort, rule: &Rule) -> Option<Name>
+    ensures { result ≡ ruled_phase sort (rule_of rule.now) }
+{
+    if rule.sort == sort {
+        Some(rule.phase)
+    } else {
+        None
+    }
+}
+
+/// The phases that have rules of a sort, one for each rule.
+#[tactic(auto, using(crate::proofs::Lists::filter_map_of_map))]
+pub fn ruled_phases(alloc: Global, sort: RuleSort, rules: &[Rule]) -> Result<Vec<Name>, AllocError>
+    ensures { IfOk result (λ names. names.items ≡ ruled_phases sort (map rule_of rules.now)) }
+{
+    rules
+        .iter()
+        .filter_map(|rule| ruled_phase(sort, rule))
+        .collect(alloc)
+}
+
+fn held_phase(hold: &Hold) -> Name
+    ensures { result ≡ held_phase (hold_of hold.now) }
+{
+    Name {
+        number: hold.phase.number,
+        place: hold.place,
+    }
+}
+
+/// The phases that are held, each at the place of the word `hold`.
+#[tactic(auto, using(crate::proofs::Lists::map_of_map))]
+pub fn held_phases(alloc: Global, holds: &[Hold]) -> Result<Vec<Name>, AllocError>
+    ensures { IfOk result (λ names. names.items ≡ held_phases (map hold_of holds.now)) }
+{
+    holds.iter().map(|hold| held_phase(hold)).collect(alloc)
+}

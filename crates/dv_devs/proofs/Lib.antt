@@ -1,0 +1,10 @@
+pub mod ByTime
+pub mod Cuts
+pub mod Fits
+pub mod Idle
+pub mod NextTimes
+pub mod Outside
+pub mod Parts
+pub mod Results
+pub mod Runs
+pub mod Stretches

@@ -1,7 +1,0 @@
-use Rattle.std.proofs.Common.{◌≡◌, drop, map}
-use Rattle.dv_syntax.specs.Trees.{atomic_of, item_of}
-use Rattle.dv_eval.specs.Scope.{hold_ticks}
-use Rattle.dv_eval.proofs.model.phase_hold.Given as goal
-
-abbrev pub invariant-loop-item : goal.invariant-loop-item
-invariant-loop-item l = hold_ticks l.phase (map item_of (drop l.item-index l.item-items)) ≡ hold_ticks l.phase (atomic_of l.model).items

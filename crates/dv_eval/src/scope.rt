@@ -1,0 +1,233 @@
+//! The names that an atomic model declares.
+
+ghost use Rattle.std.specs.Prelude.{◌≡◌, ◌<◌, ℕ, [], length, slice_get, nat_eq, map, option_map, IfOk, OnOk};
+ghost use Rattle.std.specs.List.{IsDistinct};
+ghost use Rattle.dv_syntax.specs.Trees.{atomic_of, phases_of};
+ghost use Rattle.dv_eval.specs.Scope.{bound_value, names_of, nothing_declared, outputs_in, phases_in, place_of, range_of, scope_of, variables_in, with_name, with_names, with_variable, with_variables};
+
+use dv_syntax::{Atomic, Bound, Declaration, Name, Phases, Variable};
+use indexmap::{IndexMap, IndexSet};
+use std::alloc::{AllocError, Global};
+use std::marker::Model;
+
+/// The range of a variable, and its value at the start.
+#[derive(Clone, Copy, Debug, PartialEq, Eq)]
+pub struct VariableRange {
+    pub low: i64,
+    pub high: i64,
+    pub start: i64,
+}
+
+impl VariableRange {
+    /// What a `var` item says of its variable.
+    pub fn of(variable: &Variable) -> Self
+        ensures { result ≡ range_of variable.now }
+    {
+        VariableRange {
+            low: bound_value(&variable.low),
+            high: bound_value(&variable.high),
+            start: bound_value(&variable.start),
+        }
+    }
+}
+
+fn bound_value(bound: &Bound) -> i64
+    ensures { result ≡ bound_value bound.now }
+{
+    let magnitude = bound.magnitude.value.value();
+    match bound.minus {
+        Some(_) => -magnitude,
+        None => magnitude,
+    }
+}
+
+/// The declared names of an atomic model, each kind in the order of its declarations. Of a name that is
+/// declared twice the first declaration counts.
+#[derive(Drop)]
+pub struct Scope {
+    variables: IndexMap<u32, VariableRange>,
+    phases: IndexSet<u32>,
+    outputs: IndexSet<u32>,
+}
+
+impl Model for Scope {
+    ghost use Rattle.dv_eval.specs.Scope as scope;
+
+    ghost Value = { scope.Scope };
+
+    ghost view = { λ e. record { variables = e.variables.entries; phases = e.phases.keys; outputs = e.outputs.keys } };
+}
+
+impl Scope {
+    /// No names declared.
+    pub fn new(alloc: Global) -> Self
+        ensures { result ≡ nothing_declared }
+    {
+        Scope {
+            variables: IndexMap::new(alloc),
+            phases: IndexSet::new(alloc),
+            outputs: IndexSet::new(alloc),
+        }
+    }
+
+    /// What a model declares.
+    ///
+    /// # Errors
+    ///
+    /// No memory for the names.
+    pub fn of(alloc: Global, model: &Atomic) -> Result<Self, AllocError>
+        ensures { IfOk result (λ scope. scope ≡ scope_of (atomic_of model.now)) }
+    {
+        Ok(Scope {
+            variables: variables_of(alloc, &model.declarations)?,
+            phases: phase_names(alloc, &model.phases)?,
+            outputs: output_names(alloc, &model.declarations)?,
+        })
+    }
+
+    /// The place of a variable.
+    pub fn variable(&self, name: u32) -> Option<usize>
+        ensures { result ≡ place_of name (names_of self.now.variables) }
+    {
+        self.variables.get_index_of(&name)
+    }
+
+    /// The place of a phase.
+    pub fn phase(&self, name: u32) -> Option<u32>
+        ensures { result ≡ place_of name self.now.phases }
+    {
+        let place = self.phases.get_index_of(&name)?;
+        Some(place_number(self.phases.as_slice(), place))
+    }
+
+    /// The place of an output port.
+    pub fn output(&self, name: u32) -> Option<usize>
+        ensures { result ≡ place_of name self.now.outputs }
+    {
+        self.outputs.get_index_of(&name)
+    }
+
+    /// The range of the variable at a place.
+    pub fn range(&self, place: usize) -> Option<VariableRange>
+        ensures { result ≡ option_map (λ v. v.1) (slice_get self.now.variables place) }
+    {
+        let (_, range) = self.variables.get_index(place)?;
+        Some(*range)
+    }
+
+    /// The name of the phase at a place.
+    pub fn phase_name(&self, place: u32) -> Option<u32>
+        ensures { result ≡ slice_get self.now.phases place }
+    {
+        self.phases.get_index(place as usize).copied()
+    }
+
+    /// The names of the variables by place.
+    pub fn variables(&self) -> &[u32]
+        ensures { result.now ≡ names_of self.now.variables }
+    {
+        self.variables.keys().as_slice()
+    }
+
+    /// The ranges of the variables by place.
+    pub fn ranges(&self) -> &[VariableRange]
+        ensures { result.now ≡ map (λ v. v.1) self.now.variables }
+    {
+        self.variables.values().as_slice()
+    }
+
+    /// The names of the phases by place.
+    pub fn phases(&self) -> &[u32]
+        ensures { result.now ≡ self.now.phases }
+    {
+        self.phases.as_slice()
+    }
+
+    /// The names of the output ports by place.
+    pub fn outputs(&self) -> &[u32]
+        ensures { result.now ≡ self.now.outputs }
+    {
+        self.outputs.as_slice()
+    }
+
+    /// The number of output ports.
+    pub fn output_count(&self) -> usize
+        ensures { result ≡ length self.now.outputs }
+    {
+        self.outputs.len()
+    }
+}
+
+fn variables_of(
+    alloc: Global,
+    declarations: &[Declaration],
+) -> Result<IndexMap<u32, VariableRange>, AllocError>
+    ensures { IfOk result (λ variables. variables.entries ≡ with_variables [] (variables_in declarations.now)) }
+{
+    let mut variables = IndexMap::new(alloc);
+    for declaration in declarations {
+        if let Declaration::Var(variable) = declaration {
+            declare_variable(&mut variables, variable)?;
+        }
+    }
+    Ok(variables)
+}
+
+fn output_names(alloc: Global, declarations: &[Declaration]) -> Result<IndexSet<u32>, AllocError>
+    ensures { IfOk result (λ names. names.keys ≡ with_names [] (outputs_in declarations.now)) }
+{
+    let mut names = IndexSet::new(alloc);
+    for declaration in declarations {
+        if let Declaration::Out(port) = declaration {
+            declare_name(&mut names, port)?;
+        }
+    }
+    Ok(names)
+}
+
+fn phase_names(alloc: Global, phases: &[Phases]) -> Result<IndexSet<u32>, AllocError>
+    ensures { IfOk result (λ names. names.keys ≡ with_names [] (phases_in (map phases_of phases.now))) }
+{
+    let mut names = IndexSet::new(alloc);
+    for item in phases {
+        declare_names(&mut names, &item.names)?;
+    }
+    Ok(names)
+}
+
+fn declare_variable(
+    variables: &mut IndexMap<u32, VariableRange>,
+    variable: &Variable,
+) -> Result<(), AllocError>
+    ensures { OnOk result (variables.new.entries ≡ with_variable variables.old.entries variable.now) }
+{
+    if !variables.contains_key(&variable.name.number) {
+        variables.insert(variable.name.number, VariableRange::of(variable))?;
+    }
+    Ok(())
+}
+
+fn declare_name(names: &mut IndexSet<u32>, name: &Name) -> Result<(), AllocError>
+    ensures { OnOk result (names.new.keys ≡ with_name names.old.keys name.now) }
+{
+    names.insert(name.number)?;
+    Ok(())
+}
+
+fn declare_names(names: &mut IndexSet<u32>, declared: &[Name]) -> Result<(), AllocError>
+    ensures { OnOk result (names.new.keys ≡ with_names names.old.keys declared.now) }
+{
+    for name in declared {
+        declare_name(names, name)?;
+    }
+    Ok(())
+}
+
+// A place among names of 32 bits, no two of them equal, has 32 bits.
+fn place_number(names: &[u32], place: usize) -> u32
+    requires distinct { IsDistinct nat_eq names.now }
+    requires within { place < length names.now }
+    ensures { result ≡ place }
+{
+    place as u32
+}

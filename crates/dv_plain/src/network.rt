@@ -1,0 +1,199 @@
+//! The components of a run at one instant: what they send, what leaves, and how they react.
+
+ghost use Rattle.std.specs.Prelude.{◌≡◌, ℕ, ◌≤◌, ◌<◌, [], ◌∷◌, ◌++◌, length, map, slice_index_or, slice_set, vec_len, IfOk, OnOk, None};
+ghost use Rattle.dv_syntax.specs.Trees.{file_of};
+ghost use Rattle.dv_bag.specs.Part.{joined};
+ghost use Rattle.dv_devs.specs.Network.{components_after, entries_by, entry_of, instant as events_of, outer_from, part_of_instant};
+ghost use Rattle.dv_tree.specs.Instances.{instances};
+ghost use Rattle.dv_plain.specs.Components.{AreWaitsOfRun, components_of, rank_of};
+ghost use Rattle.dv_plain.specs.Outputs.{fault_of, output_from, outputs_at, sent_of};
+ghost use Rattle.dv_plain.specs.Source.{network_of};
+
+use crate::atom::Atom;
+use crate::component::Running;
+use crate::instant::Instant;
+use dv_bag::{Bags, Entry, Fault, Outer, Part, Sent, What};
+use dv_check::GREATEST_NAMES;
+use dv_tree::Tree;
+use std::alloc::{AllocError, Global};
+use std::mem;
+
+/// What the output functions give at an instant, component by component: what is sent, and the faults.
+#[derive(Drop)]
+pub struct Outputs {
+    pub sent: Vec<Sent>,
+    pub faults: Vec<Option<Fault>>,
+}
+
+impl Outputs {
+    fn push(&mut self, alloc: Global, output: Result<Sent, Fault>) -> Result<(), AllocError>
+        ensures sent { OnOk result
+            (self.new.sent.items ≡ self.old.sent.items ++ sent_of output ∷ []) }
+        ensures faults { OnOk result
+            (self.new.faults.items ≡ self.old.faults.items ++ fault_of output ∷ []) }
+    {
+        match output {
+            Ok(sent) => {
+                self.sent.push(sent)?;
+                self.faults.push(None)?;
+            }
+            Err(fault) => {
+                self.sent.push(Sent::empty(alloc, 0))?;
+                self.faults.push(Some(fault))?;
+            }
+        }
+        Ok(())
+    }
+
+    // Takes out what the output function of a component gave. No bags are left in its place.
+    fn take(&mut self, alloc: Global, k: usize) -> Result<Result<Sent, Fault>, AllocError>
+        requires sent { k < vec_len self.old.sent }
+        requires faults { k < vec_len self.old.faults }
+        ensures output { IfOk result (λ output. output
+            ≡ output_from (slice_index_or self.old.faults.items k None)
+            (slice_index_or self.old.sent.items k [])) }
+        ensures sent { IfOk result (λ output.
+            self.new.sent.items ≡ slice_set self.old.sent.items k []) }
+        ensures faults { IfOk result (λ output. self.new.faults.items ≡ self.old.faults.items) }
+    {
+        let sent = mem::replace(&mut self.sent[k], Sent::empty(alloc, 0));
+        match self.faults[k] {
+            Some(fault) => Ok(Err(fault)),
+            None => Ok(Ok(sent)),
+        }
+    }
+}
+
+/// What the output functions of all components give at an instant.
+///
+/// # Errors
+///
+/// No memory for what is sent.
+fn emit_all(
+    alloc: Global,
+    tree: &Tree,
+    instant: &Instant,
+    components: &[Running],
+) -> Result<Outputs, AllocError>
+    requires matched { length components.now ≡ length (instances (file_of tree.now.file)) }
+    requires waits { AreWaitsOfRun instant.now.limit components.now }
+    ensures sent { IfOk result (λ e. e.sent.items ≡ map sent_of
+        (outputs_at instant.now (file_of tree.now.file) components.now)) }
+    ensures faults { IfOk result (λ e. e.faults.items ≡ map fault_of
+        (outputs_at instant.now (file_of tree.now.file) components.now)) }
+{
+    let mut emitted = Outputs {
+        sent: Vec::new(alloc),
+        faults: Vec::new(alloc),
+    };
+    for (k, component) in components.iter().enumerate() {
+        let output = component.emit(alloc, instant, &Atom::of(tree, k))?;
+        emitted.push(alloc, output)?;
+    }
+    Ok(emitted)
+}
+
+// The entry of a component, where something happened to it.
+fn push_event(
+    instant: &Instant,
+    component: u32,
+    event: Option<(What, Sent)>,
+    trace: &mut Part,
+) -> Result<(), AllocError>
+    ensures { OnOk result (trace.new ≡ record trace.old {
+      entries = trace.old.entries
+          ++ entry_of instant.now.limit (rank_of instant.now) component event;
+    }) }
+{
+    if let Some((what, sent)) = event {
+        trace.push_entry(Entry {
+            time: instant.time,
+            component,
+            what,
+            sent,
+        })?;
+    }
+    Ok(())
+}
+
+// What happens to each component at an instant, with its entry.
+fn react_all(
+    alloc: Global,
+    tree: &Tree,
+    instant: &Instant,
+    emitted: &mut Outputs,
+    components: &mut [Running],
+    trace: &mut Part,
+) -> Result<(), AllocError>
+    requires matched { length components.old ≡ length (instances (file_of tree.now.file)) }
+    requires waits { AreWaitsOfRun instant.now.limit components.old }
+    requires sent { emitted.old.sent.items ≡ map sent_of
+        (outputs_at instant.now (file_of tree.now.file) components.old) }
+    requires faults { emitted.old.faults.items ≡ map fault_of
+        (outputs_at instant.now (file_of tree.now.file) components.old) }
+    ensures components { OnOk result (components_of instant.now.limit components.new
+        ≡ components_after instant.now.limit (network_of instant.now.limit (file_of tree.now.file))
+        (rank_of instant.now) [] (components_of instant.now.limit components.old)) }
+    ensures entries { OnOk result (trace.new ≡ record trace.old {
+      entries = trace.old.entries ++ entries_by instant.now.limit (rank_of instant.now)
+          (network_of instant.now.limit (file_of tree.now.file)).numbers
+          (events_of instant.now.limit (network_of instant.now.limit (file_of tree.now.file))
+          (rank_of instant.now) [] (components_of instant.now.limit components.old));
+    }) }
+    ensures waits { OnOk result (AreWaitsOfRun instant.now.limit components.new) }
+{
+    for k in 0..tree.component_count() {
+        let output = emitted.take(alloc, k)?;
+        let event = components[k].react(alloc, instant, &Atom::of(tree, k), output)?;
+        push_event(instant, k as u32, event, trace)?;
+    }
+    Ok(())
+}
+
+// The lines of what leaves the model at an instant, by port.
+fn leave(instant: &Instant, leaving: &Bags, trace: &mut Part) -> Result<(), AllocError>
+    requires { length leaving.now ≤ GREATEST_NAMES }
+    ensures { OnOk result (trace.new ≡ record trace.old {
+      outer = trace.old.outer ++ outer_from instant.now.limit (rank_of instant.now) 0 leaving.now;
+    }) }
+{
+    for (port, values) in leaving.as_slice().iter().enumerate() {
+        if !values.is_empty() {
+            trace.push_outer(Outer {
+                time: instant.time,
+                port: port as u32,
+                values: values.clone()?,
+            })?;
+        }
+    }
+    Ok(())
+}
+
+/// One instant: the imminent components send, what they send leaves, and they change.
+///
+/// # Errors
+///
+/// No memory for the entries. The components and the trace may have changed.
+pub fn run_instant(
+    alloc: Global,
+    tree: &Tree,
+    instant: &Instant,
+    components: &mut [Running],
+    trace: &mut Part,
+) -> Result<(), AllocError>
+    requires matched { length components.old ≡ length (instances (file_of tree.now.file)) }
+    requires waits { AreWaitsOfRun instant.now.limit components.old }
+    ensures components { OnOk result (components_of instant.now.limit components.new
+        ≡ components_after instant.now.limit (network_of instant.now.limit (file_of tree.now.file))
+        (rank_of instant.now) [] (components_of instant.now.limit components.old)) }
+    ensures trace { OnOk result (trace.new ≡ joined trace.old
+        (part_of_instant instant.now.limit (network_of instant.now.limit (file_of tree.now.file))
+        (rank_of instant.now) [] (components_of instant.now.limit components.old))) }
+    ensures waits { OnOk result (AreWaitsOfRun instant.now.limit components.new) }
+{
+    let mut emitted = emit_all(alloc, tree, instant, components)?;
+    let leaving = tree.route(alloc, &emitted.sent)?;
+    react_all(alloc, tree, instant, &mut emitted, components, trace)?;
+    leave(instant, &leaving, trace)?;
+    Ok(())
+}

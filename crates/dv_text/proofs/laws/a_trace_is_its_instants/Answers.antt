@@ -1,0 +1,18 @@
+use Rattle.std.proofs.Common.{◌≡◌, ◌<◌, ◌++◌, ℕ, subst, sym, ap}
+use Rattle.std.specs.declared.cmp.Ordering.TheVariants.{Less}
+use Rattle.dv_time.specs.Time.{end_of, rank, time_cmp, time_of}
+use Rattle.dv_devs.specs.Network.{components_at}
+use Rattle.dv_text.specs.Texts.{ending_text}
+use Rattle.dv_text.specs.declared.writing.Ending.TheVariants.{Horizon}
+use Rattle.dv_text.proofs.Instants.{trace-instants}
+use Rattle.dv_text.proofs.laws.a_trace_is_its_instants.Goals as goal
+
+pub returns-clause-lines : goal.returns-clause-lines
+returns-clause-lines g c =
+    let law = c.instants_are_at_their_time.ensures in
+    λ all outputs limit net inputs n.
+    trace-instants limit net inputs all outputs (λ k. law.at limit net k (inputs k) (components_at limit net inputs k)) (law.trace limit net inputs) n
+
+pub returns-clause-whole : goal.returns-clause-whole
+returns-clause-whole g c = λ all outputs limit net inputs horizon.
+    ap (λ t. t ++ ending_text (Horizon horizon)) (returns-clause-lines g c all outputs limit net inputs (end_of limit horizon))

@@ -1,0 +1,109 @@
+//! Reads the words of a command line.
+
+ghost use Rattle.std.specs.Prelude.{◌≤◌, IfSome};
+
+use crate::request::{Request, RequestError, Run, Usage};
+use clap::error::ErrorKind;
+use clap::{Arg, ArgAction, ArgMatches, Command};
+use dv_job::GREATEST_LIMIT;
+use dv_time::GREATEST_TICK;
+use std::alloc::{AllocError, Global};
+
+/// What the words ask for; the first word is the program's name.
+pub fn request_of(alloc: Global, words: &[String]) -> Result<Request, RequestError> {
+    let matches = match command(alloc)?.try_get_matches_from(words) {
+        Ok(matches) => matches,
+        Err(error) => return Err(error_of(alloc, &error)),
+    };
+    match matches.subcommand() {
+        Some((_, run)) => Ok(Request::Run(run_of(alloc, run)?)),
+        None => Err(refused(alloc, "a subcommand is wanted")),
+    }
+}
+
+/// The command line that is read.
+fn command<'a>(alloc: Global) -> Result<Command<'a>, AllocError> {
+    let model = Arg::new(alloc, "model")
+        .value_name("MODEL")
+        .required(true)
+        .help("the file of the model");
+    let horizon = Arg::new(alloc, "horizon")
+        .long("horizon")
+        .value_name("H")
+        .required(true)
+        .action(ArgAction::Set)
+        .help("the last tick of the run, 0 to 10^12");
+    let microsteps = Arg::new(alloc, "microsteps")
+        .long("microsteps")
+        .value_name("L")
+        .action(ArgAction::Set)
+        .help("the greatest microstep of a tick, 1 to 1000 (20)");
+    let run = Command::new(alloc, "run")
+        .about("Runs a model and prints its trace")
+        .arg(model)?
+        .arg(horizon)?
+        .arg(microsteps)?;
+    Command::new(alloc, "pdevs")
+        .bin_name("pdevs")?
+        .about("Runs Parallel DEVS models")
+        .subcommand_required(true)
+        .subcommand(run)
+}
+
+fn run_of(alloc: Global, matches: &ArgMatches) -> Result<Run, RequestError> {
+    let Some(model) = matches.get_str("model") else {
+        return Err(refused(alloc, "a model is wanted"));
+    };
+    let Some(horizon) = matches
+        .get_str("horizon")
+        .and_then(|text| number(text, GREATEST_TICK))
+    else {
+        return Err(refused(alloc, "the horizon is a number from 0 to 1000000000000"));
+    };
+    let microsteps = match matches.get_str("microsteps") {
+        None => None,
+        Some(text) => match number(text, u64::from(GREATEST_LIMIT)) {
+            Some(limit) if limit >= 1 => Some(limit as u32),
+            _ => return Err(refused(alloc, "the microstep limit is a number from 1 to 1000")),
+        },
+    };
+    Ok(Run {
+        model: String::from_str(alloc, model)?,
+        horizon,
+        microsteps,
+    })
+}
+
+/// The number that decimal digits spell, where it is at most the greatest.
+fn number(text: &str, greatest: u64) -> Option<u64>
+    ensures { IfSome result (λ n. n ≤ greatest) }
+{
+    if text.is_empty() || !text.bytes().all(|byte| byte.is_ascii_digit()) {
+        return None;
+    }
+    let number = text.parse::<u64>().ok()?;
+    if number <= greatest {
+        Some(number)
+    } else {
+        None
+    }
+}
+
+/// The text of an error of the command line.
+fn error_of(alloc: Global, error: &clap::Error) -> RequestError {
+    if matches!(error.kind(), ErrorKind::OutOfMemory) {
+        return RequestError::Memory;
+    }
+    match error.to_string(alloc) {
+        Ok(text) => RequestError::Usage(Usage { text }),
+        Err(_) => RequestError::Memory,
+    }
+}
+
+/// A value that is out of its range.
+fn refused(alloc: Global, reason: &str) -> RequestError {
+    match format!(in alloc; "error: {reason}\n\nFor more information, try '--help'.\n") {
+        Ok(text) => RequestError::Usage(Usage { text }),
+        Err(_) => RequestError::Memory,
+    }
+}
