@@ -177,8 +177,10 @@ impl Bag {
 // Where a value stands among the pairs, or where it would stand.
 fn search(pairs: &[(i64, u64)], value: i64) -> Result<usize, usize>
     requires { IsBag pairs.now }
-    ensures found { IfOk result (λ place. (place ≡ place_of value pairs.now) × (place < length pairs.now) × (0 < count_of value pairs.now)) }
-    ensures absent { IfErr result (λ place. (place ≡ place_of value pairs.now) × (place ≤ length pairs.now) × (count_of value pairs.now ≡ 0)) }
+    ensures found { IfOk result (λ place. (place ≡ place_of value pairs.now)
+        × (place < length pairs.now) × (0 < count_of value pairs.now)) }
+    ensures absent { IfErr result (λ place. (place ≡ place_of value pairs.now)
+        × (place ≤ length pairs.now) × (count_of value pairs.now ≡ 0)) }
 {
     pairs.binary_search_by_key(&value, |&(present, _)| present)
 }
@@ -302,7 +304,8 @@ impl Bags {
     /// No memory for a value that the bag lacks. All bags are as before.
     pub fn insert(&mut self, port: usize, value: i64) -> Result<(), AllocError>
         requires { port < length self.old }
-        ensures ok { OnOk result (self.new ≡ slice_set self.old port (with_copies value 1 (bag_at self.old port))) }
+        ensures ok { OnOk result
+            (self.new ≡ slice_set self.old port (with_copies value 1 (bag_at self.old port))) }
         ensures err { OnErr result (self.new ≡ self.old) }
     {
         let bag = &mut self.bags[port];
@@ -316,7 +319,8 @@ impl Bags {
     /// No memory for as many more values as the other bag has. All bags are as before.
     pub fn union_at(&mut self, port: usize, values: &Bag) -> Result<(), AllocError>
         requires { port < length self.old }
-        ensures ok { OnOk result (self.new ≡ slice_set self.old port (union (bag_at self.old port) values.now)) }
+        ensures ok { OnOk result
+            (self.new ≡ slice_set self.old port (union (bag_at self.old port) values.now)) }
         ensures err { OnErr result (self.new ≡ self.old) }
     {
         let bag = &mut self.bags[port];
@@ -335,7 +339,8 @@ impl Bags {
         from_port: usize,
     ) -> Result<(), AllocError>
         requires { port < length self.old }
-        ensures ok { OnOk result (self.new ≡ slice_set self.old port (union (bag_at self.old port) (bag_at sent.now from_port))) }
+        ensures ok { OnOk result (self.new ≡ slice_set self.old port
+            (union (bag_at self.old port) (bag_at sent.now from_port))) }
         ensures err { OnErr result (self.new ≡ self.old) }
     {
         let values = sent.bag(from_port)?;

@@ -44,7 +44,8 @@ impl Part {
     ///
     /// No memory for one more. The part is as before.
     pub fn push_entry(&mut self, entry: Entry) -> Result<(), AllocError>
-        ensures ok { OnOk result (self.new ≡ record self.old { entries = self.old.entries ++ entry ∷ [] }) }
+        ensures ok { OnOk result
+            (self.new ≡ record self.old { entries = self.old.entries ++ entry ∷ [] }) }
         ensures err { OnErr result (self.new ≡ self.old) }
     {
         Ok(self.entries.push(entry)?)
@@ -56,7 +57,8 @@ impl Part {
     ///
     /// No memory for one more. The part is as before.
     pub fn push_outer(&mut self, outer: Outer) -> Result<(), AllocError>
-        ensures ok { OnOk result (self.new ≡ record self.old { outer = self.old.outer ++ outer ∷ [] }) }
+        ensures ok { OnOk result
+            (self.new ≡ record self.old { outer = self.old.outer ++ outer ∷ [] }) }
         ensures err { OnErr result (self.new ≡ self.old) }
     {
         Ok(self.outer.push(outer)?)

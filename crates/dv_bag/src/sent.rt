@@ -102,7 +102,8 @@ impl Sent {
     /// No memory for a value that the port lacks. All is as before.
     pub fn insert(&mut self, port: usize, value: i64) -> Result<(), AllocError>
         requires { port < length self.old }
-        ensures ok { OnOk result (self.new ≡ slice_set self.old port (with_copies value 1 (bag_at self.old port))) }
+        ensures ok { OnOk result
+            (self.new ≡ slice_set self.old port (with_copies value 1 (bag_at self.old port))) }
         ensures err { OnErr result (self.new ≡ self.old) }
     {
         if let Some(place) = find(self.sendings.as_slice(), port, value) {

@@ -24,7 +24,8 @@ use std::alloc::{AllocError, Global};
 
 /// Tests an atomic model.
 pub fn check_atomic(alloc: Global, model: &Atomic, found: &mut Findings) -> Result<(), AllocError>
-    ensures { OnOk result (found.new ≡ with_refusals found.old (atomic_refusals (atomic_of model.now))) }
+    ensures { OnOk result (found.new ≡ with_refusals found.old
+        (atomic_refusals (atomic_of model.now))) }
 {
     check_names(alloc, model, found)?;
     check_standing(alloc, model, found)?;
@@ -36,7 +37,8 @@ pub fn check_atomic(alloc: Global, model: &Atomic, found: &mut Findings) -> Resu
 
 // Names that are declared twice or too often.
 fn check_names(alloc: Global, model: &Atomic, found: &mut Findings) -> Result<(), AllocError>
-    ensures { OnOk result (found.new ≡ with_refusals found.old (names_refusals (atomic_of model.now))) }
+    ensures { OnOk result (found.new ≡ with_refusals found.old
+        (names_refusals (atomic_of model.now))) }
 {
     let phases = names::phases(alloc, &model.phases)?;
     let variables = names::variables(alloc, &model.declarations)?;
@@ -58,7 +60,8 @@ fn check_ruled(
     rules: &[Rule],
     found: &mut Findings,
 ) -> Result<(), AllocError>
-    ensures { OnOk result (found.new ≡ with_refusals found.old (repeats E6 (ruled_phases sort (map rule_of rules.now)))) }
+    ensures { OnOk result (found.new ≡ with_refusals found.old
+        (repeats E6 (ruled_phases sort (map rule_of rules.now)))) }
 {
     find_repeats(
         alloc,
@@ -70,7 +73,8 @@ fn check_ruled(
 
 // `phases`, `start` and the holds, each of which has to stand once.
 fn check_standing(alloc: Global, model: &Atomic, found: &mut Findings) -> Result<(), AllocError>
-    ensures { OnOk result (found.new ≡ with_refusals found.old (standing_refusals (atomic_of model.now))) }
+    ensures { OnOk result (found.new ≡ with_refusals found.old
+        (standing_refusals (atomic_of model.now))) }
 {
     check_phases_once(alloc, model, found)?;
     check_start_once(alloc, model, found)?;
@@ -78,7 +82,8 @@ fn check_standing(alloc: Global, model: &Atomic, found: &mut Findings) -> Result
 }
 
 fn check_phases_once(alloc: Global, model: &Atomic, found: &mut Findings) -> Result<(), AllocError>
-    ensures { OnOk result (found.new ≡ with_refusals found.old (once_refusals model.now.name.place (phases_places (atomic_of model.now).phases))) }
+    ensures { OnOk result (found.new ≡ with_refusals found.old
+        (once_refusals model.now.name.place (phases_places (atomic_of model.now).phases))) }
 {
     let places = phases_places(alloc, &model.phases)?;
     check_once(model.name.place, &places, found);
@@ -86,7 +91,8 @@ fn check_phases_once(alloc: Global, model: &Atomic, found: &mut Findings) -> Res
 }
 
 fn check_start_once(alloc: Global, model: &Atomic, found: &mut Findings) -> Result<(), AllocError>
-    ensures { OnOk result (found.new ≡ with_refusals found.old (once_refusals model.now.name.place (start_places (atomic_of model.now).starts))) }
+    ensures { OnOk result (found.new ≡ with_refusals found.old
+        (once_refusals model.now.name.place (start_places (atomic_of model.now).starts))) }
 {
     let places = start_places(alloc, &model.starts)?;
     check_once(model.name.place, &places, found);
@@ -94,7 +100,8 @@ fn check_start_once(alloc: Global, model: &Atomic, found: &mut Findings) -> Resu
 }
 
 fn check_holds_once(alloc: Global, model: &Atomic, found: &mut Findings) -> Result<(), AllocError>
-    ensures { OnOk result (found.new ≡ with_refusals found.old (holds_once_refusals (atomic_of model.now))) }
+    ensures { OnOk result (found.new ≡ with_refusals found.old
+        (holds_once_refusals (atomic_of model.now))) }
 {
     let held = names::held_phases(alloc, &model.holds)?;
     find_repeats(alloc, RefusalNumber::E10, &held, found)?;
@@ -105,7 +112,8 @@ fn check_holds_once(alloc: Global, model: &Atomic, found: &mut Findings) -> Resu
 }
 
 fn check_holds_stand(model_place: u32, held: &NumberSet, phases: &[Name], found: &mut Findings)
-    ensures { found.new ≡ with_refusals found.old (refusal_if (is_hold_missing (has held.now) phases.now) E10 model_place) }
+    ensures { found.new ≡ with_refusals found.old
+        (refusal_if (is_hold_missing (has held.now) phases.now) E10 model_place) }
 {
     if is_hold_missing(held, phases) {
         found.note(RefusalNumber::E10, model_place);
@@ -153,7 +161,9 @@ fn check_start_hold(
     declarations: &Declarations,
     found: &mut Findings,
 ) -> Result<(), AllocError>
-    ensures { OnOk result (found.new ≡ with_refusals found.old (start_hold_refusals (known_by declarations.now) (atomic_of model.now) model.now.starts.items)) }
+    ensures { OnOk result (found.new ≡ with_refusals found.old
+        (start_hold_refusals (known_by declarations.now) (atomic_of model.now)
+        model.now.starts.items)) }
 {
     let Some(start) = model.starts.first() else {
         return Ok(());
@@ -171,7 +181,8 @@ fn is_start_fault(
     model: &Atomic,
     phase: &Name,
 ) -> Result<bool, AllocError>
-    ensures { IfOk result (λ faults. faults ≡ is_start_fault (known_by declarations.now) (atomic_of model.now) phase.now) }
+    ensures { IfOk result (λ faults. faults ≡ is_start_fault (known_by declarations.now)
+        (atomic_of model.now) phase.now) }
 {
     if !can_ask_hold(alloc, declarations, model, phase)? {
         return Ok(false);
@@ -188,7 +199,9 @@ fn can_ask_hold(
     model: &Atomic,
     phase: &Name,
 ) -> Result<bool, AllocError>
-    ensures { IfOk result (λ can_ask. can_ask ≡ can_ask_hold (known_by declarations.now) (variables_in (atomic_of model.now).declarations) phase.now (hold_ticks phase.now.number (atomic_of model.now).holds)) }
+    ensures { IfOk result (λ can_ask. can_ask ≡ can_ask_hold (known_by declarations.now)
+        (variables_in (atomic_of model.now).declarations) phase.now
+        (hold_ticks phase.now.number (atomic_of model.now).holds)) }
 {
     let ticks = phase_ticks(model, phase.number);
     if !is_hold_fine(declarations, phase, ticks) {
@@ -202,7 +215,8 @@ fn can_ask_hold(
 }
 
 fn is_hold_fine(declarations: &Declarations, phase: &Name, ticks: Option<&Ticks>) -> bool
-    ensures { result ≡ is_hold_fine (known_by declarations.now) phase.now (ticks_found (option_copied ticks.entry)) }
+    ensures { result ≡ is_hold_fine (known_by declarations.now) phase.now
+        (ticks_found (option_copied ticks.entry)) }
 {
     let mut wrong = Findings::new();
     declarations.check_phase(phase, &mut wrong);
@@ -211,7 +225,8 @@ fn is_hold_fine(declarations: &Declarations, phase: &Name, ticks: Option<&Ticks>
 }
 
 fn check_found_ticks(declarations: &Declarations, ticks: Option<&Ticks>, found: &mut Findings)
-    ensures { found.new ≡ with_refusals found.old (ticks_refusals (known_by declarations.now) (ticks_found (option_copied ticks.entry))) }
+    ensures { found.new ≡ with_refusals found.old (ticks_refusals (known_by declarations.now)
+        (ticks_found (option_copied ticks.entry))) }
 {
     if let Some(ticks) = ticks {
         declarations.check_ticks(ticks, found);

@@ -81,7 +81,8 @@ fn check_file(alloc: Global, file: &File, found: &mut Findings) -> Result<(), Al
 }
 
 fn check_model_names(alloc: Global, file: &File, found: &mut Findings) -> Result<(), AllocError>
-    ensures { OnOk result (found.new ≡ with_refusals found.old (repeats E6 (map name_of_model (file_of file.now).models))) }
+    ensures { OnOk result (found.new ≡ with_refusals found.old
+        (repeats E6 (map name_of_model (file_of file.now).models))) }
 {
     let names = names_of(alloc, &file.models)?;
     find_repeats(alloc, RefusalNumber::E6, &names, found)?;
@@ -99,7 +100,8 @@ fn names_of(alloc: Global, models: &[Model]) -> Result<Vec<Name>, AllocError>
 }
 
 fn check_models(alloc: Global, file: &File, found: &mut Findings) -> Result<(), AllocError>
-    ensures { OnOk result (found.new ≡ with_refusals found.old (flat_map (model_refusals (file_of file.now).models) (file_of file.now).models)) }
+    ensures { OnOk result (found.new ≡ with_refusals found.old
+        (flat_map (model_refusals (file_of file.now).models) (file_of file.now).models)) }
 {
     let kinds = kinds_of(alloc, &file.models)?;
     for model in &file.models {
@@ -114,7 +116,8 @@ fn check_model(
     model: &Model,
     found: &mut Findings,
 ) -> Result<(), AllocError>
-    ensures { OnOk result ((models : List ModelTree) → faces_by kinds.now ≡ faces_in models → found.new ≡ with_refusals found.old (model_refusals models (model_of model.now))) }
+    ensures { OnOk result ((models : List ModelTree) → faces_by kinds.now ≡ faces_in models
+        → found.new ≡ with_refusals found.old (model_refusals models (model_of model.now))) }
 {
     match model {
         Model::Atomic(atomic) => check_atomic(alloc, atomic, found)?,
@@ -125,7 +128,8 @@ fn check_model(
 
 // The first model of a name.
 fn model_named(models: &[Model], number: u32) -> Option<&Model>
-    ensures { option_map model_of (option_copied result) ≡ model_named number (map model_of models.now) }
+    ensures { option_map model_of (option_copied result) ≡ model_named number
+        (map model_of models.now) }
 {
     for model in models {
         if name_of(model).number == number {
@@ -136,7 +140,9 @@ fn model_named(models: &[Model], number: u32) -> Option<&Model>
 }
 
 fn check_root(file: &File, found: &mut Findings)
-    ensures { found.new ≡ with_refusals found.old (root_refusals (model_named file.now.root.number (file_of file.now).models) file.now.root.place) }
+    ensures { found.new ≡ with_refusals found.old
+        (root_refusals (model_named file.now.root.number (file_of file.now).models)
+        file.now.root.place) }
 {
     match model_named(&file.models, file.root.number) {
         Some(model) => check_root_model(model, file.root.place, found),
@@ -145,7 +151,8 @@ fn check_root(file: &File, found: &mut Findings)
 }
 
 fn check_root_model(model: &Model, place: u32, found: &mut Findings)
-    ensures { found.new ≡ with_refusals found.old (root_refusals (Some (model_of model.now)) place) }
+    ensures { found.new ≡ with_refusals found.old
+        (root_refusals (Some (model_of model.now)) place) }
 {
     match model {
         Model::Atomic(_) => found.note(RefusalNumber::E16, place),
@@ -154,7 +161,8 @@ fn check_root_model(model: &Model, place: u32, found: &mut Findings)
 }
 
 fn check_root_limit(model: &Model, place: u32, found: &mut Findings)
-    ensures { found.new ≡ with_refusals found.old (root_limit_refusals (Some (model_of model.now)) place) }
+    ensures { found.new ≡ with_refusals found.old
+        (root_limit_refusals (Some (model_of model.now)) place) }
 {
     match model {
         Model::Atomic(_) => {}

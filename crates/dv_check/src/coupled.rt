@@ -25,7 +25,8 @@ pub fn check_coupled(
     model: &Coupled,
     found: &mut Findings,
 ) -> Result<(), AllocError>
-    ensures { OnOk result ((models : List ModelTree) → faces_by kinds.now ≡ faces_in models → found.new ≡ with_refusals found.old (coupled_refusals models (coupled_of model.now))) }
+    ensures { OnOk result ((models : List ModelTree) → faces_by kinds.now ≡ faces_in models
+        → found.new ≡ with_refusals found.old (coupled_refusals models (coupled_of model.now))) }
 {
     let interior = Interior::of(alloc, model, kinds)?;
     check_within(alloc, &interior, model, found)
@@ -37,7 +38,8 @@ fn check_within(
     model: &Coupled,
     found: &mut Findings,
 ) -> Result<(), AllocError>
-    ensures { OnOk result (found.new ≡ with_refusals found.old (coupled_refusals_by (interior_by interior.now) (coupled_of model.now))) }
+    ensures { OnOk result (found.new ≡ with_refusals found.old
+        (coupled_refusals_by (interior_by interior.now) (coupled_of model.now))) }
 {
     let parts = part_names(alloc, &model.parts)?;
     find_repeats(alloc, RefusalNumber::E6, &model.outputs, found)?;
@@ -51,7 +53,8 @@ fn check_within(
 }
 
 fn check_parts(interior: &Interior, parts: &[Part], found: &mut Findings)
-    ensures { found.new ≡ with_refusals found.old (flat_map (part_refusals (interior_by interior.now)) parts.now) }
+    ensures { found.new ≡ with_refusals found.old
+        (flat_map (part_refusals (interior_by interior.now)) parts.now) }
 {
     for part in parts {
         check_part_model(interior, part, found);
@@ -59,7 +62,8 @@ fn check_parts(interior: &Interior, parts: &[Part], found: &mut Findings)
 }
 
 fn check_links(interior: &Interior, links: &[Link], found: &mut Findings)
-    ensures { found.new ≡ with_refusals found.old (flat_map (link_refusals (interior_by interior.now)) links.now) }
+    ensures { found.new ≡ with_refusals found.old
+        (flat_map (link_refusals (interior_by interior.now)) links.now) }
 {
     for link in links {
         check_link(interior, link, found);
@@ -72,7 +76,8 @@ fn find_repeated_links(
     links: &[Link],
     found: &mut Findings,
 ) -> Result<(), AllocError>
-    ensures { OnOk result (found.new ≡ with_refusals found.old (repeated_links_after (interior_by interior.now) no_link links.now)) }
+    ensures { OnOk result (found.new ≡ with_refusals found.old
+        (repeated_links_after (interior_by interior.now) no_link links.now)) }
 {
     let mut seen = LinkSet::new(alloc);
     for link in links {

@@ -80,7 +80,8 @@ impl Declarations {
         model: &Atomic,
         found: &mut Findings,
     ) -> Result<(), AllocError>
-        ensures { OnOk result (found.new ≡ with_refusals found.old (items_refusals (known_by self.now) (atomic_of model.now))) }
+        ensures { OnOk result (found.new ≡ with_refusals found.old
+            (items_refusals (known_by self.now) (atomic_of model.now))) }
     {
         check_variables(&names::variables(alloc, &model.declarations)?, found);
         self.check_starts(&model.starts, found);
@@ -90,7 +91,8 @@ impl Declarations {
     }
 
     fn check_starts(&self, starts: &[Start], found: &mut Findings)
-        ensures { found.new ≡ with_refusals found.old (flat_map (start_refusals (known_by self.now)) starts.now) }
+        ensures { found.new ≡ with_refusals found.old
+            (flat_map (start_refusals (known_by self.now)) starts.now) }
     {
         for start in starts {
             self.check_phase(&start.phase, found);
@@ -98,7 +100,8 @@ impl Declarations {
     }
 
     fn check_holds(&self, holds: &[Hold], found: &mut Findings)
-        ensures { found.new ≡ with_refusals found.old (flat_map (hold_refusals (known_by self.now)) (map hold_of holds.now)) }
+        ensures { found.new ≡ with_refusals found.old (flat_map (hold_refusals (known_by self.now))
+            (map hold_of holds.now)) }
     {
         for hold in holds {
             self.check_phase(&hold.phase, found);
@@ -107,7 +110,8 @@ impl Declarations {
     }
 
     fn check_rules(&self, rules: &[Rule], found: &mut Findings)
-        ensures { found.new ≡ with_refusals found.old (flat_map (rule_refusals (known_by self.now)) (map rule_of rules.now)) }
+        ensures { found.new ≡ with_refusals found.old (flat_map (rule_refusals (known_by self.now))
+            (map rule_of rules.now)) }
     {
         for rule in rules {
             self.check_phase(&rule.phase, found);
@@ -117,7 +121,8 @@ impl Declarations {
 
     /// Tests the ticks of a hold.
     pub fn check_ticks(&self, ticks: &Ticks, found: &mut Findings)
-        ensures { found.new ≡ with_refusals found.old (ticks_refusals (known_by self.now) (ticks_of ticks.now)) }
+        ensures { found.new ≡ with_refusals found.old
+            (ticks_refusals (known_by self.now) (ticks_of ticks.now)) }
     {
         match ticks {
             Ticks::Forever => {}
@@ -129,7 +134,8 @@ impl Declarations {
 
     /// Tests that a phase is known.
     pub fn check_phase(&self, phase: &Name, found: &mut Findings)
-        ensures { found.new ≡ with_refusals found.old (phase_refusals (known_by self.now) phase.now) }
+        ensures { found.new ≡ with_refusals found.old
+            (phase_refusals (known_by self.now) phase.now) }
     {
         if !self.phases.contains(phase.number) {
             found.note(RefusalNumber::E7, phase.place);
@@ -138,7 +144,8 @@ impl Declarations {
 
     #[cycle(statements)]
     fn check_statements(&self, sort: RuleSort, statements: &[Stmt], found: &mut Findings)
-        ensures { found.new ≡ with_refusals found.old (statements_refusals (known_by self.now) sort (statements_of statements.now)) }
+        ensures { found.new ≡ with_refusals found.old (statements_refusals (known_by self.now) sort
+            (statements_of statements.now)) }
     {
         for statement in statements {
             self.check_statement(sort, statement, found);
@@ -147,7 +154,10 @@ impl Declarations {
 
     #[cycle(statements)]
     fn check_statement(&self, sort: RuleSort, statement: &Stmt, found: &mut Findings)
-        ensures { (rest : Statements) → with_refusals found.new (statements_refusals (known_by self.now) sort rest) ≡ with_refusals found.old (statements_refusals (known_by self.now) sort (statement_before statement.now rest)) }
+        ensures { (rest : Statements)
+            → with_refusals found.new (statements_refusals (known_by self.now) sort rest)
+            ≡ with_refusals found.old (statements_refusals (known_by self.now) sort
+            (statement_before statement.now rest)) }
     {
         trees_keep_blocks();
         match statement {
@@ -186,7 +196,9 @@ impl Declarations {
     }
 
     fn check_assigned(&self, sort: RuleSort, variable: &Name, found: &mut Findings)
-        ensures { found.new ≡ with_refusals found.old (assignment_refusals sort (value_for self.now.sorts variable.now.number) variable.now.place) }
+        ensures { found.new ≡ with_refusals found.old
+            (assignment_refusals sort (value_for self.now.sorts variable.now.number)
+            variable.now.place) }
     {
         match self.sorts.get(variable.number) {
             None => found.note(RefusalNumber::E7, variable.place),
@@ -196,7 +208,8 @@ impl Declarations {
     }
 
     fn check_sent_port(&self, port: &Name, found: &mut Findings)
-        ensures { found.new ≡ with_refusals found.old (sent_port_refusals (value_for self.now.sorts port.now.number) port.now.place) }
+        ensures { found.new ≡ with_refusals found.old
+            (sent_port_refusals (value_for self.now.sorts port.now.number) port.now.place) }
     {
         match self.sorts.get(port.number) {
             None => found.note(RefusalNumber::E7, port.place),
@@ -217,7 +230,8 @@ fn deny_in_output(sort: RuleSort, place: u32, found: &mut Findings)
 
 // And `send` none outside of one.
 fn deny_outside_output(sort: RuleSort, place: u32, found: &mut Findings)
-    ensures { found.new ≡ with_refusals found.old (refusal_if (not (same_sort sort Output)) E9 place) }
+    ensures { found.new ≡ with_refusals found.old
+        (refusal_if (not (same_sort sort Output)) E9 place) }
 {
     if sort != RuleSort::Output {
         found.note(RefusalNumber::E9, place);

@@ -33,16 +33,19 @@ pub fn check_place(
     expression: &Expr,
     found: &mut Findings,
 )
-    ensures { found.new ≡ with_refusals found.old (place_refusals wanted (value_for sorts.now) (expression_of expression.now)) }
+    ensures { found.new ≡ with_refusals found.old (place_refusals wanted (value_for sorts.now)
+        (expression_of expression.now)) }
 {
     let given = check_expression(sorts, expression, found);
     want(wanted, given, found);
 }
 
 fn check_expression(sorts: &Directory<NameSort>, expression: &Expr, found: &mut Findings) -> Typed
-    ensures value_type { result.value_type ≡ type_of (value_for sorts.now) (expression_of expression.now) }
+    ensures value_type { result.value_type ≡ type_of (value_for sorts.now)
+        (expression_of expression.now) }
     ensures place { result.place ≡ first_place (expression_of expression.now) }
-    ensures found { found.new ≡ with_refusals found.old (expression_refusals (value_for sorts.now) (expression_of expression.now)) }
+    ensures found { found.new ≡ with_refusals found.old (expression_refusals (value_for sorts.now)
+        (expression_of expression.now)) }
 {
     match expression {
         Expr::Literal(number) => Typed {
@@ -93,7 +96,8 @@ fn check_value_name(
     found: &mut Findings,
 ) -> Option<ValueType>
     ensures value_type { result ≡ type_of_name (value_for sorts.now name.now.number) }
-    ensures found { found.new ≡ with_refusals found.old (value_name_refusals (value_for sorts.now name.now.number) name.now.place) }
+    ensures found { found.new ≡ with_refusals found.old
+        (value_name_refusals (value_for sorts.now name.now.number) name.now.place) }
 {
     match sorts.get(name.number) {
         Some(NameSort::Variable) => return Some(ValueType::Number),
@@ -106,7 +110,8 @@ fn check_value_name(
 // What an operator makes of its operands.
 fn check_operands(operator: Operator, a: Typed, b: Typed, found: &mut Findings) -> Option<ValueType>
     ensures value_type { result ≡ type_of_operator operator a.value_type b.value_type }
-    ensures found { found.new ≡ with_refusals found.old (operand_refusals operator a.value_type a.place b.value_type b.place) }
+    ensures found { found.new ≡ with_refusals found.old
+        (operand_refusals operator a.value_type a.place b.value_type b.place) }
 {
     match operator {
         Operator::Equal | Operator::Unequal => {
@@ -131,7 +136,8 @@ fn check_operands(operator: Operator, a: Typed, b: Typed, found: &mut Findings) 
 }
 
 fn want_numbers(a: Typed, b: Typed, found: &mut Findings)
-    ensures { found.new ≡ with_refusals found.old (numbers_wanted a.value_type a.place b.value_type b.place) }
+    ensures { found.new ≡ with_refusals found.old
+        (numbers_wanted a.value_type a.place b.value_type b.place) }
 {
     want(ValueType::Number, a, found);
     want(ValueType::Number, b, found);
@@ -139,7 +145,8 @@ fn want_numbers(a: Typed, b: Typed, found: &mut Findings)
 
 // Notes an expression of another type than its place wants.
 fn want(wanted: ValueType, given: Typed, found: &mut Findings)
-    ensures { found.new ≡ with_refusals found.old (type_refusals wanted given.value_type given.place) }
+    ensures { found.new ≡ with_refusals found.old
+        (type_refusals wanted given.value_type given.place) }
 {
     if let Some(value_type) = given.value_type {
         if value_type != wanted {

@@ -31,7 +31,8 @@ pub fn accepted_files()
 
 /// The first refusal is one of the refusals, and none of them precedes it; where there is none, there are no refusals.
 pub fn first_refusal_is_the_least()
-    ensures contained { (rs : List Refusal) (r : Refusal) → first_refusal rs ≡ Some r → Contains rs r }
+    ensures contained { (rs : List Refusal) (r : Refusal) → first_refusal rs ≡ Some r
+        → Contains rs r }
     ensures least { (rs : List Refusal) (r : Refusal) → first_refusal rs ≡ Some r →
         All (λ (x : Refusal). precedes x r ≡ false) rs }
     ensures none { (rs : List Refusal) → first_refusal rs ≡ None → rs ≡ [] }
@@ -61,7 +62,8 @@ pub fn start_states_fit()
 /// From a state that fits its model a rule leads to one that fits, and a `goto` leads to a phase of the model, in which the
 /// state fits too.
 pub fn rules_keep_to_the_ranges()
-    ensures state { (m : AtomicTree) (body : Statements) (s : State) (e : Effect) → fits m s ≡ true →
+    ensures state { (m : AtomicTree) (body : Statements) (s : State) (e : Effect)
+        → fits m s ≡ true →
         effect_of (scope_of m) body s ≡ Ok e → fits m e.state ≡ true }
     ensures goto { (m : AtomicTree) (body : Statements) (s : State) (e : Effect) → fits m s ≡ true →
         effect_of (scope_of m) body s ≡ Ok e → LeadsToPhase (scope_of m) e.goto }
@@ -97,7 +99,8 @@ pub fn a_clock_is_accepted()
 
 /// The same link once more is a repeated link.
 pub fn a_link_stands_once()
-    ensures { refusal_of (clock (link_at 400 ∷ (link_at 450 ∷ []))) ≡ Some (refusal number.E14 450) }
+    ensures { refusal_of (clock (link_at 400 ∷ (link_at 450 ∷ [])))
+        ≡ Some (refusal number.E14 450) }
 {}
 
 /// Of several refusals on one line the first is answered, whatever its number.

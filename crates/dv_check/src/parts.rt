@@ -56,8 +56,10 @@ impl<'a> Interior<'a> {
         model: &Coupled,
         kinds: &'a Directory<ModelKind>,
     ) -> Result<Self, AllocError>
-        ensures ports { IfOk result (λ interior. has interior.ports ≡ among (coupled_of model.now).outputs) }
-        ensures parts { IfOk result (λ interior. value_for interior.parts ≡ parts_in (coupled_of model.now).parts) }
+        ensures ports { IfOk result
+            (λ interior. has interior.ports ≡ among (coupled_of model.now).outputs) }
+        ensures parts { IfOk result
+            (λ interior. value_for interior.parts ≡ parts_in (coupled_of model.now).parts) }
         ensures kinds { IfOk result (λ interior. interior.kinds.now ≡ kinds.now) }
     {
         Ok(Interior {
@@ -71,7 +73,8 @@ impl<'a> Interior<'a> {
 /// Tests that the model of a part is known and atomic.
 #[tactic(auto, unfolding(crate::specs::Models::faces_by))]
 pub fn check_part_model(interior: &Interior, part: &Part, found: &mut Findings)
-    ensures { found.new ≡ with_refusals found.old (part_refusals (interior_by interior.now) part.now) }
+    ensures { found.new ≡ with_refusals found.old
+        (part_refusals (interior_by interior.now) part.now) }
 {
     match interior.kinds.get(part.model.number) {
         None => found.note(RefusalNumber::E7, part.model.place),
@@ -80,7 +83,8 @@ pub fn check_part_model(interior: &Interior, part: &Part, found: &mut Findings)
 }
 
 fn check_is_atomic(kind: &ModelKind, part: &Part, found: &mut Findings)
-    ensures { found.new ≡ with_refusals found.old (part_model_refusals (Some (face_of_kind kind.now)) part.now.model.place) }
+    ensures { found.new ≡ with_refusals found.old
+        (part_model_refusals (Some (face_of_kind kind.now)) part.now.model.place) }
 {
     match kind {
         ModelKind::Atomic(_) => {}
@@ -90,14 +94,16 @@ fn check_is_atomic(kind: &ModelKind, part: &Part, found: &mut Findings)
 
 /// Tests the ends of a link.
 pub fn check_link(interior: &Interior, link: &Link, found: &mut Findings)
-    ensures { found.new ≡ with_refusals found.old (link_refusals (interior_by interior.now) link.now) }
+    ensures { found.new ≡ with_refusals found.old
+        (link_refusals (interior_by interior.now) link.now) }
 {
     check_source(interior, &link.from, found);
     check_target(interior, &link.to, found);
 }
 
 fn check_source(interior: &Interior, end: &End, found: &mut Findings)
-    ensures { found.new ≡ with_refusals found.old (source_refusals (interior_by interior.now) end.now.part end.now.port) }
+    ensures { found.new ≡ with_refusals found.old
+        (source_refusals (interior_by interior.now) end.now.part end.now.port) }
 {
     match end.part {
         None => {
@@ -116,7 +122,8 @@ fn check_source(interior: &Interior, end: &End, found: &mut Findings)
 
 #[tactic(auto, unfolding(crate::specs::Models::faces_by))]
 fn check_part_source(interior: &Interior, part: &Part, port: &Name, found: &mut Findings)
-    ensures { found.new ≡ with_refusals found.old (part_source_refusals (faces_by interior.now.kinds.now part.now.model.number) port.now) }
+    ensures { found.new ≡ with_refusals found.old
+        (part_source_refusals (faces_by interior.now.kinds.now part.now.model.number) port.now) }
 {
     match interior.kinds.get(part.model.number) {
         None => {}
@@ -125,7 +132,8 @@ fn check_part_source(interior: &Interior, part: &Part, port: &Name, found: &mut 
 }
 
 fn check_source_port(kind: &ModelKind, port: &Name, found: &mut Findings)
-    ensures { found.new ≡ with_refusals found.old (part_source_refusals (Some (face_of_kind kind.now)) port.now) }
+    ensures { found.new ≡ with_refusals found.old
+        (part_source_refusals (Some (face_of_kind kind.now)) port.now) }
 {
     match kind {
         ModelKind::Coupled => {}
@@ -138,7 +146,8 @@ fn check_source_port(kind: &ModelKind, port: &Name, found: &mut Findings)
 }
 
 fn check_target(interior: &Interior, end: &End, found: &mut Findings)
-    ensures { found.new ≡ with_refusals found.old (target_refusals (interior_by interior.now) end.now.part end.now.port) }
+    ensures { found.new ≡ with_refusals found.old
+        (target_refusals (interior_by interior.now) end.now.part end.now.port) }
 {
     match end.part {
         None => {
@@ -155,7 +164,8 @@ fn check_target(interior: &Interior, end: &End, found: &mut Findings)
 
 #[tactic(auto, unfolding(crate::specs::Models::faces_by))]
 fn check_part_target(interior: &Interior, part: &Part, port: &Name, found: &mut Findings)
-    ensures { found.new ≡ with_refusals found.old (part_target_refusals (faces_by interior.now.kinds.now part.now.model.number) port.now) }
+    ensures { found.new ≡ with_refusals found.old
+        (part_target_refusals (faces_by interior.now.kinds.now part.now.model.number) port.now) }
 {
     match interior.kinds.get(part.model.number) {
         None => {}
@@ -164,7 +174,8 @@ fn check_part_target(interior: &Interior, part: &Part, port: &Name, found: &mut 
 }
 
 fn check_target_port(kind: &ModelKind, port: &Name, found: &mut Findings)
-    ensures { found.new ≡ with_refusals found.old (part_target_refusals (Some (face_of_kind kind.now)) port.now) }
+    ensures { found.new ≡ with_refusals found.old
+        (part_target_refusals (Some (face_of_kind kind.now)) port.now) }
 {
     match kind {
         ModelKind::Coupled => {}
@@ -208,7 +219,8 @@ fn is_source(interior: &Interior, end: &End) -> bool
 
 #[tactic(auto, unfolding(crate::specs::Models::faces_by))]
 fn is_output_of_part(interior: &Interior, part: &Part, port: u32) -> bool
-    ensures { result ≡ is_output_shown (faces_by interior.now.kinds.now part.now.model.number) port }
+    ensures { result ≡ is_output_shown
+        (faces_by interior.now.kinds.now part.now.model.number) port }
 {
     match interior.kinds.get(part.model.number) {
         None => false,

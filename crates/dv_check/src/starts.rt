@@ -24,7 +24,8 @@ pub struct Starts {
 // The first declaration of each variable.
 #[tactic(auto, using(crate::proofs::Firsts::first_of_none))]
 fn directory_of(alloc: Global, variables: &[Variable]) -> Result<Directory<Variable>, AllocError>
-    ensures { IfOk result (λ directory. value_for directory ≡ first_of number_of_variable itself variables.now) }
+    ensures { IfOk result (λ directory. value_for directory
+        ≡ first_of number_of_variable itself variables.now) }
 {
     let mut directory = Directory::new(alloc);
     for variable in variables {
@@ -37,7 +38,8 @@ impl Starts {
     /// The variables that these items declare.
     #[tactic(auto, unfolding(crate::specs::Rules::is_start_known, crate::specs::Rules::is_start_known_by))]
     pub fn of(alloc: Global, declarations: &[Declaration]) -> Result<Self, AllocError>
-        ensures { IfOk result (λ starts. is_start_known_by starts ≡ is_start_known (variables_in declarations.now)) }
+        ensures { IfOk result (λ starts. is_start_known_by starts
+            ≡ is_start_known (variables_in declarations.now)) }
     {
         let variables = names::variables(alloc, declarations)?;
         Ok(Starts {

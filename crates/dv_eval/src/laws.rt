@@ -13,12 +13,17 @@ pub fn expressions_at_the_edges()
     ensures greatest { value greatest ≡ Ok (outcome.Number (pos 9223372036854775807)) }
     ensures least { value least ≡ Ok (outcome.Number (negsuc 9223372036854775807)) }
     ensures sum_past_the_greatest { value too_great ≡ Err fault.Overflow }
-    ensures least_less_one { value (Binary operator.Subtract least (number 1)) ≡ Err fault.Overflow }
+    ensures least_less_one { value (Binary operator.Subtract least (number 1))
+        ≡ Err fault.Overflow }
     ensures minus_the_least { value (Negative 1 least) ≡ Err fault.Overflow }
-    ensures least_by_minus_one { value (Binary operator.Divide least (minus 1)) ≡ Err fault.Overflow }
-    ensures nothing_is_left { value (Binary operator.Remainder least (minus 1)) ≡ Ok (outcome.Number (pos 0)) }
-    ensures towards_zero { value (Binary operator.Divide (minus 7) (number 2)) ≡ Ok (outcome.Number (negsuc 2)) }
-    ensures left_over { value (Binary operator.Remainder (minus 7) (number 2)) ≡ Ok (outcome.Number (negsuc 0)) }
+    ensures least_by_minus_one { value (Binary operator.Divide least (minus 1))
+        ≡ Err fault.Overflow }
+    ensures nothing_is_left { value (Binary operator.Remainder least (minus 1))
+        ≡ Ok (outcome.Number (pos 0)) }
+    ensures towards_zero { value (Binary operator.Divide (minus 7) (number 2))
+        ≡ Ok (outcome.Number (negsuc 2)) }
+    ensures left_over { value (Binary operator.Remainder (minus 7) (number 2))
+        ≡ Ok (outcome.Number (negsuc 0)) }
     ensures left_fault { value (Binary operator.Add by_nothing too_great) ≡ Err fault.Divide }
     ensures right_fault { value (Binary operator.Add too_great by_nothing) ≡ Err fault.Overflow }
 {}

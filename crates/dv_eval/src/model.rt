@@ -102,7 +102,8 @@ pub fn phase_hold(
     state: &State,
     scope: &Scope,
 ) -> Result<Option<u64>, Fault>
-    ensures value { result ≡ hold_of scope.now (hold_ticks phase (atomic_of model.now).holds) state.now }
+    ensures value { result ≡ hold_of scope.now
+        (hold_ticks phase (atomic_of model.now).holds) state.now }
     ensures bound { IfOk result (λ ticks. IfSome ticks (λ n. n < 2 ^ 63)) }
 {
     match phase_ticks(model, phase) {

@@ -162,7 +162,8 @@ fn variables_of(
     alloc: Global,
     declarations: &[Declaration],
 ) -> Result<IndexMap<u32, VariableRange>, AllocError>
-    ensures { IfOk result (λ variables. variables.entries ≡ with_variables [] (variables_in declarations.now)) }
+    ensures { IfOk result (λ variables. variables.entries
+        ≡ with_variables [] (variables_in declarations.now)) }
 {
     let mut variables = IndexMap::new(alloc);
     for declaration in declarations {
@@ -186,7 +187,8 @@ fn output_names(alloc: Global, declarations: &[Declaration]) -> Result<IndexSet<
 }
 
 fn phase_names(alloc: Global, phases: &[Phases]) -> Result<IndexSet<u32>, AllocError>
-    ensures { IfOk result (λ names. names.keys ≡ with_names [] (phases_in (map phases_of phases.now))) }
+    ensures { IfOk result (λ names. names.keys
+        ≡ with_names [] (phases_in (map phases_of phases.now))) }
 {
     let mut names = IndexSet::new(alloc);
     for item in phases {
@@ -199,7 +201,8 @@ fn declare_variable(
     variables: &mut IndexMap<u32, VariableRange>,
     variable: &Variable,
 ) -> Result<(), AllocError>
-    ensures { OnOk result (variables.new.entries ≡ with_variable variables.old.entries variable.now) }
+    ensures { OnOk result (variables.new.entries
+        ≡ with_variable variables.old.entries variable.now) }
 {
     if !variables.contains_key(&variable.name.number) {
         variables.insert(variable.name.number, VariableRange::of(variable))?;

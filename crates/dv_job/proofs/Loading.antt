@@ -8,7 +8,7 @@ use Rattle.dv_lex.specs.declared.error.TextError.{TextError}
 use Rattle.dv_lex.specs.Texts.{IsRefused, IsTokensOf, answer_to}
 use Rattle.dv_syntax.specs.Trees.{FileTree}
 use Rattle.dv_syntax.specs.Grammar.{IsFileOf}
-use Rattle.dv_syntax.specs.Reading.{fault_of, IsRefused as HasFault}
+use Rattle.dv_syntax.specs.Reading.{refusal_of_tokens, IsRefused as AreRefused}
 use Rattle.dv_check.specs.Refusals.{IsAnswerTo, refusal_of}
 use Rattle.dv_job.specs.Job.{HasAnswer, HasModel, HasNoFile, IsAnswer, IsModelOf, IsRefusedFile, IsRefusedText}
 use Rattle.dv_job.specs.Loading.{IsUnloaded}
@@ -19,7 +19,7 @@ unlexed (Refused r) text h = inl (h r refl)
 unlexed Memory text h = tt
 
 -- nor is one whose tokens are those of no file
-pub unparsed : (e : LoadError) (text : List ℕ) (names : List (List ℕ)) (tokens : List Token) → IsTokensOf text names tokens → HasFault e tokens (length text) → IsUnloaded e text
+pub unparsed : (e : LoadError) (text : List ℕ) (names : List (List ℕ)) (tokens : List Token) → IsTokensOf text names tokens → AreRefused e tokens (length text) → IsUnloaded e text
 unparsed (Refused r) text names tokens lexed unread = inr (inl (record { names = names; tokens = tokens; lexed = lexed; unread = unread }))
 unparsed Memory text names tokens lexed unread = tt
 
@@ -39,9 +39,9 @@ pub record TokenLaws : Type 0 where
 
 -- every list of tokens spells a file or has a refusal, and one of them
 pub record FileLaws : Type 0 where
-  pub some : (ts : List Token) (end : ℕ) → ((f : FileTree) × IsFileOf ts f) ⊎ ((r : Refusal) × (fault_of ts end ≡ Some r))
+  pub some : (ts : List Token) (end : ℕ) → ((f : FileTree) × IsFileOf ts f) ⊎ ((r : Refusal) × (refusal_of_tokens ts end ≡ Some r))
   pub one_file : (ts : List Token) (f g : FileTree) → IsFileOf ts f → IsFileOf ts g → f ≡ g
-  pub not_both : (ts : List Token) (end : ℕ) (f : FileTree) → IsFileOf ts f → fault_of ts end ≡ None
+  pub not_both : (ts : List Token) (end : ℕ) (f : FileTree) → IsFileOf ts f → refusal_of_tokens ts end ≡ None
 
 same_in_option : (o : Option Refusal) (r other : Refusal) → o ≡ Some r → o ≡ Some other → r ≡ other
 same_in_option o r other is also = let same : Some r ≡ Some other = sym is ∙ also in cc
@@ -54,9 +54,9 @@ module _ (tokens_law : TokenLaws) (files_law : FileLaws) where
   same_tokens : (text : List ℕ) (names others : List (List ℕ)) (tokens more : List Token) → IsTokensOf text names tokens → IsTokensOf text others more → tokens ≡ more
   same_tokens text names others tokens more one two = (tokens_law.one_list text names others tokens more one two).1
 
-  no_file_and_file : (text : List ℕ) (names others : List (List ℕ)) (tokens more : List Token) (f : FileTree) (r : Refusal) → IsTokensOf text names tokens → fault_of tokens (length text) ≡ Some r → IsTokensOf text others more → IsFileOf more f → ⊥
+  no_file_and_file : (text : List ℕ) (names others : List (List ℕ)) (tokens more : List Token) (f : FileTree) (r : Refusal) → IsTokensOf text names tokens → refusal_of_tokens tokens (length text) ≡ Some r → IsTokensOf text others more → IsFileOf more f → ⊥
   no_file_and_file text names others tokens more f r one unread two parsed =
-      none_or_some (fault_of tokens (length text)) r (subst (λ (ts : List Token). fault_of ts (length text) ≡ None) (sym (same_tokens text names others tokens more one two)) (files_law.not_both more (length text) f parsed)) unread
+      none_or_some (refusal_of_tokens tokens (length text)) r (subst (λ (ts : List Token). refusal_of_tokens ts (length text) ≡ None) (sym (same_tokens text names others tokens more one two)) (files_law.not_both more (length text) f parsed)) unread
 
   same_file : (text : List ℕ) (names others : List (List ℕ)) (tokens more : List Token) (f g : FileTree) → IsTokensOf text names tokens → IsFileOf tokens f → IsTokensOf text others more → IsFileOf more g → f ≡ g
   same_file text names others tokens more f g one is two also =
@@ -64,7 +64,7 @@ module _ (tokens_law : TokenLaws) (files_law : FileLaws) where
 
   one_unread : (text : List ℕ) (r other : Refusal) → HasNoFile text r → HasNoFile text other → r ≡ other
   one_unread text r other one two =
-      same_in_option (fault_of one.tokens (length text)) r other one.unread (subst (λ (ts : List Token). fault_of ts (length text) ≡ Some other) (sym (same_tokens text one.names two.names one.tokens two.tokens one.lexed two.lexed)) two.unread)
+      same_in_option (refusal_of_tokens one.tokens (length text)) r other one.unread (subst (λ (ts : List Token). refusal_of_tokens ts (length text) ≡ Some other) (sym (same_tokens text one.names two.names one.tokens two.tokens one.lexed two.lexed)) two.unread)
 
   one_refused : (text : List ℕ) (r other : Refusal) → IsRefusedFile text r → IsRefusedFile text other → r ≡ other
   one_refused text r other one two =

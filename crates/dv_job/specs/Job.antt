@@ -6,7 +6,7 @@ use Rattle.dv_lex.specs.declared.error.TextError.{TextError}
 use Rattle.dv_lex.specs.Texts.{IsTokensOf, IsRefused as HasNoTokens, answer_to}
 use Rattle.dv_syntax.specs.Trees.{FileTree}
 use Rattle.dv_syntax.specs.Grammar.{IsFileOf}
-use Rattle.dv_syntax.specs.Reading.{fault_of}
+use Rattle.dv_syntax.specs.Reading.{refusal_of_tokens}
 use Rattle.dv_check.specs.Refusals.{refusal_of}
 use Rattle.dv_plain.specs.Source.{network_of, no_input}
 use Rattle.dv_text.specs.Names.{component_names, root_ports}
@@ -24,7 +24,7 @@ pub record HasNoFile (text : List ℕ) (r : Refusal) : Type 0 where
   pub names : List (List ℕ)
   pub tokens : List Token
   pub lexed : IsTokensOf text names tokens
-  pub unread : fault_of tokens (length text) ≡ Some r
+  pub unread : refusal_of_tokens tokens (length text) ≡ Some r
 
 -- the file of the text has this as the first of its refusals
 pub record IsRefusedFile (text : List ℕ) (r : Refusal) : Type 0 where

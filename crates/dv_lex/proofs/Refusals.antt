@@ -29,7 +29,7 @@ large_goes_on end rest (z ∷ zs) last r value front after f large =
     let small : value < 2 ^ 63 = subst IsInRange same.0 r.1 in
     omega arith
 
-utf8_not_valid : (text : List ℕ) (n : ℕ) → IsUtf8 text → IsValidUpTo text n → ⊥
+pub utf8_not_valid : (text : List ℕ) (n : ℕ) → IsUtf8 text → IsValidUpTo text n → ⊥
 utf8_not_valid text n utf8 valid =
     valid.longest (length text) valid.short (subst IsUtf8 (sym (take_all (length text) text (omega arith))) utf8)
 
@@ -56,7 +56,7 @@ stuck_at : (text : List ℕ) (place other : ℕ) (rest more : List ℕ) → Read
 stuck_at text place other rest more r s p q = Reads-stuck 0 text r.lexemes s.lexemes place other rest more r.reads s.reads p q
 
 -- the longest front that is UTF-8 is one
-same_valid : (text : List ℕ) (m n : ℕ) → IsValidUpTo text m → IsValidUpTo text n → m ≡ n
+pub same_valid : (text : List ℕ) (m n : ℕ) → IsValidUpTo text m → IsValidUpTo text n → m ≡ n
 same_valid text m n p q =
     elim (cases_order m n) [
       | inl e ↦ e

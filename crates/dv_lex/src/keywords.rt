@@ -7,7 +7,8 @@ use crate::token::Keyword;
 
 /// The keyword that the word is, if it is one.
 pub fn keyword(word: &str) -> Option<Keyword>
-    ensures { MatchOption result ((k : Keyword) → word.now ≢ keyword_text k) (λ k. word.now ≡ keyword_text k) }
+    ensures { MatchOption result ((k : Keyword) → word.now ≢ keyword_text k)
+        (λ k. word.now ≡ keyword_text k) }
 {
     match word {
         "atomic" => Some(Keyword::Atomic),

@@ -11,7 +11,8 @@ use crate::token::Token;
 /// A text has at most one table of names and one list of tokens.
 pub fn tokens_are_unique()
     ensures { (text : List ℕ) (names others : List (List ℕ)) (tokens more : List Token) →
-        IsTokensOf text names tokens → IsTokensOf text others more → (names ≡ others) × (tokens ≡ more) }
+        IsTokensOf text names tokens → IsTokensOf text others more → (names ≡ others)
+        × (tokens ≡ more) }
 {}
 
 /// A text that has tokens is not refused.
@@ -29,7 +30,8 @@ pub fn a_text_has_tokens_or_a_refusal()
 
 /// A text is refused in at most one way, and at one place.
 pub fn refusals_are_unique()
-    ensures { (text : List ℕ) (r other : Refusal) → IsRefused text r → IsRefused text other → r ≡ other }
+    ensures { (text : List ℕ) (r other : Refusal) → IsRefused text r → IsRefused text other
+        → r ≡ other }
 {}
 
 /// The table has each name once.
@@ -47,7 +49,8 @@ pub fn names_are_in_the_table()
 /// A place counts the bytes before it.
 pub fn places_count_bytes()
     ensures { (text : List ℕ) (xs : List Placed) (place : ℕ) (rest : List ℕ) →
-        Reads 0 text xs place rest → (before : List ℕ) × (text ≡ before ++ rest) × (place ≡ length before) }
+        Reads 0 text xs place rest → (before : List ℕ) × (text ≡ before ++ rest)
+        × (place ≡ length before) }
 {}
 
 /// Each token has a byte of the text at its place, and each but the first has a greater place than the one before.

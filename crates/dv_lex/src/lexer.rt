@@ -7,7 +7,7 @@ ghost use Rattle.std.specs.Str.Parse.{digits_value};
 ghost use Rattle.dv_lex.specs.Lexemes.{Lexeme, symbol_text, Spells, IsWord, is_blank, starts_name, continues_name};
 ghost use Rattle.dv_lex.specs.Numbering.{kind_of};
 ghost use Rattle.dv_lex.specs.Steps.{SplitsRun, IsLongestSymbol, ReadsToken, IsNoToken, with_lexeme};
-ghost use Rattle.dv_lex.specs.Texts.{IsTokensOf, IsRefused, IsReadable, greatest_length};
+ghost use Rattle.dv_lex.specs.Texts.{IsTokensOf, IsRefused, IsRefusedAs, IsReadable, greatest_length};
 
 use crate::error::{LoadError, Refusal, RefusalNumber};
 use crate::keywords::keyword;
@@ -228,6 +228,8 @@ pub fn tokens(alloc: Global, text: &[u8]) -> Result<Tokens, LoadError>
     ensures refused { (r : Refusal) → result ≡ Err (LoadError.Refused r) → IsRefused text.now r }
     ensures too_long { greatest_length < length text.now
         → result ≡ Err (LoadError.Refused (record { number = RefusalNumber.E17; place = 0 })) }
+    ensures not_text { (place : ℕ) → IsRefusedAs text.now RefusalNumber.E1 place
+        → result ≡ Err (LoadError.Refused (record { number = RefusalNumber.E1; place = place })) }
 {
     if text.len() > GREATEST_LENGTH {
         return Err(refused(RefusalNumber::E17, 0));

@@ -7,7 +7,8 @@ use crate::token::Symbol;
 
 /// The symbol of these two characters.
 pub fn double(first: u8, second: u8) -> Option<Symbol>
-    ensures { MatchOption result ((s : Symbol) → symbol_text s ≢ first ∷ second ∷ []) (λ s. symbol_text s ≡ first ∷ second ∷ []) }
+    ensures { MatchOption result ((s : Symbol) → symbol_text s ≢ first ∷ second ∷ [])
+        (λ s. symbol_text s ≡ first ∷ second ∷ []) }
 {
     match (first, second) {
         (b':', b'=') => Some(Symbol::Assign),
@@ -22,7 +23,8 @@ pub fn double(first: u8, second: u8) -> Option<Symbol>
 
 /// The symbol of this one character.
 pub fn single(first: u8) -> Option<Symbol>
-    ensures { MatchOption result ((s : Symbol) → symbol_text s ≢ first ∷ []) (λ s. symbol_text s ≡ first ∷ []) }
+    ensures { MatchOption result ((s : Symbol) → symbol_text s ≢ first ∷ [])
+        (λ s. symbol_text s ≡ first ∷ []) }
 {
     match first {
         b'{' => Some(Symbol::OpenBrace),

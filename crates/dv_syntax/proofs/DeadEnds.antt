@@ -5,7 +5,7 @@ use Rattle.dv_lex.specs.declared.token.Token.{Token}
 use Rattle.dv_syntax.specs.Trees.{FileTree}
 use Rattle.dv_syntax.specs.Written.{WrittenFile, sorted}
 use Rattle.dv_syntax.specs.Grammar.{IsFileOf}
-use Rattle.dv_syntax.specs.Reading.{Obstacle, Unexpected, TooDeep, TooShort, Read, file_at, refusal_of, refusal_in, fault_of}
+use Rattle.dv_syntax.specs.Reading.{Obstacle, Unexpected, TooDeep, TooShort, Read, file_at, refusal_of, refusal_in, refusal_of_tokens}
 use Rattle.dv_syntax.specs.Refusals.{BeginsFile, NoneBeginsAt, IsDeadEnd}
 use Rattle.dv_syntax.proofs.Tokens.{some_is}
 use Rattle.dv_syntax.proofs.Models.{file_sound, file_complete, file_refused}
@@ -84,21 +84,21 @@ stopped ts end o e =
           inl (record { before = g.front; token = g.token; behind = g.behind; whole = g.whole; at = place_is o g.token.place end g.at; begun = first.begun; none = none_begins ts o g })
     ]
 
-pub dead_end : (ts : List Token) (end : ℕ) (r : Refusal) → fault_of ts end ≡ Some r → IsDeadEnd ts end r
+pub dead_end : (ts : List Token) (end : ℕ) (r : Refusal) → refusal_of_tokens ts end ≡ Some r → IsDeadEnd ts end r
 dead_end ts end r h = by_answer (file_at ts) refl h
   where
     by_answer : (a : Read WrittenFile) → file_at ts ≡ a → refusal_in a end ≡ Some r → IsDeadEnd ts end r
     by_answer (Ok f) e h = cc
     by_answer (Err o) e h = subst (IsDeadEnd ts end) (some_is _ _ h) (stopped ts end o e)
 
-pub one_answer : (ts : List Token) (end : ℕ) → ((f : FileTree) × IsFileOf ts f) ⊎ ((r : Refusal) × (fault_of ts end ≡ Some r))
+pub one_answer : (ts : List Token) (end : ℕ) → ((f : FileTree) × IsFileOf ts f) ⊎ ((r : Refusal) × (refusal_of_tokens ts end ≡ Some r))
 one_answer ts end = by_answer (file_at ts) refl
   where
-    by_answer : (a : Read WrittenFile) → file_at ts ≡ a → ((f : FileTree) × IsFileOf ts f) ⊎ ((r : Refusal) × (fault_of ts end ≡ Some r))
+    by_answer : (a : Read WrittenFile) → file_at ts ≡ a → ((f : FileTree) × IsFileOf ts f) ⊎ ((r : Refusal) × (refusal_of_tokens ts end ≡ Some r))
     by_answer (Ok f) e = inl (sorted f, record { written = f; read = file_sound ts f e; tree = refl })
     by_answer (Err o) e = inr (refusal_of o end, ap (λ (a : Read WrittenFile). refusal_in a end) e)
 
-pub not_both : (ts : List Token) (end : ℕ) (f : FileTree) → IsFileOf ts f → fault_of ts end ≡ None
+pub not_both : (ts : List Token) (end : ℕ) (f : FileTree) → IsFileOf ts f → refusal_of_tokens ts end ≡ None
 not_both ts end f is = ap (λ (a : Read WrittenFile). refusal_in a end) (file_complete ts is.written is.read)
 
 -- a refusal lies at a token, or at the end
@@ -106,7 +106,7 @@ token_among : (P : Token → Type 0) (before : List Token) (t : Token) (behind :
 token_among P [] t behind h = h 0 t (omega arith)
 token_among P (u ∷ before) t behind h = token_among P before t behind (λ k d lt. h (suc k) d (omega (arith, lt)))
 
-pub within_text : (ts : List Token) (end : ℕ) (r : Refusal) → All (λ (t : Token). t.place < end) ts → fault_of ts end ≡ Some r → r.place ≤ end
+pub within_text : (ts : List Token) (end : ℕ) (r : Refusal) → All (λ (t : Token). t.place < end) ts → refusal_of_tokens ts end ≡ Some r → r.place ≤ end
 within_text ts end r all h =
     elim (dead_end ts end r h) [
       | inl d ↦

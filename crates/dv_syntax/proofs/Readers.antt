@@ -8,8 +8,8 @@ use Rattle.dv_lex.specs.declared.token.Symbol.TheVariants as symbol
 use Rattle.dv_syntax.specs.declared.tree.Name.{Name}
 use Rattle.dv_syntax.specs.declared.tree.Number.{Number}
 use Rattle.dv_syntax.specs.Grammar.{Spelled, At, Anywhere, Spells, name, number, sign, braces}
-use Rattle.dv_syntax.specs.declared.parser.fault.Fault.{Fault}
-use Rattle.dv_syntax.specs.declared.parser.fault.Fault.TheVariants as fault
+use Rattle.dv_syntax.specs.declared.parser.parse_error.ParseError.{ParseError}
+use Rattle.dv_syntax.specs.declared.parser.parse_error.ParseError.TheVariants as parse_error
 use Rattle.dv_syntax.specs.Reading.{Obstacle, Read, Fails, read_then, becoming, choose, same_kind, begins, after, is_name, begins_name, name_at, number_at, place_at, many, many_at, with_front, braces_at}
 use Rattle.dv_syntax.proofs.Tokens.{then_ok, chosen, ok_is, err_ok, Spells-then, Spells-split, Spells-length, kind_of, AtPlace, front, name_front, number_front, after_spells, after_spells_at, name_spells, number_spells}
 
@@ -206,8 +206,8 @@ pub turn_stop : {A B : Type 0} (one : List Token → Read (A × List Token)) (st
 unfolding many_at choose read_then
 turn_stop one stop f ts b = rw b refl
 
-pub turn_fails : {A B : Type 0} (e : Fault) (one : List Token → Read (A × List Token)) (stop : TokenKind) (f : List A → B) (ts : List Token) (total : Read (B × List Token)) → begins stop ts ≡ false → Fails e (one ts) → becoming f (many_at one stop ts) ≡ total → Fails e total
-turn_fails fault.Memory one stop f ts total b h so_far = tt
-turn_fails (fault.Unexpected place) one stop f ts total b h so_far = sym so_far ∙ turn_err one stop f ts _ b h
-turn_fails (fault.TooDeep place) one stop f ts total b h so_far = sym so_far ∙ turn_err one stop f ts _ b h
-turn_fails fault.TooShort one stop f ts total b h so_far = sym so_far ∙ turn_err one stop f ts _ b h
+pub turn_fails : {A B : Type 0} (e : ParseError) (one : List Token → Read (A × List Token)) (stop : TokenKind) (f : List A → B) (ts : List Token) (total : Read (B × List Token)) → begins stop ts ≡ false → Fails e (one ts) → becoming f (many_at one stop ts) ≡ total → Fails e total
+turn_fails parse_error.Memory one stop f ts total b h so_far = tt
+turn_fails (parse_error.Unexpected place) one stop f ts total b h so_far = sym so_far ∙ turn_err one stop f ts _ b h
+turn_fails (parse_error.TooDeep place) one stop f ts total b h so_far = sym so_far ∙ turn_err one stop f ts _ b h
+turn_fails parse_error.TooShort one stop f ts total b h so_far = sym so_far ∙ turn_err one stop f ts _ b h

@@ -9,8 +9,8 @@ use Rattle.dv_lex.specs.declared.token.Keyword.TheVariants as keyword
 use Rattle.dv_lex.specs.declared.token.Symbol.TheVariants as symbol
 use Rattle.dv_syntax.specs.Trees.{Expression, Statements, Done, Assign, Goto, Send, If, IfElse}
 use Rattle.dv_syntax.specs.Grammar.{Spelled, name, sign, word, word_at, braces, IsExpression, expression_spelling, statements_spelling, block_depth, AreStatements}
-use Rattle.dv_syntax.specs.declared.parser.fault.Fault.{Fault}
-use Rattle.dv_syntax.specs.declared.parser.fault.Fault.TheVariants as fault
+use Rattle.dv_syntax.specs.declared.parser.parse_error.ParseError.{ParseError}
+use Rattle.dv_syntax.specs.declared.parser.parse_error.ParseError.TheVariants as parse_error
 use Rattle.dv_syntax.specs.Reading.{Obstacle, TooDeep, Read, Fails, read_then, place_at, within, choose, same_kind, begins, after, operator_of, expression_at, braces_at, Single, SingleAssign, SingleGoto, SingleSend, SingleIf, SingleIfElse, single_before, joined, assign_at, goto_at, send_at, else_at, if_at, statement_at, block_at}
 use Rattle.dv_syntax.proofs.Tokens.{then_ok, chosen, ok_is, err_ok, same_kind-true}
 use Rattle.dv_syntax.proofs.Readers.{Spans, nothing, after_spans, after_spans_at, name_spans, then_spans, split, first, first_name, span_end, IsReader, IsListed, braces_reader, shortens, Shortens}
@@ -303,8 +303,8 @@ block_err (suc limit) ts o lt e =
     let f : braces_at (statement_at (block_at limit) limit) ts ≡ Err o = subst (λ (n : ℕ). braces_at (statement_at (block_at n) n) ts ≡ Err o) k e in
     rw f refl
 
-pub block_fails : (e : Fault) (limit : ℕ) (ts : List Token) → 0 < limit → Fails e (braces_at (statement_at (block_at (limit - 1)) (limit - 1)) ts) → Fails e (block_at limit ts)
-block_fails fault.Memory limit ts lt f = tt
-block_fails (fault.Unexpected place) limit ts lt f = block_err limit ts _ lt f
-block_fails (fault.TooDeep place) limit ts lt f = block_err limit ts _ lt f
-block_fails fault.TooShort limit ts lt f = block_err limit ts _ lt f
+pub block_fails : (e : ParseError) (limit : ℕ) (ts : List Token) → 0 < limit → Fails e (braces_at (statement_at (block_at (limit - 1)) (limit - 1)) ts) → Fails e (block_at limit ts)
+block_fails parse_error.Memory limit ts lt f = tt
+block_fails (parse_error.Unexpected place) limit ts lt f = block_err limit ts _ lt f
+block_fails (parse_error.TooDeep place) limit ts lt f = block_err limit ts _ lt f
+block_fails parse_error.TooShort limit ts lt f = block_err limit ts _ lt f

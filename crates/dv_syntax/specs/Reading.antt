@@ -24,8 +24,8 @@ use Rattle.dv_syntax.specs.declared.parser.atomic.AtomicItem.{AtomicItem as Code
 use Rattle.dv_syntax.specs.declared.parser.atomic.AtomicItem.TheVariants as item
 use Rattle.dv_syntax.specs.declared.parser.coupled.CoupledItem.{CoupledItem as CodeCoupledItem}
 use Rattle.dv_syntax.specs.declared.parser.coupled.CoupledItem.TheVariants as coupled_item
-use Rattle.dv_syntax.specs.declared.parser.fault.Fault.{Fault}
-use Rattle.dv_syntax.specs.declared.parser.fault.Fault.TheVariants as fault
+use Rattle.dv_syntax.specs.declared.parser.parse_error.ParseError.{ParseError}
+use Rattle.dv_syntax.specs.declared.parser.parse_error.ParseError.TheVariants as parse_error
 use Rattle.dv_syntax.specs.declared.tree.Stmt.{Stmt}
 use Rattle.dv_syntax.specs.declared.tree.Stmt as stmt
 use Rattle.dv_lex.specs.declared.error.LoadError.{LoadError}
@@ -52,13 +52,13 @@ read_then (Ok x) f = f x
 read_then (Err o) f = Err o
 
 -- What a function returned, seen by `view`, is what reading gives, unless memory ran out.
-abbrev pub Fails : {Y : Type 0} → Fault → Read Y → Type 0
-Fails fault.Memory read = Unit {0}
-Fails (fault.Unexpected place) read = read ≡ Err (Unexpected place)
-Fails (fault.TooDeep place) read = read ≡ Err (TooDeep place)
-Fails fault.TooShort read = read ≡ Err TooShort
+abbrev pub Fails : {Y : Type 0} → ParseError → Read Y → Type 0
+Fails parse_error.Memory read = Unit {0}
+Fails (parse_error.Unexpected place) read = read ≡ Err (Unexpected place)
+Fails (parse_error.TooDeep place) read = read ≡ Err (TooDeep place)
+Fails parse_error.TooShort read = read ≡ Err TooShort
 
-abbrev pub Gives : {X Y : Type 0} → (X → Y) → Result X Fault → Read Y → Type 0
+abbrev pub Gives : {X Y : Type 0} → (X → Y) → Result X ParseError → Read Y → Type 0
 Gives view (Ok x) read = read ≡ Ok (view x)
 Gives view (Err e) read = Fails e read
 
@@ -163,12 +163,12 @@ unfoldable pub obstacle_at : List Token → Obstacle
 obstacle_at [] = TooShort
 obstacle_at (t ∷ ts) = Unexpected t.place
 
--- what a fault of the code says
-abbrev pub IsFault : Fault → Obstacle → Type 0
-IsFault fault.Memory o = ⊥
-IsFault (fault.Unexpected place) o = o ≡ Unexpected place
-IsFault (fault.TooDeep place) o = o ≡ TooDeep place
-IsFault fault.TooShort o = o ≡ TooShort
+-- what an error of the code says
+abbrev pub IsParseError : ParseError → Obstacle → Type 0
+IsParseError parse_error.Memory o = ⊥
+IsParseError (parse_error.Unexpected place) o = o ≡ Unexpected place
+IsParseError (parse_error.TooDeep place) o = o ≡ TooDeep place
+IsParseError parse_error.TooShort o = o ≡ TooShort
 
 -- the tokens after one of this kind
 unfoldable pub after : TokenKind → List Token → Read (List Token)
@@ -527,13 +527,13 @@ refusal_in (Ok x) end = None
 refusal_in (Err o) end = Some (refusal_of o end)
 
 -- the refusal of the tokens of a text that ends at this place, unless they are those of a file
-abbrev pub fault_of : List Token → ℕ → Option Refusal
-fault_of ts end = refusal_in (file_at ts) end
+abbrev pub refusal_of_tokens : List Token → ℕ → Option Refusal
+refusal_of_tokens ts end = refusal_in (file_at ts) end
 
 -- the error is the answer to the tokens, or want of memory
 abbrev pub IsRefused : LoadError → List Token → ℕ → Type 0
 IsRefused error.Memory ts end = Unit {0}
-IsRefused (error.Refused r) ts end = fault_of ts end ≡ Some r
+IsRefused (error.Refused r) ts end = refusal_of_tokens ts end ≡ Some r
 
 -- ---- What the code reads: items are sorted as they are read
 

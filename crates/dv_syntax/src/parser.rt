@@ -3,7 +3,7 @@
 mod atomic;
 mod coupled;
 mod expression;
-mod fault;
+mod parse_error;
 mod statement;
 mod token;
 
@@ -14,7 +14,7 @@ ghost use Rattle.dv_syntax.specs.Reading.{Gives, IsRefused, many_at, tree_at, fi
 
 use self::atomic::atomic;
 use self::coupled::coupled;
-use self::fault::Fault;
+use self::parse_error::ParseError;
 use self::token::{after_keyword, after_symbol, begins_with_keyword, name};
 use crate::tree::{File, Model};
 use dv_lex::{Keyword, LoadError, Refusal, RefusalNumber, Symbol, Token, TokenKind};
@@ -22,7 +22,7 @@ use std::alloc::Global;
 
 /// A model at the front.
 #[tactic(auto, unfolding(crate::specs::Reading::tree_at, crate::specs::Reading::read_then, crate::specs::Reading::choose))]
-fn model(alloc: Global, tokens: &[Token]) -> Result<(Model, &[Token]), Fault>
+fn model(alloc: Global, tokens: &[Token]) -> Result<(Model, &[Token]), ParseError>
     ensures { Gives (λ x. (model_of x.0, x.1.now)) result (tree_at tokens.now) }
 {
     if begins_with_keyword(tokens, Keyword::Coupled) {
@@ -35,7 +35,7 @@ fn model(alloc: Global, tokens: &[Token]) -> Result<(Model, &[Token]), Fault>
 }
 
 /// The models before `root`.
-fn models(alloc: Global, tokens: &[Token]) -> Result<(Vec<Model>, &[Token]), Fault>
+fn models(alloc: Global, tokens: &[Token]) -> Result<(Vec<Model>, &[Token]), ParseError>
     ensures { Gives (λ x. (map model_of x.0.items, x.1.now)) result
         (many_at tree_at (TokenKind.Keyword Keyword.Root) tokens.now) }
 {
@@ -51,7 +51,7 @@ fn models(alloc: Global, tokens: &[Token]) -> Result<(Vec<Model>, &[Token]), Fau
 
 /// All the tokens as a file.
 #[tactic(auto, unfolding(crate::specs::Reading::file_tree_at, crate::specs::Reading::obstacle_at, crate::specs::Reading::read_then, crate::specs::Reading::choose))]
-fn file(alloc: Global, tokens: &[Token]) -> Result<File, Fault>
+fn file(alloc: Global, tokens: &[Token]) -> Result<File, ParseError>
     ensures { Gives file_of result (file_tree_at tokens.now) }
 {
     let (models, rest) = models(alloc, tokens)?;
@@ -60,7 +60,7 @@ fn file(alloc: Global, tokens: &[Token]) -> Result<File, Fault>
     let rest = after_symbol(rest, Symbol::Semicolon)?;
     match rest {
         [] => Ok(File { models, root }),
-        [Token { place, .. }, ..] => Err(Fault::Unexpected(*place)),
+        [Token { place, .. }, ..] => Err(ParseError::Unexpected(*place)),
     }
 }
 
@@ -81,9 +81,9 @@ pub fn parse(alloc: Global, tokens: &[Token], end: u32) -> Result<File, LoadErro
 {
     match file(alloc, tokens) {
         Ok(file) => Ok(file),
-        Err(Fault::Memory) => Err(LoadError::Memory),
-        Err(Fault::Unexpected(place)) => Err(refused(RefusalNumber::E4, place)),
-        Err(Fault::TooDeep(place)) => Err(refused(RefusalNumber::E5, place)),
-        Err(Fault::TooShort) => Err(refused(RefusalNumber::E4, end)),
+        Err(ParseError::Memory) => Err(LoadError::Memory),
+        Err(ParseError::Unexpected(place)) => Err(refused(RefusalNumber::E4, place)),
+        Err(ParseError::TooDeep(place)) => Err(refused(RefusalNumber::E5, place)),
+        Err(ParseError::TooShort) => Err(refused(RefusalNumber::E4, end)),
     }
 }

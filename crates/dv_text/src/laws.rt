@@ -21,7 +21,8 @@ pub fn a_trace_is_its_instants<I>()
         ≡ instants_text all outputs limit net inputs n }
     ensures whole { (all : List ComponentNames) (outputs : List (List ℕ))
         → (limit : ℕ) (net : Network I) (inputs : ℕ → I) (horizon : ℕ)
-        → text_of all outputs (trace_before limit net inputs (end_of limit horizon)) (Horizon horizon)
+        → text_of all outputs (trace_before limit net inputs (end_of limit horizon))
+        (Horizon horizon)
         ≡ whole_text all outputs limit net inputs horizon }
 {
     instants_are_at_their_time::<I>();

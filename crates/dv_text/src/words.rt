@@ -92,7 +92,8 @@ fn push_variables(
 
 fn push_sent(line: &mut String, tree: &Tree, names: &[u32], sent: &Sent) -> Result<(), AllocError>
     ensures { OnOk result (string_bytes line.new ≡
-        string_bytes line.old ++ sent_text (ports_text (texts_of tree.now.names names.now) sent.now)) }
+        string_bytes line.old
+        ++ sent_text (ports_text (texts_of tree.now.names names.now) sent.now)) }
 {
     let mut is_first = true;
     for (port, name) in names.iter().enumerate() {

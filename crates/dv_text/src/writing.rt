@@ -120,7 +120,8 @@ fn write_groups<W: Write>(
         (string_bytes line.old ++ flat_map group_text (groups_of (tree_ports tree.now) outer.now))
         (string_bytes line.new)) }
     ensures err { OnErr result (AppendsBeginning (W.contents writer.old) (W.contents writer.new)
-        (string_bytes line.old ++ flat_map group_text (groups_of (tree_ports tree.now) outer.now))) }
+        (string_bytes line.old
+        ++ flat_map group_text (groups_of (tree_ports tree.now) outer.now))) }
 {
     let mut rest = outer;
     while !rest.is_empty() {

@@ -76,7 +76,8 @@ impl Time {
     /// Whether this time is before another, as `<` says too.
     pub fn is_before(self, other: Time) -> bool
         ensures order { result ≡ is_before self other }
-        ensures rank { (limit : ℕ) → IsOfRun limit self → IsOfRun limit other → result ≡ nat_lt (rank limit self) (rank limit other) }
+        ensures rank { (limit : ℕ) → IsOfRun limit self → IsOfRun limit other
+            → result ≡ nat_lt (rank limit self) (rank limit other) }
     {
         self < other
     }

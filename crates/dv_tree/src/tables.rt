@@ -69,7 +69,8 @@ pub(crate) fn root(file: &File) -> Option<&Coupled>
 }
 
 fn coupled(model: &Model) -> Option<&Coupled>
-    ensures { option_map coupled_of (option_copied result) ≡ coupled_model (Some (model_of model.now)) }
+    ensures { option_map coupled_of (option_copied result)
+        ≡ coupled_model (Some (model_of model.now)) }
 {
     match model {
         Model::Coupled(coupled) => Some(coupled),
@@ -120,7 +121,8 @@ pub(crate) fn components(
     parts: &[Part],
     models: &Places,
 ) -> Result<Vec<Component>, AllocError>
-    ensures { IfOk result (λ components. components.items ≡ map (component_by models.now) parts.now) }
+    ensures { IfOk result (λ components. components.items
+        ≡ map (component_by models.now) parts.now) }
 {
     let mut components = Vec::with_capacity(alloc, parts.len())?;
     for part in parts {

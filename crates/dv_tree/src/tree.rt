@@ -101,7 +101,8 @@ impl<'c> Tree<'c> {
     /// The model of a component.
     pub fn atomic(&self, component: usize) -> &Atomic
         requires { component < length (instances (file_of self.now.file)) }
-        ensures { slice_get (map (λ i. i.model) (instances (file_of self.now.file))) component ≡ Some (atomic_of result.now) }
+        ensures { slice_get (map (λ i. i.model) (instances (file_of self.now.file))) component
+            ≡ Some (atomic_of result.now) }
     {
         accepted_files();
         let place = self.components[component].model;
@@ -114,7 +115,8 @@ impl<'c> Tree<'c> {
     /// What the model of a component declares.
     pub fn scope(&self, component: usize) -> &Scope
         requires { component < length (instances (file_of self.now.file)) }
-        ensures { slice_get (map (λ i. scope_of i.model) (instances (file_of self.now.file))) component ≡ Some result.now }
+        ensures { slice_get (map (λ i. scope_of i.model)
+            (instances (file_of self.now.file))) component ≡ Some result.now }
     {
         accepted_files();
         &self.scopes[self.components[component].model]
@@ -123,7 +125,8 @@ impl<'c> Tree<'c> {
     /// The path of a component: the names of the parts that lead to it, joined by dots.
     pub fn path(&self, component: usize) -> &str
         requires { component < length (instances (file_of self.now.file)) }
-        ensures { slice_get (map (λ i. with_dots (texts_of self.now.names i.path)) (instances (file_of self.now.file))) component ≡ Some result.now }
+        ensures { slice_get (map (λ i. with_dots (texts_of self.now.names i.path))
+            (instances (file_of self.now.file))) component ≡ Some result.now }
     {
         accepted_files();
         self.name(self.components[component].part)
@@ -149,7 +152,8 @@ impl<'c> Tree<'c> {
     /// The name of an output port of the root.
     pub fn output_name(&self, port: usize) -> &str
         requires { port < length (root_outputs (file_of self.now.file)) }
-        ensures { slice_get (texts_of self.now.names (root_outputs (file_of self.now.file))) port ≡ Some result.now }
+        ensures { slice_get (texts_of self.now.names (root_outputs (file_of self.now.file))) port
+            ≡ Some result.now }
     {
         self.name(self.outputs[port])
     }

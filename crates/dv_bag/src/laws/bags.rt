@@ -11,18 +11,25 @@ pub fn bags_are_a_commutative_monoid()
     ensures unit_left { (b : Counts) → IsBag b → union [] b ≡ b }
     ensures unit_right { (b : Counts) → union b [] ≡ b }
     ensures commutative { (a b : Counts) → IsBag a → IsBag b → union a b ≡ union b a }
-    ensures associative { (a b c : Counts) → IsBag a → IsBag b → IsBag c → union (union a b) c ≡ union a (union b c) }
+    ensures associative { (a b c : Counts) → IsBag a → IsBag b → IsBag c
+        → union (union a b) c ≡ union a (union b c) }
 {}
 
 /// A bag is a map from values to counts: bags with the same counts are equal, an edit changes the count of its value
 /// alone, and union adds counts.
 pub fn bags_are_their_counts()
-    ensures equal { (a b : Counts) → IsBag a → IsBag b → ((v : ℤ) → count_of v a ≡ count_of v b) → a ≡ b }
-    ensures more { (v : ℤ) (n : ℕ) (b : Counts) → IsBag b → count_of v (with_copies v n b) ≡ capped (count_of v b + n) }
-    ensures more_others { (w v : ℤ) (n : ℕ) (b : Counts) → w ≢ v → count_of w (with_copies v n b) ≡ count_of w b }
-    ensures less { (v : ℤ) (b : Counts) → IsBag b → count_of v (without_one v b) ≡ count_of v b - 1 }
-    ensures less_others { (w v : ℤ) (b : Counts) → IsBag b → w ≢ v → count_of w (without_one v b) ≡ count_of w b }
-    ensures both { (v : ℤ) (a b : Counts) → IsBag a → IsBag b → count_of v (union a b) ≡ capped (count_of v a + count_of v b) }
+    ensures equal { (a b : Counts) → IsBag a → IsBag b → ((v : ℤ) → count_of v a ≡ count_of v b)
+        → a ≡ b }
+    ensures more { (v : ℤ) (n : ℕ) (b : Counts) → IsBag b
+        → count_of v (with_copies v n b) ≡ capped (count_of v b + n) }
+    ensures more_others { (w v : ℤ) (n : ℕ) (b : Counts) → w ≢ v
+        → count_of w (with_copies v n b) ≡ count_of w b }
+    ensures less { (v : ℤ) (b : Counts) → IsBag b
+        → count_of v (without_one v b) ≡ count_of v b - 1 }
+    ensures less_others { (w v : ℤ) (b : Counts) → IsBag b → w ≢ v
+        → count_of w (without_one v b) ≡ count_of w b }
+    ensures both { (v : ℤ) (a b : Counts) → IsBag a → IsBag b
+        → count_of v (union a b) ≡ capped (count_of v a + count_of v b) }
 {}
 
 /// An edit of a bag leaves a bag.
@@ -33,15 +40,18 @@ pub fn edits_leave_bags()
 
 /// Copies go in in either order, and copies of one value join, whatever the list of pairs.
 pub fn copies_commute_and_join()
-    ensures either { (v w : ℤ) (n m : ℕ) (b : Counts) → with_copies v n (with_copies w m b) ≡ with_copies w m (with_copies v n b) }
-    ensures joined { (v : ℤ) (n m : ℕ) (b : Counts) → with_copies v n (with_copies v m b) ≡ with_copies v (n + m) b }
+    ensures either { (v w : ℤ) (n m : ℕ) (b : Counts)
+        → with_copies v n (with_copies w m b) ≡ with_copies w m (with_copies v n b) }
+    ensures joined { (v : ℤ) (n m : ℕ) (b : Counts)
+        → with_copies v n (with_copies v m b) ≡ with_copies v (n + m) b }
     ensures capped { (v : ℤ) (n : ℕ) (b : Counts) → with_copies v (capped n) b ≡ with_copies v n b }
 {}
 
 /// Sizes add.
 pub fn sizes_add()
     ensures size { (a b : Counts) → size (union a b) ≡ capped (size a + size b) }
-    ensures total { (a b : Counts) → total a + total b < 2 ^ 64 → total (union a b) ≡ total a + total b }
+    ensures total { (a b : Counts) → total a + total b < 2 ^ 64
+        → total (union a b) ≡ total a + total b }
     ensures none { (b : Counts) → IsBag b → size b ≡ 0 → b ≡ [] }
 {}
 

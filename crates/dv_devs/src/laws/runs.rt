@@ -39,7 +39,8 @@ pub fn idle_instants_change_nothing<I>()
 
 /// A hold that begins now ends later.
 pub fn holds_end_later()
-    ensures { (limit now : ℕ) (ticks : Option ℕ) → IfOk (end_of_hold limit now ticks) (IsFrom (suc now)) }
+    ensures { (limit now : ℕ) (ticks : Option ℕ)
+        → IfOk (end_of_hold limit now ticks) (IsFrom (suc now)) }
 {}
 
 /// No next time is before the least one, and before that no component is imminent.

@@ -6,7 +6,7 @@ ghost use Rattle.dv_syntax.specs.Grammar.{sort_word};
 ghost use Rattle.dv_syntax.specs.Reading.{Gives, with_front, many_at, braces_at, bound_at, variable_at, further_name_at, phases_at, start_at, ticks_at, hold_at, rule_at, out_at, item_at, item_of, with_item, with_items, empty_atomic, becoming, atomic_tree_at};
 
 use super::expression::expression;
-use super::fault::Fault;
+use super::parse_error::ParseError;
 use super::statement::block;
 use super::token::{
     after_keyword, after_symbol, begins_with_keyword, begins_with_symbol, first_place, name, number,
@@ -32,7 +32,7 @@ pub enum AtomicItem {
 
 /// A number, perhaps behind a minus sign.
 #[tactic(auto, unfolding(crate::specs::Reading::bound_at, crate::specs::Reading::read_then, crate::specs::Reading::choose))]
-fn bound(tokens: &[Token]) -> Result<(Bound, &[Token]), Fault>
+fn bound(tokens: &[Token]) -> Result<(Bound, &[Token]), ParseError>
     ensures { Gives (λ x. (x.0, x.1.now)) result (bound_at tokens.now) }
 {
     if begins_with_symbol(tokens, Symbol::Minus) {
@@ -40,7 +40,7 @@ fn bound(tokens: &[Token]) -> Result<(Bound, &[Token]), Fault>
         let rest = after_symbol(tokens, Symbol::Minus)?;
         let (magnitude, rest) = match number(rest) {
             Ok(read) => read,
-            Err(fault) => return Err(fault),
+            Err(e) => return Err(e),
         };
         Ok((
             Bound {
@@ -52,7 +52,7 @@ fn bound(tokens: &[Token]) -> Result<(Bound, &[Token]), Fault>
     } else {
         let (magnitude, rest) = match number(tokens) {
             Ok(read) => read,
-            Err(fault) => return Err(fault),
+            Err(e) => return Err(e),
         };
         Ok((
             Bound {
@@ -66,7 +66,7 @@ fn bound(tokens: &[Token]) -> Result<(Bound, &[Token]), Fault>
 
 /// `var name: low..high = start;`
 #[tactic(auto, unfolding(crate::specs::Reading::variable_at, crate::specs::Reading::read_then))]
-fn variable(tokens: &[Token]) -> Result<(Variable, &[Token]), Fault>
+fn variable(tokens: &[Token]) -> Result<(Variable, &[Token]), ParseError>
     ensures { Gives (λ x. (x.0, x.1.now)) result (variable_at tokens.now) }
 {
     let rest = after_keyword(tokens, Keyword::Var)?;
@@ -74,17 +74,17 @@ fn variable(tokens: &[Token]) -> Result<(Variable, &[Token]), Fault>
     let rest = after_symbol(rest, Symbol::Colon)?;
     let (low, rest) = match bound(rest) {
         Ok(read) => read,
-        Err(fault) => return Err(fault),
+        Err(e) => return Err(e),
     };
     let rest = after_symbol(rest, Symbol::Range)?;
     let (high, rest) = match bound(rest) {
         Ok(read) => read,
-        Err(fault) => return Err(fault),
+        Err(e) => return Err(e),
     };
     let rest = after_symbol(rest, Symbol::Equal)?;
     let (start, rest) = match bound(rest) {
         Ok(read) => read,
-        Err(fault) => return Err(fault),
+        Err(e) => return Err(e),
     };
     let rest = after_symbol(rest, Symbol::Semicolon)?;
     Ok((
@@ -100,7 +100,7 @@ fn variable(tokens: &[Token]) -> Result<(Variable, &[Token]), Fault>
 
 /// A comma and a name.
 #[tactic(auto, unfolding(crate::specs::Reading::further_name_at, crate::specs::Reading::read_then))]
-fn further_name(tokens: &[Token]) -> Result<(Name, &[Token]), Fault>
+fn further_name(tokens: &[Token]) -> Result<(Name, &[Token]), ParseError>
     ensures { Gives (λ x. (x.0, x.1.now)) result (further_name_at tokens.now) }
 {
     let rest = after_symbol(tokens, Symbol::Comma)?;
@@ -108,9 +108,13 @@ fn further_name(tokens: &[Token]) -> Result<(Name, &[Token]), Fault>
 }
 
 /// Adds the names behind commas that stand before a semicolon.
-fn further_names(mut names: Vec<Name>, tokens: &[Token]) -> Result<(Vec<Name>, &[Token]), Fault>
+fn further_names(
+    mut names: Vec<Name>,
+    tokens: &[Token],
+) -> Result<(Vec<Name>, &[Token]), ParseError>
     ensures { Gives (λ x. (x.0.items, x.1.now)) result
-        (with_front names.items (many_at further_name_at (TokenKind.Symbol Symbol.Semicolon) tokens.now)) }
+        (with_front names.items
+        (many_at further_name_at (TokenKind.Symbol Symbol.Semicolon) tokens.now)) }
 {
     let mut rest = tokens;
     while !begins_with_symbol(rest, Symbol::Semicolon) {
@@ -123,7 +127,7 @@ fn further_names(mut names: Vec<Name>, tokens: &[Token]) -> Result<(Vec<Name>, &
 
 /// `phases first, second, ..;`
 #[tactic(auto, unfolding(crate::specs::Reading::phases_at, crate::specs::Reading::read_then))]
-fn phases(alloc: Global, tokens: &[Token]) -> Result<(AtomicItem, &[Token]), Fault>
+fn phases(alloc: Global, tokens: &[Token]) -> Result<(AtomicItem, &[Token]), ParseError>
     ensures { Gives (λ x. (item_of x.0, x.1.now)) result (phases_at tokens.now) }
 {
     let place = first_place(tokens);
@@ -138,7 +142,7 @@ fn phases(alloc: Global, tokens: &[Token]) -> Result<(AtomicItem, &[Token]), Fau
 
 /// `start phase;`
 #[tactic(auto, unfolding(crate::specs::Reading::start_at, crate::specs::Reading::read_then))]
-fn start(tokens: &[Token]) -> Result<(AtomicItem, &[Token]), Fault>
+fn start(tokens: &[Token]) -> Result<(AtomicItem, &[Token]), ParseError>
     ensures { Gives (λ x. (item_of x.0, x.1.now)) result (start_at tokens.now) }
 {
     let place = first_place(tokens);
@@ -150,7 +154,7 @@ fn start(tokens: &[Token]) -> Result<(AtomicItem, &[Token]), Fault>
 
 /// `forever`, or an expression.
 #[tactic(auto, unfolding(crate::specs::Reading::ticks_at, crate::specs::Reading::read_then, crate::specs::Reading::choose))]
-fn ticks(alloc: Global, tokens: &[Token]) -> Result<(Ticks, &[Token]), Fault>
+fn ticks(alloc: Global, tokens: &[Token]) -> Result<(Ticks, &[Token]), ParseError>
     ensures { Gives (λ x. (ticks_of x.0, x.1.now)) result (ticks_at tokens.now) }
 {
     if begins_with_keyword(tokens, Keyword::Forever) {
@@ -164,7 +168,7 @@ fn ticks(alloc: Global, tokens: &[Token]) -> Result<(Ticks, &[Token]), Fault>
 
 /// `hold phase: ticks;`
 #[tactic(auto, unfolding(crate::specs::Reading::hold_at, crate::specs::Reading::read_then))]
-fn hold(alloc: Global, tokens: &[Token]) -> Result<(AtomicItem, &[Token]), Fault>
+fn hold(alloc: Global, tokens: &[Token]) -> Result<(AtomicItem, &[Token]), ParseError>
     ensures { Gives (λ x. (item_of x.0, x.1.now)) result (hold_at tokens.now) }
 {
     let place = first_place(tokens);
@@ -193,7 +197,11 @@ fn word_of(sort: RuleSort) -> Keyword
 
 /// `output phase { .. }` or `internal phase { .. }`
 #[tactic(auto, unfolding(crate::specs::Reading::rule_at, crate::specs::Reading::read_then))]
-fn rule(alloc: Global, tokens: &[Token], sort: RuleSort) -> Result<(AtomicItem, &[Token]), Fault>
+fn rule(
+    alloc: Global,
+    tokens: &[Token],
+    sort: RuleSort,
+) -> Result<(AtomicItem, &[Token]), ParseError>
     ensures { Gives (λ x. (item_of x.0, x.1.now)) result (rule_at sort tokens.now) }
 {
     let rest = after_keyword(tokens, word_of(sort))?;
@@ -204,7 +212,7 @@ fn rule(alloc: Global, tokens: &[Token], sort: RuleSort) -> Result<(AtomicItem, 
 
 /// `out port;`
 #[tactic(auto, unfolding(crate::specs::Reading::out_at, crate::specs::Reading::read_then))]
-pub fn out(tokens: &[Token]) -> Result<(Name, &[Token]), Fault>
+pub fn out(tokens: &[Token]) -> Result<(Name, &[Token]), ParseError>
     ensures { Gives (λ x. (x.0, x.1.now)) result (out_at tokens.now) }
 {
     let rest = after_keyword(tokens, Keyword::Out)?;
@@ -215,7 +223,7 @@ pub fn out(tokens: &[Token]) -> Result<(Name, &[Token]), Fault>
 
 /// An item at the front.
 #[tactic(auto, unfolding(crate::specs::Reading::item_at, crate::specs::Reading::read_then, crate::specs::Reading::choose))]
-fn item(alloc: Global, tokens: &[Token]) -> Result<(AtomicItem, &[Token]), Fault>
+fn item(alloc: Global, tokens: &[Token]) -> Result<(AtomicItem, &[Token]), ParseError>
     ensures { Gives (λ x. (item_of x.0, x.1.now)) result (item_at tokens.now) }
 {
     if begins_with_keyword(tokens, Keyword::Out) {
@@ -224,7 +232,7 @@ fn item(alloc: Global, tokens: &[Token]) -> Result<(AtomicItem, &[Token]), Fault
     } else if begins_with_keyword(tokens, Keyword::Var) {
         let (variable, rest) = match variable(tokens) {
             Ok(read) => read,
-            Err(fault) => return Err(fault),
+            Err(e) => return Err(e),
         };
         Ok((AtomicItem::Declares(Declaration::Var(variable)), rest))
     } else if begins_with_keyword(tokens, Keyword::Phases) {
@@ -241,9 +249,10 @@ fn item(alloc: Global, tokens: &[Token]) -> Result<(AtomicItem, &[Token]), Fault
 }
 
 /// Adds an item to those of its kind.
-fn add(atomic: &mut Atomic, item: AtomicItem) -> Result<(), Fault>
-    ensures added { OnOk result (atomic_of atomic.new ≡ with_item (atomic_of atomic.old) (item_of item)) }
-    ensures memory { IfErr result (λ e. e ≡ Fault.Memory) }
+fn add(atomic: &mut Atomic, item: AtomicItem) -> Result<(), ParseError>
+    ensures added { OnOk result
+        (atomic_of atomic.new ≡ with_item (atomic_of atomic.old) (item_of item)) }
+    ensures memory { IfErr result (λ e. e ≡ ParseError.Memory) }
 {
     match item {
         AtomicItem::Declares(declaration) => atomic.declarations.push(declaration)?,
@@ -256,9 +265,14 @@ fn add(atomic: &mut Atomic, item: AtomicItem) -> Result<(), Fault>
 }
 
 /// Adds the items before the brace that closes their model.
-fn items(alloc: Global, mut atomic: Atomic, tokens: &[Token]) -> Result<(Atomic, &[Token]), Fault>
+fn items(
+    alloc: Global,
+    mut atomic: Atomic,
+    tokens: &[Token],
+) -> Result<(Atomic, &[Token]), ParseError>
     ensures { Gives (λ x. (atomic_of x.0, x.1.now)) result
-        (becoming (with_items (atomic_of atomic)) (many_at item_at (TokenKind.Symbol Symbol.CloseBrace) tokens.now)) }
+        (becoming (with_items (atomic_of atomic))
+        (many_at item_at (TokenKind.Symbol Symbol.CloseBrace) tokens.now)) }
 {
     let mut rest = tokens;
     while !begins_with_symbol(rest, Symbol::CloseBrace) {
@@ -285,7 +299,7 @@ fn empty(alloc: Global, name: Name) -> Atomic
 
 /// `atomic name { .. }`
 #[tactic(auto, unfolding(crate::specs::Reading::atomic_tree_at, crate::specs::Reading::atomic_at, crate::specs::Reading::braces_at, crate::specs::Reading::read_then))]
-pub fn atomic(alloc: Global, tokens: &[Token]) -> Result<(Atomic, &[Token]), Fault>
+pub fn atomic(alloc: Global, tokens: &[Token]) -> Result<(Atomic, &[Token]), ParseError>
     ensures { Gives (λ x. (atomic_of x.0, x.1.now)) result (atomic_tree_at tokens.now) }
 {
     let rest = after_keyword(tokens, Keyword::Atomic)?;

@@ -5,7 +5,7 @@ ghost use Rattle.dv_syntax.specs.Trees.{coupled_of};
 ghost use Rattle.dv_syntax.specs.Reading.{Gives, many_at, braces_at, end_at, part_at, link_at, coupled_item_at, coupled_item_of, with_coupled_item, with_coupled_items, empty_coupled, becoming, coupled_tree_at};
 
 use super::atomic::out;
-use super::fault::Fault;
+use super::parse_error::ParseError;
 use super::token::{
     after_keyword, after_symbol, begins_with_keyword, begins_with_symbol, first_place, name,
 };
@@ -23,7 +23,7 @@ pub enum CoupledItem {
 
 /// `self.port` or `part.port`
 #[tactic(auto, unfolding(crate::specs::Reading::end_at, crate::specs::Reading::read_then, crate::specs::Reading::choose))]
-fn end(tokens: &[Token]) -> Result<(End, &[Token]), Fault>
+fn end(tokens: &[Token]) -> Result<(End, &[Token]), ParseError>
     ensures { Gives (λ x. (x.0, x.1.now)) result (end_at tokens.now) }
 {
     if begins_with_keyword(tokens, Keyword::Itself) {
@@ -47,7 +47,7 @@ fn end(tokens: &[Token]) -> Result<(End, &[Token]), Fault>
 
 /// `part name: model;`
 #[tactic(auto, unfolding(crate::specs::Reading::part_at, crate::specs::Reading::read_then))]
-fn part(tokens: &[Token]) -> Result<(Part, &[Token]), Fault>
+fn part(tokens: &[Token]) -> Result<(Part, &[Token]), ParseError>
     ensures { Gives (λ x. (x.0, x.1.now)) result (part_at tokens.now) }
 {
     let rest = after_keyword(tokens, Keyword::Part)?;
@@ -60,7 +60,7 @@ fn part(tokens: &[Token]) -> Result<(Part, &[Token]), Fault>
 
 /// `link from -> to;`
 #[tactic(auto, unfolding(crate::specs::Reading::link_at, crate::specs::Reading::read_then))]
-fn link(tokens: &[Token]) -> Result<(Link, &[Token]), Fault>
+fn link(tokens: &[Token]) -> Result<(Link, &[Token]), ParseError>
     ensures { Gives (λ x. (x.0, x.1.now)) result (link_at tokens.now) }
 {
     let place = first_place(tokens);
@@ -74,7 +74,7 @@ fn link(tokens: &[Token]) -> Result<(Link, &[Token]), Fault>
 
 /// An item at the front.
 #[tactic(auto, unfolding(crate::specs::Reading::coupled_item_at, crate::specs::Reading::read_then, crate::specs::Reading::choose))]
-fn item(tokens: &[Token]) -> Result<(CoupledItem, &[Token]), Fault>
+fn item(tokens: &[Token]) -> Result<(CoupledItem, &[Token]), ParseError>
     ensures { Gives (λ x. (coupled_item_of x.0, x.1.now)) result (coupled_item_at tokens.now) }
 {
     if begins_with_keyword(tokens, Keyword::Out) {
@@ -90,9 +90,10 @@ fn item(tokens: &[Token]) -> Result<(CoupledItem, &[Token]), Fault>
 }
 
 /// Adds an item to those of its kind.
-fn add(coupled: &mut Coupled, item: CoupledItem) -> Result<(), Fault>
-    ensures added { OnOk result (coupled_of coupled.new ≡ with_coupled_item (coupled_of coupled.old) (coupled_item_of item)) }
-    ensures memory { IfErr result (λ e. e ≡ Fault.Memory) }
+fn add(coupled: &mut Coupled, item: CoupledItem) -> Result<(), ParseError>
+    ensures added { OnOk result (coupled_of coupled.new
+        ≡ with_coupled_item (coupled_of coupled.old) (coupled_item_of item)) }
+    ensures memory { IfErr result (λ e. e ≡ ParseError.Memory) }
 {
     match item {
         CoupledItem::Outputs(port) => coupled.outputs.push(port)?,
@@ -103,9 +104,10 @@ fn add(coupled: &mut Coupled, item: CoupledItem) -> Result<(), Fault>
 }
 
 /// Adds the items before the brace that closes their model.
-fn items(mut coupled: Coupled, tokens: &[Token]) -> Result<(Coupled, &[Token]), Fault>
+fn items(mut coupled: Coupled, tokens: &[Token]) -> Result<(Coupled, &[Token]), ParseError>
     ensures { Gives (λ x. (coupled_of x.0, x.1.now)) result
-        (becoming (with_coupled_items (coupled_of coupled)) (many_at coupled_item_at (TokenKind.Symbol Symbol.CloseBrace) tokens.now)) }
+        (becoming (with_coupled_items (coupled_of coupled))
+        (many_at coupled_item_at (TokenKind.Symbol Symbol.CloseBrace) tokens.now)) }
 {
     let mut rest = tokens;
     while !begins_with_symbol(rest, Symbol::CloseBrace) {
@@ -130,7 +132,7 @@ fn empty(alloc: Global, name: Name) -> Coupled
 
 /// `coupled name { .. }`
 #[tactic(auto, unfolding(crate::specs::Reading::coupled_tree_at, crate::specs::Reading::coupled_at, crate::specs::Reading::braces_at, crate::specs::Reading::read_then))]
-pub fn coupled(alloc: Global, tokens: &[Token]) -> Result<(Coupled, &[Token]), Fault>
+pub fn coupled(alloc: Global, tokens: &[Token]) -> Result<(Coupled, &[Token]), ParseError>
     ensures { Gives (λ x. (coupled_of x.0, x.1.now)) result (coupled_tree_at tokens.now) }
 {
     let rest = after_keyword(tokens, Keyword::Coupled)?;

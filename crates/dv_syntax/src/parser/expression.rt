@@ -5,7 +5,7 @@ ghost use Rattle.dv_syntax.specs.Trees.{expression_of};
 ghost use Rattle.dv_syntax.specs.Grammar.{operator_rank, left_rank, rank, depth};
 ghost use Rattle.dv_syntax.specs.Reading.{Gives, operator_of, goes_on, operator_at, place_at, leaf_at, parens_at, negative_at, primary_at, expression_at};
 
-use super::fault::Fault;
+use super::parse_error::ParseError;
 use super::token::{after_symbol, begins_with_name, begins_with_symbol, first_place, name, number};
 use crate::tree::{Expr, Operator};
 use dv_lex::{Symbol, Token, TokenKind};
@@ -90,7 +90,8 @@ fn next_operator<'a>(
 ) -> Option<(Operator, u32, &'a [Token])>
     ensures { MatchOption result
         (operator_at level (expression_of left.now) tokens.now ≡ None)
-        (λ x. (operator_at level (expression_of left.now) tokens.now ≡ Some (x.0, x.2.now)) × (x.1 ≡ place_at tokens.now)) }
+        (λ x. (operator_at level (expression_of left.now) tokens.now ≡ Some (x.0, x.2.now))
+        × (x.1 ≡ place_at tokens.now)) }
 {
     let [Token { kind, place }, rest @ ..] = tokens else {
         return None;
@@ -105,7 +106,7 @@ fn next_operator<'a>(
 
 /// A name or a number, and what follows it.
 #[tactic(auto, unfolding(crate::specs::Reading::leaf_at, crate::specs::Reading::read_then, crate::specs::Reading::choose))]
-fn leaf(tokens: &[Token]) -> Result<(Expr, &[Token]), Fault>
+fn leaf(tokens: &[Token]) -> Result<(Expr, &[Token]), ParseError>
     ensures gives { Gives (λ x. (expression_of x.0, x.1.now)) result (leaf_at tokens.now) }
     ensures depth { IfOk result (λ x. depth (expression_of x.0) ≡ 1) }
 {
@@ -115,7 +116,7 @@ fn leaf(tokens: &[Token]) -> Result<(Expr, &[Token]), Fault>
     } else {
         let (number, rest) = match number(tokens) {
             Ok(read) => read,
-            Err(fault) => return Err(fault),
+            Err(e) => return Err(e),
         };
         Ok((Expr::Literal(number), rest))
     }
@@ -124,17 +125,18 @@ fn leaf(tokens: &[Token]) -> Result<(Expr, &[Token]), Fault>
 /// An expression in parentheses.
 #[cycle(expression)]
 #[tactic(auto, unfolding(crate::specs::Reading::parens_at, crate::specs::Reading::within, crate::specs::Reading::read_then))]
-fn parens(alloc: Global, tokens: &[Token], limit: u32) -> Result<(Expr, u32, &[Token]), Fault>
+fn parens(alloc: Global, tokens: &[Token], limit: u32) -> Result<(Expr, u32, &[Token]), ParseError>
     requires positive { 0 < limit }
     requires bounded { limit ≤ 64 }
-    ensures gives { Gives (λ x. (expression_of x.0, x.2.now)) result (parens_at (expression_at (limit - 1)) (limit - 1) tokens.now) }
+    ensures gives { Gives (λ x. (expression_of x.0, x.2.now)) result
+        (parens_at (expression_at (limit - 1)) (limit - 1) tokens.now) }
     ensures depth { IfOk result (λ x. x.1 ≡ depth (expression_of x.0)) }
     ensures within { IfOk result (λ x. (0 < x.1) × (x.1 ≤ limit)) }
 {
     let place = first_place(tokens);
     let inside = after_symbol(tokens, Symbol::OpenParen)?;
     if limit == 1 {
-        return Err(Fault::TooDeep(place));
+        return Err(ParseError::TooDeep(place));
     }
     let (inner, depth, rest) = within(alloc, inside, limit - 1, 0)?;
     let rest = after_symbol(rest, Symbol::CloseParen)?;
@@ -145,17 +147,22 @@ fn parens(alloc: Global, tokens: &[Token], limit: u32) -> Result<(Expr, u32, &[T
 /// An operand behind a minus sign.
 #[cycle(expression)]
 #[tactic(auto, unfolding(crate::specs::Reading::negative_at, crate::specs::Reading::within, crate::specs::Reading::read_then))]
-fn negative(alloc: Global, tokens: &[Token], limit: u32) -> Result<(Expr, u32, &[Token]), Fault>
+fn negative(
+    alloc: Global,
+    tokens: &[Token],
+    limit: u32,
+) -> Result<(Expr, u32, &[Token]), ParseError>
     requires positive { 0 < limit }
     requires bounded { limit ≤ 64 }
-    ensures gives { Gives (λ x. (expression_of x.0, x.2.now)) result (negative_at (expression_at (limit - 1)) (limit - 1) tokens.now) }
+    ensures gives { Gives (λ x. (expression_of x.0, x.2.now)) result
+        (negative_at (expression_at (limit - 1)) (limit - 1) tokens.now) }
     ensures depth { IfOk result (λ x. x.1 ≡ depth (expression_of x.0)) }
     ensures within { IfOk result (λ x. (0 < x.1) × (x.1 ≤ limit)) }
 {
     let place = first_place(tokens);
     let behind = after_symbol(tokens, Symbol::Minus)?;
     if limit == 1 {
-        return Err(Fault::TooDeep(place));
+        return Err(ParseError::TooDeep(place));
     }
     let (operand, depth, rest) = within(alloc, behind, limit - 1, PREFIXED)?;
     let operand = Box::new(alloc, operand)?;
@@ -165,10 +172,11 @@ fn negative(alloc: Global, tokens: &[Token], limit: u32) -> Result<(Expr, u32, &
 /// An operand that no operator joins to another.
 #[cycle(expression)]
 #[tactic(auto, unfolding(crate::specs::Reading::primary_at, crate::specs::Reading::choose))]
-fn primary(alloc: Global, tokens: &[Token], limit: u32) -> Result<(Expr, u32, &[Token]), Fault>
+fn primary(alloc: Global, tokens: &[Token], limit: u32) -> Result<(Expr, u32, &[Token]), ParseError>
     requires positive { 0 < limit }
     requires bounded { limit ≤ 64 }
-    ensures gives { Gives (λ x. (expression_of x.0, x.2.now)) result (primary_at (expression_at (limit - 1)) (limit - 1) tokens.now) }
+    ensures gives { Gives (λ x. (expression_of x.0, x.2.now)) result
+        (primary_at (expression_at (limit - 1)) (limit - 1) tokens.now) }
     ensures depth { IfOk result (λ x. x.1 ≡ depth (expression_of x.0)) }
     ensures within { IfOk result (λ x. (0 < x.1) × (x.1 ≤ limit)) }
 {
@@ -191,17 +199,18 @@ fn within(
     tokens: &[Token],
     limit: u32,
     level: u32,
-) -> Result<(Expr, u32, &[Token]), Fault>
+) -> Result<(Expr, u32, &[Token]), ParseError>
     requires positive { 0 < limit }
     requires bounded { limit ≤ 64 }
-    ensures gives { Gives (λ x. (expression_of x.0, x.2.now)) result (expression_at limit level tokens.now) }
+    ensures gives { Gives (λ x. (expression_of x.0, x.2.now)) result
+        (expression_at limit level tokens.now) }
     ensures depth { IfOk result (λ x. x.1 ≡ depth (expression_of x.0)) }
     ensures within { IfOk result (λ x. (0 < x.1) × (x.1 ≤ limit)) }
 {
     let (mut left, mut depth, mut rest) = primary(alloc, tokens, limit)?;
     while let Some((operator, place, after)) = next_operator(rest, level, &left) {
         if depth >= limit {
-            return Err(Fault::TooDeep(place));
+            return Err(ParseError::TooDeep(place));
         }
         let right_level = rank_of_operator(operator) + 1;
         let (right, right_depth, next) = within(alloc, after, limit - 1, right_level)?;
@@ -217,7 +226,7 @@ fn within(
 }
 
 /// The longest expression at the front, and what follows it.
-pub fn expression(alloc: Global, tokens: &[Token]) -> Result<(Expr, &[Token]), Fault>
+pub fn expression(alloc: Global, tokens: &[Token]) -> Result<(Expr, &[Token]), ParseError>
     ensures { Gives (λ x. (expression_of x.0, x.1.now)) result (expression_at 64 0 tokens.now) }
 {
     let (expression, _, rest) = within(alloc, tokens, DEPTH_LIMIT, 0)?;

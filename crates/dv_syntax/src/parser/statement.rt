@@ -5,7 +5,7 @@ ghost use Rattle.dv_syntax.specs.Trees.{block_of};
 ghost use Rattle.dv_syntax.specs.Reading.{Gives, single_of, many_at, assign_at, goto_at, send_at, if_at, statement_at, braces_at, block_at};
 
 use super::expression::expression;
-use super::fault::Fault;
+use super::parse_error::ParseError;
 use super::token::{
     after_keyword, after_symbol, begins_with_keyword, begins_with_symbol, first_place, name,
 };
@@ -15,7 +15,7 @@ use std::alloc::Global;
 
 /// `variable := value;`
 #[tactic(auto, unfolding(crate::specs::Reading::assign_at, crate::specs::Reading::read_then))]
-fn assign(alloc: Global, tokens: &[Token]) -> Result<(Stmt, &[Token]), Fault>
+fn assign(alloc: Global, tokens: &[Token]) -> Result<(Stmt, &[Token]), ParseError>
     ensures { Gives (λ x. (single_of x.0, x.1.now)) result (assign_at tokens.now) }
 {
     let (variable, rest) = name(tokens)?;
@@ -27,7 +27,7 @@ fn assign(alloc: Global, tokens: &[Token]) -> Result<(Stmt, &[Token]), Fault>
 
 /// `goto phase;`
 #[tactic(auto, unfolding(crate::specs::Reading::goto_at, crate::specs::Reading::read_then))]
-fn goto(tokens: &[Token]) -> Result<(Stmt, &[Token]), Fault>
+fn goto(tokens: &[Token]) -> Result<(Stmt, &[Token]), ParseError>
     ensures { Gives (λ x. (single_of x.0, x.1.now)) result (goto_at tokens.now) }
 {
     let place = first_place(tokens);
@@ -39,7 +39,7 @@ fn goto(tokens: &[Token]) -> Result<(Stmt, &[Token]), Fault>
 
 /// `send port value;`
 #[tactic(auto, unfolding(crate::specs::Reading::send_at, crate::specs::Reading::read_then))]
-fn send(alloc: Global, tokens: &[Token]) -> Result<(Stmt, &[Token]), Fault>
+fn send(alloc: Global, tokens: &[Token]) -> Result<(Stmt, &[Token]), ParseError>
     ensures { Gives (λ x. (single_of x.0, x.1.now)) result (send_at tokens.now) }
 {
     let place = first_place(tokens);
@@ -53,14 +53,15 @@ fn send(alloc: Global, tokens: &[Token]) -> Result<(Stmt, &[Token]), Fault>
 /// `if condition { .. }`, and its `else` where that follows.
 #[cycle(block)]
 #[tactic(auto, unfolding(crate::specs::Reading::if_at, crate::specs::Reading::within, crate::specs::Reading::else_at, crate::specs::Reading::read_then, crate::specs::Reading::choose))]
-fn if_statement(alloc: Global, tokens: &[Token], limit: u32) -> Result<(Stmt, &[Token]), Fault>
+fn if_statement(alloc: Global, tokens: &[Token], limit: u32) -> Result<(Stmt, &[Token]), ParseError>
     requires { 0 < limit }
-    ensures { Gives (λ x. (single_of x.0, x.1.now)) result (if_at (block_at (limit - 1)) (limit - 1) tokens.now) }
+    ensures { Gives (λ x. (single_of x.0, x.1.now)) result
+        (if_at (block_at (limit - 1)) (limit - 1) tokens.now) }
 {
     let place = first_place(tokens);
     let rest = after_keyword(tokens, Keyword::If)?;
     if limit == 1 {
-        return Err(Fault::TooDeep(place));
+        return Err(ParseError::TooDeep(place));
     }
     let (condition, rest) = expression(alloc, rest)?;
     let (then_block, rest) = block(alloc, rest, limit - 1)?;
@@ -91,9 +92,10 @@ fn if_statement(alloc: Global, tokens: &[Token], limit: u32) -> Result<(Stmt, &[
 /// A statement at the front.
 #[cycle(block)]
 #[tactic(auto, unfolding(crate::specs::Reading::statement_at, crate::specs::Reading::choose))]
-fn statement(alloc: Global, tokens: &[Token], limit: u32) -> Result<(Stmt, &[Token]), Fault>
+fn statement(alloc: Global, tokens: &[Token], limit: u32) -> Result<(Stmt, &[Token]), ParseError>
     requires { 0 < limit }
-    ensures { Gives (λ x. (single_of x.0, x.1.now)) result (statement_at (block_at (limit - 1)) (limit - 1) tokens.now) }
+    ensures { Gives (λ x. (single_of x.0, x.1.now)) result
+        (statement_at (block_at (limit - 1)) (limit - 1) tokens.now) }
 {
     if begins_with_keyword(tokens, Keyword::Goto) {
         goto(tokens)
@@ -108,10 +110,15 @@ fn statement(alloc: Global, tokens: &[Token], limit: u32) -> Result<(Stmt, &[Tok
 
 /// The statements before the brace that closes their block.
 #[cycle(block)]
-fn statements(alloc: Global, tokens: &[Token], limit: u32) -> Result<(Vec<Stmt>, &[Token]), Fault>
+fn statements(
+    alloc: Global,
+    tokens: &[Token],
+    limit: u32,
+) -> Result<(Vec<Stmt>, &[Token]), ParseError>
     requires { 0 < limit }
     ensures { Gives (λ x. (map single_of x.0.items, x.1.now)) result
-        (many_at (statement_at (block_at (limit - 1)) (limit - 1)) (TokenKind.Symbol Symbol.CloseBrace) tokens.now) }
+        (many_at (statement_at (block_at (limit - 1)) (limit - 1))
+        (TokenKind.Symbol Symbol.CloseBrace) tokens.now) }
 {
     let mut statements = Vec::new(alloc);
     let mut rest = tokens;
@@ -130,9 +137,10 @@ fn braced_statements(
     alloc: Global,
     tokens: &[Token],
     limit: u32,
-) -> Result<(Vec<Stmt>, &[Token]), Fault>
+) -> Result<(Vec<Stmt>, &[Token]), ParseError>
     requires { 0 < limit }
-    ensures { Gives (λ x. (map single_of x.0.items, x.1.now)) result (braces_at (statement_at (block_at (limit - 1)) (limit - 1)) tokens.now) }
+    ensures { Gives (λ x. (map single_of x.0.items, x.1.now)) result
+        (braces_at (statement_at (block_at (limit - 1)) (limit - 1)) tokens.now) }
 {
     let inside = after_symbol(tokens, Symbol::OpenBrace)?;
     let (statements, rest) = statements(alloc, inside, limit)?;
@@ -142,7 +150,7 @@ fn braced_statements(
 
 /// Statements in braces. The limit counts how deep blocks may lie in one another, this one too.
 #[cycle(block)]
-pub fn block(alloc: Global, tokens: &[Token], limit: u32) -> Result<(Block, &[Token]), Fault>
+pub fn block(alloc: Global, tokens: &[Token], limit: u32) -> Result<(Block, &[Token]), ParseError>
     requires { 0 < limit }
     ensures { Gives (λ x. (block_of x.0, x.1.now)) result (block_at limit tokens.now) }
 {

@@ -1,9 +1,9 @@
 //! Single tokens.
 
 ghost use Rattle.std.specs.Prelude.{◌≡◌};
-ghost use Rattle.dv_syntax.specs.Reading.{Gives, IsFault, obstacle_at, same_kind, begins, begins_name, after, place_at, name_at, number_at};
+ghost use Rattle.dv_syntax.specs.Reading.{Gives, IsParseError, obstacle_at, same_kind, begins, begins_name, after, place_at, name_at, number_at};
 
-use super::fault::Fault;
+use super::parse_error::ParseError;
 use crate::tree::{Name, Number};
 use dv_lex::{Keyword, Symbol, Token, TokenKind};
 
@@ -63,18 +63,18 @@ pub fn first_place(tokens: &[Token]) -> u32
 
 /// What refuses the first token.
 #[tactic(auto, unfolding(crate::specs::Reading::obstacle_at))]
-pub fn unexpected(tokens: &[Token]) -> Fault
-    ensures { IsFault result (obstacle_at tokens.now) }
+pub fn unexpected(tokens: &[Token]) -> ParseError
+    ensures { IsParseError result (obstacle_at tokens.now) }
 {
     match tokens {
-        [first, ..] => Fault::Unexpected(first.place),
-        [] => Fault::TooShort,
+        [first, ..] => ParseError::Unexpected(first.place),
+        [] => ParseError::TooShort,
     }
 }
 
 /// The tokens after one of this kind.
 #[tactic(auto, unfolding(crate::specs::Reading::after, crate::specs::Reading::obstacle_at, crate::specs::Reading::choose))]
-fn after_kind(tokens: &[Token], kind: TokenKind) -> Result<&[Token], Fault>
+fn after_kind(tokens: &[Token], kind: TokenKind) -> Result<&[Token], ParseError>
     ensures { Gives (λ rest. rest.now) result (after kind tokens.now) }
 {
     if !begins_with(tokens, kind) {
@@ -83,13 +83,13 @@ fn after_kind(tokens: &[Token], kind: TokenKind) -> Result<&[Token], Fault>
     Ok(&tokens[1..])
 }
 
-pub fn after_symbol(tokens: &[Token], symbol: Symbol) -> Result<&[Token], Fault>
+pub fn after_symbol(tokens: &[Token], symbol: Symbol) -> Result<&[Token], ParseError>
     ensures { Gives (λ rest. rest.now) result (after (TokenKind.Symbol symbol) tokens.now) }
 {
     after_kind(tokens, TokenKind::Symbol(symbol))
 }
 
-pub fn after_keyword(tokens: &[Token], keyword: Keyword) -> Result<&[Token], Fault>
+pub fn after_keyword(tokens: &[Token], keyword: Keyword) -> Result<&[Token], ParseError>
     ensures { Gives (λ rest. rest.now) result (after (TokenKind.Keyword keyword) tokens.now) }
 {
     after_kind(tokens, TokenKind::Keyword(keyword))
@@ -97,7 +97,7 @@ pub fn after_keyword(tokens: &[Token], keyword: Keyword) -> Result<&[Token], Fau
 
 /// The name at the front, and what follows it.
 #[tactic(auto, unfolding(crate::specs::Reading::name_at, crate::specs::Reading::obstacle_at))]
-pub fn name(tokens: &[Token]) -> Result<(Name, &[Token]), Fault>
+pub fn name(tokens: &[Token]) -> Result<(Name, &[Token]), ParseError>
     ensures { Gives (λ x. (x.0, x.1.now)) result (name_at tokens.now) }
 {
     match tokens {
@@ -120,7 +120,7 @@ pub fn name(tokens: &[Token]) -> Result<(Name, &[Token]), Fault>
 
 /// The number at the front, and what follows it.
 #[tactic(auto, unfolding(crate::specs::Reading::number_at, crate::specs::Reading::obstacle_at))]
-pub fn number(tokens: &[Token]) -> Result<(Number, &[Token]), Fault>
+pub fn number(tokens: &[Token]) -> Result<(Number, &[Token]), ParseError>
     ensures { Gives (λ x. (x.0, x.1.now)) result (number_at tokens.now) }
 {
     match tokens {

@@ -4,7 +4,7 @@ use std::alloc::{AllocError, AllocFailed};
 
 /// Why the tokens could not be read. A place is that of the token at which it shows.
 #[derive(Clone, Copy, Debug, PartialEq, Eq)]
-pub enum Fault {
+pub enum ParseError {
     /// An allocation was refused.
     Memory,
     /// The token can't stand there.
@@ -15,24 +15,24 @@ pub enum Fault {
     TooShort,
 }
 
-impl From<AllocError> for Fault {
+impl From<AllocError> for ParseError {
     ghost use Rattle.std.specs.Prelude.{◌≡◌};
-    ghost use Rattle.dv_syntax.specs.declared.parser.fault.Fault.TheVariants.{Memory};
+    ghost use Rattle.dv_syntax.specs.declared.parser.parse_error.ParseError.TheVariants.{Memory};
 
     ghost from_gives = { λ _ e. e ≡ Memory };
 
     fn from(_error: AllocError) -> Self {
-        Fault::Memory
+        ParseError::Memory
     }
 }
 
-impl<T: Drop> From<AllocFailed<T>> for Fault {
+impl<T: Drop> From<AllocFailed<T>> for ParseError {
     ghost use Rattle.std.specs.Prelude.{◌≡◌};
-    ghost use Rattle.dv_syntax.specs.declared.parser.fault.Fault.TheVariants.{Memory};
+    ghost use Rattle.dv_syntax.specs.declared.parser.parse_error.ParseError.TheVariants.{Memory};
 
     ghost from_gives = { λ _ e. e ≡ Memory };
 
     fn from(_error: AllocFailed<T>) -> Self {
-        Fault::Memory
+        ParseError::Memory
     }
 }
