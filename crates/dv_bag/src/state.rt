@@ -197,6 +197,14 @@ impl Variables {
     {
         self.data[place] = Datum::Number(value);
     }
+
+    /// Another truth value at this place.
+    pub fn set_flag(&mut self, place: usize, value: bool)
+        requires { place < length self.old }
+        ensures { self.new ≡ slice_set self.old place (datum.Flag value) }
+    {
+        self.data[place] = Datum::Flag(value);
+    }
 }
 
 impl Clone for Variables {

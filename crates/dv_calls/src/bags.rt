@@ -1,133 +1,165 @@
 //! What lies outside the proofs: that the calls succeed, and that the definitions say what is meant.
 
+use crate::compare::same;
 use dv_bag::{
     Bag, Bags, BoxedBag, Datum, DatumView, Entry, Fault, Kind, Outer, Part, Sent, State, Variables,
     What,
 };
 use dv_time::Time;
-use std::alloc::{AllocError, Global};
+use std::process::Abort;
 use std::test::Fail;
 
-fn bag_of(alloc: Global, values: &[i64]) -> Result<Bag, AllocError> {
-    let mut bag = Bag::new(alloc);
+fn bag_of<R: Abort + AllocGlobal>(rt: &R, values: &[i64]) -> Bag {
+    let mut bag = Bag::new(rt.alloc());
     for value in values {
-        bag.insert(*value)?;
+        bag.insert(*value).expect(rt, "memory");
     }
-    Ok(bag)
+    bag
+}
+
+// The sum, which is asked of a bag of few values alone.
+fn sum_of(rt: &impl Abort, bag: &Bag) -> Result<i64, Fault> {
+    assert!(rt; bag.size() <= 4_096);
+    bag.sum()
 }
 
 #[test]
-fn a_bag_counts_its_values(rt: HostRuntime) -> Result<(), Fail> {
-    let mut bag = bag_of(rt.alloc(), &[30, -1, 30, 7])?;
-    assert_eq!(rt; bag.pairs(), [(-1, 1), (7, 1), (30, 2)].as_slice());
-    assert_eq!(rt; bag.size(), 4);
-    assert_eq!(rt; bag.least(), Some(-1));
-    assert_eq!(rt; bag.most(), Some(30));
-    assert_eq!(rt; bag.times(30), 2);
-    assert_eq!(rt; bag.times(5), 0);
+fn a_bag_counts_its_values(rt: HostRuntime) {
+    let mut bag = bag_of(&rt, &[30, -1, 30, 7]);
+    same!(rt; bag.pairs(), [(-1, 1), (7, 1), (30, 2)].as_slice());
+    same!(rt; bag.size(), 4);
+    same!(rt; bag.least(), Some(-1));
+    same!(rt; bag.most(), Some(30));
+    same!(rt; bag.times(30), 2);
+    same!(rt; bag.times(5), 0);
     bag.drop_one(30);
     bag.drop_one(7);
     bag.drop_one(8);
-    assert_eq!(rt; bag.pairs(), [(-1, 1), (30, 1)].as_slice());
-    assert_eq!(rt; bag.is_empty(), false);
-    Ok(())
+    same!(rt; bag.pairs(), [(-1, 1), (30, 1)].as_slice());
+    same!(rt; bag.is_empty(), false);
 }
 
 #[test]
-fn a_count_stands_at_its_greatest(rt: HostRuntime) -> Result<(), Fail> {
-    let mut bag = Bag::new(rt.alloc());
-    bag.insert_copies(5, 18_446_744_073_709_551_614)?;
-    bag.insert(5)?;
-    bag.insert(5)?;
-    bag.insert(6)?;
-    assert_eq!(rt; bag.times(5), 18_446_744_073_709_551_615);
-    assert_eq!(rt; bag.size(), 18_446_744_073_709_551_615);
-    Ok(())
+fn a_count_stands_at_its_greatest(rt: HostRuntime) {
+    let mut bag = bag_of(&rt, &[6]);
+    bag.insert_copies(5, 18_446_744_073_709_551_614)
+        .expect(&rt, "memory");
+    bag.insert(5).expect(&rt, "memory");
+    bag.insert(5).expect(&rt, "memory");
+    same!(rt; bag.times(5), 18_446_744_073_709_551_615);
+    same!(rt; bag.size(), 18_446_744_073_709_551_615);
 }
 
 #[test]
-fn only_the_exact_sum_overflows(rt: HostRuntime) -> Result<(), Fail> {
+fn only_the_exact_sum_overflows(rt: HostRuntime) {
     let greatest = 9_223_372_036_854_775_807;
-    let mut bag = bag_of(rt.alloc(), &[greatest, greatest, -greatest])?;
-    assert_eq!(rt; bag.size(), 3);
-    assert_eq!(rt; bag.sum(), Ok(greatest));
+    let mut bag = bag_of(&rt, &[greatest, greatest, -greatest]);
+    same!(rt; bag.size(), 3);
+    same!(rt; sum_of(&rt, &bag), Ok(greatest));
     bag.drop_one(-greatest);
-    assert_eq!(rt; bag.size(), 2);
-    assert_eq!(rt; bag.sum(), Err(Fault::Overflow));
-    Ok(())
+    same!(rt; bag.size(), 2);
+    same!(rt; sum_of(&rt, &bag), Err(Fault::Overflow));
 }
 
 #[test]
-fn bags_unite(rt: HostRuntime) -> Result<(), Fail> {
-    let mut one = bag_of(rt.alloc(), &[1, 2])?;
-    let two = bag_of(rt.alloc(), &[3, 2, 0])?;
-    one.union(&two)?;
-    assert_eq!(rt; one.pairs(), [(0, 1), (1, 1), (2, 2), (3, 1)].as_slice());
-    let copy = one.clone()?;
-    assert!(rt; copy == one);
-    assert!(rt; copy != two);
-    Ok(())
+fn bags_unite(rt: HostRuntime) {
+    let mut bag = bag_of(&rt, &[1, 2]);
+    bag.union(&bag_of(&rt, &[3, 2, 0])).expect(&rt, "memory");
+    same!(rt; bag.pairs(), [(0, 1), (1, 1), (2, 2), (3, 1)].as_slice());
 }
 
 #[test]
-fn bags_stand_by_port(rt: HostRuntime) -> Result<(), Fail> {
-    let mut bags = Bags::empty(rt.alloc(), 3)?;
+fn a_copy_of_a_bag_is_the_same(rt: HostRuntime) {
+    let bag = bag_of(&rt, &[1, 2]);
+    let copy = bag.clone().expect(&rt, "memory");
+    same!(rt; copy == bag, true);
+    same!(rt; copy == bag_of(&rt, &[1, 3]), false);
+}
+
+// Adds a value at a port that is there.
+fn put(rt: &impl Abort, bags: &mut Bags, port: usize, value: i64) {
+    assert!(rt; port < bags.len());
+    bags.insert(port, value).expect(rt, "memory");
+}
+
+// Adds a bag at a port that is there.
+fn unite(rt: &impl Abort, bags: &mut Bags, port: usize, values: &Bag) {
+    assert!(rt; port < bags.len());
+    bags.union_at(port, values).expect(rt, "memory");
+}
+
+#[test]
+fn bags_stand_by_port(rt: HostRuntime) {
+    let mut bags = Bags::empty(rt.alloc(), 3).expect(&rt, "memory");
+    put(&rt, &mut bags, 2, 5);
+    unite(&rt, &mut bags, 2, &bag_of(&rt, &[5, 4]));
+    put(&rt, &mut bags, 0, 1);
+    same!(rt; bags.total(), 4);
+    let copy = bags.clone().expect(&rt, "memory");
+    same!(rt; copy == bags, true);
     assert_eq!(rt; bags.len(), 3);
-    bags.insert(2, 5)?;
-    bags.union_at(2, &bag_of(rt.alloc(), &[5, 4])?)?;
-    bags.insert(0, 1)?;
-    assert_eq!(rt; bags.get(0).pairs(), [(1, 1)].as_slice());
-    assert!(rt; bags.get(1).is_empty());
-    assert_eq!(rt; bags.get(2).pairs(), [(4, 1), (5, 2)].as_slice());
-    assert_eq!(rt; bags.total(), 4);
-    let copy = bags.clone()?;
-    assert!(rt; copy == bags);
-    assert_eq!(rt; copy.as_slice().len(), 3);
-    Ok(())
+    same!(rt; bags.get(0).pairs(), [(1, 1)].as_slice());
+    same!(rt; bags.get(1).is_empty(), true);
+    same!(rt; bags.get(2).pairs(), [(4, 1), (5, 2)].as_slice());
+    same!(rt; bags.as_slice().len(), 3);
+}
+
+// What is sent by these values, each at a port that is there.
+fn sent_of<R: Abort + AllocGlobal>(rt: &R, ports: usize, values: &[(usize, i64)]) -> Sent {
+    let mut sent = Sent::empty(rt.alloc(), ports);
+    for (port, value) in values {
+        assert!(rt; *port < sent.len());
+        sent.insert(*port, *value).expect(rt, "memory");
+    }
+    sent
+}
+
+fn same_at_port(rt: &impl Abort, sent: &Sent, port: usize, wanted: &[(i64, u64)]) {
+    let bag = sent.bag(port).expect(rt, "memory");
+    assert_eq!(rt; bag.pairs(), wanted, "port {port}");
 }
 
 #[test]
-fn what_is_sent_has_a_bag_a_port(rt: HostRuntime) -> Result<(), Fail> {
-    let mut sent = Sent::empty(rt.alloc(), 3);
-    assert_eq!(rt; sent.len(), 3);
-    assert!(rt; sent.is_empty());
-    sent.insert(2, 5)?;
-    sent.insert(0, 1)?;
-    sent.insert(2, 4)?;
-    sent.insert(2, 5)?;
-    assert_eq!(rt; sent.total(), 4);
-    assert_eq!(rt; sent.bag(2)?.pairs(), [(4, 1), (5, 2)].as_slice());
-    assert!(rt; sent.bag(1)?.is_empty());
-    assert!(rt; sent.bag(3)?.is_empty());
-    Ok(())
+fn what_is_sent_has_a_bag_a_port(rt: HostRuntime) {
+    same!(rt; Sent::empty(rt.alloc(), 3).is_empty(), true);
+    let sent = sent_of(&rt, 3, &[(2, 5), (0, 1), (2, 4), (2, 5)]);
+    same!(rt; sent.is_empty(), false);
+    same!(rt; sent.len(), 3);
+    same!(rt; sent.total(), 4);
+    same_at_port(&rt, &sent, 0, &[(1, 1)]);
+    same_at_port(&rt, &sent, 1, &[]);
+    same_at_port(&rt, &sent, 2, &[(4, 1), (5, 2)]);
+    same_at_port(&rt, &sent, 3, &[]);
 }
 
-fn state_of(alloc: Global, number: i64) -> Result<State, AllocError> {
-    let mut variables = Variables::new(alloc);
-    variables.push(Datum::Flag(true))?;
-    variables.push(Datum::Number(number))?;
-    let bag = bag_of(alloc, &[number])?;
-    variables.push(Datum::Bag(BoxedBag::new(alloc, bag)?))?;
-    Ok(State {
+// A state of a flag, a number and a bag of that number.
+fn state_of<R: Abort + AllocGlobal>(rt: &R, number: i64) -> State {
+    let bag = BoxedBag::new(rt.alloc(), bag_of(rt, &[number])).expect(rt, "memory");
+    let mut variables = Variables::new(rt.alloc());
+    variables.push(Datum::Flag(true)).expect(rt, "memory");
+    variables.push(Datum::Number(number)).expect(rt, "memory");
+    variables.push(Datum::Bag(bag)).expect(rt, "memory");
+    State {
         phase: 1,
         variables,
-    })
+    }
 }
 
 #[test]
-fn variables_stand_in_order(rt: HostRuntime) -> Result<(), Fail> {
-    let mut state = state_of(rt.alloc(), 7)?;
-    let before = state.clone()?;
-    assert!(rt; before == state);
+fn variables_stand_in_order(rt: HostRuntime) {
+    let mut state = state_of(&rt, 7);
+    let before = state.clone().expect(&rt, "memory");
+    same!(rt; before == state, true);
     if state.variables.len() > 1 {
+        state.variables.set_flag(0, false);
         state.variables.set_number(1, 8);
     }
-    assert!(rt; before != state);
-    assert!(rt; matches!(state.variables.get(1), Some(DatumView::Number(8))));
-    assert!(rt; matches!(state.variables.get(2), Some(DatumView::Bag(_))));
-    assert!(rt; state.variables.get(3).is_none());
-    assert_eq!(rt; state.variables.len(), 3);
-    Ok(())
+    same!(rt; before == state, false);
+    same!(rt; state.variables.get(0), Some(DatumView::Flag(false)));
+    same!(rt; state.variables.get(1), Some(DatumView::Number(8)));
+    same!(rt; matches!(state.variables.get(2), Some(DatumView::Bag(_))), true);
+    same!(rt; state.variables.get(3), None);
+    same!(rt; state.variables.len(), 3);
 }
 
 #[test]
@@ -139,7 +171,7 @@ fn a_part_keeps_its_order(rt: HostRuntime) -> Result<(), Fail> {
             component,
             what: What::Transition {
                 kind: Kind::External,
-                state: state_of(rt.alloc(), 1)?,
+                state: state_of(&rt, 1),
             },
             sent: Sent::empty(rt.alloc(), 1),
         })?;
@@ -147,22 +179,23 @@ fn a_part_keeps_its_order(rt: HostRuntime) -> Result<(), Fail> {
     part.push_outer(Outer {
         time: Time::ZERO,
         port: 4,
-        values: bag_of(rt.alloc(), &[2])?,
+        values: bag_of(&rt, &[2]),
     })?;
     let copy = part.clone()?;
     let components: Vec<u32> = copy
         .entries()
         .map(|entry| entry.component)
         .collect(rt.alloc())?;
-    assert_eq!(rt; components.as_slice(), [0, 1, 2].as_slice());
+    same!(rt; components.as_slice(), [0, 1, 2].as_slice());
     let ports: Vec<u32> = copy.outer().map(|outer| outer.port).collect(rt.alloc())?;
-    assert_eq!(rt; ports.as_slice(), [4].as_slice());
+    same!(rt; ports.as_slice(), [4].as_slice());
     Ok(())
 }
 
 #[test]
-fn faults_have_names(rt: HostRuntime) -> Result<(), Fail> {
-    let faults = [
+fn faults_have_names(rt: HostRuntime) {
+    let mut names = String::new(rt.alloc());
+    for fault in [
         Fault::Overflow,
         Fault::Divide,
         Fault::Range,
@@ -171,14 +204,8 @@ fn faults_have_names(rt: HostRuntime) -> Result<(), Fail> {
         Fault::Negative,
         Fault::Microsteps,
         Fault::Flood,
-    ];
-    let mut names = String::new(rt.alloc());
-    for fault in faults {
-        names.push_str(format!(in rt.alloc(); "{fault} ")?.as_str())?;
+    ] {
+        write!(names, "{fault} ").expect(&rt, "memory");
     }
-    assert_eq!(rt;
-        names.as_str(),
-        "overflow divide range empty full negative microsteps flood "
-    );
-    Ok(())
+    same!(rt; names.as_str(), "overflow divide range empty full negative microsteps flood ");
 }

@@ -7,6 +7,8 @@ mod bags;
 #[cfg(test)]
 mod checks;
 #[cfg(test)]
+mod compare;
+#[cfg(test)]
 mod meanings;
 #[cfg(test)]
 mod times;

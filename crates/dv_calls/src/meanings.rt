@@ -1,111 +1,160 @@
 //! What expressions, rules and holds of texts do at their start.
 
-use dv_bag::{DatumView, Fault, Value};
+use crate::compare::{Call, error_text, rows};
+use dv_bag::{Effect, Fault, RuleError, State, Value};
 use dv_eval::{Scope, eval, hold, rule_body, run_rule, start_state};
 use dv_lex::{LoadError, tokens};
 use dv_syntax::{Atomic, File, Model, RuleSort, Ticks, parse};
-use std::alloc::Global;
-use std::test::Fail;
+use std::alloc::{AllocError, Global};
 
-/// A model with this hold and these statements of an internal rule. The names: 0 A, 1 y, 2 n, 3 z, 4 d.
-fn file_of(alloc: Global, ticks: &str, statements: &str) -> Result<File, LoadError> {
+/// The name of the start phase, in the model of `file_of`. The names: 0 A, 1 y, 2 n, 3 z, 4 d.
+const START: u32 = 3;
+
+// A model with these items behind its declarations.
+fn file_of(alloc: Global, items: &str) -> Result<File, LoadError> {
     let text = format!(in alloc;
-        "atomic A {{ out y; var n: 0..9 = 3; phases z, d; start z; hold z: {ticks}; internal z {{ {statements} }} }} root A;"
+        "atomic A {{ out y; var n: 0..9 = 3; phases z, d; start z; {items} }} root A;"
     )?;
+    parsed(alloc, text.as_str())
+}
+
+fn parsed(alloc: Global, text: &str) -> Result<File, LoadError> {
     let found = tokens(alloc, text.as_bytes())?;
     parse(alloc, &found.tokens, text.len() as u32)
 }
 
-/// The name of the start phase.
-const START: u32 = 3;
+/// What the hold of a model with these items gives at its start, and where it has none what its internal rule does.
+struct Start;
 
-fn model_of(file: &File) -> Option<&Atomic> {
+impl Call for Start {
+    fn told(alloc: Global, text: &str) -> Result<String, AllocError> {
+        match file_of(alloc, text) {
+            Ok(file) => file_text(alloc, &file),
+            Err(error) => error_text(alloc, error),
+        }
+    }
+}
+
+fn file_text(alloc: Global, file: &File) -> Result<String, AllocError> {
     match file.models.first() {
-        Some(Model::Atomic(model)) => Some(model),
-        _ => None,
+        Some(Model::Atomic(model)) => model_text(alloc, model),
+        _ => String::from_str(alloc, "no atomic model"),
     }
 }
 
-// What a hold's expression gives at the start of the model.
-fn value(alloc: Global, expression: &str) -> Result<Option<Result<Value, Fault>>, LoadError> {
-    let file = file_of(alloc, expression, "")?;
-    let Some(model) = model_of(&file) else {
-        return Ok(None);
-    };
+fn model_text(alloc: Global, model: &Atomic) -> Result<String, AllocError> {
     let scope = Scope::of(alloc, model)?;
     let state = start_state(alloc, model, &scope)?;
     match model.holds.first() {
-        Some(hold) => match &hold.ticks {
-            Ticks::After(expression) => Ok(Some(eval(expression, &state, &scope))),
-            Ticks::Forever => Ok(None),
-        },
-        None => Ok(None),
+        Some(hold) => hold_text(alloc, &hold.ticks, &state, &scope),
+        None => rule_text(alloc, model, &state, &scope),
     }
 }
 
-// The ticks of a hold at the start of the model.
-fn ticks(alloc: Global, ticks: &str) -> Result<Option<Result<Option<u64>, Fault>>, LoadError> {
-    let file = file_of(alloc, ticks, "")?;
-    let Some(model) = model_of(&file) else {
-        return Ok(None);
-    };
-    let scope = Scope::of(alloc, model)?;
-    let state = start_state(alloc, model, &scope)?;
-    match model.holds.first() {
-        Some(first) => Ok(Some(hold(&first.ticks, &state, &scope))),
-        None => Ok(None),
+// The value of the hold's expression, and the ticks of the hold.
+fn hold_text(
+    alloc: Global,
+    ticks: &Ticks,
+    state: &State,
+    scope: &Scope,
+) -> Result<String, AllocError> {
+    let value = value_text(alloc, ticks, state, scope)?;
+    let ticks = ticks_text(alloc, ticks, state, scope)?;
+    format!(in alloc; "{value} {ticks}")
+}
+
+fn value_text(
+    alloc: Global,
+    ticks: &Ticks,
+    state: &State,
+    scope: &Scope,
+) -> Result<String, AllocError> {
+    match ticks {
+        Ticks::After(expression) => text_of_value(alloc, eval(expression, state, scope)),
+        Ticks::Forever => String::from_str(alloc, "forever"),
     }
 }
 
-#[test]
-fn expressions_have_values(rt: HostRuntime) -> Result<(), Fail> {
-    let rows = [
-        ("9223372036854775807", Ok(Value::Number(i64::MAX))),
-        (
-            "(0 - 9223372036854775807 - 1) / (0 - 1)",
-            Err(Fault::Overflow),
-        ),
-        ("(0 - 7) / 2", Ok(Value::Number(-3))),
-        ("n * 2 + 1", Ok(Value::Number(7))),
-        ("n = 3", Ok(Value::Truth(true))),
-        ("n / (n - 3)", Err(Fault::Divide)),
-    ];
-    for (expression, wanted) in rows {
-        assert_eq!(rt;
-            value(rt.alloc(), expression)?,
-            Some(wanted),
-            "{expression}"
-        );
-    }
-    Ok(())
+fn text_of_value(alloc: Global, value: Result<Value, Fault>) -> Result<String, AllocError> {
+    format!(in alloc; "{value:?}")
 }
 
-#[test]
-fn holds_have_ticks(rt: HostRuntime) -> Result<(), Fail> {
-    let rows = [
-        ("forever", Ok(None)),
-        ("n", Ok(Some(3))),
-        ("-n", Err(Fault::Negative)),
-        ("1 / 0", Err(Fault::Divide)),
-    ];
-    for (text, wanted) in rows {
-        assert_eq!(rt; ticks(rt.alloc(), text)?, Some(wanted), "{text}");
-    }
-    Ok(())
+fn ticks_text(
+    alloc: Global,
+    ticks: &Ticks,
+    state: &State,
+    scope: &Scope,
+) -> Result<String, AllocError> {
+    let ticks = hold(ticks, state, scope);
+    format!(in alloc; "{ticks:?}")
 }
 
-#[test]
-fn rules_assign_and_go(rt: HostRuntime) -> Result<(), Fail> {
-    let alloc = rt.alloc();
-    let file = file_of(alloc, "1", "n := n * 2; goto d;")?;
-    let Some(model) = model_of(&file) else {
-        panic!(rt; "no model");
-    };
-    let scope = Scope::of(alloc, model)?;
-    let state = start_state(alloc, model, &scope)?;
+fn rule_text(
+    alloc: Global,
+    model: &Atomic,
+    state: &State,
+    scope: &Scope,
+) -> Result<String, AllocError> {
     let statements = rule_body(model, RuleSort::Internal, START);
-    let effect = run_rule(alloc, statements, &state, &scope)?;
-    assert!(rt; matches!(effect.state.variables.get(0), Some(DatumView::Number(6))));
-    assert_eq!(rt; effect.goto, Some(1));
-    Ok(())
+    match run_rule(alloc, statements, state, scope) {
+        Ok(effect) => effect_text(alloc, &effect),
+        Err(error) => text_of_error(alloc, error),
+    }
+}
+
+// The value of n behind the rule, and the phase to which it goes.
+fn effect_text(alloc: Global, effect: &Effect) -> Result<String, AllocError> {
+    format!(in alloc; "{:?} {:?}", effect.state.variables.get(0), effect.goto)
+}
+
+fn text_of_error(alloc: Global, error: RuleError) -> Result<String, AllocError> {
+    format!(in alloc; "{error:?}")
+}
+
+#[test]
+fn expressions_have_values(rt: HostRuntime) {
+    rows::<Start, HostRuntime>(
+        &rt,
+        &[
+            (
+                "hold z: 9223372036854775807;",
+                "Ok(Number(9223372036854775807)) Ok(Some(9223372036854775807))",
+            ),
+            (
+                "hold z: (0 - 9223372036854775807 - 1) / (0 - 1);",
+                "Err(Overflow) Err(Overflow)",
+            ),
+            ("hold z: (0 - 7) / 2;", "Ok(Number(-3)) Err(Negative)"),
+            ("hold z: n * 2 + 1;", "Ok(Number(7)) Ok(Some(7))"),
+            ("hold z: n = 3;", "Ok(Truth(true)) Ok(Some(1))"),
+            ("hold z: n / (n - 3);", "Err(Divide) Err(Divide)"),
+        ],
+    );
+}
+
+#[test]
+fn holds_have_ticks(rt: HostRuntime) {
+    rows::<Start, HostRuntime>(
+        &rt,
+        &[
+            ("hold z: forever;", "forever Ok(None)"),
+            ("hold z: n;", "Ok(Number(3)) Ok(Some(3))"),
+            ("hold z: -n;", "Ok(Number(-3)) Err(Negative)"),
+            ("hold z: 1 / 0;", "Err(Divide) Err(Divide)"),
+        ],
+    );
+}
+
+#[test]
+fn rules_assign_and_go(rt: HostRuntime) {
+    rows::<Start, HostRuntime>(
+        &rt,
+        &[
+            (
+                "internal z { n := n * 2; goto d; }",
+                "Some(Number(6)) Some(1)",
+            ),
+            ("internal z { n := n * 4; }", "Fault(Range)"),
+        ],
+    );
 }

@@ -2,6 +2,7 @@
 
 ghost use Rattle.std.specs.Prelude.{◌≡◌};
 
+use crate::compare::same;
 use dv_time::{Microsteps, Time};
 use std::test::Fail;
 
@@ -14,40 +15,34 @@ fn at(tick: u64, micro: u32) -> Time
 
 #[test]
 fn a_microstep_follows_up_to_the_limit(rt: HostRuntime) {
-    assert_eq!(rt; Time::ZERO.succ(1), at(0, 1));
-    assert_eq!(rt; at(0, 1).succ(1), at(1, 0));
-    assert_eq!(rt;
-        at(1_000_000_000_001, 1_000).succ(1_000),
-        at(1_000_000_000_002, 0)
-    );
+    same!(rt; Time::ZERO.succ(1), at(0, 1));
+    same!(rt; at(0, 1).succ(1), at(1, 0));
+    same!(rt; at(1_000_000_000_001, 1_000).succ(1_000), at(1_000_000_000_002, 0));
 }
 
 #[test]
 fn a_hold_of_nothing_takes_a_microstep(rt: HostRuntime) {
-    assert_eq!(rt; at(7, 2).after(0, 3), Ok(at(7, 3)));
-    assert_eq!(rt; at(7, 3).after(0, 3), Err(Microsteps));
+    same!(rt; at(7, 2).after(0, 3), Ok(at(7, 3)));
+    same!(rt; at(7, 3).after(0, 3), Err(Microsteps));
 }
 
 #[test]
 fn a_hold_ends_at_the_start_of_a_tick(rt: HostRuntime) {
-    assert_eq!(rt; at(7, 3).after(1, 3), Ok(at(8, 0)));
+    same!(rt; at(7, 3).after(1, 3), Ok(at(8, 0)));
     let longest = 9_223_372_036_854_775_807;
-    assert_eq!(rt;
-        at(1_000_000_000_001, 0).after(longest, 3),
-        Ok(at(9_223_373_036_854_775_808, 0))
-    );
+    same!(rt; at(1_000_000_000_001, 0).after(longest, 3), Ok(at(9_223_373_036_854_775_808, 0)));
 }
 
 #[test]
 fn times_are_ordered_by_tick_first(rt: HostRuntime) {
-    assert!(rt; at(1, 9) < at(2, 0));
-    assert!(rt; at(2, 0) < at(2, 1));
-    assert!(rt; !(at(2, 1) < at(2, 1)));
+    same!(rt; at(1, 9) < at(2, 0), true);
+    same!(rt; at(2, 0) < at(2, 1), true);
+    same!(rt; at(2, 1) < at(2, 1), false);
 }
 
 #[test]
 fn a_time_is_shown_with_a_point(rt: HostRuntime) -> Result<(), Fail> {
     let shown = format!(in rt.alloc(); "{}", at(5, 10))?;
-    assert_eq!(rt; shown.as_str(), "5.10");
+    same!(rt; shown.as_str(), "5.10");
     Ok(())
 }

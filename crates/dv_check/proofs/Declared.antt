@@ -1,12 +1,12 @@
--- Declared names: what stands for a port or a variable is declared in the scope of its model.
+-- Declared names: what stands for a port, a variable or a flag is declared in the scope of its model.
 use Rattle.std.proofs.Common.{◌≡◌, ℕ, ◌==◌, Bool, true, false, arith, ◌||◌, if◌then◌else◌, List, [], ◌∷◌, ◌++◌, refl, ◌∙◌, Option, Some}
 use Rattle.std.proofs.lemmas.List.Folds.{list_any-append}
 use Rattle.dv_syntax.specs.declared.tree.Name.{Name}
 use Rattle.dv_syntax.specs.declared.tree.Declaration.{Declaration}
-use Rattle.dv_syntax.specs.declared.tree.Declaration.TheVariants.{Out, Var}
+use Rattle.dv_syntax.specs.declared.tree.Declaration.TheVariants.{Out, Var, Flag}
 use Rattle.dv_eval.specs.Scope.{is_declared, outputs_in, with_name, with_names}
 use Rattle.dv_check.specs.declared.declarations.NameSort.{NameSort}
-use Rattle.dv_check.specs.declared.declarations.NameSort.TheVariants.{Variable as ForVariable, Output as ForOutput}
+use Rattle.dv_check.specs.declared.declarations.NameSort.TheVariants.{Variable as ForVariable, Flag as ForFlag, Output as ForOutput}
 use Rattle.dv_check.specs.Couplings.{is_output}
 use Rattle.dv_check.specs.Rules.{sort_in}
 use Rattle.dv_check.specs.Tables.{first_of}
@@ -34,7 +34,7 @@ stays_declared q names (n ∷ more) e = stays_declared q (with_name names n) mor
 last_declared : (q n : ℕ) (names : List ℕ) → (n == q) ≡ true → is_declared q (names ++ n ∷ []) ≡ true
 last_declared q n names same = list_any-append (λ m. m == q) names (n ∷ []) ∙ or_right (is_declared q names) _ (or_left (n == q) false same)
 
-same_declared : (q n : ℕ) (names : List ℕ) → (n == q) ≡ true → is_declared n names ≡ true → is_declared q names ≡ true
+pub same_declared : (q n : ℕ) (names : List ℕ) → (n == q) ≡ true → is_declared n names ≡ true → is_declared q names ≡ true
 same_declared q n names same there = let is : n ≡ q = grind (arith, same) in rw (← is) there
 
 new_declared_if : (b : Bool) (q n : ℕ) (names : List ℕ) → (n == q) ≡ true → is_declared n names ≡ b → is_declared q (if b then names else names ++ n ∷ []) ≡ true
@@ -45,9 +45,9 @@ pub new_declared : (q : ℕ) (names : List ℕ) (n : Name) → (n.number == q) �
 new_declared q names n same = new_declared_if (is_declared n.number names) q n.number names same refl
 
 -- a name that stands for an output
-output_if : (b : Bool) (o : Option NameSort) → is_output (if b then Some ForVariable else o) ≡ true → is_output o ≡ true
-output_if true o e = absurd (cc)
-output_if false o e = e
+output_if : (b : Bool) (sort : NameSort) (o : Option NameSort) → is_output (Some sort) ≡ false → is_output (if b then Some sort else o) ≡ true → is_output o ≡ true
+output_if true sort o other e = absurd (cc)
+output_if false sort o other e = e
 
 module _ (q : ℕ) where
   output_first : (b : Bool) (port : Name) (ds : List Declaration) (names : List ℕ) → (port.number == q) ≡ b → is_output (if b then Some ForOutput else sort_in ds q) ≡ true → (is_output (sort_in ds q) ≡ true → is_declared q (with_names (with_name names port) (outputs_in ds)) ≡ true) → is_declared q (with_names (with_name names port) (outputs_in ds)) ≡ true
@@ -58,4 +58,5 @@ module _ (q : ℕ) where
   unfolding first_of
   output_declared [] names e = absurd (cc)
   output_declared (Out port ∷ ds) names e = output_first (port.number == q) port ds names refl e (output_declared ds (with_name names port))
-  output_declared (Var v ∷ ds) names e = output_declared ds names (output_if (v.name.number == q) (sort_in ds q) e)
+  output_declared (Var v ∷ ds) names e = output_declared ds names (output_if (v.name.number == q) ForVariable (sort_in ds q) refl e)
+  output_declared (Flag f ∷ ds) names e = output_declared ds names (output_if (f.name.number == q) ForFlag (sort_in ds q) refl e)

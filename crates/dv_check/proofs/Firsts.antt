@@ -10,14 +10,13 @@ use Rattle.dv_check.specs.declared.models.ModelKind.{ModelKind}
 use Rattle.dv_check.specs.Names.{model_named, name_of_model, part_named}
 use Rattle.dv_check.specs.Models.{face_of, face_of_kind, faces_by, faces_in}
 use Rattle.dv_check.specs.Couplings.{parts_in}
-use Rattle.dv_check.specs.Rules.{itself}
 use Rattle.dv_check.specs.Tables.{first_of, value_for, no_value, with_first}
 
 or_if : {V : Type 0} (b : Bool) (v : V) (o p : Option V) → (if b then Some v else option_or o p) ≡ option_or (if b then Some v else o) p
 or_if true v o p = refl
 or_if false v o p = refl
 
-first_of_push : {X V : Type 0} (number : X → ℕ) (value : X → V) (xs : List X) (x : X) (q : ℕ) → first_of number value (xs ++ x ∷ []) q ≡ option_or (first_of number value xs q) (if number x == q then Some (value x) else None)
+pub first_of_push : {X V : Type 0} (number : X → ℕ) (value : X → V) (xs : List X) (x : X) (q : ℕ) → first_of number value (xs ++ x ∷ []) q ≡ option_or (first_of number value xs q) (if number x == q then Some (value x) else None)
 unfolding first_of
 first_of_push number value [] x q = refl
 first_of_push number value (y ∷ ys) x q =
@@ -45,6 +44,9 @@ first_of_step number value g xs i x before after n v h is by_number by_value so_
     ∙ sym (first_of_more number value g xs i x h))))
 
 -- the parts of a coupled model
+abbrev itself : {A : Type 0} → A → A
+itself x = x
+
 abbrev part_number : Part → ℕ
 part_number p = p.name.number
 

@@ -5,6 +5,3 @@ pub mod Statements
 pub mod Declared
 pub mod Accepted
 pub mod Order
-pub mod Fitting
-pub mod Known
-pub mod Typed

@@ -8,10 +8,6 @@ pub mod Couplings
 pub mod Refusals
 -- What the laws speak of.
 pub mod Accepted
-pub mod Fitting
--- Worked rows.
-pub mod Clock
-pub mod Broken
 -- What serves proofs.
 pub mod Findings
 pub mod Tables

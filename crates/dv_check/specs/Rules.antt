@@ -3,31 +3,35 @@ use Rattle.std.specs.Prelude.{ℕ, Bool, true, false, not, ◌&&◌, ◌||◌, i
 use Rattle.std.specs.List.{flat_map, list_any}
 use Rattle.dv_lex.specs.declared.error.Refusal.{Refusal}
 use Rattle.dv_lex.specs.declared.error.RefusalNumber.TheVariants.{E6, E7, E8, E9, E10, E11}
-use Rattle.dv_syntax.specs.Trees.{Expression, Literal, Named, Parens, Negative, Binary, Statements, Done, Assign, Goto, Send, If, IfElse, PhasesTree, HoldTree, RuleTree, AtomicTree}
+use Rattle.dv_syntax.specs.Trees.{Expression, Literal, TruthValue, Named, Parens, Prefixed, Binary, Statements, Done, Assign, Goto, Send, If, IfElse, PhasesTree, HoldTree, RuleTree, AtomicTree}
 use Rattle.dv_syntax.specs.declared.tree.Name.{Name}
 use Rattle.dv_syntax.specs.declared.tree.Variable.{Variable}
 use Rattle.dv_syntax.specs.declared.tree.Declaration.{Declaration}
-use Rattle.dv_syntax.specs.declared.tree.Declaration.TheVariants.{Out, Var}
+use Rattle.dv_syntax.specs.declared.tree.Declaration.TheVariants.{Out, Var, Flag}
 use Rattle.dv_syntax.specs.declared.tree.Start.{Start}
 use Rattle.dv_syntax.specs.declared.tree.RuleSort.{RuleSort}
 use Rattle.dv_syntax.specs.declared.tree.RuleSort.TheVariants as rule
-use Rattle.dv_eval.specs.Scope.{scope_of, bound_value, same_sort, start_state, hold_ticks, outputs_in, variables_in, phases_in}
+use Rattle.dv_eval.specs.declared.scope.VariableRange.{VariableRange}
+use Rattle.dv_eval.specs.declared.scope.Domain.{Domain}
+use Rattle.dv_eval.specs.declared.scope.Domain.TheVariants as domain
+use Rattle.dv_eval.specs.Scope.{scope_of, range_of, same_sort, start_state, hold_ticks, outputs_in, variables_in, state_variables_in, phases_in}
 use Rattle.dv_eval.specs.Meaning.{hold_of}
 use Rattle.dv_check.specs.declared.limits.TheConstants.{GREATEST_NAMES}
 use Rattle.dv_check.specs.declared.declarations.NameSort.{NameSort}
-use Rattle.dv_check.specs.declared.declarations.NameSort.TheVariants.{Variable as ForVariable, Output as ForOutput}
+use Rattle.dv_check.specs.declared.declarations.NameSort.TheVariants.{Variable as ForVariable, Flag as ForFlag, Output as ForOutput}
 use Rattle.dv_check.specs.declared.expression.ValueType.TheVariants.{Number, Truth}
 use Rattle.dv_check.specs.declared.declarations.Declarations.{Declarations}
 use Rattle.dv_check.specs.declared.starts.Starts.{Starts}
 use Rattle.dv_check.specs.Names.{refusal, refusal_if, among, within_limit, repeats, excess}
 use Rattle.dv_check.specs.Tables.{first_of, value_for, has}
-use Rattle.dv_check.specs.Types.{place_refusals}
+use Rattle.dv_check.specs.Types.{type_of_name, place_refusals, value_refusals}
 
 -- ---- Names
 
 abbrev pub name_of_declaration : Declaration → Name
 name_of_declaration (Out port) = port
 name_of_declaration (Var v) = v.name
+name_of_declaration (Flag f) = f.name
 
 abbrev pub number_of_declaration : Declaration → ℕ
 number_of_declaration d = (name_of_declaration d).number
@@ -35,12 +39,13 @@ number_of_declaration d = (name_of_declaration d).number
 abbrev pub sort_of : Declaration → NameSort
 sort_of (Out port) = ForOutput
 sort_of (Var v) = ForVariable
+sort_of (Flag f) = ForFlag
 
--- what a name of a port or variable stands for: of a name that is declared twice the first declaration counts
+-- what a name of a port, variable or flag stands for: of a name that is declared twice the first declaration counts
 abbrev pub sort_in : List Declaration → ℕ → Option NameSort
 sort_in declarations = first_of number_of_declaration sort_of declarations
 
--- what is known of the names of an atomic model: what ports and variables stand for, and the phases
+-- what is known of the names of an atomic model: what ports, variables and flags stand for, and the phases
 pub record Known : Type 0 where
   pub sort : ℕ → Option NameSort
   pub has_phase : ℕ → Bool
@@ -68,8 +73,8 @@ held_phase h = record { number = h.phase.number; place = h.place }
 abbrev pub held_phases : List HoldTree → List Name
 held_phases holds = map held_phase holds
 
-abbrev pub name_of_variable : Variable → Name
-name_of_variable v = v.name
+abbrev pub name_of_state_variable : Name × Domain → Name
+name_of_state_variable v = v.0
 
 -- names that are declared twice, two rules of one sort for one phase, and more names of a kind than there may be
 abbrev pub names_refusals : AtomicTree → List Refusal
@@ -79,7 +84,7 @@ names_refusals m =
     ++ (repeats E6 (ruled_phases rule.Output m.rules)
     ++ (repeats E6 (ruled_phases rule.Internal m.rules)
     ++ (excess (outputs_in m.declarations)
-    ++ (excess (map name_of_variable (variables_in m.declarations))
+    ++ (excess (map name_of_state_variable (state_variables_in m.declarations))
     ++ excess (phases_in m.phases))))))
 
 -- ---- What has to stand once
@@ -122,16 +127,18 @@ standing_refusals m =
 
 -- ---- Statements, holds and ranges
 
--- the variable of an assignment: known, a variable, and not in an output rule
+-- the variable of an assignment: known, a variable or a flag, and not in an output rule
 abbrev pub assignment_refusals : RuleSort → Option NameSort → ℕ → List Refusal
 assignment_refusals sort None place = refusal E7 place ∷ []
 assignment_refusals sort (Some ForOutput) place = refusal E8 place ∷ []
 assignment_refusals sort (Some ForVariable) place = refusal_if (same_sort sort rule.Output) E9 place
+assignment_refusals sort (Some ForFlag) place = refusal_if (same_sort sort rule.Output) E9 place
 
 -- the port of a send: known, and an output
 abbrev pub sent_port_refusals : Option NameSort → ℕ → List Refusal
 sent_port_refusals None place = refusal E7 place ∷ []
 sent_port_refusals (Some ForVariable) place = refusal E8 place ∷ []
+sent_port_refusals (Some ForFlag) place = refusal E8 place ∷ []
 sent_port_refusals (Some ForOutput) place = []
 
 abbrev pub phase_refusals : Known → Name → List Refusal
@@ -140,7 +147,8 @@ phase_refusals known phase = refusal_if (not (known.has_phase phase.number)) E7 
 abbrev pub statements_refusals : Known → RuleSort → Statements → List Refusal
 statements_refusals known sort Done = []
 statements_refusals known sort (Assign variable value rest) =
-    assignment_refusals sort (known.sort variable.number) variable.place ++ (place_refusals Number known.sort value ++ statements_refusals known sort rest)
+    assignment_refusals sort (known.sort variable.number) variable.place
+    ++ (value_refusals (type_of_name (known.sort variable.number)) known.sort value ++ statements_refusals known sort rest)
 statements_refusals known sort (Goto place phase rest) =
     refusal_if (same_sort sort rule.Output) E9 place ++ (phase_refusals known phase ++ statements_refusals known sort rest)
 statements_refusals known sort (Send place port value rest) =
@@ -151,11 +159,11 @@ statements_refusals known sort (IfElse place condition block other rest) =
     place_refusals Truth known.sort condition ++ (statements_refusals known sort block ++ (statements_refusals known sort other ++ statements_refusals known sort rest))
 
 -- an empty range, or a start value outside of it
-abbrev pub is_out_of_range : Variable → Bool
-is_out_of_range v = int_lt (bound_value v.high) (bound_value v.low) || (int_lt (bound_value v.start) (bound_value v.low) || int_lt (bound_value v.high) (bound_value v.start))
+abbrev pub is_out_of_range : VariableRange → Bool
+is_out_of_range r = int_lt r.high r.low || (int_lt r.start r.low || int_lt r.high r.start)
 
 abbrev pub variable_refusals : Variable → List Refusal
-variable_refusals v = refusal_if (is_out_of_range v) E11 v.name.place
+variable_refusals v = refusal_if (is_out_of_range (range_of v)) E11 v.name.place
 
 abbrev pub start_refusals : Known → Start → List Refusal
 start_refusals known s = phase_refusals known s.phase
@@ -189,31 +197,34 @@ abbrev pub is_fault : {A B : Type 0} → Result A B → Bool
 is_fault (Ok x) = false
 is_fault (Err f) = true
 
--- a variable that is there, and in range
-abbrev pub is_in_range : Option Variable → Bool
+-- a state variable that is there, and in range, which a flag always is
+abbrev pub is_in_range : Option Domain → Bool
 is_in_range None = false
-is_in_range (Some v) = not (is_out_of_range v)
+is_in_range (Some (domain.Number range)) = not (is_out_of_range range)
+is_in_range (Some (domain.Flag start)) = true
 
-abbrev pub number_of_variable : Variable → ℕ
-number_of_variable v = v.name.number
+abbrev pub number_of_state_variable : Name × Domain → ℕ
+number_of_state_variable v = v.0.number
 
-abbrev pub itself : {A : Type 0} → A → A
-itself x = x
+abbrev pub domain_of_state_variable : Name × Domain → Domain
+domain_of_state_variable v = v.1
 
--- a variable whose first declaration is not refused: it is within the limit, and in range
-unfoldable pub is_start_known : List Variable → ℕ → Bool
-is_start_known variables name = is_in_range (first_of number_of_variable itself (within_limit GREATEST_NAMES variables) name)
+-- a variable or a flag whose first declaration is not refused: it is within the limit, and in range
+unfoldable pub is_start_known : List (Name × Domain) → ℕ → Bool
+is_start_known variables name =
+    is_in_range (first_of number_of_state_variable domain_of_state_variable (within_limit GREATEST_NAMES variables) name)
 
 -- what tables know
 unfoldable pub is_start_known_by : Starts → ℕ → Bool
-is_start_known_by starts name = is_in_range (value_for starts.variables name)
+is_start_known_by starts name = is_in_range (value_for starts.domains name)
 
 -- an expression without names but these
 abbrev pub names_only : (ℕ → Bool) → Expression → Bool
 names_only known (Literal n) = true
+names_only known (TruthValue place value) = true
 names_only known (Named name) = known name.number
 names_only known (Parens place e) = names_only known e
-names_only known (Negative place e) = names_only known e
+names_only known (Prefixed operator place e) = names_only known e
 names_only known (Binary operator a b) = names_only known a && names_only known b
 
 abbrev pub ticks_names_only : (ℕ → Bool) → Option Expression → Bool
@@ -224,14 +235,14 @@ ticks_names_only known (Some e) = names_only known e
 abbrev pub is_hold_fine : Known → Name → Option Expression → Bool
 is_hold_fine known phase ticks = is_none_left (phase_refusals known phase ++ ticks_refusals known ticks)
 
--- a hold that can be asked: nothing is wrong with it, nor with the first declarations of the variables that it names
-abbrev pub can_ask_hold : Known → List Variable → Name → Option Expression → Bool
+-- a hold that can be asked: nothing is wrong with it, nor with the first declarations of the variables and flags that it names
+abbrev pub can_ask_hold : Known → List (Name × Domain) → Name → Option Expression → Bool
 can_ask_hold known variables phase ticks = is_hold_fine known phase ticks && ticks_names_only (is_start_known variables) ticks
 
 -- a hold that can be asked, and faults in the start state
 abbrev pub is_start_fault : Known → AtomicTree → Name → Bool
 is_start_fault known m phase =
-    can_ask_hold known (variables_in m.declarations) phase (hold_ticks phase.number m.holds)
+    can_ask_hold known (state_variables_in m.declarations) phase (hold_ticks phase.number m.holds)
     && is_fault (hold_of (scope_of m) (hold_ticks phase.number m.holds) (start_state m))
 
 -- the hold of the phase of the first start item

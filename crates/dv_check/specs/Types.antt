@@ -2,11 +2,13 @@
 use Rattle.std.specs.Prelude.{ℕ, Bool, true, false, not, ◌&&◌, List, [], ◌∷◌, ◌++◌, Option, Some, None}
 use Rattle.dv_lex.specs.declared.error.Refusal.{Refusal}
 use Rattle.dv_lex.specs.declared.error.RefusalNumber.TheVariants.{E7, E8}
-use Rattle.dv_syntax.specs.Trees.{Expression, Literal, Named, Parens, Negative, Binary}
+use Rattle.dv_syntax.specs.Trees.{Expression, Literal, TruthValue, Named, Parens, Prefixed, Binary}
+use Rattle.dv_syntax.specs.declared.tree.Prefix.{Prefix}
+use Rattle.dv_syntax.specs.declared.tree.Prefix.TheVariants.{Minus, Not}
 use Rattle.dv_syntax.specs.declared.tree.Operator.{Operator}
-use Rattle.dv_syntax.specs.declared.tree.Operator.TheVariants.{Add, Subtract, Multiply, Divide, Remainder, Equal, Unequal, Less, AtMost, Greater, AtLeast}
+use Rattle.dv_syntax.specs.declared.tree.Operator.TheVariants.{Or, And, Add, Subtract, Multiply, Divide, Remainder, Equal, Unequal, Less, AtMost, Greater, AtLeast}
 use Rattle.dv_check.specs.declared.declarations.NameSort.{NameSort}
-use Rattle.dv_check.specs.declared.declarations.NameSort.TheVariants.{Variable, Output}
+use Rattle.dv_check.specs.declared.declarations.NameSort.TheVariants.{Variable, Flag, Output}
 use Rattle.dv_check.specs.declared.expression.ValueType.{ValueType}
 use Rattle.dv_check.specs.declared.expression.ValueType.TheVariants.{Number, Truth}
 use Rattle.dv_check.specs.Names.{refusal, refusal_if}
@@ -20,14 +22,16 @@ same_type Truth Number = false
 -- the place of an expression's first token
 abbrev pub first_place : Expression → ℕ
 first_place (Literal n) = n.place
+first_place (TruthValue place value) = place
 first_place (Named name) = name.place
 first_place (Parens place e) = place
-first_place (Negative place e) = place
+first_place (Prefixed operator place e) = place
 first_place (Binary operator a b) = first_place a
 
 abbrev pub type_of_name : Option NameSort → Option ValueType
 type_of_name None = None
 type_of_name (Some Variable) = Some Number
+type_of_name (Some Flag) = Some Truth
 type_of_name (Some Output) = None
 
 -- a known type, and this one
@@ -44,29 +48,38 @@ abbrev pub type_if : Bool → ValueType → Option ValueType
 type_if true t = Some t
 type_if false t = None
 
-abbrev pub both_numbers : Option ValueType → Option ValueType → Bool
-both_numbers a b = is_of Number a && is_of Number b
+-- two operands of this type
+abbrev pub both_of : ValueType → Option ValueType → Option ValueType → Bool
+both_of wanted a b = is_of wanted a && is_of wanted b
+
+-- what an operator before its operand wants, and gives
+abbrev pub type_of_prefix : Prefix → ValueType
+type_of_prefix Minus = Number
+type_of_prefix Not = Truth
 
 -- what an operator makes of its operands, where they are of the types that it wants
 abbrev pub type_of_operator : Operator → Option ValueType → Option ValueType → Option ValueType
-type_of_operator Add a b = type_if (both_numbers a b) Number
-type_of_operator Subtract a b = type_if (both_numbers a b) Number
-type_of_operator Multiply a b = type_if (both_numbers a b) Number
-type_of_operator Divide a b = type_if (both_numbers a b) Number
-type_of_operator Remainder a b = type_if (both_numbers a b) Number
+type_of_operator Or a b = type_if (both_of Truth a b) Truth
+type_of_operator And a b = type_if (both_of Truth a b) Truth
+type_of_operator Add a b = type_if (both_of Number a b) Number
+type_of_operator Subtract a b = type_if (both_of Number a b) Number
+type_of_operator Multiply a b = type_if (both_of Number a b) Number
+type_of_operator Divide a b = type_if (both_of Number a b) Number
+type_of_operator Remainder a b = type_if (both_of Number a b) Number
 type_of_operator Equal a b = type_if (alike a b) Truth
 type_of_operator Unequal a b = type_if (alike a b) Truth
-type_of_operator Less a b = type_if (both_numbers a b) Truth
-type_of_operator AtMost a b = type_if (both_numbers a b) Truth
-type_of_operator Greater a b = type_if (both_numbers a b) Truth
-type_of_operator AtLeast a b = type_if (both_numbers a b) Truth
+type_of_operator Less a b = type_if (both_of Number a b) Truth
+type_of_operator AtMost a b = type_if (both_of Number a b) Truth
+type_of_operator Greater a b = type_if (both_of Number a b) Truth
+type_of_operator AtLeast a b = type_if (both_of Number a b) Truth
 
 -- the type of an expression; what is refused, or has a refused part, has none
 abbrev pub type_of : (ℕ → Option NameSort) → Expression → Option ValueType
 type_of sort (Literal n) = Some Number
+type_of sort (TruthValue place value) = Some Truth
 type_of sort (Named name) = type_of_name (sort name.number)
 type_of sort (Parens place e) = type_of sort e
-type_of sort (Negative place e) = type_if (is_of Number (type_of sort e)) Number
+type_of sort (Prefixed operator place e) = type_if (is_of (type_of_prefix operator) (type_of sort e)) (type_of_prefix operator)
 type_of sort (Binary operator a b) = type_of_operator operator (type_of sort a) (type_of sort b)
 
 -- an expression of another type than its place wants
@@ -79,37 +92,48 @@ differ None b = false
 differ (Some a) None = false
 differ (Some a) (Some b) = not (same_type a b)
 
-abbrev pub numbers_wanted : Option ValueType → ℕ → Option ValueType → ℕ → List Refusal
-numbers_wanted a a_place b b_place = type_refusals Number a a_place ++ type_refusals Number b b_place
+-- two operands where this type is wanted of both
+abbrev pub operands_wanted : ValueType → Option ValueType → ℕ → Option ValueType → ℕ → List Refusal
+operands_wanted wanted a a_place b b_place = type_refusals wanted a a_place ++ type_refusals wanted b b_place
 
 -- what an operator finds wrong with its operands, which begin at these places
 abbrev pub operand_refusals : Operator → Option ValueType → ℕ → Option ValueType → ℕ → List Refusal
+operand_refusals Or a a_place b b_place = operands_wanted Truth a a_place b b_place
+operand_refusals And a a_place b b_place = operands_wanted Truth a a_place b b_place
 operand_refusals Equal a a_place b b_place = refusal_if (differ a b) E8 b_place
 operand_refusals Unequal a a_place b b_place = refusal_if (differ a b) E8 b_place
-operand_refusals Add a a_place b b_place = numbers_wanted a a_place b b_place
-operand_refusals Subtract a a_place b b_place = numbers_wanted a a_place b b_place
-operand_refusals Multiply a a_place b b_place = numbers_wanted a a_place b b_place
-operand_refusals Divide a a_place b b_place = numbers_wanted a a_place b b_place
-operand_refusals Remainder a a_place b b_place = numbers_wanted a a_place b b_place
-operand_refusals Less a a_place b b_place = numbers_wanted a a_place b b_place
-operand_refusals AtMost a a_place b b_place = numbers_wanted a a_place b b_place
-operand_refusals Greater a a_place b b_place = numbers_wanted a a_place b b_place
-operand_refusals AtLeast a a_place b b_place = numbers_wanted a a_place b b_place
+operand_refusals Add a a_place b b_place = operands_wanted Number a a_place b b_place
+operand_refusals Subtract a a_place b b_place = operands_wanted Number a a_place b b_place
+operand_refusals Multiply a a_place b b_place = operands_wanted Number a a_place b b_place
+operand_refusals Divide a a_place b b_place = operands_wanted Number a a_place b b_place
+operand_refusals Remainder a a_place b b_place = operands_wanted Number a a_place b b_place
+operand_refusals Less a a_place b b_place = operands_wanted Number a a_place b b_place
+operand_refusals AtMost a a_place b b_place = operands_wanted Number a a_place b b_place
+operand_refusals Greater a a_place b b_place = operands_wanted Number a a_place b b_place
+operand_refusals AtLeast a a_place b b_place = operands_wanted Number a a_place b b_place
 
--- a name where a variable's value is wanted
+-- a name where the value of a variable or a flag is wanted
 abbrev pub value_name_refusals : Option NameSort → ℕ → List Refusal
 value_name_refusals None place = refusal E7 place ∷ []
 value_name_refusals (Some Variable) place = []
+value_name_refusals (Some Flag) place = []
 value_name_refusals (Some Output) place = refusal E8 place ∷ []
 
 abbrev pub expression_refusals : (ℕ → Option NameSort) → Expression → List Refusal
 expression_refusals sort (Literal n) = []
+expression_refusals sort (TruthValue place value) = []
 expression_refusals sort (Named name) = value_name_refusals (sort name.number) name.place
 expression_refusals sort (Parens place e) = expression_refusals sort e
-expression_refusals sort (Negative place e) = expression_refusals sort e ++ type_refusals Number (type_of sort e) (first_place e)
+expression_refusals sort (Prefixed operator place e) =
+    expression_refusals sort e ++ type_refusals (type_of_prefix operator) (type_of sort e) (first_place e)
 expression_refusals sort (Binary operator a b) =
     expression_refusals sort a ++ (expression_refusals sort b ++ operand_refusals operator (type_of sort a) (first_place a) (type_of sort b) (first_place b))
 
 -- an expression in a place that wants a type
 abbrev pub place_refusals : ValueType → (ℕ → Option NameSort) → Expression → List Refusal
 place_refusals wanted sort e = expression_refusals sort e ++ type_refusals wanted (type_of sort e) (first_place e)
+
+-- an expression whose value goes where this type is wanted, or where nothing is wanted of it
+abbrev pub value_refusals : Option ValueType → (ℕ → Option NameSort) → Expression → List Refusal
+value_refusals None sort e = expression_refusals sort e
+value_refusals (Some wanted) sort e = place_refusals wanted sort e

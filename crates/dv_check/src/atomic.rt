@@ -3,12 +3,13 @@
 ghost use Rattle.std.specs.Prelude.{◌≡◌, map, Some, None, IfOk, OnOk};
 ghost use Rattle.dv_syntax.specs.Trees.{atomic_of, phases_of, rule_of, ticks_of};
 ghost use Rattle.std.specs.Option.{option_copied};
-ghost use Rattle.dv_eval.specs.Scope.{hold_ticks, ticks_found, variables_in};
+ghost use Rattle.dv_eval.specs.Scope.{hold_ticks, outputs_in, scope_of, start_state, state_variables_in, ticks_found};
+ghost use Rattle.dv_eval.specs.Meaning.{hold_of};
 ghost use Rattle.dv_lex.specs.declared.error.RefusalNumber.TheVariants.{E6, E10};
 ghost use Rattle.dv_check.specs.Findings.{with_refusals};
-ghost use Rattle.dv_check.specs.Names.{refusal_if, repeats};
+ghost use Rattle.dv_check.specs.Names.{excess, refusal_if, repeats};
 ghost use Rattle.dv_check.specs.Tables.{has};
-ghost use Rattle.dv_check.specs.Rules.{atomic_refusals, can_ask_hold, holds_once_refusals, is_hold_fine, is_hold_missing, is_start_fault, known_by, names_refusals, once_refusals, phases_places, ruled_phases, standing_refusals, start_hold_refusals, start_places, ticks_refusals};
+ghost use Rattle.dv_check.specs.Rules.{atomic_refusals, can_ask_hold, holds_once_refusals, is_fault, is_hold_fine, is_hold_missing, is_start_fault, known_by, name_of_declaration, name_of_state_variable, names_refusals, once_refusals, phases_places, ruled_phases, standing_refusals, start_hold_refusals, start_places, ticks_refusals};
 
 use crate::declarations::Declarations;
 use crate::findings::Findings;
@@ -19,7 +20,7 @@ use crate::repeats::{find_excess, find_repeats, within_limit};
 use crate::starts::Starts;
 use dv_eval::{Scope, phase_hold, phase_ticks, start_state};
 use dv_lex::RefusalNumber;
-use dv_syntax::{Atomic, Name, Phases, Rule, RuleSort, Start, Ticks};
+use dv_syntax::{Atomic, Declaration, Name, Phases, Rule, RuleSort, Start, Ticks};
 use std::alloc::{AllocError, Global};
 
 /// Tests an atomic model.
@@ -41,15 +42,57 @@ fn check_names(alloc: Global, model: &Atomic, found: &mut Findings) -> Result<()
         (names_refusals (atomic_of model.now))) }
 {
     let phases = names::phases(alloc, &model.phases)?;
-    let variables = names::variables(alloc, &model.declarations)?;
-    let declared = names::declared(alloc, &model.declarations)?;
-    find_repeats(alloc, RefusalNumber::E6, &declared, found)?;
+    check_declared(alloc, &model.declarations, found)?;
     find_repeats(alloc, RefusalNumber::E6, &phases, found)?;
     check_ruled(alloc, RuleSort::Output, &model.rules, found)?;
     check_ruled(alloc, RuleSort::Internal, &model.rules, found)?;
-    find_excess(&names::outputs(alloc, &model.declarations)?, found);
-    find_excess(&names::names_of_variables(alloc, &variables)?, found);
+    check_outputs(alloc, &model.declarations, found)?;
+    check_state_variables(alloc, &model.declarations, found)?;
     find_excess(&phases, found);
+    Ok(())
+}
+
+// Two declarations of one name.
+fn check_declared(
+    alloc: Global,
+    declarations: &[Declaration],
+    found: &mut Findings,
+) -> Result<(), AllocError>
+    ensures { OnOk result (found.new ≡ with_refusals found.old
+        (repeats E6 (map name_of_declaration declarations.now))) }
+{
+    find_repeats(
+        alloc,
+        RefusalNumber::E6,
+        &names::declared(alloc, declarations)?,
+        found,
+    )
+}
+
+// Too many output ports.
+fn check_outputs(
+    alloc: Global,
+    declarations: &[Declaration],
+    found: &mut Findings,
+) -> Result<(), AllocError>
+    ensures { OnOk result (found.new ≡ with_refusals found.old
+        (excess (outputs_in declarations.now))) }
+{
+    find_excess(&names::outputs(alloc, declarations)?, found);
+    Ok(())
+}
+
+// Too many variables and flags.
+fn check_state_variables(
+    alloc: Global,
+    declarations: &[Declaration],
+    found: &mut Findings,
+) -> Result<(), AllocError>
+    ensures { OnOk result (found.new ≡ with_refusals found.old
+        (excess (map name_of_state_variable (state_variables_in declarations.now)))) }
+{
+    let variables = names::state_variables(alloc, declarations)?;
+    find_excess(&names::names_of_state_variables(alloc, &variables)?, found);
     Ok(())
 }
 
@@ -184,15 +227,25 @@ fn is_start_fault(
     ensures { IfOk result (λ faults. faults ≡ is_start_fault (known_by declarations.now)
         (atomic_of model.now) phase.now) }
 {
-    if !can_ask_hold(alloc, declarations, model, phase)? {
-        return Ok(false);
+    if can_ask_hold(alloc, declarations, model, phase)? {
+        faults_at_start(alloc, model, phase)
+    } else {
+        Ok(false)
     }
+}
+
+// Whether the hold of a phase faults in the start state.
+fn faults_at_start(alloc: Global, model: &Atomic, phase: &Name) -> Result<bool, AllocError>
+    ensures { IfOk result (λ faults. faults ≡ is_fault (hold_of (scope_of (atomic_of model.now))
+        (hold_ticks phase.now.number (atomic_of model.now).holds)
+        (start_state (atomic_of model.now)))) }
+{
     let scope = Scope::of(alloc, model)?;
     let state = start_state(alloc, model, &scope)?;
     Ok(phase_hold(model, phase.number, &state, &scope).is_err())
 }
 
-// Whether nothing is wrong with the hold of a phase, nor with the variables that it names.
+// Whether nothing is wrong with the hold of a phase, nor with the variables and flags that it names.
 fn can_ask_hold(
     alloc: Global,
     declarations: &Declarations,
@@ -200,7 +253,7 @@ fn can_ask_hold(
     phase: &Name,
 ) -> Result<bool, AllocError>
     ensures { IfOk result (λ can_ask. can_ask ≡ can_ask_hold (known_by declarations.now)
-        (variables_in (atomic_of model.now).declarations) phase.now
+        (state_variables_in (atomic_of model.now).declarations) phase.now
         (hold_ticks phase.now.number (atomic_of model.now).holds)) }
 {
     let ticks = phase_ticks(model, phase.number);

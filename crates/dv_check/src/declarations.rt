@@ -12,7 +12,7 @@ ghost use Rattle.dv_check.specs.Tables.{first_of, value_for};
 ghost use Rattle.dv_check.specs.Rules.{assignment_refusals, hold_refusals, is_out_of_range, items_refusals, known_by, known_in, phase_refusals, rule_refusals, sent_port_refusals, sort_in, sort_of, start_refusals, statements_refusals, ticks_refusals, variable_refusals};
 
 use crate::directory::Directory;
-use crate::expression::{ValueType, check_place};
+use crate::expression::{ValueType, check_place, check_value, type_of_name};
 use crate::findings::Findings;
 use crate::names;
 use crate::number_set::NumberSet;
@@ -26,6 +26,7 @@ use std::alloc::{AllocError, Global};
 #[derive(Clone, Copy, Debug, PartialEq, Eq)]
 pub enum NameSort {
     Variable,
+    Flag,
     Output,
 }
 
@@ -42,10 +43,11 @@ fn sort_of(declaration: &Declaration) -> NameSort
     match declaration {
         Declaration::Out(_) => NameSort::Output,
         Declaration::Var(_) => NameSort::Variable,
+        Declaration::Flag(_) => NameSort::Flag,
     }
 }
 
-/// What the names of ports and variables stand for.
+/// What the names of ports, variables and flags stand for.
 #[tactic(auto, using(crate::proofs::Firsts::first_of_none))]
 pub fn sorts_of(
     alloc: Global,
@@ -163,7 +165,8 @@ impl Declarations {
         match statement {
             Stmt::Assign { variable, value } => {
                 self.check_assigned(sort, variable, found);
-                check_place(ValueType::Number, &self.sorts, value, found);
+                let wanted = type_of_name(self.sorts.get(variable.number));
+                check_value(wanted, &self.sorts, value, found);
             }
             Stmt::Goto { place, phase } => {
                 deny_in_output(sort, *place, found);
@@ -203,7 +206,9 @@ impl Declarations {
         match self.sorts.get(variable.number) {
             None => found.note(RefusalNumber::E7, variable.place),
             Some(NameSort::Output) => found.note(RefusalNumber::E8, variable.place),
-            Some(NameSort::Variable) => deny_in_output(sort, variable.place, found),
+            Some(NameSort::Variable | NameSort::Flag) => {
+                deny_in_output(sort, variable.place, found);
+            }
         }
     }
 
@@ -213,7 +218,9 @@ impl Declarations {
     {
         match self.sorts.get(port.number) {
             None => found.note(RefusalNumber::E7, port.place),
-            Some(NameSort::Variable) => found.note(RefusalNumber::E8, port.place),
+            Some(NameSort::Variable | NameSort::Flag) => {
+                found.note(RefusalNumber::E8, port.place);
+            }
             Some(NameSort::Output) => {}
         }
     }
@@ -239,10 +246,10 @@ fn deny_outside_output(sort: RuleSort, place: u32, found: &mut Findings)
 }
 
 /// Whether a range is empty, or the start value outside of it.
-pub fn is_out_of_range(variable: &Variable) -> bool
-    ensures { result ≡ is_out_of_range variable.now }
+pub fn is_out_of_range(range: VariableRange) -> bool
+    ensures { result ≡ is_out_of_range range }
 {
-    let VariableRange { low, high, start } = VariableRange::of(variable);
+    let VariableRange { low, high, start } = range;
     high < low || start < low || high < start
 }
 
@@ -250,7 +257,7 @@ fn check_variables(variables: &[Variable], found: &mut Findings)
     ensures { found.new ≡ with_refusals found.old (flat_map variable_refusals variables.now) }
 {
     for variable in variables {
-        if is_out_of_range(variable) {
+        if is_out_of_range(VariableRange::of(variable)) {
             found.note(RefusalNumber::E11, variable.name.place);
         }
     }

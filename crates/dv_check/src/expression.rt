@@ -1,16 +1,17 @@
 //! The types of expressions.
 
 ghost use Rattle.std.specs.Prelude.{◌≡◌};
+ghost use Rattle.std.specs.Option.{option_copied};
 ghost use Rattle.dv_syntax.specs.Trees.{expression_of};
 ghost use Rattle.dv_check.specs.Findings.{with_refusals};
 ghost use Rattle.dv_check.specs.Tables.{value_for};
-ghost use Rattle.dv_check.specs.Types.{alike, both_numbers, differ, is_of, numbers_wanted, type_if, expression_refusals, first_place, operand_refusals, place_refusals, type_of, type_of_operator, type_of_name, value_name_refusals, type_refusals};
+ghost use Rattle.dv_check.specs.Types.{alike, both_of, differ, is_of, operands_wanted, type_if, expression_refusals, first_place, operand_refusals, place_refusals, type_of, type_of_operator, type_of_name, type_of_prefix, value_name_refusals, type_refusals, value_refusals};
 
 use crate::declarations::NameSort;
 use crate::directory::Directory;
 use crate::findings::Findings;
 use dv_lex::RefusalNumber;
-use dv_syntax::{Expr, Name, Operator};
+use dv_syntax::{Expr, Name, Operator, Prefix};
 
 /// The type of a value.
 #[derive(Clone, Copy, Debug, PartialEq, Eq)]
@@ -40,6 +41,24 @@ pub fn check_place(
     want(wanted, given, found);
 }
 
+/// Tests an expression whose value goes where this type is wanted, or where nothing is wanted of it.
+pub fn check_value(
+    wanted: Option<ValueType>,
+    sorts: &Directory<NameSort>,
+    expression: &Expr,
+    found: &mut Findings,
+)
+    ensures { found.new ≡ with_refusals found.old (value_refusals wanted (value_for sorts.now)
+        (expression_of expression.now)) }
+{
+    match wanted {
+        Some(wanted) => check_place(wanted, sorts, expression, found),
+        None => {
+            check_expression(sorts, expression, found);
+        }
+    }
+}
+
 fn check_expression(sorts: &Directory<NameSort>, expression: &Expr, found: &mut Findings) -> Typed
     ensures value_type { result.value_type ≡ type_of (value_for sorts.now)
         (expression_of expression.now) }
@@ -52,6 +71,10 @@ fn check_expression(sorts: &Directory<NameSort>, expression: &Expr, found: &mut 
             value_type: Some(ValueType::Number),
             place: number.place,
         },
+        Expr::TruthValue { place, .. } => Typed {
+            value_type: Some(ValueType::Truth),
+            place: *place,
+        },
         Expr::Named(name) => Typed {
             value_type: check_value_name(sorts, name, found),
             place: name.place,
@@ -63,14 +86,16 @@ fn check_expression(sorts: &Directory<NameSort>, expression: &Expr, found: &mut 
                 place: *place,
             }
         }
-        Expr::Negative { place, operand } => {
+        Expr::Prefixed {
+            operator,
+            place,
+            operand,
+        } => {
             let given = check_expression(sorts, operand, found);
-            want(ValueType::Number, given, found);
+            let wanted = type_of_prefix(*operator);
+            want(wanted, given, found);
             Typed {
-                value_type: type_if(
-                    is_of(ValueType::Number, given.value_type),
-                    ValueType::Number,
-                ),
+                value_type: type_if(is_of(wanted, given.value_type), wanted),
                 place: *place,
             }
         }
@@ -89,7 +114,28 @@ fn check_expression(sorts: &Directory<NameSort>, expression: &Expr, found: &mut 
     }
 }
 
-// A name where a variable's value is wanted.
+/// The type of what a name stands for, if it has one.
+pub fn type_of_name(sort: Option<&NameSort>) -> Option<ValueType>
+    ensures { result ≡ type_of_name (option_copied sort.entry) }
+{
+    match sort {
+        Some(NameSort::Variable) => Some(ValueType::Number),
+        Some(NameSort::Flag) => Some(ValueType::Truth),
+        Some(NameSort::Output) | None => None,
+    }
+}
+
+// What an operator before its operand wants, and gives.
+fn type_of_prefix(operator: Prefix) -> ValueType
+    ensures { result ≡ type_of_prefix operator }
+{
+    match operator {
+        Prefix::Minus => ValueType::Number,
+        Prefix::Not => ValueType::Truth,
+    }
+}
+
+// A name where the value of a variable or a flag is wanted.
 fn check_value_name(
     sorts: &Directory<NameSort>,
     name: &Name,
@@ -99,12 +145,13 @@ fn check_value_name(
     ensures found { found.new ≡ with_refusals found.old
         (value_name_refusals (value_for sorts.now name.now.number) name.now.place) }
 {
-    match sorts.get(name.number) {
-        Some(NameSort::Variable) => return Some(ValueType::Number),
+    let sort = sorts.get(name.number);
+    match sort {
+        Some(NameSort::Variable | NameSort::Flag) => {}
         Some(NameSort::Output) => found.note(RefusalNumber::E8, name.place),
         None => found.note(RefusalNumber::E7, name.place),
     }
-    None
+    type_of_name(sort)
 }
 
 // What an operator makes of its operands.
@@ -120,27 +167,31 @@ fn check_operands(operator: Operator, a: Typed, b: Typed, found: &mut Findings) 
             }
             type_if(alike(a.value_type, b.value_type), ValueType::Truth)
         }
+        Operator::Or | Operator::And => {
+            want_both(ValueType::Truth, a, b, found);
+            type_if(both_of(ValueType::Truth, a, b), ValueType::Truth)
+        }
         Operator::Less | Operator::AtMost | Operator::Greater | Operator::AtLeast => {
-            want_numbers(a, b, found);
-            type_if(both_numbers(a, b), ValueType::Truth)
+            want_both(ValueType::Number, a, b, found);
+            type_if(both_of(ValueType::Number, a, b), ValueType::Truth)
         }
         Operator::Add
         | Operator::Subtract
         | Operator::Multiply
         | Operator::Divide
         | Operator::Remainder => {
-            want_numbers(a, b, found);
-            type_if(both_numbers(a, b), ValueType::Number)
+            want_both(ValueType::Number, a, b, found);
+            type_if(both_of(ValueType::Number, a, b), ValueType::Number)
         }
     }
 }
 
-fn want_numbers(a: Typed, b: Typed, found: &mut Findings)
+fn want_both(wanted: ValueType, a: Typed, b: Typed, found: &mut Findings)
     ensures { found.new ≡ with_refusals found.old
-        (numbers_wanted a.value_type a.place b.value_type b.place) }
+        (operands_wanted wanted a.value_type a.place b.value_type b.place) }
 {
-    want(ValueType::Number, a, found);
-    want(ValueType::Number, b, found);
+    want(wanted, a, found);
+    want(wanted, b, found);
 }
 
 // Notes an expression of another type than its place wants.
@@ -161,10 +212,10 @@ fn is_of(wanted: ValueType, given: Option<ValueType>) -> bool
     given == Some(wanted)
 }
 
-fn both_numbers(a: Typed, b: Typed) -> bool
-    ensures { result ≡ both_numbers a.value_type b.value_type }
+fn both_of(wanted: ValueType, a: Typed, b: Typed) -> bool
+    ensures { result ≡ both_of wanted a.value_type b.value_type }
 {
-    is_of(ValueType::Number, a.value_type) && is_of(ValueType::Number, b.value_type)
+    is_of(wanted, a.value_type) && is_of(wanted, b.value_type)
 }
 
 fn alike(a: Option<ValueType>, b: Option<ValueType>) -> bool

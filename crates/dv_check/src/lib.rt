@@ -53,7 +53,7 @@ mod parts;
 /// Names that are declared twice or too often.
 mod repeats;
 
-/// The variables of an atomic model whose start values are known.
+/// The variables and flags of an atomic model whose start values are known.
 mod starts;
 
 pub use checked::Checked;

@@ -2,23 +2,25 @@
 
 ghost use Rattle.std.specs.Prelude.{◌≡◌, map, filter_map, IfOk};
 ghost use Rattle.dv_syntax.specs.Trees.{hold_of, phases_of, rule_of};
-ghost use Rattle.dv_eval.specs.Scope.{output_of, outputs_in, phases_in, variable_of, variables_in};
-ghost use Rattle.dv_check.specs.Rules.{first_phases, held_phase, held_phases, name_of_declaration, name_of_variable, ruled_phase, ruled_phases};
+ghost use Rattle.dv_eval.specs.Scope.{output_of, outputs_in, phases_in, state_variables_in, variable_of, variables_in};
+ghost use Rattle.dv_check.specs.Rules.{first_phases, held_phase, held_phases, name_of_declaration, name_of_state_variable, ruled_phase, ruled_phases};
 
+use dv_eval::{Domain, state_variable_of};
 use dv_syntax::{Declaration, Hold, Name, Phases, Rule, RuleSort, Variable};
 use std::alloc::{AllocError, Global};
 
-/// The name of a port or variable.
+/// The name of a port, variable or flag.
 pub fn name_of_declaration(declaration: &Declaration) -> Name
     ensures { result ≡ name_of_declaration declaration.now }
 {
     match declaration {
         Declaration::Out(port) => *port,
         Declaration::Var(variable) => variable.name,
+        Declaration::Flag(flag) => flag.name,
     }
 }
 
-/// The names of ports and variables.
+/// The names of ports, variables and flags.
 pub fn declared(alloc: Global, declarations: &[Declaration]) -> Result<Vec<Name>, AllocError>
     ensures { IfOk result (λ names. names.items ≡ map name_of_declaration declarations.now) }
 {
@@ -33,7 +35,7 @@ fn output_of(declaration: &Declaration) -> Option<Name>
 {
     match declaration {
         Declaration::Out(port) => Some(*port),
-        Declaration::Var(_) => None,
+        Declaration::Var(_) | Declaration::Flag(_) => None,
     }
 }
 
@@ -51,12 +53,12 @@ fn variable_of(declaration: &Declaration) -> Option<Variable>
     ensures { result ≡ variable_of declaration.now }
 {
     match declaration {
-        Declaration::Out(_) => None,
+        Declaration::Out(_) | Declaration::Flag(_) => None,
         Declaration::Var(variable) => Some(*variable),
     }
 }
 
-/// The variables.
+/// The variables with a range.
 pub fn variables(alloc: Global, declarations: &[Declaration]) -> Result<Vec<Variable>, AllocError>
     ensures { IfOk result (λ variables. variables.items ≡ variables_in declarations.now) }
 {
@@ -66,20 +68,27 @@ pub fn variables(alloc: Global, declarations: &[Declaration]) -> Result<Vec<Vari
         .collect(alloc)
 }
 
-fn name_of_variable(variable: &Variable) -> Name
-    ensures { result ≡ name_of_variable variable.now }
+/// The variables and flags: the name of each, and what it may hold.
+pub fn state_variables(
+    alloc: Global,
+    declarations: &[Declaration],
+) -> Result<Vec<(Name, Domain)>, AllocError>
+    ensures { IfOk result (λ variables. variables.items ≡ state_variables_in declarations.now) }
 {
-    variable.name
+    declarations
+        .iter()
+        .filter_map(|declaration| state_variable_of(declaration))
+        .collect(alloc)
 }
 
-/// The names of variables.
-pub fn names_of_variables(alloc: Global, variables: &[Variable]) -> Result<Vec<Name>, AllocError>
-    ensures { IfOk result (λ names. names.items ≡ map name_of_variable variables.now) }
+/// The names of variables and flags.
+pub fn names_of_state_variables(
+    alloc: Global,
+    variables: &[(Name, Domain)],
+) -> Result<Vec<Name>, AllocError>
+    ensures { IfOk result (λ names. names.items ≡ map name_of_state_variable variables.now) }
 {
-    variables
-        .iter()
-        .map(|variable| name_of_variable(variable))
-        .collect(alloc)
+    variables.iter().map(|variable| variable.0).collect(alloc)
 }
 
 /// The phases of all items of phases.

@@ -194,7 +194,7 @@ fn is_output(sort: Option<&NameSort>) -> bool
 {
     match sort {
         Some(NameSort::Output) => true,
-        Some(NameSort::Variable) | None => false,
+        Some(NameSort::Variable | NameSort::Flag) | None => false,
     }
 }
 

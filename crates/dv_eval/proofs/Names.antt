@@ -9,9 +9,8 @@ use Rattle.std.proofs.lemmas.Map.Views.{Contains-from_any}
 use Rattle.std.proofs.lemmas.List.Elements.{All-contains, All-from_get_or}
 use Rattle.std.proofs.lemmas.Bool.{eqb-true}
 use Rattle.dv_syntax.specs.declared.tree.Name.{Name}
-use Rattle.dv_syntax.specs.declared.tree.Variable.{Variable}
-use Rattle.dv_eval.specs.Scope.{place_from, place_of, is_declared, names_of, with_name, with_names, with_variable, range_of}
-use Rattle.dv_eval.specs.declared.scope.VariableRange.{VariableRange}
+use Rattle.dv_eval.specs.Scope.{place_from, place_of, is_declared, names_of, with_name, with_names, with_variable}
+use Rattle.dv_eval.specs.declared.scope.Domain.{Domain}
 
 -- a test of equality does not care which of the two comes first
 pub eqb-swap : (a b : ℕ) → eqb a b ≡ eqb b a
@@ -35,24 +34,24 @@ none_from_is_some None e = refl
 none_from_is_some (Some x) e = absurd (true≢false e)
 
 -- a name is declared where a look-up finds it
-pub is_declared-lookup : (name : ℕ) (entries : List (ℕ × VariableRange)) → is_some (lookup (eqb name) entries) ≡ is_declared name (names_of entries)
+pub is_declared-lookup : (name : ℕ) (entries : List (ℕ × Domain)) → is_some (lookup (eqb name) entries) ≡ is_declared name (names_of entries)
 is_declared-lookup name [] = refl
 is_declared-lookup name (e ∷ entries) = is_some-cond (eqb name e.0) e.1 (lookup (eqb name) entries) ∙ cc (eqb-swap e.0 name, is_declared-lookup name entries)
 
 -- a variable that a look-up finds stays as it is, and another goes last
-with_variable-lookup : (entries : List (ℕ × VariableRange)) (v : Variable) → with_variable entries v ≡ cond (is_some (lookup (eqb v.name.number) entries)) entries (entries ++ (v.name.number, range_of v) ∷ [])
-with_variable-lookup entries v = ap (λ b. cond b entries (entries ++ (v.name.number, range_of v) ∷ [])) (sym (is_declared-lookup v.name.number entries))
+with_variable-lookup : (entries : List (ℕ × Domain)) (v : Name × Domain) → with_variable entries v ≡ cond (is_some (lookup (eqb v.0.number) entries)) entries (entries ++ (v.0.number, v.1) ∷ [])
+with_variable-lookup entries v = ap (λ b. cond b entries (entries ++ (v.0.number, v.1) ∷ [])) (sym (is_declared-lookup v.0.number entries))
 
 -- a name is declared where a set has it
 pub is_declared-list_any : (name : ℕ) (names : List ℕ) → list_any (eqb name) names ≡ is_declared name names
 is_declared-list_any name [] = refl
 is_declared-list_any name (n ∷ names) = cc (eqb-swap n name, is_declared-list_any name names)
 
-pub with_variable-present : (entries : List (ℕ × VariableRange)) (v : Variable) → is_some (lookup (eqb v.name.number) entries) ≡ true → with_variable entries v ≡ entries
-with_variable-present entries v e = with_variable-lookup entries v ∙ ap (λ b. cond b entries (entries ++ (v.name.number, range_of v) ∷ [])) e
+pub with_variable-present : (entries : List (ℕ × Domain)) (v : Name × Domain) → is_some (lookup (eqb v.0.number) entries) ≡ true → with_variable entries v ≡ entries
+with_variable-present entries v e = with_variable-lookup entries v ∙ ap (λ b. cond b entries (entries ++ (v.0.number, v.1) ∷ [])) e
 
-pub with_variable-absent : (entries : List (ℕ × VariableRange)) (v : Variable) → is_some (lookup (eqb v.name.number) entries) ≡ false → with_variable entries v ≡ entries ++ (v.name.number, range_of v) ∷ []
-with_variable-absent entries v e = with_variable-lookup entries v ∙ ap (λ b. cond b entries (entries ++ (v.name.number, range_of v) ∷ [])) e
+pub with_variable-absent : (entries : List (ℕ × Domain)) (v : Name × Domain) → is_some (lookup (eqb v.0.number) entries) ≡ false → with_variable entries v ≡ entries ++ (v.0.number, v.1) ∷ []
+with_variable-absent entries v e = with_variable-lookup entries v ∙ ap (λ b. cond b entries (entries ++ (v.0.number, v.1) ∷ [])) e
 
 below_from_fits : (xs : List ℕ) → ((k : ℕ) → Fits w32 (get_or xs k 0)) → (q : ℕ) → list_any (eqb q) xs ≡ true → q < 2 ^ 32
 below_from_fits xs h q e =

@@ -1,7 +1,7 @@
--- Expressions of numbers alone, at the edges of 64 bits.
+-- Expressions without names: at the edges of 64 bits, and comparisons of numbers.
 use Rattle.std.specs.Prelude.{ℕ, [], Result}
 use Rattle.dv_syntax.specs.Trees.{Expression, Literal, Parens, Binary}
-use Rattle.dv_syntax.specs.declared.tree.Operator.TheVariants.{Add, Subtract, Divide}
+use Rattle.dv_syntax.specs.declared.tree.Operator.TheVariants.{Add, Subtract, Divide, Equal}
 use Rattle.dv_bag.specs.declared.fault.Fault.{Fault}
 use Rattle.dv_bag.specs.declared.value.Value.{Value}
 use Rattle.dv_eval.specs.Scope.{nothing_declared}
@@ -27,6 +27,18 @@ too_great = Parens 1 (Binary Add greatest (number 1))
 
 abbrev pub by_nothing : Expression
 by_nothing = Parens 1 (Binary Divide (number 1) (number 0))
+
+-- 1 = 1
+abbrev pub holding : Expression
+holding = Binary Equal (number 1) (number 1)
+
+-- 1 = 2
+abbrev pub failing : Expression
+failing = Binary Equal (number 1) (number 2)
+
+-- 1 / 0 = 1
+abbrev pub faulty : Expression
+faulty = Binary Equal (Binary Divide (number 1) (number 0)) (number 1)
 
 -- the value where nothing is declared
 abbrev pub value : Expression → Result Value Fault

@@ -1,11 +1,13 @@
 -- The meaning of expressions, rules and holds, by recursion on the tree: a value or an effect, or the first fault from the left.
 -- A checked model knows its names and gives every operator what it wants; for all others a name that is not known counts
 -- as 0, and a truth value as 0 or 1.
-use Rattle.std.specs.Prelude.{ℕ, ℤ, pos, negsuc, neg_ℤ, ◌+ℤ◌, ◌-ℤ◌, ◌*ℤ◌, ◌^◌, Bool, true, false, not, ◌&&◌, if◌then◌else◌, nat_le, int_lt, int_div, int_rem, List, [], length, replicate, slice_get, slice_set, Option, Some, None, Result, Ok, Err}
+use Rattle.std.specs.Prelude.{ℕ, ℤ, pos, negsuc, neg_ℤ, ◌+ℤ◌, ◌-ℤ◌, ◌*ℤ◌, ◌^◌, Bool, true, false, not, ◌&&◌, ◌||◌, if◌then◌else◌, nat_le, int_lt, int_div, int_rem, List, [], length, replicate, slice_get, slice_set, Option, Some, None, Result, Ok, Err}
 use Rattle.std.specs.Ordering.{int_eq}
-use Rattle.dv_syntax.specs.Trees.{Expression, Literal, Named, Parens, Negative, Binary, Statements, Done, Assign, Goto, Send, If, IfElse}
+use Rattle.dv_syntax.specs.Trees.{Expression, Literal, TruthValue, Named, Parens, Prefixed, Binary, Statements, Done, Assign, Goto, Send, If, IfElse}
+use Rattle.dv_syntax.specs.declared.tree.Prefix.{Prefix}
+use Rattle.dv_syntax.specs.declared.tree.Prefix.TheVariants.{Minus, Not}
 use Rattle.dv_syntax.specs.declared.tree.Operator.{Operator}
-use Rattle.dv_syntax.specs.declared.tree.Operator.TheVariants.{Add, Subtract, Multiply, Divide as DivideBy, Remainder, Equal, Unequal, Less, AtMost, Greater, AtLeast}
+use Rattle.dv_syntax.specs.declared.tree.Operator.TheVariants.{Or, And, Add, Subtract, Multiply, Divide as DivideBy, Remainder, Equal, Unequal, Less, AtMost, Greater, AtLeast}
 use Rattle.dv_bag.specs.Bag.{bag_at, total_of_all, with_copies}
 use Rattle.dv_bag.specs.Outcome.{◌>>=◌}
 use Rattle.dv_bag.specs.declared.value.Value.{Value}
@@ -19,6 +21,8 @@ use Rattle.dv_bag.specs.declared.state.Effect.{Effect}
 use Rattle.dv_eval.specs.Scope.{Scope, place_of, names_of}
 use Rattle.dv_bag.specs.declared.TheConstants.{GREATEST_COUNT}
 use Rattle.dv_eval.specs.declared.scope.VariableRange.{VariableRange}
+use Rattle.dv_eval.specs.declared.scope.Domain.{Domain}
+use Rattle.dv_eval.specs.declared.scope.Domain.TheVariants as domain
 
 -- within -2^63..2^63-1
 abbrev pub is_kept : ℤ → Bool
@@ -51,8 +55,21 @@ same (Number a) (Number b) = int_eq a b
 same (Number a) (Truth b) = int_eq a (number_of (Truth b))
 same (Truth a) b = int_eq (number_of (Truth a)) (number_of b)
 
+-- what an operator before its operand gives
+abbrev pub prefix_result : Prefix → Value → Result Value Fault
+prefix_result Minus v = number_or_overflow (neg_ℤ (number_of v))
+prefix_result Not v = Ok (Truth (not (truth_of v)))
+
+-- whether the left operand is all that an operator asks for: false and .., true or ..
+abbrev pub is_decided : Operator → Value → Bool
+is_decided And v = not (truth_of v)
+is_decided Or v = truth_of v
+is_decided operator v = false
+
 -- what an operator gives
 abbrev pub operator_result : Operator → Value → Value → Result Value Fault
+operator_result Or a b = Ok (Truth (truth_of a || truth_of b))
+operator_result And a b = Ok (Truth (truth_of a && truth_of b))
 operator_result Add a b = number_or_overflow (number_of a +ℤ number_of b)
 operator_result Subtract a b = number_or_overflow (number_of a -ℤ number_of b)
 operator_result Multiply a b = number_or_overflow (number_of a *ℤ number_of b)
@@ -79,13 +96,15 @@ datum_at contents (Some place) = slice_get contents place
 abbrev pub value_of_name : Scope → State → ℕ → Value
 value_of_name scope s name = value_of_datum (datum_at s.variables (place_of name (names_of scope.variables)))
 
--- the value of an expression in a state
+-- the value of an expression in a state; where the left operand decides, the right one is not asked
 abbrev pub meaning : Scope → State → Expression → Result Value Fault
 meaning scope s (Literal n) = Ok (Number (pos n.value))
+meaning scope s (TruthValue place b) = Ok (Truth b)
 meaning scope s (Named name) = Ok (value_of_name scope s name.number)
 meaning scope s (Parens place e) = meaning scope s e
-meaning scope s (Negative place e) = meaning scope s e >>= λ v. number_or_overflow (neg_ℤ (number_of v))
-meaning scope s (Binary operator a b) = meaning scope s a >>= λ x. meaning scope s b >>= λ y. operator_result operator x y
+meaning scope s (Prefixed operator place e) = meaning scope s e >>= λ v. prefix_result operator v
+meaning scope s (Binary operator a b) =
+    meaning scope s a >>= λ x. if is_decided operator x then Ok (Truth (truth_of x)) else (meaning scope s b >>= λ y. operator_result operator x y)
 
 -- a number within a range
 abbrev pub is_within : ℤ → ℤ → ℤ → Bool
@@ -94,21 +113,29 @@ is_within low high n = not (int_lt n low) && not (int_lt high n)
 abbrev pub with_state : Effect → State → Effect
 with_state e s = record { state = s; sent = e.sent; goto = e.goto }
 
-abbrev pub with_number : State → ℕ → ℤ → State
-with_number s place n = record { phase = s.phase; variables = slice_set s.variables place (datum.Number n) }
+abbrev pub with_datum : State → ℕ → Datum → State
+with_datum s place d = record { phase = s.phase; variables = slice_set s.variables place d }
 
--- a number assignment_in_range into the variable at a place, where it is within the variable's range
-abbrev pub assignment_in_range : Option (ℕ × VariableRange) → ℕ → ℤ → Effect → Result Effect Fault
-assignment_in_range None place n e = Ok e
-assignment_in_range (Some v) place n e = if is_within v.1.low v.1.high n then Ok (with_state e (with_number e.state place n)) else Err Range
+-- a number into the variable at a place, where it is within the variable's range
+abbrev pub assignment_in_range : VariableRange → ℕ → ℤ → Effect → Result Effect Fault
+assignment_in_range range place n e = if is_within range.low range.high n then Ok (with_state e (with_datum e.state place (datum.Number n))) else Err Range
 
-abbrev pub assignment_at : Scope → Option ℕ → ℤ → Effect → Result Effect Fault
-assignment_at scope None n e = Ok e
-assignment_at scope (Some place) n e = assignment_in_range (slice_get scope.variables place) place n e
+-- a value into the state variable at a place; a flag takes the truth value
+abbrev pub assignment_in_domain : Domain → ℕ → Value → Effect → Result Effect Fault
+assignment_in_domain (domain.Number range) place v e = assignment_in_range range place (number_of v) e
+assignment_in_domain (domain.Flag start) place v e = Ok (with_state e (with_datum e.state place (datum.Flag (truth_of v))))
 
--- a number assignment to a variable
+abbrev pub assignment_to : Option (ℕ × Domain) → ℕ → Value → Effect → Result Effect Fault
+assignment_to None place v e = Ok e
+assignment_to (Some variable) place v e = assignment_in_domain variable.1 place v e
+
+abbrev pub assignment_at : Scope → Option ℕ → Value → Effect → Result Effect Fault
+assignment_at scope None v e = Ok e
+assignment_at scope (Some place) v e = assignment_to (slice_get scope.variables place) place v e
+
+-- an assignment to a variable or a flag
 abbrev pub assignment : Scope → ℕ → Value → Effect → Result Effect Fault
-assignment scope name v e = assignment_at scope (place_of name (names_of scope.variables)) (number_of v) e
+assignment scope name v e = assignment_at scope (place_of name (names_of scope.variables)) v e
 
 -- one value more at a port
 abbrev pub with_value_at : Option ℕ → ℤ → Effect → Effect

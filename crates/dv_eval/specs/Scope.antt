@@ -6,7 +6,7 @@ use Rattle.dv_syntax.specs.declared.tree.Name.{Name}
 use Rattle.dv_syntax.specs.declared.tree.Bound.{Bound}
 use Rattle.dv_syntax.specs.declared.tree.Variable.{Variable}
 use Rattle.dv_syntax.specs.declared.tree.Declaration.{Declaration}
-use Rattle.dv_syntax.specs.declared.tree.Declaration.TheVariants.{Out, Var}
+use Rattle.dv_syntax.specs.declared.tree.Declaration.TheVariants.{Out, Var, Flag}
 use Rattle.dv_syntax.specs.declared.tree.Start.{Start}
 use Rattle.dv_syntax.specs.declared.tree.Ticks.{Ticks}
 use Rattle.dv_syntax.specs.declared.tree.RuleSort.{RuleSort}
@@ -15,10 +15,12 @@ use Rattle.dv_bag.specs.declared.state.State.{State}
 use Rattle.dv_bag.specs.declared.state.Datum.{Datum}
 use Rattle.dv_bag.specs.declared.state.Datum.TheVariants as datum
 use Rattle.dv_eval.specs.declared.scope.VariableRange.{VariableRange}
+use Rattle.dv_eval.specs.declared.scope.Domain.{Domain}
+use Rattle.dv_eval.specs.declared.scope.Domain.TheVariants as domain
 
--- variables with their ranges and start values, phases and output ports, each in the order of declaration
+-- variables and flags with what they may hold, phases and output ports, each in the order of declaration
 pub record Scope : Type 0 where
-  pub variables : List (ℕ × VariableRange)
+  pub variables : List (ℕ × Domain)
   pub phases : List ℕ
   pub outputs : List ℕ
 
@@ -26,11 +28,13 @@ pub record Scope : Type 0 where
 abbrev pub output_of : Declaration → Option Name
 output_of (Out port) = Some port
 output_of (Var v) = None
+output_of (Flag f) = None
 
--- the variable that it declares
+-- the variable with a range that it declares
 abbrev pub variable_of : Declaration → Option Variable
 variable_of (Out port) = None
 variable_of (Var v) = Some v
+variable_of (Flag f) = None
 
 abbrev pub outputs_in : List Declaration → List Name
 outputs_in declarations = filter_map output_of declarations
@@ -75,17 +79,26 @@ bound_value b = signed b.minus b.magnitude.value
 abbrev pub range_of : Variable → VariableRange
 range_of v = record { low = bound_value v.low; high = bound_value v.high; start = bound_value v.start }
 
-abbrev pub with_variable : List (ℕ × VariableRange) → Variable → List (ℕ × VariableRange)
-with_variable entries v = if is_declared v.name.number (names_of entries) then entries else entries ++ (v.name.number, range_of v) ∷ []
+-- the state variable that a declaration declares, a variable or a flag: its name, and what it may hold
+abbrev pub state_variable_of : Declaration → Option (Name × Domain)
+state_variable_of (Out port) = None
+state_variable_of (Var v) = Some (v.name, domain.Number (range_of v))
+state_variable_of (Flag f) = Some (f.name, domain.Flag f.start)
 
-abbrev pub with_variables : List (ℕ × VariableRange) → List Variable → List (ℕ × VariableRange)
+abbrev pub state_variables_in : List Declaration → List (Name × Domain)
+state_variables_in declarations = filter_map state_variable_of declarations
+
+abbrev pub with_variable : List (ℕ × Domain) → Name × Domain → List (ℕ × Domain)
+with_variable entries v = if is_declared v.0.number (names_of entries) then entries else entries ++ (v.0.number, v.1) ∷ []
+
+abbrev pub with_variables : List (ℕ × Domain) → List (Name × Domain) → List (ℕ × Domain)
 with_variables entries [] = entries
 with_variables entries (v ∷ more) = with_variables (with_variable entries v) more
 
 -- what a model declares: of a name that is declared twice the first declaration counts
 abbrev pub scope_of : AtomicTree → Scope
 scope_of m = record {
-  variables = with_variables [] (variables_in m.declarations);
+  variables = with_variables [] (state_variables_in m.declarations);
   phases = with_names [] (phases_in m.phases);
   outputs = with_names [] (outputs_in m.declarations);
 }
@@ -98,9 +111,13 @@ same_sort Output Output = true
 same_sort Internal Internal = true
 same_sort a b = false
 
--- the variables' values at the start
-abbrev pub start_data : List (ℕ × VariableRange) → List Datum
-start_data entries = map (λ e. datum.Number e.1.start) entries
+-- what a state variable holds at the start
+abbrev pub start_datum : Domain → Datum
+start_datum (domain.Number range) = datum.Number range.start
+start_datum (domain.Flag start) = datum.Flag start
+
+abbrev pub start_data : List (ℕ × Domain) → List Datum
+start_data entries = map (λ e. start_datum e.1) entries
 
 -- the place of the phase that the first start item names
 abbrev pub start_phase : Scope → List Start → ℕ

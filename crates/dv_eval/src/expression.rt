@@ -2,11 +2,11 @@
 
 ghost use Rattle.std.specs.Prelude.{◌≡◌, ◌+ℤ◌, ◌-ℤ◌, ◌*ℤ◌, neg_ℤ};
 ghost use Rattle.dv_syntax.specs.Trees.{expression_of};
-ghost use Rattle.dv_eval.specs.Meaning.{meaning, number_or_overflow, number_of, operator_result, quotient, remainder, same, truth_of, value_of_name};
+ghost use Rattle.dv_eval.specs.Meaning.{is_decided, meaning, number_or_overflow, number_of, operator_result, prefix_result, quotient, remainder, same, truth_of, value_of_name};
 
 use crate::scope::Scope;
 use dv_bag::{DatumView, Fault, State, Value};
-use dv_syntax::{Expr, Operator};
+use dv_syntax::{Expr, Operator, Prefix};
 
 /// The value of an expression in a state.
 ///
@@ -18,15 +18,23 @@ pub fn eval(expression: &Expr, state: &State, scope: &Scope) -> Result<Value, Fa
 {
     match expression {
         Expr::Literal(number) => Ok(Value::Number(number.value.value())),
+        Expr::TruthValue { value, .. } => Ok(Value::Truth(*value)),
         Expr::Named(name) => Ok(value_of_name(name.number, state, scope)),
         Expr::Parens { inner, .. } => eval(inner, state, scope),
-        Expr::Negative { operand, .. } => negated(eval(operand, state, scope)?),
+        Expr::Prefixed {
+            operator,
+            operand,
+            ..
+        } => prefix_result(*operator, eval(operand, state, scope)?),
         Expr::Binary {
             operator,
             left,
             right,
         } => {
             let left = eval(left, state, scope)?;
+            if is_decided(*operator, left) {
+                return Ok(Value::Truth(truth_of(left)));
+            }
             let right = eval(right, state, scope)?;
             operator_result(*operator, left, right)
         }
@@ -47,6 +55,27 @@ fn value_of_name(name: u32, state: &State, scope: &Scope) -> Value
     }
 }
 
+// What an operator before its operand gives.
+fn prefix_result(operator: Prefix, operand: Value) -> Result<Value, Fault>
+    ensures { result ≡ prefix_result operator operand }
+{
+    match operator {
+        Prefix::Minus => negated(operand),
+        Prefix::Not => Ok(Value::Truth(!truth_of(operand))),
+    }
+}
+
+// Whether the left operand is all that an operator asks for.
+fn is_decided(operator: Operator, left: Value) -> bool
+    ensures { result ≡ is_decided operator left }
+{
+    match operator {
+        Operator::And => !truth_of(left),
+        Operator::Or => truth_of(left),
+        _ => false,
+    }
+}
+
 // What an operator gives.
 fn operator_result(operator: Operator, left: Value, right: Value) -> Result<Value, Fault>
     ensures { result ≡ operator_result operator left right }
@@ -54,6 +83,8 @@ fn operator_result(operator: Operator, left: Value, right: Value) -> Result<Valu
     let a = number_of(left);
     let b = number_of(right);
     match operator {
+        Operator::Or => Ok(Value::Truth(truth_of(left) || truth_of(right))),
+        Operator::And => Ok(Value::Truth(truth_of(left) && truth_of(right))),
         Operator::Add => sum(a, b),
         Operator::Subtract => difference(a, b),
         Operator::Multiply => product(a, b),

@@ -15,4 +15,4 @@ pub mod scope;
 pub use expression::eval;
 pub use model::{hold, phase_hold, phase_ticks, rule_body, start_state};
 pub use rule::run_rule;
-pub use scope::{Scope, VariableRange};
+pub use scope::{Domain, Scope, VariableRange, state_variable_of};

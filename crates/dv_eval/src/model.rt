@@ -3,11 +3,11 @@
 ghost use Rattle.std.specs.Prelude.{◌≡◌, ◌<◌, ◌^◌, IfOk, IfSome};
 ghost use Rattle.std.specs.Option.{option_copied};
 ghost use Rattle.dv_syntax.specs.Trees.{atomic_of, statements_of, ticks_of};
-ghost use Rattle.dv_eval.specs.Scope.{hold_ticks, rule_body, same_sort, scope_of, start_data, start_phase, start_state, ticks_found};
+ghost use Rattle.dv_eval.specs.Scope.{hold_ticks, rule_body, same_sort, scope_of, start_data, start_datum, start_phase, start_state, ticks_found};
 ghost use Rattle.dv_eval.specs.Meaning.{hold_of};
 
 use crate::expression::{eval, number_of};
-use crate::scope::Scope;
+use crate::scope::{Domain, Scope};
 use dv_bag::{Datum, Fault, State, Variables};
 use dv_syntax::{Atomic, RuleSort, Stmt, Ticks};
 use std::alloc::{AllocError, Global};
@@ -40,10 +40,19 @@ fn start_data(alloc: Global, scope: &Scope) -> Result<Variables, AllocError>
     ensures { IfOk result (λ variables. variables ≡ start_data scope.now.variables) }
 {
     let mut variables = Variables::new(alloc);
-    for range in scope.ranges() {
-        variables.push(Datum::Number(range.start))?;
+    for domain in scope.domains() {
+        variables.push(start_datum(*domain))?;
     }
     Ok(variables)
+}
+
+fn start_datum(domain: Domain) -> Datum
+    ensures { result ≡ start_datum domain }
+{
+    match domain {
+        Domain::Number(range) => Datum::Number(range.start),
+        Domain::Flag { start } => Datum::Flag(start),
+    }
 }
 
 /// The statements of the first rule of a sort for a phase, and none where there is no such rule.

@@ -3,10 +3,11 @@
 ghost use Rattle.std.specs.Prelude.{◌≡◌};
 ghost use Rattle.dv_syntax.specs.Trees.{Done, expression_of, statement_before, statements_of};
 ghost use Rattle.dv_bag.specs.Outcome.{Gives};
-ghost use Rattle.dv_eval.specs.Meaning.{assignment, effect_of, meaning, run, sending, with_goto};
+ghost use Rattle.dv_bag.specs.declared.state.Datum.TheVariants as datum;
+ghost use Rattle.dv_eval.specs.Meaning.{assignment, assignment_in_range, effect_of, meaning, run, sending, with_datum, with_goto, with_state};
 
 use crate::expression::{eval, number_of, truth_of};
-use crate::scope::Scope;
+use crate::scope::{Domain, Scope, VariableRange};
 use dv_bag::{Effect, Fault, GREATEST_COUNT, RuleError, Sent, State, Value};
 use dv_syntax::laws::trees_keep_blocks;
 use dv_syntax::{Expr, Stmt};
@@ -94,17 +95,29 @@ fn value_of(expression: &Expr, state: &State, scope: &Scope) -> Result<Value, Ru
     eval(expression, state, scope).map_err(RuleError::Fault)
 }
 
-// A value assigned to a variable, within the variable's range.
-fn assign(name: u32, value: Value, scope: &Scope, mut effect: Effect) -> Result<Effect, Fault>
+// A value assigned to a variable or a flag.
+fn assign(name: u32, value: Value, scope: &Scope, effect: Effect) -> Result<Effect, Fault>
     ensures { result ≡ assignment scope.now name value effect }
 {
     let Some(place) = scope.variable(name) else {
         return Ok(effect);
     };
-    let Some(range) = scope.range(place) else {
-        return Ok(effect);
-    };
-    let number = number_of(value);
+    match scope.domain(place) {
+        None => Ok(effect),
+        Some(Domain::Number(range)) => assign_number(range, place, number_of(value), effect),
+        Some(Domain::Flag { .. }) => Ok(assign_flag(place, truth_of(value), effect)),
+    }
+}
+
+// A number within the variable's range.
+fn assign_number(
+    range: VariableRange,
+    place: usize,
+    number: i64,
+    mut effect: Effect,
+) -> Result<Effect, Fault>
+    ensures { result ≡ assignment_in_range range place number effect }
+{
     if number < range.low || range.high < number {
         return Err(Fault::Range);
     }
@@ -112,6 +125,15 @@ fn assign(name: u32, value: Value, scope: &Scope, mut effect: Effect) -> Result<
         effect.state.variables.set_number(place, number);
     }
     Ok(effect)
+}
+
+fn assign_flag(place: usize, truth: bool, mut effect: Effect) -> Effect
+    ensures { result ≡ with_state effect (with_datum effect.state place (datum.Flag truth)) }
+{
+    if place < effect.state.variables.len() {
+        effect.state.variables.set_flag(place, truth);
+    }
+    effect
 }
 
 fn with_goto(phase: Option<u32>, mut effect: Effect) -> Effect

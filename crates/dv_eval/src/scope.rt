@@ -3,7 +3,7 @@
 ghost use Rattle.std.specs.Prelude.{◌≡◌, ◌<◌, ℕ, [], length, slice_get, nat_eq, map, option_map, IfOk, OnOk};
 ghost use Rattle.std.specs.List.{IsDistinct};
 ghost use Rattle.dv_syntax.specs.Trees.{atomic_of, phases_of};
-ghost use Rattle.dv_eval.specs.Scope.{bound_value, names_of, nothing_declared, outputs_in, phases_in, place_of, range_of, scope_of, variables_in, with_name, with_names, with_variable, with_variables};
+ghost use Rattle.dv_eval.specs.Scope.{bound_value, names_of, nothing_declared, outputs_in, phases_in, place_of, range_of, scope_of, state_variable_of, state_variables_in, with_name, with_names, with_variable, with_variables};
 
 use dv_syntax::{Atomic, Bound, Declaration, Name, Phases, Variable};
 use indexmap::{IndexMap, IndexSet};
@@ -41,11 +41,33 @@ fn bound_value(bound: &Bound) -> i64
     }
 }
 
+/// What a state variable may hold, and what it holds at the start.
+#[derive(Clone, Copy, Debug, PartialEq, Eq)]
+pub enum Domain {
+    /// The numbers of a range.
+    Number(VariableRange),
+    /// A truth value.
+    Flag { start: bool },
+}
+
+/// The name of the state variable that a declaration declares, and what it may hold.
+pub fn state_variable_of(declaration: &Declaration) -> Option<(Name, Domain)>
+    ensures { result ≡ state_variable_of declaration.now }
+{
+    match declaration {
+        Declaration::Out(_) => None,
+        Declaration::Var(variable) => {
+            Some((variable.name, Domain::Number(VariableRange::of(variable))))
+        }
+        Declaration::Flag(flag) => Some((flag.name, Domain::Flag { start: flag.start })),
+    }
+}
+
 /// The declared names of an atomic model, each kind in the order of its declarations. Of a name that is
 /// declared twice the first declaration counts.
 #[derive(Drop)]
 pub struct Scope {
-    variables: IndexMap<u32, VariableRange>,
+    variables: IndexMap<u32, Domain>,
     phases: IndexSet<u32>,
     outputs: IndexSet<u32>,
 }
@@ -85,7 +107,7 @@ impl Scope {
         })
     }
 
-    /// The place of a variable.
+    /// The place of a variable or a flag.
     pub fn variable(&self, name: u32) -> Option<usize>
         ensures { result ≡ place_of name (names_of self.now.variables) }
     {
@@ -107,12 +129,12 @@ impl Scope {
         self.outputs.get_index_of(&name)
     }
 
-    /// The range of the variable at a place.
-    pub fn range(&self, place: usize) -> Option<VariableRange>
+    /// What the variable or flag at a place may hold.
+    pub fn domain(&self, place: usize) -> Option<Domain>
         ensures { result ≡ option_map (λ v. v.1) (slice_get self.now.variables place) }
     {
-        let (_, range) = self.variables.get_index(place)?;
-        Some(*range)
+        let (_, domain) = self.variables.get_index(place)?;
+        Some(*domain)
     }
 
     /// The name of the phase at a place.
@@ -122,15 +144,15 @@ impl Scope {
         self.phases.get_index(place as usize).copied()
     }
 
-    /// The names of the variables by place.
+    /// The names of the variables and flags by place.
     pub fn variables(&self) -> &[u32]
         ensures { result.now ≡ names_of self.now.variables }
     {
         self.variables.keys().as_slice()
     }
 
-    /// The ranges of the variables by place.
-    pub fn ranges(&self) -> &[VariableRange]
+    /// What the variables and flags may hold, by place.
+    pub fn domains(&self) -> &[Domain]
         ensures { result.now ≡ map (λ v. v.1) self.now.variables }
     {
         self.variables.values().as_slice()
@@ -161,14 +183,14 @@ impl Scope {
 fn variables_of(
     alloc: Global,
     declarations: &[Declaration],
-) -> Result<IndexMap<u32, VariableRange>, AllocError>
+) -> Result<IndexMap<u32, Domain>, AllocError>
     ensures { IfOk result (λ variables. variables.entries
-        ≡ with_variables [] (variables_in declarations.now)) }
+        ≡ with_variables [] (state_variables_in declarations.now)) }
 {
     let mut variables = IndexMap::new(alloc);
     for declaration in declarations {
-        if let Declaration::Var(variable) = declaration {
-            declare_variable(&mut variables, variable)?;
+        if let Some((name, domain)) = state_variable_of(declaration) {
+            declare_variable(&mut variables, name, domain)?;
         }
     }
     Ok(variables)
@@ -198,14 +220,15 @@ fn phase_names(alloc: Global, phases: &[Phases]) -> Result<IndexSet<u32>, AllocE
 }
 
 fn declare_variable(
-    variables: &mut IndexMap<u32, VariableRange>,
-    variable: &Variable,
+    variables: &mut IndexMap<u32, Domain>,
+    name: Name,
+    domain: Domain,
 ) -> Result<(), AllocError>
     ensures { OnOk result (variables.new.entries
-        ≡ with_variable variables.old.entries variable.now) }
+        ≡ with_variable variables.old.entries (name, domain)) }
 {
-    if !variables.contains_key(&variable.name.number) {
-        variables.insert(variable.name.number, VariableRange::of(variable))?;
+    if !variables.contains_key(&name.number) {
+        variables.insert(name.number, domain)?;
     }
     Ok(())
 }

@@ -1,5 +1,5 @@
--- How a run of bytes ends, and what its writer then holds.
-use Rattle.std.specs.Prelude.{◌≡◌, ℕ, Bool, true, false, if◌then◌else◌, List, ◌⊎◌, Option}
+-- How a check and a run of bytes end, and what the writer then holds.
+use Rattle.std.specs.Prelude.{◌≡◌, ℕ, Bool, true, false, if◌then◌else◌, List, length, ◌⊎◌, Option}
 use Rattle.std.specs.List.{list_any}
 use Rattle.std.specs.Io.KnownBytes.{Appends, Keeps}
 use Rattle.dv_bag.specs.Part.{PartOf}
@@ -7,6 +7,7 @@ use Rattle.dv_bag.specs.declared.entry.Entry.{Entry}
 use Rattle.dv_bag.specs.declared.entry.What.{What}
 use Rattle.dv_bag.specs.declared.entry.What.TheVariants as what
 use Rattle.dv_syntax.specs.Trees.{FileTree}
+use Rattle.dv_tree.specs.Instances.{instances}
 use Rattle.dv_plain.specs.Source.{trace_of}
 use Rattle.dv_text.specs.Writing.{StopsShort}
 use Rattle.dv_job.specs.Job.{IsAnswer, IsModelOf, run_text}
@@ -47,3 +48,16 @@ abbrev pub LeftBy : JobError → List ℕ → (horizon limit : ℕ) → Option (
 LeftBy (error.Text e) text horizon limit old new = IsAnswer text e × Keeps old new
 LeftBy error.Write text horizon limit old new = PrintsBeginning text horizon limit old new
 LeftBy error.Memory text horizon limit old new = Keeps old new ⊎ PrintsBeginning text horizon limit old new
+
+-- the text is accepted, and its model has so many components
+pub record HasComponents (text : List ℕ) (count : ℕ) : Type 0 where
+  pub names : List (List ℕ)
+  pub file : FileTree
+  pub model : IsModelOf text names file
+  pub counted : count ≡ length (instances file)
+
+-- the error is the answer to a text, or want of memory
+abbrev pub AnswersWith : List ℕ → JobError → Type 0
+AnswersWith text (error.Text e) = IsAnswer text e
+AnswersWith text error.Write = ⊥
+AnswersWith text error.Memory = Unit {0}

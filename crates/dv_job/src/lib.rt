@@ -1,6 +1,8 @@
 //! From the bytes of a model to the bytes of its trace.
 #![tactic(auto)]
 
+/// Whether a text is accepted.
+pub mod check;
 /// How a run ends.
 pub mod ended;
 /// Laws of texts and models.
@@ -12,6 +14,7 @@ pub mod options;
 /// The plain run of a model.
 pub mod plain;
 
+pub use check::check_bytes;
 pub use ended::{JobEnded, JobError};
 pub use options::{GREATEST_CAPACITY, GREATEST_LIMIT, MOST_WORKERS, Options};
 pub use plain::run_plain;

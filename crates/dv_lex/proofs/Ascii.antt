@@ -1,31 +1,24 @@
--- Words and numbers are ASCII, so they are UTF-8 and read as numbers.
-use Rattle.std.proofs.Common.{refl, ◌≡◌, ℕ, ◌<◌, ◌≤◌, ◌^◌, Bool, true, List, [], ◌∷◌, length, arith, rules, IsUtf8, IsAscii, Result, Ok, Err, OkIff, Option, None, Some, MatchOption, ◌∙◌, subst, lit<}
-use Rattle.std.specs.Prelude.{IsSome, IfSome, ◌↔◌}
+-- Runs of ASCII characters, and how digits read as a number.
+use Rattle.std.proofs.Common.{◌≡◌, ℕ, ◌<◌, ◌≤◌, ◌^◌, Bool, true, List, [], ◌∷◌, length, arith, rules, IsAscii, Result, Ok, Err, OkIff, subst, lit<}
 use Rattle.std.specs.List.{list_all}
 use Rattle.std.specs.Char.{is_ascii_digit}
 use Rattle.std.specs.Str.Parse.{ParsesUnsigned, digits_value}
-use Rattle.std.proofs.lemmas.Bool.{and_parts, false≢true}
+use Rattle.std.proofs.lemmas.Bool.{and_parts}
 use Rattle.std.proofs.lemmas.Bool.Decides.{nat_tests}
-use Rattle.std.proofs.lemmas.Str.{IsUtf8-from_ascii}
 use Rattle.std.proofs.lemmas.Str.Ascii.{IsAscii-cons}
 use Rattle.std.proofs.lemmas.Str.Parse.{IsDigitsTest, numerals_by_value, parse_digits}
-use Rattle.dv_lex.specs.Lexemes.{IsWord, continues_name}
-use Rattle.dv_lex.proofs.Spellings.{continues_name-ascii, word_test-each, word_test-from_IsWord}
 
-IsAscii-run : (p : ℕ → Bool) → ((b : ℕ) → p b ≡ true → b < 128) → (bs : List ℕ) → list_all p bs ≡ true → IsAscii bs
+pub IsAscii-run : (p : ℕ → Bool) → ((b : ℕ) → p b ≡ true → b < 128) → (bs : List ℕ) → list_all p bs ≡ true → IsAscii bs
 IsAscii-run p small [] h = λ i. lit< tt
 IsAscii-run p small (b ∷ bs) h =
     let t = and_parts (p b) (list_all p bs) h in
     IsAscii-cons b bs (small b t.0) (IsAscii-run p small bs t.1)
 
-is_ascii_digit-ascii : (b : ℕ) → is_ascii_digit b ≡ true → b < 128
+pub is_ascii_digit-ascii : (b : ℕ) → is_ascii_digit b ≡ true → b < 128
 is_ascii_digit-ascii b h = grind (arith, nat_tests)
 
-pub IsUtf8-digits : (bs : List ℕ) → list_all is_ascii_digit bs ≡ true → IsUtf8 bs
-IsUtf8-digits bs h = IsUtf8-from_ascii bs (IsAscii-run is_ascii_digit is_ascii_digit-ascii bs h)
-
-pub IsUtf8-word : (bs : List ℕ) → IsWord bs → IsUtf8 bs
-IsUtf8-word bs w = IsUtf8-from_ascii bs (IsAscii-run continues_name continues_name-ascii bs (word_test-each bs (word_test-from_IsWord bs w)))
+pub IsAscii-digits : (bs : List ℕ) → list_all is_ascii_digit bs ≡ true → IsAscii bs
+IsAscii-digits bs h = IsAscii-run is_ascii_digit is_ascii_digit-ascii bs h
 
 -- what `parse` makes of digits
 digits_test : IsDigitsTest (λ ds. list_all is_ascii_digit ds ≡ true)
@@ -43,12 +36,3 @@ pub refused_number : {E : Type 0} (n : ℕ) (r : Result ℕ E) (e : E) → r ≡
 refused_number n r e is h =
     let none : n < 2 ^ 64 → ⊥ = subst (λ (x : Result ℕ _). OkIff x (n < 2 ^ 64) n) is h in
     omega (arith, none)
-
-pub parsed_number : {E : Type 0} (n : ℕ) (r : Result ℕ E) (v : ℕ) → r ≡ Ok v → OkIff r (n < 2 ^ 64) n → v ≡ n
-parsed_number n r v is h = (subst (λ (x : Result ℕ _). OkIff x (n < 2 ^ 64) n) is h).1
-
-pub numeral_made : (n v : ℕ) (o : Option ℕ) → v ≡ n → IsSome o ↔ (v < 2 ^ 63) → IfSome o (λ w. w ≡ v) → MatchOption o (2 ^ 63 ≤ n) (λ w. (w ≡ n) × (n < 2 ^ 63))
-numeral_made n v None e some is =
-    let none : v < 2 ^ 63 → ⊥ = λ l. false≢true (some.1 l) in
-    omega (arith, none)
-numeral_made n v (Some w) e some is = (is ∙ e, omega (arith, some.0 refl, e))

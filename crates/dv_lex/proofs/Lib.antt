@@ -1,10 +1,11 @@
 pub mod TableLemmas
+pub mod Ascii
 pub mod Runs
+pub mod Characters
 pub mod Spellings
 pub mod Firsts
 pub mod Readings
 pub mod Refusals
-pub mod Ascii
 pub mod NumberingLemmas
 pub mod Progress
 pub mod Decisions

@@ -1,16 +1,22 @@
 -- How far a text has been read: what the loop keeps, and what it ends in.
-use Rattle.std.proofs.Common.{◌≡◌, ℕ, ◌+◌, ◌-◌, ◌<◌, ◌≤◌, true, not, take, drop, get_or, List, [], ◌∷◌, ◌++◌, length, Option, Some, ap, refl, sym, ◌∙◌, subst, arith, option_map, ◌==◌}
+use Rattle.std.proofs.Common.{◌≡◌, ℕ, ◌+◌, ◌-◌, ◌<◌, ◌≤◌, true, not, List, [], ◌∷◌, ◌++◌, length, Option, Some, ap, refl, sym, ◌∙◌, subst, arith, option_map, ◌==◌, IsUtf8}
 use Rattle.std.specs.List.{cons_option}
 use Rattle.std.proofs.lemmas.Bool.{cond_both}
-use Rattle.std.proofs.lemmas.List.{append-nil, length-append, length_push, take_all}
+use Rattle.std.proofs.lemmas.List.{append-nil, length-append, length_push}
 use Rattle.dv_lex.specs.declared.token.Token.{Token}
 use Rattle.dv_lex.specs.declared.token.TokenKind.{TokenKind}
+use Rattle.dv_lex.specs.declared.error.Refusal.{Refusal}
+use Rattle.dv_lex.specs.declared.error.RefusalNumber.{RefusalNumber}
+use Rattle.dv_lex.specs.declared.error.RefusalNumber.TheVariants.{E2, E3}
 use Rattle.dv_lex.specs.Table.{has_name}
 use Rattle.dv_lex.specs.Lexemes.{Lexeme, Blank, Comment, Identifier, is_blank}
 use Rattle.dv_lex.specs.Reading.{Placed, Reads, IsFirst, IsInRange}
 use Rattle.dv_lex.specs.Numbering.{names_of, kind_of, token_of, tokens_of}
-use Rattle.dv_lex.specs.Steps.{with_lexeme, ReadsToken, SplitsRun}
-use Rattle.dv_lex.proofs.Firsts.{IsFirst-blank, IsFirst-comment}
+use Rattle.dv_lex.specs.Texts.{IsReadable, IsRefused, IsRefusedAs, ReadsUpTo}
+use Rattle.dv_lex.specs.Steps.{BeginsWith, IsNoToken, with_lexeme, ReadsToken, SplitsRun}
+use Rattle.dv_lex.proofs.Characters.{BeginsWith-ascii, some_text}
+use Rattle.dv_lex.proofs.Spellings.{is_blank-ascii}
+use Rattle.dv_lex.proofs.Firsts.{IsFirst-blank, IsFirst-comment, IsUtf8-behind_first}
 use Rattle.dv_lex.proofs.Readings.{Reads-push, some_byte}
 use Rattle.dv_lex.proofs.NumberingLemmas.{AreNamed, AreNamed-push, names_of-push, tokens_of-push}
 
@@ -18,7 +24,7 @@ use Rattle.dv_lex.proofs.NumberingLemmas.{AreNamed, AreNamed-push, names_of-push
 abbrev pub place_of : List ℕ → List ℕ → ℕ
 place_of text rest = length text - length rest
 
--- the text is read up to a rest, with these names and tokens; the table has at most a name for each byte
+-- the text is read up to a rest, which is a text, with these names and tokens; the table has at most a name for each byte
 pub record HasRead (text : List ℕ) (names : List (List ℕ)) (tokens : List Token) (rest : List ℕ) : Type 0 where
   pub lexemes : List Placed
   pub reads : Reads 0 text lexemes (place_of text rest) rest
@@ -26,6 +32,7 @@ pub record HasRead (text : List ℕ) (names : List (List ℕ)) (tokens : List To
   pub named : AreNamed names lexemes
   pub numbered : tokens ≡ tokens_of names lexemes
   pub few_names : length names + length rest ≤ length text
+  pub utf8 : IsUtf8 rest
 
 length-with_lexeme : (names : List (List ℕ)) (x : Lexeme) → length (with_lexeme names x) ≤ length names + 1
 length-with_lexeme names (Identifier text) =
@@ -46,6 +53,7 @@ HasRead-more text names tokens rest h x front after range f =
       named = AreNamed-push names h.lexemes placed h.named;
       numbered = ap (λ (ts : List Token). ts ++ cons_option (token_of (with_lexeme names x) placed) []) h.numbered ∙ sym (tokens_of-push names h.lexemes placed h.named);
       few_names = omega (arith, h.few_names, length-with_lexeme names x);
+      utf8 = IsUtf8-behind_first rest x front after h.utf8 f;
     }
 
 -- a blank or a comment
@@ -70,24 +78,31 @@ HasRead-token text names tokens rest h new token after r =
     subst (λ (ns : List (List ℕ)). HasRead text ns (tokens ++ token ∷ []) after) (sym r.table)
     (subst (λ (o : Option Token). HasRead text (with_lexeme names r.lexeme) (tokens ++ cons_option o []) after) made more)
 
--- the bytes behind the first
-tail_of : (b : ℕ) (bs : List ℕ) → bs ≡ take (length (b ∷ bs) - 1) (drop 1 (b ∷ bs))
-tail_of b bs = sym (take_all (length (b ∷ bs) - 1) bs (omega arith))
-
-pub HasRead-byte : (text : List ℕ) (names : List (List ℕ)) (tokens : List Token) (rest : List ℕ) → HasRead text names tokens rest → 1 ≤ length rest → is_blank (get_or rest 0 0) ≡ true → HasRead text names tokens (take (length rest - 1) (drop 1 rest))
-HasRead-byte text names tokens [] h more e = absurd (omega arith)
-HasRead-byte text names tokens (b ∷ bs) h more e =
-    subst (HasRead text names tokens) (tail_of b bs) (HasRead-blank text names tokens (b ∷ bs) h (b ∷ []) bs (IsFirst-blank b bs e))
+-- a blank character
+pub HasRead-blank_first : (text : List ℕ) (names : List (List ℕ)) (tokens : List Token) (rest : List ℕ) → HasRead text names tokens rest → (c : ℕ) (b : BeginsWith c rest) → is_blank c ≡ true → HasRead text names tokens b.0
+HasRead-blank_first text names tokens rest h c b blank =
+    let whole : rest ≡ c ∷ b.0 = BeginsWith-ascii c rest b (is_blank-ascii c blank) in
+    HasRead-blank text names tokens rest h (c ∷ []) b.0 (subst (λ (bs : List ℕ). IsFirst bs Blank (c ∷ []) b.0) (sym whole) (IsFirst-blank c b.0 blank))
 
 -- a comment, up to the end of its line
-pub HasRead-line : (text : List ℕ) (names : List (List ℕ)) (tokens : List Token) (rest : List ℕ) → HasRead text names tokens rest → 1 ≤ length rest → get_or rest 0 0 ≡ 35 → (run after : List ℕ) → SplitsRun (λ b. not (b == 10)) (take (length rest - 1) (drop 1 rest)) run after → HasRead text names tokens after
-HasRead-line text names tokens [] h more e run after s = absurd (omega arith)
-HasRead-line text names tokens (b ∷ bs) h more e run after s =
-    let split : SplitsRun (λ b. not (b == 10)) bs run after = subst (λ (t : List ℕ). SplitsRun (λ b. not (b == 10)) t run after) (sym (tail_of b bs)) s in
-    let first : IsFirst (b ∷ bs) Comment (35 ∷ run) after = subst (λ c. IsFirst (c ∷ bs) Comment (35 ∷ run) after) (sym e) (IsFirst-comment bs run after split) in
-    HasRead-comment text names tokens (b ∷ bs) h (35 ∷ run) after first
+pub HasRead-line : (text : List ℕ) (names : List (List ℕ)) (tokens : List Token) (rest : List ℕ) → HasRead text names tokens rest → (c : ℕ) (b : BeginsWith c rest) → c ≡ 35 → (run after : List ℕ) → SplitsRun (λ b. not (b == 10)) b.0 run after → HasRead text names tokens after
+HasRead-line text names tokens rest h c b e run after s =
+    let whole : rest ≡ 35 ∷ b.0 = BeginsWith-ascii c rest b (omega (arith, e)) ∙ ap (λ n. n ∷ b.0) e in
+    HasRead-comment text names tokens rest h (35 ∷ run) after (subst (λ (bs : List ℕ). IsFirst bs Comment (35 ∷ run) after) (sym whole) (IsFirst-comment b.0 run after s))
 
 -- a token leaves fewer bytes
 pub ReadsToken-shorter : (place : ℕ) (rest : List ℕ) (old new : List (List ℕ)) (token : Token) (after : List ℕ) → ReadsToken place rest old new token after → length after < length rest
 ReadsToken-shorter place rest old new token after r =
     omega (arith, some_byte r.lexeme r.front r.first.spelled, ap length r.first.whole, length-append r.front after)
+
+-- where no token begins, the text is refused
+refused_as : (text : List ℕ) (place : ℕ) (rest : List ℕ) → ReadsUpTo text place rest → 0 < length rest → (number : RefusalNumber) → IsNoToken rest number → IsRefusedAs text number place
+refused_as text place rest r more E2 none = (rest, r, more, none)
+refused_as text place rest r more E3 large = (rest, r, large)
+refused_as text place rest r more _ h = absurd h
+
+pub refused_there : (text : List ℕ) (names : List (List ℕ)) (tokens : List Token) (rest : List ℕ) → IsReadable text → HasRead text names tokens rest → (c : ℕ) → BeginsWith c rest → (r : Refusal) → (r.place ≡ place_of text rest) × IsNoToken rest r.number → IsRefused text r
+refused_there text names tokens rest readable h c b r was =
+    let up_to : ReadsUpTo text r.place rest =
+    record { readable = readable; lexemes = h.lexemes; reads = subst (λ n. Reads 0 text h.lexemes n rest) (sym was.0) h.reads } in
+    refused_as text r.place rest up_to (some_text c rest b) r.number was.1

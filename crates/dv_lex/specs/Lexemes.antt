@@ -1,8 +1,9 @@
 -- What a model text is cut into, and how each piece of it is spelled.
 use Rattle.std.specs.Prelude.{◌≡◌, ◌≢◌, ℕ, ◌<◌, ◌==◌, Bool, not, ◌||◌, IsTrue, List, [], ◌∷◌, length, codes, count_by, encode_utf8_all}
-use Rattle.std.specs.Char.{is_ascii_alphabetic, is_ascii_digit}
+use Rattle.std.specs.Char.{is_ascii_digit}
 use Rattle.std.specs.List.{list_all}
 use Rattle.std.specs.Str.Parse.{digits_value}
+use Rattle.unicode_ident.specs.Ident.{is_xid_start, is_xid_continue}
 use Rattle.dv_lex.specs.declared.token.Keyword.{Keyword}
 use Rattle.dv_lex.specs.declared.token.Keyword.TheVariants as keyword
 use Rattle.dv_lex.specs.declared.token.Symbol.{Symbol}
@@ -23,11 +24,11 @@ is_blank b = b == 32 || b == 9 || b == 13 || b == 10
 
 -- whether a name may begin with the character
 abbrev pub starts_name : ℕ → Bool
-starts_name c = is_ascii_alphabetic c || c == 95
+starts_name c = is_xid_start c || c == 95
 
 -- whether the character may stand in a name behind its first
 abbrev pub continues_name : ℕ → Bool
-continues_name c = starts_name c || is_ascii_digit c
+continues_name c = is_xid_continue c
 
 -- how many line feeds are among the bytes
 abbrev pub line_feeds : List ℕ → ℕ

@@ -1,5 +1,5 @@
 -- What each part of the lexer reads.
-use Rattle.std.specs.Prelude.{◌≡◌, ℕ, ◌≤◌, length, Bool, false, true, List, [], ◌∷◌, ◌++◌, Some}
+use Rattle.std.specs.Prelude.{◌≡◌, ℕ, ◌≤◌, length, Bool, false, true, List, [], ◌∷◌, ◌++◌, Some, encode_utf8, encode_utf8_all}
 use Rattle.std.specs.List.{list_all}
 use Rattle.dv_lex.specs.declared.token.Token.{Token}
 use Rattle.dv_lex.specs.declared.token.Symbol.{Symbol}
@@ -9,6 +9,18 @@ use Rattle.dv_lex.specs.Table.{with_name}
 use Rattle.dv_lex.specs.Lexemes.{Lexeme, Identifier, symbol_text}
 use Rattle.dv_lex.specs.Reading.{IsFirst, IsInRange, NoneBegins, LargeNumberBegins}
 use Rattle.dv_lex.specs.Numbering.{kind_of}
+
+-- the text begins with the character
+abbrev pub BeginsWith : ℕ → List ℕ → Type 0
+BeginsWith c text = (rest : List ℕ) × (text ≡ encode_utf8 c ++ rest)
+
+-- the text is its characters from the front on that pass, and then the rest
+pub record SplitsCharacters (passes : ℕ → Bool) (text run rest : List ℕ) : Type 0 where
+  pub characters : List ℕ
+  pub run_is : run ≡ encode_utf8_all characters
+  pub whole : text ≡ run ++ rest
+  pub each : list_all passes characters ≡ true
+  pub ends : (c : ℕ) → BeginsWith c rest → passes c ≡ false
 
 -- the rest does not go on with a run of bytes that pass
 abbrev pub Ends : (ℕ → Bool) → List ℕ → Type 0

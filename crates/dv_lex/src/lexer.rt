@@ -1,12 +1,12 @@
 //! From the bytes of a model text to its tokens.
 
-ghost use Rattle.std.specs.Prelude.{List, ◌++◌, ◌≡◌, ◌≢◌, ℕ, ◌+◌, ◌-◌, ◌^◌, ◌<◌, ◌≤◌, false, length, slice_index, IfOk, MatchOption, Some, Err, IsTrue, not, ◌==◌};
+ghost use Rattle.std.specs.Prelude.{List, [], ◌++◌, ◌≡◌, ◌≢◌, ℕ, ◌+◌, ◌-◌, ◌^◌, ◌<◌, ◌≤◌, false, length, encode_utf8, IfOk, MatchOption, Some, Err, IsTrue, not, ◌==◌};
 ghost use Rattle.std.specs.Char.{is_ascii_digit};
 ghost use Rattle.std.specs.List.{list_all, take_while};
 ghost use Rattle.std.specs.Str.Parse.{digits_value};
 ghost use Rattle.dv_lex.specs.Lexemes.{Lexeme, symbol_text, Spells, IsWord, is_blank, starts_name, continues_name};
 ghost use Rattle.dv_lex.specs.Numbering.{kind_of};
-ghost use Rattle.dv_lex.specs.Steps.{SplitsRun, IsLongestSymbol, ReadsToken, IsNoToken, with_lexeme};
+ghost use Rattle.dv_lex.specs.Steps.{BeginsWith, SplitsCharacters, SplitsRun, IsLongestSymbol, ReadsToken, IsNoToken, with_lexeme};
 ghost use Rattle.dv_lex.specs.Texts.{IsTokensOf, IsRefused, IsRefusedAs, IsReadable, greatest_length};
 
 use crate::error::{LoadError, Refusal, RefusalNumber};
@@ -16,39 +16,30 @@ use crate::numeral::Numeral;
 use crate::symbols::{double, single};
 use crate::token::{Symbol, Token, TokenKind, Tokens};
 use std::alloc::{AllocError, Global};
+use unicode_ident::{is_xid_continue, is_xid_start};
 
 /// The greatest length of a model text, in bytes.
 pub const GREATEST_LENGTH: usize = 16_777_216;
 
 /// Whether the character is a blank.
-fn is_blank(byte: u8) -> bool
-    ensures { result ≡ is_blank byte }
+fn is_blank(character: char) -> bool
+    ensures { result ≡ is_blank character }
 {
-    matches!(byte, b' ' | b'\t' | b'\r' | b'\n')
+    matches!(character, ' ' | '\t' | '\r' | '\n')
 }
 
 /// Whether a name may begin with the character.
-fn starts_name(byte: u8) -> bool
-    ensures { result ≡ starts_name byte }
+fn starts_name(character: char) -> bool
+    ensures { result ≡ starts_name character }
 {
-    byte.is_ascii_alphabetic() || byte == b'_'
+    is_xid_start(character) || character == '_'
 }
 
 /// Whether the character may stand in a name behind its first.
-fn continues_name(byte: u8) -> bool
-    ensures { result ≡ continues_name byte }
+fn continues_name(character: char) -> bool
+    ensures { result ≡ continues_name character }
 {
-    starts_name(byte) || byte.is_ascii_digit()
-}
-
-/// How many characters from the front on may stand in a name.
-fn word_len(bytes: &[u8]) -> usize
-    ensures { result ≡ length (take_while continues_name bytes.now) }
-{
-    bytes
-        .iter()
-        .take_while(|byte| continues_name(**byte))
-        .count()
+    is_xid_continue(character)
 }
 
 /// How many digits there are from the front on.
@@ -68,73 +59,79 @@ fn line_len(bytes: &[u8]) -> usize
     bytes.iter().take_while(|byte| **byte != b'\n').count()
 }
 
-/// The characters from the front on that may stand in a name, and what follows them.
-fn split_word(bytes: &[u8]) -> (&[u8], &[u8])
-    ensures { SplitsRun continues_name bytes.now result.0.now result.1.now }
+/// The first character of the text, and what follows it.
+fn split_first(text: &str) -> Option<(char, &str)>
+    ensures { MatchOption result (text.now ≡ []) (λ r. text.now ≡ encode_utf8 r.0 ++ r.1.now) }
 {
-    bytes.split_at(word_len(bytes))
+    let mut characters = text.chars();
+    let first = characters.next()?;
+    Some((first, characters.as_str()))
+}
+
+/// The characters from the front on that may stand in a name, and what follows them.
+fn split_word(text: &str) -> (&str, &str)
+    ensures { SplitsCharacters continues_name text.now result.0.now result.1.now }
+{
+    match text.find(|character: char| !continues_name(character)) {
+        Some(end) => text.split_at(end),
+        None => (text, ""),
+    }
 }
 
 /// The digits from the front on, and what follows them.
-fn split_digits(bytes: &[u8]) -> (&[u8], &[u8])
-    ensures { SplitsRun is_ascii_digit bytes.now result.0.now result.1.now }
+fn split_digits(text: &str) -> (&str, &str)
+    ensures { SplitsRun is_ascii_digit text.now result.0.now result.1.now }
 {
-    bytes.split_at(digits_len(bytes))
+    text.split_at(digits_len(text.as_bytes()))
 }
 
 /// What is left of the line, and then its line feed and what follows it.
-fn split_line(bytes: &[u8]) -> (&[u8], &[u8])
-    ensures { SplitsRun (λ b. not (b == 10)) bytes.now result.0.now result.1.now }
+fn split_line(text: &str) -> (&str, &str)
+    ensures { SplitsRun (λ b. not (b == 10)) text.now result.0.now result.1.now }
 {
-    bytes.split_at(line_len(bytes))
+    text.split_at(line_len(text.as_bytes()))
 }
 
 /// The number that the digits write, if it is at most 2^63 - 1.
-fn number(digits: &[u8]) -> Option<Numeral>
+fn number(digits: &str) -> Option<Numeral>
     requires some { 0 < length digits.now }
     requires digits { IsTrue (list_all is_ascii_digit digits.now) }
     ensures { MatchOption result (2 ^ 63 ≤ digits_value 10 digits.now)
         (λ n. (n ≡ digits_value 10 digits.now) × (digits_value 10 digits.now < 2 ^ 63)) }
 {
-    let Ok(text) = str::from_utf8(digits) else {
-        unreachable!()
-    };
-    match text.parse() {
+    match digits.parse() {
         Ok(value) => Numeral::new(value),
         Err(_) => None,
     }
 }
 
 /// What token a word is; a name is added to the table if it is new.
-fn word_kind(alloc: Global, names: &mut Names, word: &[u8]) -> Result<TokenKind, AllocError>
+fn word_kind(alloc: Global, names: &mut Names, word: &str) -> Result<TokenKind, AllocError>
     requires room { length names.old < 2 ^ 32 }
     requires word { IsWord word.now }
     ensures { IfOk result (λ kind. (lexeme : Lexeme) × Spells lexeme word.now
         × (names.new ≡ with_lexeme names.old lexeme) × (kind_of names.new lexeme ≡ Some kind)) }
 {
-    let Ok(word) = str::from_utf8(word) else {
-        unreachable!()
-    };
     match keyword(word) {
         Some(keyword) => Ok(TokenKind::Keyword(keyword)),
         None => Ok(TokenKind::Name(names.number(alloc, word)?)),
     }
 }
 
-/// The symbol at the front of the bytes, the longer of two, and what follows it.
-fn symbol(bytes: &[u8]) -> Option<(Symbol, &[u8])>
-    ensures { MatchOption result ((s : Symbol) (rest : List ℕ) → bytes.now ≢ symbol_text s ++ rest)
-        (λ r. IsLongestSymbol bytes.now r.0 r.1.now) }
+/// The symbol at the front of the text, the longer of two, and what follows it.
+fn symbol(text: &str) -> Option<(Symbol, &str)>
+    ensures { MatchOption result ((s : Symbol) (rest : List ℕ) → text.now ≢ symbol_text s ++ rest)
+        (λ r. IsLongestSymbol text.now r.0 r.1.now) }
 {
-    if let [first, second, rest @ ..] = bytes {
+    if let [first, second, ..] = text.as_bytes() {
         if let Some(symbol) = double(*first, *second) {
-            return Some((symbol, rest));
+            return Some((symbol, &text[2..]));
         }
     }
-    let [first, rest @ ..] = bytes else {
+    let [first, ..] = text.as_bytes() else {
         return None;
     };
-    Some((single(*first)?, rest))
+    Some((single(*first)?, &text[1..]))
 }
 
 /// The refusal of a text.
@@ -144,36 +141,36 @@ fn refused(number: RefusalNumber, place: u32) -> LoadError
     LoadError::Refused(Refusal { number, place })
 }
 
-/// The token at the front of the bytes, which begin at this place, and what follows it.
+/// The token at the front of the text, which begins with this character and at this place, and what follows it.
 fn token<'a>(
     alloc: Global,
     names: &mut Names,
-    bytes: &'a [u8],
+    first: char,
+    text: &'a str,
     place: u32,
-) -> Result<(Token, &'a [u8]), LoadError>
+) -> Result<(Token, &'a str), LoadError>
     requires room { length names.old < 2 ^ 32 }
-    requires more { 0 < length bytes.now }
-    requires no_blank { is_blank (slice_index bytes.now 0) ≡ false }
-    requires no_comment { slice_index bytes.now 0 ≢ 35 }
-    ensures token { IfOk result (λ r. ReadsToken place bytes.now names.old names.new r.0 r.1.now) }
+    requires first { BeginsWith first text.now }
+    requires no_blank { is_blank first ≡ false }
+    requires no_comment { first ≢ 35 }
+    ensures token { IfOk result (λ r. ReadsToken place text.now names.old names.new r.0 r.1.now) }
     ensures refused { (r : Refusal) → result ≡ Err (LoadError.Refused r)
-        → (r.place ≡ place) × IsNoToken bytes.now r.number }
+        → (r.place ≡ place) × IsNoToken text.now r.number }
 {
-    let first = bytes[0];
     if starts_name(first) {
-        let (word, rest) = split_word(bytes);
+        let (word, rest) = split_word(text);
         let kind = word_kind(alloc, names, word)?;
         return Ok((Token { kind, place }, rest));
     }
     if first.is_ascii_digit() {
-        let (digits, rest) = split_digits(bytes);
+        let (digits, rest) = split_digits(text);
         let Some(value) = number(digits) else {
             return Err(refused(RefusalNumber::E3, place));
         };
         let kind = TokenKind::Number(value);
         return Ok((Token { kind, place }, rest));
     }
-    let Some((symbol, rest)) = symbol(bytes) else {
+    let Some((symbol, rest)) = symbol(text) else {
         return Err(refused(RefusalNumber::E2, place));
     };
     let kind = TokenKind::Symbol(symbol);
@@ -181,7 +178,7 @@ fn token<'a>(
 }
 
 /// How many bytes of the text stand before a rest of it.
-fn place_of(text: &[u8], rest: &[u8]) -> u32
+fn place_of(text: &str, rest: &str) -> u32
     requires short { length text.now ≤ greatest_length }
     requires part { length rest.now ≤ length text.now }
     ensures { result ≡ length text.now - length rest.now }
@@ -189,8 +186,8 @@ fn place_of(text: &[u8], rest: &[u8]) -> u32
     (text.len() - rest.len()) as u32
 }
 
-/// The tokens of a text that is UTF-8 and not too long.
-fn read(alloc: Global, text: &[u8]) -> Result<Tokens, LoadError>
+/// The tokens of a text that is not too long.
+fn read(alloc: Global, text: &str) -> Result<Tokens, LoadError>
     requires { IsReadable text.now }
     ensures tokens { IfOk result (λ r. IsTokensOf text.now r.names r.tokens.items) }
     ensures refused { (r : Refusal) → result ≡ Err (LoadError.Refused r) → IsRefused text.now r }
@@ -198,14 +195,15 @@ fn read(alloc: Global, text: &[u8]) -> Result<Tokens, LoadError>
     let mut names = Names::new(alloc);
     let mut tokens = Vec::new(alloc);
     let mut rest = text;
-    while let [first, after @ ..] = rest {
-        if is_blank(*first) {
+    while let Some((first, after)) = split_first(rest) {
+        if is_blank(first) {
             rest = after;
-        } else if *first == b'#' {
+        } else if first == '#' {
             let (_, after) = split_line(after);
             rest = after;
         } else {
-            let (token, after) = match token(alloc, &mut names, rest, place_of(text, rest)) {
+            let place = place_of(text, rest);
+            let (token, after) = match token(alloc, &mut names, first, rest, place) {
                 Ok(read) => read,
                 Err(e) => return Err(e),
             };
@@ -234,8 +232,8 @@ pub fn tokens(alloc: Global, text: &[u8]) -> Result<Tokens, LoadError>
     if text.len() > GREATEST_LENGTH {
         return Err(refused(RefusalNumber::E17, 0));
     }
-    if let Err(e) = str::from_utf8(text) {
-        return Err(refused(RefusalNumber::E1, e.valid_up_to() as u32));
+    match str::from_utf8(text) {
+        Ok(text) => read(alloc, text),
+        Err(e) => Err(refused(RefusalNumber::E1, e.valid_up_to() as u32)),
     }
-    read(alloc, text)
 }

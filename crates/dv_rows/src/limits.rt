@@ -1,160 +1,250 @@
 //! The limits of the rule text, each at its value and one above.
 
-use crate::runs::run_of;
+use crate::runs::{expect_same, run, same, same_bytes, same_run};
 use dv_job::Options;
-use std::alloc::{AllocError, Global};
-use std::test::Fail;
+use std::alloc::AllocError;
+use std::process::Abort;
+
+/// What comes of a text of this page that is taken, to the horizon 0.
+const FINE: &str = "whole 0\nstatus 0";
+
+/// A text in which two pieces stand so many times around a third.
+struct Nest {
+    before: &'static str,
+    open: &'static str,
+    middle: &'static str,
+    close: &'static str,
+    after: &'static str,
+}
+
+/// A model whose start hold stands in parentheses.
+const PARENTHESES: Nest = Nest {
+    before: "atomic A { phases z; start z; hold z: ",
+    open: "(",
+    middle: "1",
+    close: ")",
+    after: "; } coupled Top { part a: A; } root Top;",
+};
+
+/// A model whose internal rule has blocks in one another.
+const BLOCKS: Nest = Nest {
+    before: "atomic A { phases z; start z; hold z: 9; internal z {",
+    open: "if 1 = 1 {",
+    middle: "",
+    close: "}",
+    after: "} } coupled Top { part a: A; } root Top;",
+};
+
+/// A model whose internal rule has a condition that is negated so often.
+const NEGATIONS: Nest = Nest {
+    before: "atomic A { phases z; start z; hold z: 9; internal z { if ",
+    open: "not ",
+    middle: "1 = 1",
+    close: "",
+    after: " { } } } coupled Top { part a: A; } root Top;",
+};
+
+/// A model whose first output sends.
+const SENDS: Nest = Nest {
+    before: "atomic A { out y; phases z, d; start z; hold z: 1; hold d: forever; internal z { goto d; } output z { ",
+    open: "send y 1;",
+    middle: "",
+    close: "",
+    after: "} } coupled Top { part a: A; } root Top;",
+};
+
+fn nested<R: Abort + AllocGlobal>(rt: &R, nest: &Nest, times: usize) -> String {
+    let open = nest.open.repeat(rt.alloc(), times).expect(rt, "memory");
+    let close = nest.close.repeat(rt.alloc(), times).expect(rt, "memory");
+    format!(in rt.alloc(); "{}{open}{}{close}{}", nest.before, nest.middle, nest.after).expect(
+        rt, "memory",
+    )
+}
+
+fn same_nested<R: Abort + AllocGlobal>(rt: &R, nest: &Nest, times: usize, wanted: &str) {
+    let text = nested(rt, nest, times);
+    same_run(rt, text.as_str(), 0, 20, wanted);
+}
+
+#[test]
+fn nesting(rt: HostRuntime) {
+    same_nested(&rt, &PARENTHESES, 62, FINE);
+    same_nested(&rt, &PARENTHESES, 63, FINE);
+    same_nested(&rt, &PARENTHESES, 64, "E5 line 1");
+    // The comparison is two deep.
+    same_nested(&rt, &NEGATIONS, 62, FINE);
+    same_nested(&rt, &NEGATIONS, 63, "E5 line 1");
+    same_nested(&rt, &BLOCKS, 15, FINE);
+    same_nested(&rt, &BLOCKS, 16, "E5 line 1");
+}
+
+#[test]
+fn sends_of_one_output(rt: HostRuntime) {
+    let most = run(&rt, nested(&rt, &SENDS, 4_096).as_str(), 1, 20);
+    same!(rt; most.as_str().ends_with("whole 1\nstatus 0"), true);
+    let above = run(&rt, nested(&rt, &SENDS, 4_097).as_str(), 1, 20);
+    same!(rt; above.as_str(), "1.0 a fault flood\nwhole 1\nstatus 3");
+}
+
+/// A model with numbered declarations between two texts.
+struct Numbered {
+    before: &'static str,
+    left: &'static str,
+    right: &'static str,
+    after: &'static str,
+}
+
+const OUTPUTS: Numbered = Numbered {
+    before: "atomic A { ",
+    left: "out o",
+    right: ";",
+    after: "phases z; start z; hold z: 9; } coupled Top { part a: A; } root Top;",
+};
+
+const VARIABLES: Numbered = Numbered {
+    before: "atomic A { ",
+    left: "var v",
+    right: ": 0..1 = 0;",
+    after: "phases z; start z; hold z: 9; } coupled Top { part a: A; } root Top;",
+};
+
+/// A model with a variable and these flags.
+const FLAGS: Numbered = Numbered {
+    before: "atomic A { var v: 0..1 = 0; ",
+    left: "flag f",
+    right: " = true;",
+    after: "phases z; start z; hold z: 9; } coupled Top { part a: A; } root Top;",
+};
+
+const PARTS: Numbered = Numbered {
+    before: "atomic A { phases z; start z; hold z: 9; } coupled Top { ",
+    left: "part p",
+    right: ": A;",
+    after: "} root Top;",
+};
+
+const OUTPUTS_OF_THE_ROOT: Numbered = Numbered {
+    before: "atomic A { phases z; start z; hold z: 9; } coupled Top { ",
+    left: "out o",
+    right: ";",
+    after: "part a: A; } root Top;",
+};
+
+/// A model whose phases are z and these.
+const PHASES: Numbered = Numbered {
+    before: "atomic A { start z; hold z: 9; phases z",
+    left: ", p",
+    right: "",
+    after: "; ",
+};
+
+/// The holds of the phases.
+const HOLDS: Numbered = Numbered {
+    before: "",
+    left: "hold p",
+    right: ": 1;",
+    after: "} coupled Top { part a: A; } root Top;",
+};
+
+fn push_numbered(text: &mut String, numbered: &Numbered, count: u32) -> Result<(), AllocError> {
+    text.push_str(numbered.before)?;
+    push_declarations(text, numbered.left, numbered.right, count)?;
+    text.push_str(numbered.after)
+}
+
+fn push_declarations(
+    text: &mut String,
+    left: &str,
+    right: &str,
+    count: u32,
+) -> Result<(), AllocError> {
+    for i in 0..count {
+        write!(text, "{left}{i}{right}")?;
+    }
+    Ok(())
+}
+
+fn same_numbered<R: Abort + AllocGlobal>(rt: &R, numbered: &Numbered, count: u32, wanted: &str) {
+    let mut text = String::new(rt.alloc());
+    push_numbered(&mut text, numbered, count).expect(rt, "memory");
+    same_run(rt, text.as_str(), 0, 20, wanted);
+}
+
+fn same_phases<R: Abort + AllocGlobal>(rt: &R, count: u32, wanted: &str) {
+    let mut text = String::new(rt.alloc());
+    push_numbered(&mut text, &PHASES, count).expect(rt, "memory");
+    push_numbered(&mut text, &HOLDS, count).expect(rt, "memory");
+    same_run(rt, text.as_str(), 0, 20, wanted);
+}
+
+#[test]
+fn names_of_one_kind(rt: HostRuntime) {
+    same_numbered(&rt, &OUTPUTS, 4_096, FINE);
+    same_numbered(&rt, &OUTPUTS, 4_097, "E17 line 1");
+    same_numbered(&rt, &VARIABLES, 4_096, FINE);
+    same_numbered(&rt, &VARIABLES, 4_097, "E17 line 1");
+    // With the variable these are 4,096 and 4,097.
+    same_numbered(&rt, &FLAGS, 4_095, FINE);
+    same_numbered(&rt, &FLAGS, 4_096, "E17 line 1");
+    same_numbered(&rt, &PARTS, 4_096, FINE);
+    same_numbered(&rt, &PARTS, 4_097, "E17 line 1");
+    same_numbered(&rt, &OUTPUTS_OF_THE_ROOT, 4_096, FINE);
+    same_numbered(&rt, &OUTPUTS_OF_THE_ROOT, 4_097, "E17 line 1");
+    // With z these are 4,096 and 4,097.
+    same_phases(&rt, 4_095, FINE);
+    same_phases(&rt, 4_096, "E17 line 1");
+}
+
+/// A model of 79 bytes.
+const MODEL: &str =
+    "atomic A { phases z; start z; hold z: 9; } coupled Top { part a: A; } root Top;";
 
 /// Sixty-four bytes of comments.
 const LINES: &str = "# thirty-two bytes of comments.\n# thirty-two bytes of comments.\n";
 
-/// Repeats a text.
-fn push_times(text: &mut String, piece: &str, times: usize) -> Result<(), AllocError> {
-    for _ in 0..times {
-        text.push_str(piece)?;
-    }
-    Ok(())
+// The model and so many comments and empty lines, which are so many bytes.
+fn same_length<R: Abort + AllocGlobal>(
+    rt: &R,
+    comments: usize,
+    empty: usize,
+    length: usize,
+    wanted: &str,
+) {
+    let lines = LINES.repeat(rt.alloc(), comments).expect(rt, "memory");
+    let feeds = "\n".repeat(rt.alloc(), empty).expect(rt, "memory");
+    let text = format!(in rt.alloc(); "{MODEL}{lines}{feeds}").expect(rt, "memory");
+    expect_same(rt, "the bytes of the text", text.len(), length);
+    same_bytes(rt, text.as_bytes(), wanted);
 }
 
-/// A model whose start hold stands in so many pairs of parentheses.
-fn in_parentheses(alloc: Global, pairs: usize) -> Result<String, AllocError> {
-    let mut text = String::from_str(alloc, "atomic A { phases z; start z; hold z: ")?;
-    push_times(&mut text, "(", pairs)?;
-    text.push_str("1")?;
-    push_times(&mut text, ")", pairs)?;
-    text.push_str("; } coupled Top { part a: A; } root Top;")?;
-    Ok(text)
-}
-
-/// A model whose internal rule has blocks so deep in one another.
-fn in_blocks(alloc: Global, blocks: usize) -> Result<String, AllocError> {
-    let mut text = String::from_str(
-        alloc,
-        "atomic A { phases z; start z; hold z: 9; internal z {",
-    )?;
-    push_times(&mut text, "if 1 = 1 {", blocks)?;
-    push_times(&mut text, "}", blocks)?;
-    text.push_str("} } coupled Top { part a: A; } root Top;")?;
-    Ok(text)
-}
-
-/// A model with so many numbered declarations between two texts.
-fn numbered(
-    alloc: Global,
-    before: &str,
-    left: &str,
-    right: &str,
-    count: u32,
-    after: &str,
-) -> Result<String, AllocError> {
-    let mut text = String::from_str(alloc, before)?;
-    for i in 0..count {
-        write!(text, "{left}{i}{right}")?;
-    }
-    text.push_str(after)?;
-    Ok(text)
-}
-
+// 79 + 64 * 262,142 + 49 = 16,777,216
 #[test]
-fn nesting(rt: HostRuntime) -> Result<(), Fail> {
-    let fine = "whole 0\nstatus 0";
-    for (pairs, wanted) in [(62, fine), (63, fine), (64, "E5 line 1")] {
-        let text = in_parentheses(rt.alloc(), pairs)?;
-        let got = run_of(rt.alloc(), text.as_bytes(), 0, 20)?;
-        assert_eq!(rt; got.as_str(), wanted, "{pairs} pairs");
-    }
-    for (blocks, wanted) in [(15, fine), (16, "E5 line 1")] {
-        let text = in_blocks(rt.alloc(), blocks)?;
-        let got = run_of(rt.alloc(), text.as_bytes(), 0, 20)?;
-        assert_eq!(rt; got.as_str(), wanted, "{blocks} blocks");
-    }
-    Ok(())
+fn bytes_of_a_text(rt: HostRuntime) {
+    same_length(&rt, 262_142, 49, 16_777_216, FINE);
+    same_length(&rt, 262_142, 50, 16_777_217, "E17 line 1");
 }
 
-#[test]
-fn names_of_one_kind(rt: HostRuntime) -> Result<(), Fail> {
-    let fine = "whole 0\nstatus 0";
-    let z = "phases z; start z; hold z: 9; } coupled Top { part a: A; } root Top;";
-    let a = "atomic A { phases z; start z; hold z: 9; } coupled Top { ";
-    for (count, wanted) in [(4_096, fine), (4_097, "E17 line 1")] {
-        let text = numbered(rt.alloc(), "atomic A { ", "out o", ";", count, z)?;
-        let got = run_of(rt.alloc(), text.as_bytes(), 0, 20)?;
-        assert_eq!(rt; got.as_str(), wanted, "{count} outputs");
-        let text = numbered(rt.alloc(), "atomic A { ", "var v", ": 0..1 = 0;", count, z)?;
-        let got = run_of(rt.alloc(), text.as_bytes(), 0, 20)?;
-        assert_eq!(rt; got.as_str(), wanted, "{count} variables");
-        let text = numbered(rt.alloc(), a, "part p", ": A;", count, "} root Top;")?;
-        let got = run_of(rt.alloc(), text.as_bytes(), 0, 20)?;
-        assert_eq!(rt; got.as_str(), wanted, "{count} parts");
-        let text = numbered(rt.alloc(), a, "out o", ";", count, "part a: A; } root Top;")?;
-        let got = run_of(rt.alloc(), text.as_bytes(), 0, 20)?;
-        assert_eq!(rt; got.as_str(), wanted, "{count} outputs of the root");
-    }
-    Ok(())
-}
-
-#[test]
-fn phases_of_one_model(rt: HostRuntime) -> Result<(), Fail> {
-    for (count, wanted) in [(4_095, "whole 0\nstatus 0"), (4_096, "E17 line 1")] {
-        let after = "; start z; hold z: 9; ";
-        let mut text = numbered(rt.alloc(), "atomic A { phases z", ", p", "", count, after)?;
-        for i in 0..count {
-            write!(text, "hold p{i}: 1;")?;
-        }
-        text.push_str("} coupled Top { part a: A; } root Top;")?;
-        let got = run_of(rt.alloc(), text.as_bytes(), 0, 20)?;
-        assert_eq!(rt; got.as_str(), wanted, "{count} phases beside z");
-    }
-    Ok(())
-}
-
-#[test]
-fn sends_of_one_output(rt: HostRuntime) -> Result<(), Fail> {
-    let before =
-        "atomic A { out y; phases z, d; start z; hold z: 1; hold d: forever; internal z { goto d; } output z { ";
-    let after = "} } coupled Top { part a: A; } root Top;";
-    for (count, wanted) in [
-        (4_096, "whole 1\nstatus 0"),
-        (4_097, "1.0 a fault flood\nwhole 1\nstatus 3"),
-    ] {
-        let mut text = String::from_str(rt.alloc(), before)?;
-        push_times(&mut text, "send y 1;", count)?;
-        text.push_str(after)?;
-        let got = run_of(rt.alloc(), text.as_bytes(), 1, 20)?;
-        assert!(rt; got.as_str().ends_with(wanted), "{count} sends");
-    }
-    Ok(())
-}
-
-#[test]
-fn bytes_of_a_text(rt: HostRuntime) -> Result<(), Fail> {
-    let model = "atomic A { phases z; start z; hold z: 9; } coupled Top { part a: A; } root Top;";
-    for (length, wanted) in [
-        (16_777_216, "whole 0\nstatus 0"),
-        (16_777_217, "E17 line 1"),
-    ] {
-        let mut text = String::from_str(rt.alloc(), model)?;
-        let missing = length - 79;
-        push_times(&mut text, LINES, missing / 64)?;
-        push_times(&mut text, "\n", missing % 64)?;
-        assert!(rt; text.len() == length, "{} bytes", text.len());
-        let got = run_of(rt.alloc(), text.as_bytes(), 0, 20)?;
-        assert_eq!(rt; got.as_str(), wanted, "{length} bytes");
-    }
-    Ok(())
+fn are_options(
+    horizon: u64,
+    limit: u32,
+    workers: Option<u32>,
+    rounds: Option<u64>,
+    capacity: u32,
+) -> bool {
+    Options::new(horizon, limit, workers, rounds, capacity).is_some()
 }
 
 #[test]
 fn options(rt: HostRuntime) {
-    assert!(rt; Options::new(1_000_000_000_000, 1_000, None, None, 1_024).is_some());
-    assert!(rt; Options::new(0, 1, Some(64), None, 1).is_some());
-    assert!(rt; Options::new(0, 1, None, Some(0), 1).is_some());
-    assert!(rt; Options::new(1_000_000_000_001, 1, None, None, 1).is_none());
-    assert!(rt; Options::new(0, 0, None, None, 1).is_none());
-    assert!(rt; Options::new(0, 1_001, None, None, 1).is_none());
-    assert!(rt; Options::new(0, 1, None, None, 0).is_none());
-    assert!(rt; Options::new(0, 1, None, None, 1_025).is_none());
-    assert!(rt; Options::new(0, 1, Some(0), None, 1).is_none());
-    assert!(rt; Options::new(0, 1, Some(65), None, 1).is_none());
-    assert!(rt; Options::new(0, 1, Some(1), Some(1), 1).is_none());
+    same!(rt; are_options(1_000_000_000_000, 1_000, None, None, 1_024), true);
+    same!(rt; are_options(0, 1, Some(64), None, 1), true);
+    same!(rt; are_options(0, 1, None, Some(0), 1), true);
+    same!(rt; are_options(1_000_000_000_001, 1, None, None, 1), false);
+    same!(rt; are_options(0, 0, None, None, 1), false);
+    same!(rt; are_options(0, 1_001, None, None, 1), false);
+    same!(rt; are_options(0, 1, None, None, 0), false);
+    same!(rt; are_options(0, 1, None, None, 1_025), false);
+    same!(rt; are_options(0, 1, Some(0), None, 1), false);
+    same!(rt; are_options(0, 1, Some(65), None, 1), false);
+    same!(rt; are_options(0, 1, Some(1), Some(1), 1), false);
 }

@@ -34,3 +34,10 @@ pub const EFFECTS: &str =
 coupled Top { out o; part s: Steps; link s.y -> self.o; }
 root Top;
 ";
+
+/// A lamp that is lit for three ticks and dark for two, and tells a bulb's wear when it goes out.
+pub const LAMP: &str =
+    "atomic Lamp { out wear; flag lit = true; var hours: 0..1000 = 0; phases on, off; start on; hold on: 3; hold off: 2; output on { if lit and not (hours < 3) { send wear hours; } } internal on { hours := hours + 3; lit := false; goto off; } internal off { lit := true; goto on; } }
+coupled Top { out o; part l: Lamp; link l.wear -> self.o; }
+root Top;
+";

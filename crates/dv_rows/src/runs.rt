@@ -1,19 +1,89 @@
-//! Runs a model text with ample memory; what came of it is one text.
+//! Runs model texts with ample memory, and compares what comes of them with what is wanted. What the tests share stands
+//! here, since a function is proved once and a macro at each place.
 
-use dv_job::{JobEnded, Options, run_plain};
+use dv_job::{JobEnded, JobError, Options, run_plain};
 use std::alloc::{AllocError, Global};
+use std::fmt::Debug;
+use std::process::Abort;
 
-/// What was printed, and then how the run ended: `status 0`, `status 3`, or the error's text.
-pub fn run_of(alloc: Global, model: &[u8], horizon: u64, limit: u32) -> Result<String, AllocError> {
+/// Fails the test where what was got differs from what is wanted, and names it.
+pub fn expect_same<T: PartialEq + Debug + Drop>(rt: &impl Abort, what: &str, got: T, wanted: T) {
+    assert_eq!(rt; got, wanted, "{what}");
+}
+
+/// Fails the test where the two differ. The message has the first as it is written here.
+macro_rules! same {
+    ($rt:expr; $got:expr, $wanted:expr $(,)?) => {
+        $crate::runs::expect_same(&$rt, stringify!($got), $got, $wanted)
+    };
+}
+
+pub(crate) use same;
+
+/// What was printed, and then how the run ended.
+fn run_of(alloc: Global, model: &[u8], horizon: u64, limit: u32) -> Result<String, AllocError> {
     let Some(options) = Options::new(horizon, limit, None, None, 16) else {
         return String::from_str(alloc, "no options");
     };
     let mut printed: Vec<u8> = Vec::new(alloc);
     let ended = run_plain(alloc, model, &options, &mut printed);
-    let text = str::from_utf8(&printed).unwrap_or("not text");
+    run_text(alloc, &printed, &ended)
+}
+
+/// What was printed, and then `status 0`, `status 3`, or the error's text.
+fn run_text(
+    alloc: Global,
+    printed: &[u8],
+    ended: &Result<JobEnded, JobError>,
+) -> Result<String, AllocError> {
+    let text = str::from_utf8(printed).unwrap_or("not text");
     match ended {
         Ok(JobEnded::Whole) => format!(in alloc; "{text}status 0"),
         Ok(JobEnded::Faulted) => format!(in alloc; "{text}status 3"),
         Err(error) => format!(in alloc; "{text}{error}"),
+    }
+}
+
+/// What comes of a text.
+pub fn run<R: Abort + AllocGlobal>(rt: &R, model: &str, horizon: u64, limit: u32) -> String {
+    run_of(rt.alloc(), model.as_bytes(), horizon, limit).expect(rt, "memory")
+}
+
+/// Runs bytes, and fails the test where something else comes of them than is wanted.
+pub fn same_bytes<R: Abort + AllocGlobal>(rt: &R, model: &[u8], wanted: &str) {
+    let got = run_of(rt.alloc(), model, 0, 20).expect(rt, "memory");
+    assert_eq!(rt; got.as_str(), wanted, "a text of {} bytes", model.len());
+}
+
+/// Runs a text, and fails the test where something else comes of it than is wanted.
+pub fn same_run<R: Abort + AllocGlobal>(
+    rt: &R,
+    model: &str,
+    horizon: u64,
+    limit: u32,
+    wanted: &str,
+) {
+    let got = run(rt, model, horizon, limit);
+    assert_eq!(rt;
+        got.as_str(),
+        wanted,
+        "horizon {horizon}, limit {limit}, {model}"
+    );
+}
+
+/// What stands around the texts of rows, and how far they run.
+pub struct Frame {
+    pub before: &'static str,
+    pub after: &'static str,
+    pub horizon: u64,
+}
+
+/// Runs the text of each row in its frame, and fails the test where something else comes of it than the row wants.
+pub fn rows<R: Abort + AllocGlobal>(rt: &R, frame: &Frame, rows: &[(&str, &str)]) {
+    for (text, wanted) in rows {
+        let model = format!(in rt.alloc(); "{}{text}{}", frame.before, frame.after).expect(
+            rt, "memory",
+        );
+        same_run(rt, model.as_str(), frame.horizon, 20, wanted);
     }
 }

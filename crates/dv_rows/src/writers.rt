@@ -1,11 +1,12 @@
 //! Writers that take little, or fail.
 
 use crate::models::CLOCK;
-use dv_job::{JobError, Options, run_plain};
+use crate::runs::{expect_same, same};
+use dv_job::{JobEnded, JobError, Options, run_plain};
 use std::alloc::Global;
 use std::io;
 use std::io::{ErrorKind, Write};
-use std::test::Fail;
+use std::process::Abort;
 
 /// A writer that takes one byte a call, and fails at a call.
 #[derive(Drop)]
@@ -60,38 +61,40 @@ impl Write for Full {
 const WHOLE: &[u8; 76] =
     b"5.0 t i run n=1 > beat:0\n5.0 out o:0\n10.0 t i run n=2 > beat:1\n10.0 out o:1\n";
 
+// How a run of the clock to 12 ends.
+fn ended<R: Abort + AllocGlobal, W: Write>(rt: &R, writer: &mut W) -> Result<JobEnded, JobError> {
+    let options = Options::new(12, 20, None, None, 16).expect(rt, "options");
+    run_plain(rt.alloc(), CLOCK.as_bytes(), &options, writer)
+}
+
 #[test]
-fn a_writer_that_takes_one_byte_a_call(rt: HostRuntime) -> Result<(), Fail> {
-    let options = Options::new(12, 20, None, None, 16).ok_or("options")?;
+fn a_writer_that_takes_one_byte_a_call(rt: HostRuntime) {
     let mut writer = failing_at(rt.alloc(), 0);
-    assert!(rt; run_plain(rt.alloc(), CLOCK.as_bytes(), &options, &mut writer).is_ok());
-    assert!(rt; writer.bytes.as_slice().starts_with(WHOLE.as_slice()));
-    assert!(rt; writer.bytes.as_slice().ends_with(b"whole 12\n".as_slice()));
-    assert_eq!(rt; writer.bytes.len(), 85);
-    Ok(())
+    let ended = ended(&rt, &mut writer);
+    same!(rt; matches!(ended, Ok(JobEnded::Whole)), true);
+    same!(rt; writer.bytes.as_slice().get(..76), Some(WHOLE.as_slice()));
+    same!(rt; writer.bytes.as_slice().get(76..), Some(b"whole 12\n".as_slice()));
+}
+
+// A call that failed is not made again, and the bytes of the calls before it stand.
+fn fails_at<R: Abort + AllocGlobal>(rt: &R, call: usize) {
+    let mut writer = failing_at(rt.alloc(), call);
+    let ended = ended(rt, &mut writer);
+    assert!(rt; matches!(ended, Err(JobError::Write)), "call {call}");
+    expect_same(rt, "the calls", writer.calls, call);
+    let bytes = WHOLE.as_slice().get(..call.saturating_sub(1));
+    assert_eq!(rt; Some(writer.bytes.as_slice()), bytes, "call {call}");
 }
 
 #[test]
-fn a_writer_that_fails_at_a_call(rt: HostRuntime) -> Result<(), Fail> {
-    let options = Options::new(12, 20, None, None, 16).ok_or("options")?;
-    for n in 1..=76usize {
-        let mut writer = failing_at(rt.alloc(), n);
-        let ended = run_plain(rt.alloc(), CLOCK.as_bytes(), &options, &mut writer);
-        assert!(rt; matches!(ended, Err(JobError::Write)), "call {n}");
-        assert_eq!(rt; writer.bytes.len(), n - 1);
-        assert_eq!(rt; writer.calls, n, "a call that failed is not made again");
-        assert!(rt;
-            WHOLE.as_slice().starts_with(writer.bytes.as_slice()),
-            "call {n}"
-        );
+fn a_writer_that_fails_at_a_call(rt: HostRuntime) {
+    for call in 1..=76 {
+        fails_at(&rt, call);
     }
-    Ok(())
 }
 
 #[test]
-fn a_writer_that_takes_nothing(rt: HostRuntime) -> Result<(), Fail> {
-    let options = Options::new(12, 20, None, None, 16).ok_or("options")?;
-    let ended = run_plain(rt.alloc(), CLOCK.as_bytes(), &options, &mut Full);
-    assert!(rt; matches!(ended, Err(JobError::Write)));
-    Ok(())
+fn a_writer_that_takes_nothing(rt: HostRuntime) {
+    let ended = ended(&rt, &mut Full);
+    same!(rt; matches!(ended, Err(JobError::Write)), true);
 }

@@ -1,20 +1,24 @@
 -- What is read as an expression is spelled so, and what is spelled so is read.
-use Rattle.std.proofs.Common.{◌≡◌, ℕ, zero, suc, ◌+◌, ◌<◌, ◌≤◌, Bool, true, false, ltb, leb, ◌&&◌, List, [], ◌∷◌, ◌++◌, Option, Some, None, Ok, Err, refl, ap, subst, ◌∙◌, inl, inr, arith}
+use Rattle.std.proofs.Common.{◌≡◌, ℕ, zero, suc, ◌+◌, ◌-◌, ◌<◌, ◌≤◌, Bool, true, false, ltb, leb, ◌&&◌, List, [], ◌∷◌, ◌++◌, Option, Some, None, Ok, Err, refl, ap, subst, ◌∙◌, inl, inr, arith}
 use Rattle.std.specs.Prelude.{IfSome}
 use Rattle.std.proofs.lemmas.Bool.{ltb-true, leb-true, lt-ltb, lt-leb, le-leb, le-ltb}
 use Rattle.dv_lex.specs.declared.token.Token.{Token}
 use Rattle.dv_lex.specs.declared.token.TokenKind.{TokenKind}
 use Rattle.dv_lex.specs.declared.token.TokenKind.TheVariants as kind
+use Rattle.dv_lex.specs.declared.token.Keyword.{Keyword}
+use Rattle.dv_lex.specs.declared.token.Keyword.TheVariants as keyword
 use Rattle.dv_lex.specs.declared.token.Symbol.{Symbol}
 use Rattle.dv_lex.specs.declared.token.Symbol.TheVariants as symbol
 use Rattle.dv_syntax.specs.declared.tree.Name.{Name}
 use Rattle.dv_syntax.specs.declared.tree.Number.{Number}
+use Rattle.dv_syntax.specs.declared.tree.Prefix.{Prefix}
+use Rattle.dv_syntax.specs.declared.tree.Prefix.TheVariants as prefix
 use Rattle.dv_syntax.specs.declared.tree.Operator.{Operator}
 use Rattle.dv_syntax.specs.declared.tree.Operator.TheVariants as operator
-use Rattle.dv_syntax.specs.Trees.{Expression, Literal, Named, Parens, Negative, Binary}
-use Rattle.dv_syntax.specs.Grammar.{Spelled, At, Anywhere, Spells, sign, name, number, operator_symbol, operator_rank, left_rank, rank, depth, IsWellFormed, IsExpression, expression_spelling}
-use Rattle.dv_syntax.specs.Reading.{Obstacle, TooDeep, Read, read_then, within, place_at, choose, maybe, begins, symbol_operator, operator_of, goes_on, operator_at, leaf_at, parens_at, negative_at, primary_at, turns, expression_at}
-use Rattle.dv_syntax.proofs.Tokens.{then_ok, then_is, chosen, maybe_is, ok_is, err_ok, some_is, none_some, Spells-then, Spells-split, front, name_front, number_front, after_spells, after_spells_at, name_spells, number_spells}
+use Rattle.dv_syntax.specs.Trees.{Expression, Literal, TruthValue, Named, Parens, Prefixed, Binary}
+use Rattle.dv_syntax.specs.Grammar.{Spelled, At, Anywhere, Spells, sign, word_at, name, number, Limits, truth_word, prefix_kind, prefix_rank, operator_kind, operator_rank, left_rank, rank, depth, IsWellFormed, IsExpression, expression_spelling}
+use Rattle.dv_syntax.specs.Reading.{Obstacle, TooDeep, Read, read_then, within, place_at, choose, maybe, begins, keyword_operator, symbol_operator, operator_of, goes_on, operator_at, leaf_at, parens_at, prefixed_at, primary_at, turns, expression_at}
+use Rattle.dv_syntax.proofs.Tokens.{then_ok, then_is, chosen, maybe_is, ok_is, err_ok, some_is, none_some, Spells-then, Spells-split, front, name_front, number_front, truth_front, unplaced, after_spells, after_spells_at, name_spells, number_spells, truth_spells}
 
 abbrev pub Reader : Type 0
 Reader = ℕ → List Token → Read (Expression × List Token)
@@ -29,18 +33,28 @@ pub record IsRead (limit level : ℕ) (e : Expression) (ts rest : List Token) : 
 abbrev IsSound : Reader → ℕ → Type 0
 IsSound operand limit = (level : ℕ) (ts : List Token) (x : Expression × List Token) → level ≤ 7 → operand level ts ≡ Ok x → IsRead limit level x.0 ts x.1
 
-leaf_read : (limit : ℕ) (ts : List Token) (x : Expression × List Token) → leaf_at ts ≡ Ok x → IsRead (suc limit) 7 x.0 ts x.1
+prefix_rank-le : (o : Prefix) → prefix_rank o ≤ 7
+prefix_rank-le prefix.Minus = omega arith
+prefix_rank-le prefix.Not = omega arith
+
+leaf_read : (limit level : ℕ) → level ≤ 7 → (ts : List Token) (x : Expression × List Token) → leaf_at ts ≡ Ok x → IsRead (suc limit) level x.0 ts x.1
 unfolding leaf_at
-leaf_read limit ts x e =
+leaf_read limit level low ts x e =
     elim (chosen _ _ _ _ e) [
       | inl p ↦
           let a = then_ok _ _ _ p.1 in
-          subst (λ (y : Expression × List Token). IsRead (suc limit) 7 y.0 ts y.1) (ok_is _ _ a.2)
-          (record { spelled = name_spells [] ts a.0.1 a.0 a.1 refl; formed = tt; within = omega arith; ranked = omega arith })
-      | inr p ↦
-          let a = then_ok _ _ _ p.1 in
-          subst (λ (y : Expression × List Token). IsRead (suc limit) 7 y.0 ts y.1) (ok_is _ _ a.2)
-          (record { spelled = number_spells [] ts a.0.1 a.0 a.1 refl; formed = tt; within = omega arith; ranked = omega arith })
+          subst (λ (y : Expression × List Token). IsRead (suc limit) level y.0 ts y.1) (ok_is _ _ a.2)
+          (record { spelled = name_spells [] ts a.0.1 a.0 a.1 refl; formed = tt; within = omega arith; ranked = omega (arith, low) })
+      | inr p ↦ elim (chosen _ _ _ _ p.1) [
+        | inl q ↦
+            let a = then_ok _ _ _ q.1 in
+            subst (λ (y : Expression × List Token). IsRead (suc limit) level y.0 ts y.1) (ok_is _ _ a.2)
+            (record { spelled = truth_spells [] ts a.0.1 a.0 a.1 refl; formed = tt; within = omega arith; ranked = omega (arith, low) })
+        | inr q ↦
+            let a = then_ok _ _ _ q.1 in
+            subst (λ (y : Expression × List Token). IsRead (suc limit) level y.0 ts y.1) (ok_is _ _ a.2)
+            (record { spelled = number_spells [] ts a.0.1 a.0 a.1 refl; formed = tt; within = omega arith; ranked = omega (arith, low) })
+      ]
     ]
 
 pub within_ok : {A : Type 0} (limit place : ℕ) (read : Read A) (x : A) → within limit place read ≡ Ok x → read ≡ Ok x
@@ -53,64 +67,73 @@ unfolding within
 within_positive zero place read lt = absurd (omega (arith, lt))
 within_positive (suc limit) place read lt = refl
 
-parens_read : (operand : Reader) (limit : ℕ) → IsSound operand limit → (ts : List Token) (x : Expression × List Token) → parens_at operand limit ts ≡ Ok x → IsRead (suc limit) 7 x.0 ts x.1
+parens_read : (operand : Reader) (limit level : ℕ) → IsSound operand limit → level ≤ 7 → (ts : List Token) (x : Expression × List Token) → parens_at operand limit ts ≡ Ok x → IsRead (suc limit) level x.0 ts x.1
 unfolding parens_at
-parens_read operand limit sound ts x e =
+parens_read operand limit level sound low ts x e =
     let a = then_ok _ _ _ e in
     let b = then_ok _ _ _ a.2 in
     let c = then_ok _ _ _ b.2 in
     let r = sound 0 a.0 b.0 (omega arith) (within_ok _ _ _ _ b.1) in
     let close = after_spells (kind.Symbol symbol.CloseParen) [] b.0.1 c.0 c.0 c.1 refl in
     let inside = Spells-then (expression_spelling b.0.0) (sign symbol.CloseParen ∷ []) a.0 b.0.1 c.0 r.spelled close in
-    subst (λ (y : Expression × List Token). IsRead (suc limit) 7 y.0 ts y.1) (ok_is _ _ c.2)
-    (record { spelled = after_spells_at (kind.Symbol symbol.OpenParen) (expression_spelling b.0.0 ++ sign symbol.CloseParen ∷ []) ts a.0 c.0 a.1 inside; formed = r.formed; within = omega (arith, r.within); ranked = omega arith })
+    subst (λ (y : Expression × List Token). IsRead (suc limit) level y.0 ts y.1) (ok_is _ _ c.2)
+    (record { spelled = after_spells_at (kind.Symbol symbol.OpenParen) (expression_spelling b.0.0 ++ sign symbol.CloseParen ∷ []) ts a.0 c.0 a.1 inside; formed = r.formed; within = omega (arith, r.within); ranked = omega (arith, low) })
 
-negative_read : (operand : Reader) (limit : ℕ) → IsSound operand limit → (ts : List Token) (x : Expression × List Token) → negative_at operand limit ts ≡ Ok x → IsRead (suc limit) 7 x.0 ts x.1
-unfolding negative_at
-negative_read operand limit sound ts x e =
+prefixed_read : (o : Prefix) (operand : Reader) (limit level : ℕ) → IsSound operand limit → level ≤ prefix_rank o → (ts : List Token) (x : Expression × List Token) → prefixed_at o operand limit ts ≡ Ok x → IsRead (suc limit) level x.0 ts x.1
+unfolding prefixed_at
+prefixed_read o operand limit level sound low ts x e =
     let a = then_ok _ _ _ e in
     let b = then_ok _ _ _ a.2 in
-    let r = sound 7 a.0 b.0 (omega arith) (within_ok _ _ _ _ b.1) in
-    subst (λ (y : Expression × List Token). IsRead (suc limit) 7 y.0 ts y.1) (ok_is _ _ b.2)
-    (record { spelled = after_spells_at (kind.Symbol symbol.Minus) (expression_spelling b.0.0) ts a.0 b.0.1 a.1 r.spelled; formed = (r.formed, r.ranked); within = omega (arith, r.within); ranked = omega arith })
-
-primary_read : (operand : Reader) (limit : ℕ) → IsSound operand limit → (ts : List Token) (x : Expression × List Token) → primary_at operand limit ts ≡ Ok x → IsRead (suc limit) 7 x.0 ts x.1
-unfolding primary_at
-primary_read operand limit sound ts x e =
-    elim (chosen _ _ _ _ e) [
-      | inl p ↦ parens_read operand limit sound ts x p.1
-      | inr p ↦ elim (chosen _ _ _ _ p.1) [
-        | inl q ↦ negative_read operand limit sound ts x q.1
-        | inr q ↦ leaf_read limit ts x q.1
-      ]
-    ]
-
-symbol_operator-is : (s : Symbol) (o : Operator) → symbol_operator s ≡ Some o → s ≡ operator_symbol o
-symbol_operator-is symbol.Plus o e = ap operator_symbol (some_is _ _ e)
-symbol_operator-is symbol.Minus o e = ap operator_symbol (some_is _ _ e)
-symbol_operator-is symbol.Star o e = ap operator_symbol (some_is _ _ e)
-symbol_operator-is symbol.Slash o e = ap operator_symbol (some_is _ _ e)
-symbol_operator-is symbol.Percent o e = ap operator_symbol (some_is _ _ e)
-symbol_operator-is symbol.Equal o e = ap operator_symbol (some_is _ _ e)
-symbol_operator-is symbol.Unequal o e = ap operator_symbol (some_is _ _ e)
-symbol_operator-is symbol.Less o e = ap operator_symbol (some_is _ _ e)
-symbol_operator-is symbol.AtMost o e = ap operator_symbol (some_is _ _ e)
-symbol_operator-is symbol.Greater o e = ap operator_symbol (some_is _ _ e)
-symbol_operator-is symbol.AtLeast o e = ap operator_symbol (some_is _ _ e)
-symbol_operator-is _ o e = absurd (none_some _ e)
-
-operator_of-is : (k : TokenKind) (o : Operator) → operator_of k ≡ Some o → k ≡ kind.Symbol (operator_symbol o)
-unfolding operator_of
-operator_of-is (kind.Symbol s) o e = ap kind.Symbol (symbol_operator-is s o e)
-operator_of-is _ o e = absurd (none_some _ e)
+    let r = sound (prefix_rank o) a.0 b.0 (prefix_rank-le o) (within_ok _ _ _ _ b.1) in
+    subst (λ (y : Expression × List Token). IsRead (suc limit) level y.0 ts y.1) (ok_is _ _ b.2)
+    (record { spelled = after_spells_at (prefix_kind o) (expression_spelling b.0.0) ts a.0 b.0.1 a.1 r.spelled; formed = (r.formed, r.ranked); within = omega (arith, r.within); ranked = low })
 
 pub and_true : (a b : Bool) → (a && b) ≡ true → (a ≡ true) × (b ≡ true)
 and_true true b e = (refl, e)
 and_true false b e = absurd cc
 
+primary_read : (operand : Reader) (limit level : ℕ) → IsSound operand limit → level ≤ 7 → (ts : List Token) (x : Expression × List Token) → primary_at operand limit level ts ≡ Ok x → IsRead (suc limit) level x.0 ts x.1
+unfolding primary_at
+primary_read operand limit level sound low ts x e =
+    elim (chosen _ _ _ _ e) [
+      | inl p ↦ parens_read operand limit level sound low ts x p.1
+      | inr p ↦ elim (chosen _ _ _ _ p.1) [
+        | inl q ↦ prefixed_read prefix.Minus operand limit level sound low ts x q.1
+        | inr q ↦ elim (chosen _ _ _ _ q.1) [
+          | inl r ↦ prefixed_read prefix.Not operand limit level sound (leb-true _ _ (and_true _ _ r.0).1) ts x r.1
+          | inr r ↦ leaf_read limit level low ts x r.1
+        ]
+      ]
+    ]
+
+keyword_operator-is : (k : Keyword) (o : Operator) → keyword_operator k ≡ Some o → kind.Keyword k ≡ operator_kind o
+keyword_operator-is keyword.Or o e = ap operator_kind (some_is _ _ e)
+keyword_operator-is keyword.And o e = ap operator_kind (some_is _ _ e)
+keyword_operator-is _ o e = absurd (none_some _ e)
+
+symbol_operator-is : (s : Symbol) (o : Operator) → symbol_operator s ≡ Some o → kind.Symbol s ≡ operator_kind o
+symbol_operator-is symbol.Plus o e = ap operator_kind (some_is _ _ e)
+symbol_operator-is symbol.Minus o e = ap operator_kind (some_is _ _ e)
+symbol_operator-is symbol.Star o e = ap operator_kind (some_is _ _ e)
+symbol_operator-is symbol.Slash o e = ap operator_kind (some_is _ _ e)
+symbol_operator-is symbol.Percent o e = ap operator_kind (some_is _ _ e)
+symbol_operator-is symbol.Equal o e = ap operator_kind (some_is _ _ e)
+symbol_operator-is symbol.Unequal o e = ap operator_kind (some_is _ _ e)
+symbol_operator-is symbol.Less o e = ap operator_kind (some_is _ _ e)
+symbol_operator-is symbol.AtMost o e = ap operator_kind (some_is _ _ e)
+symbol_operator-is symbol.Greater o e = ap operator_kind (some_is _ _ e)
+symbol_operator-is symbol.AtLeast o e = ap operator_kind (some_is _ _ e)
+symbol_operator-is _ o e = absurd (none_some _ e)
+
+operator_of-is : (k : TokenKind) (o : Operator) → operator_of k ≡ Some o → k ≡ operator_kind o
+unfolding operator_of
+operator_of-is (kind.Keyword k) o e = keyword_operator-is k o e
+operator_of-is (kind.Symbol s) o e = symbol_operator-is s o e
+operator_of-is _ o e = absurd (none_some _ e)
+
 -- what an operator that goes on with an expression tells
 record IsNext (level : ℕ) (left : Expression) (ts : List Token) (o : Operator) (rest : List Token) : Type 0 where
-  pub spelled : Spells (sign (operator_symbol o) ∷ []) ts rest
+  pub spelled : Spells (Anywhere (operator_kind o) ∷ []) ts rest
   pub above : level ≤ operator_rank o
   pub fits : left_rank o ≤ rank left
 
@@ -129,7 +152,9 @@ operator_at-next level left (t ∷ ts) x e =
       ]
     ]
 
-operator_rank-le : (o : Operator) → operator_rank o ≤ 6
+pub operator_rank-le : (o : Operator) → operator_rank o ≤ 6
+operator_rank-le operator.Or = omega arith
+operator_rank-le operator.And = omega arith
 operator_rank-le operator.Add = omega arith
 operator_rank-le operator.Subtract = omega arith
 operator_rank-le operator.Multiply = omega arith
@@ -143,6 +168,8 @@ operator_rank-le operator.Greater = omega arith
 operator_rank-le operator.AtLeast = omega arith
 
 operator_rank-left : (o : Operator) → operator_rank o ≤ left_rank o
+operator_rank-left operator.Or = omega arith
+operator_rank-left operator.And = omega arith
 operator_rank-left operator.Add = omega arith
 operator_rank-left operator.Subtract = omega arith
 operator_rank-left operator.Multiply = omega arith
@@ -174,10 +201,10 @@ turns_read operand limit sound (suc more) level left ts mid x so_far e =
                 let a = then_ok _ _ _ q.1 in
                 let right = a.0 in
                 let r = sound (operator_rank o.0 + 1) o.1 right (omega (arith, operator_rank-le o.0)) a.1 in
-                let operator_first = Spells-then (sign (operator_symbol o.0) ∷ []) (expression_spelling right.0) mid o.1 right.1 next.spelled r.spelled in
+                let operator_first = Spells-then (Anywhere (operator_kind o.0) ∷ []) (expression_spelling right.0) mid o.1 right.1 next.spelled r.spelled in
                 turns_read operand limit sound more level (Binary o.0 left right.0) ts right.1 x
                 (record {
-                  spelled = Spells-then (expression_spelling left) (sign (operator_symbol o.0) ∷ expression_spelling right.0) ts mid right.1 so_far.spelled operator_first;
+                  spelled = Spells-then (expression_spelling left) (Anywhere (operator_kind o.0) ∷ expression_spelling right.0) ts mid right.1 so_far.spelled operator_first;
                   formed = (so_far.formed, r.formed, next.fits, omega (arith, r.ranked));
                   within = omega (arith, r.within, shallow);
                   ranked = next.above;
@@ -192,9 +219,25 @@ expression_read zero level ts x low e = absurd (err_ok _ _ e)
 expression_read (suc limit) level ts x low e =
     let a = then_ok _ _ _ e in
     let sound : IsSound (expression_at limit) limit = λ l us y h f. expression_read limit l us y h f in
-    let p = primary_read (expression_at limit) limit sound ts a.0 a.1 in
-    turns_read (expression_at limit) limit sound (suc limit) level a.0.0 ts a.0.1 x
-    (record { spelled = p.spelled; formed = p.formed; within = p.within; ranked = omega (arith, p.ranked) }) a.2
+    turns_read (expression_at limit) limit sound (suc limit) level a.0.0 ts a.0.1 x (primary_read (expression_at limit) limit level sound low ts a.0 a.1) a.2
+
+-- at any level
+primary_within : (operand : Reader) (limit level : ℕ) → IsSound operand limit → (ts : List Token) (x : Expression × List Token) → primary_at operand limit level ts ≡ Ok x → depth x.0 ≤ suc limit
+unfolding primary_at
+primary_within operand limit level sound ts x e =
+    elim (chosen _ _ _ _ e) [
+      | inl p ↦ (parens_read operand limit 0 sound (omega arith) ts x p.1).within
+      | inr p ↦ elim (chosen _ _ _ _ p.1) [
+        | inl q ↦ (prefixed_read prefix.Minus operand limit 0 sound (omega arith) ts x q.1).within
+        | inr q ↦ elim (chosen _ _ _ _ q.1) [
+          | inl r ↦ (prefixed_read prefix.Not operand limit 0 sound (omega arith) ts x r.1).within
+          | inr r ↦ (leaf_read limit 0 (omega arith) ts x r.1).within
+        ]
+      ]
+    ]
+
+pub primary_depth : (limit level : ℕ) (ts : List Token) (x : Expression × List Token) → primary_at (expression_at limit) limit level ts ≡ Ok x → depth x.0 ≤ suc limit
+primary_depth limit level ts x e = primary_within (expression_at limit) limit level (λ l us y h f. expression_read limit l us y h f) ts x e
 
 -- ---- What is spelled so is read
 
@@ -203,19 +246,21 @@ abbrev pub IsLoose : ℕ → List Token → Type 0
 IsLoose r [] = Unit {0}
 IsLoose r (t ∷ ts) = IfSome (operator_of t.kind) (λ o. operator_rank o ≤ r)
 
-operator_of-symbol : (o : Operator) → operator_of (kind.Symbol (operator_symbol o)) ≡ Some o
+operator_of-kind : (o : Operator) → operator_of (operator_kind o) ≡ Some o
 unfolding operator_of
-operator_of-symbol operator.Add = refl
-operator_of-symbol operator.Subtract = refl
-operator_of-symbol operator.Multiply = refl
-operator_of-symbol operator.Divide = refl
-operator_of-symbol operator.Remainder = refl
-operator_of-symbol operator.Equal = refl
-operator_of-symbol operator.Unequal = refl
-operator_of-symbol operator.Less = refl
-operator_of-symbol operator.AtMost = refl
-operator_of-symbol operator.Greater = refl
-operator_of-symbol operator.AtLeast = refl
+operator_of-kind operator.Or = refl
+operator_of-kind operator.And = refl
+operator_of-kind operator.Add = refl
+operator_of-kind operator.Subtract = refl
+operator_of-kind operator.Multiply = refl
+operator_of-kind operator.Divide = refl
+operator_of-kind operator.Remainder = refl
+operator_of-kind operator.Equal = refl
+operator_of-kind operator.Unequal = refl
+operator_of-kind operator.Less = refl
+operator_of-kind operator.AtMost = refl
+operator_of-kind operator.Greater = refl
+operator_of-kind operator.AtLeast = refl
 
 -- above what comes first no operator goes on
 stops_below : (level : ℕ) (left : Expression) (o : Option Operator) (r : ℕ) (ts : List Token) → IfSome o (λ o. operator_rank o ≤ r) → r < level → maybe {B = Option (Operator × List Token)} o None (λ o. choose (goes_on level left o) (Some (o, ts)) None) ≡ None
@@ -230,10 +275,10 @@ unfolding operator_at
 operator_at-none level left r [] h lt = refl
 operator_at-none level left r (t ∷ ts) h lt = stops_below level left (operator_of t.kind) r ts h lt
 
-operator_at-some : (level : ℕ) (left : Expression) (o : Operator) (t : Token) (ts : List Token) → t.kind ≡ kind.Symbol (operator_symbol o) → level ≤ operator_rank o → left_rank o ≤ rank left → operator_at level left (t ∷ ts) ≡ Some (o, ts)
+operator_at-some : (level : ℕ) (left : Expression) (o : Operator) (t : Token) (ts : List Token) → t.kind ≡ operator_kind o → level ≤ operator_rank o → left_rank o ≤ rank left → operator_at level left (t ∷ ts) ≡ Some (o, ts)
 unfolding operator_at goes_on choose maybe
 operator_at-some level left o t ts k above fits =
-    let is : operator_of t.kind ≡ Some o = ap operator_of k ∙ operator_of-symbol o in
+    let is : operator_of t.kind ≡ Some o = ap operator_of k ∙ operator_of-kind o in
     let a : leb level (operator_rank o) ≡ true = le-leb _ _ above in
     let f : leb (left_rank o) (rank left) ≡ true = le-leb _ _ fits in
     rw (is, a, f) refl
@@ -307,9 +352,9 @@ IsLoose-closed : (r : ℕ) (ts : List Token) → IsClosed ts → IsLoose r ts
 IsLoose-closed r [] h = tt
 IsLoose-closed r (t ∷ ts) h = rw h tt
 
-IsLoose-front : (r : ℕ) (o : Operator) (ss : List Spelled) (ts rest : List Token) → operator_rank o ≤ r → Spells (sign (operator_symbol o) ∷ ss) ts rest → IsLoose r ts
+IsLoose-front : (r : ℕ) (o : Operator) (ss : List Spelled) (ts rest : List Token) → operator_rank o ≤ r → Spells (Anywhere (operator_kind o) ∷ ss) ts rest → IsLoose r ts
 IsLoose-front r o ss [] rest le h = absurd h
-IsLoose-front r o ss (t ∷ ts) rest le h = let e : operator_of t.kind ≡ Some o = ap operator_of h.0 ∙ operator_of-symbol o in rw e le
+IsLoose-front r o ss (t ∷ ts) rest le h = let e : operator_of t.kind ≡ Some o = ap operator_of h.0 ∙ operator_of-kind o in rw e le
 
 IsLoose-weaker : (r s : ℕ) (ts : List Token) → r ≤ s → IsLoose r ts → IsLoose s ts
 IsLoose-weaker r s [] le h = tt
@@ -328,76 +373,126 @@ unfolding operator_at maybe
 operator_at-closed level left [] h = refl
 operator_at-closed level left (t ∷ ts) h = rw h refl
 
-operator_at-front : (level : ℕ) (left : Expression) (o : Operator) (ss : List Spelled) (ts rest : List Token) → level ≤ operator_rank o → left_rank o ≤ rank left → Spells (sign (operator_symbol o) ∷ ss) ts rest
+operator_at-front : (level : ℕ) (left : Expression) (o : Operator) (ss : List Spelled) (ts rest : List Token) → level ≤ operator_rank o → left_rank o ≤ rank left → Spells (Anywhere (operator_kind o) ∷ ss) ts rest
     → (behind : List Token) × (operator_at level left ts ≡ Some (o, behind)) × Spells ss behind rest
 operator_at-front level left o ss [] rest above fits h = absurd h
 operator_at-front level left o ss (t ∷ ts) rest above fits h = (ts, operator_at-some level left o t ts h.0 above fits, h.1)
 
 pub positive_depth : (e : Expression) → 0 < depth e
 positive_depth (Literal n) = omega arith
+positive_depth (TruthValue place value) = omega arith
 positive_depth (Named n) = omega arith
 positive_depth (Parens place e) = omega arith
-positive_depth (Negative place e) = omega arith
+positive_depth (Prefixed o place e) = omega arith
 positive_depth (Binary o a b) = omega arith
 
-primary_leaf : (operand : Reader) (limit : ℕ) (ts : List Token) → begins (kind.Symbol symbol.OpenParen) ts ≡ false → begins (kind.Symbol symbol.Minus) ts ≡ false → primary_at operand limit ts ≡ leaf_at ts
+primary_leaf : (operand : Reader) (limit level : ℕ) (ts : List Token) → begins (kind.Symbol symbol.OpenParen) ts ≡ false → begins (kind.Symbol symbol.Minus) ts ≡ false → begins (kind.Keyword keyword.Not) ts ≡ false
+    → primary_at operand limit level ts ≡ leaf_at ts
 unfolding primary_at choose
-primary_leaf operand limit ts a b = rw (a, b) refl
+primary_leaf operand limit level ts a b c = rw (a, b, c) refl
 
-number_again : (operand : Reader) (limit : ℕ) (n : Number) (ts rest : List Token) → Spells (number n ∷ []) ts rest → primary_at operand limit ts ≡ Ok (Literal n, rest)
+number_again : (operand : Reader) (limit level : ℕ) (n : Number) (ts rest : List Token) → Spells (number n ∷ []) ts rest → primary_at operand limit level ts ≡ Ok (Literal n, rest)
 unfolding leaf_at choose read_then
-number_again operand limit n ts rest h =
+number_again operand limit level n ts rest h =
     let f = front (number n) [] ts rest h in
     let g = number_front n [] ts rest h in
-    primary_leaf operand limit ts (f.begins _) (f.begins _) ∙ rw (f.begins_name, g.1, g.2) refl
+    primary_leaf operand limit level ts (f.begins _) (f.begins _) (f.begins _) ∙ rw (f.begins_name, f.begins (kind.Keyword keyword.True), f.begins (kind.Keyword keyword.False), g.1, g.2) refl
 
-name_again : (operand : Reader) (limit : ℕ) (n : Name) (ts rest : List Token) → Spells (name n ∷ []) ts rest → primary_at operand limit ts ≡ Ok (Named n, rest)
+truth_again : (operand : Reader) (limit level place : ℕ) (value : Bool) (ts rest : List Token) → Spells (word_at (truth_word value) place ∷ []) ts rest → primary_at operand limit level ts ≡ Ok (TruthValue place value, rest)
 unfolding leaf_at choose read_then
-name_again operand limit n ts rest h =
+truth_again operand limit level place true ts rest h =
+    let f = front (word_at keyword.True place) [] ts rest h in
+    let g = truth_front true [] ts rest (unplaced _ place [] ts rest h) in
+    primary_leaf operand limit level ts (f.begins _) (f.begins _) (f.begins _) ∙ rw (f.begins_name, f.begins (kind.Keyword keyword.True), g.1, g.2, f.place) refl
+truth_again operand limit level place false ts rest h =
+    let f = front (word_at keyword.False place) [] ts rest h in
+    let g = truth_front false [] ts rest (unplaced _ place [] ts rest h) in
+    primary_leaf operand limit level ts (f.begins _) (f.begins _) (f.begins _) ∙ rw (f.begins_name, f.begins (kind.Keyword keyword.True), f.begins (kind.Keyword keyword.False), g.1, g.2, f.place) refl
+
+name_again : (operand : Reader) (limit level : ℕ) (n : Name) (ts rest : List Token) → Spells (name n ∷ []) ts rest → primary_at operand limit level ts ≡ Ok (Named n, rest)
+unfolding leaf_at choose read_then
+name_again operand limit level n ts rest h =
     let f = front (name n) [] ts rest h in
     let g = name_front n [] ts rest h in
-    primary_leaf operand limit ts (f.begins _) (f.begins _) ∙ rw (f.begins_name, g.1, g.2) refl
+    primary_leaf operand limit level ts (f.begins _) (f.begins _) (f.begins _) ∙ rw (f.begins_name, g.1, g.2) refl
 
-parens_again : (operand : Reader) (limit place : ℕ) (e : Expression) (ts rest : List Token) → Spells (expression_spelling (Parens place e)) ts rest
-    → ((us vs : List Token) → Spells (expression_spelling e) us vs → IsClosed vs → operand 0 us ≡ Ok (e, vs)) → primary_at operand (suc limit) ts ≡ Ok (Parens place e, rest)
+parens_again : (operand : Reader) (limit level place : ℕ) (e : Expression) (ts rest : List Token) → Spells (expression_spelling (Parens place e)) ts rest
+    → ((us vs : List Token) → Spells (expression_spelling e) us vs → IsClosed vs → operand 0 us ≡ Ok (e, vs)) → primary_at operand (suc limit) level ts ≡ Ok (Parens place e, rest)
 unfolding primary_at parens_at within choose read_then operator_of
-parens_again operand limit place e ts rest h inner =
+parens_again operand limit level place e ts rest h inner =
     let f = front (At (kind.Symbol symbol.OpenParen) place) (expression_spelling e ++ sign symbol.CloseParen ∷ []) ts rest h in
     let s = Spells-split (expression_spelling e) (sign symbol.CloseParen ∷ []) f.behind rest f.spelled in
     let c = front (sign symbol.CloseParen) [] s.0 rest s.2 in
     let i = inner f.behind s.0 s.1 (IsClosed-front (kind.Symbol symbol.CloseParen) [] s.0 rest refl s.2) in
     rw (f.begins (kind.Symbol symbol.OpenParen), f.after, i, c.after, f.place, c.spelled) refl
 
-negative_again : (operand : Reader) (limit place : ℕ) (e : Expression) (ts rest : List Token) → Spells (expression_spelling (Negative place e)) ts rest
-    → ((us : List Token) → Spells (expression_spelling e) us rest → operand 7 us ≡ Ok (e, rest)) → primary_at operand (suc limit) ts ≡ Ok (Negative place e, rest)
-unfolding primary_at negative_at within choose read_then
-negative_again operand limit place e ts rest h inner =
+prefixed_again : (o : Prefix) (operand : Reader) (limit level place : ℕ) (e : Expression) (ts rest : List Token) → level ≤ prefix_rank o → Spells (expression_spelling (Prefixed o place e)) ts rest
+    → ((us : List Token) → Spells (expression_spelling e) us rest → operand (prefix_rank o) us ≡ Ok (e, rest)) → primary_at operand (suc limit) level ts ≡ Ok (Prefixed o place e, rest)
+unfolding primary_at prefixed_at within choose read_then
+prefixed_again prefix.Minus operand limit level place e ts rest low h inner =
     let f = front (At (kind.Symbol symbol.Minus) place) (expression_spelling e) ts rest h in
     let i = inner f.behind f.spelled in
-    rw (f.begins (kind.Symbol symbol.OpenParen), f.begins (kind.Symbol symbol.Minus), f.after, i, f.place) refl
+    let l : leb level 7 ≡ true = le-leb _ _ low in
+    rw (f.begins (kind.Symbol symbol.OpenParen), f.begins (kind.Symbol symbol.Minus), l, f.after, i, f.place) refl
+prefixed_again prefix.Not operand limit level place e ts rest low h inner =
+    let f = front (At (kind.Keyword keyword.Not) place) (expression_spelling e) ts rest h in
+    let i = inner f.behind f.spelled in
+    let l : leb level 3 ≡ true = le-leb _ _ low in
+    rw (f.begins (kind.Symbol symbol.OpenParen), f.begins (kind.Symbol symbol.Minus), f.begins (kind.Keyword keyword.Not), l, f.after, i, f.place) refl
 
-then_turns : (limit level : ℕ) (e : Expression) (ts rest : List Token) → primary_at (expression_at limit) limit ts ≡ Ok (e, rest) → expression_at (suc limit) level ts ≡ turns (expression_at limit) (suc limit) (suc limit) level e rest
+-- no operator between two operands binds as tightly as one before its operand
+apart : (p : Prefix) (o : Operator) → operator_rank o ≤ prefix_rank p → operator_rank o < prefix_rank p
+apart prefix.Minus o le = omega (arith, operator_rank-le o)
+apart prefix.Not operator.Or le = omega arith
+apart prefix.Not operator.And le = omega arith
+apart prefix.Not operator.Add le = omega (arith, le)
+apart prefix.Not operator.Subtract le = omega (arith, le)
+apart prefix.Not operator.Multiply le = omega (arith, le)
+apart prefix.Not operator.Divide le = omega (arith, le)
+apart prefix.Not operator.Remainder le = omega (arith, le)
+apart prefix.Not operator.Equal le = omega (arith, le)
+apart prefix.Not operator.Unequal le = omega (arith, le)
+apart prefix.Not operator.Less le = omega (arith, le)
+apart prefix.Not operator.AtMost le = omega (arith, le)
+apart prefix.Not operator.Greater le = omega (arith, le)
+apart prefix.Not operator.AtLeast le = omega (arith, le)
+
+below_prefix : (p : Prefix) (o : Option Operator) → IfSome o (λ o. operator_rank o ≤ prefix_rank p) → IfSome o (λ o. operator_rank o ≤ prefix_rank p - 1)
+below_prefix p None h = tt
+below_prefix p (Some o) h = omega (arith, apart p o h)
+
+positive_rank : (p : Prefix) → prefix_rank p - 1 < prefix_rank p
+positive_rank prefix.Minus = omega arith
+positive_rank prefix.Not = omega arith
+
+-- behind the operand of a prefix no operator goes on with the operand
+prefixed_stops : (p : Prefix) (e : Expression) (ts : List Token) → IsLoose (prefix_rank p) ts → operator_at (prefix_rank p) e ts ≡ None
+prefixed_stops p e [] h = operator_at-none (prefix_rank p) e (prefix_rank p - 1) [] tt (positive_rank p)
+prefixed_stops p e (t ∷ ts) h = operator_at-none (prefix_rank p) e (prefix_rank p - 1) (t ∷ ts) (below_prefix p (operator_of t.kind) h) (positive_rank p)
+
+then_turns : (limit level : ℕ) (e : Expression) (ts rest : List Token) → primary_at (expression_at limit) limit level ts ≡ Ok (e, rest) → expression_at (suc limit) level ts ≡ turns (expression_at limit) (suc limit) (suc limit) level e rest
 unfolding expression_at read_then
 then_turns limit level e ts rest h = rw h refl
 
 expression_again : (e : Expression) (limit level : ℕ) (ts rest : List Token) → IsWellFormed e → depth e ≤ suc limit → level ≤ rank e → level ≤ 7 → IsLoose (rank e) rest → Spells (expression_spelling e) ts rest
     → expression_at (suc limit) level ts ≡ turns (expression_at limit) (suc limit) (suc limit) level e rest
-expression_again (Literal n) limit level ts rest formed within ranked low loose h = then_turns limit level (Literal n) ts rest (number_again (expression_at limit) limit n ts rest h)
-expression_again (Named n) limit level ts rest formed within ranked low loose h = then_turns limit level (Named n) ts rest (name_again (expression_at limit) limit n ts rest h)
+expression_again (Literal n) limit level ts rest formed within ranked low loose h = then_turns limit level (Literal n) ts rest (number_again (expression_at limit) limit level n ts rest h)
+expression_again (TruthValue place value) limit level ts rest formed within ranked low loose h = then_turns limit level (TruthValue place value) ts rest (truth_again (expression_at limit) limit level place value ts rest h)
+expression_again (Named n) limit level ts rest formed within ranked low loose h = then_turns limit level (Named n) ts rest (name_again (expression_at limit) limit level n ts rest h)
 expression_again (Parens place e) zero level ts rest formed within ranked low loose h = absurd (omega (arith, within, positive_depth e))
 expression_again (Parens place e) (suc limit) level ts rest formed within ranked low loose h =
-    then_turns (suc limit) level (Parens place e) ts rest (parens_again (expression_at (suc limit)) limit place e ts rest h (λ us vs k closed.
+    then_turns (suc limit) level (Parens place e) ts rest (parens_again (expression_at (suc limit)) limit level place e ts rest h (λ us vs k closed.
     expression_again e limit 0 us vs formed (omega (arith, within)) (omega arith) (omega arith) (IsLoose-closed (rank e) vs closed) k
     ∙ turns_stop (expression_at limit) (suc limit) (suc limit) 0 e vs (operator_at-closed 0 e vs closed)))
-expression_again (Negative place e) zero level ts rest formed within ranked low loose h = absurd (omega (arith, within, positive_depth e))
-expression_again (Negative place e) (suc limit) level ts rest formed within ranked low loose h =
-    then_turns (suc limit) level (Negative place e) ts rest (negative_again (expression_at (suc limit)) limit place e ts rest h (λ us k.
-    expression_again e limit 7 us rest formed.0 (omega (arith, within)) formed.1 (omega arith) (IsLoose-weaker 7 (rank e) rest formed.1 loose) k
-    ∙ turns_stop (expression_at limit) (suc limit) (suc limit) 7 e rest (operator_at-none 7 e 6 rest (IsLoose-six rest) (omega arith))))
+expression_again (Prefixed o place e) zero level ts rest formed within ranked low loose h = absurd (omega (arith, within, positive_depth e))
+expression_again (Prefixed o place e) (suc limit) level ts rest formed within ranked low loose h =
+    then_turns (suc limit) level (Prefixed o place e) ts rest (prefixed_again o (expression_at (suc limit)) limit level place e ts rest ranked h (λ us k.
+    expression_again e limit (prefix_rank o) us rest formed.0 (omega (arith, within)) formed.1 (prefix_rank-le o) (IsLoose-weaker (prefix_rank o) (rank e) rest formed.1 loose) k
+    ∙ turns_stop (expression_at limit) (suc limit) (suc limit) (prefix_rank o) e rest (prefixed_stops o e rest loose)))
 expression_again (Binary o a b) zero level ts rest formed within ranked low loose h = absurd (omega (arith, within, positive_depth a))
 expression_again (Binary o a b) (suc limit) level ts rest formed within ranked low loose h =
     let k : ℕ = suc limit in
-    let s = Spells-split (expression_spelling a) (sign (operator_symbol o) ∷ expression_spelling b) ts rest h in
+    let s = Spells-split (expression_spelling a) (Anywhere (operator_kind o) ∷ expression_spelling b) ts rest h in
     let tight : operator_rank o ≤ rank a = omega (arith, operator_rank-left o, formed.2) in
     let left = expression_again a k level ts s.0 formed.0 (omega (arith, within)) (omega (arith, ranked, tight)) low (IsLoose-front (rank a) o (expression_spelling b) s.0 rest tight s.2) s.1 in
     let next = operator_at-front level a o (expression_spelling b) s.0 rest ranked formed.2 s.2 in
@@ -407,10 +502,14 @@ expression_again (Binary o a b) (suc limit) level ts rest formed within ranked l
     ∙ turns_stop (expression_at limit) k k (operator_rank o + 1) b rest (operator_at-none (operator_rank o + 1) b (operator_rank o) rest loose (omega arith)) in
     left ∙ step ∙ then_is (expression_at k (operator_rank o + 1) next.0) (λ right. turns (expression_at k) (suc k) (suc k) level (Binary o a right.0) right.1) (b, rest) right
 
-pub expression_complete : (e : Expression) (ts rest : List Token) → IsExpression e → Spells (expression_spelling e) ts rest → IsClosed rest → expression_at 64 0 ts ≡ Ok (e, rest)
-expression_complete e ts rest is h closed =
-    expression_again e 63 0 ts rest is.formed is.within (omega arith) (omega arith) (IsLoose-closed (rank e) rest closed) h
-    ∙ turns_stop (expression_at 63) 64 64 0 e rest (operator_at-closed 0 e rest closed)
+all_read : (limit : ℕ) (e : Expression) (ts rest : List Token) → IsWellFormed e → depth e ≤ limit → Spells (expression_spelling e) ts rest → IsClosed rest → expression_at limit 0 ts ≡ Ok (e, rest)
+all_read zero e ts rest formed within h closed = absurd (omega (arith, within, positive_depth e))
+all_read (suc limit) e ts rest formed within h closed =
+    expression_again e limit 0 ts rest formed within (omega arith) (omega arith) (IsLoose-closed (rank e) rest closed) h
+    ∙ turns_stop (expression_at limit) (suc limit) (suc limit) 0 e rest (operator_at-closed 0 e rest closed)
 
-pub expression_sound : (ts : List Token) (x : Expression × List Token) → expression_at 64 0 ts ≡ Ok x → Spells (expression_spelling x.0) ts x.1 × IsExpression x.0
-expression_sound ts x e = let r = expression_read 64 0 ts x (omega arith) e in (r.spelled, record { formed = r.formed; within = r.within })
+pub expression_complete : (limits : Limits) (e : Expression) (ts rest : List Token) → IsExpression limits e → Spells (expression_spelling e) ts rest → IsClosed rest → expression_at limits.expression 0 ts ≡ Ok (e, rest)
+expression_complete limits e ts rest is h closed = all_read limits.expression e ts rest is.formed is.within h closed
+
+pub expression_sound : (limits : Limits) (ts : List Token) (x : Expression × List Token) → expression_at limits.expression 0 ts ≡ Ok x → Spells (expression_spelling x.0) ts x.1 × IsExpression limits x.0
+expression_sound limits ts x e = let r = expression_read limits.expression 0 ts x (omega arith) e in (r.spelled, record { formed = r.formed; within = r.within })

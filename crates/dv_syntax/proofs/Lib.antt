@@ -5,10 +5,6 @@ pub mod Climbing
 pub mod Statements
 pub mod Models
 pub mod Sorting
-pub mod Steady
-pub mod SteadyReaders
-pub mod Completions
-pub mod Beginnings
-pub mod DeadEnds
+pub mod OneAnswer
 pub mod Rows
 pub mod Blocks

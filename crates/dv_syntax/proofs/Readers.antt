@@ -1,5 +1,5 @@
 -- Readers, and lists of what one reader reads.
-use Rattle.std.proofs.Common.{◌≡◌, ℕ, zero, suc, ◌<◌, true, false, List, [], ◌∷◌, ◌++◌, length, Ok, Err, refl, sym, ap, subst, ◌∙◌, append_assoc, inl, inr, arith}
+use Rattle.std.proofs.Common.{◌≡◌, ℕ, zero, suc, ◌<◌, Bool, true, false, List, [], ◌∷◌, ◌++◌, length, Ok, Err, refl, sym, ap, subst, ◌∙◌, append_assoc, inl, inr, arith}
 use Rattle.std.specs.List.{flat_map, AllByRecursion}
 use Rattle.dv_lex.specs.declared.token.Token.{Token}
 use Rattle.dv_lex.specs.declared.token.TokenKind.{TokenKind}
@@ -7,11 +7,11 @@ use Rattle.dv_lex.specs.declared.token.TokenKind.TheVariants as kind
 use Rattle.dv_lex.specs.declared.token.Symbol.TheVariants as symbol
 use Rattle.dv_syntax.specs.declared.tree.Name.{Name}
 use Rattle.dv_syntax.specs.declared.tree.Number.{Number}
-use Rattle.dv_syntax.specs.Grammar.{Spelled, At, Anywhere, Spells, name, number, sign, braces}
+use Rattle.dv_syntax.specs.Grammar.{Spelled, At, Anywhere, Spells, name, number, sign, word, truth_word, braces}
 use Rattle.dv_syntax.specs.declared.parser.parse_error.ParseError.{ParseError}
 use Rattle.dv_syntax.specs.declared.parser.parse_error.ParseError.TheVariants as parse_error
-use Rattle.dv_syntax.specs.Reading.{Obstacle, Read, Fails, read_then, becoming, choose, same_kind, begins, after, is_name, begins_name, name_at, number_at, place_at, many, many_at, with_front, braces_at}
-use Rattle.dv_syntax.proofs.Tokens.{then_ok, chosen, ok_is, err_ok, Spells-then, Spells-split, Spells-length, kind_of, AtPlace, front, name_front, number_front, after_spells, after_spells_at, name_spells, number_spells}
+use Rattle.dv_syntax.specs.Reading.{Obstacle, Read, Fails, read_then, becoming, choose, same_kind, begins, after, is_name, begins_name, name_at, number_at, truth_at, place_at, many, many_at, with_front, braces_at}
+use Rattle.dv_syntax.proofs.Tokens.{then_ok, chosen, ok_is, err_ok, Spells-then, Spells-split, Spells-length, kind_of, AtPlace, front, name_front, number_front, truth_front, unplaced, after_spells, after_spells_at, name_spells, number_spells, truth_spells}
 
 -- ---- Spellings, as records
 
@@ -32,6 +32,9 @@ name_spans {ss = ss} {ts = ts} {rest = rest} {x = x} e h = record { spells = nam
 
 pub number_spans : {ss : List Spelled} {ts rest : List Token} {x : Number × List Token} → number_at ts ≡ Ok x → Spans ss x.1 rest → Spans (number x.0 ∷ ss) ts rest
 number_spans {ss = ss} {ts = ts} {rest = rest} {x = x} e h = record { spells = number_spells ss ts rest x e h.spells }
+
+pub truth_spans : {ss : List Spelled} {ts rest : List Token} {x : Bool × List Token} → truth_at ts ≡ Ok x → Spans ss x.1 rest → Spans (word (truth_word x.0) ∷ ss) ts rest
+truth_spans {ss = ss} {ts = ts} {rest = rest} {x = x} e h = record { spells = unplaced _ (place_at ts) ss ts rest (truth_spells ss ts rest x e h.spells) }
 
 pub then_spans : {a b : List Spelled} {ts mid rest : List Token} → Spans a ts mid → Spans b mid rest → Spans (a ++ b) ts rest
 then_spans {a = a} {b = b} {ts = ts} {mid = mid} {rest = rest} h k = record { spells = Spells-then a b ts mid rest h.spells k.spells }
@@ -68,6 +71,14 @@ pub record FirstNumber (n : Number) (ss : List Spelled) (ts rest : List Token) :
 
 pub first_number : (n : Number) {ss : List Spelled} {ts rest : List Token} → Spans (number n ∷ ss) ts rest → FirstNumber n ss ts rest
 first_number n {ss = ss} {ts = ts} {rest = rest} h = let f = number_front n ss ts rest h.spells in record { behind = f.0; read = f.1; spelled = record { spells = f.2 } }
+
+pub record FirstTruth (b : Bool) (ss : List Spelled) (ts rest : List Token) : Type 0 where
+  pub behind : List Token
+  pub read : truth_at ts ≡ Ok (b, behind)
+  pub spelled : Spans ss behind rest
+
+pub first_truth : (b : Bool) {ss : List Spelled} {ts rest : List Token} → Spans (word (truth_word b) ∷ ss) ts rest → FirstTruth b ss ts rest
+first_truth b {ss = ss} {ts = ts} {rest = rest} h = let f = truth_front b ss ts rest h.spells in record { behind = f.0; read = f.1; spelled = record { spells = f.2 } }
 
 pub span_end : {ts rest : List Token} → Spans [] ts rest → ts ≡ rest
 span_end h = h.spells

@@ -10,7 +10,7 @@ use Rattle.dv_lex.specs.declared.token.Symbol.TheVariants as symbol
 use Rattle.dv_syntax.specs.declared.tree.Name.{Name}
 use Rattle.dv_syntax.specs.Trees.{AtomicTree, CoupledTree, ModelTree, AtomicModel, CoupledModel, FileTree}
 use Rattle.dv_syntax.specs.Written.{AtomicItem, Declares, Lists, Starts, Holds, Rules, CoupledItem, Outputs, Contains, Couples, WrittenModel, WrittenFile, sorted_items, sorted_coupled_items, sorted_model, sorted}
-use Rattle.dv_syntax.specs.Grammar.{IsFileOf}
+use Rattle.dv_syntax.specs.Grammar.{the_limits, IsFileOf}
 use Rattle.dv_syntax.specs.Reading.{Obstacle, Read, read_then, choose, begins, after, name_at, is_end, many, many_at, becoming, braces_at, item_at, coupled_item_at, atomic_at, coupled_at, model_at, file_at, with_items, with_item, with_coupled_items, with_coupled_item, empty_atomic, empty_coupled, atomic_tree_at, coupled_tree_at, tree_at, file_tree_at, refusal_of, refusal_in, IsRefused}
 use Rattle.dv_syntax.proofs.Tokens.{then_ok, ok_is}
 use Rattle.dv_syntax.proofs.Readers.{Shortens}
@@ -107,13 +107,13 @@ unfolding read_then
 then_same (Ok x) f g e = e x
 then_same (Err o) f g e = refl
 
-atomic_trees : (ts : List Token) → atomic_tree_at ts ≡ read_then (atomic_at ts) as_atomic
+atomic_trees : (ts : List Token) → atomic_tree_at ts ≡ read_then (atomic_at the_limits ts) as_atomic
 unfolding atomic_tree_at atomic_at read_then
 atomic_trees ts =
     later (after (kind.Keyword keyword.Atomic) ts) _ _ as_atomic (λ behind.
     later (name_at behind) _ _ as_atomic (λ n.
-    braced item_at (with_items (empty_atomic n.0)) n.1
-    ∙ later (braces_at item_at n.1) _ _ as_atomic (λ items. ap (λ (m : AtomicTree). Ok (m, items.1)) (all_sorted n.0 items.0))))
+    braced (item_at the_limits) (with_items (empty_atomic n.0)) n.1
+    ∙ later (braces_at (item_at the_limits) n.1) _ _ as_atomic (λ items. ap (λ (m : AtomicTree). Ok (m, items.1)) (all_sorted n.0 items.0))))
 
 abbrev as_coupled : (Name × List CoupledItem) × List Token → Read (CoupledTree × List Token)
 as_coupled m = Ok (sorted_coupled_items m.0.0 m.0.1, m.1)
@@ -136,17 +136,17 @@ unfolding read_then
 twice (Ok x) f g = refl
 twice (Err o) f g = refl
 
-pub trees : (ts : List Token) → tree_at ts ≡ read_then (model_at ts) as_tree
+pub trees : (ts : List Token) → tree_at ts ≡ read_then (model_at the_limits ts) as_tree
 unfolding tree_at model_at read_then
 trees ts =
     same_chosen (begins (kind.Keyword keyword.Coupled) ts) _ _ as_tree _ _
     (ap (λ (r : Read (CoupledTree × List Token)). read_then r (λ m. Ok (CoupledModel m.0, m.1))) (coupled_trees ts) ∙ twice (coupled_at ts) as_coupled _ ∙ later (coupled_at ts) _ _ as_tree (λ m. refl))
-    (ap (λ (r : Read (AtomicTree × List Token)). read_then r (λ m. Ok (AtomicModel m.0, m.1))) (atomic_trees ts) ∙ twice (atomic_at ts) as_atomic _ ∙ later (atomic_at ts) _ _ as_tree (λ m. refl))
+    (ap (λ (r : Read (AtomicTree × List Token)). read_then r (λ m. Ok (AtomicModel m.0, m.1))) (atomic_trees ts) ∙ twice (atomic_at the_limits ts) as_atomic _ ∙ later (atomic_at the_limits ts) _ _ as_tree (λ m. refl))
 
 pub tree_shortens : Shortens tree_at
 tree_shortens ts x e =
     let a = then_ok _ _ _ (sym (trees ts) ∙ e) in
-    subst (λ (y : ModelTree × List Token). length y.1 < length ts) (ok_is _ _ a.2) (model_shortens ts a.0 a.1)
+    subst (λ (y : ModelTree × List Token). length y.1 < length ts) (ok_is _ _ a.2) (model_shortens the_limits ts a.0 a.1)
 
 -- ---- Files
 
@@ -155,16 +155,16 @@ unfolding read_then
 one_more y x g (Err o) e = refl
 one_more {B = B} y x g (Ok xs) e = ap (λ (z : B). Ok (z ∷ map g xs.0, xs.1)) e
 
-many_trees : (more : ℕ) (ts : List Token) → many tree_at (kind.Keyword keyword.Root) more ts ≡ becoming (map sorted_model) (many model_at (kind.Keyword keyword.Root) more ts)
+many_trees : (more : ℕ) (ts : List Token) → many tree_at (kind.Keyword keyword.Root) more ts ≡ becoming (map sorted_model) (many (model_at the_limits) (kind.Keyword keyword.Root) more ts)
 unfolding read_then
 many_trees zero ts = refl
 many_trees (suc more) ts =
     same_chosen (begins (kind.Keyword keyword.Root) ts) _ _ _ _ _ refl
     (ap (λ (r : Read (ModelTree × List Token)). read_then r (λ x. read_then (many tree_at (kind.Keyword keyword.Root) more x.1) (λ xs. Ok (x.0 ∷ xs.0, xs.1)))) (trees ts)
-    ∙ twice (model_at ts) as_tree _
-    ∙ later (model_at ts) _ _ _ (λ m.
+    ∙ twice (model_at the_limits ts) as_tree _
+    ∙ later (model_at the_limits ts) _ _ _ (λ m.
     ap (λ (r : Read (List ModelTree × List Token)). read_then r (λ xs. Ok (sorted_model m.0 ∷ xs.0, xs.1))) (many_trees more m.1)
-    ∙ one_more (sorted_model m.0) m.0 sorted_model (many model_at (kind.Keyword keyword.Root) more m.1) refl))
+    ∙ one_more (sorted_model m.0) m.0 sorted_model (many (model_at the_limits) (kind.Keyword keyword.Root) more m.1) refl))
 
 abbrev as_file : WrittenFile → Read FileTree
 as_file f = Ok (sorted f)
@@ -172,10 +172,10 @@ as_file f = Ok (sorted f)
 then_read : {A B : Type 0} {r s : Read A} → r ≡ s → (f : A → Read B) → read_then r f ≡ read_then s f
 then_read e f = ap (λ r. read_then r f) e
 
-file_trees : (ts : List Token) → file_tree_at ts ≡ read_then (file_at ts) as_file
+file_trees : (ts : List Token) → file_tree_at ts ≡ read_then (file_at the_limits ts) as_file
 unfolding file_tree_at file_at many_at read_then
 file_trees ts =
-    then_read (many_trees (suc (length ts)) ts) _ ∙ later_list (many_at model_at (kind.Keyword keyword.Root) ts) (map sorted_model) _ _ as_file (λ models.
+    then_read (many_trees (suc (length ts)) ts) _ ∙ later_list (many_at (model_at the_limits) (kind.Keyword keyword.Root) ts) (map sorted_model) _ _ as_file (λ models.
     later (after (kind.Keyword keyword.Root) models.1) _ _ as_file (λ behind.
     later (name_at behind) _ _ as_file (λ n.
     later (after (kind.Symbol symbol.Semicolon) n.1) _ _ as_file (λ rest.
@@ -184,7 +184,7 @@ file_trees ts =
 pub file_tree_sound : (ts : List Token) (f : FileTree) → file_tree_at ts ≡ Ok f → IsFileOf ts f
 file_tree_sound ts f e =
     let a = then_ok _ _ _ (sym (file_trees ts) ∙ e) in
-    subst (IsFileOf ts) (ok_is _ _ a.2) (record { written = a.0; read = file_sound ts a.0 a.1; tree = refl })
+    subst (IsFileOf ts) (ok_is _ _ a.2) (record { written = a.0; read = file_sound the_limits ts a.0 a.1; tree = refl })
 
 err_is : {A : Type 0} (p o : Obstacle) → ◌≡◌ {A = Read A} (Err p) (Err o) → p ≡ o
 err_is p o e = cc
@@ -194,8 +194,8 @@ unfolding read_then
 err_kept (Ok x) f o e = absurd cc
 err_kept (Err p) f o e = ap Err (err_is p o e)
 
-pub file_tree_err : (ts : List Token) (o : Obstacle) → file_tree_at ts ≡ Err o → file_at ts ≡ Err o
-file_tree_err ts o e = err_kept (file_at ts) sorted o (sym (file_trees ts) ∙ e)
+pub file_tree_err : (ts : List Token) (o : Obstacle) → file_tree_at ts ≡ Err o → file_at the_limits ts ≡ Err o
+file_tree_err ts o e = err_kept (file_at the_limits ts) sorted o (sym (file_trees ts) ∙ e)
 
 pub refused_as : (e : LoadError) (ts : List Token) (end : ℕ) (o : Obstacle) → e ≡ error.Refused (refusal_of o end) → file_tree_at ts ≡ Err o → IsRefused e ts end
 refused_as e ts end o is f =

@@ -8,7 +8,7 @@ use Rattle.dv_lex.specs.declared.token.TokenKind.TheVariants as kind
 use Rattle.dv_lex.specs.declared.token.Keyword.TheVariants as keyword
 use Rattle.dv_lex.specs.declared.token.Symbol.TheVariants as symbol
 use Rattle.dv_syntax.specs.Trees.{Expression, Statements, Done, Assign, Goto, Send, If, IfElse}
-use Rattle.dv_syntax.specs.Grammar.{Spelled, name, sign, word, word_at, braces, IsExpression, expression_spelling, statements_spelling, block_depth, AreStatements}
+use Rattle.dv_syntax.specs.Grammar.{Spelled, name, sign, word, word_at, braces, Limits, IsExpression, expression_spelling, statements_spelling, block_depth, AreStatements}
 use Rattle.dv_syntax.specs.declared.parser.parse_error.ParseError.{ParseError}
 use Rattle.dv_syntax.specs.declared.parser.parse_error.ParseError.TheVariants as parse_error
 use Rattle.dv_syntax.specs.Reading.{Obstacle, TooDeep, Read, Fails, read_then, place_at, within, choose, same_kind, begins, after, operator_of, expression_at, braces_at, Single, SingleAssign, SingleGoto, SingleSend, SingleIf, SingleIfElse, single_before, joined, assign_at, goto_at, send_at, else_at, if_at, statement_at, block_at}
@@ -16,10 +16,10 @@ use Rattle.dv_syntax.proofs.Tokens.{then_ok, chosen, ok_is, err_ok, same_kind-tr
 use Rattle.dv_syntax.proofs.Readers.{Spans, nothing, after_spans, after_spans_at, name_spans, then_spans, split, first, first_name, span_end, IsReader, IsListed, braces_reader, shortens, Shortens}
 use Rattle.dv_syntax.proofs.Expressions.{within_ok, within_positive, IsClosed, IsClosed-front, expression_complete, expression_sound}
 
-pub expression_reader : IsReader (expression_at 64 0) expression_spelling IsExpression IsClosed
-expression_reader = record {
-  sound = λ ts x e. let s = expression_sound ts x e in (record { spells = s.0 }, s.1);
-  complete = λ x ts rest is h ends. expression_complete x ts rest is h.spells ends;
+pub expression_reader : (limits : Limits) → IsReader (expression_at limits.expression 0) expression_spelling (IsExpression limits) IsClosed
+expression_reader limits = record {
+  sound = λ ts x e. let s = expression_sound limits ts x e in (record { spells = s.0 }, s.1);
+  complete = λ x ts rest is h ends. expression_complete limits x ts rest is h.spells ends;
 }
 
 -- ---- Single statements
@@ -31,81 +31,81 @@ single_spelling (SingleSend place p e) = word_at keyword.Send place ∷ name p �
 single_spelling (SingleIf place e block) = word_at keyword.If place ∷ (expression_spelling e ++ braces (statements_spelling block))
 single_spelling (SingleIfElse place e block other) = word_at keyword.If place ∷ (expression_spelling e ++ (braces (statements_spelling block) ++ (word keyword.Else ∷ braces (statements_spelling other))))
 
-abbrev pub IsBlock : ℕ → Statements → Type 0
-IsBlock limit s = AreStatements s × (block_depth s ≤ limit)
+abbrev pub IsBlock : Limits → ℕ → Statements → Type 0
+IsBlock limits limit s = AreStatements limits s × (block_depth s ≤ limit)
 
-abbrev pub IsSingle : ℕ → Single → Type 0
-IsSingle limit (SingleAssign n e) = IsExpression e
-IsSingle limit (SingleGoto place p) = Unit {0}
-IsSingle limit (SingleSend place p e) = IsExpression e
-IsSingle limit (SingleIf place e block) = IsExpression e × IsBlock limit block
-IsSingle limit (SingleIfElse place e block other) = IsExpression e × IsBlock limit block × IsBlock limit other
+abbrev pub IsSingle : Limits → ℕ → Single → Type 0
+IsSingle limits limit (SingleAssign n e) = IsExpression limits e
+IsSingle limits limit (SingleGoto place p) = Unit {0}
+IsSingle limits limit (SingleSend place p e) = IsExpression limits e
+IsSingle limits limit (SingleIf place e block) = IsExpression limits e × IsBlock limits limit block
+IsSingle limits limit (SingleIfElse place e block other) = IsExpression limits e × IsBlock limits limit block × IsBlock limits limit other
 
 abbrev pub block_spelling : Statements → List Spelled
 block_spelling s = braces (statements_spelling s)
 
-abbrev pub BlockReader : ℕ → (List Token → Read (Statements × List Token)) → Type 0
-BlockReader limit block = IsReader block block_spelling (IsBlock limit) (λ rest. Unit {0})
+abbrev pub BlockReader : Limits → ℕ → (List Token → Read (Statements × List Token)) → Type 0
+BlockReader limits limit block = IsReader block block_spelling (IsBlock limits limit) (λ rest. Unit {0})
 
 -- what is known of a statement that was read
-abbrev Reads : ℕ → List Token → Single × List Token → Type 0
-Reads limit ts x = Spans (single_spelling x.0) ts x.1 × IsSingle limit x.0
+abbrev Reads : Limits → ℕ → List Token → Single × List Token → Type 0
+Reads limits limit ts x = Spans (single_spelling x.0) ts x.1 × IsSingle limits limit x.0
 
-assign_sound : (limit : ℕ) (ts : List Token) (x : Single × List Token) → assign_at ts ≡ Ok x → Reads limit ts x
+assign_sound : (limits : Limits) (limit : ℕ) (ts : List Token) (x : Single × List Token) → assign_at limits ts ≡ Ok x → Reads limits limit ts x
 unfolding assign_at
-assign_sound limit ts x e =
+assign_sound limits limit ts x e =
     let a = then_ok _ _ _ e in
     let b = then_ok _ _ _ a.2 in
     let c = then_ok _ _ _ b.2 in
     let d = then_ok _ _ _ c.2 in
-    let s = expression_reader.sound b.0 c.0 c.1 in
-    subst (Reads limit ts) (ok_is _ _ d.2) (name_spans a.1 (after_spans b.1 (then_spans s.0 (after_spans d.1 nothing))), s.1)
+    let s = (expression_reader limits).sound b.0 c.0 c.1 in
+    subst (Reads limits limit ts) (ok_is _ _ d.2) (name_spans a.1 (after_spans b.1 (then_spans s.0 (after_spans d.1 nothing))), s.1)
 
-goto_sound : (limit : ℕ) (ts : List Token) (x : Single × List Token) → goto_at ts ≡ Ok x → Reads limit ts x
+goto_sound : (limits : Limits) (limit : ℕ) (ts : List Token) (x : Single × List Token) → goto_at ts ≡ Ok x → Reads limits limit ts x
 unfolding goto_at
-goto_sound limit ts x e =
+goto_sound limits limit ts x e =
     let a = then_ok _ _ _ e in
     let b = then_ok _ _ _ a.2 in
     let c = then_ok _ _ _ b.2 in
-    subst (Reads limit ts) (ok_is _ _ c.2) (after_spans_at a.1 (name_spans b.1 (after_spans c.1 nothing)), tt)
+    subst (Reads limits limit ts) (ok_is _ _ c.2) (after_spans_at a.1 (name_spans b.1 (after_spans c.1 nothing)), tt)
 
-send_sound : (limit : ℕ) (ts : List Token) (x : Single × List Token) → send_at ts ≡ Ok x → Reads limit ts x
+send_sound : (limits : Limits) (limit : ℕ) (ts : List Token) (x : Single × List Token) → send_at limits ts ≡ Ok x → Reads limits limit ts x
 unfolding send_at
-send_sound limit ts x e =
+send_sound limits limit ts x e =
     let a = then_ok _ _ _ e in
     let b = then_ok _ _ _ a.2 in
     let c = then_ok _ _ _ b.2 in
     let d = then_ok _ _ _ c.2 in
-    let s = expression_reader.sound b.0.1 c.0 c.1 in
-    subst (Reads limit ts) (ok_is _ _ d.2) (after_spans_at a.1 (name_spans b.1 (then_spans s.0 (after_spans d.1 nothing))), s.1)
+    let s = (expression_reader limits).sound b.0.1 c.0 c.1 in
+    subst (Reads limits limit ts) (ok_is _ _ d.2) (after_spans_at a.1 (name_spans b.1 (then_spans s.0 (after_spans d.1 nothing))), s.1)
 
-if_sound : (limit : ℕ) (block : List Token → Read (Statements × List Token)) → BlockReader limit block → (ts : List Token) (x : Single × List Token) → if_at block limit ts ≡ Ok x → Reads limit ts x
+if_sound : (limits : Limits) (limit : ℕ) (block : List Token → Read (Statements × List Token)) → BlockReader limits limit block → (ts : List Token) (x : Single × List Token) → if_at limits block limit ts ≡ Ok x → Reads limits limit ts x
 unfolding if_at else_at
-if_sound limit block r ts x e =
+if_sound limits limit block r ts x e =
     let a = then_ok _ _ _ e in
     let b = then_ok _ _ _ a.2 in
     let c = then_ok _ _ _ b.2 in
-    let s = expression_reader.sound a.0 b.0 (within_ok _ _ _ _ b.1) in
+    let s = (expression_reader limits).sound a.0 b.0 (within_ok _ _ _ _ b.1) in
     let t = r.sound b.0.1 c.0 c.1 in
     elim (chosen _ _ _ _ c.2) [
       | inl p ↦
           let d = then_ok _ _ _ p.1 in
           let o = then_ok _ _ _ d.2 in
           let u = r.sound d.0 o.0 o.1 in
-          subst (Reads limit ts) (ok_is _ _ o.2) (after_spans_at a.1 (then_spans s.0 (then_spans t.0 (after_spans d.1 u.0))), (s.1, t.1, u.1))
-      | inr p ↦ subst (Reads limit ts) (ok_is _ _ p.1) (after_spans_at a.1 (then_spans s.0 t.0), (s.1, t.1))
+          subst (Reads limits limit ts) (ok_is _ _ o.2) (after_spans_at a.1 (then_spans s.0 (then_spans t.0 (after_spans d.1 u.0))), (s.1, t.1, u.1))
+      | inr p ↦ subst (Reads limits limit ts) (ok_is _ _ p.1) (after_spans_at a.1 (then_spans s.0 t.0), (s.1, t.1))
     ]
 
-statement_sound : (limit : ℕ) (block : List Token → Read (Statements × List Token)) → BlockReader limit block → (ts : List Token) (x : Single × List Token) → statement_at block limit ts ≡ Ok x → Reads limit ts x
+statement_sound : (limits : Limits) (limit : ℕ) (block : List Token → Read (Statements × List Token)) → BlockReader limits limit block → (ts : List Token) (x : Single × List Token) → statement_at limits block limit ts ≡ Ok x → Reads limits limit ts x
 unfolding statement_at
-statement_sound limit block r ts x e =
+statement_sound limits limit block r ts x e =
     elim (chosen _ _ _ _ e) [
-      | inl p ↦ goto_sound limit ts x p.1
+      | inl p ↦ goto_sound limits limit ts x p.1
       | inr p ↦ elim (chosen _ _ _ _ p.1) [
-        | inl q ↦ send_sound limit ts x q.1
+        | inl q ↦ send_sound limits limit ts x q.1
         | inr q ↦ elim (chosen _ _ _ _ q.1) [
-          | inl w ↦ if_sound limit block r ts x w.1
-          | inr w ↦ assign_sound limit ts x w.1
+          | inl w ↦ if_sound limits limit block r ts x w.1
+          | inr w ↦ assign_sound limits limit ts x w.1
         ]
       ]
     ]
@@ -129,51 +129,51 @@ positive_block (Send place p e rest) = positive_block rest
 positive_block (If place e b rest) = omega arith
 positive_block (IfElse place e b o rest) = omega arith
 
-statement_complete : (limit : ℕ) (block : List Token → Read (Statements × List Token)) → BlockReader limit block → (x : Single) (ts rest : List Token) → IsSingle limit x → Spans (single_spelling x) ts rest → begins (kind.Keyword keyword.Else) rest ≡ false
-    → statement_at block limit ts ≡ Ok (x, rest)
+statement_complete : (limits : Limits) (limit : ℕ) (block : List Token → Read (Statements × List Token)) → BlockReader limits limit block → (x : Single) (ts rest : List Token) → IsSingle limits limit x → Spans (single_spelling x) ts rest → begins (kind.Keyword keyword.Else) rest ≡ false
+    → statement_at limits block limit ts ≡ Ok (x, rest)
 unfolding statement_at assign_at goto_at send_at if_at else_at choose read_then
-statement_complete limit block r (SingleAssign n e) ts rest is h ends =
+statement_complete limits limit block r (SingleAssign n e) ts rest is h ends =
     let f = first h in
     let n' = first_name n h in
     let b = first n'.spelled in
     let s = split (expression_spelling e) semicolon b.spelled in
-    let v = expression_reader.complete e b.behind s.0 is s.1 (semicolon_closed s.0 rest s.2) in
+    let v = (expression_reader limits).complete e b.behind s.0 is s.1 (semicolon_closed s.0 rest s.2) in
     let c = first s.2 in
     rw (f.begins (kind.Keyword keyword.Goto), f.begins (kind.Keyword keyword.Send), f.begins (kind.Keyword keyword.If), n'.read, b.after, v, c.after, span_end c.spelled) refl
-statement_complete limit block r (SingleGoto place p) ts rest is h ends =
+statement_complete limits limit block r (SingleGoto place p) ts rest is h ends =
     let f = first h in
     let n' = first_name p f.spelled in
     let c = first n'.spelled in
     rw (f.begins (kind.Keyword keyword.Goto), f.after, n'.read, c.after, f.place, span_end c.spelled) refl
-statement_complete limit block r (SingleSend place p e) ts rest is h ends =
+statement_complete limits limit block r (SingleSend place p e) ts rest is h ends =
     let f = first h in
     let n' = first_name p f.spelled in
     let s = split (expression_spelling e) semicolon n'.spelled in
-    let v = expression_reader.complete e n'.behind s.0 is s.1 (semicolon_closed s.0 rest s.2) in
+    let v = (expression_reader limits).complete e n'.behind s.0 is s.1 (semicolon_closed s.0 rest s.2) in
     let c = first s.2 in
     rw (f.begins (kind.Keyword keyword.Goto), f.begins (kind.Keyword keyword.Send), f.after, n'.read, v, c.after, f.place, span_end c.spelled) refl
-statement_complete limit block r (SingleIf place e b) ts rest is h ends =
+statement_complete limits limit block r (SingleIf place e b) ts rest is h ends =
     let f = first h in
     let s = split (expression_spelling e) (block_spelling b) f.spelled in
     let closed : Spans (block_spelling b ++ []) s.0 rest = rw append-nil s.2 in
-    let v = expression_reader.complete e f.behind s.0 is.0 s.1 (braces_closed b [] s.0 rest closed) in
+    let v = (expression_reader limits).complete e f.behind s.0 is.0 s.1 (braces_closed b [] s.0 rest closed) in
     let c = r.complete b s.0 rest is.1 s.2 tt in
-    let room = within_positive limit (place_at ts) (expression_at 64 0 f.behind) (omega (arith, is.1.1, positive_block b)) in
+    let room = within_positive limit (place_at ts) (expression_at limits.expression 0 f.behind) (omega (arith, is.1.1, positive_block b)) in
     rw (f.begins (kind.Keyword keyword.Goto), f.begins (kind.Keyword keyword.Send), f.begins (kind.Keyword keyword.If), f.after, room, v, c, ends, f.place) refl
-statement_complete limit block r (SingleIfElse place e b o) ts rest is h ends =
+statement_complete limits limit block r (SingleIfElse place e b o) ts rest is h ends =
     let f = first h in
     let tail : List Spelled = word keyword.Else ∷ block_spelling o in
     let s = split (expression_spelling e) (block_spelling b ++ tail) f.spelled in
-    let v = expression_reader.complete e f.behind s.0 is.0 s.1 (braces_closed b tail s.0 rest s.2) in
+    let v = (expression_reader limits).complete e f.behind s.0 is.0 s.1 (braces_closed b tail s.0 rest s.2) in
     let t = split (block_spelling b) tail s.2 in
     let c = r.complete b s.0 t.0 is.1 t.1 tt in
     let w = first t.2 in
     let d = r.complete o w.behind rest is.2 w.spelled tt in
-    let room = within_positive limit (place_at ts) (expression_at 64 0 f.behind) (omega (arith, is.1.1, positive_block b)) in
+    let room = within_positive limit (place_at ts) (expression_at limits.expression 0 f.behind) (omega (arith, is.1.1, positive_block b)) in
     rw (f.begins (kind.Keyword keyword.Goto), f.begins (kind.Keyword keyword.Send), f.begins (kind.Keyword keyword.If), f.after, room, v, c, w.begins (kind.Keyword keyword.Else), w.after, d, f.place) refl
 
-pub statement_reader : (limit : ℕ) (block : List Token → Read (Statements × List Token)) → BlockReader limit block → IsReader (statement_at block limit) single_spelling (IsSingle limit) (λ rest. begins (kind.Keyword keyword.Else) rest ≡ false)
-statement_reader limit block r = record { sound = statement_sound limit block r; complete = statement_complete limit block r }
+pub statement_reader : (limits : Limits) (limit : ℕ) (block : List Token → Read (Statements × List Token)) → BlockReader limits limit block → IsReader (statement_at limits block limit) single_spelling (IsSingle limits limit) (λ rest. begins (kind.Keyword keyword.Else) rest ≡ false)
+statement_reader limits limit block r = record { sound = statement_sound limits limit block r; complete = statement_complete limits limit block r }
 
 single_opens : (x : Single) (ts rest : List Token) → Spans (single_spelling x) ts rest → (begins (kind.Symbol symbol.CloseBrace) ts ≡ false) × (begins (kind.Keyword keyword.Else) ts ≡ false)
 single_opens (SingleAssign n e) ts rest h = let f = first h in (f.begins _, f.begins _)
@@ -218,21 +218,21 @@ joined-apart (Send place p e rest) = ap (Send place p e) (joined-apart rest)
 joined-apart (If place e block rest) = ap (If place e block) (joined-apart rest)
 joined-apart (IfElse place e block other rest) = ap (IfElse place e block other) (joined-apart rest)
 
-are_joined : (limit : ℕ) (ss : List Single) → AllByRecursion (IsSingle limit) ss → IsBlock (suc limit) (joined ss)
-are_joined limit [] all = (tt, omega arith)
-are_joined limit (SingleAssign n e ∷ ss) all = let r = are_joined limit ss all.1 in ((all.0, r.0), r.1)
-are_joined limit (SingleGoto place p ∷ ss) all = let r = are_joined limit ss all.1 in (r.0, r.1)
-are_joined limit (SingleSend place p e ∷ ss) all = let r = are_joined limit ss all.1 in ((all.0, r.0), r.1)
-are_joined limit (SingleIf place e b ∷ ss) all = let r = are_joined limit ss all.1 in ((all.0.0, all.0.1.0, r.0), omega (arith, r.1, all.0.1.1))
-are_joined limit (SingleIfElse place e b o ∷ ss) all = let r = are_joined limit ss all.1 in ((all.0.0, all.0.1.0, all.0.2.0, r.0), omega (arith, r.1, all.0.1.1, all.0.2.1))
+are_joined : (limits : Limits) (limit : ℕ) (ss : List Single) → AllByRecursion (IsSingle limits limit) ss → IsBlock limits (suc limit) (joined ss)
+are_joined limits limit [] all = (tt, omega arith)
+are_joined limits limit (SingleAssign n e ∷ ss) all = let r = are_joined limits limit ss all.1 in ((all.0, r.0), r.1)
+are_joined limits limit (SingleGoto place p ∷ ss) all = let r = are_joined limits limit ss all.1 in (r.0, r.1)
+are_joined limits limit (SingleSend place p e ∷ ss) all = let r = are_joined limits limit ss all.1 in ((all.0, r.0), r.1)
+are_joined limits limit (SingleIf place e b ∷ ss) all = let r = are_joined limits limit ss all.1 in ((all.0.0, all.0.1.0, r.0), omega (arith, r.1, all.0.1.1))
+are_joined limits limit (SingleIfElse place e b o ∷ ss) all = let r = are_joined limits limit ss all.1 in ((all.0.0, all.0.1.0, all.0.2.0, r.0), omega (arith, r.1, all.0.1.1, all.0.2.1))
 
-are_apart : (limit : ℕ) (s : Statements) → IsBlock (suc limit) s → AllByRecursion (IsSingle limit) (apart s)
-are_apart limit Done is = tt
-are_apart limit (Assign n e rest) is = (is.0.0, are_apart limit rest (is.0.1, is.1))
-are_apart limit (Goto place p rest) is = (tt, are_apart limit rest (is.0, is.1))
-are_apart limit (Send place p e rest) is = (is.0.0, are_apart limit rest (is.0.1, is.1))
-are_apart limit (If place e b rest) is = ((is.0.0, (is.0.1, omega (arith, is.1))), are_apart limit rest (is.0.2, omega (arith, is.1)))
-are_apart limit (IfElse place e b o rest) is = ((is.0.0, (is.0.1, omega (arith, is.1)), (is.0.2, omega (arith, is.1))), are_apart limit rest (is.0.3, omega (arith, is.1)))
+are_apart : (limits : Limits) (limit : ℕ) (s : Statements) → IsBlock limits (suc limit) s → AllByRecursion (IsSingle limits limit) (apart s)
+are_apart limits limit Done is = tt
+are_apart limits limit (Assign n e rest) is = (is.0.0, are_apart limits limit rest (is.0.1, is.1))
+are_apart limits limit (Goto place p rest) is = (tt, are_apart limits limit rest (is.0, is.1))
+are_apart limits limit (Send place p e rest) is = (is.0.0, are_apart limits limit rest (is.0.1, is.1))
+are_apart limits limit (If place e b rest) is = ((is.0.0, (is.0.1, omega (arith, is.1))), are_apart limits limit rest (is.0.2, omega (arith, is.1)))
+are_apart limits limit (IfElse place e b o rest) is = ((is.0.0, (is.0.1, omega (arith, is.1)), (is.0.2, omega (arith, is.1))), are_apart limits limit rest (is.0.3, omega (arith, is.1)))
 
 -- ---- Blocks
 
@@ -248,63 +248,63 @@ single_listed = record {
   some = single_some;
 }
 
-pub block_reader : (limit : ℕ) → BlockReader limit (block_at limit)
+pub block_reader : (limits : Limits) (limit : ℕ) → BlockReader limits limit (block_at limits limit)
 unfolding block_at read_then
-block_reader zero = record {
+block_reader limits zero = record {
   sound = λ ts x e. absurd (err_ok _ _ e);
   complete = λ x ts rest is h ends. absurd (omega (arith, is.1, positive_block x));
 }
-block_reader (suc limit) =
-    let r = statement_reader limit (block_at limit) (block_reader limit) in
-    let all = braces_reader (statement_at (block_at limit) limit) single_spelling (IsSingle limit) (λ rest. begins (kind.Keyword keyword.Else) rest ≡ false) r single_listed in
+block_reader limits (suc limit) =
+    let r = statement_reader limits limit (block_at limits limit) (block_reader limits limit) in
+    let all = braces_reader (statement_at limits (block_at limits limit) limit) single_spelling (IsSingle limits limit) (λ rest. begins (kind.Keyword keyword.Else) rest ≡ false) r single_listed in
     record {
       sound = λ ts x e.
           let a = then_ok _ _ _ e in
           let s = all.sound ts a.0 a.1 in
           let spelled : Spans (block_spelling (joined a.0.0)) ts a.0.1 = rw (joined-spelling a.0.0) s.0 in
-          subst (λ (y : Statements × List Token). Spans (block_spelling y.0) ts y.1 × IsBlock (suc limit) y.0) (ok_is _ _ a.2) (spelled, are_joined limit a.0.0 s.1);
+          subst (λ (y : Statements × List Token). Spans (block_spelling y.0) ts y.1 × IsBlock limits (suc limit) y.0) (ok_is _ _ a.2) (spelled, are_joined limits limit a.0.0 s.1);
       complete = λ x ts rest is h ends.
           let spelled : Spans (braces (flat_map single_spelling (apart x))) ts rest = rw (← joined-spelling (apart x), joined-apart x) h in
-          let c = all.complete (apart x) ts rest (are_apart limit x is) spelled tt in
+          let c = all.complete (apart x) ts rest (are_apart limits limit x is) spelled tt in
           rw (c, joined-apart x) refl;
     }
 
-pub statement_shortens : (limit : ℕ) → Shortens (statement_at (block_at limit) limit)
-statement_shortens limit = shortens (statement_at (block_at limit) limit) single_spelling (IsSingle limit) _ _ (statement_reader limit (block_at limit) (block_reader limit)) single_listed
+pub statement_shortens : (limits : Limits) (limit : ℕ) → Shortens (statement_at limits (block_at limits limit) limit)
+statement_shortens limits limit = shortens (statement_at limits (block_at limits limit) limit) single_spelling (IsSingle limits limit) _ _ (statement_reader limits limit (block_at limits limit) (block_reader limits limit)) single_listed
 
 -- an `if` where no block may follow
-pub if_deep : (limit : ℕ) (ts behind : List Token) → limit ≡ 1 → after (kind.Keyword keyword.If) ts ≡ Ok behind → if_at (block_at (limit - 1)) (limit - 1) ts ≡ Err (TooDeep (place_at ts))
+pub if_deep : (limits : Limits) (limit : ℕ) (ts behind : List Token) → limit ≡ 1 → after (kind.Keyword keyword.If) ts ≡ Ok behind → if_at limits (block_at limits (limit - 1)) (limit - 1) ts ≡ Err (TooDeep (place_at ts))
 unfolding if_at within read_then
-if_deep limit ts behind e h = rw (e, h) refl
+if_deep limits limit ts behind e h = rw (e, h) refl
 
 -- what follows the condition of an `if`
-abbrev pub block_behind : (limit place : ℕ) → Expression → List Token → Read (Single × List Token)
-block_behind limit place e ts = read_then (block_at limit ts) (λ block. choose (begins (kind.Keyword keyword.Else) block.1) (else_at (block_at limit) place e block.0 block.1) (Ok (SingleIf place e block.0, block.1)))
+abbrev pub block_behind : (limits : Limits) (limit place : ℕ) → Expression → List Token → Read (Single × List Token)
+block_behind limits limit place e ts = read_then (block_at limits limit ts) (λ block. choose (begins (kind.Keyword keyword.Else) block.1) (else_at (block_at limits limit) place e block.0 block.1) (Ok (SingleIf place e block.0, block.1)))
 
-pub if_some : (limit : ℕ) (ts behind : List Token) → 1 < limit → after (kind.Keyword keyword.If) ts ≡ Ok behind → if_at (block_at (limit - 1)) (limit - 1) ts ≡ read_then (expression_at 64 0 behind) (λ e. block_behind (limit - 1) (place_at ts) e.0 e.1)
+pub if_some : (limits : Limits) (limit : ℕ) (ts behind : List Token) → 1 < limit → after (kind.Keyword keyword.If) ts ≡ Ok behind → if_at limits (block_at limits (limit - 1)) (limit - 1) ts ≡ read_then (expression_at limits.expression 0 behind) (λ e. block_behind limits (limit - 1) (place_at ts) e.0 e.1)
 unfolding if_at read_then
-if_some limit ts behind lt h =
-    let room = within_positive (limit - 1) (place_at ts) (expression_at 64 0 behind) (omega (arith, lt)) in
+if_some limits limit ts behind lt h =
+    let room = within_positive (limit - 1) (place_at ts) (expression_at limits.expression 0 behind) (omega (arith, lt)) in
     rw (h, room) refl
 
-pub block_some : (limit : ℕ) (ts : List Token) (ss : List Single) (rest : List Token) → 0 < limit → braces_at (statement_at (block_at (limit - 1)) (limit - 1)) ts ≡ Ok (ss, rest) → block_at limit ts ≡ Ok (joined ss, rest)
+pub block_some : (limits : Limits) (limit : ℕ) (ts : List Token) (ss : List Single) (rest : List Token) → 0 < limit → braces_at (statement_at limits (block_at limits (limit - 1)) (limit - 1)) ts ≡ Ok (ss, rest) → block_at limits limit ts ≡ Ok (joined ss, rest)
 unfolding block_at read_then
-block_some zero ts ss rest lt e = absurd (omega (arith, lt))
-block_some (suc limit) ts ss rest lt e =
+block_some limits zero ts ss rest lt e = absurd (omega (arith, lt))
+block_some limits (suc limit) ts ss rest lt e =
     let k : suc limit - 1 ≡ limit = omega arith in
-    let f : braces_at (statement_at (block_at limit) limit) ts ≡ Ok (ss, rest) = subst (λ (n : ℕ). braces_at (statement_at (block_at n) n) ts ≡ Ok (ss, rest)) k e in
+    let f : braces_at (statement_at limits (block_at limits limit) limit) ts ≡ Ok (ss, rest) = subst (λ (n : ℕ). braces_at (statement_at limits (block_at limits n) n) ts ≡ Ok (ss, rest)) k e in
     rw f refl
 
-block_err : (limit : ℕ) (ts : List Token) (o : Obstacle) → 0 < limit → braces_at (statement_at (block_at (limit - 1)) (limit - 1)) ts ≡ Err o → block_at limit ts ≡ Err o
+block_err : (limits : Limits) (limit : ℕ) (ts : List Token) (o : Obstacle) → 0 < limit → braces_at (statement_at limits (block_at limits (limit - 1)) (limit - 1)) ts ≡ Err o → block_at limits limit ts ≡ Err o
 unfolding block_at read_then
-block_err zero ts o lt e = absurd (omega (arith, lt))
-block_err (suc limit) ts o lt e =
+block_err limits zero ts o lt e = absurd (omega (arith, lt))
+block_err limits (suc limit) ts o lt e =
     let k : suc limit - 1 ≡ limit = omega arith in
-    let f : braces_at (statement_at (block_at limit) limit) ts ≡ Err o = subst (λ (n : ℕ). braces_at (statement_at (block_at n) n) ts ≡ Err o) k e in
+    let f : braces_at (statement_at limits (block_at limits limit) limit) ts ≡ Err o = subst (λ (n : ℕ). braces_at (statement_at limits (block_at limits n) n) ts ≡ Err o) k e in
     rw f refl
 
-pub block_fails : (e : ParseError) (limit : ℕ) (ts : List Token) → 0 < limit → Fails e (braces_at (statement_at (block_at (limit - 1)) (limit - 1)) ts) → Fails e (block_at limit ts)
-block_fails parse_error.Memory limit ts lt f = tt
-block_fails (parse_error.Unexpected place) limit ts lt f = block_err limit ts _ lt f
-block_fails (parse_error.TooDeep place) limit ts lt f = block_err limit ts _ lt f
-block_fails parse_error.TooShort limit ts lt f = block_err limit ts _ lt f
+pub block_fails : (e : ParseError) (limits : Limits) (limit : ℕ) (ts : List Token) → 0 < limit → Fails e (braces_at (statement_at limits (block_at limits (limit - 1)) (limit - 1)) ts) → Fails e (block_at limits limit ts)
+block_fails parse_error.Memory limits limit ts lt f = tt
+block_fails (parse_error.Unexpected place) limits limit ts lt f = block_err limits limit ts _ lt f
+block_fails (parse_error.TooDeep place) limits limit ts lt f = block_err limits limit ts _ lt f
+block_fails parse_error.TooShort limits limit ts lt f = block_err limits limit ts _ lt f

@@ -11,8 +11,8 @@ use Rattle.dv_lex.specs.declared.token.Symbol.{Symbol}
 use Rattle.dv_lex.specs.declared.token.Symbol.TheVariants as symbol
 use Rattle.dv_syntax.specs.declared.tree.Name.{Name}
 use Rattle.dv_syntax.specs.declared.tree.Number.{Number}
-use Rattle.dv_syntax.specs.Grammar.{Spelled, At, Anywhere, Spells, name, number}
-use Rattle.dv_syntax.specs.Reading.{Obstacle, Read, read_then, choose, maybe, keyword_number, symbol_number, same_kind, begins, after, is_name, begins_name, name_of, name_at, number_of, number_at, place_at}
+use Rattle.dv_syntax.specs.Grammar.{Spelled, At, Anywhere, Spells, name, number, word, word_at, truth_word}
+use Rattle.dv_syntax.specs.Reading.{Obstacle, Read, read_then, choose, maybe, keyword_number, symbol_number, same_kind, begins, after, is_name, begins_name, name_of, name_at, number_of, number_at, truth_at, place_at}
 
 -- ---- What was read
 
@@ -225,6 +225,16 @@ unfolding number_at
 number_front n ss [] rest h = absurd h
 number_front n ss (t ∷ ts) rest h = (ts, rw (h.0.0, h.0.1) refl, h.1)
 
+pub truth_front : (b : Bool) (ss : List Spelled) (ts rest : List Token) → Spells (word (truth_word b) ∷ ss) ts rest → (behind : List Token) × (truth_at ts ≡ Ok (b, behind)) × Spells ss behind rest
+unfolding truth_at choose read_then
+truth_front true ss ts rest h = let f = front (word keyword.True) ss ts rest h in (f.behind, rw (f.begins (kind.Keyword keyword.True), f.after) refl, f.spelled)
+truth_front false ss ts rest h = let f = front (word keyword.False) ss ts rest h in (f.behind, rw (f.begins (kind.Keyword keyword.True), f.after) refl, f.spelled)
+
+-- a token whose place is kept is one that stands anywhere
+pub unplaced : (k : TokenKind) (place : ℕ) (ss : List Spelled) (ts rest : List Token) → Spells (At k place ∷ ss) ts rest → Spells (Anywhere k ∷ ss) ts rest
+unplaced k place ss [] rest h = absurd h
+unplaced k place ss (t ∷ ts) rest h = (h.0.0, h.1)
+
 -- the other way: a token that was read, before what is spelled
 pub after_spells : (k : TokenKind) (ss : List Spelled) (ts mid rest : List Token) → after k ts ≡ Ok mid → Spells ss mid rest → Spells (Anywhere k ∷ ss) ts rest
 unfolding after
@@ -257,3 +267,15 @@ pub number_spells : (ss : List Spelled) (ts rest : List Token) (x : Number × Li
 unfolding number_at
 number_spells ss [] rest x e h = absurd (err_ok _ _ e)
 number_spells ss (t ∷ ts) rest x e h = let p = number_of-number t.kind t.place ts x e in ((p.0, p.1), subst (λ (y : List Token). Spells ss y rest) (sym p.2) h)
+
+pub truth_spells : (ss : List Spelled) (ts rest : List Token) (x : Bool × List Token) → truth_at ts ≡ Ok x → Spells ss x.1 rest → Spells (word_at (truth_word x.0) (place_at ts) ∷ ss) ts rest
+unfolding truth_at
+truth_spells ss ts rest x e h =
+    elim (chosen _ _ _ _ e) [
+      | inl p ↦
+          let a = then_ok _ _ _ p.1 in
+          subst (λ (y : Bool × List Token). Spells ss y.1 rest → Spells (word_at (truth_word y.0) (place_at ts) ∷ ss) ts rest) (ok_is _ _ a.2) (after_spells_at (kind.Keyword keyword.True) ss ts a.0 rest a.1) h
+      | inr p ↦
+          let a = then_ok _ _ _ p.1 in
+          subst (λ (y : Bool × List Token). Spells ss y.1 rest → Spells (word_at (truth_word y.0) (place_at ts) ∷ ss) ts rest) (ok_is _ _ a.2) (after_spells_at (kind.Keyword keyword.False) ss ts a.0 rest a.1) h
+    ]

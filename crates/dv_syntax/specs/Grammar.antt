@@ -1,5 +1,5 @@
 -- The grammar of model texts: how a tree is spelled by tokens, and which trees are those of a text.
-use Rattle.std.specs.Prelude.{◌≡◌, ℕ, ◌+◌, ◌<◌, ◌≤◌, List, [], ◌∷◌, ◌++◌, length, Option, Some, None, max}
+use Rattle.std.specs.Prelude.{◌≡◌, ℕ, ◌+◌, ◌<◌, ◌≤◌, Bool, true, false, List, [], ◌∷◌, ◌++◌, length, Option, Some, None, max}
 use Rattle.std.specs.List.{flat_map, AllByRecursion}
 use Rattle.dv_lex.specs.declared.token.Token.{Token}
 use Rattle.dv_lex.specs.declared.token.TokenKind.{TokenKind}
@@ -10,10 +10,13 @@ use Rattle.dv_lex.specs.declared.token.Symbol.{Symbol}
 use Rattle.dv_lex.specs.declared.token.Symbol.TheVariants as symbol
 use Rattle.dv_syntax.specs.declared.tree.Name.{Name}
 use Rattle.dv_syntax.specs.declared.tree.Number.{Number}
+use Rattle.dv_syntax.specs.declared.tree.Prefix.{Prefix}
+use Rattle.dv_syntax.specs.declared.tree.Prefix.TheVariants as prefix
 use Rattle.dv_syntax.specs.declared.tree.Operator.{Operator}
 use Rattle.dv_syntax.specs.declared.tree.Operator.TheVariants as operator
 use Rattle.dv_syntax.specs.declared.tree.Bound.{Bound}
 use Rattle.dv_syntax.specs.declared.tree.Variable.{Variable}
+use Rattle.dv_syntax.specs.declared.tree.Flag.{Flag}
 use Rattle.dv_syntax.specs.declared.tree.Declaration.{Declaration}
 use Rattle.dv_syntax.specs.declared.tree.Declaration.TheVariants as declaration
 use Rattle.dv_syntax.specs.declared.tree.Part.{Part}
@@ -22,7 +25,7 @@ use Rattle.dv_syntax.specs.declared.tree.Start.{Start}
 use Rattle.dv_syntax.specs.declared.tree.RuleSort.{RuleSort}
 use Rattle.dv_syntax.specs.declared.tree.RuleSort.TheVariants as sort
 use Rattle.dv_syntax.specs.declared.tree.End.{End}
-use Rattle.dv_syntax.specs.Trees.{Expression, Literal, Named, Parens, Negative, Binary, Statements, Done, Assign, Goto, Send, If, IfElse, PhasesTree, HoldTree, RuleTree, FileTree}
+use Rattle.dv_syntax.specs.Trees.{Expression, Literal, TruthValue, Named, Parens, Prefixed, Binary, Statements, Done, Assign, Goto, Send, If, IfElse, PhasesTree, HoldTree, RuleTree, FileTree}
 use Rattle.dv_syntax.specs.Written.{AtomicItem, Declares, Lists, Starts, Holds, Rules, CoupledItem, Outputs, Contains, Couples, WrittenModel, WrittenAtomic, WrittenCoupled, WrittenFile, sorted}
 
 -- ---- Spellings
@@ -61,30 +64,59 @@ number n = At (kind.Number n.value) n.place
 abbrev pub braces : List Spelled → List Spelled
 braces inside = sign symbol.OpenBrace ∷ (inside ++ sign symbol.CloseBrace ∷ [])
 
+-- ---- Limits on depth
+
+-- how deep expressions and blocks may lie in one another
+pub record Limits : Type 0 where
+  pub expression : ℕ
+  pub block : ℕ
+
+-- those of the language
+abbrev pub the_limits : Limits
+the_limits = record { expression = 64; block = 16 }
+
 -- ---- Expressions
 
-abbrev pub operator_symbol : Operator → Symbol
-operator_symbol operator.Add = symbol.Plus
-operator_symbol operator.Subtract = symbol.Minus
-operator_symbol operator.Multiply = symbol.Star
-operator_symbol operator.Divide = symbol.Slash
-operator_symbol operator.Remainder = symbol.Percent
-operator_symbol operator.Equal = symbol.Equal
-operator_symbol operator.Unequal = symbol.Unequal
-operator_symbol operator.Less = symbol.Less
-operator_symbol operator.AtMost = symbol.AtMost
-operator_symbol operator.Greater = symbol.Greater
-operator_symbol operator.AtLeast = symbol.AtLeast
+abbrev pub truth_word : Bool → Keyword
+truth_word true = keyword.True
+truth_word false = keyword.False
+
+abbrev pub prefix_kind : Prefix → TokenKind
+prefix_kind prefix.Minus = kind.Symbol symbol.Minus
+prefix_kind prefix.Not = kind.Keyword keyword.Not
+
+abbrev pub operator_kind : Operator → TokenKind
+operator_kind operator.Or = kind.Keyword keyword.Or
+operator_kind operator.And = kind.Keyword keyword.And
+operator_kind operator.Add = kind.Symbol symbol.Plus
+operator_kind operator.Subtract = kind.Symbol symbol.Minus
+operator_kind operator.Multiply = kind.Symbol symbol.Star
+operator_kind operator.Divide = kind.Symbol symbol.Slash
+operator_kind operator.Remainder = kind.Symbol symbol.Percent
+operator_kind operator.Equal = kind.Symbol symbol.Equal
+operator_kind operator.Unequal = kind.Symbol symbol.Unequal
+operator_kind operator.Less = kind.Symbol symbol.Less
+operator_kind operator.AtMost = kind.Symbol symbol.AtMost
+operator_kind operator.Greater = kind.Symbol symbol.Greater
+operator_kind operator.AtLeast = kind.Symbol symbol.AtLeast
 
 abbrev pub expression_spelling : Expression → List Spelled
 expression_spelling (Literal n) = number n ∷ []
+expression_spelling (TruthValue place value) = word_at (truth_word value) place ∷ []
 expression_spelling (Named n) = name n ∷ []
 expression_spelling (Parens place e) = At (kind.Symbol symbol.OpenParen) place ∷ (expression_spelling e ++ sign symbol.CloseParen ∷ [])
-expression_spelling (Negative place e) = At (kind.Symbol symbol.Minus) place ∷ expression_spelling e
-expression_spelling (Binary o a b) = expression_spelling a ++ sign (operator_symbol o) ∷ expression_spelling b
+expression_spelling (Prefixed o place e) = At (prefix_kind o) place ∷ expression_spelling e
+expression_spelling (Binary o a b) = expression_spelling a ++ Anywhere (operator_kind o) ∷ expression_spelling b
 
--- How tightly an operator binds. Ranks 1 to 3 are for `or`, `and` and `not`.
+-- how tightly an operator before its operand binds
+abbrev pub prefix_rank : Prefix → ℕ
+prefix_rank prefix.Minus = 7
+prefix_rank prefix.Not = 3
+
+-- how tightly an operator between two operands binds
 abbrev pub operator_rank : Operator → ℕ
+operator_rank operator.Or = 1
+operator_rank operator.And = 2
 operator_rank operator.Add = 5
 operator_rank operator.Subtract = 5
 operator_rank operator.Multiply = 6
@@ -99,6 +131,8 @@ operator_rank operator.AtLeast = 4
 
 -- the least rank of a left operand: chains of one rank group to the left, but a comparison is no operand of another
 abbrev pub left_rank : Operator → ℕ
+left_rank operator.Or = 1
+left_rank operator.And = 2
 left_rank operator.Add = 5
 left_rank operator.Subtract = 5
 left_rank operator.Multiply = 6
@@ -111,32 +145,35 @@ left_rank operator.AtMost = 5
 left_rank operator.Greater = 5
 left_rank operator.AtLeast = 5
 
--- how tightly an expression holds together: 7 behind a minus sign, and 8 where no operator stands at its top
+-- how tightly an expression holds together: 8 where no operator stands at its top
 abbrev pub rank : Expression → ℕ
 rank (Literal n) = 8
+rank (TruthValue place value) = 8
 rank (Named n) = 8
 rank (Parens place e) = 8
-rank (Negative place e) = 7
+rank (Prefixed o place e) = prefix_rank o
 rank (Binary o a b) = operator_rank o
 
 -- each operand has a rank that the grammar allows there
 abbrev pub IsWellFormed : Expression → Type 0
 IsWellFormed (Literal n) = Unit {0}
+IsWellFormed (TruthValue place value) = Unit {0}
 IsWellFormed (Named n) = Unit {0}
 IsWellFormed (Parens place e) = IsWellFormed e
-IsWellFormed (Negative place e) = IsWellFormed e × (7 ≤ rank e)
+IsWellFormed (Prefixed o place e) = IsWellFormed e × (prefix_rank o ≤ rank e)
 IsWellFormed (Binary o a b) = IsWellFormed a × IsWellFormed b × (left_rank o ≤ rank a) × (operator_rank o < rank b)
 
 abbrev pub depth : Expression → ℕ
 depth (Literal n) = 1
+depth (TruthValue place value) = 1
 depth (Named n) = 1
 depth (Parens place e) = depth e + 1
-depth (Negative place e) = depth e + 1
+depth (Prefixed o place e) = depth e + 1
 depth (Binary o a b) = max (depth a) (depth b) + 1
 
-pub record IsExpression (e : Expression) : Type 0 where
+pub record IsExpression (limits : Limits) (e : Expression) : Type 0 where
   pub formed : IsWellFormed e
-  pub within : depth e ≤ 64
+  pub within : depth e ≤ limits.expression
 
 -- ---- Statements
 
@@ -157,13 +194,13 @@ block_depth (Send place p e rest) = block_depth rest
 block_depth (If place e block rest) = max (block_depth block + 1) (block_depth rest)
 block_depth (IfElse place e block other rest) = max (max (block_depth block + 1) (block_depth other + 1)) (block_depth rest)
 
-abbrev pub AreStatements : Statements → Type 0
-AreStatements Done = Unit {0}
-AreStatements (Assign n e rest) = IsExpression e × AreStatements rest
-AreStatements (Goto place p rest) = AreStatements rest
-AreStatements (Send place p e rest) = IsExpression e × AreStatements rest
-AreStatements (If place e block rest) = IsExpression e × AreStatements block × AreStatements rest
-AreStatements (IfElse place e block other rest) = IsExpression e × AreStatements block × AreStatements other × AreStatements rest
+abbrev pub AreStatements : Limits → Statements → Type 0
+AreStatements limits Done = Unit {0}
+AreStatements limits (Assign n e rest) = IsExpression limits e × AreStatements limits rest
+AreStatements limits (Goto place p rest) = AreStatements limits rest
+AreStatements limits (Send place p e rest) = IsExpression limits e × AreStatements limits rest
+AreStatements limits (If place e block rest) = IsExpression limits e × AreStatements limits block × AreStatements limits rest
+AreStatements limits (IfElse place e block other rest) = IsExpression limits e × AreStatements limits block × AreStatements limits other × AreStatements limits rest
 
 -- ---- Atomic models
 
@@ -177,12 +214,16 @@ bound_spelling b = minus_spelling b.minus ++ number b.magnitude ∷ []
 abbrev pub variable_spelling : Variable → List Spelled
 variable_spelling v = word keyword.Var ∷ name v.name ∷ sign symbol.Colon ∷ (bound_spelling v.low ++ (sign symbol.Range ∷ (bound_spelling v.high ++ (sign symbol.Equal ∷ (bound_spelling v.start ++ sign symbol.Semicolon ∷ [])))))
 
+abbrev pub flag_spelling : Flag → List Spelled
+flag_spelling f = word keyword.Flag ∷ name f.name ∷ sign symbol.Equal ∷ word (truth_word f.start) ∷ sign symbol.Semicolon ∷ []
+
 abbrev pub output_spelling : Name → List Spelled
 output_spelling n = word keyword.Out ∷ name n ∷ sign symbol.Semicolon ∷ []
 
 abbrev pub declaration_spelling : Declaration → List Spelled
 declaration_spelling (declaration.Out n) = output_spelling n
 declaration_spelling (declaration.Var v) = variable_spelling v
+declaration_spelling (declaration.Flag f) = flag_spelling f
 
 -- names with commas between them
 abbrev pub names_spelling : List Name → List Spelled
@@ -216,16 +257,16 @@ item_spelling (Starts s) = start_spelling s
 item_spelling (Holds h) = hold_spelling h
 item_spelling (Rules r) = rule_spelling r
 
-abbrev pub AreTicks : Option Expression → Type 0
-AreTicks None = Unit {0}
-AreTicks (Some e) = IsExpression e
+abbrev pub AreTicks : Limits → Option Expression → Type 0
+AreTicks limits None = Unit {0}
+AreTicks limits (Some e) = IsExpression limits e
 
-abbrev pub IsItem : AtomicItem → Type 0
-IsItem (Declares d) = Unit {0}
-IsItem (Lists p) = 0 < length p.names
-IsItem (Starts s) = Unit {0}
-IsItem (Holds h) = AreTicks h.ticks
-IsItem (Rules r) = AreStatements r.body × (block_depth r.body ≤ 16)
+abbrev pub IsItem : Limits → AtomicItem → Type 0
+IsItem limits (Declares d) = Unit {0}
+IsItem limits (Lists p) = 0 < length p.names
+IsItem limits (Starts s) = Unit {0}
+IsItem limits (Holds h) = AreTicks limits h.ticks
+IsItem limits (Rules r) = AreStatements limits r.body × (block_depth r.body ≤ limits.block)
 
 -- ---- Coupled models
 
@@ -253,20 +294,24 @@ abbrev pub model_spelling : WrittenModel → List Spelled
 model_spelling (WrittenAtomic n items) = word keyword.Atomic ∷ name n ∷ braces (flat_map item_spelling items)
 model_spelling (WrittenCoupled n items) = word keyword.Coupled ∷ name n ∷ braces (flat_map coupled_item_spelling items)
 
-abbrev pub IsModel : WrittenModel → Type 0
-IsModel (WrittenAtomic n items) = AllByRecursion IsItem items
-IsModel (WrittenCoupled n items) = Unit {0}
+abbrev pub IsModel : Limits → WrittenModel → Type 0
+IsModel limits (WrittenAtomic n items) = AllByRecursion (IsItem limits) items
+IsModel limits (WrittenCoupled n items) = Unit {0}
 
 abbrev pub file_spelling : WrittenFile → List Spelled
 file_spelling f = flat_map model_spelling f.models ++ word keyword.Root ∷ name f.root ∷ sign symbol.Semicolon ∷ []
 
--- the tokens are those of the file as it is written, to the last one, and the file is one of the grammar within the limits on depth
-pub record IsWritten (ts : List Token) (f : WrittenFile) : Type 0 where
+-- the tokens are those of the file as it is written, to the last one, and the file is one of the grammar within limits on depth
+pub record IsWritten (limits : Limits) (ts : List Token) (f : WrittenFile) : Type 0 where
   pub spelled : Spells (file_spelling f) ts []
-  pub models : AllByRecursion IsModel f.models
+  pub models : AllByRecursion (IsModel limits) f.models
+
+-- the tokens are those of a file with this tree, within limits on depth
+pub record IsFileWithin (limits : Limits) (ts : List Token) (f : FileTree) : Type 0 where
+  pub written : WrittenFile
+  pub read : IsWritten limits ts written
+  pub tree : f ≡ sorted written
 
 -- the tokens are those of a file with this tree
-pub record IsFileOf (ts : List Token) (f : FileTree) : Type 0 where
-  pub written : WrittenFile
-  pub read : IsWritten ts written
-  pub tree : f ≡ sorted written
+abbrev pub IsFileOf : List Token → FileTree → Type 0
+IsFileOf ts f = IsFileWithin the_limits ts f

@@ -3,5 +3,3 @@ pub mod Trees
 pub mod Written
 pub mod Grammar
 pub mod Reading
--- What the laws speak of.
-pub mod Refusals

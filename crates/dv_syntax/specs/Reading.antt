@@ -1,6 +1,6 @@
 -- Reading from left to right: a reader answers with what stands at the front of the tokens and the tokens after it, or
 -- with what stops it.
-use Rattle.std.specs.Prelude.{◌≡◌, ℕ, zero, suc, ◌+◌, ◌-◌, List, [], ◌∷◌, ◌++◌, length, Bool, true, false, ◌&&◌, Option, Some, None, Result, Ok, Err, nat_lt, nat_le, ◌==◌}
+use Rattle.std.specs.Prelude.{◌≡◌, ℕ, zero, suc, ◌+◌, ◌-◌, List, [], ◌∷◌, ◌++◌, length, Bool, true, false, ◌&&◌, Option, Some, None, Result, Ok, Err, nat_lt, nat_le, ◌==◌, ◌||◌}
 use Rattle.dv_lex.specs.declared.token.Token.{Token}
 use Rattle.dv_lex.specs.declared.token.TokenKind.{TokenKind}
 use Rattle.dv_lex.specs.declared.token.TokenKind.TheVariants as kind
@@ -10,10 +10,13 @@ use Rattle.dv_lex.specs.declared.token.Symbol.{Symbol}
 use Rattle.dv_lex.specs.declared.token.Symbol.TheVariants as symbol
 use Rattle.dv_syntax.specs.declared.tree.Name.{Name}
 use Rattle.dv_syntax.specs.declared.tree.Number.{Number}
+use Rattle.dv_syntax.specs.declared.tree.Prefix.{Prefix}
+use Rattle.dv_syntax.specs.declared.tree.Prefix.TheVariants as prefix
 use Rattle.dv_syntax.specs.declared.tree.Operator.{Operator}
 use Rattle.dv_syntax.specs.declared.tree.Operator.TheVariants as operator
 use Rattle.dv_syntax.specs.declared.tree.Bound.{Bound}
 use Rattle.dv_syntax.specs.declared.tree.Variable.{Variable}
+use Rattle.dv_syntax.specs.declared.tree.Flag.{Flag}
 use Rattle.dv_syntax.specs.declared.tree.RuleSort.{RuleSort}
 use Rattle.dv_syntax.specs.declared.tree.RuleSort.TheVariants as sort
 use Rattle.dv_syntax.specs.declared.tree.End.{End}
@@ -32,9 +35,9 @@ use Rattle.dv_lex.specs.declared.error.LoadError.{LoadError}
 use Rattle.dv_lex.specs.declared.error.LoadError.TheVariants as error
 use Rattle.dv_lex.specs.declared.error.Refusal.{Refusal}
 use Rattle.dv_lex.specs.declared.error.RefusalNumber.TheVariants.{E4, E5}
-use Rattle.dv_syntax.specs.Trees.{expression_of, row_statements, phases_of, hold_of, rule_of, Expression, Literal, Named, Parens, Negative, Binary, Statements, Done, Assign, Goto, Send, If, IfElse, AtomicTree, CoupledTree, ModelTree, AtomicModel, CoupledModel, FileTree}
+use Rattle.dv_syntax.specs.Trees.{expression_of, row_statements, phases_of, hold_of, rule_of, Expression, Literal, TruthValue, Named, Parens, Prefixed, Binary, Statements, Done, Assign, Goto, Send, If, IfElse, AtomicTree, CoupledTree, ModelTree, AtomicModel, CoupledModel, FileTree}
 use Rattle.dv_syntax.specs.Written.{AtomicItem, Declares, Lists, Starts, Holds, Rules, CoupledItem, Outputs, Contains, Couples, WrittenModel, WrittenAtomic, WrittenCoupled, WrittenFile, sorted_items, sorted_coupled_items}
-use Rattle.dv_syntax.specs.Grammar.{operator_rank, left_rank, rank, depth, sort_word}
+use Rattle.dv_syntax.specs.Grammar.{Limits, the_limits, prefix_kind, prefix_rank, operator_rank, left_rank, rank, depth, sort_word}
 
 -- What stops a reader: the token at a place can't stand there, or what begins with it, or what it joins, lies too deep; or
 -- more tokens have to follow.
@@ -191,7 +194,21 @@ unfoldable pub number_at : List Token → Read (Number × List Token)
 number_at [] = Err TooShort
 number_at (t ∷ ts) = number_of t.kind t.place ts
 
+-- `true` or `false`
+abbrev pub begins_truth : List Token → Bool
+begins_truth ts = begins (kind.Keyword keyword.True) ts || begins (kind.Keyword keyword.False) ts
+
+unfoldable pub truth_at : List Token → Read (Bool × List Token)
+truth_at ts = choose (begins (kind.Keyword keyword.True) ts)
+    (after (kind.Keyword keyword.True) ts >>= λ rest. Ok (true, rest))
+    (after (kind.Keyword keyword.False) ts >>= λ rest. Ok (false, rest))
+
 -- ---- Expressions
+
+abbrev pub keyword_operator : Keyword → Option Operator
+keyword_operator keyword.Or = Some operator.Or
+keyword_operator keyword.And = Some operator.And
+keyword_operator _ = None
 
 abbrev pub symbol_operator : Symbol → Option Operator
 symbol_operator symbol.Plus = Some operator.Add
@@ -208,6 +225,7 @@ symbol_operator symbol.AtLeast = Some operator.AtLeast
 symbol_operator _ = None
 
 unfoldable pub operator_of : TokenKind → Option Operator
+operator_of (kind.Keyword k) = keyword_operator k
 operator_of (kind.Symbol s) = symbol_operator s
 operator_of _ = None
 
@@ -227,17 +245,19 @@ abbrev pub begins_name : List Token → Bool
 begins_name [] = false
 begins_name (t ∷ ts) = is_name t.kind
 
--- a name or a number
+-- a name, a truth value or a number
 unfoldable pub leaf_at : List Token → Read (Expression × List Token)
-leaf_at ts = choose (begins_name ts) (name_at ts >>= λ n. Ok (Named n.0, n.1)) (number_at ts >>= λ n. Ok (Literal n.0, n.1))
+leaf_at ts = choose (begins_name ts) (name_at ts >>= λ n. Ok (Named n.0, n.1))
+    (choose (begins_truth ts) (truth_at ts >>= λ v. Ok (TruthValue (place_at ts) v.0, v.1))
+    (number_at ts >>= λ n. Ok (Literal n.0, n.1)))
 
 -- what a reader reads where there is room for it, and else an obstacle at the place of what owes it
 unfoldable pub within : {A : Type 0} → (limit place : ℕ) → Read A → Read A
 within zero place read = Err (TooDeep place)
 within (suc limit) place read = read
 
--- An operand that no operator joins to another. `operand` reads what lies behind a sign or a parenthesis, at a level, no
--- deeper than the limit.
+-- An operand that no operator joins to another, at a level: `not` stands where no operator binds more tightly than it.
+-- `operand` reads what lies behind an operator or a parenthesis, at a level, no deeper than the limit.
 unfoldable pub parens_at : (ℕ → List Token → Read (Expression × List Token)) → ℕ → List Token → Read (Expression × List Token)
 parens_at operand limit ts = do
   inside ← after (kind.Symbol symbol.OpenParen) ts
@@ -245,14 +265,22 @@ parens_at operand limit ts = do
   rest ← after (kind.Symbol symbol.CloseParen) e.1
   Ok (Parens (place_at ts) e.0, rest)
 
-unfoldable pub negative_at : (ℕ → List Token → Read (Expression × List Token)) → ℕ → List Token → Read (Expression × List Token)
-negative_at operand limit ts = do
-  behind ← after (kind.Symbol symbol.Minus) ts
-  e ← within limit (place_at ts) (operand 7 behind)
-  Ok (Negative (place_at ts) e.0, e.1)
+unfoldable pub prefixed_at : Prefix → (ℕ → List Token → Read (Expression × List Token)) → ℕ → List Token → Read (Expression × List Token)
+prefixed_at o operand limit ts = do
+  behind ← after (prefix_kind o) ts
+  e ← within limit (place_at ts) (operand (prefix_rank o) behind)
+  Ok (Prefixed o (place_at ts) e.0, e.1)
 
-unfoldable pub primary_at : (ℕ → List Token → Read (Expression × List Token)) → ℕ → List Token → Read (Expression × List Token)
-primary_at operand limit ts = choose (begins (kind.Symbol symbol.OpenParen) ts) (parens_at operand limit ts) (choose (begins (kind.Symbol symbol.Minus) ts) (negative_at operand limit ts) (leaf_at ts))
+-- a prefix comes first, and may stand at the level
+abbrev pub begins_prefix : Prefix → ℕ → List Token → Bool
+begins_prefix o level ts = begins (prefix_kind o) ts && nat_le level (prefix_rank o)
+
+unfoldable pub primary_at : (ℕ → List Token → Read (Expression × List Token)) → (limit level : ℕ) → List Token → Read (Expression × List Token)
+primary_at operand limit level ts =
+    choose (begins (kind.Symbol symbol.OpenParen) ts) (parens_at operand limit ts)
+    (choose (begins_prefix prefix.Minus level ts) (prefixed_at prefix.Minus operand limit ts)
+    (choose (begins_prefix prefix.Not level ts) (prefixed_at prefix.Not operand limit ts)
+    (leaf_at ts)))
 
 -- What follows a left operand, as long as an operator of the level goes on with it. `more` counts the turns that are left.
 abbrev pub turns : (ℕ → List Token → Read (Expression × List Token)) → (limit more level : ℕ) → Expression → List Token → Read (Expression × List Token)
@@ -263,7 +291,7 @@ turns operand limit (suc more) level left ts = maybe (operator_at level left ts)
 -- An expression no deeper than the limit, at whose top no operator below the level stands
 unfoldable pub expression_at : ℕ → ℕ → List Token → Read (Expression × List Token)
 expression_at zero level ts = Err TooShort
-expression_at (suc limit) level ts = primary_at (expression_at limit) limit ts >>= λ e. turns (expression_at limit) (suc limit) (suc limit) level e.0 e.1
+expression_at (suc limit) level ts = primary_at (expression_at limit) limit level ts >>= λ e. turns (expression_at limit) (suc limit) (suc limit) level e.0 e.1
 
 -- what follows a left operand, within the limit
 unfoldable pub more_at : ℕ → ℕ → Expression → List Token → Read (Expression × List Token)
@@ -323,11 +351,11 @@ single_of (stmt.Send place p e) = SingleSend place p (expression_of e)
 single_of (stmt.If' place e shape block) = SingleIf place (expression_of e) (row_statements block)
 single_of (stmt.IfElse' place e shape block other_shape other) = SingleIfElse place (expression_of e) (row_statements block) (row_statements other)
 
-unfoldable pub assign_at : List Token → Read (Single × List Token)
-assign_at ts = do
+unfoldable pub assign_at : Limits → List Token → Read (Single × List Token)
+assign_at limits ts = do
   n ← name_at ts
   behind ← after (kind.Symbol symbol.Assign) n.1
-  e ← expression_at 64 0 behind
+  e ← expression_at limits.expression 0 behind
   rest ← after (kind.Symbol symbol.Semicolon) e.1
   Ok (SingleAssign n.0 e.0, rest)
 
@@ -338,11 +366,11 @@ goto_at ts = do
   rest ← after (kind.Symbol symbol.Semicolon) n.1
   Ok (SingleGoto (place_at ts) n.0, rest)
 
-unfoldable pub send_at : List Token → Read (Single × List Token)
-send_at ts = do
+unfoldable pub send_at : Limits → List Token → Read (Single × List Token)
+send_at limits ts = do
   behind ← after (kind.Keyword keyword.Send) ts
   n ← name_at behind
-  e ← expression_at 64 0 n.1
+  e ← expression_at limits.expression 0 n.1
   rest ← after (kind.Symbol symbol.Semicolon) e.1
   Ok (SingleSend (place_at ts) n.0 e.0, rest)
 
@@ -354,24 +382,24 @@ else_at block_at place e block ts = do
   Ok (SingleIfElse place e block other.0, other.1)
 
 -- The limit is that of the blocks.
-unfoldable pub if_at : (List Token → Read (Statements × List Token)) → ℕ → List Token → Read (Single × List Token)
-if_at block_at limit ts = do
+unfoldable pub if_at : Limits → (List Token → Read (Statements × List Token)) → ℕ → List Token → Read (Single × List Token)
+if_at limits block_at limit ts = do
   behind ← after (kind.Keyword keyword.If) ts
-  e ← within limit (place_at ts) (expression_at 64 0 behind)
+  e ← within limit (place_at ts) (expression_at limits.expression 0 behind)
   block ← block_at e.1
   choose (begins (kind.Keyword keyword.Else) block.1) (else_at block_at (place_at ts) e.0 block.0 block.1) (Ok (SingleIf (place_at ts) e.0 block.0, block.1))
 
-unfoldable pub statement_at : (List Token → Read (Statements × List Token)) → ℕ → List Token → Read (Single × List Token)
-statement_at block_at limit ts =
+unfoldable pub statement_at : Limits → (List Token → Read (Statements × List Token)) → ℕ → List Token → Read (Single × List Token)
+statement_at limits block_at limit ts =
     choose (begins (kind.Keyword keyword.Goto) ts) (goto_at ts)
-    (choose (begins (kind.Keyword keyword.Send) ts) (send_at ts)
-    (choose (begins (kind.Keyword keyword.If) ts) (if_at block_at limit ts)
-    (assign_at ts)))
+    (choose (begins (kind.Keyword keyword.Send) ts) (send_at limits ts)
+    (choose (begins (kind.Keyword keyword.If) ts) (if_at limits block_at limit ts)
+    (assign_at limits ts)))
 
 -- a block in which blocks lie in one another no deeper than the limit
-unfoldable pub block_at : ℕ → List Token → Read (Statements × List Token)
-block_at zero ts = Err TooShort
-block_at (suc limit) ts = braces_at (statement_at (block_at limit) limit) ts >>= λ x. Ok (joined x.0, x.1)
+unfoldable pub block_at : Limits → ℕ → List Token → Read (Statements × List Token)
+block_at limits zero ts = Err TooShort
+block_at limits (suc limit) ts = braces_at (statement_at limits (block_at limits limit) limit) ts >>= λ x. Ok (joined x.0, x.1)
 
 -- ---- Atomic models
 
@@ -393,6 +421,15 @@ variable_at ts = do
   rest ← after (kind.Symbol symbol.Semicolon) start.1
   Ok (record { name = n.0; low = low.0; high = high.0; start = start.0 }, rest)
 
+unfoldable pub flag_at : List Token → Read (Flag × List Token)
+flag_at ts = do
+  behind ← after (kind.Keyword keyword.Flag) ts
+  n ← name_at behind
+  equal ← after (kind.Symbol symbol.Equal) n.1
+  start ← truth_at equal
+  rest ← after (kind.Symbol symbol.Semicolon) start.1
+  Ok (record { name = n.0; start = start.0 }, rest)
+
 -- a comma and a name
 unfoldable pub further_name_at : List Token → Read (Name × List Token)
 further_name_at ts = after (kind.Symbol symbol.Comma) ts >>= λ behind. name_at behind
@@ -412,25 +449,25 @@ start_at ts = do
   rest ← after (kind.Symbol symbol.Semicolon) n.1
   Ok (Starts (record { place = place_at ts; phase = n.0 }), rest)
 
-unfoldable pub ticks_at : List Token → Read (Option Expression × List Token)
-ticks_at ts = choose (begins (kind.Keyword keyword.Forever) ts)
+unfoldable pub ticks_at : Limits → List Token → Read (Option Expression × List Token)
+ticks_at limits ts = choose (begins (kind.Keyword keyword.Forever) ts)
     (after (kind.Keyword keyword.Forever) ts >>= λ rest. Ok (None, rest))
-    (expression_at 64 0 ts >>= λ e. Ok (Some e.0, e.1))
+    (expression_at limits.expression 0 ts >>= λ e. Ok (Some e.0, e.1))
 
-unfoldable pub hold_at : List Token → Read (AtomicItem × List Token)
-hold_at ts = do
+unfoldable pub hold_at : Limits → List Token → Read (AtomicItem × List Token)
+hold_at limits ts = do
   behind ← after (kind.Keyword keyword.Hold) ts
   n ← name_at behind
   colon ← after (kind.Symbol symbol.Colon) n.1
-  ticks ← ticks_at colon
+  ticks ← ticks_at limits colon
   rest ← after (kind.Symbol symbol.Semicolon) ticks.1
   Ok (Holds (record { place = place_at ts; phase = n.0; ticks = ticks.0 }), rest)
 
-unfoldable pub rule_at : RuleSort → List Token → Read (AtomicItem × List Token)
-rule_at sort ts = do
+unfoldable pub rule_at : Limits → RuleSort → List Token → Read (AtomicItem × List Token)
+rule_at limits sort ts = do
   behind ← after (kind.Keyword (sort_word sort)) ts
   n ← name_at behind
-  body ← block_at 16 n.1
+  body ← block_at limits limits.block n.1
   Ok (Rules (record { sort = sort; phase = n.0; body = body.0 }), body.1)
 
 -- `out port;`
@@ -441,21 +478,22 @@ out_at ts = do
   rest ← after (kind.Symbol symbol.Semicolon) n.1
   Ok (n.0, rest)
 
-unfoldable pub item_at : List Token → Read (AtomicItem × List Token)
-item_at ts =
+unfoldable pub item_at : Limits → List Token → Read (AtomicItem × List Token)
+item_at limits ts =
     choose (begins (kind.Keyword keyword.Out) ts) (out_at ts >>= λ n. Ok (Declares (declaration.Out n.0), n.1))
     (choose (begins (kind.Keyword keyword.Var) ts) (variable_at ts >>= λ v. Ok (Declares (declaration.Var v.0), v.1))
+    (choose (begins (kind.Keyword keyword.Flag) ts) (flag_at ts >>= λ f. Ok (Declares (declaration.Flag f.0), f.1))
     (choose (begins (kind.Keyword keyword.Phases) ts) (phases_at ts)
     (choose (begins (kind.Keyword keyword.Start) ts) (start_at ts)
-    (choose (begins (kind.Keyword keyword.Hold) ts) (hold_at ts)
-    (choose (begins (kind.Keyword keyword.Output) ts) (rule_at sort.Output ts)
-    (rule_at sort.Internal ts))))))
+    (choose (begins (kind.Keyword keyword.Hold) ts) (hold_at limits ts)
+    (choose (begins (kind.Keyword keyword.Output) ts) (rule_at limits sort.Output ts)
+    (rule_at limits sort.Internal ts)))))))
 
-unfoldable pub atomic_at : List Token → Read ((Name × List AtomicItem) × List Token)
-atomic_at ts = do
+unfoldable pub atomic_at : Limits → List Token → Read ((Name × List AtomicItem) × List Token)
+atomic_at limits ts = do
   behind ← after (kind.Keyword keyword.Atomic) ts
   n ← name_at behind
-  items ← braces_at item_at n.1
+  items ← braces_at (item_at limits) n.1
   Ok ((n.0, items.0), items.1)
 
 -- ---- Coupled models
@@ -498,19 +536,19 @@ coupled_at ts = do
 
 -- ---- Files
 
-unfoldable pub model_at : List Token → Read (WrittenModel × List Token)
-model_at ts = choose (begins (kind.Keyword keyword.Coupled) ts)
+unfoldable pub model_at : Limits → List Token → Read (WrittenModel × List Token)
+model_at limits ts = choose (begins (kind.Keyword keyword.Coupled) ts)
     (coupled_at ts >>= λ m. Ok (WrittenCoupled m.0.0 m.0.1, m.1))
-    (atomic_at ts >>= λ m. Ok (WrittenAtomic m.0.0 m.0.1, m.1))
+    (atomic_at limits ts >>= λ m. Ok (WrittenAtomic m.0.0 m.0.1, m.1))
 
 abbrev pub is_end : List Token → Bool
 is_end [] = true
 is_end (t ∷ ts) = false
 
 -- a file, of all the tokens
-unfoldable pub file_at : List Token → Read WrittenFile
-file_at ts = do
-  models ← many_at model_at (kind.Keyword keyword.Root) ts
+unfoldable pub file_at : Limits → List Token → Read WrittenFile
+file_at limits ts = do
+  models ← many_at (model_at limits) (kind.Keyword keyword.Root) ts
   behind ← after (kind.Keyword keyword.Root) models.1
   n ← name_at behind
   rest ← after (kind.Symbol symbol.Semicolon) n.1
@@ -528,7 +566,7 @@ refusal_in (Err o) end = Some (refusal_of o end)
 
 -- the refusal of the tokens of a text that ends at this place, unless they are those of a file
 abbrev pub refusal_of_tokens : List Token → ℕ → Option Refusal
-refusal_of_tokens ts end = refusal_in (file_at ts) end
+refusal_of_tokens ts end = refusal_in (file_at the_limits ts) end
 
 -- the error is the answer to the tokens, or want of memory
 abbrev pub IsRefused : LoadError → List Token → ℕ → Type 0
@@ -585,7 +623,7 @@ atomic_tree_at ts = do
   behind ← after (kind.Keyword keyword.Atomic) ts
   n ← name_at behind
   inside ← after (kind.Symbol symbol.OpenBrace) n.1
-  m ← becoming (with_items (empty_atomic n.0)) (many_at item_at (kind.Symbol symbol.CloseBrace) inside)
+  m ← becoming (with_items (empty_atomic n.0)) (many_at (item_at the_limits) (kind.Symbol symbol.CloseBrace) inside)
   rest ← after (kind.Symbol symbol.CloseBrace) m.1
   Ok (m.0, rest)
 

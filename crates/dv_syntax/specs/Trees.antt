@@ -1,8 +1,9 @@
 -- Syntax trees without where they lie in memory, and the tree that a value of the code stands for. The items of a model are
 -- sorted by what they say, each kind in the order of the text: every question about a model is asked of these lists.
-use Rattle.std.specs.Prelude.{ℕ, List, [], ◌∷◌, Option, Some, None, map}
+use Rattle.std.specs.Prelude.{ℕ, Bool, List, [], ◌∷◌, Option, Some, None, map}
 use Rattle.dv_syntax.specs.declared.tree.Name.{Name}
 use Rattle.dv_syntax.specs.declared.tree.Number.{Number}
+use Rattle.dv_syntax.specs.declared.tree.Prefix.{Prefix}
 use Rattle.dv_syntax.specs.declared.tree.Operator.{Operator}
 use Rattle.dv_syntax.specs.declared.tree.Declaration.{Declaration}
 use Rattle.dv_syntax.specs.declared.tree.Start.{Start}
@@ -28,9 +29,10 @@ use Rattle.dv_syntax.specs.declared.tree.File.{File}
 -- an expression, with its parentheses
 pub data Expression : Type 0 where
   Literal : (number : Number) → Expression
+  TruthValue : (place : ℕ) → (value : Bool) → Expression
   Named : (name : Name) → Expression
   Parens : (place : ℕ) → (inner : Expression) → Expression
-  Negative : (place : ℕ) → (operand : Expression) → Expression
+  Prefixed : (operator : Prefix) → (place : ℕ) → (operand : Expression) → Expression
   Binary : (operator : Operator) → (left right : Expression) → Expression
 
 -- a list of statements: none, or one and the rest
@@ -58,7 +60,7 @@ pub record RuleTree : Type 0 where
   pub phase : Name
   pub body : Statements
 
--- an atomic model: ports and variables, which share their names; phases; starts; holds; rules
+-- an atomic model: ports, variables and flags, which share their names; phases; starts; holds; rules
 pub record AtomicTree : Type 0 where
   pub name : Name
   pub declarations : List Declaration
@@ -84,9 +86,10 @@ pub record FileTree : Type 0 where
 
 abbrev pub expression_of : Expr → Expression
 expression_of (expr.Literal n) = Literal n
+expression_of (expr.TruthValue place value) = TruthValue place value
 expression_of (expr.Named n) = Named n
 expression_of (expr.Parens' place p e) = Parens place (expression_of e)
-expression_of (expr.Negative' place p e) = Negative place (expression_of e)
+expression_of (expr.Prefixed' o place p e) = Prefixed o place (expression_of e)
 expression_of (expr.Binary' o p a q b) = Binary o (expression_of a) (expression_of b)
 
 abbrev mutual

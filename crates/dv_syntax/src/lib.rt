@@ -10,6 +10,6 @@ pub mod tree;
 
 pub use parser::parse;
 pub use tree::{
-    Atomic, Block, Bound, Coupled, Declaration, End, Expr, File, Hold, Link, Model, Name, Number,
-    Operator, Part, Phases, Rule, RuleSort, Start, Stmt, Ticks, Variable,
+    Atomic, Block, Bound, Coupled, Declaration, End, Expr, File, Flag, Hold, Link, Model, Name,
+    Number, Operator, Part, Phases, Prefix, Rule, RuleSort, Start, Stmt, Ticks, Variable,
 };

@@ -17,9 +17,18 @@ pub struct Number {
     pub place: u32,
 }
 
+/// An operator before its operand.
+#[derive(Clone, Copy, Debug, PartialEq, Eq)]
+pub enum Prefix {
+    Minus,
+    Not,
+}
+
 /// An operator between two operands.
 #[derive(Clone, Copy, Debug, PartialEq, Eq)]
 pub enum Operator {
+    Or,
+    And,
     Add,
     Subtract,
     Multiply,
@@ -37,12 +46,18 @@ pub enum Operator {
 #[derive(Debug, Drop)]
 pub enum Expr {
     Literal(Number),
+    /// `true` or `false`
+    TruthValue {
+        place: u32,
+        value: bool,
+    },
     Named(Name),
     Parens {
         place: u32,
         inner: Box<Expr>,
     },
-    Negative {
+    Prefixed {
+        operator: Prefix,
         place: u32,
         operand: Box<Expr>,
     },
@@ -111,13 +126,22 @@ pub struct Variable {
     pub start: Bound,
 }
 
-/// What declares a name that ports and variables share.
+/// `flag name = start;`
+#[derive(Clone, Copy, Debug, PartialEq, Eq)]
+pub struct Flag {
+    pub name: Name,
+    pub start: bool,
+}
+
+/// What declares a name that ports, variables and flags share.
 #[derive(Clone, Copy, Debug, PartialEq, Eq)]
 pub enum Declaration {
     /// `out port;`
     Out(Name),
     /// `var name: low..high = start;`
     Var(Variable),
+    /// `flag name = start;`
+    Flag(Flag),
 }
 
 /// `phases first, second, ..;` and the place of its first word.

@@ -41,7 +41,7 @@ datum_text (datum.Flag true) = codes "true"
 datum_text (datum.Flag false) = codes "false"
 datum_text (datum.Bag b) = 91 ∷ (values_text b ++ (93 ∷ []))
 
--- ` name=value` for each variable
+-- ` name=value` for each state variable
 abbrev pub variables_text : List (List ℕ) → List Datum → List ℕ
 variables_text names [] = []
 variables_text [] (d ∷ rest) = []

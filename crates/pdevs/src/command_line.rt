@@ -2,7 +2,7 @@
 
 ghost use Rattle.std.specs.Prelude.{◌≤◌, IfSome};
 
-use crate::request::{Request, RequestError, Run, Usage};
+use crate::request::{Check, Request, RequestError, Run, Usage};
 use clap::error::ErrorKind;
 use clap::{Arg, ArgAction, ArgMatches, Command};
 use dv_job::GREATEST_LIMIT;
@@ -16,6 +16,7 @@ pub fn request_of(alloc: Global, words: &[String]) -> Result<Request, RequestErr
         Err(error) => return Err(error_of(alloc, &error)),
     };
     match matches.subcommand() {
+        Some(("check", check)) => Ok(Request::Check(check_of(alloc, check)?)),
         Some((_, run)) => Ok(Request::Run(run_of(alloc, run)?)),
         None => Err(refused(alloc, "a subcommand is wanted")),
     }
@@ -23,10 +24,28 @@ pub fn request_of(alloc: Global, words: &[String]) -> Result<Request, RequestErr
 
 /// The command line that is read.
 fn command<'a>(alloc: Global) -> Result<Command<'a>, AllocError> {
-    let model = Arg::new(alloc, "model")
+    Command::new(alloc, "pdevs")
+        .bin_name("pdevs")?
+        .about("Checks and runs Parallel DEVS models")
+        .subcommand_required(true)
+        .subcommand(check_command(alloc)?)?
+        .subcommand(run_command(alloc)?)
+}
+
+fn model_argument<'a>(alloc: Global) -> Arg<'a> {
+    Arg::new(alloc, "model")
         .value_name("MODEL")
         .required(true)
-        .help("the file of the model");
+        .help("the file of the model")
+}
+
+fn check_command<'a>(alloc: Global) -> Result<Command<'a>, AllocError> {
+    Command::new(alloc, "check")
+        .about("Checks a model and prints the number of its components")
+        .arg(model_argument(alloc))
+}
+
+fn run_command<'a>(alloc: Global) -> Result<Command<'a>, AllocError> {
     let horizon = Arg::new(alloc, "horizon")
         .long("horizon")
         .value_name("H")
@@ -38,22 +57,28 @@ fn command<'a>(alloc: Global) -> Result<Command<'a>, AllocError> {
         .value_name("L")
         .action(ArgAction::Set)
         .help("the greatest microstep of a tick, 1 to 1000 (20)");
-    let run = Command::new(alloc, "run")
+    Command::new(alloc, "run")
         .about("Runs a model and prints its trace")
-        .arg(model)?
+        .arg(model_argument(alloc))?
         .arg(horizon)?
-        .arg(microsteps)?;
-    Command::new(alloc, "pdevs")
-        .bin_name("pdevs")?
-        .about("Runs Parallel DEVS models")
-        .subcommand_required(true)
-        .subcommand(run)
+        .arg(microsteps)
+}
+
+fn model_of(alloc: Global, matches: &ArgMatches) -> Result<String, RequestError> {
+    match matches.get_str("model") {
+        Some(model) => Ok(String::from_str(alloc, model)?),
+        None => Err(refused(alloc, "a model is wanted")),
+    }
+}
+
+fn check_of(alloc: Global, matches: &ArgMatches) -> Result<Check, RequestError> {
+    Ok(Check {
+        model: model_of(alloc, matches)?,
+    })
 }
 
 fn run_of(alloc: Global, matches: &ArgMatches) -> Result<Run, RequestError> {
-    let Some(model) = matches.get_str("model") else {
-        return Err(refused(alloc, "a model is wanted"));
-    };
+    let model = model_of(alloc, matches)?;
     let Some(horizon) = matches
         .get_str("horizon")
         .and_then(|text| number(text, GREATEST_TICK))
@@ -68,7 +93,7 @@ fn run_of(alloc: Global, matches: &ArgMatches) -> Result<Run, RequestError> {
         },
     };
     Ok(Run {
-        model: String::from_str(alloc, model)?,
+        model,
         horizon,
         microsteps,
     })

@@ -1,4 +1,4 @@
-//! The program: runs a model text and prints its trace.
+//! The program: checks model texts, and runs them and prints their traces.
 #![tactic(auto)]
 
 mod command_line;
@@ -8,9 +8,9 @@ mod request;
 mod tests;
 
 use command_line::request_of;
-use dv_job::{JobError, Options, run_plain};
+use dv_job::{JobError, Options, check_bytes, run_plain};
 use report::{line, status};
-use request::{Request, RequestError, Run};
+use request::{Check, Request, RequestError, Run};
 use std::io::Write;
 use std::process::ExitCode;
 use std::rt::Files;
@@ -22,6 +22,9 @@ const USUAL_LIMIT: u32 = 20;
 /// The packets that a link holds.
 const LINK_CAPACITY: u32 = 16;
 
+/// A model that is accepted.
+const ACCEPTED: u8 = 0;
+
 /// A model that is refused, or cannot be read or run.
 const REFUSED: u8 = 1;
 
@@ -31,6 +34,7 @@ const USAGE: u8 = 2;
 fn main(rt: HostRuntime) -> io::Result<ExitCode> {
     let words: Vec<String> = std::env::args(&rt)?.collect(rt.alloc())?;
     match request_of(rt.alloc(), words.as_slice()) {
+        Ok(Request::Check(check)) => Ok(ExitCode::from(check_model(&rt, &check)?)),
         Ok(Request::Run(run)) => Ok(ExitCode::from(run_model(&rt, &run)?)),
         Err(RequestError::Usage(usage)) => {
             eprint!(rt; "{}", usage.text)?;
@@ -43,10 +47,37 @@ fn main(rt: HostRuntime) -> io::Result<ExitCode> {
     }
 }
 
+/// The bytes of a file. Where it cannot be read, that is told.
+fn bytes_of<R: AllocGlobal + Files + Eprint>(rt: &R, name: &str) -> io::Result<Option<Vec<u8>>> {
+    match fs::read(rt, name) {
+        Ok(bytes) => Ok(Some(bytes)),
+        Err(_) => {
+            eprintln!(rt; "pdevs: cannot read {name}")?;
+            Ok(None)
+        }
+    }
+}
+
+/// Checks what was asked for, and answers the status.
+fn check_model<R: AllocGlobal + Files + Print + Eprint>(rt: &R, check: &Check) -> io::Result<u8> {
+    let Some(model) = bytes_of(rt, check.model.as_str())? else {
+        return Ok(REFUSED);
+    };
+    match check_bytes(rt.alloc(), &model) {
+        Ok(components) => {
+            println!(rt; "accepted {components}")?;
+            Ok(ACCEPTED)
+        }
+        Err(error) => {
+            eprintln!(rt; "{}", line(rt.alloc(), &error)?)?;
+            Ok(REFUSED)
+        }
+    }
+}
+
 /// Runs what was asked for, and answers the status.
 fn run_model<R: AllocGlobal + Files + Print + Eprint>(rt: &R, run: &Run) -> io::Result<u8> {
-    let Ok(model) = fs::read(rt, run.model.as_str()) else {
-        eprintln!(rt; "pdevs: cannot read {}", run.model)?;
+    let Some(model) = bytes_of(rt, run.model.as_str())? else {
         return Ok(REFUSED);
     };
     let limit = run.microsteps.unwrap_or(USUAL_LIMIT);

@@ -5,7 +5,15 @@ use std::alloc::AllocError;
 /// A subcommand with its values.
 #[derive(Debug, Drop)]
 pub enum Request {
+    Check(Check),
     Run(Run),
+}
+
+/// Check a model and print the number of its components.
+#[derive(Debug, Drop)]
+pub struct Check {
+    /// The file of the model.
+    pub model: String,
 }
 
 /// Run a model and print its trace.

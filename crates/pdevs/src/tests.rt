@@ -2,23 +2,40 @@
 
 use crate::command_line::request_of;
 use crate::report::{line, status};
-use crate::request::{Request, RequestError};
+use crate::request::{Request, RequestError, Run};
 use dv_job::{JobEnded, JobError, Options, run_plain};
 use std::alloc::{AllocError, Global};
-use std::test::Fail;
+use std::fmt::Debug;
+use std::process::Abort;
 
-// What is asked for by words behind the program's name: model, horizon and microstep limit, or usage.
-fn summary(alloc: Global, words: &[&str]) -> Result<String, AllocError> {
+// Fails the test where what was got differs from what is wanted.
+fn expect_same<T: PartialEq + Debug + Drop>(rt: &impl Abort, what: &str, got: T, wanted: T) {
+    assert_eq!(rt; got, wanted, "{what}");
+}
+
+// The words behind the program's name.
+fn command_line(alloc: Global, words: &[&str]) -> Result<Vec<String>, AllocError> {
     let mut all = Vec::new(alloc);
     all.push(String::from_str(alloc, "pdevs")?)?;
     for word in words {
         all.push(String::from_str(alloc, word)?)?;
     }
-    match request_of(alloc, &all) {
-        Ok(Request::Run(run)) => match run.microsteps {
-            None => format!(in alloc; "{} {}", run.model, run.horizon),
-            Some(limit) => format!(in alloc; "{} {} {limit}", run.model, run.horizon),
-        },
+    Ok(all)
+}
+
+// Model, horizon and microstep limit.
+fn run_text(alloc: Global, run: &Run) -> Result<String, AllocError> {
+    match run.microsteps {
+        None => format!(in alloc; "{} {}", run.model, run.horizon),
+        Some(limit) => format!(in alloc; "{} {} {limit}", run.model, run.horizon),
+    }
+}
+
+// What is asked for: a check, a run, or usage.
+fn summary(alloc: Global, words: &[String]) -> Result<String, AllocError> {
+    match request_of(alloc, words) {
+        Ok(Request::Check(check)) => format!(in alloc; "check {}", check.model),
+        Ok(Request::Run(run)) => run_text(alloc, &run),
         Err(RequestError::Usage(usage)) if usage.text.is_empty() => String::from_str(
             alloc, "nothing",
         ),
@@ -27,100 +44,120 @@ fn summary(alloc: Global, words: &[&str]) -> Result<String, AllocError> {
     }
 }
 
-#[test]
-fn a_run_is_asked_for(rt: HostRuntime) -> Result<(), Fail> {
-    let rows: [(&[&str], &str); 6] = [
-        (&["run", "m.pd", "--horizon", "12"], "m.pd 12"),
-        (
-            &["run", "--horizon=12", "m.pd", "--microsteps", "3"],
-            "m.pd 12 3",
-        ),
-        (
-            &[
-                "run",
-                "--microsteps=1000",
-                "m.pd",
-                "--horizon=1000000000000",
-            ],
-            "m.pd 1000000000000 1000",
-        ),
-        (
-            &["run", "m.pd", "--horizon", "000", "--microsteps", "01"],
-            "m.pd 0 1",
-        ),
-        (&["run", "--horizon", "5", "--", "-m"], "-m 5"),
-        (&["run", "-", "--horizon", "5"], "- 5"),
-    ];
+// Fails the test where the words of a row ask for something else than the row wants.
+fn rows<R: Abort + AllocGlobal>(rt: &R, rows: &[(&[&str], &str)]) {
     for (words, wanted) in rows {
-        assert_eq!(rt; summary(rt.alloc(), words)?.as_str(), wanted);
+        let all = command_line(rt.alloc(), words).expect(rt, "memory");
+        let got = summary(rt.alloc(), &all).expect(rt, "memory");
+        assert_eq!(rt; got.as_str(), *wanted, "{words:?}");
     }
-    Ok(())
 }
 
 #[test]
-fn other_words_are_usage(rt: HostRuntime) -> Result<(), Fail> {
-    let rows: [&[&str]; 20] = [
-        &[],
-        &["help"],
-        &["--help"],
-        &["run", "--help"],
-        &["-h"],
-        &["walk", "m.pd", "--horizon", "5"],
-        &["run", "--horizon", "5"],
-        &["run", "m.pd"],
-        &["run", "m.pd", "--horizon"],
-        &["run", "m.pd", "n.pd", "--horizon", "5"],
-        &["run", "m.pd", "--horizon", "5", "--horizon", "5"],
-        &["run", "m.pd", "--horizon", "5", "--speed", "5"],
-        &["run", "m.pd", "--hor", "5"],
-        &["run", "m.pd", "--horizon", "1000000000001"],
-        &["run", "m.pd", "--horizon", "+5"],
-        &["run", "m.pd", "--horizon", "-5"],
-        &["run", "m.pd", "--horizon", ""],
-        &["run", "m.pd", "--horizon", "\u{665}"],
-        &["run", "m.pd", "--horizon", "5", "--microsteps", "0"],
-        &["run", "m.pd", "--horizon", "5", "--microsteps", "1001"],
-    ];
-    for words in rows {
-        assert_eq!(rt; summary(rt.alloc(), words)?.as_str(), "usage");
-    }
-    Ok(())
-}
-
-#[test]
-fn endings_have_statuses_and_lines(rt: HostRuntime) -> Result<(), Fail> {
-    assert_eq!(rt; status(&Ok(JobEnded::Whole)), 0);
-    assert_eq!(rt; status(&Ok(JobEnded::Faulted)), 3);
-    assert_eq!(rt; status(&Err(JobError::Write)), 1);
-    assert_eq!(rt;
-        line(rt.alloc(), &JobError::Write)?.as_str(),
-        "pdevs: write"
+fn a_check_is_asked_for(rt: HostRuntime) {
+    rows(
+        &rt,
+        &[
+            (&["check", "m.pd"], "check m.pd"),
+            (&["check", "--", "-m"], "check -m"),
+            (&["check"], "usage"),
+            (&["check", "m.pd", "n.pd"], "usage"),
+            (&["check", "m.pd", "--horizon", "5"], "usage"),
+        ],
     );
-    assert_eq!(rt; line(rt.alloc(), &JobError::Memory)?.as_str(), "pdevs: E18");
-    Ok(())
-}
-
-// What the program reports of a text that it runs.
-fn report_of(alloc: Global, model: &[u8]) -> Result<String, AllocError> {
-    let Some(options) = Options::new(5, 20, None, None, 16) else {
-        return String::from_str(alloc, "no options");
-    };
-    let mut written = Vec::new(alloc);
-    let outcome = run_plain(alloc, model, &options, &mut written);
-    match &outcome {
-        Ok(_) => format!(in alloc; "{} bytes, status {}", written.len(), status(&outcome)),
-        Err(error) => format!(in alloc;
-            "{} bytes, {}, status {}",
-            written.len(),
-            line(alloc, error)?,
-            status(&outcome)
-        ),
-    }
 }
 
 #[test]
-fn a_refusal_is_reported_with_its_line(rt: HostRuntime) -> Result<(), Fail> {
-    let report = report_of(rt.alloc(), b"root Top;\n?")?;
-    assert_eq!(rt; report.as_str(), "0 bytes, pdevs: E2 line 2, status 1");
-    Ok(())
+fn a_run_is_asked_for(rt: HostRuntime) {
+    rows(
+        &rt,
+        &[
+            (&["run", "m.pd", "--horizon", "12"], "m.pd 12"),
+            (
+                &["run", "--horizon=12", "m.pd", "--microsteps", "3"],
+                "m.pd 12 3",
+            ),
+            (
+                &[
+                    "run",
+                    "--microsteps=1000",
+                    "m.pd",
+                    "--horizon=1000000000000",
+                ],
+                "m.pd 1000000000000 1000",
+            ),
+            (
+                &["run", "m.pd", "--horizon", "000", "--microsteps", "01"],
+                "m.pd 0 1",
+            ),
+            (&["run", "--horizon", "5", "--", "-m"], "-m 5"),
+            (&["run", "-", "--horizon", "5"], "- 5"),
+        ],
+    );
+}
+
+#[test]
+fn other_words_are_usage(rt: HostRuntime) {
+    rows(
+        &rt,
+        &[
+            (&[], "usage"),
+            (&["help"], "usage"),
+            (&["--help"], "usage"),
+            (&["run", "--help"], "usage"),
+            (&["-h"], "usage"),
+            (&["walk", "m.pd", "--horizon", "5"], "usage"),
+            (&["run", "--horizon", "5"], "usage"),
+            (&["run", "m.pd"], "usage"),
+            (&["run", "m.pd", "--horizon"], "usage"),
+            (&["run", "m.pd", "n.pd", "--horizon", "5"], "usage"),
+            (
+                &["run", "m.pd", "--horizon", "5", "--horizon", "5"],
+                "usage",
+            ),
+            (&["run", "m.pd", "--horizon", "5", "--speed", "5"], "usage"),
+            (&["run", "m.pd", "--hor", "5"], "usage"),
+            (&["run", "m.pd", "--horizon", "1000000000001"], "usage"),
+            (&["run", "m.pd", "--horizon", "+5"], "usage"),
+            (&["run", "m.pd", "--horizon", "-5"], "usage"),
+            (&["run", "m.pd", "--horizon", ""], "usage"),
+            (&["run", "m.pd", "--horizon", "\u{665}"], "usage"),
+            (
+                &["run", "m.pd", "--horizon", "5", "--microsteps", "0"],
+                "usage",
+            ),
+            (
+                &["run", "m.pd", "--horizon", "5", "--microsteps", "1001"],
+                "usage",
+            ),
+        ],
+    );
+}
+
+// The line that tells an error.
+fn same_line<R: Abort + AllocGlobal>(rt: &R, error: &JobError, wanted: &str) {
+    let got = line(rt.alloc(), error).expect(rt, "memory");
+    expect_same(rt, "the line of an error", got.as_str(), wanted);
+}
+
+#[test]
+fn endings_have_statuses_and_lines(rt: HostRuntime) {
+    expect_same(&rt, "whole", status(&Ok(JobEnded::Whole)), 0);
+    expect_same(&rt, "faulted", status(&Ok(JobEnded::Faulted)), 3);
+    expect_same(&rt, "no write", status(&Err(JobError::Write)), 1);
+    same_line(&rt, &JobError::Write, "pdevs: write");
+    same_line(&rt, &JobError::Memory, "pdevs: E18");
+}
+
+#[test]
+fn a_refusal_is_reported_with_its_line(rt: HostRuntime) {
+    let options = Options::new(5, 20, None, None, 16).expect(&rt, "options");
+    let mut written = Vec::new(rt.alloc());
+    let outcome = run_plain(rt.alloc(), b"root Top;\n?", &options, &mut written);
+    expect_same(&rt, "what was written", written.as_slice(), [].as_slice());
+    expect_same(&rt, "a refusal", status(&outcome), 1);
+    match &outcome {
+        Err(error) => same_line(&rt, error, "pdevs: E2 line 2"),
+        Ok(_) => panic!(rt; "the text is taken"),
+    }
 }

@@ -2,17 +2,18 @@
 
 ghost use Rattle.std.specs.Prelude.{◌≡◌, [], OnOk, IfErr};
 ghost use Rattle.dv_syntax.specs.Trees.{ticks_of, atomic_of};
-ghost use Rattle.dv_syntax.specs.Grammar.{sort_word};
-ghost use Rattle.dv_syntax.specs.Reading.{Gives, with_front, many_at, braces_at, bound_at, variable_at, further_name_at, phases_at, start_at, ticks_at, hold_at, rule_at, out_at, item_at, item_of, with_item, with_items, empty_atomic, becoming, atomic_tree_at};
+ghost use Rattle.dv_syntax.specs.Grammar.{the_limits, sort_word};
+ghost use Rattle.dv_syntax.specs.Reading.{Gives, with_front, many_at, braces_at, bound_at, variable_at, flag_at, further_name_at, phases_at, start_at, ticks_at, hold_at, rule_at, out_at, item_at, item_of, with_item, with_items, empty_atomic, becoming, atomic_tree_at};
 
 use super::expression::expression;
 use super::parse_error::ParseError;
 use super::statement::block;
 use super::token::{
-    after_keyword, after_symbol, begins_with_keyword, begins_with_symbol, first_place, name, number,
+    after_keyword, after_symbol, begins_with_keyword, begins_with_symbol, first_place, name,
+    number, truth,
 };
 use crate::tree::{
-    Atomic, Bound, Declaration, Hold, Name, Phases, Rule, RuleSort, Start, Ticks, Variable,
+    Atomic, Bound, Declaration, Flag, Hold, Name, Phases, Rule, RuleSort, Start, Ticks, Variable,
 };
 use dv_lex::{Keyword, Symbol, Token, TokenKind};
 use std::alloc::Global;
@@ -98,6 +99,19 @@ fn variable(tokens: &[Token]) -> Result<(Variable, &[Token]), ParseError>
     ))
 }
 
+/// `flag name = start;`
+#[tactic(auto, unfolding(crate::specs::Reading::flag_at, crate::specs::Reading::read_then))]
+fn flag(tokens: &[Token]) -> Result<(Flag, &[Token]), ParseError>
+    ensures { Gives (λ x. (x.0, x.1.now)) result (flag_at tokens.now) }
+{
+    let rest = after_keyword(tokens, Keyword::Flag)?;
+    let (name, rest) = name(rest)?;
+    let rest = after_symbol(rest, Symbol::Equal)?;
+    let (start, rest) = truth(rest)?;
+    let rest = after_symbol(rest, Symbol::Semicolon)?;
+    Ok((Flag { name, start }, rest))
+}
+
 /// A comma and a name.
 #[tactic(auto, unfolding(crate::specs::Reading::further_name_at, crate::specs::Reading::read_then))]
 fn further_name(tokens: &[Token]) -> Result<(Name, &[Token]), ParseError>
@@ -155,7 +169,7 @@ fn start(tokens: &[Token]) -> Result<(AtomicItem, &[Token]), ParseError>
 /// `forever`, or an expression.
 #[tactic(auto, unfolding(crate::specs::Reading::ticks_at, crate::specs::Reading::read_then, crate::specs::Reading::choose))]
 fn ticks(alloc: Global, tokens: &[Token]) -> Result<(Ticks, &[Token]), ParseError>
-    ensures { Gives (λ x. (ticks_of x.0, x.1.now)) result (ticks_at tokens.now) }
+    ensures { Gives (λ x. (ticks_of x.0, x.1.now)) result (ticks_at the_limits tokens.now) }
 {
     if begins_with_keyword(tokens, Keyword::Forever) {
         let rest = after_keyword(tokens, Keyword::Forever)?;
@@ -169,7 +183,7 @@ fn ticks(alloc: Global, tokens: &[Token]) -> Result<(Ticks, &[Token]), ParseErro
 /// `hold phase: ticks;`
 #[tactic(auto, unfolding(crate::specs::Reading::hold_at, crate::specs::Reading::read_then))]
 fn hold(alloc: Global, tokens: &[Token]) -> Result<(AtomicItem, &[Token]), ParseError>
-    ensures { Gives (λ x. (item_of x.0, x.1.now)) result (hold_at tokens.now) }
+    ensures { Gives (λ x. (item_of x.0, x.1.now)) result (hold_at the_limits tokens.now) }
 {
     let place = first_place(tokens);
     let rest = after_keyword(tokens, Keyword::Hold)?;
@@ -202,7 +216,7 @@ fn rule(
     tokens: &[Token],
     sort: RuleSort,
 ) -> Result<(AtomicItem, &[Token]), ParseError>
-    ensures { Gives (λ x. (item_of x.0, x.1.now)) result (rule_at sort tokens.now) }
+    ensures { Gives (λ x. (item_of x.0, x.1.now)) result (rule_at the_limits sort tokens.now) }
 {
     let rest = after_keyword(tokens, word_of(sort))?;
     let (phase, rest) = name(rest)?;
@@ -224,7 +238,7 @@ pub fn out(tokens: &[Token]) -> Result<(Name, &[Token]), ParseError>
 /// An item at the front.
 #[tactic(auto, unfolding(crate::specs::Reading::item_at, crate::specs::Reading::read_then, crate::specs::Reading::choose))]
 fn item(alloc: Global, tokens: &[Token]) -> Result<(AtomicItem, &[Token]), ParseError>
-    ensures { Gives (λ x. (item_of x.0, x.1.now)) result (item_at tokens.now) }
+    ensures { Gives (λ x. (item_of x.0, x.1.now)) result (item_at the_limits tokens.now) }
 {
     if begins_with_keyword(tokens, Keyword::Out) {
         let (port, rest) = out(tokens)?;
@@ -235,6 +249,9 @@ fn item(alloc: Global, tokens: &[Token]) -> Result<(AtomicItem, &[Token]), Parse
             Err(e) => return Err(e),
         };
         Ok((AtomicItem::Declares(Declaration::Var(variable)), rest))
+    } else if begins_with_keyword(tokens, Keyword::Flag) {
+        let (flag, rest) = flag(tokens)?;
+        Ok((AtomicItem::Declares(Declaration::Flag(flag)), rest))
     } else if begins_with_keyword(tokens, Keyword::Phases) {
         phases(alloc, tokens)
     } else if begins_with_keyword(tokens, Keyword::Start) {
@@ -272,7 +289,7 @@ fn items(
 ) -> Result<(Atomic, &[Token]), ParseError>
     ensures { Gives (λ x. (atomic_of x.0, x.1.now)) result
         (becoming (with_items (atomic_of atomic))
-        (many_at item_at (TokenKind.Symbol Symbol.CloseBrace) tokens.now)) }
+        (many_at (item_at the_limits) (TokenKind.Symbol Symbol.CloseBrace) tokens.now)) }
 {
     let mut rest = tokens;
     while !begins_with_symbol(rest, Symbol::CloseBrace) {

@@ -2,21 +2,22 @@
 
 ghost use Rattle.std.specs.Prelude.{◌≡◌, ◌+◌, ◌-◌, ◌<◌, ◌≤◌, IfOk, MatchOption, None, Some};
 ghost use Rattle.dv_syntax.specs.Trees.{expression_of};
-ghost use Rattle.dv_syntax.specs.Grammar.{operator_rank, left_rank, rank, depth};
-ghost use Rattle.dv_syntax.specs.Reading.{Gives, operator_of, goes_on, operator_at, place_at, leaf_at, parens_at, negative_at, primary_at, expression_at};
+ghost use Rattle.dv_syntax.specs.Grammar.{prefix_kind, prefix_rank, operator_rank, left_rank, rank, depth};
+ghost use Rattle.dv_syntax.specs.Reading.{Gives, operator_of, keyword_operator, symbol_operator, goes_on, operator_at, place_at, leaf_at, parens_at, prefixed_at, begins_prefix, primary_at, expression_at};
 
 use super::parse_error::ParseError;
-use super::token::{after_symbol, begins_with_name, begins_with_symbol, first_place, name, number};
-use crate::tree::{Expr, Operator};
-use dv_lex::{Symbol, Token, TokenKind};
+use super::token::{
+    after_kind, after_symbol, begins_with, begins_with_name, begins_with_symbol, begins_with_truth,
+    first_place, name, number, truth,
+};
+use crate::tree::{Expr, Operator, Prefix};
+use dv_lex::{Keyword, Symbol, Token, TokenKind};
 use std::alloc::Global;
 
 /// The greatest depth of an expression.
 const DEPTH_LIMIT: u32 = 64;
 
-/// How tightly expressions hold together behind a minus sign, and with no operator at the top.
-const PREFIXED: u32 = 7;
-
+/// How tightly an expression holds together with no operator at the top.
 const SINGLE: u32 = 8;
 
 /// The operator that a token stands for between two operands.
@@ -24,9 +25,26 @@ const SINGLE: u32 = 8;
 fn operator(kind: TokenKind) -> Option<Operator>
     ensures { result ≡ operator_of kind }
 {
-    let TokenKind::Symbol(symbol) = kind else {
-        return None;
-    };
+    match kind {
+        TokenKind::Keyword(word) => operator_of_word(word),
+        TokenKind::Symbol(symbol) => operator_of_symbol(symbol),
+        TokenKind::Name(_) | TokenKind::Number(_) => None,
+    }
+}
+
+fn operator_of_word(word: Keyword) -> Option<Operator>
+    ensures { result ≡ keyword_operator word }
+{
+    match word {
+        Keyword::Or => Some(Operator::Or),
+        Keyword::And => Some(Operator::And),
+        _ => None,
+    }
+}
+
+fn operator_of_symbol(symbol: Symbol) -> Option<Operator>
+    ensures { result ≡ symbol_operator symbol }
+{
     match symbol {
         Symbol::Plus => Some(Operator::Add),
         Symbol::Minus => Some(Operator::Subtract),
@@ -49,6 +67,8 @@ fn rank_of_operator(operator: Operator) -> u32
     ensures small { result ≤ 6 }
 {
     match operator {
+        Operator::Or => 1,
+        Operator::And => 2,
         Operator::Add | Operator::Subtract => 5,
         Operator::Multiply | Operator::Divide | Operator::Remainder => 6,
         Operator::Equal
@@ -65,8 +85,31 @@ fn least_left_rank(operator: Operator) -> u32
     ensures { result ≡ left_rank operator }
 {
     match operator {
+        Operator::Or => 1,
+        Operator::And => 2,
         Operator::Multiply | Operator::Divide | Operator::Remainder => 6,
         _ => 5,
+    }
+}
+
+/// The token of an operator before its operand.
+fn kind_of_prefix(operator: Prefix) -> TokenKind
+    ensures { result ≡ prefix_kind operator }
+{
+    match operator {
+        Prefix::Minus => TokenKind::Symbol(Symbol::Minus),
+        Prefix::Not => TokenKind::Keyword(Keyword::Not),
+    }
+}
+
+/// How tightly an operator before its operand binds.
+fn rank_of_prefix(operator: Prefix) -> u32
+    ensures value { result ≡ prefix_rank operator }
+    ensures small { result ≤ 7 }
+{
+    match operator {
+        Prefix::Minus => 7,
+        Prefix::Not => 3,
     }
 }
 
@@ -76,8 +119,8 @@ fn rank_of(expression: &Expr) -> u32
 {
     match expression {
         Expr::Binary { operator, .. } => rank_of_operator(*operator),
-        Expr::Negative { .. } => PREFIXED,
-        Expr::Literal(_) | Expr::Named(_) | Expr::Parens { .. } => SINGLE,
+        Expr::Prefixed { operator, .. } => rank_of_prefix(*operator),
+        Expr::Literal(_) | Expr::TruthValue { .. } | Expr::Named(_) | Expr::Parens { .. } => SINGLE,
     }
 }
 
@@ -104,7 +147,7 @@ fn next_operator<'a>(
     }
 }
 
-/// A name or a number, and what follows it.
+/// A name, a truth value or a number, and what follows it.
 #[tactic(auto, unfolding(crate::specs::Reading::leaf_at, crate::specs::Reading::read_then, crate::specs::Reading::choose))]
 fn leaf(tokens: &[Token]) -> Result<(Expr, &[Token]), ParseError>
     ensures gives { Gives (λ x. (expression_of x.0, x.1.now)) result (leaf_at tokens.now) }
@@ -113,6 +156,10 @@ fn leaf(tokens: &[Token]) -> Result<(Expr, &[Token]), ParseError>
     if begins_with_name(tokens) {
         let (name, rest) = name(tokens)?;
         Ok((Expr::Named(name), rest))
+    } else if begins_with_truth(tokens) {
+        let place = first_place(tokens);
+        let (value, rest) = truth(tokens)?;
+        Ok((Expr::TruthValue { place, value }, rest))
     } else {
         let (number, rest) = match number(tokens) {
             Ok(read) => read,
@@ -144,46 +191,66 @@ fn parens(alloc: Global, tokens: &[Token], limit: u32) -> Result<(Expr, u32, &[T
     Ok((Expr::Parens { place, inner }, depth + 1, rest))
 }
 
-/// An operand behind a minus sign.
+/// An operand behind its operator.
 #[cycle(expression)]
-#[tactic(auto, unfolding(crate::specs::Reading::negative_at, crate::specs::Reading::within, crate::specs::Reading::read_then))]
-fn negative(
+#[tactic(auto, unfolding(crate::specs::Reading::prefixed_at, crate::specs::Reading::within, crate::specs::Reading::read_then))]
+fn prefixed(
     alloc: Global,
     tokens: &[Token],
+    operator: Prefix,
     limit: u32,
 ) -> Result<(Expr, u32, &[Token]), ParseError>
     requires positive { 0 < limit }
     requires bounded { limit ≤ 64 }
     ensures gives { Gives (λ x. (expression_of x.0, x.2.now)) result
-        (negative_at (expression_at (limit - 1)) (limit - 1) tokens.now) }
+        (prefixed_at operator (expression_at (limit - 1)) (limit - 1) tokens.now) }
     ensures depth { IfOk result (λ x. x.1 ≡ depth (expression_of x.0)) }
     ensures within { IfOk result (λ x. (0 < x.1) × (x.1 ≤ limit)) }
 {
     let place = first_place(tokens);
-    let behind = after_symbol(tokens, Symbol::Minus)?;
+    let behind = after_kind(tokens, kind_of_prefix(operator))?;
     if limit == 1 {
         return Err(ParseError::TooDeep(place));
     }
-    let (operand, depth, rest) = within(alloc, behind, limit - 1, PREFIXED)?;
+    let (operand, depth, rest) = within(alloc, behind, limit - 1, rank_of_prefix(operator))?;
     let operand = Box::new(alloc, operand)?;
-    Ok((Expr::Negative { place, operand }, depth + 1, rest))
+    let expression = Expr::Prefixed {
+        operator,
+        place,
+        operand,
+    };
+    Ok((expression, depth + 1, rest))
+}
+
+/// Whether an operator before its operand comes first, and may stand at the level.
+fn begins_with_prefix(tokens: &[Token], operator: Prefix, level: u32) -> bool
+    ensures { result ≡ begins_prefix operator level tokens.now }
+{
+    begins_with(tokens, kind_of_prefix(operator)) && level <= rank_of_prefix(operator)
 }
 
 /// An operand that no operator joins to another.
 #[cycle(expression)]
 #[tactic(auto, unfolding(crate::specs::Reading::primary_at, crate::specs::Reading::choose))]
-fn primary(alloc: Global, tokens: &[Token], limit: u32) -> Result<(Expr, u32, &[Token]), ParseError>
+fn primary(
+    alloc: Global,
+    tokens: &[Token],
+    limit: u32,
+    level: u32,
+) -> Result<(Expr, u32, &[Token]), ParseError>
     requires positive { 0 < limit }
     requires bounded { limit ≤ 64 }
     ensures gives { Gives (λ x. (expression_of x.0, x.2.now)) result
-        (primary_at (expression_at (limit - 1)) (limit - 1) tokens.now) }
+        (primary_at (expression_at (limit - 1)) (limit - 1) level tokens.now) }
     ensures depth { IfOk result (λ x. x.1 ≡ depth (expression_of x.0)) }
     ensures within { IfOk result (λ x. (0 < x.1) × (x.1 ≤ limit)) }
 {
     if begins_with_symbol(tokens, Symbol::OpenParen) {
         parens(alloc, tokens, limit)
-    } else if begins_with_symbol(tokens, Symbol::Minus) {
-        negative(alloc, tokens, limit)
+    } else if begins_with_prefix(tokens, Prefix::Minus, level) {
+        prefixed(alloc, tokens, Prefix::Minus, limit)
+    } else if begins_with_prefix(tokens, Prefix::Not, level) {
+        prefixed(alloc, tokens, Prefix::Not, limit)
     } else {
         let (expression, rest) = leaf(tokens)?;
         Ok((expression, 1, rest))
@@ -207,7 +274,7 @@ fn within(
     ensures depth { IfOk result (λ x. x.1 ≡ depth (expression_of x.0)) }
     ensures within { IfOk result (λ x. (0 < x.1) × (x.1 ≤ limit)) }
 {
-    let (mut left, mut depth, mut rest) = primary(alloc, tokens, limit)?;
+    let (mut left, mut depth, mut rest) = primary(alloc, tokens, limit, level)?;
     while let Some((operator, place, after)) = next_operator(rest, level, &left) {
         if depth >= limit {
             return Err(ParseError::TooDeep(place));

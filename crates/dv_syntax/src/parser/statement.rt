@@ -2,6 +2,7 @@
 
 ghost use Rattle.std.specs.Prelude.{◌-◌, ◌<◌, ◌≤◌, map};
 ghost use Rattle.dv_syntax.specs.Trees.{block_of};
+ghost use Rattle.dv_syntax.specs.Grammar.{the_limits};
 ghost use Rattle.dv_syntax.specs.Reading.{Gives, single_of, many_at, assign_at, goto_at, send_at, if_at, statement_at, braces_at, block_at};
 
 use super::expression::expression;
@@ -16,7 +17,7 @@ use std::alloc::Global;
 /// `variable := value;`
 #[tactic(auto, unfolding(crate::specs::Reading::assign_at, crate::specs::Reading::read_then))]
 fn assign(alloc: Global, tokens: &[Token]) -> Result<(Stmt, &[Token]), ParseError>
-    ensures { Gives (λ x. (single_of x.0, x.1.now)) result (assign_at tokens.now) }
+    ensures { Gives (λ x. (single_of x.0, x.1.now)) result (assign_at the_limits tokens.now) }
 {
     let (variable, rest) = name(tokens)?;
     let rest = after_symbol(rest, Symbol::Assign)?;
@@ -40,7 +41,7 @@ fn goto(tokens: &[Token]) -> Result<(Stmt, &[Token]), ParseError>
 /// `send port value;`
 #[tactic(auto, unfolding(crate::specs::Reading::send_at, crate::specs::Reading::read_then))]
 fn send(alloc: Global, tokens: &[Token]) -> Result<(Stmt, &[Token]), ParseError>
-    ensures { Gives (λ x. (single_of x.0, x.1.now)) result (send_at tokens.now) }
+    ensures { Gives (λ x. (single_of x.0, x.1.now)) result (send_at the_limits tokens.now) }
 {
     let place = first_place(tokens);
     let rest = after_keyword(tokens, Keyword::Send)?;
@@ -56,7 +57,7 @@ fn send(alloc: Global, tokens: &[Token]) -> Result<(Stmt, &[Token]), ParseError>
 fn if_statement(alloc: Global, tokens: &[Token], limit: u32) -> Result<(Stmt, &[Token]), ParseError>
     requires { 0 < limit }
     ensures { Gives (λ x. (single_of x.0, x.1.now)) result
-        (if_at (block_at (limit - 1)) (limit - 1) tokens.now) }
+        (if_at the_limits (block_at the_limits (limit - 1)) (limit - 1) tokens.now) }
 {
     let place = first_place(tokens);
     let rest = after_keyword(tokens, Keyword::If)?;
@@ -95,7 +96,7 @@ fn if_statement(alloc: Global, tokens: &[Token], limit: u32) -> Result<(Stmt, &[
 fn statement(alloc: Global, tokens: &[Token], limit: u32) -> Result<(Stmt, &[Token]), ParseError>
     requires { 0 < limit }
     ensures { Gives (λ x. (single_of x.0, x.1.now)) result
-        (statement_at (block_at (limit - 1)) (limit - 1) tokens.now) }
+        (statement_at the_limits (block_at the_limits (limit - 1)) (limit - 1) tokens.now) }
 {
     if begins_with_keyword(tokens, Keyword::Goto) {
         goto(tokens)
@@ -117,7 +118,7 @@ fn statements(
 ) -> Result<(Vec<Stmt>, &[Token]), ParseError>
     requires { 0 < limit }
     ensures { Gives (λ x. (map single_of x.0.items, x.1.now)) result
-        (many_at (statement_at (block_at (limit - 1)) (limit - 1))
+        (many_at (statement_at the_limits (block_at the_limits (limit - 1)) (limit - 1))
         (TokenKind.Symbol Symbol.CloseBrace) tokens.now) }
 {
     let mut statements = Vec::new(alloc);
@@ -140,7 +141,8 @@ fn braced_statements(
 ) -> Result<(Vec<Stmt>, &[Token]), ParseError>
     requires { 0 < limit }
     ensures { Gives (λ x. (map single_of x.0.items, x.1.now)) result
-        (braces_at (statement_at (block_at (limit - 1)) (limit - 1)) tokens.now) }
+        (braces_at (statement_at the_limits (block_at the_limits (limit - 1)) (limit - 1))
+        tokens.now) }
 {
     let inside = after_symbol(tokens, Symbol::OpenBrace)?;
     let (statements, rest) = statements(alloc, inside, limit)?;
@@ -152,7 +154,7 @@ fn braced_statements(
 #[cycle(block)]
 pub fn block(alloc: Global, tokens: &[Token], limit: u32) -> Result<(Block, &[Token]), ParseError>
     requires { 0 < limit }
-    ensures { Gives (λ x. (block_of x.0, x.1.now)) result (block_at limit tokens.now) }
+    ensures { Gives (λ x. (block_of x.0, x.1.now)) result (block_at the_limits limit tokens.now) }
 {
     let (statements, rest) = braced_statements(alloc, tokens, limit)?;
     Ok((Block { statements }, rest))

@@ -1,7 +1,7 @@
 //! Single tokens.
 
 ghost use Rattle.std.specs.Prelude.{◌≡◌};
-ghost use Rattle.dv_syntax.specs.Reading.{Gives, IsParseError, obstacle_at, same_kind, begins, begins_name, after, place_at, name_at, number_at};
+ghost use Rattle.dv_syntax.specs.Reading.{Gives, IsParseError, obstacle_at, same_kind, begins, begins_name, begins_truth, after, place_at, name_at, truth_at, number_at};
 
 use super::parse_error::ParseError;
 use crate::tree::{Name, Number};
@@ -14,7 +14,7 @@ fn is_same(first: TokenKind, second: TokenKind) -> bool
 }
 
 /// Whether a token of this kind comes first.
-fn begins_with(tokens: &[Token], kind: TokenKind) -> bool
+pub fn begins_with(tokens: &[Token], kind: TokenKind) -> bool
     ensures { result ≡ begins kind tokens.now }
 {
     match tokens {
@@ -50,6 +50,13 @@ pub fn begins_with_name(tokens: &[Token]) -> bool
     )
 }
 
+/// Whether `true` or `false` comes first.
+pub fn begins_with_truth(tokens: &[Token]) -> bool
+    ensures { result ≡ begins_truth tokens.now }
+{
+    begins_with_keyword(tokens, Keyword::True) || begins_with_keyword(tokens, Keyword::False)
+}
+
 /// The place of the first token.
 #[tactic(auto, unfolding(crate::specs::Reading::place_at))]
 pub fn first_place(tokens: &[Token]) -> u32
@@ -74,7 +81,7 @@ pub fn unexpected(tokens: &[Token]) -> ParseError
 
 /// The tokens after one of this kind.
 #[tactic(auto, unfolding(crate::specs::Reading::after, crate::specs::Reading::obstacle_at, crate::specs::Reading::choose))]
-fn after_kind(tokens: &[Token], kind: TokenKind) -> Result<&[Token], ParseError>
+pub fn after_kind(tokens: &[Token], kind: TokenKind) -> Result<&[Token], ParseError>
     ensures { Gives (λ rest. rest.now) result (after kind tokens.now) }
 {
     if !begins_with(tokens, kind) {
@@ -138,5 +145,19 @@ pub fn number(tokens: &[Token]) -> Result<(Number, &[Token]), ParseError>
             rest,
         )),
         _ => Err(unexpected(tokens)),
+    }
+}
+
+/// The truth value at the front, and what follows it.
+#[tactic(auto, unfolding(crate::specs::Reading::truth_at, crate::specs::Reading::read_then, crate::specs::Reading::choose))]
+pub fn truth(tokens: &[Token]) -> Result<(bool, &[Token]), ParseError>
+    ensures { Gives (λ x. (x.0, x.1.now)) result (truth_at tokens.now) }
+{
+    if begins_with_keyword(tokens, Keyword::True) {
+        let rest = after_keyword(tokens, Keyword::True)?;
+        Ok((true, rest))
+    } else {
+        let rest = after_keyword(tokens, Keyword::False)?;
+        Ok((false, rest))
     }
 }

@@ -1,6 +1,6 @@
 use Rattle.std.proofs.Common.{◌≡◌, [], drop}
-use Rattle.dv_eval.specs.Scope.{variables_in, with_variables}
+use Rattle.dv_eval.specs.Scope.{state_variables_in, with_variables}
 use Rattle.dv_eval.proofs.scope.variables_of.Given as goal
 
 abbrev pub invariant-loop-declaration : goal.invariant-loop-declaration
-invariant-loop-declaration l = with_variables l.variables.entries (variables_in (drop l.declaration-index l.declarations)) ≡ with_variables [] (variables_in l.declarations)
+invariant-loop-declaration l = with_variables l.variables.entries (state_variables_in (drop l.declaration-index l.declarations)) ≡ with_variables [] (state_variables_in l.declarations)

@@ -1,7 +1,15 @@
+use Rattle.std.proofs.Common.{not, rules}
+use Rattle.std.proofs.lemmas.Fn.{always_returns_same}
 use Rattle.dv_lex.specs.Lexemes.{continues_name}
-use Rattle.dv_lex.proofs.Runs.{SplitsRun-cut}
+use Rattle.dv_lex.proofs.Characters.{SplitsCharacters-found, SplitsCharacters-whole}
 use Rattle.dv_lex.proofs.lexer.split_word.Goals as goal
 
-pub returns : goal.returns
-returns c =
-    rw (c.split_at.ensures.front, c.split_at.ensures.back) (SplitsRun-cut continues_name c.args.bytes.now c.word_len.result c.word_len.ensures)
+pub returns-in-Some : goal.returns-in-Some
+returns-in-Some c =
+    let found = c.in-Some.ensures.cases.1 (λ d. not (continues_name d)) (always_returns_same _ _ _ (λ a r f k. search rules)) in
+    rw (c.split_at.ensures.front, c.split_at.ensures.back) (SplitsCharacters-found continues_name c.args.text.now c.in-Some.end c.in-Some.ensures.cases.0 found)
+
+pub returns-in-None : goal.returns-in-None
+returns-in-None c =
+    let none = c.in-None.ensures.cases (λ d. not (continues_name d)) (always_returns_same _ _ _ (λ a r f k. search rules)) in
+    SplitsCharacters-whole continues_name c.args.text.now none

@@ -1,4 +1,4 @@
-use Rattle.dv_syntax.proofs.DeadEnds.{one_answer, not_both}
+use Rattle.dv_syntax.proofs.OneAnswer.{one_answer, not_both}
 use Rattle.dv_syntax.proofs.laws.tokens_have_one_answer.Goals as goal
 
 pub returns-clause-some : goal.returns-clause-some

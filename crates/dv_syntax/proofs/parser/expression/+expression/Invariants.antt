@@ -13,8 +13,8 @@ decreases-primary l = 3 * l.limit + 1
 abbrev pub decreases-parens : goal.decreases-parens
 decreases-parens l = 3 * l.limit
 
-abbrev pub decreases-negative : goal.decreases-negative
-decreases-negative l = 3 * l.limit
+abbrev pub decreases-prefixed : goal.decreases-prefixed
+decreases-prefixed l = 3 * l.limit
 
 abbrev pub invariant-within-loop-operator : goal.invariant-within-loop-operator
 invariant-within-loop-operator l = record {

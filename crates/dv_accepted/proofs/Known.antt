@@ -1,0 +1,301 @@
+-- What is accepted names only what its model declares.
+use Rattle.std.proofs.Common.{◌≡◌, ℕ, zero, suc, ◌+◌, ◌==◌, Bool, true, false, ◌||◌, if◌then◌else◌, List, [], ◌∷◌, ◌++◌, refl, sym, ap, ◌∙◌, Option, Some, None, is_some, option_map, arith}
+use Rattle.std.specs.Prelude.{slice_get}
+use Rattle.std.specs.List.{AllByRecursion, All, flat_map}
+use Rattle.std.specs.Option.{option_or}
+use Rattle.std.proofs.lemmas.List.Elements.{All-from_recursion}
+use Rattle.dv_syntax.specs.declared.tree.Name.{Name}
+use Rattle.dv_syntax.specs.declared.tree.Declaration.{Declaration}
+use Rattle.dv_syntax.specs.declared.tree.Declaration.TheVariants.{Out, Var, Flag}
+use Rattle.dv_syntax.specs.declared.tree.RuleSort.{RuleSort}
+use Rattle.dv_syntax.specs.Trees.{AtomicTree, HoldTree, RuleTree, Expression, Literal, TruthValue, Named, Parens, Prefixed, Binary, Statements, Done, Assign, Goto, Send, If, IfElse}
+use Rattle.dv_bag.specs.declared.state.Datum.{Datum}
+use Rattle.dv_bag.specs.declared.state.State.{State}
+use Rattle.dv_eval.specs.declared.scope.Domain.{Domain}
+use Rattle.dv_eval.specs.declared.scope.Domain.TheVariants as domain
+use Rattle.dv_eval.specs.Scope.{Scope, is_declared, names_of, place_from, range_of, scope_of, state_variables_in, with_variable, with_variables}
+use Rattle.dv_check.specs.declared.declarations.NameSort.{NameSort}
+use Rattle.dv_check.specs.declared.declarations.NameSort.TheVariants.{Variable as ForVariable, Flag as ForFlag, Output as ForOutput}
+use Rattle.dv_check.specs.declared.expression.ValueType.{ValueType}
+use Rattle.dv_check.specs.declared.expression.ValueType.TheVariants.{Number, Truth}
+use Rattle.dv_check.specs.Tables.{first_of}
+use Rattle.dv_check.specs.Types.{expression_refusals, first_place, operand_refusals, place_refusals, type_of, type_of_name, type_of_prefix, type_refusals, value_name_refusals, value_refusals}
+use Rattle.dv_check.specs.Rules.{atomic_refusals, assignment_refusals, domain_of_state_variable, hold_refusals, known_in, names_only, number_of_state_variable, phase_refusals, rule_refusals, sent_port_refusals, sort_in, statements_refusals, ticks_names_only, ticks_refusals}
+use Rattle.dv_check.specs.Couplings.{is_output}
+use Rattle.dv_accepted.specs.Fitting.{are_names_known, data_fit, datum_fits, fits_in, HoldsDatum, is_variable}
+use Rattle.dv_check.proofs.Accepted.{both_nil}
+use Rattle.dv_check.proofs.Declared.{output_declared, same_declared}
+use Rattle.dv_check.proofs.Firsts.{first_of_push}
+use Rattle.dv_accepted.proofs.Fitting.{and_true, both_true, parts_of_none, phase_declared}
+
+-- ---- Variables and flags by their names
+
+-- what the first entry of a name may hold
+abbrev pub entry_in : List (ℕ × Domain) → ℕ → Option Domain
+entry_in entries q = first_of (λ (e : ℕ × Domain). e.0) (λ (e : ℕ × Domain). e.1) entries q
+
+-- what the first declaration of a name says that a variable or a flag may hold
+abbrev declared_in : List (Name × Domain) → ℕ → Option Domain
+declared_in vs q = first_of number_of_state_variable domain_of_state_variable vs q
+
+or_none : {A : Type 0} (o : Option A) → o ≡ option_or o None
+or_none None = refl
+or_none (Some x) = refl
+
+or_some : {A : Type 0} (o p : Option A) → is_some o ≡ true → o ≡ option_or o p
+or_some None p e = absurd (cc)
+or_some (Some x) p e = refl
+
+or_step : {A : Type 0} (o p : Option A) (b : Bool) (x : A) → option_or (option_or o (if b then Some x else None)) p ≡ option_or o (if b then Some x else p)
+or_step (Some y) p b x = refl
+or_step None p true x = refl
+or_step None p false x = refl
+
+-- a name is declared where it has an entry
+declared_if : (b : Bool) (d : Domain) (o : Option Domain) (rest : Bool) → rest ≡ is_some o → (b || rest) ≡ is_some (if b then Some d else o)
+declared_if true d o rest e = refl
+declared_if false d o rest e = e
+
+declared_entry : (entries : List (ℕ × Domain)) (q : ℕ) → is_declared q (names_of entries) ≡ is_some (entry_in entries q)
+unfolding first_of
+declared_entry [] q = refl
+declared_entry (e ∷ entries) q = declared_if (e.0 == q) e.1 (entry_in entries q) (is_declared q (names_of entries)) (declared_entry entries q)
+
+-- a name that is declared already keeps its entry
+kept_if : (b : Bool) (q n : ℕ) (d : Domain) (entries : List (ℕ × Domain)) → (n == q) ≡ b → is_declared n (names_of entries) ≡ true
+    → entry_in entries q ≡ option_or (entry_in entries q) (if b then Some d else None)
+kept_if true q n d entries same there = or_some (entry_in entries q) (Some d) (sym (declared_entry entries q) ∙ same_declared q n (names_of entries) same there)
+kept_if false q n d entries other there = or_none (entry_in entries q)
+
+-- one variable or flag more
+with_variable_entry_if : (b : Bool) (q : ℕ) (v : Name × Domain) (entries : List (ℕ × Domain)) → is_declared v.0.number (names_of entries) ≡ b
+    → entry_in (if b then entries else entries ++ (v.0.number, v.1) ∷ []) q ≡ option_or (entry_in entries q) (if v.0.number == q then Some v.1 else None)
+with_variable_entry_if true q v entries there = kept_if (v.0.number == q) q v.0.number v.1 entries refl there
+with_variable_entry_if false q v entries new = first_of_push (λ (e : ℕ × Domain). e.0) (λ (e : ℕ × Domain). e.1) entries (v.0.number, v.1) q
+
+-- the entries are the first declarations
+with_variables_entry : (q : ℕ) (vs : List (Name × Domain)) (entries : List (ℕ × Domain)) → entry_in (with_variables entries vs) q ≡ option_or (entry_in entries q) (declared_in vs q)
+unfolding first_of
+with_variables_entry q [] entries = or_none (entry_in entries q)
+with_variables_entry q (v ∷ vs) entries =
+    with_variables_entry q vs (with_variable entries v)
+    ∙ (ap (λ o. option_or o (declared_in vs q)) (with_variable_entry_if (is_declared v.0.number (names_of entries)) q v entries refl)
+    ∙ or_step (entry_in entries q) (declared_in vs q) (v.0.number == q) v.1)
+
+-- what names stand for that have data in a state
+abbrev pub is_stored : Option NameSort → Bool
+is_stored None = false
+is_stored (Some ForVariable) = true
+is_stored (Some ForFlag) = true
+is_stored (Some ForOutput) = false
+
+abbrev pub sort_of_domain : Domain → NameSort
+sort_of_domain (domain.Number range) = ForVariable
+sort_of_domain (domain.Flag start) = ForFlag
+
+sorted_if : (b : Bool) (d : Domain) (sort : NameSort) (found : Option Domain) (rest : Option NameSort) → sort_of_domain d ≡ sort
+    → is_stored (if b then Some sort else rest) ≡ true → (is_stored rest ≡ true → option_map sort_of_domain found ≡ rest)
+    → option_map sort_of_domain (if b then Some d else found) ≡ (if b then Some sort else rest)
+sorted_if true d sort found rest is e later = ap (λ x. Some x) is
+sorted_if false d sort found rest is e later = later e
+
+not_output_if : (b : Bool) (found : Option Domain) (rest : Option NameSort) → is_stored (if b then Some ForOutput else rest) ≡ true
+    → (is_stored rest ≡ true → option_map sort_of_domain found ≡ rest) → option_map sort_of_domain found ≡ (if b then Some ForOutput else rest)
+not_output_if true found rest e later = absurd (cc)
+not_output_if false found rest e later = later e
+
+-- the first declaration of a name of a variable or a flag is that of its domain
+declared_sort : (q : ℕ) (ds : List Declaration) → is_stored (sort_in ds q) ≡ true → option_map sort_of_domain (declared_in (state_variables_in ds) q) ≡ sort_in ds q
+unfolding first_of
+declared_sort q [] e = absurd (cc)
+declared_sort q (Out port ∷ ds) e = not_output_if (port.number == q) (declared_in (state_variables_in ds) q) _ e (declared_sort q ds)
+declared_sort q (Var v ∷ ds) e =
+    sorted_if (v.name.number == q) (domain.Number (range_of v)) ForVariable (declared_in (state_variables_in ds) q) _ refl e (declared_sort q ds)
+declared_sort q (Flag f ∷ ds) e =
+    sorted_if (f.name.number == q) (domain.Flag f.start) ForFlag (declared_in (state_variables_in ds) q) _ refl e (declared_sort q ds)
+
+-- a name of a variable or a flag with what it may hold
+pub record Entered (m : AtomicTree) (q : ℕ) : Type 0 where
+  pub domain : Domain
+  pub there : entry_in (scope_of m).variables q ≡ Some domain
+  pub sort : Some (sort_of_domain domain) ≡ sort_in m.declarations q
+
+entered_at : (m : AtomicTree) (q : ℕ) (o : Option Domain) → entry_in (scope_of m).variables q ≡ o
+    → option_map sort_of_domain o ≡ sort_in m.declarations q → is_stored (sort_in m.declarations q) ≡ true → Entered m q
+entered_at m q None there sort e = let none : is_stored None ≡ true = ap is_stored sort ∙ e in absurd (cc)
+entered_at m q (Some d) there sort e = record { domain = d; there = there; sort = sort }
+
+pub sort_entered : (m : AtomicTree) (q : ℕ) → is_stored (sort_in m.declarations q) ≡ true → Entered m q
+unfolding first_of
+sort_entered m q e =
+    let vs = state_variables_in m.declarations in
+    entered_at m q (declared_in vs q) (with_variables_entry q vs []) (declared_sort q m.declarations e) e
+
+variable_declared : (m : AtomicTree) (q : ℕ) → is_stored (sort_in m.declarations q) ≡ true → is_variable (scope_of m) q ≡ true
+variable_declared m q e = declared_entry (scope_of m).variables q ∙ ap is_some (sort_entered m q e).there
+
+-- ---- Expressions and statements
+
+value_name_known : (o : Option NameSort) (place : ℕ) → value_name_refusals o place ≡ [] → is_stored o ≡ true
+value_name_known None place e = absurd (cc)
+value_name_known (Some ForVariable) place e = refl
+value_name_known (Some ForFlag) place e = refl
+value_name_known (Some ForOutput) place e = absurd (cc)
+
+assigned_known : (sort : RuleSort) (o : Option NameSort) (place : ℕ) → assignment_refusals sort o place ≡ [] → is_stored o ≡ true
+assigned_known sort None place e = absurd (cc)
+assigned_known sort (Some ForVariable) place e = refl
+assigned_known sort (Some ForFlag) place e = refl
+assigned_known sort (Some ForOutput) place e = absurd (cc)
+
+sent_known : (o : Option NameSort) (place : ℕ) → sent_port_refusals o place ≡ [] → is_output o ≡ true
+sent_known None place e = absurd (cc)
+sent_known (Some ForVariable) place e = absurd (cc)
+sent_known (Some ForFlag) place e = absurd (cc)
+sent_known (Some ForOutput) place e = refl
+
+module _ (m : AtomicTree) where
+  names_known : (e : Expression) → expression_refusals (sort_in m.declarations) e ≡ [] → names_only (is_variable (scope_of m)) e ≡ true
+  names_known (Literal n) none = refl
+  names_known (TruthValue place value) none = refl
+  names_known (Named name) none = variable_declared m name.number (value_name_known (sort_in m.declarations name.number) name.place none)
+  names_known (Parens place e) none = names_known e none
+  names_known (Prefixed o place e) none =
+      let sort = sort_in m.declarations in
+      names_known e (both_nil (expression_refusals sort e) (type_refusals (type_of_prefix o) (type_of sort e) (first_place e)) none).0
+  names_known (Binary o a b) none =
+      let sort = sort_in m.declarations in
+      let operands = operand_refusals o (type_of sort a) (first_place a) (type_of sort b) (first_place b) in
+      let left = both_nil (expression_refusals sort a) (expression_refusals sort b ++ operands) none in
+      let right = both_nil (expression_refusals sort b) operands left.1 in
+      and_true (names_only (is_variable (scope_of m)) a) (names_only (is_variable (scope_of m)) b) (names_known a left.0) (names_known b right.0)
+
+  place_known : (wanted : ValueType) (e : Expression) → place_refusals wanted (sort_in m.declarations) e ≡ [] → names_only (is_variable (scope_of m)) e ≡ true
+  place_known wanted e none =
+      names_known e (both_nil (expression_refusals (sort_in m.declarations) e) (type_refusals wanted (type_of (sort_in m.declarations) e) (first_place e)) none).0
+
+  value_known : (wanted : Option ValueType) (e : Expression) → value_refusals wanted (sort_in m.declarations) e ≡ [] → names_only (is_variable (scope_of m)) e ≡ true
+  value_known None e none = names_known e none
+  value_known (Some wanted) e none = place_known wanted e none
+
+  pub statements_known : (sort : RuleSort) (body : Statements) → statements_refusals (known_in m) sort body ≡ [] → are_names_known (scope_of m) body ≡ true
+  statements_known sort Done none = refl
+  statements_known sort (Assign variable e rest) none =
+      let k = known_in m in
+      let wanted = type_of_name (k.sort variable.number) in
+      let left = both_nil (assignment_refusals sort (k.sort variable.number) variable.place) (value_refusals wanted k.sort e ++ statements_refusals k sort rest) none in
+      let right = both_nil (value_refusals wanted k.sort e) (statements_refusals k sort rest) left.1 in
+      and_true _ _ (variable_declared m variable.number (assigned_known sort (k.sort variable.number) variable.place left.0)) (and_true _ _ (value_known wanted e right.0) (statements_known sort rest right.1))
+  statements_known sort (Goto place phase rest) none =
+      let k = known_in m in
+      let behind = (both_nil _ (phase_refusals k phase ++ statements_refusals k sort rest) none).1 in
+      let both = both_nil (phase_refusals k phase) (statements_refusals k sort rest) behind in
+      and_true _ _ (phase_declared m phase both.0) (statements_known sort rest both.1)
+  statements_known sort (Send place port e rest) none =
+      let k = known_in m in
+      let port_refusals = sent_port_refusals (k.sort port.number) port.place in
+      let value_refusals = place_refusals Number k.sort e in
+      let rest_refusals = statements_refusals k sort rest in
+      let behind = (both_nil _ (port_refusals ++ (value_refusals ++ rest_refusals)) none).1 in
+      let left = both_nil port_refusals (value_refusals ++ rest_refusals) behind in
+      let right = both_nil value_refusals rest_refusals left.1 in
+      and_true _ _ (output_declared port.number m.declarations [] (sent_known (k.sort port.number) port.place left.0)) (and_true _ _ (place_known Number e right.0) (statements_known sort rest right.1))
+  statements_known sort (If place e block rest) none =
+      let k = known_in m in
+      let left = both_nil (place_refusals Truth k.sort e) (statements_refusals k sort block ++ statements_refusals k sort rest) none in
+      let right = both_nil (statements_refusals k sort block) (statements_refusals k sort rest) left.1 in
+      and_true _ _ (place_known Truth e left.0) (and_true _ _ (statements_known sort block right.0) (statements_known sort rest right.1))
+  statements_known sort (IfElse place e block other rest) none =
+      let k = known_in m in
+      let rest_refusals = statements_refusals k sort rest in
+      let other_refusals = statements_refusals k sort other in
+      let left = both_nil (place_refusals Truth k.sort e) (statements_refusals k sort block ++ (other_refusals ++ rest_refusals)) none in
+      let middle = both_nil (statements_refusals k sort block) (other_refusals ++ rest_refusals) left.1 in
+      let right = both_nil other_refusals rest_refusals middle.1 in
+      and_true _ _ (place_known Truth e left.0) (and_true _ _ (statements_known sort block middle.0) (and_true _ _ (statements_known sort other right.0) (statements_known sort rest right.1)))
+
+  rules_known_from : (rules : List RuleTree) → flat_map (rule_refusals (known_in m)) rules ≡ [] → AllByRecursion (λ (r : RuleTree). are_names_known (scope_of m) r.body ≡ true) rules
+  rules_known_from [] none = tt
+  rules_known_from (r ∷ rules) none =
+      let k = known_in m in
+      let both = both_nil (rule_refusals k r) (flat_map (rule_refusals k) rules) none in
+      let here = both_nil (phase_refusals k r.phase) (statements_refusals k r.sort r.body) both.0 in
+      (statements_known r.sort r.body here.1, rules_known_from rules both.1)
+
+  ticks_of_known : (ticks : Option Expression) → ticks_refusals (known_in m) ticks ≡ [] → ticks_names_only (is_variable (scope_of m)) ticks ≡ true
+  ticks_of_known None none = refl
+  ticks_of_known (Some e) none = place_known Number e none
+
+  ticks_known : (h : HoldTree) → hold_refusals (known_in m) h ≡ [] → ticks_names_only (is_variable (scope_of m)) h.ticks ≡ true
+  ticks_known h none = ticks_of_known h.ticks (both_nil (phase_refusals (known_in m) h.phase) (ticks_refusals (known_in m) h.ticks) none).1
+
+  holds_known_from : (holds : List HoldTree) → flat_map (hold_refusals (known_in m)) holds ≡ [] → AllByRecursion (λ (h : HoldTree). ticks_names_only (is_variable (scope_of m)) h.ticks ≡ true) holds
+  holds_known_from [] none = tt
+  holds_known_from (h ∷ holds) none =
+      let both = both_nil (hold_refusals (known_in m) h) (flat_map (hold_refusals (known_in m)) holds) none in
+      (ticks_known h both.0, holds_known_from holds both.1)
+
+  pub rules_known : atomic_refusals m ≡ [] → All (λ (r : RuleTree). are_names_known (scope_of m) r.body ≡ true) m.rules
+  rules_known e = All-from_recursion _ m.rules (rules_known_from m.rules (parts_of_none m e).rules)
+
+  pub holds_known : atomic_refusals m ≡ [] → All (λ (h : HoldTree). ticks_names_only (is_variable (scope_of m)) h.ticks ≡ true) m.holds
+  holds_known e = All-from_recursion _ m.holds (holds_known_from m.holds (parts_of_none m e).holds)
+
+-- ---- Data of variables and flags
+
+-- the place of an entry, from a number on
+record HasEntry (k q : ℕ) (entries : List (ℕ × Domain)) (d : Domain) : Type 0 where
+  offset : ℕ
+  found : place_from k q (names_of entries) ≡ Some (k + offset)
+  there : option_map (λ v. v.1) (slice_get entries offset) ≡ Some d
+
+has_entry_if : (b : Bool) (k q : ℕ) (e : ℕ × Domain) (entries : List (ℕ × Domain)) (d : Domain) → (e.0 == q) ≡ b
+    → (if b then Some e.1 else entry_in entries q) ≡ Some d → (entry_in entries q ≡ Some d → HasEntry (k + 1) q entries d) → HasEntry k q (e ∷ entries) d
+has_entry_if true k q e entries d test is later =
+    let here : k ≡ k + 0 = omega arith in
+    record { offset = 0; found = rw test (ap (λ n. Some n) here); there = is }
+has_entry_if false k q e entries d test is later =
+    let h = later is in
+    let next : k + 1 + h.offset ≡ k + suc h.offset = omega arith in
+    record { offset = suc h.offset; found = rw test (h.found ∙ ap (λ n. Some n) next); there = h.there }
+
+has_entry : (k q : ℕ) (entries : List (ℕ × Domain)) (d : Domain) → entry_in entries q ≡ Some d → HasEntry k q entries d
+unfolding first_of
+has_entry k q [] d is = absurd (cc)
+has_entry k q (e ∷ entries) d is = has_entry_if (e.0 == q) k q e entries d refl is (has_entry (k + 1) q entries d)
+
+-- the datum at the place of an entry
+record FitsAt (ds : List Datum) (place : ℕ) (o : Domain) : Type 0 where
+  datum : Datum
+  there : slice_get ds place ≡ Some datum
+  fitting : datum_fits o datum ≡ true
+
+fits_at : (vs : List (ℕ × Domain)) (ds : List Datum) (place : ℕ) (o : Domain) → data_fit vs ds ≡ true
+    → option_map (λ v. v.1) (slice_get vs place) ≡ Some o → FitsAt ds place o
+fits_at [] ds place o e is = absurd (cc)
+fits_at (v ∷ vs) [] place o e is = absurd (cc)
+fits_at (v ∷ vs) (d ∷ ds) zero o e is =
+    let same : v.1 ≡ o = cc in
+    record { datum = d; there = refl; fitting = rw (← same) (both_true (datum_fits v.1 d) (data_fit vs ds) e).0 }
+fits_at (v ∷ vs) (d ∷ ds) (suc place) o e is =
+    let h = fits_at vs ds place o (both_true (datum_fits v.1 d) (data_fit vs ds) e).1 is in
+    record { datum = h.datum; there = h.there; fitting = h.fitting }
+
+pub entry_holds : (scope : Scope) (s : State) (q : ℕ) (d : Domain) → fits_in scope s ≡ true
+    → entry_in scope.variables q ≡ Some d → (h : HoldsDatum scope s q) × (h.domain ≡ d)
+entry_holds scope s q d fit is =
+    let h = has_entry 0 q scope.variables d is in
+    let held = fits_at scope.variables s.variables h.offset d (both_true _ (data_fit scope.variables s.variables) fit).1 h.there in
+    let at_start : 0 + h.offset ≡ h.offset = omega arith in (
+      record { place = h.offset; found = h.found ∙ ap (λ n. Some n) at_start; domain = d; declared = h.there; datum = held.datum; there = held.there; fitting = held.fitting },
+      refl,
+    )
+
+some_of : {A : Type 0} (o : Option A) → is_some o ≡ true → (x : A) × (o ≡ Some x)
+some_of None e = absurd (cc)
+some_of (Some x) e = (x, refl)
+
+pub variable_holds : (scope : Scope) (s : State) (q : ℕ) → fits_in scope s ≡ true → is_variable scope q ≡ true → HoldsDatum scope s q
+variable_holds scope s q fit known =
+    let entry = some_of (entry_in scope.variables q) (sym (declared_entry scope.variables q) ∙ known) in
+    (entry_holds scope s q entry.0 fit entry.1).0

@@ -1,0 +1,238 @@
+-- Accepted expressions have types, and their values are of these.
+use Rattle.std.proofs.Common.{◌≡◌, ℕ, ℤ, Bool, true, false, not, if◌then◌else◌, [], ◌++◌, refl, sym, ap, ◌∙◌, Option, Some, None, Result, Ok, Err, pos, neg_ℤ, ◌+ℤ◌, ◌-ℤ◌, ◌*ℤ◌, int_div, int_rem}
+use Rattle.std.specs.Ordering.{int_eq}
+use Rattle.dv_lex.specs.declared.error.RefusalNumber.TheVariants.{E8}
+use Rattle.dv_syntax.specs.declared.tree.Prefix.{Prefix}
+use Rattle.dv_syntax.specs.declared.tree.Prefix.TheVariants.{Minus, Not}
+use Rattle.dv_syntax.specs.declared.tree.Operator.{Operator}
+use Rattle.dv_syntax.specs.declared.tree.Operator.TheVariants.{Or, And, Add, Subtract, Multiply, Divide, Remainder, Equal, Unequal, Less, AtMost, Greater, AtLeast}
+use Rattle.dv_syntax.specs.Trees.{AtomicTree, Expression, Literal, TruthValue, Named, Parens, Prefixed, Binary}
+use Rattle.dv_bag.specs.Outcome.{◌>>=◌}
+use Rattle.dv_bag.specs.declared.fault.Fault.{Fault}
+use Rattle.dv_bag.specs.declared.fault.Fault.TheVariants as fault
+use Rattle.dv_bag.specs.declared.value.Value.{Value}
+use Rattle.dv_bag.specs.declared.value.Value.TheVariants as value
+use Rattle.dv_bag.specs.declared.state.Datum.{Datum}
+use Rattle.dv_bag.specs.declared.state.Datum.TheVariants as datum
+use Rattle.dv_bag.specs.declared.state.State.{State}
+use Rattle.dv_eval.specs.declared.scope.Domain.{Domain}
+use Rattle.dv_eval.specs.declared.scope.Domain.TheVariants as domain
+use Rattle.dv_eval.specs.Scope.{Scope, scope_of}
+use Rattle.dv_eval.specs.Meaning.{datum_at, is_decided, is_kept, meaning, number_of, number_or_overflow, operator_result, prefix_result, truth_of, value_of_datum, value_of_name}
+use Rattle.dv_check.specs.declared.declarations.NameSort.{NameSort}
+use Rattle.dv_check.specs.declared.declarations.NameSort.TheVariants.{Variable as ForVariable, Flag as ForFlag, Output as ForOutput}
+use Rattle.dv_check.specs.declared.expression.ValueType.{ValueType}
+use Rattle.dv_check.specs.declared.expression.ValueType.TheVariants.{Number, Truth}
+use Rattle.dv_check.specs.Names.{refusal_if}
+use Rattle.dv_check.specs.Types.{alike, both_of, differ, expression_refusals, first_place, is_of, operand_refusals, operands_wanted, place_refusals, same_type, type_if, type_of, type_of_name, type_of_operator, type_of_prefix, type_refusals, value_name_refusals}
+use Rattle.dv_check.specs.Rules.{sort_in}
+use Rattle.dv_accepted.specs.Fitting.{datum_fits, fits_in, HoldsDatum, is_of_type}
+use Rattle.dv_check.proofs.Accepted.{both_nil}
+use Rattle.dv_accepted.proofs.Fitting.{gave}
+use Rattle.dv_accepted.proofs.Known.{entry_holds, is_stored, sort_entered, sort_of_domain}
+
+-- ---- An expression without refusals has a type
+
+abbrev Typed : Option ValueType → Type 0
+Typed o = (t : ValueType) × (o ≡ Some t)
+
+some_if : (b : Bool) (t : ValueType) → b ≡ true → Typed (type_if b t)
+some_if true t e = (t, refl)
+some_if false t e = absurd (cc)
+
+both_wanted : (wanted x y : ValueType) (p q : ℕ) → operands_wanted wanted (Some x) p (Some y) q ≡ [] → both_of wanted (Some x) (Some y) ≡ true
+both_wanted Number Number Number p q e = refl
+both_wanted Number Number Truth p q e = absurd (cc)
+both_wanted Number Truth Number p q e = absurd (cc)
+both_wanted Number Truth Truth p q e = absurd (cc)
+both_wanted Truth Number Number p q e = absurd (cc)
+both_wanted Truth Number Truth p q e = absurd (cc)
+both_wanted Truth Truth Number p q e = absurd (cc)
+both_wanted Truth Truth Truth p q e = refl
+
+both_alike : (x y : ValueType) (q : ℕ) → refusal_if (differ (Some x) (Some y)) E8 q ≡ [] → alike (Some x) (Some y) ≡ true
+both_alike Number Number q e = refl
+both_alike Number Truth q e = absurd (cc)
+both_alike Truth Number q e = absurd (cc)
+both_alike Truth Truth q e = refl
+
+operator_typed : (o : Operator) (x y : ValueType) (p q : ℕ) → operand_refusals o (Some x) p (Some y) q ≡ [] → Typed (type_of_operator o (Some x) (Some y))
+operator_typed Or x y p q e = some_if _ Truth (both_wanted Truth x y p q e)
+operator_typed And x y p q e = some_if _ Truth (both_wanted Truth x y p q e)
+operator_typed Add x y p q e = some_if _ Number (both_wanted Number x y p q e)
+operator_typed Subtract x y p q e = some_if _ Number (both_wanted Number x y p q e)
+operator_typed Multiply x y p q e = some_if _ Number (both_wanted Number x y p q e)
+operator_typed Divide x y p q e = some_if _ Number (both_wanted Number x y p q e)
+operator_typed Remainder x y p q e = some_if _ Number (both_wanted Number x y p q e)
+operator_typed Equal x y p q e = some_if _ Truth (both_alike x y q e)
+operator_typed Unequal x y p q e = some_if _ Truth (both_alike x y q e)
+operator_typed Less x y p q e = some_if _ Truth (both_wanted Number x y p q e)
+operator_typed AtMost x y p q e = some_if _ Truth (both_wanted Number x y p q e)
+operator_typed Greater x y p q e = some_if _ Truth (both_wanted Number x y p q e)
+operator_typed AtLeast x y p q e = some_if _ Truth (both_wanted Number x y p q e)
+
+operands_typed : (o : Operator) (a b : Option ValueType) (p q : ℕ) → Typed a → Typed b → operand_refusals o a p b q ≡ [] → Typed (type_of_operator o a b)
+operands_typed o a b p q left right e =
+    let same = ap (λ x. operand_refusals o x p b q) left.1 ∙ ap (λ y. operand_refusals o (Some left.0) p y q) right.1 in
+    let h = operator_typed o left.0 right.0 p q (sym same ∙ e) in
+    (h.0, ap (λ x. type_of_operator o x b) left.1 ∙ ap (λ y. type_of_operator o (Some left.0) y) right.1 ∙ h.1)
+
+value_name_typed : (o : Option NameSort) (place : ℕ) → value_name_refusals o place ≡ [] → Typed (type_of_name o)
+value_name_typed None place e = absurd (cc)
+value_name_typed (Some ForVariable) place e = (Number, refl)
+value_name_typed (Some ForFlag) place e = (Truth, refl)
+value_name_typed (Some ForOutput) place e = absurd (cc)
+
+wanted_type : (wanted t : ValueType) (place : ℕ) → refusal_if (not (same_type wanted t)) E8 place ≡ [] → wanted ≡ t
+wanted_type Number Number place e = refl
+wanted_type Number Truth place e = absurd (cc)
+wanted_type Truth Number place e = absurd (cc)
+wanted_type Truth Truth place e = refl
+
+type_wanted : (wanted : ValueType) (o : Option ValueType) (place : ℕ) → Typed o → type_refusals wanted o place ≡ [] → o ≡ Some wanted
+type_wanted wanted o place typed e =
+    typed.1 ∙ ap (λ t. Some t) (sym (wanted_type wanted typed.0 place (sym (ap (λ x. type_refusals wanted x place) typed.1) ∙ e)))
+
+same_if : (t : ValueType) → type_if (same_type t t) t ≡ Some t
+same_if Number = refl
+same_if Truth = refl
+
+module _ (sort : ℕ → Option NameSort) where
+  expression_typed : (e : Expression) → expression_refusals sort e ≡ [] → Typed (type_of sort e)
+  expression_typed (Literal n) none = (Number, refl)
+  expression_typed (TruthValue place value) none = (Truth, refl)
+  expression_typed (Named name) none = value_name_typed (sort name.number) name.place none
+  expression_typed (Parens place e) none = expression_typed e none
+  expression_typed (Prefixed operator place e) none =
+      let wanted = type_of_prefix operator in
+      let both = both_nil (expression_refusals sort e) (type_refusals wanted (type_of sort e) (first_place e)) none in
+      let of_wanted = type_wanted wanted (type_of sort e) (first_place e) (expression_typed e both.0) both.1 in
+      (wanted, ap (λ o. type_if (is_of wanted o) wanted) of_wanted ∙ same_if wanted)
+  expression_typed (Binary o a b) none =
+      let operands = operand_refusals o (type_of sort a) (first_place a) (type_of sort b) (first_place b) in
+      let left = both_nil (expression_refusals sort a) (expression_refusals sort b ++ operands) none in
+      let right = both_nil (expression_refusals sort b) operands left.1 in
+      operands_typed o (type_of sort a) (type_of sort b) (first_place a) (first_place b) (expression_typed a left.0) (expression_typed b right.0) right.1
+
+  pub place_typed : (wanted : ValueType) (e : Expression) → place_refusals wanted sort e ≡ [] → type_of sort e ≡ Some wanted
+  place_typed wanted e none =
+      let both = both_nil (expression_refusals sort e) (type_refusals wanted (type_of sort e) (first_place e)) none in
+      type_wanted wanted (type_of sort e) (first_place e) (expression_typed e both.0) both.1
+
+-- ---- Its values are of this type
+
+of_type_if : (b : Bool) (t u : ValueType) (v : Value) → type_if b t ≡ Some u → is_of_type t v ≡ true → is_of_type u v ≡ true
+of_type_if true t u v e h = let same : t ≡ u = cc in rw (← same) h
+of_type_if false t u v e h = absurd (cc)
+
+number_if : (b : Bool) (n : ℤ) (f : Fault) (v : Value) → (if b then Ok (value.Number n) else Err f) ≡ Ok v → is_of_type Number v ≡ true
+number_if true n f v e = let same : value.Number n ≡ v = cc in rw (← same) refl
+number_if false n f v e = absurd (cc)
+
+kept_number : (n : ℤ) (v : Value) → number_or_overflow n ≡ Ok v → is_of_type Number v ≡ true
+kept_number n v e = number_if (is_kept n) n fault.Overflow v e
+
+quotient_if : (b : Bool) (n : ℤ) (v : Value) → (if b then Err fault.Divide else number_or_overflow n) ≡ Ok v → is_of_type Number v ≡ true
+quotient_if true n v e = absurd (cc)
+quotient_if false n v e = kept_number n v e
+
+remainder_if : (b : Bool) (n : ℤ) (v : Value) → (if b then Err fault.Divide else Ok (value.Number n)) ≡ Ok v → is_of_type Number v ≡ true
+remainder_if true n v e = absurd (cc)
+remainder_if false n v e = let same : value.Number n ≡ v = cc in rw (← same) refl
+
+abbrev ok_truth : Bool → Result Value Fault
+ok_truth b = Ok (value.Truth b)
+
+truth : (b : Bool) (v : Value) → ok_truth b ≡ Ok v → is_of_type Truth v ≡ true
+truth b v e = let same : value.Truth b ≡ v = cc in rw (← same) refl
+
+result_typed : (o : Operator) (a b : Option ValueType) (t : ValueType) (x y v : Value) → type_of_operator o a b ≡ Some t → operator_result o x y ≡ Ok v → is_of_type t v ≡ true
+result_typed Or a b t x y v typed e = of_type_if _ Truth t v typed (truth _ v e)
+result_typed And a b t x y v typed e = of_type_if _ Truth t v typed (truth _ v e)
+result_typed Add a b t x y v typed e = of_type_if _ Number t v typed (kept_number (number_of x +ℤ number_of y) v e)
+result_typed Subtract a b t x y v typed e = of_type_if _ Number t v typed (kept_number (number_of x -ℤ number_of y) v e)
+result_typed Multiply a b t x y v typed e = of_type_if _ Number t v typed (kept_number (number_of x *ℤ number_of y) v e)
+result_typed Divide a b t x y v typed e = of_type_if _ Number t v typed (quotient_if (int_eq (number_of y) (pos 0)) (int_div (number_of x) (number_of y)) v e)
+result_typed Remainder a b t x y v typed e = of_type_if _ Number t v typed (remainder_if (int_eq (number_of y) (pos 0)) (int_rem (number_of x) (number_of y)) v e)
+result_typed Equal a b t x y v typed e = of_type_if _ Truth t v typed (truth _ v e)
+result_typed Unequal a b t x y v typed e = of_type_if _ Truth t v typed (truth _ v e)
+result_typed Less a b t x y v typed e = of_type_if _ Truth t v typed (truth _ v e)
+result_typed AtMost a b t x y v typed e = of_type_if _ Truth t v typed (truth _ v e)
+result_typed Greater a b t x y v typed e = of_type_if _ Truth t v typed (truth _ v e)
+result_typed AtLeast a b t x y v typed e = of_type_if _ Truth t v typed (truth _ v e)
+
+-- where the left operand decides, the value is its truth value
+decided_typed : (o : Operator) (a b : Option ValueType) (t : ValueType) (x v : Value) → is_decided o x ≡ true
+    → type_of_operator o a b ≡ Some t → ok_truth (truth_of x) ≡ Ok v → is_of_type t v ≡ true
+decided_typed Or a b t x v decided typed e = of_type_if _ Truth t v typed (truth _ v e)
+decided_typed And a b t x v decided typed e = of_type_if _ Truth t v typed (truth _ v e)
+decided_typed Add a b t x v decided typed e = absurd (cc)
+decided_typed Subtract a b t x v decided typed e = absurd (cc)
+decided_typed Multiply a b t x v decided typed e = absurd (cc)
+decided_typed Divide a b t x v decided typed e = absurd (cc)
+decided_typed Remainder a b t x v decided typed e = absurd (cc)
+decided_typed Equal a b t x v decided typed e = absurd (cc)
+decided_typed Unequal a b t x v decided typed e = absurd (cc)
+decided_typed Less a b t x v decided typed e = absurd (cc)
+decided_typed AtMost a b t x v decided typed e = absurd (cc)
+decided_typed Greater a b t x v decided typed e = absurd (cc)
+decided_typed AtLeast a b t x v decided typed e = absurd (cc)
+
+-- the right operand is asked where the left one does not decide
+asked_typed : (c : Bool) (o : Operator) (a b : Option ValueType) (t : ValueType) (x v : Value) (right : Result Value Fault) → is_decided o x ≡ c
+    → type_of_operator o a b ≡ Some t → (if c then ok_truth (truth_of x) else (right >>= λ y. operator_result o x y)) ≡ Ok v → is_of_type t v ≡ true
+asked_typed true o a b t x v right decided typed e = decided_typed o a b t x v decided typed e
+asked_typed false o a b t x v right asked typed e =
+    let given = gave right (λ y. operator_result o x y) v e in
+    result_typed o a b t x given.value v typed given.then_
+
+prefix_typed : (o : Prefix) (b : Bool) (t : ValueType) (x v : Value) → type_if b (type_of_prefix o) ≡ Some t → prefix_result o x ≡ Ok v → is_of_type t v ≡ true
+prefix_typed Minus b t x v typed e = of_type_if b Number t v typed (kept_number (neg_ℤ (number_of x)) v e)
+prefix_typed Not b t x v typed e = of_type_if b Truth t v typed (truth _ v e)
+
+name_stored : (o : Option NameSort) (t : ValueType) → type_of_name o ≡ Some t → is_stored o ≡ true
+name_stored None t e = absurd (cc)
+name_stored (Some ForVariable) t e = refl
+name_stored (Some ForFlag) t e = refl
+name_stored (Some ForOutput) t e = absurd (cc)
+
+-- a datum of a domain is of the type of its names
+datum_typed : (o : Domain) (d : Datum) (t : ValueType) → datum_fits o d ≡ true → type_of_name (Some (sort_of_domain o)) ≡ Some t
+    → is_of_type t (value_of_datum (Some d)) ≡ true
+datum_typed (domain.Number range) (datum.Number n) t fit typed = let same : Number ≡ t = cc in rw (← same) refl
+datum_typed (domain.Number range) (datum.Flag b) t fit typed = absurd (cc)
+datum_typed (domain.Number range) (datum.Bag b) t fit typed = absurd (cc)
+datum_typed (domain.Flag start) (datum.Number n) t fit typed = absurd (cc)
+datum_typed (domain.Flag start) (datum.Flag b) t fit typed = let same : Truth ≡ t = cc in rw (← same) refl
+datum_typed (domain.Flag start) (datum.Bag b) t fit typed = absurd (cc)
+
+value_held : (scope : Scope) (s : State) (q : ℕ) (h : HoldsDatum scope s q) → value_of_name scope s q ≡ value_of_datum (Some h.datum)
+value_held scope s q h = ap (λ o. value_of_datum (datum_at s.variables o)) h.found ∙ ap value_of_datum h.there
+
+module _ (m : AtomicTree) (s : State) (fit : fits_in (scope_of m) s ≡ true) where
+  pub value_typed : (e : Expression) (t : ValueType) (v : Value) → type_of (sort_in m.declarations) e ≡ Some t → meaning (scope_of m) s e ≡ Ok v → is_of_type t v ≡ true
+  value_typed (Literal n) t v typed is =
+      let same : Number ≡ t = cc in
+      let number : value.Number (pos n.value) ≡ v = cc in
+      rw (← same, ← number) refl
+  value_typed (TruthValue place b) t v typed is =
+      let same : Truth ≡ t = cc in
+      let truth_value : value.Truth b ≡ v = cc in
+      rw (← same, ← truth_value) refl
+  value_typed (Named name) t v typed is =
+      let entered = sort_entered m name.number (name_stored (sort_in m.declarations name.number) t typed) in
+      let holds = entry_holds (scope_of m) s name.number entered.domain fit entered.there in
+      let same : value_of_name (scope_of m) s name.number ≡ v = cc in
+      ap (is_of_type t) (sym same ∙ value_held (scope_of m) s name.number holds.0)
+      ∙ datum_typed holds.0.domain holds.0.datum t holds.0.fitting
+      (ap (λ d. type_of_name (Some (sort_of_domain d))) holds.1 ∙ ap type_of_name entered.sort ∙ typed)
+  value_typed (Parens place e) t v typed is = value_typed e t v typed is
+  value_typed (Prefixed o place e) t v typed is =
+      let first = gave (meaning (scope_of m) s e) (λ x. prefix_result o x) v is in
+      prefix_typed o _ t first.value v typed first.then_
+  value_typed (Binary o a b) t v typed is =
+      let sort = sort_in m.declarations in
+      let right = meaning (scope_of m) s b in
+      let rest = λ (x : Value). if is_decided o x then ok_truth (truth_of x) else (right >>= λ y. operator_result o x y) in
+      let first = gave (meaning (scope_of m) s a) rest v is in
+      asked_typed (is_decided o first.value) o (type_of sort a) (type_of sort b) t first.value v right refl typed first.then_

@@ -1,0 +1,12 @@
+use Rattle.dv_eval.specs.Scope.{scope_of}
+use Rattle.dv_accepted.proofs.Known.{holds_known, rules_known, variable_holds}
+use Rattle.dv_accepted.proofs.laws.accepted_names_are_known.Goals as goal
+
+pub returns-clause-rules : goal.returns-clause-rules
+returns-clause-rules c = rules_known
+
+pub returns-clause-holds : goal.returns-clause-holds
+returns-clause-holds c = holds_known
+
+pub returns-clause-values : goal.returns-clause-values
+returns-clause-values c = λ m s name fit known. variable_holds (scope_of m) s name fit known

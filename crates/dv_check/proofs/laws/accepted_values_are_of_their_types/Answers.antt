@@ -1,8 +1,0 @@
-use Rattle.dv_check.proofs.Typed.{place_typed, value_typed}
-use Rattle.dv_check.proofs.laws.accepted_values_are_of_their_types.Goals as goal
-
-pub returns-clause-typed : goal.returns-clause-typed
-returns-clause-typed c = place_typed
-
-pub returns-clause-value : goal.returns-clause-value
-returns-clause-value c = λ m s e t v fit typed is. value_typed m s fit e t v typed is

@@ -1,0 +1,49 @@
+-- What is within limits on depth is within greater ones.
+use Rattle.std.proofs.Common.{◌<◌, List, [], ◌∷◌, Option, Some, None, arith}
+use Rattle.std.specs.List.{AllByRecursion}
+use Rattle.dv_lex.specs.declared.token.Token.{Token}
+use Rattle.dv_syntax.specs.Trees.{Expression, Statements, Done, Assign, Goto, Send, If, IfElse, FileTree}
+use Rattle.dv_syntax.specs.Written.{AtomicItem, Declares, Lists, Starts, Holds, Rules, WrittenModel, WrittenAtomic, WrittenCoupled}
+use Rattle.dv_syntax.specs.Grammar.{Limits, IsExpression, AreStatements, AreTicks, IsItem, IsModel, IsFileWithin}
+
+pub record AreGreater (narrow wide : Limits) : Type 0 where
+  pub expression : narrow.expression < wide.expression
+  pub block : narrow.block < wide.block
+
+expression_within : (n w : Limits) → AreGreater n w → (e : Expression) → IsExpression n e → IsExpression w e
+expression_within n w g e is = record { formed = is.formed; within = omega (arith, is.within, g.expression) }
+
+statements_within : (n w : Limits) → AreGreater n w → (s : Statements) → AreStatements n s → AreStatements w s
+statements_within n w g Done are = tt
+statements_within n w g (Assign v e rest) are = (expression_within n w g e are.0, statements_within n w g rest are.1)
+statements_within n w g (Goto place p rest) are = statements_within n w g rest are
+statements_within n w g (Send place p e rest) are = (expression_within n w g e are.0, statements_within n w g rest are.1)
+statements_within n w g (If place e block rest) are = (expression_within n w g e are.0, statements_within n w g block are.1, statements_within n w g rest are.2)
+statements_within n w g (IfElse place e block other rest) are =
+    (expression_within n w g e are.0, statements_within n w g block are.1, statements_within n w g other are.2, statements_within n w g rest are.3)
+
+ticks_within : (n w : Limits) → AreGreater n w → (ticks : Option Expression) → AreTicks n ticks → AreTicks w ticks
+ticks_within n w g None are = tt
+ticks_within n w g (Some e) are = expression_within n w g e are
+
+item_within : (n w : Limits) → AreGreater n w → (x : AtomicItem) → IsItem n x → IsItem w x
+item_within n w g (Declares d) is = is
+item_within n w g (Lists p) is = is
+item_within n w g (Starts s) is = is
+item_within n w g (Holds h) is = ticks_within n w g h.ticks is
+item_within n w g (Rules r) is = (statements_within n w g r.body is.0, omega (arith, is.1, g.block))
+
+each_within : {A : Type 0} {P Q : A → Type 0} → ((x : A) → P x → Q x) → (xs : List A) → AllByRecursion P xs → AllByRecursion Q xs
+each_within h [] all = tt
+each_within h (x ∷ xs) all = (h x all.0, each_within h xs all.1)
+
+model_within : (n w : Limits) → AreGreater n w → (m : WrittenModel) → IsModel n m → IsModel w m
+model_within n w g (WrittenAtomic name items) is = each_within (item_within n w g) items is
+model_within n w g (WrittenCoupled name items) is = is
+
+pub file_within : (n w : Limits) → AreGreater n w → (ts : List Token) (f : FileTree) → IsFileWithin n ts f → IsFileWithin w ts f
+file_within n w g ts f is = record {
+  written = is.written;
+  read = record { spelled = is.read.spelled; models = each_within (model_within n w g) is.written.models is.read.models };
+  tree = is.tree;
+}

@@ -1,0 +1,53 @@
+-- What a refusal of tokens says, in the words of the grammar.
+use Rattle.std.specs.Prelude.{◌≡◌, ◌⊎◌, ℕ, List, [], ◌∷◌, ◌++◌}
+use Rattle.dv_lex.specs.declared.token.Token.{Token}
+use Rattle.dv_lex.specs.declared.error.Refusal.{Refusal}
+use Rattle.dv_lex.specs.declared.error.RefusalNumber.{RefusalNumber}
+use Rattle.dv_lex.specs.declared.error.RefusalNumber.TheVariants.{E4, E5}
+use Rattle.dv_syntax.specs.Trees.{FileTree}
+use Rattle.dv_syntax.specs.Grammar.{Limits, the_limits, IsFileWithin, IsFileOf}
+
+-- a file within these limits on depth begins with the tokens
+abbrev pub BeginsFileWithin : Limits → List Token → Type 0
+BeginsFileWithin limits ts = (more : List Token) × (f : FileTree) × IsFileWithin limits (ts ++ more) f
+
+-- a file within the limits on depth begins with the tokens
+abbrev pub BeginsFile : List Token → Type 0
+BeginsFile ts = BeginsFileWithin the_limits ts
+
+-- a file of some depth begins with the tokens
+abbrev pub BeginsFileAtAnyDepth : List Token → Type 0
+BeginsFileAtAnyDepth ts = (limits : Limits) × BeginsFileWithin limits ts
+
+-- The token at this place is the first wrong one: a file begins with the tokens before it, and none with those up to it, it
+-- included.
+pub record NoneBeginsAt (ts : List Token) (place : ℕ) : Type 0 where
+  pub before : List Token
+  pub token : Token
+  pub behind : List Token
+  pub whole : ts ≡ before ++ token ∷ behind
+  pub at : token.place ≡ place
+  pub begun : BeginsFile before
+  pub none : ¬ BeginsFile (before ++ token ∷ [])
+
+-- The number that refuses the tokens up to the first wrong one, it included: E5 where they still begin a file without the
+-- limits on depth, else E4.
+abbrev pub IsNumberOf : RefusalNumber → List Token → Type 0
+IsNumberOf E4 ts = ¬ BeginsFileAtAnyDepth ts
+IsNumberOf E5 ts = BeginsFileAtAnyDepth ts
+IsNumberOf _ ts = ⊥
+
+-- the refusal names the first wrong token, by its place, and says by its number whether that is only too deep
+pub record IsFirstWrong (ts : List Token) (r : Refusal) : Type 0 where
+  pub first : NoneBeginsAt ts r.place
+  pub number : IsNumberOf r.number (first.before ++ first.token ∷ [])
+
+-- a file begins with the tokens, but none is these alone
+pub record EndEarly (ts : List Token) : Type 0 where
+  pub begun : BeginsFile ts
+  pub none : (f : FileTree) → ¬ IsFileOf ts f
+
+-- Where the tokens of a text are refused no file goes on: at the first wrong token, which the refusal names, or at the end of
+-- the text, where they end too early.
+abbrev pub IsDeadEnd : List Token → ℕ → Refusal → Type 0
+IsDeadEnd ts end r = IsFirstWrong ts r ⊎ ((r ≡ record { number = E4; place = end }) × EndEarly ts)
