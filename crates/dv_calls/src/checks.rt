@@ -3,7 +3,7 @@
 use crate::compare::{Call, error_text, rows, same_row};
 use dv_check::{Checked, check};
 use dv_lex::{LoadError, tokens};
-use dv_syntax::parse;
+use dv_parser::parse;
 use std::alloc::{AllocError, Global};
 use std::process::Abort;
 

@@ -4,7 +4,8 @@ use crate::compare::{Call, error_text, rows};
 use dv_bag::{Effect, Fault, RuleError, State, Value};
 use dv_eval::{Scope, eval, hold, rule_body, run_rule, start_state};
 use dv_lex::{LoadError, tokens};
-use dv_syntax::{Atomic, File, Model, RuleSort, Ticks, parse};
+use dv_parser::parse;
+use dv_syntax::{Atomic, File, Model, RuleSort, Ticks};
 use std::alloc::{AllocError, Global};
 
 /// The name of the start phase, in the model of `file_of`. The names: 0 A, 1 y, 2 n, 3 z, 4 d.

@@ -2,7 +2,8 @@
 
 use crate::compare::{Call, error_text, rows, same, same_row};
 use dv_lex::{LoadError, Refusal, RefusalNumber, tokens};
-use dv_syntax::{Atomic, Coupled, File, Model, parse};
+use dv_parser::parse;
+use dv_syntax::{Atomic, Coupled, File, Model};
 use std::alloc::{AllocError, Global};
 use std::process::Abort;
 

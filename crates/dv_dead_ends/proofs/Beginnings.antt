@@ -15,12 +15,12 @@ use Rattle.dv_syntax.specs.declared.tree.RuleSort.TheVariants as sort
 use Rattle.dv_syntax.specs.Trees.{Expression, Literal, TruthValue, Named, Parens, Prefixed, Binary}
 use Rattle.dv_syntax.specs.Written.{Declares, Lists, Starts, Holds, Rules, Outputs, Contains, Couples, WrittenModel, WrittenAtomic, WrittenCoupled, WrittenFile, sorted}
 use Rattle.dv_syntax.specs.Grammar.{Limits, prefix_kind, prefix_rank, operator_rank, depth, sort_word}
-use Rattle.dv_syntax.specs.Reading.{SingleAssign, SingleGoto, SingleSend, SingleIf, SingleIfElse, joined, Unexpected, TooDeep, read_then, within, choose, maybe, same_kind, begins, begins_name, begins_truth, begins_prefix, truth_at, name_at, number_at, place_at, obstacle_at, operator_of, goes_on, operator_at, leaf_at, parens_at, prefixed_at, primary_at, turns, expression_at, many_at, braces_at, assign_at, goto_at, send_at, else_at, if_at, statement_at, block_at, bound_at, variable_at, flag_at, further_name_at, phases_at, start_at, ticks_at, hold_at, rule_at, out_at, item_at, atomic_at, end_at, part_at, link_at, coupled_item_at, coupled_at, model_at, file_at}
+use Rattle.dv_parser.specs.Reading.{SingleAssign, SingleGoto, SingleSend, SingleIf, SingleIfElse, joined, Unexpected, TooDeep, read_then, within, choose, maybe, same_kind, begins, begins_name, begins_truth, begins_prefix, truth_at, name_at, number_at, place_at, obstacle_at, operator_of, goes_on, operator_at, leaf_at, parens_at, prefixed_at, primary_at, turns, expression_at, many_at, braces_at, assign_at, goto_at, send_at, else_at, if_at, statement_at, block_at, bound_at, variable_at, flag_at, further_name_at, phases_at, start_at, ticks_at, hold_at, rule_at, out_at, item_at, atomic_at, end_at, part_at, link_at, coupled_item_at, coupled_at, model_at, file_at}
 use Rattle.dv_dead_ends.specs.Refusals.{BeginsFileWithin}
-use Rattle.dv_syntax.proofs.Tokens.{then_is}
-use Rattle.dv_syntax.proofs.Expressions.{positive_depth}
-use Rattle.dv_syntax.proofs.Statements.{statement_shortens}
-use Rattle.dv_syntax.proofs.Models.{item_shortens, further_name_shortens, coupled_item_shortens, model_shortens, file_sound}
+use Rattle.dv_parser.proofs.Tokens.{then_is}
+use Rattle.dv_parser.proofs.Expressions.{positive_depth}
+use Rattle.dv_parser.proofs.Statements.{statement_shortens}
+use Rattle.dv_parser.proofs.Models.{item_shortens, further_name_shortens, coupled_item_shortens, model_shortens, file_sound}
 use Rattle.dv_dead_ends.proofs.Steady.{Reader, begins_name_of_first, begins_truth_of_first, truth_steady, many_steady, braces_steady, name_steady, number_steady}
 use Rattle.dv_dead_ends.proofs.Completions.{of_kind, Unfinished, CompletesAt, Completes, Always, Begins, each, ReadsOn, Leaves, StopsThere, on_first, leaves_complete, then_completes, choose_completes, choose_completes_by, after_completes, deep_completes, name_completes, number_completes, truth_completes, many_completes, braces_complete}
 use Rattle.dv_dead_ends.proofs.SteadyReaders.{cases_option, begins_prefix_of_first, primary_steady, expression_steady, statement_steady, block_steady, bound_steady, further_name_steady, ticks_steady, out_steady, variable_steady, flag_steady, item_steady, end_steady, part_steady, link_steady, coupled_item_steady, atomic_steady, coupled_steady, model_steady, last_at, root_at, whole_at, file_whole, as_file}

@@ -6,9 +6,9 @@ use Rattle.dv_lex.specs.declared.token.TokenKind.{TokenKind}
 use Rattle.dv_lex.specs.declared.token.TokenKind.TheVariants as kind
 use Rattle.dv_lex.specs.declared.token.Keyword.TheVariants as keyword
 use Rattle.dv_lex.specs.declared.token.Symbol.TheVariants as symbol
-use Rattle.dv_syntax.specs.Reading.{Obstacle, Unexpected, TooDeep, TooShort, Read, read_then, choose, same_kind, begins, after, place_at, name_of, name_at, number_of, number_at, truth_at, many_at, braces_at}
-use Rattle.dv_syntax.proofs.Tokens.{ok_is, err_ok, same_kind-same}
-use Rattle.dv_syntax.proofs.Readers.{Shortens}
+use Rattle.dv_parser.specs.Reading.{Obstacle, Unexpected, TooDeep, TooShort, Read, read_then, choose, same_kind, begins, after, place_at, name_of, name_at, number_of, number_at, truth_at, many_at, braces_at}
+use Rattle.dv_parser.proofs.Tokens.{ok_is, err_ok, same_kind-same}
+use Rattle.dv_parser.proofs.Readers.{Shortens}
 use Rattle.dv_dead_ends.proofs.Steady.{Reader, IsAt, SteadyAt, IsSteady, IsOfFirst, begins_of_first, ok_err, err_is, same_place, many_step, many_steady}
 
 -- a token of a kind

@@ -4,10 +4,10 @@ use Rattle.dv_lex.specs.declared.error.Refusal.{Refusal}
 use Rattle.dv_lex.specs.declared.token.Token.{Token}
 use Rattle.dv_syntax.specs.Written.{WrittenFile}
 use Rattle.dv_syntax.specs.Grammar.{Limits, the_limits, IsFileWithin}
-use Rattle.dv_syntax.specs.Reading.{Obstacle, Unexpected, TooDeep, TooShort, Read, file_at, refusal_of, refusal_in, refusal_of_tokens}
+use Rattle.dv_parser.specs.Reading.{Obstacle, Unexpected, TooDeep, TooShort, Read, file_at, refusal_of, refusal_in, refusal_of_tokens}
 use Rattle.dv_dead_ends.specs.Refusals.{BeginsFileWithin, BeginsFile, BeginsFileAtAnyDepth, NoneBeginsAt, IsNumberOf, IsDeadEnd}
-use Rattle.dv_syntax.proofs.Tokens.{some_is}
-use Rattle.dv_syntax.proofs.Models.{file_refused}
+use Rattle.dv_parser.proofs.Tokens.{some_is}
+use Rattle.dv_parser.proofs.Models.{file_refused}
 use Rattle.dv_dead_ends.proofs.Steady.{IsAt, Stops, err_is, ok_err}
 use Rattle.dv_dead_ends.proofs.SteadyReaders.{whole_at, whole_steady, whole_err, file_err}
 use Rattle.dv_dead_ends.proofs.Completions.{Unfinished}

@@ -6,9 +6,9 @@ use Rattle.dv_lex.specs.declared.token.TokenKind.{TokenKind}
 use Rattle.dv_lex.specs.declared.token.TokenKind.TheVariants as kind
 use Rattle.dv_lex.specs.declared.token.Keyword.TheVariants as keyword
 use Rattle.dv_lex.specs.declared.token.Symbol.TheVariants as symbol
-use Rattle.dv_syntax.specs.Reading.{Obstacle, Unexpected, TooDeep, TooShort, Read, read_then, choose, same_kind, begins, begins_name, begins_truth, truth_at, after, place_at, name_of, name_at, number_of, number_at, many, many_at, braces_at}
-use Rattle.dv_syntax.proofs.Tokens.{then_ok, ok_is, err_ok}
-use Rattle.dv_syntax.proofs.Readers.{Shortens, same_after, same_many}
+use Rattle.dv_parser.specs.Reading.{Obstacle, Unexpected, TooDeep, TooShort, Read, read_then, choose, same_kind, begins, begins_name, begins_truth, truth_at, after, place_at, name_of, name_at, number_of, number_at, many, many_at, braces_at}
+use Rattle.dv_parser.proofs.Tokens.{then_ok, ok_is, err_ok}
+use Rattle.dv_parser.proofs.Readers.{Shortens, same_after, same_many}
 
 abbrev pub Reader : Type 0 → Type 0
 Reader A = List Token → Read (A × List Token)

@@ -10,9 +10,9 @@ use Rattle.dv_lex.specs.declared.token.Keyword.TheVariants as keyword
 use Rattle.dv_lex.specs.declared.token.Symbol.TheVariants as symbol
 use Rattle.dv_syntax.specs.declared.tree.Name.{Name}
 use Rattle.dv_syntax.specs.declared.tree.Number.{Number}
-use Rattle.dv_syntax.specs.Reading.{Unexpected, TooDeep, TooShort, Read, read_then, choose, same_kind, begins, after, place_at, name_of, name_at, number_of, number_at, truth_at, many_at, braces_at}
-use Rattle.dv_syntax.proofs.Tokens.{then_is}
-use Rattle.dv_syntax.proofs.Readers.{Shortens}
+use Rattle.dv_parser.specs.Reading.{Unexpected, TooDeep, TooShort, Read, read_then, choose, same_kind, begins, after, place_at, name_of, name_at, number_of, number_at, truth_at, many_at, braces_at}
+use Rattle.dv_parser.proofs.Tokens.{then_is}
+use Rattle.dv_parser.proofs.Readers.{Shortens}
 use Rattle.dv_dead_ends.proofs.Steady.{Reader, Stops, SteadyAt, IsSteady, IsOfFirst, begins_of_first, ok_err, err_is, same_place, wider, after_both, then_err, leaves_steady, after_steady, then_steady, choose_at as choose_steady_at, name_steady, number_steady, many_step, many_steady}
 use Rattle.dv_dead_ends.proofs.Completions.{Unfinished}
 

@@ -13,10 +13,10 @@ use Rattle.dv_syntax.specs.declared.tree.RuleSort.TheVariants as sort
 use Rattle.dv_syntax.specs.Trees.{Expression, Literal, TruthValue, Named, Parens, Prefixed, Binary}
 use Rattle.dv_syntax.specs.Written.{Declares, Lists, Starts, Holds, Rules, Outputs, Contains, Couples, WrittenModel, WrittenAtomic, WrittenCoupled, WrittenFile}
 use Rattle.dv_syntax.specs.Grammar.{Limits, prefix_kind, prefix_rank, operator_rank, depth, sort_word}
-use Rattle.dv_syntax.specs.Reading.{SingleAssign, SingleGoto, SingleSend, SingleIf, SingleIfElse, joined, TooShort, read_then, within, choose, maybe, begins_name, begins_truth, after, number_at, place_at, obstacle_at, operator_of, goes_on, operator_at, leaf_at, parens_at, prefixed_at, primary_at, turns, expression_at, assign_at, goto_at, send_at, else_at, if_at, statement_at, block_at, bound_at, variable_at, flag_at, further_name_at, phases_at, start_at, ticks_at, hold_at, rule_at, out_at, item_at, atomic_at, end_at, part_at, link_at, coupled_item_at, coupled_at, model_at}
-use Rattle.dv_syntax.proofs.Expressions.{expression_read, primary_depth, positive_depth, operator_rank-le}
-use Rattle.dv_syntax.proofs.Statements.{statement_shortens}
-use Rattle.dv_syntax.proofs.Models.{item_shortens, further_name_shortens, coupled_item_shortens, model_shortens}
+use Rattle.dv_parser.specs.Reading.{SingleAssign, SingleGoto, SingleSend, SingleIf, SingleIfElse, joined, TooShort, read_then, within, choose, maybe, begins_name, begins_truth, after, number_at, place_at, obstacle_at, operator_of, goes_on, operator_at, leaf_at, parens_at, prefixed_at, primary_at, turns, expression_at, assign_at, goto_at, send_at, else_at, if_at, statement_at, block_at, bound_at, variable_at, flag_at, further_name_at, phases_at, start_at, ticks_at, hold_at, rule_at, out_at, item_at, atomic_at, end_at, part_at, link_at, coupled_item_at, coupled_at, model_at}
+use Rattle.dv_parser.proofs.Expressions.{expression_read, primary_depth, positive_depth, operator_rank-le}
+use Rattle.dv_parser.proofs.Statements.{statement_shortens}
+use Rattle.dv_parser.proofs.Models.{item_shortens, further_name_shortens, coupled_item_shortens, model_shortens}
 use Rattle.dv_dead_ends.proofs.Depths.{AreGreater}
 use Rattle.dv_dead_ends.proofs.Steady.{Reader, begins_of_first, begins_name_of_first, begins_truth_of_first}
 use Rattle.dv_dead_ends.proofs.SteadyReaders.{cases_option, begins_prefix_of_first, primary_steady, expression_steady, if_steady, block_steady, last_at, last_steady, root_at, whole_at}

@@ -1,7 +1,7 @@
 //! Laws of refusals. Each function stands for the law in its contract; its body does nothing.
 
 ghost use Rattle.std.specs.Prelude.{◌≡◌, ◌<◌, ◌≤◌, ℕ, List, All, Some};
-ghost use Rattle.dv_syntax.specs.Reading.{refusal_of_tokens};
+ghost use Rattle.dv_parser.specs.Reading.{refusal_of_tokens};
 ghost use Rattle.dv_dead_ends.specs.Refusals.{BeginsFile, IsDeadEnd, NoneBeginsAt};
 
 use dv_lex::{Refusal, Token};

@@ -8,7 +8,7 @@ use Rattle.dv_lex.specs.declared.error.TextError.{TextError}
 use Rattle.dv_lex.specs.Texts.{IsRefused, IsTokensOf, answer_to}
 use Rattle.dv_syntax.specs.Trees.{FileTree}
 use Rattle.dv_syntax.specs.Grammar.{IsFileOf}
-use Rattle.dv_syntax.specs.Reading.{refusal_of_tokens, IsRefused as AreRefused}
+use Rattle.dv_parser.specs.Reading.{refusal_of_tokens, IsRefused as AreRefused}
 use Rattle.dv_check.specs.Refusals.{IsAnswerTo, refusal_of}
 use Rattle.dv_job.specs.Job.{HasAnswer, HasModel, HasNoFile, IsAnswer, IsModelOf, IsRefusedFile, IsRefusedText}
 use Rattle.dv_job.specs.Loading.{IsUnloaded}

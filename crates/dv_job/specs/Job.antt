@@ -6,7 +6,7 @@ use Rattle.dv_lex.specs.declared.error.TextError.{TextError}
 use Rattle.dv_lex.specs.Texts.{IsTokensOf, IsRefused as HasNoTokens, answer_to}
 use Rattle.dv_syntax.specs.Trees.{FileTree}
 use Rattle.dv_syntax.specs.Grammar.{IsFileOf}
-use Rattle.dv_syntax.specs.Reading.{refusal_of_tokens}
+use Rattle.dv_parser.specs.Reading.{refusal_of_tokens}
 use Rattle.dv_check.specs.Refusals.{refusal_of}
 use Rattle.dv_plain.specs.Source.{network_of, no_input}
 use Rattle.dv_text.specs.Names.{component_names, root_ports}

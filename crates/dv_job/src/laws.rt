@@ -9,7 +9,7 @@ use dv_lex::TextError;
 use dv_lex::laws::{
     a_text_has_tokens_or_a_refusal, refusals_are_unique, tokens_are_unique, tokens_or_refused,
 };
-use dv_syntax::laws::{tokens_have_one_answer, tokens_spell_one_file};
+use dv_parser::laws::{tokens_have_one_answer, tokens_spell_one_file};
 
 /// A text has exactly one answer: a model, or a number with its line.
 pub fn a_text_has_one_answer()

@@ -9,7 +9,7 @@ ghost use Rattle.dv_job.specs.Loading.{IsUnloaded};
 use crate::ended::JobError;
 use dv_check::{Checked, check};
 use dv_lex::{LoadError, answer, tokens};
-use dv_syntax::parse;
+use dv_parser::parse;
 use std::alloc::Global;
 
 /// The checked text of these bytes.

@@ -1,10 +1,1 @@
-pub mod Tokens
-pub mod Readers
-pub mod Expressions
-pub mod Climbing
-pub mod Statements
-pub mod Models
-pub mod Sorting
-pub mod OneAnswer
-pub mod Rows
 pub mod Blocks

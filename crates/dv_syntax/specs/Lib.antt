@@ -1,5 +1,4 @@
--- What a reader believes: the trees, the tokens that spell them, and the refusal of tokens that spell none.
+-- What a reader believes: the trees, and the tokens that spell them.
 pub mod Trees
 pub mod Written
 pub mod Grammar
-pub mod Reading

@@ -1,14 +1,11 @@
-//! The syntax trees of a model text, and the parser.
+//! The syntax of model texts: the trees, and in `specs` the grammar, which says how tokens spell them.
 #![tactic(auto)]
 
-/// Laws of tokens and trees.
+/// Laws of trees.
 pub mod laws;
-/// The parser.
-pub mod parser;
 /// The trees.
 pub mod tree;
 
-pub use parser::parse;
 pub use tree::{
     Atomic, Block, Bound, Coupled, Declaration, End, Expr, File, Flag, Hold, Link, Model, Name,
     Number, Operator, Part, Phases, Prefix, Rule, RuleSort, Start, Stmt, Ticks, Variable,

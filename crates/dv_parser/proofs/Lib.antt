@@ -1,0 +1,9 @@
+pub mod Tokens
+pub mod Readers
+pub mod Expressions
+pub mod Climbing
+pub mod Statements
+pub mod Models
+pub mod Sorting
+pub mod OneAnswer
+pub mod Rows

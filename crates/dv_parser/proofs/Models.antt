@@ -1,0 +1,594 @@
+-- What is read as items, models and files is spelled so, and what is spelled so is read.
+use Rattle.std.proofs.Common.{◌≡◌, ℕ, ◌<◌, true, false, List, [], ◌∷◌, ◌++◌, length, Option, Some, None, Ok, Err, refl, sym, ap, subst, ◌∙◌, inl, inr, arith}
+use Rattle.std.specs.List.{flat_map, AllByRecursion}
+use Rattle.dv_lex.specs.declared.token.Token.{Token}
+use Rattle.dv_lex.specs.declared.token.TokenKind.TheVariants as kind
+use Rattle.dv_lex.specs.declared.token.Keyword.TheVariants as keyword
+use Rattle.dv_lex.specs.declared.token.Symbol.{Symbol}
+use Rattle.dv_lex.specs.declared.token.Symbol.TheVariants as symbol
+use Rattle.dv_syntax.specs.declared.tree.Prefix.TheVariants as prefix
+use Rattle.dv_syntax.specs.declared.tree.Name.{Name}
+use Rattle.dv_syntax.specs.declared.tree.Number.{Number}
+use Rattle.dv_syntax.specs.declared.tree.Bound.{Bound}
+use Rattle.dv_syntax.specs.declared.tree.Variable.{Variable}
+use Rattle.dv_syntax.specs.declared.tree.Flag.{Flag}
+use Rattle.dv_syntax.specs.declared.tree.Declaration.TheVariants as declaration
+use Rattle.dv_syntax.specs.declared.tree.RuleSort.{RuleSort}
+use Rattle.dv_syntax.specs.declared.tree.RuleSort.TheVariants as sort
+use Rattle.dv_syntax.specs.declared.tree.End.{End}
+use Rattle.dv_syntax.specs.declared.tree.Part.{Part}
+use Rattle.dv_syntax.specs.declared.tree.Link.{Link}
+use Rattle.dv_syntax.specs.Trees.{Expression, Statements, Literal, TruthValue, Named, Parens, Prefixed, Binary, FileTree}
+use Rattle.dv_syntax.specs.Written.{AtomicItem, Declares, Lists, Starts, Holds, Rules, CoupledItem, Outputs, Contains, Couples, WrittenModel, WrittenAtomic, WrittenCoupled, WrittenFile, sorted}
+use Rattle.dv_syntax.specs.Grammar.{Spelled, Anywhere, Limits, the_limits, name, number, sign, word, braces, operator_kind, expression_spelling, minus_spelling, bound_spelling, variable_spelling, flag_spelling, ticks_spelling, phases_spelling, rule_spelling, item_spelling, AreTicks, IsItem, part_name_spelling, end_spelling, coupled_item_spelling, model_spelling, IsModel, file_spelling, IsWritten, IsFileWithin, IsFileOf}
+use Rattle.dv_parser.specs.Reading.{Obstacle, read_then, choose, begins, operator_of, many_at, braces_at, bound_at, variable_at, flag_at, further_name_at, phases_at, start_at, ticks_at, hold_at, rule_at, out_at, item_at, atomic_at, end_at, part_at, link_at, coupled_item_at, coupled_at, model_at, is_end, file_at}
+use Rattle.dv_parser.proofs.Tokens.{then_ok, chosen, ok_is, err_ok}
+use Rattle.dv_parser.proofs.Readers.{Spans, nothing, after_spans, after_spans_at, name_spans, number_spans, truth_spans, then_spans, split, first, first_name, first_number, first_truth, span_end, IsReader, IsListed, many_reader, braces_reader, shortens, Shortens}
+use Rattle.dv_parser.proofs.Expressions.{IsClosed-front}
+use Rattle.dv_parser.proofs.Statements.{expression_reader, block_reader, IsBlock}
+
+abbrev Always : List Token → Type 0
+Always rest = Unit {0}
+
+abbrev semicolon : List Spelled
+semicolon = sign symbol.Semicolon ∷ []
+
+-- ---- Bounds and variables
+
+bound_complete : (minus : Option ℕ) (n : Number) (ts rest : List Token) → Spans (minus_spelling minus ++ number n ∷ []) ts rest → bound_at ts ≡ Ok (record { minus = minus; magnitude = n }, rest)
+unfolding bound_at choose read_then
+bound_complete None n ts rest h =
+    let f = first h in
+    let m = first_number n h in
+    rw (f.begins (kind.Symbol symbol.Minus), m.read, span_end m.spelled) refl
+bound_complete (Some place) n ts rest h =
+    let f = first h in
+    let m = first_number n f.spelled in
+    rw (f.begins (kind.Symbol symbol.Minus), f.after, m.read, f.place, span_end m.spelled) refl
+
+bound_sound : (ts : List Token) (x : Bound × List Token) → bound_at ts ≡ Ok x → Spans (bound_spelling x.0) ts x.1
+unfolding bound_at
+bound_sound ts x e =
+    elim (chosen _ _ _ _ e) [
+      | inl p ↦
+          let a = then_ok _ _ _ p.1 in
+          let b = then_ok _ _ _ a.2 in
+          subst (λ (y : Bound × List Token). Spans (bound_spelling y.0) ts y.1) (ok_is _ _ b.2) (after_spans_at a.1 (number_spans b.1 nothing))
+      | inr p ↦
+          let a = then_ok _ _ _ p.1 in
+          subst (λ (y : Bound × List Token). Spans (bound_spelling y.0) ts y.1) (ok_is _ _ a.2) (number_spans a.1 nothing)
+    ]
+
+bound_reader : IsReader bound_at bound_spelling (λ b. Unit {0}) Always
+bound_reader = record {
+  sound = λ ts x e. (bound_sound ts x e, tt);
+  complete = λ x ts rest is h ends. bound_complete x.minus x.magnitude ts rest h;
+}
+
+variable_sound : (ts : List Token) (x : Variable × List Token) → variable_at ts ≡ Ok x → Spans (variable_spelling x.0) ts x.1
+unfolding variable_at
+variable_sound ts x e =
+    let a = then_ok _ _ _ e in
+    let b = then_ok _ _ _ a.2 in
+    let c = then_ok _ _ _ b.2 in
+    let low = then_ok _ _ _ c.2 in
+    let d = then_ok _ _ _ low.2 in
+    let high = then_ok _ _ _ d.2 in
+    let f = then_ok _ _ _ high.2 in
+    let start = then_ok _ _ _ f.2 in
+    let g = then_ok _ _ _ start.2 in
+    let l = bound_reader.sound c.0 low.0 low.1 in
+    let h = bound_reader.sound d.0 high.0 high.1 in
+    let s = bound_reader.sound f.0 start.0 start.1 in
+    subst (λ (y : Variable × List Token). Spans (variable_spelling y.0) ts y.1) (ok_is _ _ g.2)
+    (after_spans a.1 (name_spans b.1 (after_spans c.1 (then_spans l.0 (after_spans d.1 (then_spans h.0 (after_spans f.1 (then_spans s.0 (after_spans g.1 nothing)))))))))
+
+variable_complete : (v : Variable) (ts rest : List Token) → Spans (variable_spelling v) ts rest → variable_at ts ≡ Ok (v, rest)
+unfolding variable_at read_then
+variable_complete v ts rest h =
+    let a = first h in
+    let b = first_name v.name a.spelled in
+    let c = first b.spelled in
+    let after_start : List Spelled = semicolon in
+    let after_high : List Spelled = sign symbol.Equal ∷ (bound_spelling v.start ++ after_start) in
+    let after_low : List Spelled = sign symbol.Range ∷ (bound_spelling v.high ++ after_high) in
+    let l = split (bound_spelling v.low) after_low c.spelled in
+    let low = bound_reader.complete v.low c.behind l.0 tt l.1 tt in
+    let d = first l.2 in
+    let h' = split (bound_spelling v.high) after_high d.spelled in
+    let high = bound_reader.complete v.high d.behind h'.0 tt h'.1 tt in
+    let f = first h'.2 in
+    let s = split (bound_spelling v.start) after_start f.spelled in
+    let start = bound_reader.complete v.start f.behind s.0 tt s.1 tt in
+    let g = first s.2 in
+    rw (a.after, b.read, c.after, low, d.after, high, f.after, start, g.after, span_end g.spelled) refl
+
+flag_sound : (ts : List Token) (x : Flag × List Token) → flag_at ts ≡ Ok x → Spans (flag_spelling x.0) ts x.1
+unfolding flag_at
+flag_sound ts x e =
+    let a = then_ok _ _ _ e in
+    let b = then_ok _ _ _ a.2 in
+    let c = then_ok _ _ _ b.2 in
+    let start = then_ok _ _ _ c.2 in
+    let d = then_ok _ _ _ start.2 in
+    subst (λ (y : Flag × List Token). Spans (flag_spelling y.0) ts y.1) (ok_is _ _ d.2)
+    (after_spans a.1 (name_spans b.1 (after_spans c.1 (truth_spans start.1 (after_spans d.1 nothing)))))
+
+flag_complete : (f : Flag) (ts rest : List Token) → Spans (flag_spelling f) ts rest → flag_at ts ≡ Ok (f, rest)
+unfolding flag_at read_then
+flag_complete f ts rest h =
+    let a = first h in
+    let b = first_name f.name a.spelled in
+    let c = first b.spelled in
+    let start = first_truth f.start c.spelled in
+    let d = first start.spelled in
+    rw (a.after, b.read, c.after, start.read, d.after, span_end d.spelled) refl
+
+-- ---- Items
+
+further_reader : IsReader further_name_at (λ n. sign symbol.Comma ∷ name n ∷ []) (λ n. Unit {0}) Always
+unfolding further_name_at read_then
+further_reader = record {
+  sound = λ ts x e. let a = then_ok _ _ _ e in (after_spans a.1 (name_spans a.2 nothing), tt);
+  complete = λ x ts rest is h ends.
+      let a = first h in
+      let b = first_name x a.spelled in
+      rw (a.after, b.read, span_end b.spelled) refl;
+}
+
+further_listed : IsListed (λ (n : Name). sign symbol.Comma ∷ name n ∷ []) Always (kind.Symbol symbol.Semicolon)
+further_listed = record {
+  opens = λ x ts rest h. (first h).begins _;
+  before = λ x ts rest h. tt;
+  at_stop = λ ts e. tt;
+  some = λ x. omega arith;
+}
+
+abbrev ReadsItem : Limits → List Token → AtomicItem × List Token → Type 0
+ReadsItem limits ts x = Spans (item_spelling x.0) ts x.1 × IsItem limits x.0
+
+phases_sound : (limits : Limits) (ts : List Token) (x : AtomicItem × List Token) → phases_at ts ≡ Ok x → ReadsItem limits ts x
+unfolding phases_at
+phases_sound limits ts x e =
+    let r = many_reader further_name_at _ _ _ further_reader (kind.Symbol symbol.Semicolon) further_listed in
+    let a = then_ok _ _ _ e in
+    let b = then_ok _ _ _ a.2 in
+    let c = then_ok _ _ _ b.2 in
+    let d = then_ok _ _ _ c.2 in
+    let s = r.sound b.0.1 c.0 c.1 in
+    subst (ReadsItem limits ts) (ok_is _ _ d.2) (after_spans_at a.1 (name_spans b.1 (then_spans s.0 (after_spans d.1 nothing))), omega arith)
+
+start_sound : (limits : Limits) (ts : List Token) (x : AtomicItem × List Token) → start_at ts ≡ Ok x → ReadsItem limits ts x
+unfolding start_at
+start_sound limits ts x e =
+    let a = then_ok _ _ _ e in
+    let b = then_ok _ _ _ a.2 in
+    let c = then_ok _ _ _ b.2 in
+    subst (ReadsItem limits ts) (ok_is _ _ c.2) (after_spans_at a.1 (name_spans b.1 (after_spans c.1 nothing)), tt)
+
+ticks_sound : (limits : Limits) (ts : List Token) (x : Option Expression × List Token) → ticks_at limits ts ≡ Ok x → Spans (ticks_spelling x.0) ts x.1 × AreTicks limits x.0
+unfolding ticks_at
+ticks_sound limits ts x e =
+    elim (chosen _ _ _ _ e) [
+      | inl p ↦
+          let a = then_ok _ _ _ p.1 in
+          subst (λ (y : Option Expression × List Token). Spans (ticks_spelling y.0) ts y.1 × AreTicks limits y.0) (ok_is _ _ a.2) (after_spans a.1 nothing, tt)
+      | inr p ↦
+          let a = then_ok _ _ _ p.1 in
+          let s = (expression_reader limits).sound ts a.0 a.1 in
+          subst (λ (y : Option Expression × List Token). Spans (ticks_spelling y.0) ts y.1 × AreTicks limits y.0) (ok_is _ _ a.2) (s.0, s.1)
+    ]
+
+hold_sound : (limits : Limits) (ts : List Token) (x : AtomicItem × List Token) → hold_at limits ts ≡ Ok x → ReadsItem limits ts x
+unfolding hold_at
+hold_sound limits ts x e =
+    let a = then_ok _ _ _ e in
+    let b = then_ok _ _ _ a.2 in
+    let c = then_ok _ _ _ b.2 in
+    let d = then_ok _ _ _ c.2 in
+    let f = then_ok _ _ _ d.2 in
+    let s = ticks_sound limits c.0 d.0 d.1 in
+    subst (ReadsItem limits ts) (ok_is _ _ f.2) (after_spans_at a.1 (name_spans b.1 (after_spans c.1 (then_spans s.0 (after_spans f.1 nothing)))), s.1)
+
+rule_sound : (limits : Limits) (sort : RuleSort) (ts : List Token) (x : AtomicItem × List Token) → rule_at limits sort ts ≡ Ok x → ReadsItem limits ts x
+unfolding rule_at
+rule_sound limits sort ts x e =
+    let a = then_ok _ _ _ e in
+    let b = then_ok _ _ _ a.2 in
+    let c = then_ok _ _ _ b.2 in
+    let s = (block_reader limits limits.block).sound b.0.1 c.0 c.1 in
+    subst (ReadsItem limits ts) (ok_is _ _ c.2) (after_spans a.1 (name_spans b.1 s.0), s.1)
+
+-- `out port;`
+out_reader : IsReader out_at (λ n. word keyword.Out ∷ name n ∷ semicolon) (λ n. Unit {0}) Always
+unfolding out_at read_then
+out_reader = record {
+  sound = λ ts x e.
+      let a = then_ok _ _ _ e in
+      let b = then_ok _ _ _ a.2 in
+      let c = then_ok _ _ _ b.2 in
+      subst (λ (y : Name × List Token). Spans (word keyword.Out ∷ name y.0 ∷ semicolon) ts y.1 × Unit {0}) (ok_is _ _ c.2) (after_spans a.1 (name_spans b.1 (after_spans c.1 nothing)), tt);
+  complete = λ x ts rest is h ends.
+      let a = first h in
+      let b = first_name x a.spelled in
+      let c = first b.spelled in
+      rw (a.after, b.read, c.after, span_end c.spelled) refl;
+}
+
+item_sound : (limits : Limits) (ts : List Token) (x : AtomicItem × List Token) → item_at limits ts ≡ Ok x → ReadsItem limits ts x
+unfolding item_at
+item_sound limits ts x e =
+    elim (chosen _ _ _ _ e) [
+      | inl p ↦ let a = then_ok _ _ _ p.1 in let s = out_reader.sound ts a.0 a.1 in subst (ReadsItem limits ts) (ok_is _ _ a.2) (s.0, tt)
+      | inr p ↦ elim (chosen _ _ _ _ p.1) [
+        | inl q ↦ let a = then_ok _ _ _ q.1 in let s = variable_sound ts a.0 a.1 in subst (ReadsItem limits ts) (ok_is _ _ a.2) (s, tt)
+        | inr q ↦ elim (chosen _ _ _ _ q.1) [
+          | inl f ↦ let a = then_ok _ _ _ f.1 in let s = flag_sound ts a.0 a.1 in subst (ReadsItem limits ts) (ok_is _ _ a.2) (s, tt)
+          | inr f ↦ elim (chosen _ _ _ _ f.1) [
+            | inl w ↦ phases_sound limits ts x w.1
+            | inr w ↦ elim (chosen _ _ _ _ w.1) [
+              | inl u ↦ start_sound limits ts x u.1
+              | inr u ↦ elim (chosen _ _ _ _ u.1) [
+                | inl v ↦ hold_sound limits ts x v.1
+                | inr v ↦ elim (chosen _ _ _ _ v.1) [
+                  | inl z ↦ rule_sound limits sort.Output ts x z.1
+                  | inr z ↦ rule_sound limits sort.Internal ts x z.1
+                ]
+              ]
+            ]
+          ]
+        ]
+      ]
+    ]
+
+rule_complete : (limits : Limits) (sort : RuleSort) (p : Name) (body : Statements) (ts rest : List Token) → IsBlock limits limits.block body → Spans (rule_spelling (record { sort = sort; phase = p; body = body })) ts rest → rule_at limits sort ts ≡ Ok (Rules (record { sort = sort; phase = p; body = body }), rest)
+unfolding rule_at read_then
+rule_complete limits sort p body ts rest is h =
+    let a = first h in
+    let b = first_name p a.spelled in
+    let c = (block_reader limits limits.block).complete body b.behind rest is b.spelled tt in
+    rw (a.after, b.read, c) refl
+
+-- no expression begins with `forever`
+expression_no_word : (e : Expression) (ts rest : List Token) → Spans (expression_spelling e) ts rest → begins (kind.Keyword keyword.Forever) ts ≡ false
+expression_no_word (Literal n) ts rest h = (first h).begins _
+expression_no_word (TruthValue place true) ts rest h = (first h).begins _
+expression_no_word (TruthValue place false) ts rest h = (first h).begins _
+expression_no_word (Named n) ts rest h = (first h).begins _
+expression_no_word (Parens place e) ts rest h = (first h).begins _
+expression_no_word (Prefixed prefix.Minus place e) ts rest h = (first h).begins _
+expression_no_word (Prefixed prefix.Not place e) ts rest h = (first h).begins _
+expression_no_word (Binary o a b) ts rest h = expression_no_word a ts _ (split (expression_spelling a) (Anywhere (operator_kind o) ∷ expression_spelling b) h).1
+
+all_names : (ns : List Name) → AllByRecursion (λ n. Unit {0}) ns
+all_names [] = tt
+all_names (n ∷ ns) = (tt, all_names ns)
+
+ticks_complete : (limits : Limits) (ticks : Option Expression) (ts rest : List Token) → AreTicks limits ticks → Spans (ticks_spelling ticks ++ semicolon) ts rest
+    → (mid : List Token) × (ticks_at limits ts ≡ Ok (ticks, mid)) × Spans semicolon mid rest
+unfolding ticks_at choose read_then operator_of
+ticks_complete limits None ts rest is h =
+    let a = first h in
+    (a.behind, rw (a.begins (kind.Keyword keyword.Forever), a.after) refl, a.spelled)
+ticks_complete limits (Some e) ts rest is h =
+    let s = split (expression_spelling e) semicolon h in
+    let v = (expression_reader limits).complete e ts s.0 is s.1 (IsClosed-front (kind.Symbol symbol.Semicolon) [] s.0 rest refl s.2.spells) in
+    (s.0, rw (expression_no_word e ts s.0 s.1, v) refl, s.2)
+
+rule_item_complete : (limits : Limits) (sort : RuleSort) (p : Name) (body : Statements) (ts rest : List Token) → IsBlock limits limits.block body → Spans (rule_spelling (record { sort = sort; phase = p; body = body })) ts rest → item_at limits ts ≡ Ok (Rules (record { sort = sort; phase = p; body = body }), rest)
+unfolding item_at choose
+rule_item_complete limits sort.Output p body ts rest is h =
+    let a = first h in
+    let r = rule_complete limits sort.Output p body ts rest is h in
+    rw (a.begins (kind.Keyword keyword.Out), a.begins (kind.Keyword keyword.Var), a.begins (kind.Keyword keyword.Flag), a.begins (kind.Keyword keyword.Phases), a.begins (kind.Keyword keyword.Start), a.begins (kind.Keyword keyword.Hold), a.begins (kind.Keyword keyword.Output), r) refl
+rule_item_complete limits sort.Internal p body ts rest is h =
+    let a = first h in
+    let r = rule_complete limits sort.Internal p body ts rest is h in
+    rw (a.begins (kind.Keyword keyword.Out), a.begins (kind.Keyword keyword.Var), a.begins (kind.Keyword keyword.Flag), a.begins (kind.Keyword keyword.Phases), a.begins (kind.Keyword keyword.Start), a.begins (kind.Keyword keyword.Hold), a.begins (kind.Keyword keyword.Output), r) refl
+
+phases_complete : (place : ℕ) (names : List Name) (ts rest : List Token) → 0 < length names → Spans (phases_spelling (record { place = place; names = names })) ts rest → phases_at ts ≡ Ok (Lists (record { place = place; names = names }), rest)
+unfolding phases_at read_then
+phases_complete place [] ts rest is h = absurd (omega (arith, is))
+phases_complete place (n ∷ ns) ts rest is h =
+    let r = many_reader further_name_at _ _ _ further_reader (kind.Symbol symbol.Semicolon) further_listed in
+    let a = first h in
+    let b = first_name n a.spelled in
+    let s = split (flat_map (λ n. sign symbol.Comma ∷ name n ∷ []) ns) semicolon b.spelled in
+    let c = first s.2 in
+    let m = r.complete ns b.behind s.0 (all_names ns) s.1 (c.begins (kind.Symbol symbol.Semicolon)) in
+    rw (a.after, b.read, m, c.after, a.place, span_end c.spelled) refl
+
+item_complete : (limits : Limits) (x : AtomicItem) (ts rest : List Token) → IsItem limits x → Spans (item_spelling x) ts rest → item_at limits ts ≡ Ok (x, rest)
+unfolding item_at start_at hold_at choose read_then
+item_complete limits (Declares (declaration.Out n)) ts rest is h =
+    let a = first h in
+    let o = out_reader.complete n ts rest tt h tt in
+    rw (a.begins (kind.Keyword keyword.Out), o) refl
+item_complete limits (Declares (declaration.Var v)) ts rest is h =
+    let a = first h in
+    let o = variable_complete v ts rest h in
+    rw (a.begins (kind.Keyword keyword.Out), a.begins (kind.Keyword keyword.Var), o) refl
+item_complete limits (Declares (declaration.Flag f)) ts rest is h =
+    let a = first h in
+    let o = flag_complete f ts rest h in
+    rw (a.begins (kind.Keyword keyword.Out), a.begins (kind.Keyword keyword.Var), a.begins (kind.Keyword keyword.Flag), o) refl
+item_complete limits (Lists p) ts rest is h =
+    let a = first h in
+    let o = phases_complete p.place p.names ts rest is h in
+    rw (a.begins (kind.Keyword keyword.Out), a.begins (kind.Keyword keyword.Var), a.begins (kind.Keyword keyword.Flag), a.begins (kind.Keyword keyword.Phases), o) refl
+item_complete limits (Starts s) ts rest is h =
+    let a = first h in
+    let b = first_name s.phase a.spelled in
+    let c = first b.spelled in
+    rw (a.begins (kind.Keyword keyword.Out), a.begins (kind.Keyword keyword.Var), a.begins (kind.Keyword keyword.Flag), a.begins (kind.Keyword keyword.Phases), a.begins (kind.Keyword keyword.Start), a.after, b.read, c.after, a.place, span_end c.spelled) refl
+item_complete limits (Holds d) ts rest is h =
+    let a = first h in
+    let b = first_name d.phase a.spelled in
+    let c = first b.spelled in
+    let t = ticks_complete limits d.ticks c.behind rest is c.spelled in
+    let e = first t.2 in
+    rw (a.begins (kind.Keyword keyword.Out), a.begins (kind.Keyword keyword.Var), a.begins (kind.Keyword keyword.Flag), a.begins (kind.Keyword keyword.Phases), a.begins (kind.Keyword keyword.Start), a.begins (kind.Keyword keyword.Hold), a.after, b.read, c.after, t.1, e.after, a.place, span_end e.spelled) refl
+item_complete limits (Rules r) ts rest is h = rule_item_complete limits r.sort r.phase r.body ts rest is h
+
+item_opens : (k : Symbol) (x : AtomicItem) (ts rest : List Token) → Spans (item_spelling x) ts rest → begins (kind.Symbol k) ts ≡ false
+item_opens k (Declares (declaration.Out n)) ts rest h = (first h).begins _
+item_opens k (Declares (declaration.Var v)) ts rest h = (first h).begins _
+item_opens k (Declares (declaration.Flag f)) ts rest h = (first h).begins _
+item_opens k (Lists p) ts rest h = (first h).begins _
+item_opens k (Starts s) ts rest h = (first h).begins _
+item_opens k (Holds d) ts rest h = (first h).begins _
+item_opens k (Rules r) ts rest h = (first h).begins _
+
+item_some : (x : AtomicItem) → 0 < length (item_spelling x)
+item_some (Declares (declaration.Out n)) = omega arith
+item_some (Declares (declaration.Var v)) = omega arith
+item_some (Declares (declaration.Flag f)) = omega arith
+item_some (Lists p) = omega arith
+item_some (Starts s) = omega arith
+item_some (Holds d) = omega arith
+item_some (Rules r) = omega arith
+
+item_reader : (limits : Limits) → IsReader (item_at limits) item_spelling (IsItem limits) Always
+item_reader limits = record { sound = item_sound limits; complete = λ x ts rest is h ends. item_complete limits x ts rest is h }
+
+item_listed : IsListed item_spelling Always (kind.Symbol symbol.CloseBrace)
+item_listed = record { opens = item_opens symbol.CloseBrace; before = λ x ts rest h. tt; at_stop = λ ts e. tt; some = item_some }
+
+pub item_shortens : (limits : Limits) → Shortens (item_at limits)
+item_shortens limits = shortens (item_at limits) item_spelling (IsItem limits) Always (kind.Symbol symbol.CloseBrace) (item_reader limits) item_listed
+
+pub further_name_shortens : Shortens further_name_at
+further_name_shortens = shortens further_name_at _ _ Always (kind.Symbol symbol.Semicolon) further_reader further_listed
+
+-- ---- Atomic models
+
+items_reader : (limits : Limits) → IsReader (braces_at (item_at limits)) (λ items. braces (flat_map item_spelling items)) (AllByRecursion (IsItem limits)) Always
+items_reader limits = braces_reader (item_at limits) item_spelling (IsItem limits) Always (item_reader limits) item_listed
+
+atomic_sound : (limits : Limits) (ts : List Token) (x : (Name × List AtomicItem) × List Token) → atomic_at limits ts ≡ Ok x → Spans (model_spelling (WrittenAtomic x.0.0 x.0.1)) ts x.1 × AllByRecursion (IsItem limits) x.0.1
+unfolding atomic_at
+atomic_sound limits ts x e =
+    let a = then_ok _ _ _ e in
+    let b = then_ok _ _ _ a.2 in
+    let c = then_ok _ _ _ b.2 in
+    let s = (items_reader limits).sound b.0.1 c.0 c.1 in
+    subst (λ (y : (Name × List AtomicItem) × List Token). Spans (model_spelling (WrittenAtomic y.0.0 y.0.1)) ts y.1 × AllByRecursion (IsItem limits) y.0.1) (ok_is _ _ c.2) (after_spans a.1 (name_spans b.1 s.0), s.1)
+
+atomic_complete : (limits : Limits) (n : Name) (items : List AtomicItem) (ts rest : List Token) → AllByRecursion (IsItem limits) items → Spans (model_spelling (WrittenAtomic n items)) ts rest → atomic_at limits ts ≡ Ok ((n, items), rest)
+unfolding atomic_at read_then
+atomic_complete limits n items ts rest is h =
+    let a = first h in
+    let b = first_name n a.spelled in
+    let c = (items_reader limits).complete items b.behind rest is b.spelled tt in
+    rw (a.after, b.read, c) refl
+
+-- ---- Coupled models
+
+end_sound : (ts : List Token) (x : End × List Token) → end_at ts ≡ Ok x → Spans (end_spelling x.0) ts x.1
+unfolding end_at
+end_sound ts x e =
+    elim (chosen _ _ _ _ e) [
+      | inl p ↦
+          let a = then_ok _ _ _ p.1 in
+          let b = then_ok _ _ _ a.2 in
+          let c = then_ok _ _ _ b.2 in
+          subst (λ (y : End × List Token). Spans (end_spelling y.0) ts y.1) (ok_is _ _ c.2) (after_spans a.1 (after_spans b.1 (name_spans c.1 nothing)))
+      | inr p ↦
+          let a = then_ok _ _ _ p.1 in
+          let b = then_ok _ _ _ a.2 in
+          let c = then_ok _ _ _ b.2 in
+          subst (λ (y : End × List Token). Spans (end_spelling y.0) ts y.1) (ok_is _ _ c.2) (name_spans a.1 (after_spans b.1 (name_spans c.1 nothing)))
+    ]
+
+end_complete : (part : Option Name) (port : Name) (ts rest : List Token) → Spans (part_name_spelling part ∷ sign symbol.Dot ∷ name port ∷ []) ts rest → end_at ts ≡ Ok (record { part = part; port = port }, rest)
+unfolding end_at choose read_then
+end_complete None port ts rest h =
+    let a = first h in
+    let b = first a.spelled in
+    let c = first_name port b.spelled in
+    rw (a.begins (kind.Keyword keyword.Itself), a.after, b.after, c.read, span_end c.spelled) refl
+end_complete (Some part) port ts rest h =
+    let a = first h in
+    let n = first_name part h in
+    let b = first n.spelled in
+    let c = first_name port b.spelled in
+    rw (a.begins (kind.Keyword keyword.Itself), n.read, b.after, c.read, span_end c.spelled) refl
+
+abbrev ReadsCoupled : List Token → CoupledItem × List Token → Type 0
+ReadsCoupled ts x = Spans (coupled_item_spelling x.0) ts x.1 × Unit {0}
+
+part_sound : (ts : List Token) (x : Part × List Token) → part_at ts ≡ Ok x → ReadsCoupled ts (Contains x.0, x.1)
+unfolding part_at
+part_sound ts x e =
+    let a = then_ok _ _ _ e in
+    let b = then_ok _ _ _ a.2 in
+    let c = then_ok _ _ _ b.2 in
+    let d = then_ok _ _ _ c.2 in
+    let f = then_ok _ _ _ d.2 in
+    subst (λ (y : Part × List Token). ReadsCoupled ts (Contains y.0, y.1)) (ok_is _ _ f.2) (after_spans a.1 (name_spans b.1 (after_spans c.1 (name_spans d.1 (after_spans f.1 nothing)))), tt)
+
+link_sound : (ts : List Token) (x : Link × List Token) → link_at ts ≡ Ok x → ReadsCoupled ts (Couples x.0, x.1)
+unfolding link_at
+link_sound ts x e =
+    let a = then_ok _ _ _ e in
+    let b = then_ok _ _ _ a.2 in
+    let c = then_ok _ _ _ b.2 in
+    let d = then_ok _ _ _ c.2 in
+    let f = then_ok _ _ _ d.2 in
+    subst (λ (y : Link × List Token). ReadsCoupled ts (Couples y.0, y.1)) (ok_is _ _ f.2)
+    (after_spans_at a.1 (then_spans (end_sound a.0 b.0 b.1) (after_spans c.1 (then_spans (end_sound c.0 d.0 d.1) (after_spans f.1 nothing)))), tt)
+
+coupled_item_sound : (ts : List Token) (x : CoupledItem × List Token) → coupled_item_at ts ≡ Ok x → ReadsCoupled ts x
+unfolding coupled_item_at
+coupled_item_sound ts x e =
+    elim (chosen _ _ _ _ e) [
+      | inl p ↦ let a = then_ok _ _ _ p.1 in let s = out_reader.sound ts a.0 a.1 in subst (ReadsCoupled ts) (ok_is _ _ a.2) (s.0, tt)
+      | inr p ↦ elim (chosen _ _ _ _ p.1) [
+        | inl q ↦ let a = then_ok _ _ _ q.1 in subst (ReadsCoupled ts) (ok_is _ _ a.2) (part_sound ts a.0 a.1)
+        | inr q ↦ let a = then_ok _ _ _ q.1 in subst (ReadsCoupled ts) (ok_is _ _ a.2) (link_sound ts a.0 a.1)
+      ]
+    ]
+
+coupled_item_complete : (x : CoupledItem) (ts rest : List Token) → Spans (coupled_item_spelling x) ts rest → coupled_item_at ts ≡ Ok (x, rest)
+unfolding coupled_item_at part_at link_at choose read_then
+coupled_item_complete (Outputs n) ts rest h =
+    let a = first h in
+    let o = out_reader.complete n ts rest tt h tt in
+    rw (a.begins (kind.Keyword keyword.Out), o) refl
+coupled_item_complete (Contains p) ts rest h =
+    let a = first h in
+    let b = first_name p.name a.spelled in
+    let c = first b.spelled in
+    let d = first_name p.model c.spelled in
+    let f = first d.spelled in
+    rw (a.begins (kind.Keyword keyword.Out), a.begins (kind.Keyword keyword.Part), a.after, b.read, c.after, d.read, f.after, span_end f.spelled) refl
+coupled_item_complete (Couples l) ts rest h =
+    let a = first h in
+    let s = split (end_spelling l.from) (sign symbol.Arrow ∷ (end_spelling l.to ++ semicolon)) a.spelled in
+    let source = end_complete l.from.part l.from.port a.behind s.0 s.1 in
+    let b = first s.2 in
+    let t = split (end_spelling l.to) semicolon b.spelled in
+    let target = end_complete l.to.part l.to.port b.behind t.0 t.1 in
+    let c = first t.2 in
+    rw (a.begins (kind.Keyword keyword.Out), a.begins (kind.Keyword keyword.Part), a.after, source, b.after, target, c.after, a.place, span_end c.spelled) refl
+
+coupled_item_opens : (x : CoupledItem) (ts rest : List Token) → Spans (coupled_item_spelling x) ts rest → begins (kind.Symbol symbol.CloseBrace) ts ≡ false
+coupled_item_opens (Outputs n) ts rest h = (first h).begins _
+coupled_item_opens (Contains p) ts rest h = (first h).begins _
+coupled_item_opens (Couples l) ts rest h = (first h).begins _
+
+coupled_item_some : (x : CoupledItem) → 0 < length (coupled_item_spelling x)
+coupled_item_some (Outputs n) = omega arith
+coupled_item_some (Contains p) = omega arith
+coupled_item_some (Couples l) = omega arith
+
+coupled_item_reader : IsReader coupled_item_at coupled_item_spelling (λ x. Unit {0}) Always
+coupled_item_reader = record { sound = coupled_item_sound; complete = λ x ts rest is h ends. coupled_item_complete x ts rest h }
+
+coupled_item_listed : IsListed coupled_item_spelling Always (kind.Symbol symbol.CloseBrace)
+coupled_item_listed = record { opens = coupled_item_opens; before = λ x ts rest h. tt; at_stop = λ ts e. tt; some = coupled_item_some }
+
+pub coupled_item_shortens : Shortens coupled_item_at
+coupled_item_shortens = shortens coupled_item_at coupled_item_spelling (λ x. Unit {0}) Always (kind.Symbol symbol.CloseBrace) coupled_item_reader coupled_item_listed
+
+coupled_items_reader : IsReader (braces_at coupled_item_at) (λ items. braces (flat_map coupled_item_spelling items)) (AllByRecursion (λ x. Unit {0})) Always
+coupled_items_reader = braces_reader coupled_item_at coupled_item_spelling (λ x. Unit {0}) Always coupled_item_reader coupled_item_listed
+
+all_coupled : (items : List CoupledItem) → AllByRecursion (λ x. Unit {0}) items
+all_coupled [] = tt
+all_coupled (x ∷ items) = (tt, all_coupled items)
+
+coupled_sound : (ts : List Token) (x : (Name × List CoupledItem) × List Token) → coupled_at ts ≡ Ok x → Spans (model_spelling (WrittenCoupled x.0.0 x.0.1)) ts x.1
+unfolding coupled_at
+coupled_sound ts x e =
+    let a = then_ok _ _ _ e in
+    let b = then_ok _ _ _ a.2 in
+    let c = then_ok _ _ _ b.2 in
+    let s = coupled_items_reader.sound b.0.1 c.0 c.1 in
+    subst (λ (y : (Name × List CoupledItem) × List Token). Spans (model_spelling (WrittenCoupled y.0.0 y.0.1)) ts y.1) (ok_is _ _ c.2) (after_spans a.1 (name_spans b.1 s.0))
+
+coupled_complete : (n : Name) (items : List CoupledItem) (ts rest : List Token) → Spans (model_spelling (WrittenCoupled n items)) ts rest → coupled_at ts ≡ Ok ((n, items), rest)
+unfolding coupled_at read_then
+coupled_complete n items ts rest h =
+    let a = first h in
+    let b = first_name n a.spelled in
+    let c = coupled_items_reader.complete items b.behind rest (all_coupled items) b.spelled tt in
+    rw (a.after, b.read, c) refl
+
+-- ---- Files
+
+model_sound : (limits : Limits) (ts : List Token) (x : WrittenModel × List Token) → model_at limits ts ≡ Ok x → Spans (model_spelling x.0) ts x.1 × IsModel limits x.0
+unfolding model_at
+model_sound limits ts x e =
+    elim (chosen _ _ _ _ e) [
+      | inl p ↦
+          let a = then_ok _ _ _ p.1 in
+          subst (λ (y : WrittenModel × List Token). Spans (model_spelling y.0) ts y.1 × IsModel limits y.0) (ok_is _ _ a.2) (coupled_sound ts a.0 a.1, tt)
+      | inr p ↦
+          let a = then_ok _ _ _ p.1 in
+          subst (λ (y : WrittenModel × List Token). Spans (model_spelling y.0) ts y.1 × IsModel limits y.0) (ok_is _ _ a.2) (atomic_sound limits ts a.0 a.1)
+    ]
+
+model_complete : (limits : Limits) (x : WrittenModel) (ts rest : List Token) → IsModel limits x → Spans (model_spelling x) ts rest → model_at limits ts ≡ Ok (x, rest)
+unfolding model_at choose read_then
+model_complete limits (WrittenAtomic n items) ts rest is h = rw ((first h).begins (kind.Keyword keyword.Coupled), atomic_complete limits n items ts rest is h) refl
+model_complete limits (WrittenCoupled n items) ts rest is h = rw ((first h).begins (kind.Keyword keyword.Coupled), coupled_complete n items ts rest h) refl
+
+model_opens : (x : WrittenModel) (ts rest : List Token) → Spans (model_spelling x) ts rest → begins (kind.Keyword keyword.Root) ts ≡ false
+model_opens (WrittenAtomic n items) ts rest h = (first h).begins _
+model_opens (WrittenCoupled n items) ts rest h = (first h).begins _
+
+model_some : (x : WrittenModel) → 0 < length (model_spelling x)
+model_some (WrittenAtomic n items) = omega arith
+model_some (WrittenCoupled n items) = omega arith
+
+model_reader : (limits : Limits) → IsReader (model_at limits) model_spelling (IsModel limits) Always
+model_reader limits = record { sound = model_sound limits; complete = λ x ts rest is h ends. model_complete limits x ts rest is h }
+
+model_listed : IsListed model_spelling Always (kind.Keyword keyword.Root)
+model_listed = record { opens = model_opens; before = λ x ts rest h. tt; at_stop = λ ts e. tt; some = model_some }
+
+pub model_shortens : (limits : Limits) → Shortens (model_at limits)
+model_shortens limits = shortens (model_at limits) model_spelling (IsModel limits) Always (kind.Keyword keyword.Root) (model_reader limits) model_listed
+
+models_reader : (limits : Limits) → IsReader (many_at (model_at limits) (kind.Keyword keyword.Root)) (flat_map model_spelling) (AllByRecursion (IsModel limits)) (λ rest. begins (kind.Keyword keyword.Root) rest ≡ true)
+models_reader limits = many_reader (model_at limits) model_spelling (IsModel limits) Always (model_reader limits) (kind.Keyword keyword.Root) model_listed
+
+end_of : (ts : List Token) → is_end ts ≡ true → ts ≡ []
+end_of [] e = refl
+end_of (t ∷ ts) e = absurd cc
+
+pub file_sound : (limits : Limits) (ts : List Token) (f : WrittenFile) → file_at limits ts ≡ Ok f → IsWritten limits ts f
+unfolding file_at
+file_sound limits ts f e =
+    let a = then_ok _ _ _ e in
+    let b = then_ok _ _ _ a.2 in
+    let c = then_ok _ _ _ b.2 in
+    let d = then_ok _ _ _ c.2 in
+    elim (chosen _ _ _ _ d.2) [
+      | inl p ↦
+          let s = (models_reader limits).sound ts a.0 a.1 in
+          let last : Spans [] d.0 [] = record { spells = end_of d.0 p.0 } in
+          let h = then_spans s.0 (after_spans b.1 (name_spans c.1 (after_spans d.1 last))) in
+          subst (IsWritten limits ts) (ok_is _ _ p.1) (record { spelled = h.spells; models = s.1 })
+      | inr p ↦ absurd (err_ok _ _ p.1)
+    ]
+
+pub file_complete : (limits : Limits) (ts : List Token) (f : WrittenFile) → IsWritten limits ts f → file_at limits ts ≡ Ok f
+unfolding file_at choose read_then
+file_complete limits ts f is =
+    let h : Spans (file_spelling f) ts [] = record { spells = is.spelled } in
+    let s = split (flat_map model_spelling f.models) (word keyword.Root ∷ name f.root ∷ semicolon) h in
+    let a = first s.2 in
+    let b = first_name f.root a.spelled in
+    let c = first b.spelled in
+    let m = (models_reader limits).complete f.models ts s.0 is.models s.1 (a.begins (kind.Keyword keyword.Root)) in
+    rw (m, a.after, b.read, c.after, span_end c.spelled) refl
+
+pub file_unique : (ts : List Token) (f g : FileTree) → IsFileOf ts f → IsFileOf ts g → f ≡ g
+file_unique ts f g p q =
+    let same : p.written ≡ q.written = ok_is _ _ (sym (file_complete the_limits ts p.written p.read) ∙ file_complete the_limits ts q.written q.read) in
+    p.tree ∙ ap sorted same ∙ sym q.tree
+
+pub file_refused : (limits : Limits) (ts : List Token) (o : Obstacle) → file_at limits ts ≡ Err o → (f : FileTree) → IsFileWithin limits ts f → ⊥
+file_refused limits ts o e f is = err_ok o is.written (sym e ∙ file_complete limits ts is.written is.read)

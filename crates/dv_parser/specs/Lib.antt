@@ -1,0 +1,2 @@
+-- What a reader believes: the refusal of tokens that spell no file.
+pub mod Reading

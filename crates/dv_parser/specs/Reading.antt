@@ -1,0 +1,650 @@
+-- Reading from left to right: a reader answers with what stands at the front of the tokens and the tokens after it, or
+-- with what stops it.
+use Rattle.std.specs.Prelude.{◌≡◌, ℕ, zero, suc, ◌+◌, ◌-◌, List, [], ◌∷◌, ◌++◌, length, Bool, true, false, ◌&&◌, Option, Some, None, Result, Ok, Err, nat_lt, nat_le, ◌==◌, ◌||◌}
+use Rattle.dv_lex.specs.declared.token.Token.{Token}
+use Rattle.dv_lex.specs.declared.token.TokenKind.{TokenKind}
+use Rattle.dv_lex.specs.declared.token.TokenKind.TheVariants as kind
+use Rattle.dv_lex.specs.declared.token.Keyword.{Keyword}
+use Rattle.dv_lex.specs.declared.token.Keyword.TheVariants as keyword
+use Rattle.dv_lex.specs.declared.token.Symbol.{Symbol}
+use Rattle.dv_lex.specs.declared.token.Symbol.TheVariants as symbol
+use Rattle.dv_syntax.specs.declared.tree.Name.{Name}
+use Rattle.dv_syntax.specs.declared.tree.Number.{Number}
+use Rattle.dv_syntax.specs.declared.tree.Prefix.{Prefix}
+use Rattle.dv_syntax.specs.declared.tree.Prefix.TheVariants as prefix
+use Rattle.dv_syntax.specs.declared.tree.Operator.{Operator}
+use Rattle.dv_syntax.specs.declared.tree.Operator.TheVariants as operator
+use Rattle.dv_syntax.specs.declared.tree.Bound.{Bound}
+use Rattle.dv_syntax.specs.declared.tree.Variable.{Variable}
+use Rattle.dv_syntax.specs.declared.tree.Flag.{Flag}
+use Rattle.dv_syntax.specs.declared.tree.RuleSort.{RuleSort}
+use Rattle.dv_syntax.specs.declared.tree.RuleSort.TheVariants as sort
+use Rattle.dv_syntax.specs.declared.tree.End.{End}
+use Rattle.dv_syntax.specs.declared.tree.Part.{Part}
+use Rattle.dv_syntax.specs.declared.tree.Link.{Link}
+use Rattle.dv_syntax.specs.declared.tree.Declaration.TheVariants as declaration
+use Rattle.dv_parser.specs.declared.atomic.AtomicItem.{AtomicItem as CodeItem}
+use Rattle.dv_parser.specs.declared.atomic.AtomicItem.TheVariants as item
+use Rattle.dv_parser.specs.declared.coupled.CoupledItem.{CoupledItem as CodeCoupledItem}
+use Rattle.dv_parser.specs.declared.coupled.CoupledItem.TheVariants as coupled_item
+use Rattle.dv_parser.specs.declared.parse_error.ParseError.{ParseError}
+use Rattle.dv_parser.specs.declared.parse_error.ParseError.TheVariants as parse_error
+use Rattle.dv_syntax.specs.declared.tree.Stmt.{Stmt}
+use Rattle.dv_syntax.specs.declared.tree.Stmt as stmt
+use Rattle.dv_lex.specs.declared.error.LoadError.{LoadError}
+use Rattle.dv_lex.specs.declared.error.LoadError.TheVariants as error
+use Rattle.dv_lex.specs.declared.error.Refusal.{Refusal}
+use Rattle.dv_lex.specs.declared.error.RefusalNumber.TheVariants.{E4, E5}
+use Rattle.dv_syntax.specs.Trees.{expression_of, row_statements, phases_of, hold_of, rule_of, Expression, Literal, TruthValue, Named, Parens, Prefixed, Binary, Statements, Done, Assign, Goto, Send, If, IfElse, AtomicTree, CoupledTree, ModelTree, AtomicModel, CoupledModel, FileTree}
+use Rattle.dv_syntax.specs.Written.{AtomicItem, Declares, Lists, Starts, Holds, Rules, CoupledItem, Outputs, Contains, Couples, WrittenModel, WrittenAtomic, WrittenCoupled, WrittenFile, sorted_items, sorted_coupled_items}
+use Rattle.dv_syntax.specs.Grammar.{Limits, the_limits, prefix_kind, prefix_rank, operator_rank, left_rank, rank, depth, sort_word}
+
+-- What stops a reader: the token at a place can't stand there, or what begins with it, or what it joins, lies too deep; or
+-- more tokens have to follow.
+pub data Obstacle : Type 0 where
+  Unexpected : (place : ℕ) → Obstacle
+  TooDeep : (place : ℕ) → Obstacle
+  TooShort : Obstacle
+
+abbrev pub Read : Type 0 → Type 0
+Read A = Result A Obstacle
+
+-- what was read, and then a reader that uses it
+unfoldable pub read_then : {A B : Type 0} → Read A → (A → Read B) → Read B
+read_then (Ok x) f = f x
+read_then (Err o) f = Err o
+
+-- What a function returned, seen by `view`, is what reading gives, unless memory ran out.
+abbrev pub Fails : {Y : Type 0} → ParseError → Read Y → Type 0
+Fails parse_error.Memory read = Unit {0}
+Fails (parse_error.Unexpected place) read = read ≡ Err (Unexpected place)
+Fails (parse_error.TooDeep place) read = read ≡ Err (TooDeep place)
+Fails parse_error.TooShort read = read ≡ Err TooShort
+
+abbrev pub Gives : {X Y : Type 0} → (X → Y) → Result X ParseError → Read Y → Type 0
+Gives view (Ok x) read = read ≡ Ok (view x)
+Gives view (Err e) read = Fails e read
+
+infixl 10 ◌>>=◌
+abbrev pub ◌>>=◌ : {A B : Type 0} → Read A → (A → Read B) → Read B
+r >>= f = read_then r f
+
+unfoldable pub choose : {A : Type 0} → Bool → A → A → A
+choose true x y = x
+choose false x y = y
+
+unfoldable pub maybe : {A B : Type 0} → Option A → B → (A → B) → B
+maybe None none some = none
+maybe (Some x) none some = some x
+
+-- ---- Single tokens
+
+abbrev pub keyword_number : Keyword → ℕ
+keyword_number keyword.Atomic = 0
+keyword_number keyword.Coupled = 1
+keyword_number keyword.Root = 2
+keyword_number keyword.In = 3
+keyword_number keyword.Out = 4
+keyword_number keyword.Var = 5
+keyword_number keyword.Flag = 6
+keyword_number keyword.Bag = 7
+keyword_number keyword.Phases = 8
+keyword_number keyword.Start = 9
+keyword_number keyword.Hold = 10
+keyword_number keyword.Forever = 11
+keyword_number keyword.Output = 12
+keyword_number keyword.Internal = 13
+keyword_number keyword.External = 14
+keyword_number keyword.Confluent = 15
+keyword_number keyword.Part = 16
+keyword_number keyword.Link = 17
+keyword_number keyword.Itself = 18
+keyword_number keyword.If = 19
+keyword_number keyword.Else = 20
+keyword_number keyword.For = 21
+keyword_number keyword.Add = 22
+keyword_number keyword.To = 23
+keyword_number keyword.Drop = 24
+keyword_number keyword.From = 25
+keyword_number keyword.Send = 26
+keyword_number keyword.Goto = 27
+keyword_number keyword.True = 28
+keyword_number keyword.False = 29
+keyword_number keyword.Not = 30
+keyword_number keyword.And = 31
+keyword_number keyword.Or = 32
+keyword_number keyword.Elapsed = 33
+keyword_number keyword.Size = 34
+keyword_number keyword.Sum = 35
+keyword_number keyword.Least = 36
+keyword_number keyword.Most = 37
+keyword_number keyword.Times = 38
+
+abbrev pub symbol_number : Symbol → ℕ
+symbol_number symbol.Assign = 0
+symbol_number symbol.Arrow = 1
+symbol_number symbol.Range = 2
+symbol_number symbol.Unequal = 3
+symbol_number symbol.AtMost = 4
+symbol_number symbol.AtLeast = 5
+symbol_number symbol.OpenBrace = 6
+symbol_number symbol.CloseBrace = 7
+symbol_number symbol.OpenParen = 8
+symbol_number symbol.CloseParen = 9
+symbol_number symbol.Semicolon = 10
+symbol_number symbol.Colon = 11
+symbol_number symbol.Comma = 12
+symbol_number symbol.Dot = 13
+symbol_number symbol.Equal = 14
+symbol_number symbol.Less = 15
+symbol_number symbol.Greater = 16
+symbol_number symbol.Plus = 17
+symbol_number symbol.Minus = 18
+symbol_number symbol.Star = 19
+symbol_number symbol.Slash = 20
+symbol_number symbol.Percent = 21
+
+abbrev pub same_kind : TokenKind → TokenKind → Bool
+same_kind (kind.Name a) (kind.Name b) = a == b
+same_kind (kind.Number a) (kind.Number b) = a == b
+same_kind (kind.Keyword a) (kind.Keyword b) = keyword_number a == keyword_number b
+same_kind (kind.Symbol a) (kind.Symbol b) = symbol_number a == symbol_number b
+same_kind _ _ = false
+
+-- a token of this kind comes first
+abbrev pub begins : TokenKind → List Token → Bool
+begins k [] = false
+begins k (t ∷ ts) = same_kind t.kind k
+
+-- the place of the first token
+unfoldable pub place_at : List Token → ℕ
+place_at [] = 0
+place_at (t ∷ ts) = t.place
+
+-- the first token can't stand there, or there is none
+unfoldable pub obstacle_at : List Token → Obstacle
+obstacle_at [] = TooShort
+obstacle_at (t ∷ ts) = Unexpected t.place
+
+-- what an error of the code says
+abbrev pub IsParseError : ParseError → Obstacle → Type 0
+IsParseError parse_error.Memory o = ⊥
+IsParseError (parse_error.Unexpected place) o = o ≡ Unexpected place
+IsParseError (parse_error.TooDeep place) o = o ≡ TooDeep place
+IsParseError parse_error.TooShort o = o ≡ TooShort
+
+-- the tokens after one of this kind
+unfoldable pub after : TokenKind → List Token → Read (List Token)
+after k [] = Err TooShort
+after k (t ∷ ts) = choose (same_kind t.kind k) (Ok ts) (Err (Unexpected t.place))
+
+abbrev pub name_of : TokenKind → ℕ → List Token → Read (Name × List Token)
+name_of (kind.Name n) place ts = Ok (record { number = n; place = place }, ts)
+name_of _ place ts = Err (Unexpected place)
+
+unfoldable pub name_at : List Token → Read (Name × List Token)
+name_at [] = Err TooShort
+name_at (t ∷ ts) = name_of t.kind t.place ts
+
+abbrev pub number_of : TokenKind → ℕ → List Token → Read (Number × List Token)
+number_of (kind.Number n) place ts = Ok (record { value = n; place = place }, ts)
+number_of _ place ts = Err (Unexpected place)
+
+unfoldable pub number_at : List Token → Read (Number × List Token)
+number_at [] = Err TooShort
+number_at (t ∷ ts) = number_of t.kind t.place ts
+
+-- `true` or `false`
+abbrev pub begins_truth : List Token → Bool
+begins_truth ts = begins (kind.Keyword keyword.True) ts || begins (kind.Keyword keyword.False) ts
+
+unfoldable pub truth_at : List Token → Read (Bool × List Token)
+truth_at ts = choose (begins (kind.Keyword keyword.True) ts)
+    (after (kind.Keyword keyword.True) ts >>= λ rest. Ok (true, rest))
+    (after (kind.Keyword keyword.False) ts >>= λ rest. Ok (false, rest))
+
+-- ---- Expressions
+
+abbrev pub keyword_operator : Keyword → Option Operator
+keyword_operator keyword.Or = Some operator.Or
+keyword_operator keyword.And = Some operator.And
+keyword_operator _ = None
+
+abbrev pub symbol_operator : Symbol → Option Operator
+symbol_operator symbol.Plus = Some operator.Add
+symbol_operator symbol.Minus = Some operator.Subtract
+symbol_operator symbol.Star = Some operator.Multiply
+symbol_operator symbol.Slash = Some operator.Divide
+symbol_operator symbol.Percent = Some operator.Remainder
+symbol_operator symbol.Equal = Some operator.Equal
+symbol_operator symbol.Unequal = Some operator.Unequal
+symbol_operator symbol.Less = Some operator.Less
+symbol_operator symbol.AtMost = Some operator.AtMost
+symbol_operator symbol.Greater = Some operator.Greater
+symbol_operator symbol.AtLeast = Some operator.AtLeast
+symbol_operator _ = None
+
+unfoldable pub operator_of : TokenKind → Option Operator
+operator_of (kind.Keyword k) = keyword_operator k
+operator_of (kind.Symbol s) = symbol_operator s
+operator_of _ = None
+
+-- behind an expression, at a level: the operator goes on with it
+unfoldable pub goes_on : ℕ → Expression → Operator → Bool
+goes_on level left o = nat_le level (operator_rank o) && nat_le (left_rank o) (rank left)
+
+unfoldable pub operator_at : ℕ → Expression → List Token → Option (Operator × List Token)
+operator_at level left [] = None
+operator_at level left (t ∷ ts) = maybe (operator_of t.kind) None (λ o. choose (goes_on level left o) (Some (o, ts)) None)
+
+abbrev pub is_name : TokenKind → Bool
+is_name (kind.Name n) = true
+is_name _ = false
+
+abbrev pub begins_name : List Token → Bool
+begins_name [] = false
+begins_name (t ∷ ts) = is_name t.kind
+
+-- a name, a truth value or a number
+unfoldable pub leaf_at : List Token → Read (Expression × List Token)
+leaf_at ts = choose (begins_name ts) (name_at ts >>= λ n. Ok (Named n.0, n.1))
+    (choose (begins_truth ts) (truth_at ts >>= λ v. Ok (TruthValue (place_at ts) v.0, v.1))
+    (number_at ts >>= λ n. Ok (Literal n.0, n.1)))
+
+-- what a reader reads where there is room for it, and else an obstacle at the place of what owes it
+unfoldable pub within : {A : Type 0} → (limit place : ℕ) → Read A → Read A
+within zero place read = Err (TooDeep place)
+within (suc limit) place read = read
+
+-- An operand that no operator joins to another, at a level: `not` stands where no operator binds more tightly than it.
+-- `operand` reads what lies behind an operator or a parenthesis, at a level, no deeper than the limit.
+unfoldable pub parens_at : (ℕ → List Token → Read (Expression × List Token)) → ℕ → List Token → Read (Expression × List Token)
+parens_at operand limit ts = do
+  inside ← after (kind.Symbol symbol.OpenParen) ts
+  e ← within limit (place_at ts) (operand 0 inside)
+  rest ← after (kind.Symbol symbol.CloseParen) e.1
+  Ok (Parens (place_at ts) e.0, rest)
+
+unfoldable pub prefixed_at : Prefix → (ℕ → List Token → Read (Expression × List Token)) → ℕ → List Token → Read (Expression × List Token)
+prefixed_at o operand limit ts = do
+  behind ← after (prefix_kind o) ts
+  e ← within limit (place_at ts) (operand (prefix_rank o) behind)
+  Ok (Prefixed o (place_at ts) e.0, e.1)
+
+-- a prefix comes first, and may stand at the level
+abbrev pub begins_prefix : Prefix → ℕ → List Token → Bool
+begins_prefix o level ts = begins (prefix_kind o) ts && nat_le level (prefix_rank o)
+
+unfoldable pub primary_at : (ℕ → List Token → Read (Expression × List Token)) → (limit level : ℕ) → List Token → Read (Expression × List Token)
+primary_at operand limit level ts =
+    choose (begins (kind.Symbol symbol.OpenParen) ts) (parens_at operand limit ts)
+    (choose (begins_prefix prefix.Minus level ts) (prefixed_at prefix.Minus operand limit ts)
+    (choose (begins_prefix prefix.Not level ts) (prefixed_at prefix.Not operand limit ts)
+    (leaf_at ts)))
+
+-- What follows a left operand, as long as an operator of the level goes on with it. `more` counts the turns that are left.
+abbrev pub turns : (ℕ → List Token → Read (Expression × List Token)) → (limit more level : ℕ) → Expression → List Token → Read (Expression × List Token)
+turns operand limit zero level left ts = maybe (operator_at level left ts) (Ok (left, ts)) (λ o. Err (TooDeep (place_at ts)))
+turns operand limit (suc more) level left ts = maybe (operator_at level left ts) (Ok (left, ts)) (λ o.
+    choose (nat_lt (depth left) limit) (operand (operator_rank o.0 + 1) o.1 >>= λ right. turns operand limit more level (Binary o.0 left right.0) right.1) (Err (TooDeep (place_at ts))))
+
+-- An expression no deeper than the limit, at whose top no operator below the level stands
+unfoldable pub expression_at : ℕ → ℕ → List Token → Read (Expression × List Token)
+expression_at zero level ts = Err TooShort
+expression_at (suc limit) level ts = primary_at (expression_at limit) limit level ts >>= λ e. turns (expression_at limit) (suc limit) (suc limit) level e.0 e.1
+
+-- what follows a left operand, within the limit
+unfoldable pub more_at : ℕ → ℕ → Expression → List Token → Read (Expression × List Token)
+more_at limit level left ts = turns (expression_at (limit - 1)) limit limit level left ts
+
+-- ---- Lists
+
+-- As many as stand before a token of this kind. The number counts how many more may come.
+abbrev pub many : {A : Type 0} → (List Token → Read (A × List Token)) → TokenKind → ℕ → List Token → Read (List A × List Token)
+many one stop zero ts = Err TooShort
+many one stop (suc more) ts = choose (begins stop ts) (Ok ([], ts)) (one ts >>= λ x. many one stop more x.1 >>= λ xs. Ok (x.0 ∷ xs.0, xs.1))
+
+unfoldable pub many_at : {A : Type 0} → (List Token → Read (A × List Token)) → TokenKind → List Token → Read (List A × List Token)
+many_at one stop ts = many one stop (suc (length ts)) ts
+
+-- what the list that is read becomes
+abbrev pub becoming : {A B : Type 0} → (List A → B) → Read (List A × List Token) → Read (B × List Token)
+becoming f read = read_then read (λ x. Ok (f x.0, x.1))
+
+-- what was read before, and then what is read
+abbrev pub with_front : {A : Type 0} → List A → Read (List A × List Token) → Read (List A × List Token)
+with_front front read = becoming (λ xs. front ++ xs) read
+
+-- in braces
+unfoldable pub braces_at : {A : Type 0} → (List Token → Read (A × List Token)) → List Token → Read (List A × List Token)
+braces_at one ts = do
+  inside ← after (kind.Symbol symbol.OpenBrace) ts
+  xs ← many_at one (kind.Symbol symbol.CloseBrace) inside
+  rest ← after (kind.Symbol symbol.CloseBrace) xs.1
+  Ok (xs.0, rest)
+
+-- ---- Statements
+
+-- a statement by itself
+pub data Single : Type 0 where
+  SingleAssign : (variable : Name) → (value : Expression) → Single
+  SingleGoto : (place : ℕ) → (phase : Name) → Single
+  SingleSend : (place : ℕ) → (port : Name) → (value : Expression) → Single
+  SingleIf : (place : ℕ) → (condition : Expression) → (block : Statements) → Single
+  SingleIfElse : (place : ℕ) → (condition : Expression) → (block other : Statements) → Single
+
+abbrev pub single_before : Single → Statements → Statements
+single_before (SingleAssign n e) rest = Assign n e rest
+single_before (SingleGoto place p) rest = Goto place p rest
+single_before (SingleSend place p e) rest = Send place p e rest
+single_before (SingleIf place e block) rest = If place e block rest
+single_before (SingleIfElse place e block other) rest = IfElse place e block other rest
+
+abbrev pub joined : List Single → Statements
+joined [] = Done
+joined (s ∷ ss) = single_before s (joined ss)
+
+abbrev pub single_of : Stmt → Single
+single_of (stmt.Assign n e) = SingleAssign n (expression_of e)
+single_of (stmt.Goto place p) = SingleGoto place p
+single_of (stmt.Send place p e) = SingleSend place p (expression_of e)
+single_of (stmt.If' place e shape block) = SingleIf place (expression_of e) (row_statements block)
+single_of (stmt.IfElse' place e shape block other_shape other) = SingleIfElse place (expression_of e) (row_statements block) (row_statements other)
+
+unfoldable pub assign_at : Limits → List Token → Read (Single × List Token)
+assign_at limits ts = do
+  n ← name_at ts
+  behind ← after (kind.Symbol symbol.Assign) n.1
+  e ← expression_at limits.expression 0 behind
+  rest ← after (kind.Symbol symbol.Semicolon) e.1
+  Ok (SingleAssign n.0 e.0, rest)
+
+unfoldable pub goto_at : List Token → Read (Single × List Token)
+goto_at ts = do
+  behind ← after (kind.Keyword keyword.Goto) ts
+  n ← name_at behind
+  rest ← after (kind.Symbol symbol.Semicolon) n.1
+  Ok (SingleGoto (place_at ts) n.0, rest)
+
+unfoldable pub send_at : Limits → List Token → Read (Single × List Token)
+send_at limits ts = do
+  behind ← after (kind.Keyword keyword.Send) ts
+  n ← name_at behind
+  e ← expression_at limits.expression 0 n.1
+  rest ← after (kind.Symbol symbol.Semicolon) e.1
+  Ok (SingleSend (place_at ts) n.0 e.0, rest)
+
+-- what follows the block of an `if`
+unfoldable pub else_at : (List Token → Read (Statements × List Token)) → ℕ → Expression → Statements → List Token → Read (Single × List Token)
+else_at block_at place e block ts = do
+  behind ← after (kind.Keyword keyword.Else) ts
+  other ← block_at behind
+  Ok (SingleIfElse place e block other.0, other.1)
+
+-- The limit is that of the blocks.
+unfoldable pub if_at : Limits → (List Token → Read (Statements × List Token)) → ℕ → List Token → Read (Single × List Token)
+if_at limits block_at limit ts = do
+  behind ← after (kind.Keyword keyword.If) ts
+  e ← within limit (place_at ts) (expression_at limits.expression 0 behind)
+  block ← block_at e.1
+  choose (begins (kind.Keyword keyword.Else) block.1) (else_at block_at (place_at ts) e.0 block.0 block.1) (Ok (SingleIf (place_at ts) e.0 block.0, block.1))
+
+unfoldable pub statement_at : Limits → (List Token → Read (Statements × List Token)) → ℕ → List Token → Read (Single × List Token)
+statement_at limits block_at limit ts =
+    choose (begins (kind.Keyword keyword.Goto) ts) (goto_at ts)
+    (choose (begins (kind.Keyword keyword.Send) ts) (send_at limits ts)
+    (choose (begins (kind.Keyword keyword.If) ts) (if_at limits block_at limit ts)
+    (assign_at limits ts)))
+
+-- a block in which blocks lie in one another no deeper than the limit
+unfoldable pub block_at : Limits → ℕ → List Token → Read (Statements × List Token)
+block_at limits zero ts = Err TooShort
+block_at limits (suc limit) ts = braces_at (statement_at limits (block_at limits limit) limit) ts >>= λ x. Ok (joined x.0, x.1)
+
+-- ---- Atomic models
+
+unfoldable pub bound_at : List Token → Read (Bound × List Token)
+bound_at ts = choose (begins (kind.Symbol symbol.Minus) ts)
+    (after (kind.Symbol symbol.Minus) ts >>= λ behind. number_at behind >>= λ n. Ok (record { minus = Some (place_at ts); magnitude = n.0 }, n.1))
+    (number_at ts >>= λ n. Ok (record { minus = None; magnitude = n.0 }, n.1))
+
+unfoldable pub variable_at : List Token → Read (Variable × List Token)
+variable_at ts = do
+  behind ← after (kind.Keyword keyword.Var) ts
+  n ← name_at behind
+  colon ← after (kind.Symbol symbol.Colon) n.1
+  low ← bound_at colon
+  range ← after (kind.Symbol symbol.Range) low.1
+  high ← bound_at range
+  equal ← after (kind.Symbol symbol.Equal) high.1
+  start ← bound_at equal
+  rest ← after (kind.Symbol symbol.Semicolon) start.1
+  Ok (record { name = n.0; low = low.0; high = high.0; start = start.0 }, rest)
+
+unfoldable pub flag_at : List Token → Read (Flag × List Token)
+flag_at ts = do
+  behind ← after (kind.Keyword keyword.Flag) ts
+  n ← name_at behind
+  equal ← after (kind.Symbol symbol.Equal) n.1
+  start ← truth_at equal
+  rest ← after (kind.Symbol symbol.Semicolon) start.1
+  Ok (record { name = n.0; start = start.0 }, rest)
+
+-- a comma and a name
+unfoldable pub further_name_at : List Token → Read (Name × List Token)
+further_name_at ts = after (kind.Symbol symbol.Comma) ts >>= λ behind. name_at behind
+
+unfoldable pub phases_at : List Token → Read (AtomicItem × List Token)
+phases_at ts = do
+  behind ← after (kind.Keyword keyword.Phases) ts
+  first ← name_at behind
+  others ← many_at further_name_at (kind.Symbol symbol.Semicolon) first.1
+  rest ← after (kind.Symbol symbol.Semicolon) others.1
+  Ok (Lists (record { place = place_at ts; names = first.0 ∷ others.0 }), rest)
+
+unfoldable pub start_at : List Token → Read (AtomicItem × List Token)
+start_at ts = do
+  behind ← after (kind.Keyword keyword.Start) ts
+  n ← name_at behind
+  rest ← after (kind.Symbol symbol.Semicolon) n.1
+  Ok (Starts (record { place = place_at ts; phase = n.0 }), rest)
+
+unfoldable pub ticks_at : Limits → List Token → Read (Option Expression × List Token)
+ticks_at limits ts = choose (begins (kind.Keyword keyword.Forever) ts)
+    (after (kind.Keyword keyword.Forever) ts >>= λ rest. Ok (None, rest))
+    (expression_at limits.expression 0 ts >>= λ e. Ok (Some e.0, e.1))
+
+unfoldable pub hold_at : Limits → List Token → Read (AtomicItem × List Token)
+hold_at limits ts = do
+  behind ← after (kind.Keyword keyword.Hold) ts
+  n ← name_at behind
+  colon ← after (kind.Symbol symbol.Colon) n.1
+  ticks ← ticks_at limits colon
+  rest ← after (kind.Symbol symbol.Semicolon) ticks.1
+  Ok (Holds (record { place = place_at ts; phase = n.0; ticks = ticks.0 }), rest)
+
+unfoldable pub rule_at : Limits → RuleSort → List Token → Read (AtomicItem × List Token)
+rule_at limits sort ts = do
+  behind ← after (kind.Keyword (sort_word sort)) ts
+  n ← name_at behind
+  body ← block_at limits limits.block n.1
+  Ok (Rules (record { sort = sort; phase = n.0; body = body.0 }), body.1)
+
+-- `out port;`
+unfoldable pub out_at : List Token → Read (Name × List Token)
+out_at ts = do
+  behind ← after (kind.Keyword keyword.Out) ts
+  n ← name_at behind
+  rest ← after (kind.Symbol symbol.Semicolon) n.1
+  Ok (n.0, rest)
+
+unfoldable pub item_at : Limits → List Token → Read (AtomicItem × List Token)
+item_at limits ts =
+    choose (begins (kind.Keyword keyword.Out) ts) (out_at ts >>= λ n. Ok (Declares (declaration.Out n.0), n.1))
+    (choose (begins (kind.Keyword keyword.Var) ts) (variable_at ts >>= λ v. Ok (Declares (declaration.Var v.0), v.1))
+    (choose (begins (kind.Keyword keyword.Flag) ts) (flag_at ts >>= λ f. Ok (Declares (declaration.Flag f.0), f.1))
+    (choose (begins (kind.Keyword keyword.Phases) ts) (phases_at ts)
+    (choose (begins (kind.Keyword keyword.Start) ts) (start_at ts)
+    (choose (begins (kind.Keyword keyword.Hold) ts) (hold_at limits ts)
+    (choose (begins (kind.Keyword keyword.Output) ts) (rule_at limits sort.Output ts)
+    (rule_at limits sort.Internal ts)))))))
+
+unfoldable pub atomic_at : Limits → List Token → Read ((Name × List AtomicItem) × List Token)
+atomic_at limits ts = do
+  behind ← after (kind.Keyword keyword.Atomic) ts
+  n ← name_at behind
+  items ← braces_at (item_at limits) n.1
+  Ok ((n.0, items.0), items.1)
+
+-- ---- Coupled models
+
+unfoldable pub end_at : List Token → Read (End × List Token)
+end_at ts = choose (begins (kind.Keyword keyword.Itself) ts)
+    (after (kind.Keyword keyword.Itself) ts >>= λ behind. after (kind.Symbol symbol.Dot) behind >>= λ dot. name_at dot >>= λ port. Ok (record { part = None; port = port.0 }, port.1))
+    (name_at ts >>= λ part. after (kind.Symbol symbol.Dot) part.1 >>= λ dot. name_at dot >>= λ port. Ok (record { part = Some part.0; port = port.0 }, port.1))
+
+unfoldable pub part_at : List Token → Read (Part × List Token)
+part_at ts = do
+  behind ← after (kind.Keyword keyword.Part) ts
+  n ← name_at behind
+  colon ← after (kind.Symbol symbol.Colon) n.1
+  model ← name_at colon
+  rest ← after (kind.Symbol symbol.Semicolon) model.1
+  Ok (record { name = n.0; model = model.0 }, rest)
+
+unfoldable pub link_at : List Token → Read (Link × List Token)
+link_at ts = do
+  behind ← after (kind.Keyword keyword.Link) ts
+  source ← end_at behind
+  arrow ← after (kind.Symbol symbol.Arrow) source.1
+  target ← end_at arrow
+  rest ← after (kind.Symbol symbol.Semicolon) target.1
+  Ok (record { place = place_at ts; from = source.0; to = target.0 }, rest)
+
+unfoldable pub coupled_item_at : List Token → Read (CoupledItem × List Token)
+coupled_item_at ts =
+    choose (begins (kind.Keyword keyword.Out) ts) (out_at ts >>= λ n. Ok (Outputs n.0, n.1))
+    (choose (begins (kind.Keyword keyword.Part) ts) (part_at ts >>= λ p. Ok (Contains p.0, p.1))
+    (link_at ts >>= λ l. Ok (Couples l.0, l.1)))
+
+unfoldable pub coupled_at : List Token → Read ((Name × List CoupledItem) × List Token)
+coupled_at ts = do
+  behind ← after (kind.Keyword keyword.Coupled) ts
+  n ← name_at behind
+  items ← braces_at coupled_item_at n.1
+  Ok ((n.0, items.0), items.1)
+
+-- ---- Files
+
+unfoldable pub model_at : Limits → List Token → Read (WrittenModel × List Token)
+model_at limits ts = choose (begins (kind.Keyword keyword.Coupled) ts)
+    (coupled_at ts >>= λ m. Ok (WrittenCoupled m.0.0 m.0.1, m.1))
+    (atomic_at limits ts >>= λ m. Ok (WrittenAtomic m.0.0 m.0.1, m.1))
+
+abbrev pub is_end : List Token → Bool
+is_end [] = true
+is_end (t ∷ ts) = false
+
+-- a file, of all the tokens
+unfoldable pub file_at : Limits → List Token → Read WrittenFile
+file_at limits ts = do
+  models ← many_at (model_at limits) (kind.Keyword keyword.Root) ts
+  behind ← after (kind.Keyword keyword.Root) models.1
+  n ← name_at behind
+  rest ← after (kind.Symbol symbol.Semicolon) n.1
+  choose (is_end rest) (Ok (record { models = models.0; root = n.0 })) (Err (obstacle_at rest))
+
+-- what stops a reader is answered by this refusal; `end` is the place of the end of the text
+abbrev pub refusal_of : Obstacle → ℕ → Refusal
+refusal_of (Unexpected place) end = record { number = E4; place = place }
+refusal_of (TooDeep place) end = record { number = E5; place = place }
+refusal_of TooShort end = record { number = E4; place = end }
+
+abbrev pub refusal_in : {A : Type 0} → Read A → ℕ → Option Refusal
+refusal_in (Ok x) end = None
+refusal_in (Err o) end = Some (refusal_of o end)
+
+-- the refusal of the tokens of a text that ends at this place, unless they are those of a file
+abbrev pub refusal_of_tokens : List Token → ℕ → Option Refusal
+refusal_of_tokens ts end = refusal_in (file_at the_limits ts) end
+
+-- the error is the answer to the tokens, or want of memory
+abbrev pub IsRefused : LoadError → List Token → ℕ → Type 0
+IsRefused error.Memory ts end = Unit {0}
+IsRefused (error.Refused r) ts end = refusal_of_tokens ts end ≡ Some r
+
+-- ---- What the code reads: items are sorted as they are read
+
+abbrev pub item_of : CodeItem → AtomicItem
+item_of (item.Declares d) = Declares d
+item_of (item.Lists p) = Lists (phases_of p)
+item_of (item.Starts s) = Starts s
+item_of (item.Holds h) = Holds (hold_of h)
+item_of (item.Rules r) = Rules (rule_of r)
+
+abbrev pub coupled_item_of : CodeCoupledItem → CoupledItem
+coupled_item_of (coupled_item.Outputs port) = Outputs port
+coupled_item_of (coupled_item.Contains part) = Contains part
+coupled_item_of (coupled_item.Couples link) = Couples link
+
+-- a model, and behind its items those of a list
+abbrev pub with_items : AtomicTree → List AtomicItem → AtomicTree
+with_items m items = record {
+  name = m.name;
+  declarations = m.declarations ++ (sorted_items m.name items).declarations;
+  phases = m.phases ++ (sorted_items m.name items).phases;
+  starts = m.starts ++ (sorted_items m.name items).starts;
+  holds = m.holds ++ (sorted_items m.name items).holds;
+  rules = m.rules ++ (sorted_items m.name items).rules;
+}
+
+abbrev pub with_item : AtomicTree → AtomicItem → AtomicTree
+with_item m i = with_items m (i ∷ [])
+
+abbrev pub empty_atomic : Name → AtomicTree
+empty_atomic name = sorted_items name []
+
+abbrev pub with_coupled_items : CoupledTree → List CoupledItem → CoupledTree
+with_coupled_items m items = record {
+  name = m.name;
+  outputs = m.outputs ++ (sorted_coupled_items m.name items).outputs;
+  parts = m.parts ++ (sorted_coupled_items m.name items).parts;
+  links = m.links ++ (sorted_coupled_items m.name items).links;
+}
+
+abbrev pub with_coupled_item : CoupledTree → CoupledItem → CoupledTree
+with_coupled_item m i = with_coupled_items m (i ∷ [])
+
+abbrev pub empty_coupled : Name → CoupledTree
+empty_coupled name = sorted_coupled_items name []
+
+unfoldable pub atomic_tree_at : List Token → Read (AtomicTree × List Token)
+atomic_tree_at ts = do
+  behind ← after (kind.Keyword keyword.Atomic) ts
+  n ← name_at behind
+  inside ← after (kind.Symbol symbol.OpenBrace) n.1
+  m ← becoming (with_items (empty_atomic n.0)) (many_at (item_at the_limits) (kind.Symbol symbol.CloseBrace) inside)
+  rest ← after (kind.Symbol symbol.CloseBrace) m.1
+  Ok (m.0, rest)
+
+unfoldable pub coupled_tree_at : List Token → Read (CoupledTree × List Token)
+coupled_tree_at ts = do
+  behind ← after (kind.Keyword keyword.Coupled) ts
+  n ← name_at behind
+  inside ← after (kind.Symbol symbol.OpenBrace) n.1
+  m ← becoming (with_coupled_items (empty_coupled n.0)) (many_at coupled_item_at (kind.Symbol symbol.CloseBrace) inside)
+  rest ← after (kind.Symbol symbol.CloseBrace) m.1
+  Ok (m.0, rest)
+
+unfoldable pub tree_at : List Token → Read (ModelTree × List Token)
+tree_at ts = choose (begins (kind.Keyword keyword.Coupled) ts)
+    (coupled_tree_at ts >>= λ m. Ok (CoupledModel m.0, m.1))
+    (atomic_tree_at ts >>= λ m. Ok (AtomicModel m.0, m.1))
+
+unfoldable pub file_tree_at : List Token → Read FileTree
+file_tree_at ts = do
+  models ← many_at tree_at (kind.Keyword keyword.Root) ts
+  behind ← after (kind.Keyword keyword.Root) models.1
+  n ← name_at behind
+  rest ← after (kind.Symbol symbol.Semicolon) n.1
+  choose (is_end rest) (Ok (record { models = models.0; root = n.0 })) (Err (obstacle_at rest))

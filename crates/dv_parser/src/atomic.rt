@@ -1,0 +1,328 @@
+//! Atomic models and their items.
+
+ghost use Rattle.std.specs.Prelude.{◌≡◌, [], OnOk, IfErr};
+ghost use Rattle.dv_syntax.specs.Trees.{ticks_of, atomic_of};
+ghost use Rattle.dv_syntax.specs.Grammar.{the_limits, sort_word};
+ghost use Rattle.dv_parser.specs.Reading.{Gives, with_front, many_at, braces_at, bound_at, variable_at, flag_at, further_name_at, phases_at, start_at, ticks_at, hold_at, rule_at, out_at, item_at, item_of, with_item, with_items, empty_atomic, becoming, atomic_tree_at};
+
+use crate::expression::expression;
+use crate::parse_error::ParseError;
+use crate::statement::block;
+use crate::token::{
+    after_keyword, after_symbol, begins_with_keyword, begins_with_symbol, first_place, name,
+    number, truth,
+};
+use dv_lex::{Keyword, Symbol, Token, TokenKind};
+use dv_syntax::{
+    Atomic, Bound, Declaration, Flag, Hold, Name, Phases, Rule, RuleSort, Start, Ticks, Variable,
+};
+use std::alloc::Global;
+
+/// How deep the blocks of a rule may lie in one another.
+const BLOCK_LIMIT: u32 = 16;
+
+/// An item of an atomic model.
+#[derive(Debug, Drop)]
+pub enum AtomicItem {
+    Declares(Declaration),
+    Lists(Phases),
+    Starts(Start),
+    Holds(Hold),
+    Rules(Rule),
+}
+
+/// A number, perhaps behind a minus sign.
+#[tactic(auto, unfolding(crate::specs::Reading::bound_at, crate::specs::Reading::read_then, crate::specs::Reading::choose))]
+fn bound(tokens: &[Token]) -> Result<(Bound, &[Token]), ParseError>
+    ensures { Gives (λ x. (x.0, x.1.now)) result (bound_at tokens.now) }
+{
+    if begins_with_symbol(tokens, Symbol::Minus) {
+        let place = first_place(tokens);
+        let rest = after_symbol(tokens, Symbol::Minus)?;
+        let (magnitude, rest) = match number(rest) {
+            Ok(read) => read,
+            Err(e) => return Err(e),
+        };
+        Ok((
+            Bound {
+                minus: Some(place),
+                magnitude,
+            },
+            rest,
+        ))
+    } else {
+        let (magnitude, rest) = match number(tokens) {
+            Ok(read) => read,
+            Err(e) => return Err(e),
+        };
+        Ok((
+            Bound {
+                minus: None,
+                magnitude,
+            },
+            rest,
+        ))
+    }
+}
+
+/// `var name: low..high = start;`
+#[tactic(auto, unfolding(crate::specs::Reading::variable_at, crate::specs::Reading::read_then))]
+fn variable(tokens: &[Token]) -> Result<(Variable, &[Token]), ParseError>
+    ensures { Gives (λ x. (x.0, x.1.now)) result (variable_at tokens.now) }
+{
+    let rest = after_keyword(tokens, Keyword::Var)?;
+    let (name, rest) = name(rest)?;
+    let rest = after_symbol(rest, Symbol::Colon)?;
+    let (low, rest) = match bound(rest) {
+        Ok(read) => read,
+        Err(e) => return Err(e),
+    };
+    let rest = after_symbol(rest, Symbol::Range)?;
+    let (high, rest) = match bound(rest) {
+        Ok(read) => read,
+        Err(e) => return Err(e),
+    };
+    let rest = after_symbol(rest, Symbol::Equal)?;
+    let (start, rest) = match bound(rest) {
+        Ok(read) => read,
+        Err(e) => return Err(e),
+    };
+    let rest = after_symbol(rest, Symbol::Semicolon)?;
+    Ok((
+        Variable {
+            name,
+            low,
+            high,
+            start,
+        },
+        rest,
+    ))
+}
+
+/// `flag name = start;`
+#[tactic(auto, unfolding(crate::specs::Reading::flag_at, crate::specs::Reading::read_then))]
+fn flag(tokens: &[Token]) -> Result<(Flag, &[Token]), ParseError>
+    ensures { Gives (λ x. (x.0, x.1.now)) result (flag_at tokens.now) }
+{
+    let rest = after_keyword(tokens, Keyword::Flag)?;
+    let (name, rest) = name(rest)?;
+    let rest = after_symbol(rest, Symbol::Equal)?;
+    let (start, rest) = truth(rest)?;
+    let rest = after_symbol(rest, Symbol::Semicolon)?;
+    Ok((Flag { name, start }, rest))
+}
+
+/// A comma and a name.
+#[tactic(auto, unfolding(crate::specs::Reading::further_name_at, crate::specs::Reading::read_then))]
+fn further_name(tokens: &[Token]) -> Result<(Name, &[Token]), ParseError>
+    ensures { Gives (λ x. (x.0, x.1.now)) result (further_name_at tokens.now) }
+{
+    let rest = after_symbol(tokens, Symbol::Comma)?;
+    name(rest)
+}
+
+/// Adds the names behind commas that stand before a semicolon.
+fn further_names(
+    mut names: Vec<Name>,
+    tokens: &[Token],
+) -> Result<(Vec<Name>, &[Token]), ParseError>
+    ensures { Gives (λ x. (x.0.items, x.1.now)) result
+        (with_front names.items
+        (many_at further_name_at (TokenKind.Symbol Symbol.Semicolon) tokens.now)) }
+{
+    let mut rest = tokens;
+    while !begins_with_symbol(rest, Symbol::Semicolon) {
+        let (name, after) = further_name(rest)?;
+        names.push(name)?;
+        rest = after;
+    }
+    Ok((names, rest))
+}
+
+/// `phases first, second, ..;`
+#[tactic(auto, unfolding(crate::specs::Reading::phases_at, crate::specs::Reading::read_then))]
+fn phases(alloc: Global, tokens: &[Token]) -> Result<(AtomicItem, &[Token]), ParseError>
+    ensures { Gives (λ x. (item_of x.0, x.1.now)) result (phases_at tokens.now) }
+{
+    let place = first_place(tokens);
+    let rest = after_keyword(tokens, Keyword::Phases)?;
+    let (first, rest) = name(rest)?;
+    let mut names = Vec::new(alloc);
+    names.push(first)?;
+    let (names, rest) = further_names(names, rest)?;
+    let rest = after_symbol(rest, Symbol::Semicolon)?;
+    Ok((AtomicItem::Lists(Phases { place, names }), rest))
+}
+
+/// `start phase;`
+#[tactic(auto, unfolding(crate::specs::Reading::start_at, crate::specs::Reading::read_then))]
+fn start(tokens: &[Token]) -> Result<(AtomicItem, &[Token]), ParseError>
+    ensures { Gives (λ x. (item_of x.0, x.1.now)) result (start_at tokens.now) }
+{
+    let place = first_place(tokens);
+    let rest = after_keyword(tokens, Keyword::Start)?;
+    let (phase, rest) = name(rest)?;
+    let rest = after_symbol(rest, Symbol::Semicolon)?;
+    Ok((AtomicItem::Starts(Start { place, phase }), rest))
+}
+
+/// `forever`, or an expression.
+#[tactic(auto, unfolding(crate::specs::Reading::ticks_at, crate::specs::Reading::read_then, crate::specs::Reading::choose))]
+fn ticks(alloc: Global, tokens: &[Token]) -> Result<(Ticks, &[Token]), ParseError>
+    ensures { Gives (λ x. (ticks_of x.0, x.1.now)) result (ticks_at the_limits tokens.now) }
+{
+    if begins_with_keyword(tokens, Keyword::Forever) {
+        let rest = after_keyword(tokens, Keyword::Forever)?;
+        Ok((Ticks::Forever, rest))
+    } else {
+        let (ticks, rest) = expression(alloc, tokens)?;
+        Ok((Ticks::After(ticks), rest))
+    }
+}
+
+/// `hold phase: ticks;`
+#[tactic(auto, unfolding(crate::specs::Reading::hold_at, crate::specs::Reading::read_then))]
+fn hold(alloc: Global, tokens: &[Token]) -> Result<(AtomicItem, &[Token]), ParseError>
+    ensures { Gives (λ x. (item_of x.0, x.1.now)) result (hold_at the_limits tokens.now) }
+{
+    let place = first_place(tokens);
+    let rest = after_keyword(tokens, Keyword::Hold)?;
+    let (phase, rest) = name(rest)?;
+    let rest = after_symbol(rest, Symbol::Colon)?;
+    let (ticks, rest) = ticks(alloc, rest)?;
+    let rest = after_symbol(rest, Symbol::Semicolon)?;
+    let hold = Hold {
+        place,
+        phase,
+        ticks,
+    };
+    Ok((AtomicItem::Holds(hold), rest))
+}
+
+/// The word with which a rule of this sort begins.
+fn word_of(sort: RuleSort) -> Keyword
+    ensures { result ≡ sort_word sort }
+{
+    match sort {
+        RuleSort::Output => Keyword::Output,
+        RuleSort::Internal => Keyword::Internal,
+    }
+}
+
+/// `output phase { .. }` or `internal phase { .. }`
+#[tactic(auto, unfolding(crate::specs::Reading::rule_at, crate::specs::Reading::read_then))]
+fn rule(
+    alloc: Global,
+    tokens: &[Token],
+    sort: RuleSort,
+) -> Result<(AtomicItem, &[Token]), ParseError>
+    ensures { Gives (λ x. (item_of x.0, x.1.now)) result (rule_at the_limits sort tokens.now) }
+{
+    let rest = after_keyword(tokens, word_of(sort))?;
+    let (phase, rest) = name(rest)?;
+    let (body, rest) = block(alloc, rest, BLOCK_LIMIT)?;
+    Ok((AtomicItem::Rules(Rule { sort, phase, body }), rest))
+}
+
+/// `out port;`
+#[tactic(auto, unfolding(crate::specs::Reading::out_at, crate::specs::Reading::read_then))]
+pub fn out(tokens: &[Token]) -> Result<(Name, &[Token]), ParseError>
+    ensures { Gives (λ x. (x.0, x.1.now)) result (out_at tokens.now) }
+{
+    let rest = after_keyword(tokens, Keyword::Out)?;
+    let (port, rest) = name(rest)?;
+    let rest = after_symbol(rest, Symbol::Semicolon)?;
+    Ok((port, rest))
+}
+
+/// An item at the front.
+#[tactic(auto, unfolding(crate::specs::Reading::item_at, crate::specs::Reading::read_then, crate::specs::Reading::choose))]
+fn item(alloc: Global, tokens: &[Token]) -> Result<(AtomicItem, &[Token]), ParseError>
+    ensures { Gives (λ x. (item_of x.0, x.1.now)) result (item_at the_limits tokens.now) }
+{
+    if begins_with_keyword(tokens, Keyword::Out) {
+        let (port, rest) = out(tokens)?;
+        Ok((AtomicItem::Declares(Declaration::Out(port)), rest))
+    } else if begins_with_keyword(tokens, Keyword::Var) {
+        let (variable, rest) = match variable(tokens) {
+            Ok(read) => read,
+            Err(e) => return Err(e),
+        };
+        Ok((AtomicItem::Declares(Declaration::Var(variable)), rest))
+    } else if begins_with_keyword(tokens, Keyword::Flag) {
+        let (flag, rest) = flag(tokens)?;
+        Ok((AtomicItem::Declares(Declaration::Flag(flag)), rest))
+    } else if begins_with_keyword(tokens, Keyword::Phases) {
+        phases(alloc, tokens)
+    } else if begins_with_keyword(tokens, Keyword::Start) {
+        start(tokens)
+    } else if begins_with_keyword(tokens, Keyword::Hold) {
+        hold(alloc, tokens)
+    } else if begins_with_keyword(tokens, Keyword::Output) {
+        rule(alloc, tokens, RuleSort::Output)
+    } else {
+        rule(alloc, tokens, RuleSort::Internal)
+    }
+}
+
+/// Adds an item to those of its kind.
+fn add(atomic: &mut Atomic, item: AtomicItem) -> Result<(), ParseError>
+    ensures added { OnOk result
+        (atomic_of atomic.new ≡ with_item (atomic_of atomic.old) (item_of item)) }
+    ensures memory { IfErr result (λ e. e ≡ ParseError.Memory) }
+{
+    match item {
+        AtomicItem::Declares(declaration) => atomic.declarations.push(declaration)?,
+        AtomicItem::Lists(phases) => atomic.phases.push(phases)?,
+        AtomicItem::Starts(start) => atomic.starts.push(start)?,
+        AtomicItem::Holds(hold) => atomic.holds.push(hold)?,
+        AtomicItem::Rules(rule) => atomic.rules.push(rule)?,
+    }
+    Ok(())
+}
+
+/// Adds the items before the brace that closes their model.
+fn items(
+    alloc: Global,
+    mut atomic: Atomic,
+    tokens: &[Token],
+) -> Result<(Atomic, &[Token]), ParseError>
+    ensures { Gives (λ x. (atomic_of x.0, x.1.now)) result
+        (becoming (with_items (atomic_of atomic))
+        (many_at (item_at the_limits) (TokenKind.Symbol Symbol.CloseBrace) tokens.now)) }
+{
+    let mut rest = tokens;
+    while !begins_with_symbol(rest, Symbol::CloseBrace) {
+        let (item, after) = item(alloc, rest)?;
+        add(&mut atomic, item)?;
+        rest = after;
+    }
+    Ok((atomic, rest))
+}
+
+/// An atomic model without items.
+fn empty(alloc: Global, name: Name) -> Atomic
+    ensures { atomic_of result ≡ empty_atomic name }
+{
+    Atomic {
+        name,
+        declarations: Vec::new(alloc),
+        phases: Vec::new(alloc),
+        starts: Vec::new(alloc),
+        holds: Vec::new(alloc),
+        rules: Vec::new(alloc),
+    }
+}
+
+/// `atomic name { .. }`
+#[tactic(auto, unfolding(crate::specs::Reading::atomic_tree_at, crate::specs::Reading::atomic_at, crate::specs::Reading::braces_at, crate::specs::Reading::read_then))]
+pub fn atomic(alloc: Global, tokens: &[Token]) -> Result<(Atomic, &[Token]), ParseError>
+    ensures { Gives (λ x. (atomic_of x.0, x.1.now)) result (atomic_tree_at tokens.now) }
+{
+    let rest = after_keyword(tokens, Keyword::Atomic)?;
+    let (name, rest) = name(rest)?;
+    let rest = after_symbol(rest, Symbol::OpenBrace)?;
+    let (atomic, rest) = items(alloc, empty(alloc, name), rest)?;
+    let rest = after_symbol(rest, Symbol::CloseBrace)?;
+    Ok((atomic, rest))
+}

@@ -1,0 +1,301 @@
+//! Expressions.
+
+ghost use Rattle.std.specs.Prelude.{◌≡◌, ◌+◌, ◌-◌, ◌<◌, ◌≤◌, IfOk, MatchOption, None, Some};
+ghost use Rattle.dv_syntax.specs.Trees.{expression_of};
+ghost use Rattle.dv_syntax.specs.Grammar.{prefix_kind, prefix_rank, operator_rank, left_rank, rank, depth};
+ghost use Rattle.dv_parser.specs.Reading.{Gives, operator_of, keyword_operator, symbol_operator, goes_on, operator_at, place_at, leaf_at, parens_at, prefixed_at, begins_prefix, primary_at, expression_at};
+
+use crate::parse_error::ParseError;
+use crate::token::{
+    after_kind, after_symbol, begins_with, begins_with_name, begins_with_symbol, begins_with_truth,
+    first_place, name, number, truth,
+};
+use dv_lex::{Keyword, Symbol, Token, TokenKind};
+use dv_syntax::{Expr, Operator, Prefix};
+use std::alloc::Global;
+
+/// The greatest depth of an expression.
+const DEPTH_LIMIT: u32 = 64;
+
+/// How tightly an expression holds together with no operator at the top.
+const SINGLE: u32 = 8;
+
+/// The operator that a token stands for between two operands.
+#[tactic(auto, unfolding(crate::specs::Reading::operator_of))]
+fn operator(kind: TokenKind) -> Option<Operator>
+    ensures { result ≡ operator_of kind }
+{
+    match kind {
+        TokenKind::Keyword(word) => operator_of_word(word),
+        TokenKind::Symbol(symbol) => operator_of_symbol(symbol),
+        TokenKind::Name(_) | TokenKind::Number(_) => None,
+    }
+}
+
+fn operator_of_word(word: Keyword) -> Option<Operator>
+    ensures { result ≡ keyword_operator word }
+{
+    match word {
+        Keyword::Or => Some(Operator::Or),
+        Keyword::And => Some(Operator::And),
+        _ => None,
+    }
+}
+
+fn operator_of_symbol(symbol: Symbol) -> Option<Operator>
+    ensures { result ≡ symbol_operator symbol }
+{
+    match symbol {
+        Symbol::Plus => Some(Operator::Add),
+        Symbol::Minus => Some(Operator::Subtract),
+        Symbol::Star => Some(Operator::Multiply),
+        Symbol::Slash => Some(Operator::Divide),
+        Symbol::Percent => Some(Operator::Remainder),
+        Symbol::Equal => Some(Operator::Equal),
+        Symbol::Unequal => Some(Operator::Unequal),
+        Symbol::Less => Some(Operator::Less),
+        Symbol::AtMost => Some(Operator::AtMost),
+        Symbol::Greater => Some(Operator::Greater),
+        Symbol::AtLeast => Some(Operator::AtLeast),
+        _ => None,
+    }
+}
+
+/// How tightly an operator binds.
+fn rank_of_operator(operator: Operator) -> u32
+    ensures value { result ≡ operator_rank operator }
+    ensures small { result ≤ 6 }
+{
+    match operator {
+        Operator::Or => 1,
+        Operator::And => 2,
+        Operator::Add | Operator::Subtract => 5,
+        Operator::Multiply | Operator::Divide | Operator::Remainder => 6,
+        Operator::Equal
+        | Operator::Unequal
+        | Operator::Less
+        | Operator::AtMost
+        | Operator::Greater
+        | Operator::AtLeast => 4,
+    }
+}
+
+/// The least rank of an operator's left operand. A comparison is no operand of another.
+fn least_left_rank(operator: Operator) -> u32
+    ensures { result ≡ left_rank operator }
+{
+    match operator {
+        Operator::Or => 1,
+        Operator::And => 2,
+        Operator::Multiply | Operator::Divide | Operator::Remainder => 6,
+        _ => 5,
+    }
+}
+
+/// The token of an operator before its operand.
+fn kind_of_prefix(operator: Prefix) -> TokenKind
+    ensures { result ≡ prefix_kind operator }
+{
+    match operator {
+        Prefix::Minus => TokenKind::Symbol(Symbol::Minus),
+        Prefix::Not => TokenKind::Keyword(Keyword::Not),
+    }
+}
+
+/// How tightly an operator before its operand binds.
+fn rank_of_prefix(operator: Prefix) -> u32
+    ensures value { result ≡ prefix_rank operator }
+    ensures small { result ≤ 7 }
+{
+    match operator {
+        Prefix::Minus => 7,
+        Prefix::Not => 3,
+    }
+}
+
+/// How tightly an expression holds together.
+fn rank_of(expression: &Expr) -> u32
+    ensures { result ≡ rank (expression_of expression.now) }
+{
+    match expression {
+        Expr::Binary { operator, .. } => rank_of_operator(*operator),
+        Expr::Prefixed { operator, .. } => rank_of_prefix(*operator),
+        Expr::Literal(_) | Expr::TruthValue { .. } | Expr::Named(_) | Expr::Parens { .. } => SINGLE,
+    }
+}
+
+/// The operator at the front that goes on with the left operand at this level, its place, and what follows it.
+#[tactic(auto, unfolding(crate::specs::Reading::operator_at, crate::specs::Reading::place_at, crate::specs::Reading::goes_on, crate::specs::Reading::maybe, crate::specs::Reading::choose))]
+fn next_operator<'a>(
+    tokens: &'a [Token],
+    level: u32,
+    left: &Expr,
+) -> Option<(Operator, u32, &'a [Token])>
+    ensures { MatchOption result
+        (operator_at level (expression_of left.now) tokens.now ≡ None)
+        (λ x. (operator_at level (expression_of left.now) tokens.now ≡ Some (x.0, x.2.now))
+        × (x.1 ≡ place_at tokens.now)) }
+{
+    let [Token { kind, place }, rest @ ..] = tokens else {
+        return None;
+    };
+    let operator = operator(*kind)?;
+    if level <= rank_of_operator(operator) && least_left_rank(operator) <= rank_of(left) {
+        Some((operator, *place, rest))
+    } else {
+        None
+    }
+}
+
+/// A name, a truth value or a number, and what follows it.
+#[tactic(auto, unfolding(crate::specs::Reading::leaf_at, crate::specs::Reading::read_then, crate::specs::Reading::choose))]
+fn leaf(tokens: &[Token]) -> Result<(Expr, &[Token]), ParseError>
+    ensures gives { Gives (λ x. (expression_of x.0, x.1.now)) result (leaf_at tokens.now) }
+    ensures depth { IfOk result (λ x. depth (expression_of x.0) ≡ 1) }
+{
+    if begins_with_name(tokens) {
+        let (name, rest) = name(tokens)?;
+        Ok((Expr::Named(name), rest))
+    } else if begins_with_truth(tokens) {
+        let place = first_place(tokens);
+        let (value, rest) = truth(tokens)?;
+        Ok((Expr::TruthValue { place, value }, rest))
+    } else {
+        let (number, rest) = match number(tokens) {
+            Ok(read) => read,
+            Err(e) => return Err(e),
+        };
+        Ok((Expr::Literal(number), rest))
+    }
+}
+
+/// An expression in parentheses.
+#[cycle(expression)]
+#[tactic(auto, unfolding(crate::specs::Reading::parens_at, crate::specs::Reading::within, crate::specs::Reading::read_then))]
+fn parens(alloc: Global, tokens: &[Token], limit: u32) -> Result<(Expr, u32, &[Token]), ParseError>
+    requires positive { 0 < limit }
+    requires bounded { limit ≤ 64 }
+    ensures gives { Gives (λ x. (expression_of x.0, x.2.now)) result
+        (parens_at (expression_at (limit - 1)) (limit - 1) tokens.now) }
+    ensures depth { IfOk result (λ x. x.1 ≡ depth (expression_of x.0)) }
+    ensures within { IfOk result (λ x. (0 < x.1) × (x.1 ≤ limit)) }
+{
+    let place = first_place(tokens);
+    let inside = after_symbol(tokens, Symbol::OpenParen)?;
+    if limit == 1 {
+        return Err(ParseError::TooDeep(place));
+    }
+    let (inner, depth, rest) = within(alloc, inside, limit - 1, 0)?;
+    let rest = after_symbol(rest, Symbol::CloseParen)?;
+    let inner = Box::new(alloc, inner)?;
+    Ok((Expr::Parens { place, inner }, depth + 1, rest))
+}
+
+/// An operand behind its operator.
+#[cycle(expression)]
+#[tactic(auto, unfolding(crate::specs::Reading::prefixed_at, crate::specs::Reading::within, crate::specs::Reading::read_then))]
+fn prefixed(
+    alloc: Global,
+    tokens: &[Token],
+    operator: Prefix,
+    limit: u32,
+) -> Result<(Expr, u32, &[Token]), ParseError>
+    requires positive { 0 < limit }
+    requires bounded { limit ≤ 64 }
+    ensures gives { Gives (λ x. (expression_of x.0, x.2.now)) result
+        (prefixed_at operator (expression_at (limit - 1)) (limit - 1) tokens.now) }
+    ensures depth { IfOk result (λ x. x.1 ≡ depth (expression_of x.0)) }
+    ensures within { IfOk result (λ x. (0 < x.1) × (x.1 ≤ limit)) }
+{
+    let place = first_place(tokens);
+    let behind = after_kind(tokens, kind_of_prefix(operator))?;
+    if limit == 1 {
+        return Err(ParseError::TooDeep(place));
+    }
+    let (operand, depth, rest) = within(alloc, behind, limit - 1, rank_of_prefix(operator))?;
+    let operand = Box::new(alloc, operand)?;
+    let expression = Expr::Prefixed {
+        operator,
+        place,
+        operand,
+    };
+    Ok((expression, depth + 1, rest))
+}
+
+/// Whether an operator before its operand comes first, and may stand at the level.
+fn begins_with_prefix(tokens: &[Token], operator: Prefix, level: u32) -> bool
+    ensures { result ≡ begins_prefix operator level tokens.now }
+{
+    begins_with(tokens, kind_of_prefix(operator)) && level <= rank_of_prefix(operator)
+}
+
+/// An operand that no operator joins to another.
+#[cycle(expression)]
+#[tactic(auto, unfolding(crate::specs::Reading::primary_at, crate::specs::Reading::choose))]
+fn primary(
+    alloc: Global,
+    tokens: &[Token],
+    limit: u32,
+    level: u32,
+) -> Result<(Expr, u32, &[Token]), ParseError>
+    requires positive { 0 < limit }
+    requires bounded { limit ≤ 64 }
+    ensures gives { Gives (λ x. (expression_of x.0, x.2.now)) result
+        (primary_at (expression_at (limit - 1)) (limit - 1) level tokens.now) }
+    ensures depth { IfOk result (λ x. x.1 ≡ depth (expression_of x.0)) }
+    ensures within { IfOk result (λ x. (0 < x.1) × (x.1 ≤ limit)) }
+{
+    if begins_with_symbol(tokens, Symbol::OpenParen) {
+        parens(alloc, tokens, limit)
+    } else if begins_with_prefix(tokens, Prefix::Minus, level) {
+        prefixed(alloc, tokens, Prefix::Minus, limit)
+    } else if begins_with_prefix(tokens, Prefix::Not, level) {
+        prefixed(alloc, tokens, Prefix::Not, limit)
+    } else {
+        let (expression, rest) = leaf(tokens)?;
+        Ok((expression, 1, rest))
+    }
+}
+
+/// The longest expression no deeper than the limit at whose top no operator below the level stands, its depth,
+/// and what follows it.
+#[cycle(expression)]
+#[tactic(auto, using(crate::proofs::Climbing::climbing))]
+fn within(
+    alloc: Global,
+    tokens: &[Token],
+    limit: u32,
+    level: u32,
+) -> Result<(Expr, u32, &[Token]), ParseError>
+    requires positive { 0 < limit }
+    requires bounded { limit ≤ 64 }
+    ensures gives { Gives (λ x. (expression_of x.0, x.2.now)) result
+        (expression_at limit level tokens.now) }
+    ensures depth { IfOk result (λ x. x.1 ≡ depth (expression_of x.0)) }
+    ensures within { IfOk result (λ x. (0 < x.1) × (x.1 ≤ limit)) }
+{
+    let (mut left, mut depth, mut rest) = primary(alloc, tokens, limit, level)?;
+    while let Some((operator, place, after)) = next_operator(rest, level, &left) {
+        if depth >= limit {
+            return Err(ParseError::TooDeep(place));
+        }
+        let right_level = rank_of_operator(operator) + 1;
+        let (right, right_depth, next) = within(alloc, after, limit - 1, right_level)?;
+        depth = depth.max(right_depth) + 1;
+        left = Expr::Binary {
+            operator,
+            left: Box::new(alloc, left)?,
+            right: Box::new(alloc, right)?,
+        };
+        rest = next;
+    }
+    Ok((left, depth, rest))
+}
+
+/// The longest expression at the front, and what follows it.
+pub fn expression(alloc: Global, tokens: &[Token]) -> Result<(Expr, &[Token]), ParseError>
+    ensures { Gives (λ x. (expression_of x.0, x.1.now)) result (expression_at 64 0 tokens.now) }
+{
+    let (expression, _, rest) = within(alloc, tokens, DEPTH_LIMIT, 0)?;
+    Ok((expression, rest))
+}

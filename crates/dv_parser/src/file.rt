@@ -1,0 +1,82 @@
+//! Files: models one after the other, and the name of the root.
+
+ghost use Rattle.std.specs.Prelude.{◌≡◌, IfOk, IfErr, map};
+ghost use Rattle.dv_syntax.specs.Trees.{model_of, file_of};
+ghost use Rattle.dv_syntax.specs.Grammar.{IsFileOf};
+ghost use Rattle.dv_parser.specs.Reading.{Gives, IsRefused, many_at, tree_at, file_tree_at};
+
+use crate::atomic::atomic;
+use crate::coupled::coupled;
+use crate::parse_error::ParseError;
+use crate::token::{after_keyword, after_symbol, begins_with_keyword, name};
+use dv_lex::{Keyword, LoadError, Refusal, RefusalNumber, Symbol, Token, TokenKind};
+use dv_syntax::{File, Model};
+use std::alloc::Global;
+
+/// A model at the front.
+#[tactic(auto, unfolding(crate::specs::Reading::tree_at, crate::specs::Reading::read_then, crate::specs::Reading::choose))]
+fn model(alloc: Global, tokens: &[Token]) -> Result<(Model, &[Token]), ParseError>
+    ensures { Gives (λ x. (model_of x.0, x.1.now)) result (tree_at tokens.now) }
+{
+    if begins_with_keyword(tokens, Keyword::Coupled) {
+        let (coupled, rest) = coupled(alloc, tokens)?;
+        Ok((Model::Coupled(coupled), rest))
+    } else {
+        let (atomic, rest) = atomic(alloc, tokens)?;
+        Ok((Model::Atomic(atomic), rest))
+    }
+}
+
+/// The models before `root`.
+fn models(alloc: Global, tokens: &[Token]) -> Result<(Vec<Model>, &[Token]), ParseError>
+    ensures { Gives (λ x. (map model_of x.0.items, x.1.now)) result
+        (many_at tree_at (TokenKind.Keyword Keyword.Root) tokens.now) }
+{
+    let mut models = Vec::new(alloc);
+    let mut rest = tokens;
+    while !begins_with_keyword(rest, Keyword::Root) {
+        let (model, after) = model(alloc, rest)?;
+        models.push(model)?;
+        rest = after;
+    }
+    Ok((models, rest))
+}
+
+/// All the tokens as a file.
+#[tactic(auto, unfolding(crate::specs::Reading::file_tree_at, crate::specs::Reading::obstacle_at, crate::specs::Reading::read_then, crate::specs::Reading::choose))]
+fn file(alloc: Global, tokens: &[Token]) -> Result<File, ParseError>
+    ensures { Gives file_of result (file_tree_at tokens.now) }
+{
+    let (models, rest) = models(alloc, tokens)?;
+    let rest = after_keyword(rest, Keyword::Root)?;
+    let (root, rest) = name(rest)?;
+    let rest = after_symbol(rest, Symbol::Semicolon)?;
+    match rest {
+        [] => Ok(File { models, root }),
+        [Token { place, .. }, ..] => Err(ParseError::Unexpected(*place)),
+    }
+}
+
+fn refused(number: RefusalNumber, place: u32) -> LoadError
+    ensures { result ≡ LoadError.Refused (record { number = number; place = place }) }
+{
+    LoadError::Refused(Refusal { number, place })
+}
+
+/// The file that the tokens spell. `end` is the place of the end of the text.
+///
+/// `Err(LoadError::Refused(..))` names E4 or E5: the tokens are those of no file. The place is that of the first
+/// token with which the tokens no longer begin a file within the limits on depth: E5 where they still begin one
+/// without these limits, else E4. Where they end too early it is E4 at the end of the text.
+pub fn parse(alloc: Global, tokens: &[Token], end: u32) -> Result<File, LoadError>
+    ensures tree { IfOk result (λ file. IsFileOf tokens.now (file_of file)) }
+    ensures refused { IfErr result (λ e. IsRefused e tokens.now end) }
+{
+    match file(alloc, tokens) {
+        Ok(file) => Ok(file),
+        Err(ParseError::Memory) => Err(LoadError::Memory),
+        Err(ParseError::Unexpected(place)) => Err(refused(RefusalNumber::E4, place)),
+        Err(ParseError::TooDeep(place)) => Err(refused(RefusalNumber::E5, place)),
+        Err(ParseError::TooShort) => Err(refused(RefusalNumber::E4, end)),
+    }
+}

@@ -1,0 +1,161 @@
+//! Statements and blocks.
+
+ghost use Rattle.std.specs.Prelude.{◌-◌, ◌<◌, ◌≤◌, map};
+ghost use Rattle.dv_syntax.specs.Trees.{block_of};
+ghost use Rattle.dv_syntax.specs.Grammar.{the_limits};
+ghost use Rattle.dv_parser.specs.Reading.{Gives, single_of, many_at, assign_at, goto_at, send_at, if_at, statement_at, braces_at, block_at};
+
+use crate::expression::expression;
+use crate::parse_error::ParseError;
+use crate::token::{
+    after_keyword, after_symbol, begins_with_keyword, begins_with_symbol, first_place, name,
+};
+use dv_lex::{Keyword, Symbol, Token, TokenKind};
+use dv_syntax::{Block, Stmt};
+use std::alloc::Global;
+
+/// `variable := value;`
+#[tactic(auto, unfolding(crate::specs::Reading::assign_at, crate::specs::Reading::read_then))]
+fn assign(alloc: Global, tokens: &[Token]) -> Result<(Stmt, &[Token]), ParseError>
+    ensures { Gives (λ x. (single_of x.0, x.1.now)) result (assign_at the_limits tokens.now) }
+{
+    let (variable, rest) = name(tokens)?;
+    let rest = after_symbol(rest, Symbol::Assign)?;
+    let (value, rest) = expression(alloc, rest)?;
+    let rest = after_symbol(rest, Symbol::Semicolon)?;
+    Ok((Stmt::Assign { variable, value }, rest))
+}
+
+/// `goto phase;`
+#[tactic(auto, unfolding(crate::specs::Reading::goto_at, crate::specs::Reading::read_then))]
+fn goto(tokens: &[Token]) -> Result<(Stmt, &[Token]), ParseError>
+    ensures { Gives (λ x. (single_of x.0, x.1.now)) result (goto_at tokens.now) }
+{
+    let place = first_place(tokens);
+    let rest = after_keyword(tokens, Keyword::Goto)?;
+    let (phase, rest) = name(rest)?;
+    let rest = after_symbol(rest, Symbol::Semicolon)?;
+    Ok((Stmt::Goto { place, phase }, rest))
+}
+
+/// `send port value;`
+#[tactic(auto, unfolding(crate::specs::Reading::send_at, crate::specs::Reading::read_then))]
+fn send(alloc: Global, tokens: &[Token]) -> Result<(Stmt, &[Token]), ParseError>
+    ensures { Gives (λ x. (single_of x.0, x.1.now)) result (send_at the_limits tokens.now) }
+{
+    let place = first_place(tokens);
+    let rest = after_keyword(tokens, Keyword::Send)?;
+    let (port, rest) = name(rest)?;
+    let (value, rest) = expression(alloc, rest)?;
+    let rest = after_symbol(rest, Symbol::Semicolon)?;
+    Ok((Stmt::Send { place, port, value }, rest))
+}
+
+/// `if condition { .. }`, and its `else` where that follows.
+#[cycle(block)]
+#[tactic(auto, unfolding(crate::specs::Reading::if_at, crate::specs::Reading::within, crate::specs::Reading::else_at, crate::specs::Reading::read_then, crate::specs::Reading::choose))]
+fn if_statement(alloc: Global, tokens: &[Token], limit: u32) -> Result<(Stmt, &[Token]), ParseError>
+    requires { 0 < limit }
+    ensures { Gives (λ x. (single_of x.0, x.1.now)) result
+        (if_at the_limits (block_at the_limits (limit - 1)) (limit - 1) tokens.now) }
+{
+    let place = first_place(tokens);
+    let rest = after_keyword(tokens, Keyword::If)?;
+    if limit == 1 {
+        return Err(ParseError::TooDeep(place));
+    }
+    let (condition, rest) = expression(alloc, rest)?;
+    let (then_block, rest) = block(alloc, rest, limit - 1)?;
+    if begins_with_keyword(rest, Keyword::Else) {
+        let rest = after_keyword(rest, Keyword::Else)?;
+        let (else_block, rest) = block(alloc, rest, limit - 1)?;
+        Ok((
+            Stmt::IfElse {
+                place,
+                condition,
+                then_block,
+                else_block,
+            },
+            rest,
+        ))
+    } else {
+        Ok((
+            Stmt::If {
+                place,
+                condition,
+                then_block,
+            },
+            rest,
+        ))
+    }
+}
+
+/// A statement at the front.
+#[cycle(block)]
+#[tactic(auto, unfolding(crate::specs::Reading::statement_at, crate::specs::Reading::choose))]
+fn statement(alloc: Global, tokens: &[Token], limit: u32) -> Result<(Stmt, &[Token]), ParseError>
+    requires { 0 < limit }
+    ensures { Gives (λ x. (single_of x.0, x.1.now)) result
+        (statement_at the_limits (block_at the_limits (limit - 1)) (limit - 1) tokens.now) }
+{
+    if begins_with_keyword(tokens, Keyword::Goto) {
+        goto(tokens)
+    } else if begins_with_keyword(tokens, Keyword::Send) {
+        send(alloc, tokens)
+    } else if begins_with_keyword(tokens, Keyword::If) {
+        if_statement(alloc, tokens, limit)
+    } else {
+        assign(alloc, tokens)
+    }
+}
+
+/// The statements before the brace that closes their block.
+#[cycle(block)]
+fn statements(
+    alloc: Global,
+    tokens: &[Token],
+    limit: u32,
+) -> Result<(Vec<Stmt>, &[Token]), ParseError>
+    requires { 0 < limit }
+    ensures { Gives (λ x. (map single_of x.0.items, x.1.now)) result
+        (many_at (statement_at the_limits (block_at the_limits (limit - 1)) (limit - 1))
+        (TokenKind.Symbol Symbol.CloseBrace) tokens.now) }
+{
+    let mut statements = Vec::new(alloc);
+    let mut rest = tokens;
+    while !begins_with_symbol(rest, Symbol::CloseBrace) {
+        let (statement, after) = statement(alloc, rest, limit)?;
+        statements.push(statement)?;
+        rest = after;
+    }
+    Ok((statements, rest))
+}
+
+/// The statements of a block in braces.
+#[cycle(block)]
+#[tactic(auto, unfolding(crate::specs::Reading::braces_at, crate::specs::Reading::read_then))]
+fn braced_statements(
+    alloc: Global,
+    tokens: &[Token],
+    limit: u32,
+) -> Result<(Vec<Stmt>, &[Token]), ParseError>
+    requires { 0 < limit }
+    ensures { Gives (λ x. (map single_of x.0.items, x.1.now)) result
+        (braces_at (statement_at the_limits (block_at the_limits (limit - 1)) (limit - 1))
+        tokens.now) }
+{
+    let inside = after_symbol(tokens, Symbol::OpenBrace)?;
+    let (statements, rest) = statements(alloc, inside, limit)?;
+    let rest = after_symbol(rest, Symbol::CloseBrace)?;
+    Ok((statements, rest))
+}
+
+/// Statements in braces. The limit counts how deep blocks may lie in one another, this one too.
+#[cycle(block)]
+pub fn block(alloc: Global, tokens: &[Token], limit: u32) -> Result<(Block, &[Token]), ParseError>
+    requires { 0 < limit }
+    ensures { Gives (λ x. (block_of x.0, x.1.now)) result (block_at the_limits limit tokens.now) }
+{
+    let (statements, rest) = braced_statements(alloc, tokens, limit)?;
+    Ok((Block { statements }, rest))
+}

@@ -1,0 +1,163 @@
+//! Single tokens.
+
+ghost use Rattle.std.specs.Prelude.{◌≡◌};
+ghost use Rattle.dv_parser.specs.Reading.{Gives, IsParseError, obstacle_at, same_kind, begins, begins_name, begins_truth, after, place_at, name_at, truth_at, number_at};
+
+use crate::parse_error::ParseError;
+use dv_lex::{Keyword, Symbol, Token, TokenKind};
+use dv_syntax::{Name, Number};
+
+fn is_same(first: TokenKind, second: TokenKind) -> bool
+    ensures { result ≡ same_kind first second }
+{
+    first == second
+}
+
+/// Whether a token of this kind comes first.
+pub fn begins_with(tokens: &[Token], kind: TokenKind) -> bool
+    ensures { result ≡ begins kind tokens.now }
+{
+    match tokens {
+        [first, ..] => is_same(first.kind, kind),
+        [] => false,
+    }
+}
+
+pub fn begins_with_symbol(tokens: &[Token], symbol: Symbol) -> bool
+    ensures { result ≡ begins (TokenKind.Symbol symbol) tokens.now }
+{
+    begins_with(tokens, TokenKind::Symbol(symbol))
+}
+
+pub fn begins_with_keyword(tokens: &[Token], keyword: Keyword) -> bool
+    ensures { result ≡ begins (TokenKind.Keyword keyword) tokens.now }
+{
+    begins_with(tokens, TokenKind::Keyword(keyword))
+}
+
+pub fn begins_with_name(tokens: &[Token]) -> bool
+    ensures { result ≡ begins_name tokens.now }
+{
+    matches!(
+        tokens,
+        [
+            Token {
+                kind: TokenKind::Name(_),
+                ..
+            },
+            ..
+        ]
+    )
+}
+
+/// Whether `true` or `false` comes first.
+pub fn begins_with_truth(tokens: &[Token]) -> bool
+    ensures { result ≡ begins_truth tokens.now }
+{
+    begins_with_keyword(tokens, Keyword::True) || begins_with_keyword(tokens, Keyword::False)
+}
+
+/// The place of the first token.
+#[tactic(auto, unfolding(crate::specs::Reading::place_at))]
+pub fn first_place(tokens: &[Token]) -> u32
+    ensures { result ≡ place_at tokens.now }
+{
+    match tokens {
+        [first, ..] => first.place,
+        [] => 0,
+    }
+}
+
+/// What refuses the first token.
+#[tactic(auto, unfolding(crate::specs::Reading::obstacle_at))]
+pub fn unexpected(tokens: &[Token]) -> ParseError
+    ensures { IsParseError result (obstacle_at tokens.now) }
+{
+    match tokens {
+        [first, ..] => ParseError::Unexpected(first.place),
+        [] => ParseError::TooShort,
+    }
+}
+
+/// The tokens after one of this kind.
+#[tactic(auto, unfolding(crate::specs::Reading::after, crate::specs::Reading::obstacle_at, crate::specs::Reading::choose))]
+pub fn after_kind(tokens: &[Token], kind: TokenKind) -> Result<&[Token], ParseError>
+    ensures { Gives (λ rest. rest.now) result (after kind tokens.now) }
+{
+    if !begins_with(tokens, kind) {
+        return Err(unexpected(tokens));
+    }
+    Ok(&tokens[1..])
+}
+
+pub fn after_symbol(tokens: &[Token], symbol: Symbol) -> Result<&[Token], ParseError>
+    ensures { Gives (λ rest. rest.now) result (after (TokenKind.Symbol symbol) tokens.now) }
+{
+    after_kind(tokens, TokenKind::Symbol(symbol))
+}
+
+pub fn after_keyword(tokens: &[Token], keyword: Keyword) -> Result<&[Token], ParseError>
+    ensures { Gives (λ rest. rest.now) result (after (TokenKind.Keyword keyword) tokens.now) }
+{
+    after_kind(tokens, TokenKind::Keyword(keyword))
+}
+
+/// The name at the front, and what follows it.
+#[tactic(auto, unfolding(crate::specs::Reading::name_at, crate::specs::Reading::obstacle_at))]
+pub fn name(tokens: &[Token]) -> Result<(Name, &[Token]), ParseError>
+    ensures { Gives (λ x. (x.0, x.1.now)) result (name_at tokens.now) }
+{
+    match tokens {
+        [
+            Token {
+                kind: TokenKind::Name(number),
+                place,
+            },
+            rest @ ..,
+        ] => Ok((
+            Name {
+                number: *number,
+                place: *place,
+            },
+            rest,
+        )),
+        _ => Err(unexpected(tokens)),
+    }
+}
+
+/// The number at the front, and what follows it.
+#[tactic(auto, unfolding(crate::specs::Reading::number_at, crate::specs::Reading::obstacle_at))]
+pub fn number(tokens: &[Token]) -> Result<(Number, &[Token]), ParseError>
+    ensures { Gives (λ x. (x.0, x.1.now)) result (number_at tokens.now) }
+{
+    match tokens {
+        [
+            Token {
+                kind: TokenKind::Number(value),
+                place,
+            },
+            rest @ ..,
+        ] => Ok((
+            Number {
+                value: *value,
+                place: *place,
+            },
+            rest,
+        )),
+        _ => Err(unexpected(tokens)),
+    }
+}
+
+/// The truth value at the front, and what follows it.
+#[tactic(auto, unfolding(crate::specs::Reading::truth_at, crate::specs::Reading::read_then, crate::specs::Reading::choose))]
+pub fn truth(tokens: &[Token]) -> Result<(bool, &[Token]), ParseError>
+    ensures { Gives (λ x. (x.0, x.1.now)) result (truth_at tokens.now) }
+{
+    if begins_with_keyword(tokens, Keyword::True) {
+        let rest = after_keyword(tokens, Keyword::True)?;
+        Ok((true, rest))
+    } else {
+        let rest = after_keyword(tokens, Keyword::False)?;
+        Ok((false, rest))
+    }
+}

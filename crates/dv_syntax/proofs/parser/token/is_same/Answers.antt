@@ -1,6 +1,0 @@
-use Rattle.std.proofs.Common.{rules}
-use Rattle.dv_syntax.proofs.Tokens.{same_kind_decided}
-use Rattle.dv_syntax.proofs.parser.token.is_same.Goals as goal
-
-pub returns : goal.returns
-returns c = same_kind_decided c.eq.result c.args.first c.args.second (search rules)
