@@ -26,9 +26,12 @@ silent_when_not_imminent : (b : Behaviour) (now : ℕ) (c : Component) → is_im
 silent_when_not_imminent b now c h = rw h (cond_same c.quiet [])
 
 sends_nothing : (b : Behaviour) (now : ℕ) (c : Component) → IsTrue (c.quiet || not (is_imminent now c)) → sent_by c (emission b now c) ≡ []
-sends_nothing b now c h = elim (quiet_or_not_imminent c.quiet (is_imminent now c) h) [ inl q ↦ silent_when_quiet c (emission b now c) q | inr d ↦ silent_when_not_imminent b now c d ]
+sends_nothing b now c h =
+    elim (quiet_or_not_imminent c.quiet (is_imminent now c) h) [ inl q ↦ silent_when_quiet c
+        (emission b now c) q | inr d ↦ silent_when_not_imminent b now c d ]
 
-pub none_send : (bs : List Behaviour) (now : ℕ) (cs : List Component) → length bs ≡ length cs → IsTrue (none_imminent now cs) → emissions bs now cs ≡ map (λ (b : Behaviour). []) bs
+pub none_send : (bs : List Behaviour) (now : ℕ) (cs : List Component) → length bs ≡ length cs → IsTrue (none_imminent now cs) →
+    emissions bs now cs ≡ map (λ (b : Behaviour). []) bs
 none_send [] now cs e h = refl
 none_send (b ∷ bs) now [] e h = absurd (omega arith)
 none_send (b ∷ bs) now (c ∷ cs) e h =
@@ -43,7 +46,9 @@ stays false true e h k = absurd (cc)
 stays false false true h k = refl
 stays false false false h k = sym k
 
-nothing_happens : (limit : ℕ) (b : Behaviour) (now : ℕ) (c : Component) (bags : List Counts) → IsTrue (c.quiet || not (is_imminent now c)) → IsTrue (all_empty bags) → reaction limit b now c bags ≡ record { event = None; component = c }
+nothing_happens : (limit : ℕ) (b : Behaviour) (now : ℕ) (c : Component) (bags : List Counts) →
+    IsTrue (c.quiet || not (is_imminent now c)) → IsTrue (all_empty bags) →
+    reaction limit b now c bags ≡ record { event = None; component = c }
 nothing_happens limit b now c bags h k = rw (stays c.quiet (is_imminent now c) (all_empty bags) h k) refl
 
 first_empty : (received : List (List Counts)) → IsTrue (no_values received) → IsTrue (all_empty (first_bags received))
@@ -54,7 +59,9 @@ others_empty : (received : List (List Counts)) → IsTrue (no_values received) �
 others_empty [] h = refl
 others_empty (bags ∷ rest) h = let parts = and_parts (all_empty bags) (no_values rest) h in parts.1
 
-all_stay : (limit : ℕ) (bs : List Behaviour) (now : ℕ) (cs : List Component) (received : List (List Counts)) → length bs ≡ length cs → IsTrue (none_imminent now cs) → IsTrue (no_values received) → map (λ (r : Reaction). r.component) (reactions limit bs now cs received) ≡ cs
+all_stay : (limit : ℕ) (bs : List Behaviour) (now : ℕ) (cs : List Component) (received : List (List Counts)) → length bs ≡ length cs →
+    IsTrue (none_imminent now cs) → IsTrue (no_values received) →
+    map (λ (r : Reaction). r.component) (reactions limit bs now cs received) ≡ cs
 all_stay limit [] now [] received e h k = refl
 all_stay limit [] now (c ∷ cs) received e h k = absurd (omega arith)
 all_stay limit (b ∷ bs) now [] received e h k = absurd (omega arith)
@@ -64,7 +71,8 @@ all_stay limit (b ∷ bs) now (c ∷ cs) received e h k =
     let rest = all_stay limit bs now cs (other_bags received) (omega arith) parts.1 (others_empty received k) in
     rw (here, rest) refl
 
-no_entries : (limit : ℕ) (ks : List ℕ) (bs : List Behaviour) (now : ℕ) (cs : List Component) (received : List (List Counts)) → IsTrue (none_imminent now cs) → IsTrue (no_values received) → entries_by limit now ks (reactions limit bs now cs received) ≡ []
+no_entries : (limit : ℕ) (ks : List ℕ) (bs : List Behaviour) (now : ℕ) (cs : List Component) (received : List (List Counts)) →
+    IsTrue (none_imminent now cs) → IsTrue (no_values received) → entries_by limit now ks (reactions limit bs now cs received) ≡ []
 no_entries limit [] bs now cs received h e = refl
 no_entries limit (k ∷ ks) [] now cs received h e = refl
 no_entries limit (k ∷ ks) (b ∷ bs) now [] received h e = refl
@@ -79,7 +87,8 @@ no_lines limit now port (b ∷ bs) h =
     let parts = and_parts (nat_eq (size b) 0) (all_empty bs) h in
     rw parts.0 (no_lines limit now (port + 1) bs parts.1)
 
-module _ {I : Type 0} (limit : ℕ) (net : Network I) (now : ℕ) (input : I) (cs : List Component) (idle : IsIdle net now input cs) (matched : length net.behaviours ≡ length cs) where
+module _ {I : Type 0} (limit : ℕ) (net : Network I) (now : ℕ) (input : I) (cs : List Component) (idle : IsIdle net now input cs)
+    (matched : length net.behaviours ≡ length cs) where
   none_sent : emissions net.behaviours now cs ≡ nothing_sent net
   none_sent = none_send net.behaviours now cs matched idle.0
 
@@ -90,10 +99,15 @@ module _ {I : Type 0} (limit : ℕ) (net : Network I) (now : ℕ) (input : I) (c
   idle_components = all_stay limit net.behaviours now cs (net.arrives (emissions net.behaviours now cs) input) matched idle.0 none_received
 
   pub idle_entries : (part_of_instant limit net now input cs).entries ≡ []
-  idle_entries = no_entries limit net.numbers net.behaviours now cs (net.arrives (emissions net.behaviours now cs) input) idle.0 none_received
+  idle_entries =
+      no_entries limit net.numbers net.behaviours now cs (net.arrives (emissions net.behaviours now cs) input) idle.0 none_received
 
   pub idle_outside : LeavesOnlyWhatIsSent net → (part_of_instant limit net now input cs).outer ≡ []
-  idle_outside leaves = no_lines limit now 0 (net.leaves (emissions net.behaviours now cs)) (ap (λ (sent : List (List Counts)). all_empty (net.leaves sent)) none_sent ∙ leaves)
+  idle_outside leaves =
+      no_lines limit now 0 (net.leaves (emissions net.behaviours now cs))
+          (ap (λ (sent : List (List Counts)). all_empty (net.leaves sent)) none_sent ∙ leaves)
 
   pub idle_part : LeavesOnlyWhatIsSent net → part_of_instant limit net now input cs ≡ nothing
-  idle_part leaves = ap (λ es. let p : PartOf = record { entries = es; outer = (part_of_instant limit net now input cs).outer } in p) idle_entries ∙ ap (λ os. let p : PartOf = record { entries = []; outer = os } in p) (idle_outside leaves)
+  idle_part leaves =
+      ap (λ es. let p : PartOf = record { entries = es; outer = (part_of_instant limit net now input cs).outer } in p) idle_entries
+      ∙ ap (λ os. let p : PartOf = record { entries = []; outer = os } in p) (idle_outside leaves)

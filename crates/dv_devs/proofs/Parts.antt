@@ -35,21 +35,26 @@ all_pass (x ∷ xs) = ap (λ (ys : List _). x ∷ ys) (all_pass xs)
 -- parts that are the same at each rank
 pub all_same : (p q : ℕ → PartOf) (n : ℕ) → ((k : ℕ) → k < n → p k ≡ q k) → all_before p n ≡ all_before q n
 all_same p q zero h = refl
-all_same p q (suc n) h = ap (λ (x : PartOf). joined x (p n)) (all_same p q n (λ k lt. h k (omega arith))) ∙ ap (joined (all_before q n)) (h n (omega arith))
+all_same p q (suc n) h =
+    ap (λ (x : PartOf). joined x (p n)) (all_same p q n (λ k lt. h k (omega arith))) ∙ ap (joined (all_before q n)) (h n (omega arith))
 
 module _ {I : Type 0} (limit : ℕ) (net : Network I) (inputs : ℕ → I) where
-  instant_of_all : length net.numbers ≡ length net.behaviours → (n : ℕ) → part_at (λ k. true) limit net inputs n ≡ trace_at limit net inputs n
+  instant_of_all : length net.numbers ≡ length net.behaviours → (n : ℕ) →
+      part_at (λ k. true) limit net inputs n ≡ trace_at limit net inputs n
   instant_of_all numbered n =
       let sent = emissions_at limit net inputs n in
       let short : length sent ≤ length net.numbers = omega (arith, emissions_short net.behaviours n (components_at limit net inputs n)) in
-      same_part _ (trace_at limit net inputs n).entries _ _ (all_pass (trace_at limit net inputs n).entries) (ap (λ (xs : List (List Counts)). outer_from limit n 0 (net.leaves xs)) (sent_by_all net.numbers sent short))
+      same_part _ (trace_at limit net inputs n).entries _ _ (all_pass (trace_at limit net inputs n).entries)
+          (ap (λ (xs : List (List Counts)). outer_from limit n 0 (net.leaves xs)) (sent_by_all net.numbers sent short))
 
   -- the part of all components is the trace
-  pub part_of_all : length net.numbers ≡ length net.behaviours → (n : ℕ) → part_before (λ k. true) limit net inputs n ≡ trace_before limit net inputs n
+  pub part_of_all : length net.numbers ≡ length net.behaviours → (n : ℕ) →
+      part_before (λ k. true) limit net inputs n ≡ trace_before limit net inputs n
   part_of_all numbered n = all_same (part_at (λ k. true) limit net inputs) (trace_at limit net inputs) n (λ k lt. instant_of_all numbered k)
 
   -- the entries of a part are those of the trace whose component is in the set
-  pub part_entries : (who : ℕ → Bool) (n : ℕ) → (part_before who limit net inputs n).entries ≡ filter (λ (e : Entry). who e.component) (trace_before limit net inputs n).entries
+  pub part_entries : (who : ℕ → Bool) (n : ℕ) →
+      (part_before who limit net inputs n).entries ≡ filter (λ (e : Entry). who e.component) (trace_before limit net inputs n).entries
   part_entries who zero = refl
   part_entries who (suc n) =
       ap (λ (es : List Entry). es ++ (part_at who limit net inputs n).entries) (part_entries who n)

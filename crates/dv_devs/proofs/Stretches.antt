@@ -22,7 +22,9 @@ use Rattle.dv_devs.proofs.NextTimes.{matched_at, quiet_at}
 use Rattle.dv_time.specs.Time.{time_of, tick_of}
 
 pub append_nothing : (p : PartOf) → joined p nothing ≡ p
-append_nothing p = ap (λ es. let q : PartOf = record { entries = es; outer = p.outer ++ [] } in q) (append-nil p.entries) ∙ ap (λ os. let q : PartOf = record { entries = p.entries; outer = os } in q) (append-nil p.outer)
+append_nothing p =
+    ap (λ es. let q : PartOf = record { entries = es; outer = p.outer ++ [] } in q) (append-nil p.entries)
+    ∙ ap (λ os. let q : PartOf = record { entries = p.entries; outer = os } in q) (append-nil p.outer)
 
 pub up_to_suc : (n m : ℕ) → n ≤ suc m → (n ≤ m) ⊎ (n ≡ suc m)
 up_to_suc n m h = elim (cases_lt n (suc m)) [ inl lt ↦ inl (omega arith) | inr ge ↦ inr (omega arith) ]
@@ -37,17 +39,21 @@ module _ {I : Type 0} (limit : ℕ) (net : Network I) (inputs : ℕ → I) (read
   resting_components (suc m) le rests = elim (up_to_suc n m le) [
     | inl before ↦
         ap (components_after limit net m (inputs m)) (resting_components m before (λ k low high. rests k low (omega arith)))
-        ∙ idle_components limit net m (inputs m) (components_at limit net inputs n) (rests m before (omega arith)) (matched_at limit net inputs ready n)
+        ∙ idle_components limit net m (inputs m) (components_at limit net inputs n) (rests m before (omega arith))
+            (matched_at limit net inputs ready n)
     | inr same ↦ ap (components_at limit net inputs) (sym same)
   ]
 
-  pub resting_trace : LeavesOnlyWhatIsSent net → (m : ℕ) → n ≤ m → Rests m → trace_before limit net inputs m ≡ trace_before limit net inputs n
+  pub resting_trace : LeavesOnlyWhatIsSent net → (m : ℕ) → n ≤ m → Rests m →
+      trace_before limit net inputs m ≡ trace_before limit net inputs n
   resting_trace leaves zero le rests = let start : zero ≡ n = omega arith in ap (trace_before limit net inputs) start
   resting_trace leaves (suc m) le rests = elim (up_to_suc n m le) [
     | inl before ↦
         let same = resting_components m before (λ k low high. rests k low (omega arith)) in
         ap (λ cs. joined (trace_before limit net inputs m) (part_of_instant limit net m (inputs m) cs)) same
-        ∙ ap (λ p. joined (trace_before limit net inputs m) p) (idle_part limit net m (inputs m) (components_at limit net inputs n) (rests m before (omega arith)) (matched_at limit net inputs ready n) leaves)
+        ∙ ap (λ p. joined (trace_before limit net inputs m) p)
+            (idle_part limit net m (inputs m) (components_at limit net inputs n) (rests m before (omega arith))
+            (matched_at limit net inputs ready n) leaves)
         ∙ append_nothing (trace_before limit net inputs m)
         ∙ resting_trace leaves m before (λ k low high. rests k low (omega arith))
     | inr same ↦ ap (trace_before limit net inputs) (sym same)
@@ -78,62 +84,86 @@ none_imminent_before k m (c ∷ cs) lt h =
     let both = at_most_earlier m c.next (least_next cs) h in
     rw (or_not c.quiet (is_imminent k c) (not_imminent_before k m c.next lt both.0)) (none_imminent_before k m cs lt both.1)
 
-pub rests_until_next : {I : Type 0} (limit : ℕ) (net : Network I) (inputs : ℕ → I) (ready : IsReady net) (n m : ℕ) → IsFrom m (least_next (components_at limit net inputs n)) → ((k : ℕ) → n ≤ k → k < m → BringsNothing net (inputs k)) → Rests limit net inputs ready n m
+pub rests_until_next : {I : Type 0} (limit : ℕ) (net : Network I) (inputs : ℕ → I) (ready : IsReady net) (n m : ℕ) →
+    IsFrom m (least_next (components_at limit net inputs n)) → ((k : ℕ) → n ≤ k → k < m → BringsNothing net (inputs k)) →
+    Rests limit net inputs ready n m
 rests_until_next limit net inputs ready n m next brings k low high =
     let cs = components_at limit net inputs n in
     let still = none_imminent_before k m cs high next in
     (still, brings k low high)
 
 -- a component that is imminent has an entry
-reaction_with_event : (tick : ℕ) (c : Component) (kind : Kind) (sent : List Counts) (r : Result (State × Option ℕ) Fault) → (e : What × List Counts) × ((reaction_with tick c kind sent r).event ≡ Some e)
+reaction_with_event : (tick : ℕ) (c : Component) (kind : Kind) (sent : List Counts) (r : Result (State × Option ℕ) Fault) →
+    (e : What × List Counts) × ((reaction_with tick c kind sent r).event ≡ Some e)
 reaction_with_event tick c kind sent (Err f) = ((what.Fault f, sent), refl)
 reaction_with_event tick c kind sent (Ok p) = ((what.Transition kind p.0, sent), refl)
 
-output_event : (limit : ℕ) (b : Behaviour) (now : ℕ) (c : Component) (bags : List Counts) (sent : Result (List Counts) Fault) → (e : What × List Counts) × ((reaction_after_output limit b now c bags sent).event ≡ Some e)
+output_event : (limit : ℕ) (b : Behaviour) (now : ℕ) (c : Component) (bags : List Counts) (sent : Result (List Counts) Fault) →
+    (e : What × List Counts) × ((reaction_after_output limit b now c bags sent).event ≡ Some e)
 output_event limit b now c bags (Err f) = ((what.Fault f, []), refl)
-output_event limit b now c bags (Ok sent) = reaction_with_event (tick_of limit now) c (kind_of now c bags) sent (bags_or_flood bags >>= λ x. transition_of limit b now c bags >>= λ m. next_of limit now c.next m.1 >>= λ next. Ok (m.0, next))
+output_event limit b now c bags (Ok sent) =
+    reaction_with_event (tick_of limit now) c (kind_of now c bags) sent
+        (bags_or_flood bags >>= λ x. transition_of limit b now c bags >>= λ m. next_of limit now c.next m.1 >>= λ next. Ok (m.0, next))
 
 reacts : (q d e : Bool) → q ≡ false → d ≡ true → (not q && (d || not e)) ≡ true
 reacts true d e h k = absurd (cc)
 reacts false true e h k = refl
 reacts false false e h k = absurd (cc)
 
-imminent_event : (limit : ℕ) (b : Behaviour) (now : ℕ) (c : Component) (bags : List Counts) → c.quiet ≡ false → is_imminent now c ≡ true → (e : What × List Counts) × ((reaction limit b now c bags).event ≡ Some e)
-imminent_event limit b now c bags awake imminent = rw (reacts c.quiet (is_imminent now c) (all_empty bags) awake imminent) (output_event limit b now c bags (emission b now c))
+imminent_event : (limit : ℕ) (b : Behaviour) (now : ℕ) (c : Component) (bags : List Counts) → c.quiet ≡ false → is_imminent now c ≡ true →
+    (e : What × List Counts) × ((reaction limit b now c bags).event ≡ Some e)
+imminent_event limit b now c bags awake imminent =
+    rw (reacts c.quiet (is_imminent now c) (all_empty bags) awake imminent) (output_event limit b now c bags (emission b now c))
 
-entry_here : (limit now k : ℕ) (event : Option (What × List Counts)) (rest : List Entry) (e : What × List Counts) → event ≡ Some e → HasEntry (entry_of limit now k event ++ rest) limit now k
+entry_here : (limit now k : ℕ) (event : Option (What × List Counts)) (rest : List Entry) (e : What × List Counts) → event ≡ Some e →
+    HasEntry (entry_of limit now k event ++ rest) limit now k
 entry_here limit now k event rest e same =
     let entry : Entry = record { time = time_of limit now; component = k; what = e.0; sent = e.1 } in
-    subst (λ (event : Option (What × List Counts)). HasEntry (entry_of limit now k event ++ rest) limit now k) (sym same) (entry, (0, omega arith, refl), refl, refl)
+    subst (λ (event : Option (What × List Counts)). HasEntry (entry_of limit now k event ++ rest) limit now k) (sym same)
+        (entry, (0, omega arith, refl), refl, refl)
 
-pub imminent_has_entry : (limit : ℕ) (ks : List ℕ) (bs : List Behaviour) (now i k : ℕ) (cs : List Component) (received : List (List Counts)) (c : Component) → i < length bs → slice_get ks i ≡ Some k → slice_get cs i ≡ Some c → c.quiet ≡ false → is_imminent now c ≡ true → HasEntry (entries_by limit now ks (reactions limit bs now cs received)) limit now k
+pub imminent_has_entry :
+    (limit : ℕ) (ks : List ℕ) (bs : List Behaviour) (now i k : ℕ) (cs : List Component) (received : List (List Counts)) (c : Component) →
+    i < length bs → slice_get ks i ≡ Some k → slice_get cs i ≡ Some c → c.quiet ≡ false → is_imminent now c ≡ true →
+    HasEntry (entries_by limit now ks (reactions limit bs now cs received)) limit now k
 imminent_has_entry limit [] bs now i k cs received c within number there awake imminent = absurd (cc)
 imminent_has_entry limit (j ∷ ks) [] now i k cs received c within number there awake imminent = absurd (omega arith)
 imminent_has_entry limit (j ∷ ks) (b ∷ bs) now i k [] received c within number there awake imminent = absurd (cc)
 imminent_has_entry limit (j ∷ ks) (b ∷ bs) now zero k (d ∷ cs) received c within number there awake imminent =
     let same : d ≡ c = same_Some d c there in
-    let event = imminent_event limit b now d (first_bags received) (ap (λ (c : Component). c.quiet) same ∙ awake) (ap (is_imminent now) same ∙ imminent) in
-    subst (HasEntry (entry_of limit now j (reaction limit b now d (first_bags received)).event ++ entries_by limit now ks (reactions limit bs now cs (other_bags received))) limit now) (same_Some j k number) (entry_here limit now j (reaction limit b now d (first_bags received)).event (entries_by limit now ks (reactions limit bs now cs (other_bags received))) event.0 event.1)
+    let event =
+        imminent_event limit b now d (first_bags received) (ap (λ (c : Component). c.quiet) same ∙ awake)
+            (ap (is_imminent now) same ∙ imminent) in
+    subst (HasEntry (entry_of limit now j (reaction limit b now d (first_bags received)).event ++ entries_by limit now ks
+        (reactions limit bs now cs (other_bags received))) limit now) (same_Some j k number)
+        (entry_here limit now j (reaction limit b now d (first_bags received)).event
+        (entries_by limit now ks (reactions limit bs now cs (other_bags received))) event.0 event.1)
 imminent_has_entry limit (j ∷ ks) (b ∷ bs) now (suc i) k (d ∷ cs) received c within number there awake imminent =
     let later = imminent_has_entry limit ks bs now i k cs (other_bags received) c (omega arith) number there awake imminent in
-    (later.0, Contains-append_right (entry_of limit now j (reaction limit b now d (first_bags received)).event) (entries_by limit now ks (reactions limit bs now cs (other_bags received))) later.0 later.1, later.2, later.3)
+    (later.0, Contains-append_right (entry_of limit now j (reaction limit b now d (first_bags received)).event)
+        (entries_by limit now ks (reactions limit bs now cs (other_bags received))) later.0 later.1, later.2, later.3)
 
 -- the component whose next time is the least
-pub least_is_imminent : (m : ℕ) (cs : List Component) → least_next cs ≡ Some m → (i : ℕ) × (c : Component) × (i < length cs) × (slice_get cs i ≡ Some c) × (c.next ≡ Some m)
+pub least_is_imminent : (m : ℕ) (cs : List Component) → least_next cs ≡ Some m →
+    (i : ℕ) × (c : Component) × (i < length cs) × (slice_get cs i ≡ Some c) × (c.next ≡ Some m)
 least_is_imminent m [] h = absurd (cc)
 least_is_imminent m (c ∷ cs) h = step c.next (least_next cs) refl h (least_is_imminent m cs)
   where
-    step : (a b : Option ℕ) → c.next ≡ a → earlier a b ≡ Some m → (b ≡ Some m → (i : ℕ) × (d : Component) × (i < length cs) × (slice_get cs i ≡ Some d) × (d.next ≡ Some m)) → (i : ℕ) × (d : Component) × (i < length (c ∷ cs)) × (slice_get (c ∷ cs) i ≡ Some d) × (d.next ≡ Some m)
+    step : (a b : Option ℕ) → c.next ≡ a → earlier a b ≡ Some m →
+        (b ≡ Some m → (i : ℕ) × (d : Component) × (i < length cs) × (slice_get cs i ≡ Some d) × (d.next ≡ Some m)) →
+        (i : ℕ) × (d : Component) × (i < length (c ∷ cs)) × (slice_get (c ∷ cs) i ≡ Some d) × (d.next ≡ Some m)
     step None b e h rest = let later = rest h in (suc later.0, later.1, omega (arith, later.2), later.3, later.4)
     step (Some x) None e h rest = (0, c, omega arith, refl, e ∙ h)
     step (Some x) (Some y) e h rest =
         let least = same_Some (min x y) m h in
         elim (cases_lt y x) [
-          | inl lt ↦ let second : y ≡ m = omega arith in let later = rest (ap (λ n. Some n) second) in (suc later.0, later.1, omega (arith, later.2), later.3, later.4)
+          | inl lt ↦ let second : y ≡ m =
+              omega arith in let later = rest (ap (λ n. Some n) second) in (suc later.0, later.1, omega (arith, later.2), later.3, later.4)
           | inr ge ↦ let first : x ≡ m = omega arith in (0, c, omega arith, refl, e ∙ ap (λ n. Some n) first)
         ]
 
-quiet_for_good : (cs : List Component) (i : ℕ) (c : Component) → AllQuietForGood cs → slice_get cs i ≡ Some c → IsTrue c.quiet → c.next ≡ None
+quiet_for_good : (cs : List Component) (i : ℕ) (c : Component) → AllQuietForGood cs → slice_get cs i ≡ Some c → IsTrue c.quiet →
+    c.next ≡ None
 quiet_for_good [] i c all there quiet = absurd (cc)
 quiet_for_good (d ∷ cs) zero c all there quiet =
     let same : d ≡ c = same_Some d c there in
@@ -155,15 +185,20 @@ number_at (k ∷ ks) zero h = (k, refl)
 number_at (k ∷ ks) (suc i) h = number_at ks i (omega arith)
 
 module _ {I : Type 0} where
-  pub imminent_has_entry_at : (limit : ℕ) (net : Network I) (now : ℕ) (input : I) (cs : List Component) (i k : ℕ) (c : Component) → i < length net.behaviours → slice_get net.numbers i ≡ Some k → slice_get cs i ≡ Some c → c.quiet ≡ false → is_imminent now c ≡ true → HasEntry (part_of_instant limit net now input cs).entries limit now k
-  imminent_has_entry_at limit net now input cs i k c = imminent_has_entry limit net.numbers net.behaviours now i k cs (net.arrives (emissions net.behaviours now cs) input) c
+  pub imminent_has_entry_at : (limit : ℕ) (net : Network I) (now : ℕ) (input : I) (cs : List Component) (i k : ℕ) (c : Component) →
+      i < length net.behaviours → slice_get net.numbers i ≡ Some k → slice_get cs i ≡ Some c → c.quiet ≡ false → is_imminent now c ≡ true →
+      HasEntry (part_of_instant limit net now input cs).entries limit now k
+  imminent_has_entry_at limit net now input cs i k c =
+      imminent_has_entry limit net.numbers net.behaviours now i k cs (net.arrives (emissions net.behaviours now cs) input) c
 
-  pub entry_at_least_next : (limit : ℕ) (net : Network I) (inputs : ℕ → I) → IsReady net → (m : ℕ) → least_next (components_at limit net inputs m) ≡ Some m → (k : ℕ) × HasEntry (trace_at limit net inputs m).entries limit m k
+  pub entry_at_least_next : (limit : ℕ) (net : Network I) (inputs : ℕ → I) → IsReady net → (m : ℕ) →
+      least_next (components_at limit net inputs m) ≡ Some m → (k : ℕ) × HasEntry (trace_at limit net inputs m).entries limit m k
   entry_at_least_next limit net inputs ready m least =
       let cs = components_at limit net inputs m in
       let first = least_is_imminent m cs least in
       let c = first.1 in
-      let awake : c.quiet ≡ false = awake_when_imminent c.quiet m c.next first.4 (quiet_for_good cs first.0 c (quiet_at limit net inputs ready m) first.3) in
+      let awake : c.quiet ≡ false =
+          awake_when_imminent c.quiet m c.next first.4 (quiet_for_good cs first.0 c (quiet_at limit net inputs ready m) first.3) in
       let imminent : is_imminent m c ≡ true = imminent_at m c.next first.4 in
       let within : first.0 < length net.behaviours = omega (arith, first.2, matched_at limit net inputs ready m) in
       let number = number_at net.numbers first.0 (omega (arith, within, ready.numbered)) in

@@ -48,7 +48,8 @@ OnlyArrives comes limit net inputs n = (j : ℕ) → j < n
     → IsTrue (list_all comes (net.arrives (emissions_at limit net inputs j) (inputs j)))
 
 -- two networks of behaviours that agree, with the same numbers, in which what the first one sends travels alike
-pub record AreAlike {I : Type 0} (fits : ℕ → State → Bool) (comes : List Counts → Bool) (limit : ℕ) (net also : Network I) (inputs : ℕ → I) : Type 0 where
+pub record AreAlike {I : Type 0} (fits : ℕ → State → Bool) (comes : List Counts → Bool) (limit : ℕ) (net also : Network I)
+    (inputs : ℕ → I) : Type 0 where
   pub keep : AllKeep fits comes 0 net.behaviours
   pub agree : AllAgree fits comes 0 net.behaviours also.behaviours
   pub numbers : net.numbers ≡ also.numbers

@@ -14,28 +14,35 @@ use Rattle.dv_job.specs.Job.{HasAnswer, HasModel, HasNoFile, IsAnswer, IsModelOf
 use Rattle.dv_job.specs.Loading.{IsUnloaded}
 
 -- a text without tokens is not loaded
-pub unlexed : {T : Type 0} (e : LoadError) (text : List ℕ) → ((r : Refusal) → ◌≡◌ {A = Result T LoadError} (Err e) (Err (Refused r)) → IsRefused text r) → IsUnloaded e text
+pub unlexed : {T : Type 0} (e : LoadError) (text : List ℕ) →
+    ((r : Refusal) → ◌≡◌ {A = Result T LoadError} (Err e) (Err (Refused r)) → IsRefused text r) → IsUnloaded e text
 unlexed (Refused r) text h = inl (h r refl)
 unlexed Memory text h = tt
 
 -- nor is one whose tokens are those of no file
-pub unparsed : (e : LoadError) (text : List ℕ) (names : List (List ℕ)) (tokens : List Token) → IsTokensOf text names tokens → AreRefused e tokens (length text) → IsUnloaded e text
+pub unparsed : (e : LoadError) (text : List ℕ) (names : List (List ℕ)) (tokens : List Token) → IsTokensOf text names tokens →
+    AreRefused e tokens (length text) → IsUnloaded e text
 unparsed (Refused r) text names tokens lexed unread = inr (inl (record { names = names; tokens = tokens; lexed = lexed; unread = unread }))
 unparsed Memory text names tokens lexed unread = tt
 
 -- nor one whose file is refused
-pub unchecked : (e : LoadError) (text : List ℕ) (names : List (List ℕ)) (tokens : List Token) (f : FileTree) → IsTokensOf text names tokens → IsFileOf tokens f → IsAnswerTo f e → IsUnloaded e text
-unchecked (Refused r) text names tokens f lexed parsed refused = inr (inr (record { names = names; tokens = tokens; file = f; lexed = lexed; parsed = parsed; refused = refused }))
+pub unchecked : (e : LoadError) (text : List ℕ) (names : List (List ℕ)) (tokens : List Token) (f : FileTree) →
+    IsTokensOf text names tokens → IsFileOf tokens f → IsAnswerTo f e → IsUnloaded e text
+unchecked (Refused r) text names tokens f lexed parsed refused =
+    inr (inr (record { names = names; tokens = tokens; file = f; lexed = lexed; parsed = parsed; refused = refused }))
 unchecked Memory text names tokens f lexed parsed refused = tt
 
 -- ---- One answer, by the laws of tokens and of files
 
 -- every text has tokens or a refusal, and one of them
 pub record TokenLaws : Type 0 where
-  pub some : (text : List ℕ) → ((names : List (List ℕ)) × (tokens : List Token) × IsTokensOf text names tokens) ⊎ ((r : Refusal) × IsRefused text r)
-  pub one_list : (text : List ℕ) (names others : List (List ℕ)) (tokens more : List Token) → IsTokensOf text names tokens → IsTokensOf text others more → (names ≡ others) × (tokens ≡ more)
+  pub some : (text : List ℕ) →
+      ((names : List (List ℕ)) × (tokens : List Token) × IsTokensOf text names tokens) ⊎ ((r : Refusal) × IsRefused text r)
+  pub one_list : (text : List ℕ) (names others : List (List ℕ)) (tokens more : List Token) → IsTokensOf text names tokens →
+      IsTokensOf text others more → (names ≡ others) × (tokens ≡ more)
   pub one_refusal : (text : List ℕ) (r other : Refusal) → IsRefused text r → IsRefused text other → r ≡ other
-  pub not_both : (text : List ℕ) (names : List (List ℕ)) (tokens : List Token) (r : Refusal) → IsTokensOf text names tokens → ¬ IsRefused text r
+  pub not_both : (text : List ℕ) (names : List (List ℕ)) (tokens : List Token) (r : Refusal) → IsTokensOf text names tokens →
+      ¬ IsRefused text r
 
 -- every list of tokens spells a file or has a refusal, and one of them
 pub record FileLaws : Type 0 where
@@ -51,29 +58,42 @@ none_or_some o r none some = let both : None ≡ Some r = sym none ∙ some in c
 
 module _ (tokens_law : TokenLaws) (files_law : FileLaws) where
   -- two lists of tokens of one text are one
-  same_tokens : (text : List ℕ) (names others : List (List ℕ)) (tokens more : List Token) → IsTokensOf text names tokens → IsTokensOf text others more → tokens ≡ more
+  same_tokens : (text : List ℕ) (names others : List (List ℕ)) (tokens more : List Token) → IsTokensOf text names tokens →
+      IsTokensOf text others more → tokens ≡ more
   same_tokens text names others tokens more one two = (tokens_law.one_list text names others tokens more one two).1
 
-  no_file_and_file : (text : List ℕ) (names others : List (List ℕ)) (tokens more : List Token) (f : FileTree) (r : Refusal) → IsTokensOf text names tokens → refusal_of_tokens tokens (length text) ≡ Some r → IsTokensOf text others more → IsFileOf more f → ⊥
+  no_file_and_file : (text : List ℕ) (names others : List (List ℕ)) (tokens more : List Token) (f : FileTree) (r : Refusal) →
+      IsTokensOf text names tokens → refusal_of_tokens tokens (length text) ≡ Some r → IsTokensOf text others more → IsFileOf more f → ⊥
   no_file_and_file text names others tokens more f r one unread two parsed =
-      none_or_some (refusal_of_tokens tokens (length text)) r (subst (λ (ts : List Token). refusal_of_tokens ts (length text) ≡ None) (sym (same_tokens text names others tokens more one two)) (files_law.not_both more (length text) f parsed)) unread
+      none_or_some (refusal_of_tokens tokens (length text)) r
+          (subst (λ (ts : List Token). refusal_of_tokens ts (length text) ≡ None) (sym (same_tokens text names others tokens more one two))
+          (files_law.not_both more (length text) f parsed)) unread
 
-  same_file : (text : List ℕ) (names others : List (List ℕ)) (tokens more : List Token) (f g : FileTree) → IsTokensOf text names tokens → IsFileOf tokens f → IsTokensOf text others more → IsFileOf more g → f ≡ g
+  same_file : (text : List ℕ) (names others : List (List ℕ)) (tokens more : List Token) (f g : FileTree) → IsTokensOf text names tokens →
+      IsFileOf tokens f → IsTokensOf text others more → IsFileOf more g → f ≡ g
   same_file text names others tokens more f g one is two also =
-      files_law.one_file tokens f g is (subst (λ (ts : List Token). IsFileOf ts g) (sym (same_tokens text names others tokens more one two)) also)
+      files_law.one_file tokens f g is
+          (subst (λ (ts : List Token). IsFileOf ts g) (sym (same_tokens text names others tokens more one two)) also)
 
   one_unread : (text : List ℕ) (r other : Refusal) → HasNoFile text r → HasNoFile text other → r ≡ other
   one_unread text r other one two =
-      same_in_option (refusal_of_tokens one.tokens (length text)) r other one.unread (subst (λ (ts : List Token). refusal_of_tokens ts (length text) ≡ Some other) (sym (same_tokens text one.names two.names one.tokens two.tokens one.lexed two.lexed)) two.unread)
+      same_in_option (refusal_of_tokens one.tokens (length text)) r other one.unread
+          (subst (λ (ts : List Token). refusal_of_tokens ts (length text) ≡ Some other)
+          (sym (same_tokens text one.names two.names one.tokens two.tokens one.lexed two.lexed)) two.unread)
 
   one_refused : (text : List ℕ) (r other : Refusal) → IsRefusedFile text r → IsRefusedFile text other → r ≡ other
   one_refused text r other one two =
-      same_in_option (refusal_of one.file) r other one.refused (subst (λ (f : FileTree). refusal_of f ≡ Some other) (sym (same_file text one.names two.names one.tokens two.tokens one.file two.file one.lexed one.parsed two.lexed two.parsed)) two.refused)
+      same_in_option (refusal_of one.file) r other one.refused
+          (subst (λ (f : FileTree). refusal_of f ≡ Some other)
+          (sym (same_file text one.names two.names one.tokens two.tokens one.file two.file one.lexed one.parsed two.lexed two.parsed)) two.refused)
 
-  one_later : (text : List ℕ) (r other : Refusal) → HasNoFile text r ⊎ IsRefusedFile text r → HasNoFile text other ⊎ IsRefusedFile text other → r ≡ other
+  one_later : (text : List ℕ) (r other : Refusal) → HasNoFile text r ⊎ IsRefusedFile text r →
+      HasNoFile text other ⊎ IsRefusedFile text other → r ≡ other
   one_later text r other (inl one) (inl two) = one_unread text r other one two
-  one_later text r other (inl one) (inr two) = absurd (no_file_and_file text one.names two.names one.tokens two.tokens two.file r one.lexed one.unread two.lexed two.parsed)
-  one_later text r other (inr one) (inl two) = absurd (no_file_and_file text two.names one.names two.tokens one.tokens one.file other two.lexed two.unread one.lexed one.parsed)
+  one_later text r other (inl one) (inr two) =
+      absurd (no_file_and_file text one.names two.names one.tokens two.tokens two.file r one.lexed one.unread two.lexed two.parsed)
+  one_later text r other (inr one) (inl two) =
+      absurd (no_file_and_file text two.names one.names two.tokens one.tokens one.file other two.lexed two.unread one.lexed one.parsed)
   one_later text r other (inr one) (inr two) = one_refused text r other one two
 
   -- what is refused behind its tokens has tokens
@@ -91,15 +111,20 @@ module _ (tokens_law : TokenLaws) (files_law : FileLaws) where
   one_answer text e other one two =
       one.answer ∙ ap (answer_to text) (one_refusal text one.refusal two.refusal one.refused two.refused) ∙ sym two.answer
 
-  pub one_model : (text : List ℕ) (names others : List (List ℕ)) (f g : FileTree) → IsModelOf text names f → IsModelOf text others g → (names ≡ others) × (f ≡ g)
+  pub one_model : (text : List ℕ) (names others : List (List ℕ)) (f g : FileTree) → IsModelOf text names f → IsModelOf text others g →
+      (names ≡ others) × (f ≡ g)
   one_model text names others f g one two =
       ((tokens_law.one_list text names others one.tokens two.tokens one.lexed two.lexed).0, same_file text names others one.tokens two.tokens f g one.lexed one.parsed two.lexed two.parsed)
 
-  model_and_refusal : (text : List ℕ) (names : List (List ℕ)) (f : FileTree) (r : Refusal) → IsModelOf text names f → IsRefusedText text r → ⊥
+  model_and_refusal : (text : List ℕ) (names : List (List ℕ)) (f : FileTree) (r : Refusal) → IsModelOf text names f →
+      IsRefusedText text r → ⊥
   model_and_refusal text names f r m (inl none) = tokens_law.not_both text names m.tokens r m.lexed none
-  model_and_refusal text names f r m (inr (inl two)) = no_file_and_file text two.names names two.tokens m.tokens f r two.lexed two.unread m.lexed m.parsed
+  model_and_refusal text names f r m (inr (inl two)) =
+      no_file_and_file text two.names names two.tokens m.tokens f r two.lexed two.unread m.lexed m.parsed
   model_and_refusal text names f r m (inr (inr two)) =
-      none_or_some (refusal_of f) r m.accepted (subst (λ (g : FileTree). refusal_of g ≡ Some r) (same_file text two.names names two.tokens m.tokens two.file f two.lexed two.parsed m.lexed m.parsed) two.refused)
+      none_or_some (refusal_of f) r m.accepted
+          (subst (λ (g : FileTree). refusal_of g ≡ Some r)
+          (same_file text two.names names two.tokens m.tokens two.file f two.lexed two.parsed m.lexed m.parsed) two.refused)
 
   pub not_both : (text : List ℕ) (names : List (List ℕ)) (f : FileTree) (e : TextError) → IsModelOf text names f → ¬ IsAnswer text e
   not_both text names f e m a = model_and_refusal text names f a.refusal m a.refused
@@ -107,14 +132,19 @@ module _ (tokens_law : TokenLaws) (files_law : FileLaws) where
   refused_so : (text : List ℕ) (r : Refusal) → IsRefusedText text r → HasAnswer text
   refused_so text r refused = (answer_to text r, record { refusal = r; refused = refused; answer = refl })
 
-  of_file : (text : List ℕ) (names : List (List ℕ)) (tokens : List Token) (f : FileTree) (o : Option Refusal) → refusal_of f ≡ o → IsTokensOf text names tokens → IsFileOf tokens f → HasModel text ⊎ HasAnswer text
-  of_file text names tokens f None is lexed parsed = inl (names, f, record { tokens = tokens; lexed = lexed; parsed = parsed; accepted = is })
-  of_file text names tokens f (Some r) is lexed parsed = inr (refused_so text r (inr (inr (record { names = names; tokens = tokens; file = f; lexed = lexed; parsed = parsed; refused = is }))))
+  of_file : (text : List ℕ) (names : List (List ℕ)) (tokens : List Token) (f : FileTree) (o : Option Refusal) → refusal_of f ≡ o →
+      IsTokensOf text names tokens → IsFileOf tokens f → HasModel text ⊎ HasAnswer text
+  of_file text names tokens f None is lexed parsed =
+      inl (names, f, record { tokens = tokens; lexed = lexed; parsed = parsed; accepted = is })
+  of_file text names tokens f (Some r) is lexed parsed =
+      inr (refused_so text r
+          (inr (inr (record { names = names; tokens = tokens; file = f; lexed = lexed; parsed = parsed; refused = is }))))
 
   of_tokens : (text : List ℕ) (names : List (List ℕ)) (tokens : List Token) → IsTokensOf text names tokens → HasModel text ⊎ HasAnswer text
   of_tokens text names tokens lexed = elim (files_law.some tokens (length text)) [
     | inl file ↦ of_file text names tokens file.0 (refusal_of file.0) refl lexed file.1
-    | inr refused ↦ inr (refused_so text refused.0 (inr (inl (record { names = names; tokens = tokens; lexed = lexed; unread = refused.1 }))))
+    | inr refused ↦ inr (refused_so text refused.0
+        (inr (inl (record { names = names; tokens = tokens; lexed = lexed; unread = refused.1 }))))
   ]
 
   pub some_answer : (text : List ℕ) → HasModel text ⊎ HasAnswer text

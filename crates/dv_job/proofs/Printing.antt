@@ -26,24 +26,32 @@ use Rattle.dv_job.specs.Ending.{PrintsTrace, PrintsBeginning, LeftBy, ending_of}
 
 -- the text of a trace is that of its instants
 abbrev pub AreInstants : Type 0
-AreInstants = (all : List ComponentNames) (outputs : List (List ℕ)) (limit : ℕ) (net : Network (List Counts)) (inputs : ℕ → List Counts) (horizon : ℕ) → text_of all outputs (trace_before limit net inputs (end_of limit horizon)) (Horizon horizon) ≡ whole_text all outputs limit net inputs horizon
+AreInstants =
+    (all : List ComponentNames) (outputs : List (List ℕ)) (limit : ℕ) (net : Network (List Counts)) (inputs : ℕ → List Counts)
+        (horizon : ℕ) → text_of all outputs (trace_before limit net inputs (end_of limit horizon)) (Horizon horizon)
+        ≡ whole_text all outputs limit net inputs horizon
 
 -- the tree of a text has the text's model
-pub model_of_tree : (text : List ℕ) (names : List (List ℕ)) (file : File) (tree : Source) → IsModelOf text names (file_of file) → (tree.file ≡ file) × (tree.names ≡ names) → IsModelOf text tree.names (file_of tree.file)
+pub model_of_tree : (text : List ℕ) (names : List (List ℕ)) (file : File) (tree : Source) → IsModelOf text names (file_of file) →
+    (tree.file ≡ file) × (tree.names ≡ names) → IsModelOf text tree.names (file_of tree.file)
 model_of_tree text names file tree m same =
     subst (λ (n : List (List ℕ)). IsModelOf text n (file_of tree.file)) (sym same.1)
     (subst (λ (f : File). IsModelOf text names (file_of f)) (sym same.0) m)
 
 -- what is written of a trace is the text of the run
-text_of_run : (tree : Source) (h l : ℕ) (trace : PartOf) → AreInstants → trace ≡ trace_of (file_of tree.file) h l → text_of (tree_names tree) (tree_ports tree) trace (Horizon h) ≡ run_text tree.names (file_of tree.file) h l
+text_of_run : (tree : Source) (h l : ℕ) (trace : PartOf) → AreInstants → trace ≡ trace_of (file_of tree.file) h l →
+    text_of (tree_names tree) (tree_ports tree) trace (Horizon h) ≡ run_text tree.names (file_of tree.file) h l
 text_of_run tree h l trace are is_trace =
     let f = file_of tree.file in
     ap (λ (t : PartOf). text_of (tree_names tree) (tree_ports tree) t (Horizon h)) is_trace
     ∙ are (component_names tree.names f) (root_ports tree.names f) l (network_of l f) no_input h
 
 -- a trace that was written whole
-pub prints : (text : List ℕ) (h l : ℕ) (old new : Option (List ℕ)) (names : List (List ℕ)) (file : File) (tree : Source) (trace : PartOf) (ended : JobEnded)
-    → AreInstants → IsModelOf text names (file_of file) → (tree.file ≡ file) × (tree.names ≡ names) → trace ≡ trace_of (file_of tree.file) h l → ended ≡ ending_of trace
+pub prints :
+    (text : List ℕ) (h l : ℕ) (old new : Option (List ℕ)) (names : List (List ℕ)) (file : File) (tree : Source) (trace : PartOf)
+        (ended : JobEnded)
+    → AreInstants → IsModelOf text names (file_of file) → (tree.file ≡ file) × (tree.names ≡ names) → trace ≡ trace_of
+        (file_of tree.file) h l → ended ≡ ending_of trace
     → Appends old new (text_of (tree_names tree) (tree_ports tree) trace (Horizon h)) → PrintsTrace text h l old new ended
 prints text h l old new names file tree trace ended are m same is_trace ending written = record {
   names = tree.names;
@@ -54,8 +62,10 @@ prints text h l old new names file tree trace ended are m same is_trace ending w
 }
 
 -- a trace of which a beginning was written
-pub prints_beginning : (text : List ℕ) (h l : ℕ) (old new : Option (List ℕ)) (names : List (List ℕ)) (file : File) (tree : Source) (trace : PartOf)
-    → AreInstants → IsModelOf text names (file_of file) → (tree.file ≡ file) × (tree.names ≡ names) → trace ≡ trace_of (file_of tree.file) h l
+pub prints_beginning :
+    (text : List ℕ) (h l : ℕ) (old new : Option (List ℕ)) (names : List (List ℕ)) (file : File) (tree : Source) (trace : PartOf)
+    → AreInstants → IsModelOf text names (file_of file) → (tree.file ≡ file) × (tree.names ≡ names) → trace ≡ trace_of
+        (file_of tree.file) h l
     → StopsShort old new (text_of (tree_names tree) (tree_ports tree) trace (Horizon h)) → PrintsBeginning text h l old new
 prints_beginning text h l old new names file tree trace are m same is_trace written = record {
   names = tree.names;
@@ -65,11 +75,13 @@ prints_beginning text h l old new names file tree trace are m same is_trace writ
 }
 
 -- whichever way the writing failed
-pub left_by_write : (e : WriteError) (text : List ℕ) (h l : ℕ) (old new : Option (List ℕ)) → PrintsBeginning text h l old new → LeftBy (job_error_of_write e) text h l old new
+pub left_by_write : (e : WriteError) (text : List ℕ) (h l : ℕ) (old new : Option (List ℕ)) → PrintsBeginning text h l old new →
+    LeftBy (job_error_of_write e) text h l old new
 left_by_write write.Write text h l old new p = p
 left_by_write write.Memory text h l old new p = inr p
 
 -- a text that was not loaded
-pub left_by_load : (e : LoadError) (text : List ℕ) (h l : ℕ) (old new : Option (List ℕ)) → IsUnloaded e text → Keeps old new → LeftBy (job_error_of_load text e) text h l old new
+pub left_by_load : (e : LoadError) (text : List ℕ) (h l : ℕ) (old new : Option (List ℕ)) → IsUnloaded e text → Keeps old new →
+    LeftBy (job_error_of_load text e) text h l old new
 left_by_load (load.Refused r) text h l old new refused kept = (record { refusal = r; refused = refused; answer = refl }, kept)
 left_by_load load.Memory text h l old new refused kept = inl kept

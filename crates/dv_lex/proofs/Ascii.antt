@@ -28,7 +28,8 @@ OkIff-same : {T E : Type 0} (P Q : Type 0) (v : T) (r : Result T E) → (P → Q
 OkIff-same P Q v (Ok x) f g h = (f h.0, h.1)
 OkIff-same P Q v (Err e) f g h = λ q. h (g q)
 
-pub number_from_digits : {E : Type 0} (ds : List ℕ) (r : Result ℕ E) → ParsesUnsigned 64 10 ds r → list_all is_ascii_digit ds ≡ true → 0 < length ds → OkIff r (digits_value 10 ds < 2 ^ 64) (digits_value 10 ds)
+pub number_from_digits : {E : Type 0} (ds : List ℕ) (r : Result ℕ E) → ParsesUnsigned 64 10 ds r → list_all is_ascii_digit ds ≡ true →
+    0 < length ds → OkIff r (digits_value 10 ds < 2 ^ 64) (digits_value 10 ds)
 number_from_digits ds r h d some =
     OkIff-same _ _ _ r (λ p. p.1) (λ q. (some, q)) (parse_digits (numerals_by_value _ digits_test) 64 ds r h d)
 

@@ -37,7 +37,9 @@ encoded-append : (c : ℕ) (cs rest : List ℕ) → encode_utf8_all (c ∷ cs) +
 encoded-append c cs rest = append_assoc (encode_utf8 c) (encode_utf8_all cs) rest
 
 -- no longer front has characters that pass alone
-pub characters_longest : (p : ℕ → Bool) (cs rest ds more : List ℕ) → ((c : ℕ) → BeginsWith c rest → p c ≡ false) → encode_utf8_all cs ++ rest ≡ encode_utf8_all ds ++ more → list_all p ds ≡ true → length (encode_utf8_all ds) ≤ length (encode_utf8_all cs)
+pub characters_longest : (p : ℕ → Bool) (cs rest ds more : List ℕ) → ((c : ℕ) → BeginsWith c rest → p c ≡ false) →
+    encode_utf8_all cs ++ rest ≡ encode_utf8_all ds ++ more → list_all p ds ≡ true →
+    length (encode_utf8_all ds) ≤ length (encode_utf8_all cs)
 characters_longest p cs rest [] more h e q = omega arith
 characters_longest p [] rest (d ∷ ds) more h e q =
     absurd (both_ways (p d) (h d (encode_utf8_all ds ++ more, e ∙ encoded-append d ds more)) ((and_parts (p d) (list_all p ds) q).0))
@@ -53,7 +55,8 @@ ends_behind : (p : ℕ → Bool) (cs : List ℕ) → Ends p cs → (c : ℕ) →
 ends_behind p [] h c b = absurd (not_begun c b)
 ends_behind p (d ∷ cs) h c b = ap p (same_first c d (encode_utf8_all (d ∷ cs)) b (encode_utf8_all cs, refl)) ∙ h
 
-pub SplitsCharacters-encoded : (p : ℕ → Bool) (cs run rest text : List ℕ) → SplitsRun p cs run rest → encode_utf8_all cs ≡ text → SplitsCharacters p text (encode_utf8_all run) (encode_utf8_all rest)
+pub SplitsCharacters-encoded : (p : ℕ → Bool) (cs run rest text : List ℕ) → SplitsRun p cs run rest → encode_utf8_all cs ≡ text →
+    SplitsCharacters p text (encode_utf8_all run) (encode_utf8_all rest)
 SplitsCharacters-encoded p cs run rest text s e = record {
   characters = run;
   run_is = refl;
@@ -67,7 +70,8 @@ fails-pass : (p : ℕ → Bool) (cs : List ℕ) → NonePass (λ d. not (p d)) c
 fails-pass p [] h = refl
 fails-pass p (c ∷ cs) h = and_from (p c) (list_all p cs) (not-false (p c) h.0) (fails-pass p cs h.1)
 
-pub SplitsCharacters-found : (p : ℕ → Bool) (text : List ℕ) (i j : ℕ) → FindsBy (λ d. not (p d)) text (Some (i, j)) → SplitsCharacters p text (take i text) (drop i text)
+pub SplitsCharacters-found : (p : ℕ → Bool) (text : List ℕ) (i j : ℕ) → FindsBy (λ d. not (p d)) text (Some (i, j)) →
+    SplitsCharacters p text (take i text) (drop i text)
 SplitsCharacters-found p text i j f = record {
   characters = f.0.0;
   run_is = sym f.0.1;
@@ -117,6 +121,7 @@ pub IsUtf8-behind_line : (text run rest : List ℕ) → IsUtf8 text → SplitsRu
 IsUtf8-behind_line text run rest u s = line_end_behind run rest s.ends (subst IsUtf8 s.whole u)
 
 -- a text may be cut behind a run of bytes that a text follows
-pub IsCharBoundary-run : (p : ℕ → Bool) (text : List ℕ) (n : ℕ) → n ≡ length (take_while p text) → IsUtf8 (drop n text) → IsCharBoundary text n
+pub IsCharBoundary-run : (p : ℕ → Bool) (text : List ℕ) (n : ℕ) → n ≡ length (take_while p text) → IsUtf8 (drop n text) →
+    IsCharBoundary text n
 IsCharBoundary-run p text n e u =
     IsCharBoundary-from_drop text n (omega (arith, e, length-prefix_len p text, prefix_len-le-length p text)) u

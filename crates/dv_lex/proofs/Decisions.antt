@@ -16,20 +16,27 @@ use Rattle.dv_lex.proofs.Spellings.{keywords, symbols, keyword_at, symbol_at}
 abbrev pub IsTextOfOne : {X : Type 0} → (X → List ℕ) → List ℕ → Type 0
 IsTextOfOne {X = X} text_of text = ((x : X) × (text ≡ text_of x)) ⊎ ((x : X) → text ≢ text_of x)
 
-found_text : {X : Type 0} (text_of : X → List ℕ) (text : List ℕ) (all : List X) → IfSome (find (λ x. bytes_eq (text_of x) text) all) (λ x. text_of x ≡ text)
+found_text : {X : Type 0} (text_of : X → List ℕ) (text : List ℕ) (all : List X) →
+    IfSome (find (λ x. bytes_eq (text_of x) text) all) (λ x. text_of x ≡ text)
 found_text text_of text [] = tt
 found_text {X = X} text_of text (x ∷ xs) =
-    cond_both (bytes_eq (text_of x) text) (Some x) (find (λ y. bytes_eq (text_of y) text) xs) (λ (o : Option X). IfSome o (λ y. text_of y ≡ text))
+    cond_both (bytes_eq (text_of x) text) (Some x) (find (λ y. bytes_eq (text_of y) text) xs)
+        (λ (o : Option X). IfSome o (λ y. text_of y ≡ text))
     (λ h. (bytes_eq-Decides (text_of x) text).0 h)
     (λ _. found_text text_of text xs)
 
-by_found : {X : Type 0} (text_of : X → List ℕ) (all : List X) (text : List ℕ) → ((x : X) → find (λ y. bytes_eq (text_of y) (text_of x)) all ≡ Some x) → (o : Option X) → find (λ y. bytes_eq (text_of y) text) all ≡ o → IfSome o (λ x. text_of x ≡ text) → IsTextOfOne text_of text
+by_found : {X : Type 0} (text_of : X → List ℕ) (all : List X) (text : List ℕ) →
+    ((x : X) → find (λ y. bytes_eq (text_of y) (text_of x)) all ≡ Some x) → (o : Option X) →
+    find (λ y. bytes_eq (text_of y) text) all ≡ o → IfSome o (λ x. text_of x ≡ text) → IsTextOfOne text_of text
 by_found text_of all text each (Some x) e is = inl (x, sym is)
 by_found {X = X} text_of all text each None e is =
-    inr (λ x same. let t : ◌≡◌ {A = Option X} None (Some x) = sym e ∙ (ap (λ (bytes : List ℕ). find (λ y. bytes_eq (text_of y) bytes) all) same ∙ each x) in cc)
+    inr (λ x same. let t : ◌≡◌ {A = Option X} None (Some x) = sym e ∙
+        (ap (λ (bytes : List ℕ). find (λ y. bytes_eq (text_of y) bytes) all) same ∙ each x) in cc)
 
-text_of_one : {X : Type 0} (text_of : X → List ℕ) (all : List X) (text : List ℕ) → ((x : X) → find (λ y. bytes_eq (text_of y) (text_of x)) all ≡ Some x) → IsTextOfOne text_of text
-text_of_one text_of all text each = by_found text_of all text each (find (λ y. bytes_eq (text_of y) text) all) refl (found_text text_of text all)
+text_of_one : {X : Type 0} (text_of : X → List ℕ) (all : List X) (text : List ℕ) →
+    ((x : X) → find (λ y. bytes_eq (text_of y) (text_of x)) all ≡ Some x) → IsTextOfOne text_of text
+text_of_one text_of all text each =
+    by_found text_of all text each (find (λ y. bytes_eq (text_of y) text) all) refl (found_text text_of text all)
 
 pub keyword_or_none : (text : List ℕ) → IsTextOfOne keyword_text text
 keyword_or_none text = text_of_one keyword_text keywords text keyword_at
@@ -42,11 +49,13 @@ symbol_len : (s : Symbol) → (1 ≤ length (symbol_text s)) × (length (symbol_
 symbol_len symbol.Assign = (omega arith, omega arith)
 symbol_len _ = (omega arith, omega arith)
 
-front_text : (bytes : List ℕ) (s : Symbol) (rest : List ℕ) (n : ℕ) → bytes ≡ symbol_text s ++ rest → length (symbol_text s) ≡ n → take n bytes ≡ symbol_text s
+front_text : (bytes : List ℕ) (s : Symbol) (rest : List ℕ) (n : ℕ) → bytes ≡ symbol_text s ++ rest → length (symbol_text s) ≡ n →
+    take n bytes ≡ symbol_text s
 front_text bytes s rest n e len = ap (take n) e ∙ take_at (symbol_text s) rest n len
 
 -- a symbol that no two characters in front are has one
-short_symbol : (bytes : List ℕ) → ((s : Symbol) → take 2 bytes ≢ symbol_text s) → (s : Symbol) (rest : List ℕ) → bytes ≡ symbol_text s ++ rest → length (symbol_text s) ≡ 1
+short_symbol : (bytes : List ℕ) → ((s : Symbol) → take 2 bytes ≢ symbol_text s) → (s : Symbol) (rest : List ℕ) →
+    bytes ≡ symbol_text s ++ rest → length (symbol_text s) ≡ 1
 short_symbol bytes none s rest e =
     elim (cases_eq (length (symbol_text s)) 2) [
       | inl two ↦ absurd (none s (front_text bytes s rest 2 e two))
@@ -60,14 +69,16 @@ longest_of_two bytes s e = record {
       omega (arith, symbol_len other, ap length whole, length-append (symbol_text other) more, sym (ap length e) ∙ length-take 2 bytes);
 }
 
-longest_of_one : (bytes : List ℕ) (s : Symbol) → ((other : Symbol) → take 2 bytes ≢ symbol_text other) → take 1 bytes ≡ symbol_text s → IsLongestSymbol bytes s (drop 1 bytes)
+longest_of_one : (bytes : List ℕ) (s : Symbol) → ((other : Symbol) → take 2 bytes ≢ symbol_text other) → take 1 bytes ≡ symbol_text s →
+    IsLongestSymbol bytes s (drop 1 bytes)
 longest_of_one bytes s none e = record {
   whole = sym (take-append-drop 1 bytes) ∙ ap (λ (front : List ℕ). front ++ drop 1 bytes) e;
   longest = λ other more whole. omega (arith, symbol_len s, short_symbol bytes none other more whole);
 }
 
 -- the symbol at the front of bytes, or that none is there
-pub symbol_in_front : (bytes : List ℕ) → ((s : Symbol) × (rest : List ℕ) × IsLongestSymbol bytes s rest) ⊎ ((s : Symbol) (rest : List ℕ) → bytes ≢ symbol_text s ++ rest)
+pub symbol_in_front : (bytes : List ℕ) →
+    ((s : Symbol) × (rest : List ℕ) × IsLongestSymbol bytes s rest) ⊎ ((s : Symbol) (rest : List ℕ) → bytes ≢ symbol_text s ++ rest)
 symbol_in_front bytes =
     elim (symbol_or_none (take 2 bytes)) [
       | inl two ↦ inl (two.0, drop 2 bytes, longest_of_two bytes two.0 two.1)

@@ -48,7 +48,8 @@ comment_front text run rest s = begun (35 ∷ text) Comment (35 ∷ run) rest (I
 word_lexeme : (run : List ℕ) → IsWord run → (x : Lexeme) × Spells x run
 word_lexeme run w = elim (keyword_or_none run) [ inl found ↦ (Reserved found.0, found.1) | inr none ↦ (Identifier run, (refl, w, none)) ]
 
-word_front : (c : ℕ) (text run rest : List ℕ) → BeginsWith c text → starts_name c ≡ true → SplitsCharacters continues_name text run rest → Front text
+word_front : (c : ℕ) (text run rest : List ℕ) → BeginsWith c text → starts_name c ≡ true → SplitsCharacters continues_name text run rest →
+    Front text
 word_front c text run rest b h s =
     let word : IsWord run = IsWord-split c text run rest b h s in
     let x : (x : Lexeme) × Spells x run = word_lexeme run word in
@@ -56,7 +57,8 @@ word_front c text run rest b h s =
     begun text x.0 run rest (IsFirst-word text run rest x.0 s class x.1) (word_in_range x.0 class)
 
 -- a number, in range or not
-digits_front : (c : ℕ) (text run rest : List ℕ) → BeginsWith c text → is_ascii_digit c ≡ true → SplitsRun is_ascii_digit text run rest → Front text
+digits_front : (c : ℕ) (text run rest : List ℕ) → BeginsWith c text → is_ascii_digit c ≡ true → SplitsRun is_ascii_digit text run rest →
+    Front text
 digits_front c text run rest b h s =
     let first = IsFirst-numeral text run rest s (digits-split c text run rest b h s) in
     elim (cases_lt (digits_value 10 run) (2 ^ 63)) [
@@ -65,7 +67,8 @@ digits_front c text run rest b h s =
     ]
 
 -- a symbol, or nothing that begins a lexeme
-symbol_front : (c : ℕ) (text : List ℕ) → BeginsWith c text → is_blank c ≡ false → c ≢ 35 → starts_name c ≡ false → is_ascii_digit c ≡ false → Front text
+symbol_front : (c : ℕ) (text : List ℕ) → BeginsWith c text → is_blank c ≡ false → c ≢ 35 → starts_name c ≡ false →
+    is_ascii_digit c ≡ false → Front text
 symbol_front c text b blank comment name digit =
     elim (symbol_in_front text) [
       | inl found ↦ begun text (Sign found.0) (symbol_text found.0) found.1 (IsFirst-sign text found.0 found.1 found.2) tt
@@ -83,7 +86,8 @@ token_front : (c : ℕ) (text : List ℕ) → IsUtf8 text → BeginsWith c text 
 token_front c text u b blank comment =
     elim (cases_Bool (starts_name c)) [
       | inl name ↦
-          word_front c text _ _ b name (SplitsCharacters-encoded continues_name u.0 _ _ text (SplitsRun-cut continues_name u.0 _ refl) u.1.1)
+          word_front c text _ _ b name
+              (SplitsCharacters-encoded continues_name u.0 _ _ text (SplitsRun-cut continues_name u.0 _ refl) u.1.1)
       | inr no_name ↦ elim (cases_Bool (is_ascii_digit c)) [
         | inl digit ↦ digits_front c text _ _ b digit (SplitsRun-cut is_ascii_digit text _ refl)
         | inr no_digit ↦ symbol_front c text b blank comment no_name no_digit

@@ -31,81 +31,95 @@ IsFirst-blank b bs h = record {
 }
 
 -- a comment
-comment_longest : (run rest : List ℕ) → Ends (λ b. not (b == 10)) rest → (x : Lexeme) (front more : List ℕ) → lexeme_class x ≡ 1 → 35 ∷ (run ++ rest) ≡ front ++ more → Spells x front → length front ≤ suc (length run)
+comment_longest : (run rest : List ℕ) → Ends (λ b. not (b == 10)) rest → (x : Lexeme) (front more : List ℕ) → lexeme_class x ≡ 1 →
+    35 ∷ (run ++ rest) ≡ front ++ more → Spells x front → length front ≤ suc (length run)
 comment_longest run rest h Comment [] more k e t = omega arith
 comment_longest run rest h Comment (c ∷ cs) more k e t =
     let same : run ++ rest ≡ cs ++ more = cc in
     omega (arith, run_longest (λ b. not (b == 10)) run rest cs more h same t.1)
 comment_longest run rest h _ front more k e t = absurd (omega arith)
 
-pub IsFirst-comment : (bytes run rest : List ℕ) → SplitsRun (λ b. not (b == 10)) bytes run rest → IsFirst (35 ∷ bytes) Comment (35 ∷ run) rest
+pub IsFirst-comment : (bytes run rest : List ℕ) → SplitsRun (λ b. not (b == 10)) bytes run rest →
+    IsFirst (35 ∷ bytes) Comment (35 ∷ run) rest
 IsFirst-comment bytes run rest s =
     let whole : 35 ∷ bytes ≡ 35 ∷ (run ++ rest) = ap (λ (bs : List ℕ). 35 ∷ bs) s.whole in
     record {
       whole = whole;
       spelled = (refl, s.each);
       longest = λ other longer more e t.
-          comment_longest run rest s.ends other longer more (sym (same_class (35 ∷ bytes) Comment other (35 ∷ run) rest longer more whole e (refl, s.each) t)) (sym whole ∙ e) t;
+          comment_longest run rest s.ends other longer more
+              (sym (same_class (35 ∷ bytes) Comment other (35 ∷ run) rest longer more whole e (refl, s.each) t)) (sym whole ∙ e) t;
     }
 
 -- a word
 word_characters : (c : ℕ) (cs : List ℕ) → starts_name c ≡ true → list_all continues_name cs ≡ true → list_all continues_name (c ∷ cs) ≡ true
 word_characters c cs starts each = and_from (continues_name c) (list_all continues_name cs) (continues_name-from_start c starts) each
 
-word_longest : (run rest : List ℕ) (text : List ℕ) → SplitsCharacters continues_name text run rest → (front more : List ℕ) → text ≡ front ++ more → IsWord front → length front ≤ length run
+word_longest : (run rest : List ℕ) (text : List ℕ) → SplitsCharacters continues_name text run rest → (front more : List ℕ) →
+    text ≡ front ++ more → IsWord front → length front ≤ length run
 word_longest run rest text s front more e w =
     let joined : encode_utf8_all s.characters ++ rest ≡ encode_utf8_all (w.0 ∷ w.1) ++ more =
     ap (λ (bs : List ℕ). bs ++ rest) (sym s.run_is) ∙ (sym s.whole ∙ (e ∙ ap (λ (bs : List ℕ). bs ++ more) w.2)) in
     let less = characters_longest continues_name s.characters rest (w.0 ∷ w.1) more s.ends joined (word_characters w.0 w.1 w.3 w.4) in
     omega (arith, less, ap length s.run_is, ap length w.2)
 
-pub IsFirst-word : (text run rest : List ℕ) (x : Lexeme) → SplitsCharacters continues_name text run rest → lexeme_class x ≡ 2 → Spells x run → IsFirst text x run rest
+pub IsFirst-word : (text run rest : List ℕ) (x : Lexeme) → SplitsCharacters continues_name text run rest → lexeme_class x ≡ 2 →
+    Spells x run → IsFirst text x run rest
 IsFirst-word text run rest x s k h = record {
   whole = s.whole;
   spelled = h;
   longest = λ other longer more e t.
-      word_longest run rest text s longer more e (IsWord-spelled other longer (sym (same_class text x other run rest longer more s.whole e h t) ∙ k) t);
+      word_longest run rest text s longer more e
+          (IsWord-spelled other longer (sym (same_class text x other run rest longer more s.whole e h t) ∙ k) t);
 }
 
 -- a number
-numeral_longest : (run rest : List ℕ) → Ends is_ascii_digit rest → (x : Lexeme) (front more : List ℕ) → lexeme_class x ≡ 3 → run ++ rest ≡ front ++ more → Spells x front → length front ≤ length run
+numeral_longest : (run rest : List ℕ) → Ends is_ascii_digit rest → (x : Lexeme) (front more : List ℕ) → lexeme_class x ≡ 3 →
+    run ++ rest ≡ front ++ more → Spells x front → length front ≤ length run
 numeral_longest run rest h (Numeral value) front more k e t = run_longest is_ascii_digit run rest front more h e t.1
 numeral_longest run rest h _ front more k e t = absurd (omega arith)
 
-pub IsFirst-numeral : (bytes run rest : List ℕ) → SplitsRun is_ascii_digit bytes run rest → 0 < length run → IsFirst bytes (Numeral (digits_value 10 run)) run rest
+pub IsFirst-numeral : (bytes run rest : List ℕ) → SplitsRun is_ascii_digit bytes run rest → 0 < length run →
+    IsFirst bytes (Numeral (digits_value 10 run)) run rest
 IsFirst-numeral bytes run rest s h =
     let spelled : Spells (Numeral (digits_value 10 run)) run = (h, s.each, refl) in
     record {
       whole = s.whole;
       spelled = spelled;
       longest = λ other longer more e t.
-          numeral_longest run rest s.ends other longer more (sym (same_class bytes (Numeral (digits_value 10 run)) other run rest longer more s.whole e spelled t)) (sym s.whole ∙ e) t;
+          numeral_longest run rest s.ends other longer more
+              (sym (same_class bytes (Numeral (digits_value 10 run)) other run rest longer more s.whole e spelled t)) (sym s.whole ∙ e) t;
     }
 
 -- a symbol
-sign_longest : (bytes : List ℕ) (s : Symbol) (rest : List ℕ) → IsLongestSymbol bytes s rest → (x : Lexeme) (front more : List ℕ) → lexeme_class x ≡ 4 → bytes ≡ front ++ more → Spells x front → length front ≤ length (symbol_text s)
+sign_longest : (bytes : List ℕ) (s : Symbol) (rest : List ℕ) → IsLongestSymbol bytes s rest → (x : Lexeme) (front more : List ℕ) →
+    lexeme_class x ≡ 4 → bytes ≡ front ++ more → Spells x front → length front ≤ length (symbol_text s)
 sign_longest bytes s rest l (Sign other) front more k e t =
     omega (arith, l.longest other more (e ∙ ap (λ (bs : List ℕ). bs ++ more) t), ap length t)
 sign_longest bytes s rest l _ front more k e t = absurd (omega arith)
 
-pub IsFirst-sign : (bytes : List ℕ) (s : Symbol) (rest : List ℕ) → IsLongestSymbol bytes s rest → IsFirst bytes (Sign s) (symbol_text s) rest
+pub IsFirst-sign : (bytes : List ℕ) (s : Symbol) (rest : List ℕ) → IsLongestSymbol bytes s rest →
+    IsFirst bytes (Sign s) (symbol_text s) rest
 IsFirst-sign bytes s rest l = record {
   whole = l.whole;
   spelled = refl;
   longest = λ other longer more e t.
-      sign_longest bytes s rest l other longer more (sym (same_class bytes (Sign s) other (symbol_text s) rest longer more l.whole e refl t)) e t;
+      sign_longest bytes s rest l other longer more
+          (sym (same_class bytes (Sign s) other (symbol_text s) rest longer more l.whole e refl t)) e t;
 }
 
 -- none
 class_of-none : (c : ℕ) → is_blank c ≡ false → c ≢ 35 → starts_name c ≡ false → is_ascii_digit c ≡ false → 4 ≤ class_of c
 class_of-none c blank comment name digit = grind (arith, nat_tests)
 
-no_sign : (bytes : List ℕ) → ((s : Symbol) (rest : List ℕ) → bytes ≢ symbol_text s ++ rest) → (x : Lexeme) (front more : List ℕ) → 4 ≤ lexeme_class x → bytes ≡ front ++ more → Spells x front → ⊥
+no_sign : (bytes : List ℕ) → ((s : Symbol) (rest : List ℕ) → bytes ≢ symbol_text s ++ rest) → (x : Lexeme) (front more : List ℕ) →
+    4 ≤ lexeme_class x → bytes ≡ front ++ more → Spells x front → ⊥
 no_sign bytes none (Sign s) front more k e t = none s more (e ∙ ap (λ (bs : List ℕ). bs ++ more) t)
 no_sign bytes none Blank front more k e t = omega arith
 no_sign bytes none _ front more k e t = omega arith
 
-pub NoneBegins-first : (c : ℕ) (bytes : List ℕ) → BeginsWith c bytes → is_blank c ≡ false → c ≢ 35 → starts_name c ≡ false → is_ascii_digit c ≡ false → ((s : Symbol) (rest : List ℕ) → bytes ≢ symbol_text s ++ rest) → NoneBegins bytes
+pub NoneBegins-first : (c : ℕ) (bytes : List ℕ) → BeginsWith c bytes → is_blank c ≡ false → c ≢ 35 → starts_name c ≡ false →
+    is_ascii_digit c ≡ false → ((s : Symbol) (rest : List ℕ) → bytes ≢ symbol_text s ++ rest) → NoneBegins bytes
 NoneBegins-first c bytes begins blank comment name digit none x front rest e t =
     no_sign bytes none x front rest (omega (arith, class_of-none c blank comment name digit, class_at c bytes begins x front rest e t)) e t
 
@@ -114,7 +128,8 @@ longer_comment : (front : List ℕ) (b : ℕ) → Spells Comment front → not (
 longer_comment [] b h e = absurd h
 longer_comment (a ∷ front) b h e =
     let last : list_all (λ c. not (c == 10)) (b ∷ []) ≡ true = and_from (not (b == 10)) true e refl in
-    (h.0, list_all-append (λ c. not (c == 10)) front (b ∷ []) ∙ and_from (list_all (λ c. not (c == 10)) front) (list_all (λ c. not (c == 10)) (b ∷ [])) h.1 last)
+    (h.0, list_all-append (λ c. not (c == 10)) front (b ∷ []) ∙ and_from (list_all (λ c. not (c == 10)) front)
+        (list_all (λ c. not (c == 10)) (b ∷ [])) h.1 last)
 
 comment_ends : (bytes front rest : List ℕ) → IsFirst bytes Comment front rest → Ends (λ b. not (b == 10)) rest
 comment_ends bytes front [] f = tt
@@ -148,12 +163,16 @@ IsUtf8-behind_first bytes (Sign s) front rest u f =
     IsUtf8-behind_symbol bytes s rest u (f.whole ∙ ap (λ (bs : List ℕ). bs ++ rest) f.spelled)
 
 -- one lexeme is the longest
-pub IsFirst-same : (bytes : List ℕ) (x y : Lexeme) (front rest other more : List ℕ) → IsFirst bytes x front rest → IsFirst bytes y other more → (x ≡ y) × (front ≡ other) × (rest ≡ more)
+pub IsFirst-same : (bytes : List ℕ) (x y : Lexeme) (front rest other more : List ℕ) → IsFirst bytes x front rest →
+    IsFirst bytes y other more → (x ≡ y) × (front ≡ other) × (rest ≡ more)
 IsFirst-same bytes x y front rest other more f g =
-    let n : length front ≡ length other = omega (arith, f.longest y other more g.whole g.spelled, g.longest x front rest f.whole f.spelled) in
+    let n : length front ≡ length other =
+        omega (arith, f.longest y other more g.whole g.spelled, g.longest x front rest f.whole f.spelled) in
     let joined : front ++ rest ≡ other ++ more = sym f.whole ∙ g.whole in
-    let fronts : front ≡ other = sym (take_at front rest (length front) refl) ∙ (ap (take (length front)) joined ∙ take_at other more (length front) (sym n)) in
-    let rests : rest ≡ more = sym (drop_at front rest (length front) refl) ∙ (ap (drop (length front)) joined ∙ drop_at other more (length front) (sym n)) in
+    let fronts : front ≡ other =
+        sym (take_at front rest (length front) refl) ∙ (ap (take (length front)) joined ∙ take_at other more (length front) (sym n)) in
+    let rests : rest ≡ more =
+        sym (drop_at front rest (length front) refl) ∙ (ap (drop (length front)) joined ∙ drop_at other more (length front) (sym n)) in
     (same_spelling x y front f.spelled (subst (Spells y) (sym fronts) g.spelled), fronts, rests)
 
 -- nothing is first in no bytes
@@ -165,7 +184,8 @@ pub not_IsFirst-empty : (x : Lexeme) (front rest : List ℕ) → IsFirst [] x fr
 not_IsFirst-empty x front rest f = not_Spells-empty x (subst (Spells x) (sym (empty_front front rest f.whole)) f.spelled)
 
 -- a run that its first character begins
-word_run : (cs : List ℕ) (c : ℕ) (text run rest : List ℕ) → BeginsWith c text → starts_name c ≡ true → SplitsCharacters continues_name text run rest → run ≡ encode_utf8_all cs → list_all continues_name cs ≡ true → IsWord run
+word_run : (cs : List ℕ) (c : ℕ) (text run rest : List ℕ) → BeginsWith c text → starts_name c ≡ true →
+    SplitsCharacters continues_name text run rest → run ≡ encode_utf8_all cs → list_all continues_name cs ≡ true → IsWord run
 word_run [] c text run rest b h s e each =
     let begins : BeginsWith c rest = subst (BeginsWith c) (s.whole ∙ ap (λ (bs : List ℕ). bs ++ rest) e) b in
     absurd (both_ways (continues_name c) (s.ends c begins) (continues_name-from_start c h))
@@ -173,16 +193,19 @@ word_run (d ∷ ds) c text run rest b h s e each =
     let begins : BeginsWith d text = subst (BeginsWith d) (sym s.whole) (BeginsWith-append d run rest (encode_utf8_all ds, e)) in
     (d, ds, e, ap starts_name (same_first d c text begins b) ∙ h, (and_parts (continues_name d) (list_all continues_name ds) each).1)
 
-pub IsWord-split : (c : ℕ) (text run rest : List ℕ) → BeginsWith c text → starts_name c ≡ true → SplitsCharacters continues_name text run rest → IsWord run
+pub IsWord-split : (c : ℕ) (text run rest : List ℕ) → BeginsWith c text → starts_name c ≡ true →
+    SplitsCharacters continues_name text run rest → IsWord run
 IsWord-split c text run rest b h s = word_run s.characters c text run rest b h s s.run_is s.each
 
-digits_run : (c : ℕ) (bytes run rest more : List ℕ) → bytes ≡ c ∷ more → is_ascii_digit c ≡ true → SplitsRun is_ascii_digit bytes run rest → 0 < length run
+digits_run : (c : ℕ) (bytes run rest more : List ℕ) → bytes ≡ c ∷ more → is_ascii_digit c ≡ true →
+    SplitsRun is_ascii_digit bytes run rest → 0 < length run
 digits_run c bytes [] rest more e h s =
     let ends : is_ascii_digit c ≡ false = subst (Ends is_ascii_digit) (sym s.whole ∙ e) s.ends in
     absurd (both_ways (is_ascii_digit c) ends h)
 digits_run c bytes (d ∷ run) rest more e h s = omega arith
 
-pub digits-split : (c : ℕ) (bytes run rest : List ℕ) → BeginsWith c bytes → is_ascii_digit c ≡ true → SplitsRun is_ascii_digit bytes run rest → 0 < length run
+pub digits-split : (c : ℕ) (bytes run rest : List ℕ) → BeginsWith c bytes → is_ascii_digit c ≡ true →
+    SplitsRun is_ascii_digit bytes run rest → 0 < length run
 digits-split c bytes run rest b h s = digits_run c bytes run rest b.0 (BeginsWith-ascii c bytes b (is_ascii_digit-ascii c h)) h s
 
 pub word_in_range : (x : Lexeme) → lexeme_class x ≡ 2 → IsInRange x

@@ -23,7 +23,8 @@ bytes_eq-other t u h =
     false_from_ne_true (bytes_eq u t) (λ e. both_ways (bytes_eq t u) h ((bytes_eq-Decides t u).1 (sym ((bytes_eq-Decides u t).0 e))))
 
 -- taking another name out leaves this one
-list_any-without : (t u : List ℕ) → bytes_eq t u ≡ false → (xs : List (List ℕ)) → list_any (bytes_eq t) (filter (λ other. not (bytes_eq u other)) xs) ≡ list_any (bytes_eq t) xs
+list_any-without : (t u : List ℕ) → bytes_eq t u ≡ false → (xs : List (List ℕ)) →
+    list_any (bytes_eq t) (filter (λ other. not (bytes_eq u other)) xs) ≡ list_any (bytes_eq t) xs
 list_any-without t u h [] = refl
 list_any-without t u h (x ∷ xs) =
     elim (cases_Bool (bytes_eq u x)) [
@@ -34,7 +35,8 @@ list_any-without t u h (x ∷ xs) =
     ]
 
 -- one more text
-has_more : (ts : List (List ℕ)) (t u : List ℕ) → bytes_eq t u ≡ false → list_any (bytes_eq t) (u ∷ filter (λ other. not (bytes_eq u other)) (first_appearances ts)) ≡ has_name (first_appearances ts) t
+has_more : (ts : List (List ℕ)) (t u : List ℕ) → bytes_eq t u ≡ false →
+    list_any (bytes_eq t) (u ∷ filter (λ other. not (bytes_eq u other)) (first_appearances ts)) ≡ has_name (first_appearances ts) t
 has_more ts t u h = rw h (list_any-without t u h (first_appearances ts))
 
 pub first_appearances-push : (ts : List (List ℕ)) (t : List ℕ) → first_appearances (ts ++ t ∷ []) ≡ with_name (first_appearances ts) t
@@ -44,10 +46,19 @@ first_appearances-push (u ∷ ts) t =
     ap (λ (names : List (List ℕ)). u ∷ without names) (first_appearances-push ts t) ∙ (elim (cases_Bool (bytes_eq t u)) [
       | inl e ↦
           let back : bytes_eq u t ≡ true = (bytes_eq-Decides u t).1 (sym ((bytes_eq-Decides t u).0 e)) in
-          rw e (cond_both (has_name (first_appearances ts) t) (first_appearances ts) (first_appearances ts ++ t ∷ []) (λ names. u ∷ without names ≡ u ∷ without (first_appearances ts)) (λ _. refl) (λ _. ap (λ (names : List (List ℕ)). u ∷ names) (filter-append (λ other. not (bytes_eq u other)) (first_appearances ts) (t ∷ []) ∙ rw back (append-nil (without (first_appearances ts))))))
+          rw e (cond_both (has_name (first_appearances ts) t) (first_appearances ts) (first_appearances ts ++ t ∷ [])
+              (λ names. u ∷ without names ≡ u ∷ without (first_appearances ts)) (λ _. refl)
+              (λ _. ap (λ (names : List (List ℕ)). u ∷ names)
+              (filter-append (λ other. not (bytes_eq u other)) (first_appearances ts) (t ∷ []) ∙ rw back
+              (append-nil (without (first_appearances ts))))))
       | inr e ↦
           let back : bytes_eq u t ≡ false = bytes_eq-other t u e in
-          cond_both (has_name (first_appearances ts) t) (first_appearances ts) (first_appearances ts ++ t ∷ []) (λ names. u ∷ without names ≡ with_name (u ∷ without (first_appearances ts)) t) (λ h. sym (cond-true (has_name (u ∷ without (first_appearances ts)) t) _ _ (has_more ts t u e ∙ h))) (λ h. ap (λ (names : List (List ℕ)). u ∷ names) (filter-append (λ other. not (bytes_eq u other)) (first_appearances ts) (t ∷ []) ∙ rw back refl) ∙ sym (cond-false (has_name (u ∷ without (first_appearances ts)) t) _ _ (has_more ts t u e ∙ h)))
+          cond_both (has_name (first_appearances ts) t) (first_appearances ts) (first_appearances ts ++ t ∷ [])
+              (λ names. u ∷ without names ≡ with_name (u ∷ without (first_appearances ts)) t)
+              (λ h. sym (cond-true (has_name (u ∷ without (first_appearances ts)) t) _ _ (has_more ts t u e ∙ h)))
+              (λ h. ap (λ (names : List (List ℕ)). u ∷ names)
+              (filter-append (λ other. not (bytes_eq u other)) (first_appearances ts) (t ∷ []) ∙ rw back refl) ∙ sym
+              (cond-false (has_name (u ∷ without (first_appearances ts)) t) _ _ (has_more ts t u e ∙ h)))
     ])
 
 name_more : (ts : List (List ℕ)) (x : Lexeme) → first_appearances (ts ++ cons_option (name_in x) []) ≡ with_lexeme (first_appearances ts) x
@@ -57,7 +68,8 @@ name_more ts _ = ap first_appearances (append-nil ts)
 
 pub names_of-push : (xs : List Placed) (x : Placed) → names_of (xs ++ x ∷ []) ≡ with_lexeme (names_of xs) x.lexeme
 names_of-push xs x =
-    ap first_appearances (filter_map-append (λ (p : Placed). name_in p.lexeme) xs (x ∷ [])) ∙ name_more (filter_map (λ (p : Placed). name_in p.lexeme) xs) x.lexeme
+    ap first_appearances (filter_map-append (λ (p : Placed). name_in p.lexeme) xs (x ∷ [])) ∙ name_more
+        (filter_map (λ (p : Placed). name_in p.lexeme) xs) x.lexeme
 
 -- a name that is there keeps its number as the table grows
 number_of-grown : (names more : List (List ℕ)) (t : List ℕ) → has_name names t ≡ true → number_of (names ++ more) t ≡ number_of names t
@@ -70,15 +82,18 @@ number_of-grown (n ∷ names) more t h =
 
 number_of-with : (names : List (List ℕ)) (u t : List ℕ) → has_name names t ≡ true → number_of (with_name names u) t ≡ number_of names t
 number_of-with names u t h =
-    cond_both (has_name names u) names (names ++ u ∷ []) (λ ns. number_of ns t ≡ number_of names t) (λ _. refl) (λ _. number_of-grown names (u ∷ []) t h)
+    cond_both (has_name names u) names (names ++ u ∷ []) (λ ns. number_of ns t ≡ number_of names t) (λ _. refl)
+        (λ _. number_of-grown names (u ∷ []) t h)
 
 has_name-with : (names : List (List ℕ)) (u t : List ℕ) → has_name names t ≡ true → has_name (with_name names u) t ≡ true
 has_name-with names u t h =
-    cond_both (has_name names u) names (names ++ u ∷ []) (λ ns. has_name ns t ≡ true) (λ _. h) (λ _. list_any-append (bytes_eq t) names (u ∷ []) ∙ or_left (has_name names t) _ h)
+    cond_both (has_name names u) names (names ++ u ∷ []) (λ ns. has_name ns t ≡ true) (λ _. h)
+        (λ _. list_any-append (bytes_eq t) names (u ∷ []) ∙ or_left (has_name names t) _ h)
 
 has_name-new : (names : List (List ℕ)) (t : List ℕ) → has_name (with_name names t) t ≡ true
 has_name-new names t =
-    cond_both (has_name names t) names (names ++ t ∷ []) (λ ns. has_name ns t ≡ true) (λ h. h) (λ _. list_any-append (bytes_eq t) names (t ∷ []) ∙ or_right (has_name names t) _ (or_left (bytes_eq t t) false (bytes_eq-same t)))
+    cond_both (has_name names t) names (names ++ t ∷ []) (λ ns. has_name ns t ≡ true) (λ h. h)
+        (λ _. list_any-append (bytes_eq t) names (t ∷ []) ∙ or_right (has_name names t) _ (or_left (bytes_eq t t) false (bytes_eq-same t)))
 
 -- the names among the lexemes are in the table
 abbrev pub IsNamed : List (List ℕ) → Lexeme → Type 0
@@ -97,7 +112,8 @@ IsNamed-new names _ = tt
 abbrev pub AreNamed : List (List ℕ) → List Placed → Type 0
 AreNamed names xs = AllByRecursion (λ (x : Placed). IsNamed names x.lexeme) xs
 
-pub AreNamed-push : (names : List (List ℕ)) (xs : List Placed) (x : Placed) → AreNamed names xs → AreNamed (with_lexeme names x.lexeme) (xs ++ x ∷ [])
+pub AreNamed-push : (names : List (List ℕ)) (xs : List Placed) (x : Placed) → AreNamed names xs →
+    AreNamed (with_lexeme names x.lexeme) (xs ++ x ∷ [])
 AreNamed-push names [] x h = (IsNamed-new names x.lexeme, tt)
 AreNamed-push names (y ∷ ys) x h = (IsNamed-with names x.lexeme y.lexeme h.0, AreNamed-push names ys x h.1)
 
@@ -107,14 +123,19 @@ kind_of-with names (Identifier text) (Identifier other) h = ap (λ n. Some (kind
 kind_of-with names _ (Identifier other) h = refl
 kind_of-with names _ _ h = refl
 
-tokens_of-with : (names : List (List ℕ)) (y : Lexeme) (xs : List Placed) → AreNamed names xs → tokens_of (with_lexeme names y) xs ≡ tokens_of names xs
+tokens_of-with : (names : List (List ℕ)) (y : Lexeme) (xs : List Placed) → AreNamed names xs →
+    tokens_of (with_lexeme names y) xs ≡ tokens_of names xs
 tokens_of-with names y [] h = refl
 tokens_of-with names y (x ∷ xs) h =
-    ap (λ (k : Option TokenKind). cons_option (option_map (λ e. record { kind = e; place = x.place }) k) (tokens_of (with_lexeme names y) xs)) (kind_of-with names y x.lexeme h.0) ∙ ap (cons_option (token_of names x)) (tokens_of-with names y xs h.1)
+    ap (λ (k : Option TokenKind). cons_option (option_map (λ e. record { kind = e; place = x.place }) k)
+        (tokens_of (with_lexeme names y) xs)) (kind_of-with names y x.lexeme h.0) ∙ ap (cons_option (token_of names x))
+        (tokens_of-with names y xs h.1)
 
-pub tokens_of-push : (names : List (List ℕ)) (xs : List Placed) (x : Placed) → AreNamed names xs → tokens_of (with_lexeme names x.lexeme) (xs ++ x ∷ []) ≡ tokens_of names xs ++ cons_option (token_of (with_lexeme names x.lexeme) x) []
+pub tokens_of-push : (names : List (List ℕ)) (xs : List Placed) (x : Placed) → AreNamed names xs →
+    tokens_of (with_lexeme names x.lexeme) (xs ++ x ∷ []) ≡ tokens_of names xs ++ cons_option (token_of (with_lexeme names x.lexeme) x) []
 tokens_of-push names xs x h =
-    filter_map-append (token_of (with_lexeme names x.lexeme)) xs (x ∷ []) ∙ ap (λ (ts : List Token). ts ++ cons_option (token_of (with_lexeme names x.lexeme) x) []) (tokens_of-with names x.lexeme xs h)
+    filter_map-append (token_of (with_lexeme names x.lexeme)) xs (x ∷ []) ∙ ap
+        (λ (ts : List Token). ts ++ cons_option (token_of (with_lexeme names x.lexeme) x) []) (tokens_of-with names x.lexeme xs h)
 
 -- the table has all names
 first_appearances-has : (ts : List (List ℕ)) (t : List ℕ) → list_any (bytes_eq t) ts ≡ true → has_name (first_appearances ts) t ≡ true
@@ -122,18 +143,25 @@ first_appearances-has [] t h = h
 first_appearances-has (u ∷ ts) t h =
     elim (cases_Bool (bytes_eq t u)) [
       | inl e ↦ or_left (bytes_eq t u) _ e
-      | inr e ↦ has_more ts t u e ∙ first_appearances-has ts t (elim (or_cases (bytes_eq t u) (list_any (bytes_eq t) ts) h) [ inl w ↦ absurd (both_ways (bytes_eq t u) e w) | inr w ↦ w ])
+      | inr e ↦ has_more ts t u e ∙ first_appearances-has ts t
+          (elim (or_cases (bytes_eq t u) (list_any (bytes_eq t) ts) h) [ inl w ↦ absurd (both_ways (bytes_eq t u) e w) | inr w ↦ w ])
     ]
 
-AreNamed-all : (names : List (List ℕ)) (xs : List Placed) → ((t : List ℕ) → list_any (bytes_eq t) (filter_map (λ (x : Placed). name_in x.lexeme) xs) ≡ true → has_name names t ≡ true) → AreNamed names xs
+AreNamed-all : (names : List (List ℕ)) (xs : List Placed) →
+    ((t : List ℕ) → list_any (bytes_eq t) (filter_map (λ (x : Placed). name_in x.lexeme) xs) ≡ true → has_name names t ≡ true) →
+    AreNamed names xs
 AreNamed-all names [] h = tt
-AreNamed-all names (x ∷ xs) h = (head_named x.lexeme (filter_map (λ (y : Placed). name_in y.lexeme) xs) h, AreNamed-all names xs (λ t e. h t (tail_named x.lexeme (filter_map (λ (y : Placed). name_in y.lexeme) xs) t e)))
+AreNamed-all names (x ∷ xs) h =
+    (head_named x.lexeme (filter_map (λ (y : Placed). name_in y.lexeme) xs) h, AreNamed-all names xs
+        (λ t e. h t (tail_named x.lexeme (filter_map (λ (y : Placed). name_in y.lexeme) xs) t e)))
   where
-    head_named : (x : Lexeme) (ts : List (List ℕ)) → ((t : List ℕ) → list_any (bytes_eq t) (cons_option (name_in x) ts) ≡ true → has_name names t ≡ true) → IsNamed names x
+    head_named : (x : Lexeme) (ts : List (List ℕ)) →
+        ((t : List ℕ) → list_any (bytes_eq t) (cons_option (name_in x) ts) ≡ true → has_name names t ≡ true) → IsNamed names x
     head_named (Identifier text) ts h = h text (or_left (bytes_eq text text) _ (bytes_eq-same text))
     head_named _ ts h = tt
 
-    tail_named : (x : Lexeme) (ts : List (List ℕ)) (t : List ℕ) → list_any (bytes_eq t) ts ≡ true → list_any (bytes_eq t) (cons_option (name_in x) ts) ≡ true
+    tail_named : (x : Lexeme) (ts : List (List ℕ)) (t : List ℕ) → list_any (bytes_eq t) ts ≡ true →
+        list_any (bytes_eq t) (cons_option (name_in x) ts) ≡ true
     tail_named (Identifier text) ts t e = or_right (bytes_eq t text) _ e
     tail_named _ ts t e = e
 
@@ -146,12 +174,14 @@ without_all u [] = tt
 without_all u (x ∷ xs) =
     elim (cases_Bool (bytes_eq u x)) [ inl e ↦ rw e (without_all u xs) | inr e ↦ rw e (e, without_all u xs) ]
 
-All-without : (u : List ℕ) (P : List ℕ → Type 0) (xs : List (List ℕ)) → AllByRecursion P xs → AllByRecursion P (filter (λ other. not (bytes_eq u other)) xs)
+All-without : (u : List ℕ) (P : List ℕ → Type 0) (xs : List (List ℕ)) → AllByRecursion P xs →
+    AllByRecursion P (filter (λ other. not (bytes_eq u other)) xs)
 All-without u P [] h = tt
 All-without u P (x ∷ xs) h =
     elim (cases_Bool (bytes_eq u x)) [ inl e ↦ rw e (All-without u P xs h.1) | inr e ↦ rw e (h.0, All-without u P xs h.1) ]
 
-IsDistinct-without : (u : List ℕ) (xs : List (List ℕ)) → IsDistinct bytes_eq xs → IsDistinct bytes_eq (filter (λ other. not (bytes_eq u other)) xs)
+IsDistinct-without : (u : List ℕ) (xs : List (List ℕ)) → IsDistinct bytes_eq xs →
+    IsDistinct bytes_eq (filter (λ other. not (bytes_eq u other)) xs)
 unfolding IsDistinct
 IsDistinct-without u [] h = tt
 IsDistinct-without u (x ∷ xs) h =
@@ -167,16 +197,21 @@ IsDistinct-first_appearances (u ∷ ts) =
     (without_all u (first_appearances ts), IsDistinct-without u (first_appearances ts) (IsDistinct-first_appearances ts))
 
 -- what holds of the lexemes holds of the tokens
-one_token : (Q : Token → Type 0) (place : ℕ) (k : Option TokenKind) (ts : List Token) → ((kind : TokenKind) → k ≡ Some kind → Q (record { kind = kind; place = place })) → AllByRecursion Q ts → AllByRecursion Q (cons_option (option_map (λ e. record { kind = e; place = place }) k) ts)
+one_token : (Q : Token → Type 0) (place : ℕ) (k : Option TokenKind) (ts : List Token) →
+    ((kind : TokenKind) → k ≡ Some kind → Q (record { kind = kind; place = place })) → AllByRecursion Q ts →
+    AllByRecursion Q (cons_option (option_map (λ e. record { kind = e; place = place }) k) ts)
 one_token Q place None ts step h = h
 one_token Q place (Some kind) ts step h = (step kind refl, h)
 
-tokens_of-each : (P : Placed → Type 0) (Q : Token → Type 0) (names : List (List ℕ)) → ((x : Placed) (kind : TokenKind) → P x → kind_of names x.lexeme ≡ Some kind → Q (record { kind = kind; place = x.place })) → (xs : List Placed) → AllByRecursion P xs → AllByRecursion Q (tokens_of names xs)
+tokens_of-each : (P : Placed → Type 0) (Q : Token → Type 0) (names : List (List ℕ)) →
+    ((x : Placed) (kind : TokenKind) → P x → kind_of names x.lexeme ≡ Some kind → Q (record { kind = kind; place = x.place })) →
+    (xs : List Placed) → AllByRecursion P xs → AllByRecursion Q (tokens_of names xs)
 tokens_of-each P Q names step [] h = tt
 tokens_of-each P Q names step (x ∷ xs) h =
     one_token Q x.place (kind_of names x.lexeme) (tokens_of names xs) (λ kind e. step x kind h.0 e) (tokens_of-each P Q names step xs h.1)
 
-numbered_kind : (names : List (List ℕ)) (x : Lexeme) (kind : TokenKind) → IsNamed names x → kind_of names x ≡ Some kind → IsNumbered names kind
+numbered_kind : (names : List (List ℕ)) (x : Lexeme) (kind : TokenKind) → IsNamed names x → kind_of names x ≡ Some kind →
+    IsNumbered names kind
 numbered_kind names (Identifier text) kind h e =
     subst (IsNumbered names) (same_Some _ _ e) (number_of-lt names text h)
 numbered_kind names (Numeral value) kind h e = subst (IsNumbered names) (same_Some _ _ e) tt
@@ -187,9 +222,11 @@ numbered_kind names _ kind h e = cc
 pub IsNumbered-tokens_of : (xs : List Placed) → All (λ (token : Token). IsNumbered (names_of xs) token.kind) (tokens_of (names_of xs) xs)
 IsNumbered-tokens_of xs =
     All-from_recursion (λ (token : Token). IsNumbered (names_of xs) token.kind) (tokens_of (names_of xs) xs)
-    (tokens_of-each (λ (x : Placed). IsNamed (names_of xs) x.lexeme) (λ (token : Token). IsNumbered (names_of xs) token.kind) (names_of xs) (λ x kind h e. numbered_kind (names_of xs) x.lexeme kind h e) xs (AreNamed-names_of xs))
+    (tokens_of-each (λ (x : Placed). IsNamed (names_of xs) x.lexeme) (λ (token : Token). IsNumbered (names_of xs) token.kind) (names_of xs)
+        (λ x kind h e. numbered_kind (names_of xs) x.lexeme kind h e) xs (AreNamed-names_of xs))
 
-pub all_tokens_of : (P : ℕ → Type 0) (names : List (List ℕ)) (xs : List Placed) → AllByRecursion (λ (x : Placed). P x.place) xs → AllByRecursion (λ (token : Token). P token.place) (tokens_of names xs)
+pub all_tokens_of : (P : ℕ → Type 0) (names : List (List ℕ)) (xs : List Placed) → AllByRecursion (λ (x : Placed). P x.place) xs →
+    AllByRecursion (λ (token : Token). P token.place) (tokens_of names xs)
 all_tokens_of P names xs h =
     tokens_of-each (λ (x : Placed). P x.place) (λ (token : Token). P token.place) names (λ x kind p e. p) xs h
 
@@ -198,7 +235,9 @@ abbrev pub AreAscending : List Placed → Type 0
 AreAscending [] = Unit {0}
 AreAscending (x ∷ xs) = AllByRecursion (λ (other : Placed). x.place < other.place) xs × AreAscending xs
 
-one_ascending : (names : List (List ℕ)) (x : Placed) (k : Option TokenKind) (xs : List Placed) → AllByRecursion (λ (other : Placed). x.place < other.place) xs → IsAscending (tokens_of names xs) → IsAscending (cons_option (option_map (λ e. record { kind = e; place = x.place }) k) (tokens_of names xs))
+one_ascending : (names : List (List ℕ)) (x : Placed) (k : Option TokenKind) (xs : List Placed) →
+    AllByRecursion (λ (other : Placed). x.place < other.place) xs → IsAscending (tokens_of names xs) →
+    IsAscending (cons_option (option_map (λ e. record { kind = e; place = x.place }) k) (tokens_of names xs))
 one_ascending names x None xs h rest = rest
 one_ascending names x (Some kind) xs h rest = (all_tokens_of (λ n. x.place < n) names xs h, rest)
 

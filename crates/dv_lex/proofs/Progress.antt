@@ -36,10 +36,14 @@ pub record HasRead (text : List ℕ) (names : List (List ℕ)) (tokens : List To
 
 length-with_lexeme : (names : List (List ℕ)) (x : Lexeme) → length (with_lexeme names x) ≤ length names + 1
 length-with_lexeme names (Identifier text) =
-    cond_both (has_name names text) names (names ++ text ∷ []) (λ ns. length ns ≤ length names + 1) (λ _. omega arith) (λ _. omega (arith, length_push names text))
+    cond_both (has_name names text) names (names ++ text ∷ []) (λ ns. length ns ≤ length names + 1) (λ _. omega arith)
+        (λ _. omega (arith, length_push names text))
 length-with_lexeme names _ = omega arith
 
-HasRead-more : (text : List ℕ) (names : List (List ℕ)) (tokens : List Token) (rest : List ℕ) → HasRead text names tokens rest → (x : Lexeme) (front after : List ℕ) → IsInRange x → IsFirst rest x front after → HasRead text (with_lexeme names x) (tokens ++ cons_option (token_of (with_lexeme names x) (record { lexeme = x; place = place_of text rest })) []) after
+HasRead-more : (text : List ℕ) (names : List (List ℕ)) (tokens : List Token) (rest : List ℕ) → HasRead text names tokens rest →
+    (x : Lexeme) (front after : List ℕ) → IsInRange x → IsFirst rest x front after →
+    HasRead text (with_lexeme names x)
+        (tokens ++ cons_option (token_of (with_lexeme names x) (record { lexeme = x; place = place_of text rest })) []) after
 HasRead-more text names tokens rest h x front after range f =
     let place : ℕ = place_of text rest in
     let placed : Placed = record { lexeme = x; place = place } in
@@ -48,60 +52,82 @@ HasRead-more text names tokens rest h x front after range f =
     let next : place + length front ≡ place_of text after = omega (arith, h.few_names) in
     record {
       lexemes = h.lexemes ++ placed ∷ [];
-      reads = subst (λ n. Reads 0 text (h.lexemes ++ placed ∷ []) n after) next (Reads-push 0 text h.lexemes place rest h.reads placed front after refl range f);
+      reads =
+          subst (λ n. Reads 0 text (h.lexemes ++ placed ∷ []) n after) next
+              (Reads-push 0 text h.lexemes place rest h.reads placed front after refl range f);
       table = ap (λ (ns : List (List ℕ)). with_lexeme ns x) h.table ∙ sym (names_of-push h.lexemes placed);
       named = AreNamed-push names h.lexemes placed h.named;
-      numbered = ap (λ (ts : List Token). ts ++ cons_option (token_of (with_lexeme names x) placed) []) h.numbered ∙ sym (tokens_of-push names h.lexemes placed h.named);
+      numbered =
+          ap (λ (ts : List Token). ts ++ cons_option (token_of (with_lexeme names x) placed) []) h.numbered
+          ∙ sym (tokens_of-push names h.lexemes placed h.named);
       few_names = omega (arith, h.few_names, length-with_lexeme names x);
       utf8 = IsUtf8-behind_first rest x front after h.utf8 f;
     }
 
 -- a blank or a comment
-pub HasRead-blank : (text : List ℕ) (names : List (List ℕ)) (tokens : List Token) (rest : List ℕ) → HasRead text names tokens rest → (front after : List ℕ) → IsFirst rest Blank front after → HasRead text names tokens after
+pub HasRead-blank : (text : List ℕ) (names : List (List ℕ)) (tokens : List Token) (rest : List ℕ) → HasRead text names tokens rest →
+    (front after : List ℕ) → IsFirst rest Blank front after → HasRead text names tokens after
 HasRead-blank text names tokens rest h front after f =
-    subst (λ (ts : List Token). HasRead text names ts after) (append-nil tokens) (HasRead-more text names tokens rest h Blank front after tt f)
+    subst (λ (ts : List Token). HasRead text names ts after) (append-nil tokens)
+        (HasRead-more text names tokens rest h Blank front after tt f)
 
-pub HasRead-comment : (text : List ℕ) (names : List (List ℕ)) (tokens : List Token) (rest : List ℕ) → HasRead text names tokens rest → (front after : List ℕ) → IsFirst rest Comment front after → HasRead text names tokens after
+pub HasRead-comment : (text : List ℕ) (names : List (List ℕ)) (tokens : List Token) (rest : List ℕ) → HasRead text names tokens rest →
+    (front after : List ℕ) → IsFirst rest Comment front after → HasRead text names tokens after
 HasRead-comment text names tokens rest h front after f =
-    subst (λ (ts : List Token). HasRead text names ts after) (append-nil tokens) (HasRead-more text names tokens rest h Comment front after tt f)
+    subst (λ (ts : List Token). HasRead text names ts after) (append-nil tokens)
+        (HasRead-more text names tokens rest h Comment front after tt f)
 
-same_token : (token : Token) (kind : TokenKind) (place : ℕ) → token.kind ≡ kind → token.place ≡ place → ◌≡◌ {A = Token} (record { kind = kind; place = place }) token
+same_token : (token : Token) (kind : TokenKind) (place : ℕ) → token.kind ≡ kind → token.place ≡ place →
+    ◌≡◌ {A = Token} (record { kind = kind; place = place }) token
 same_token token kind place k l = sym (λ i. record { kind = k i; place = l i })
 
-pub HasRead-token : (text : List ℕ) (names : List (List ℕ)) (tokens : List Token) (rest : List ℕ) → HasRead text names tokens rest → (new : List (List ℕ)) (token : Token) (after : List ℕ) → ReadsToken (place_of text rest) rest names new token after → HasRead text new (tokens ++ token ∷ []) after
+pub HasRead-token : (text : List ℕ) (names : List (List ℕ)) (tokens : List Token) (rest : List ℕ) → HasRead text names tokens rest →
+    (new : List (List ℕ)) (token : Token) (after : List ℕ) → ReadsToken (place_of text rest) rest names new token after →
+    HasRead text new (tokens ++ token ∷ []) after
 HasRead-token text names tokens rest h new token after r =
     let place : ℕ = place_of text rest in
     let more = HasRead-more text names tokens rest h r.lexeme r.front after r.range r.first in
-    let kind : kind_of (with_lexeme names r.lexeme) r.lexeme ≡ Some token.kind = ap (λ (ns : List (List ℕ)). kind_of ns r.lexeme) (sym r.table) ∙ r.kind in
+    let kind : kind_of (with_lexeme names r.lexeme) r.lexeme ≡ Some token.kind =
+        ap (λ (ns : List (List ℕ)). kind_of ns r.lexeme) (sym r.table) ∙ r.kind in
     let made : token_of (with_lexeme names r.lexeme) (record { lexeme = r.lexeme; place = place }) ≡ Some token =
-    ap (option_map (λ (k : TokenKind). record { kind = k; place = place })) kind ∙ ap Some (same_token token token.kind place refl r.at_place) in
+    ap (option_map (λ (k : TokenKind). record { kind = k; place = place })) kind ∙ ap Some
+        (same_token token token.kind place refl r.at_place) in
     subst (λ (ns : List (List ℕ)). HasRead text ns (tokens ++ token ∷ []) after) (sym r.table)
     (subst (λ (o : Option Token). HasRead text (with_lexeme names r.lexeme) (tokens ++ cons_option o []) after) made more)
 
 -- a blank character
-pub HasRead-blank_first : (text : List ℕ) (names : List (List ℕ)) (tokens : List Token) (rest : List ℕ) → HasRead text names tokens rest → (c : ℕ) (b : BeginsWith c rest) → is_blank c ≡ true → HasRead text names tokens b.0
+pub HasRead-blank_first : (text : List ℕ) (names : List (List ℕ)) (tokens : List Token) (rest : List ℕ) → HasRead text names tokens rest →
+    (c : ℕ) (b : BeginsWith c rest) → is_blank c ≡ true → HasRead text names tokens b.0
 HasRead-blank_first text names tokens rest h c b blank =
     let whole : rest ≡ c ∷ b.0 = BeginsWith-ascii c rest b (is_blank-ascii c blank) in
-    HasRead-blank text names tokens rest h (c ∷ []) b.0 (subst (λ (bs : List ℕ). IsFirst bs Blank (c ∷ []) b.0) (sym whole) (IsFirst-blank c b.0 blank))
+    HasRead-blank text names tokens rest h (c ∷ []) b.0
+        (subst (λ (bs : List ℕ). IsFirst bs Blank (c ∷ []) b.0) (sym whole) (IsFirst-blank c b.0 blank))
 
 -- a comment, up to the end of its line
-pub HasRead-line : (text : List ℕ) (names : List (List ℕ)) (tokens : List Token) (rest : List ℕ) → HasRead text names tokens rest → (c : ℕ) (b : BeginsWith c rest) → c ≡ 35 → (run after : List ℕ) → SplitsRun (λ b. not (b == 10)) b.0 run after → HasRead text names tokens after
+pub HasRead-line : (text : List ℕ) (names : List (List ℕ)) (tokens : List Token) (rest : List ℕ) → HasRead text names tokens rest →
+    (c : ℕ) (b : BeginsWith c rest) → c ≡ 35 → (run after : List ℕ) → SplitsRun (λ b. not (b == 10)) b.0 run after →
+    HasRead text names tokens after
 HasRead-line text names tokens rest h c b e run after s =
     let whole : rest ≡ 35 ∷ b.0 = BeginsWith-ascii c rest b (omega (arith, e)) ∙ ap (λ n. n ∷ b.0) e in
-    HasRead-comment text names tokens rest h (35 ∷ run) after (subst (λ (bs : List ℕ). IsFirst bs Comment (35 ∷ run) after) (sym whole) (IsFirst-comment b.0 run after s))
+    HasRead-comment text names tokens rest h (35 ∷ run) after
+        (subst (λ (bs : List ℕ). IsFirst bs Comment (35 ∷ run) after) (sym whole) (IsFirst-comment b.0 run after s))
 
 -- a token leaves fewer bytes
-pub ReadsToken-shorter : (place : ℕ) (rest : List ℕ) (old new : List (List ℕ)) (token : Token) (after : List ℕ) → ReadsToken place rest old new token after → length after < length rest
+pub ReadsToken-shorter : (place : ℕ) (rest : List ℕ) (old new : List (List ℕ)) (token : Token) (after : List ℕ) →
+    ReadsToken place rest old new token after → length after < length rest
 ReadsToken-shorter place rest old new token after r =
     omega (arith, some_byte r.lexeme r.front r.first.spelled, ap length r.first.whole, length-append r.front after)
 
 -- where no token begins, the text is refused
-refused_as : (text : List ℕ) (place : ℕ) (rest : List ℕ) → ReadsUpTo text place rest → 0 < length rest → (number : RefusalNumber) → IsNoToken rest number → IsRefusedAs text number place
+refused_as : (text : List ℕ) (place : ℕ) (rest : List ℕ) → ReadsUpTo text place rest → 0 < length rest → (number : RefusalNumber) →
+    IsNoToken rest number → IsRefusedAs text number place
 refused_as text place rest r more E2 none = (rest, r, more, none)
 refused_as text place rest r more E3 large = (rest, r, large)
 refused_as text place rest r more _ h = absurd h
 
-pub refused_there : (text : List ℕ) (names : List (List ℕ)) (tokens : List Token) (rest : List ℕ) → IsReadable text → HasRead text names tokens rest → (c : ℕ) → BeginsWith c rest → (r : Refusal) → (r.place ≡ place_of text rest) × IsNoToken rest r.number → IsRefused text r
+pub refused_there : (text : List ℕ) (names : List (List ℕ)) (tokens : List Token) (rest : List ℕ) → IsReadable text →
+    HasRead text names tokens rest → (c : ℕ) → BeginsWith c rest → (r : Refusal) →
+    (r.place ≡ place_of text rest) × IsNoToken rest r.number → IsRefused text r
 refused_there text names tokens rest readable h c b r was =
     let up_to : ReadsUpTo text r.place rest =
     record { readable = readable; lexemes = h.lexemes; reads = subst (λ n. Reads 0 text h.lexemes n rest) (sym was.0) h.reads } in

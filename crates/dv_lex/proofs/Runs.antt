@@ -31,7 +31,8 @@ SplitsRun-cut p xs n e =
     (record { whole = sym (take-append-drop (prefix_len p xs) xs); each = list_all-front p xs; ends = Ends-rest p xs })
 
 -- no longer front passes
-pub run_longest : (p : ℕ → Bool) (run rest longer more : List ℕ) → Ends p rest → run ++ rest ≡ longer ++ more → list_all p longer ≡ true → length longer ≤ length run
+pub run_longest : (p : ℕ → Bool) (run rest longer more : List ℕ) → Ends p rest → run ++ rest ≡ longer ++ more → list_all p longer ≡ true →
+    length longer ≤ length run
 run_longest p run rest [] more h e q = omega arith
 run_longest p [] [] (c ∷ longer) more h e q = cc
 run_longest p [] (b ∷ rest) (c ∷ longer) more h e q = let t = and_parts (p c) (list_all p longer) q in cc

@@ -132,16 +132,19 @@ pub IsUtf8-behind_symbol : (text : List ℕ) (s : Symbol) (rest : List ℕ) → 
 IsUtf8-behind_symbol text s rest u e = IsUtf8-behind_ascii (symbol_text s) rest (IsAscii-symbol s) (subst IsUtf8 e u)
 
 -- a text may be cut behind a symbol
-boundary_behind : (text : List ℕ) (s : Symbol) (n : ℕ) → IsUtf8 text → n ≤ length text → text ≡ symbol_text s ++ drop n text → IsCharBoundary text n
+boundary_behind : (text : List ℕ) (s : Symbol) (n : ℕ) → IsUtf8 text → n ≤ length text → text ≡ symbol_text s ++ drop n text →
+    IsCharBoundary text n
 boundary_behind text s n u more e = IsCharBoundary-from_drop text n more (IsUtf8-behind_symbol text s (drop n text) u e)
 
-pub IsCharBoundary-double : (text : List ℕ) (s : Symbol) → IsUtf8 text → 2 ≤ length text → symbol_text s ≡ get_or text 0 0 ∷ get_or text 1 0 ∷ [] → IsCharBoundary text 2
+pub IsCharBoundary-double : (text : List ℕ) (s : Symbol) → IsUtf8 text → 2 ≤ length text →
+    symbol_text s ≡ get_or text 0 0 ∷ get_or text 1 0 ∷ [] → IsCharBoundary text 2
 IsCharBoundary-double [] s u more e = absurd (omega arith)
 IsCharBoundary-double (a ∷ []) s u more e = absurd (omega arith)
 IsCharBoundary-double (a ∷ b ∷ rest) s u more e =
     boundary_behind (a ∷ b ∷ rest) s 2 u more (ap (λ (bs : List ℕ). bs ++ rest) (sym e))
 
-pub IsCharBoundary-single : (text : List ℕ) (s : Symbol) → IsUtf8 text → 1 ≤ length text → symbol_text s ≡ get_or text 0 0 ∷ [] → IsCharBoundary text 1
+pub IsCharBoundary-single : (text : List ℕ) (s : Symbol) → IsUtf8 text → 1 ≤ length text → symbol_text s ≡ get_or text 0 0 ∷ [] →
+    IsCharBoundary text 1
 IsCharBoundary-single [] s u more e = absurd (omega arith)
 IsCharBoundary-single (a ∷ rest) s u more e = boundary_behind (a ∷ rest) s 1 u more (ap (λ (bs : List ℕ). bs ++ rest) (sym e))
 
@@ -189,13 +192,15 @@ first_class (Reserved word) bytes h = word_first bytes (IsWord-spelled (Reserved
 first_class (Sign s) bytes h = sign_first bytes (ap sign_test h ∙ symbol_text-sign s)
 
 -- all lexemes that begin the bytes are of the class of the first character
-pub class_at : (c : ℕ) (bytes : List ℕ) → BeginsWith c bytes → (x : Lexeme) (front rest : List ℕ) → bytes ≡ front ++ rest → Spells x front → class_of c ≡ lexeme_class x
+pub class_at : (c : ℕ) (bytes : List ℕ) → BeginsWith c bytes → (x : Lexeme) (front rest : List ℕ) → bytes ≡ front ++ rest →
+    Spells x front → class_of c ≡ lexeme_class x
 class_at c bytes b x front rest e h =
     let f = first_class x front h in
     let begins : BeginsWith f.0 bytes = subst (BeginsWith f.0) (sym e) (BeginsWith-append f.0 front rest f.1) in
     ap class_of (same_first c f.0 bytes b begins) ∙ f.2
 
-pub same_class : (bytes : List ℕ) (x y : Lexeme) (front rest other more : List ℕ) → bytes ≡ front ++ rest → bytes ≡ other ++ more → Spells x front → Spells y other → lexeme_class x ≡ lexeme_class y
+pub same_class : (bytes : List ℕ) (x y : Lexeme) (front rest other more : List ℕ) → bytes ≡ front ++ rest → bytes ≡ other ++ more →
+    Spells x front → Spells y other → lexeme_class x ≡ lexeme_class y
 same_class bytes x y front rest other more e f h t =
     let g = first_class x front h in
     let begins : BeginsWith g.0 bytes = subst (BeginsWith g.0) (sym e) (BeginsWith-append g.0 front rest g.1) in
@@ -213,10 +218,12 @@ not_Spells-empty x h = let f = first_class x [] h in not_begun f.0 f.1
 
 -- no two keywords and no two symbols have one text: the first of all that has it is found again
 abbrev pub keywords : List Keyword
-keywords = keyword.Atomic ∷ keyword.Coupled ∷ keyword.Root ∷ keyword.In ∷ keyword.Out ∷ keyword.Var ∷ keyword.Flag ∷ keyword.Bag ∷ keyword.Phases ∷ keyword.Start ∷ keyword.Hold ∷ keyword.Forever ∷ keyword.Output ∷ keyword.Internal ∷ keyword.External ∷ keyword.Confluent ∷ keyword.Part ∷ keyword.Link ∷ keyword.Itself ∷ keyword.If ∷ keyword.Else ∷ keyword.For ∷ keyword.Add ∷ keyword.To ∷ keyword.Drop ∷ keyword.From ∷ keyword.Send ∷ keyword.Goto ∷ keyword.True ∷ keyword.False ∷ keyword.Not ∷ keyword.And ∷ keyword.Or ∷ keyword.Elapsed ∷ keyword.Size ∷ keyword.Sum ∷ keyword.Least ∷ keyword.Most ∷ keyword.Times ∷ []
+keywords =
+    keyword.Atomic ∷ keyword.Coupled ∷ keyword.Root ∷ keyword.In ∷ keyword.Out ∷ keyword.Var ∷ keyword.Flag ∷ keyword.Bag ∷ keyword.Phases ∷ keyword.Start ∷ keyword.Hold ∷ keyword.Forever ∷ keyword.Output ∷ keyword.Internal ∷ keyword.External ∷ keyword.Confluent ∷ keyword.Part ∷ keyword.Link ∷ keyword.Itself ∷ keyword.If ∷ keyword.Else ∷ keyword.For ∷ keyword.Add ∷ keyword.To ∷ keyword.Drop ∷ keyword.From ∷ keyword.Send ∷ keyword.Goto ∷ keyword.True ∷ keyword.False ∷ keyword.Not ∷ keyword.And ∷ keyword.Or ∷ keyword.Elapsed ∷ keyword.Size ∷ keyword.Sum ∷ keyword.Least ∷ keyword.Most ∷ keyword.Times ∷ []
 
 abbrev pub symbols : List Symbol
-symbols = symbol.Assign ∷ symbol.Arrow ∷ symbol.Range ∷ symbol.Unequal ∷ symbol.AtMost ∷ symbol.AtLeast ∷ symbol.OpenBrace ∷ symbol.CloseBrace ∷ symbol.OpenParen ∷ symbol.CloseParen ∷ symbol.Semicolon ∷ symbol.Colon ∷ symbol.Comma ∷ symbol.Dot ∷ symbol.Equal ∷ symbol.Less ∷ symbol.Greater ∷ symbol.Plus ∷ symbol.Minus ∷ symbol.Star ∷ symbol.Slash ∷ symbol.Percent ∷ []
+symbols =
+    symbol.Assign ∷ symbol.Arrow ∷ symbol.Range ∷ symbol.Unequal ∷ symbol.AtMost ∷ symbol.AtLeast ∷ symbol.OpenBrace ∷ symbol.CloseBrace ∷ symbol.OpenParen ∷ symbol.CloseParen ∷ symbol.Semicolon ∷ symbol.Colon ∷ symbol.Comma ∷ symbol.Dot ∷ symbol.Equal ∷ symbol.Less ∷ symbol.Greater ∷ symbol.Plus ∷ symbol.Minus ∷ symbol.Star ∷ symbol.Slash ∷ symbol.Percent ∷ []
 
 pub keyword_at : (k : Keyword) → find (λ other. bytes_eq (keyword_text other) (keyword_text k)) keywords ≡ Some k
 keyword_at keyword.Atomic = refl

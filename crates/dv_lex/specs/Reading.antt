@@ -29,4 +29,6 @@ LargeNumberBegins bytes = (value : ℕ) × (front : List ℕ) × (rest : List �
 -- the bytes, which begin at a place, are these lexemes and then `rest`, which begins at the place `end`
 abbrev pub Reads : ℕ → List ℕ → List Placed → ℕ → List ℕ → Type 0
 Reads place bytes [] end rest = (end ≡ place) × (rest ≡ bytes)
-Reads place bytes (x ∷ xs) end rest = (x.place ≡ place) × IsInRange x.lexeme × ((front : List ℕ) × (after : List ℕ) × IsFirst bytes x.lexeme front after × Reads (place + length front) after xs end rest)
+Reads place bytes (x ∷ xs) end rest =
+    (x.place ≡ place) × IsInRange x.lexeme
+    × ((front : List ℕ) × (after : List ℕ) × IsFirst bytes x.lexeme front after × Reads (place + length front) after xs end rest)

@@ -36,7 +36,8 @@ pub record SplitsRun (passes : ℕ → Bool) (bytes run rest : List ℕ) : Type 
 -- the bytes are the symbol and then the rest, and begin with no longer symbol
 pub record IsLongestSymbol (bytes : List ℕ) (sign : Symbol) (rest : List ℕ) : Type 0 where
   pub whole : bytes ≡ symbol_text sign ++ rest
-  pub longest : (other : Symbol) (more : List ℕ) → bytes ≡ symbol_text other ++ more → length (symbol_text other) ≤ length (symbol_text sign)
+  pub longest : (other : Symbol) (more : List ℕ) → bytes ≡ symbol_text other ++ more →
+      length (symbol_text other) ≤ length (symbol_text sign)
 
 -- the table after a lexeme: a name is added, unless it is there
 abbrev pub with_lexeme : List (List ℕ) → Lexeme → List (List ℕ)

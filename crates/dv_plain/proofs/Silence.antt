@@ -40,7 +40,8 @@ bag-empty (Some port) [] h = refl
 bag-empty (Some zero) (b ∷ bags) h = (and_parts (nat_eq (size b) 0) (all_empty bags) h).0
 bag-empty (Some (suc port)) (b ∷ bags) h = bag-empty (Some port) bags (and_parts (nat_eq (size b) 0) (all_empty bags) h).1
 
-sent_from-empty : (part port : ℕ) (parts : List Instance) (sent : List (List Counts)) → IsTrue (no_values sent) → IsEmpty (sent_from part port parts sent)
+sent_from-empty : (part port : ℕ) (parts : List Instance) (sent : List (List Counts)) → IsTrue (no_values sent) →
+    IsEmpty (sent_from part port parts sent)
 sent_from-empty part port [] sent h = refl
 sent_from-empty part port (i ∷ rest) [] h = refl
 sent_from-empty part port (i ∷ rest) (bags ∷ sent) h =
@@ -49,11 +50,13 @@ sent_from-empty part port (i ∷ rest) (bags ∷ sent) h =
     (λ _. bag-empty (place_of port (scope_of i.model).outputs) bags both.0)
     (λ _. sent_from-empty part port rest sent both.1)
 
-carried-empty : (parts : List Instance) (sent : List (List Counts)) (part : Option Name) (port : ℕ) → IsTrue (no_values sent) → IsEmpty (carried parts sent part port)
+carried-empty : (parts : List Instance) (sent : List (List Counts)) (part : Option Name) (port : ℕ) → IsTrue (no_values sent) →
+    IsEmpty (carried parts sent part port)
 carried-empty parts sent None port h = refl
 carried-empty parts sent (Some part) port h = sent_from-empty part.number port parts sent h
 
-set-empty : SizesAdd → (bags : List Counts) (port : ℕ) (more : Counts) → IsTrue (all_empty bags) → IsEmpty more → IsTrue (all_empty (slice_set bags port (union (bag_at bags port) more)))
+set-empty : SizesAdd → (bags : List Counts) (port : ℕ) (more : Counts) → IsTrue (all_empty bags) → IsEmpty more →
+    IsTrue (all_empty (slice_set bags port (union (bag_at bags port) more)))
 set-empty add [] port more h g = refl
 set-empty add (b ∷ bags) zero more h g =
     let both = and_parts (nat_eq (size b) 0) (all_empty bags) h in
@@ -62,19 +65,26 @@ set-empty add (b ∷ bags) (suc port) more h g =
     let both = and_parts (nat_eq (size b) 0) (all_empty bags) h in
     and_from _ _ both.0 (set-empty add bags port more both.1 g)
 
-joined-empty : SizesAdd → (port : Option ℕ) (more : Counts) (bags : List Counts) → IsEmpty more → IsTrue (all_empty bags) → IsTrue (all_empty (joined_at port more bags))
+joined-empty : SizesAdd → (port : Option ℕ) (more : Counts) (bags : List Counts) → IsEmpty more → IsTrue (all_empty bags) →
+    IsTrue (all_empty (joined_at port more bags))
 joined-empty add None more bags g h = h
 joined-empty add (Some port) more bags g h = set-empty add bags port more h g
 
-passed_on-empty : SizesAdd → (ports : List ℕ) (parts : List Instance) (sent : List (List Counts)) (links : List Link) (bags : List Counts) → IsTrue (no_values sent) → IsTrue (all_empty bags) → IsTrue (all_empty (passed_on ports parts sent links bags))
+passed_on-empty : SizesAdd →
+    (ports : List ℕ) (parts : List Instance) (sent : List (List Counts)) (links : List Link) (bags : List Counts) →
+    IsTrue (no_values sent) → IsTrue (all_empty bags) → IsTrue (all_empty (passed_on ports parts sent links bags))
 passed_on-empty add ports parts sent [] bags none h = h
 passed_on-empty add ports parts sent (l ∷ links) bags none h =
-    passed_on-empty add ports parts sent links (joined_at (exit_of ports l.to.part l.to.port.number) (carried parts sent l.from.part l.from.port.number) bags) none
-    (joined-empty add (exit_of ports l.to.part l.to.port.number) (carried parts sent l.from.part l.from.port.number) bags (carried-empty parts sent l.from.part l.from.port.number none) h)
+    passed_on-empty add ports parts sent links
+        (joined_at (exit_of ports l.to.part l.to.port.number) (carried parts sent l.from.part l.from.port.number) bags) none
+    (joined-empty add (exit_of ports l.to.part l.to.port.number) (carried parts sent l.from.part l.from.port.number) bags
+        (carried-empty parts sent l.from.part l.from.port.number none) h)
 
 no_bags : (n : ℕ) → IsTrue (all_empty (replicate n []))
 no_bags zero = refl
 no_bags (suc n) = no_bags n
 
 pub nothing_leaves : SizesAdd → (limit : ℕ) (f : FileTree) → LeavesOnlyWhatIsSent (network_of limit f)
-nothing_leaves add limit f = passed_on-empty add (root_outputs f) (instances f) (nothing_sent (network_of limit f)) (root_links f) (replicate (length (root_outputs f)) []) (none_arrive (network_of limit f).behaviours) (no_bags (length (root_outputs f)))
+nothing_leaves add limit f =
+    passed_on-empty add (root_outputs f) (instances f) (nothing_sent (network_of limit f)) (root_links f)
+        (replicate (length (root_outputs f)) []) (none_arrive (network_of limit f).behaviours) (no_bags (length (root_outputs f)))

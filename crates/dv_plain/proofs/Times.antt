@@ -24,7 +24,8 @@ pub same_from_rank : (limit : ℕ) (t u : Time) → IsOfRun limit t → IsOfRun 
 same_from_rank limit t u h k e = sym (time_of-rank limit t h) ∙ ap (time_of limit) e ∙ time_of-rank limit u k
 
 -- when a hold that begins at a time of a run runs out
-pub end_of_hold-some : (limit : ℕ) (t : Time) (ticks : ℕ) → IsOfRun limit t → end_of_hold limit (rank limit t) (Some ticks) ≡ rank_or_fault limit (after limit t ticks)
+pub end_of_hold-some : (limit : ℕ) (t : Time) (ticks : ℕ) → IsOfRun limit t →
+    end_of_hold limit (rank limit t) (Some ticks) ≡ rank_or_fault limit (after limit t ticks)
 end_of_hold-some limit t ticks h = ap (λ (u : Time). rank_or_fault limit (after limit u ticks)) (time_of-rank limit t h)
 
 abbrev EndsInRun : ℕ → Result Time Microsteps → Type 0
@@ -46,19 +47,22 @@ pub after-in_run : (limit : ℕ) (t : Time) (ticks : ℕ) (u : Time) → after l
 after-in_run limit t ticks u e = subst (EndsInRun limit) e (ends-in_run limit t ticks)
 
 -- times of a run are the same where their ranks are
-pub same_time-rank : (limit : ℕ) (t u : Time) → IsOfRun limit t → IsOfRun limit u → (nat_eq t.tick u.tick && nat_eq t.micro u.micro) ≡ nat_eq (rank limit t) (rank limit u)
+pub same_time-rank : (limit : ℕ) (t u : Time) → IsOfRun limit t → IsOfRun limit u →
+    (nat_eq t.tick u.tick && nat_eq t.micro u.micro) ≡ nat_eq (rank limit t) (rank limit u)
 same_time-rank limit t u h k =
     elim (cases_Bool (nat_eq (rank limit t) (rank limit u))) [
       | inl e ↦
           let same = same_from_rank limit t u h k (eqb-true (rank limit t) (rank limit u) e) in
-          and_from _ _ (eq-eqb t.tick u.tick (ap (λ (v : Time). v.tick) same)) (eq-eqb t.micro u.micro (ap (λ (v : Time). v.micro) same)) ∙ sym e
+          and_from _ _ (eq-eqb t.tick u.tick (ap (λ (v : Time). v.tick) same)) (eq-eqb t.micro u.micro (ap (λ (v : Time). v.micro) same))
+              ∙ sym e
       | inr other ↦
           elim (cases_Bool (nat_eq t.tick u.tick && nat_eq t.micro u.micro)) [
             | inl both ↦
                 let parts = and_parts (nat_eq t.tick u.tick) (nat_eq t.micro u.micro) both in
                 let tick : t.tick ≡ u.tick = eqb-true t.tick u.tick parts.0 in
                 let micro : t.micro ≡ u.micro = eqb-true t.micro u.micro parts.1 in
-                absurd (eqb-false (rank limit t) (rank limit u) other (ap (λ n. n * (limit + 1) + t.micro) tick ∙ ap (λ n. u.tick * (limit + 1) + n) micro))
+                absurd (eqb-false (rank limit t) (rank limit u) other
+                    (ap (λ n. n * (limit + 1) + t.micro) tick ∙ ap (λ n. u.tick * (limit + 1) + n) micro))
             | inr apart ↦ apart ∙ sym other
           ]
     ]

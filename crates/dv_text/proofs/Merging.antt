@@ -8,7 +8,10 @@ use Rattle.dv_text.specs.Merging.{group_text, groups_before, groups_from, lines_
 use Rattle.dv_text.specs.Texts.{ComponentNames, entry_text, names_at}
 
 -- the groups before the next entry, its line, and what is left
-pub next_entry : (all : List ComponentNames) (items : List Entry) (i : ℕ) (e : Entry) (gs left : List (Time × List ℕ)) (ending : List ℕ) → i < length items → e ≡ get_or items i e → left ≡ groups_from e.time gs → lines_by_time all (drop i items) gs ++ ending ≡ groups_before e.time gs ++ (entry_text (names_at all e.component) e ++ (lines_by_time all (drop (i + 1) items) left ++ ending))
+pub next_entry : (all : List ComponentNames) (items : List Entry) (i : ℕ) (e : Entry) (gs left : List (Time × List ℕ)) (ending : List ℕ) →
+    i < length items → e ≡ get_or items i e → left ≡ groups_from e.time gs →
+    lines_by_time all (drop i items) gs ++ ending ≡ groups_before e.time gs ++
+        (entry_text (names_at all e.component) e ++ (lines_by_time all (drop (i + 1) items) left ++ ending))
 next_entry all items i e gs left ending h is from =
     let after = drop (i + 1) items in
     let text = entry_text (names_at all e.component) e in
@@ -19,5 +22,6 @@ next_entry all items i e gs left ending h is from =
     ∙ ap (λ hs. groups_before e.time gs ++ (text ++ (lines_by_time all after hs ++ ending))) (sym from)
 
 -- after the last entry the groups are left
-pub last_groups : (all : List ComponentNames) (items : List Entry) (i : ℕ) (gs : List (Time × List ℕ)) (ending : List ℕ) → length items ≤ i → lines_by_time all (drop i items) gs ++ ending ≡ flat_map group_text gs ++ ending
+pub last_groups : (all : List ComponentNames) (items : List Entry) (i : ℕ) (gs : List (Time × List ℕ)) (ending : List ℕ) →
+    length items ≤ i → lines_by_time all (drop i items) gs ++ ending ≡ flat_map group_text gs ++ ending
 last_groups all items i gs ending h = at_drop_all (λ es. lines_by_time all es gs ++ ending) items i h

@@ -29,7 +29,8 @@ TakesFront-then {a} {b} {c} {s} {t} {u} p q = record {
 
 -- what comes after it is left too
 pub TakesFront-before : {a b : Option (List ℕ)} {s t : List ℕ} (more : List ℕ) → TakesFront a b s t → TakesFront a b (s ++ more) (t ++ more)
-TakesFront-before {a} {b} {s} {t} more p = record { front = p.front; whole = ap (λ z. z ++ more) p.whole ∙ append_assoc p.front t more; appends = p.appends }
+TakesFront-before {a} {b} {s} {t} more p =
+    record { front = p.front; whole = ap (λ z. z ++ more) p.whole ∙ append_assoc p.front t more; appends = p.appends }
 
 -- all of it
 pub Appends-from_taken : {a b : Option (List ℕ)} {s : List ℕ} → TakesFront a b s [] → Appends a b s
@@ -68,11 +69,14 @@ pub some-behind : (front text : List ℕ) → 0 < length text → 0 < length (fr
 some-behind front text some = omega (arith, length-append front text)
 
 -- a beginning of a text is short of a longer one
-pub StopsShort-longer : {a b : Option (List ℕ)} {s : List ℕ} (more : List ℕ) → 0 < length more → AppendsBeginning a b s → StopsShort a b (s ++ more)
-StopsShort-longer more some p = record { rest = p.rest ++ more; takes = TakesFront-before more p.takes; more = some-behind p.rest more some }
+pub StopsShort-longer : {a b : Option (List ℕ)} {s : List ℕ} (more : List ℕ) → 0 < length more → AppendsBeginning a b s →
+    StopsShort a b (s ++ more)
+StopsShort-longer more some p =
+    record { rest = p.rest ++ more; takes = TakesFront-before more p.takes; more = some-behind p.rest more some }
 
 -- it is a beginning of a longer text too
-pub AppendsBeginning-longer : {a b : Option (List ℕ)} {s : List ℕ} (more : List ℕ) → AppendsBeginning a b s → AppendsBeginning a b (s ++ more)
+pub AppendsBeginning-longer : {a b : Option (List ℕ)} {s : List ℕ} (more : List ℕ) → AppendsBeginning a b s →
+    AppendsBeginning a b (s ++ more)
 AppendsBeginning-longer more p = record { rest = p.rest ++ more; takes = TakesFront-before more p.takes }
 
 -- the same of an equal text
@@ -89,33 +93,45 @@ apart : (line left text more : List ℕ) → left ≡ text ++ more → line ++ l
 apart line left text more e = ap (λ z. line ++ z) e ∙ sym (append_assoc line text more)
 
 -- the next text went through the line
-pub TakesFront-more : {a b c : Option (List ℕ)} {whole : List ℕ} (line line' left text more : List ℕ) → TakesFront a b whole (line ++ left) → left ≡ text ++ more → TakesFront b c (line ++ text) line' → TakesFront a c whole (line' ++ more)
-TakesFront-more line line' left text more before e next = TakesFront-then (TakesFront-left (apart line left text more e) before) (TakesFront-before more next)
+pub TakesFront-more : {a b c : Option (List ℕ)} {whole : List ℕ} (line line' left text more : List ℕ) →
+    TakesFront a b whole (line ++ left) → left ≡ text ++ more → TakesFront b c (line ++ text) line' → TakesFront a c whole (line' ++ more)
+TakesFront-more line line' left text more before e next =
+    TakesFront-then (TakesFront-left (apart line left text more e) before) (TakesFront-before more next)
 
 -- the next text was put into the line
-pub TakesFront-pushed : {a b : Option (List ℕ)} {whole : List ℕ} (line line' left text more : List ℕ) → TakesFront a b whole (line ++ left) → left ≡ text ++ more → line' ≡ line ++ text → TakesFront a b whole (line' ++ more)
-TakesFront-pushed line line' left text more before e next = TakesFront-left (apart line left text more e ∙ ap (λ z. z ++ more) (sym next)) before
+pub TakesFront-pushed : {a b : Option (List ℕ)} {whole : List ℕ} (line line' left text more : List ℕ) →
+    TakesFront a b whole (line ++ left) → left ≡ text ++ more → line' ≡ line ++ text → TakesFront a b whole (line' ++ more)
+TakesFront-pushed line line' left text more before e next =
+    TakesFront-left (apart line left text more e ∙ ap (λ z. z ++ more) (sym next)) before
 
 -- the line was handed over, where it was long
-pub TakesFront-handed : {a b c : Option (List ℕ)} {whole : List ℕ} (line line' more : List ℕ) → TakesFront a b whole (line ++ more) → TakesFront b c line line' → TakesFront a c whole (line' ++ more)
+pub TakesFront-handed : {a b c : Option (List ℕ)} {whole : List ℕ} (line line' more : List ℕ) → TakesFront a b whole (line ++ more) →
+    TakesFront b c line line' → TakesFront a c whole (line' ++ more)
 TakesFront-handed line line' more before next = TakesFront-then before (TakesFront-before more next)
 
 -- the next text failed
-pub AppendsBeginning-more : {a b c : Option (List ℕ)} {whole : List ℕ} (line left text more : List ℕ) → TakesFront a b whole (line ++ left) → left ≡ text ++ more → AppendsBeginning b c (line ++ text) → AppendsBeginning a c whole
-AppendsBeginning-more line left text more before e next = AppendsBeginning-after (TakesFront-left (apart line left text more e) before) (AppendsBeginning-longer more next)
+pub AppendsBeginning-more : {a b c : Option (List ℕ)} {whole : List ℕ} (line left text more : List ℕ) →
+    TakesFront a b whole (line ++ left) → left ≡ text ++ more → AppendsBeginning b c (line ++ text) → AppendsBeginning a c whole
+AppendsBeginning-more line left text more before e next =
+    AppendsBeginning-after (TakesFront-left (apart line left text more e) before) (AppendsBeginning-longer more next)
 
-pub AppendsBeginning-handed : {a b c : Option (List ℕ)} {whole : List ℕ} (line more : List ℕ) → TakesFront a b whole (line ++ more) → AppendsBeginning b c line → AppendsBeginning a c whole
+pub AppendsBeginning-handed : {a b c : Option (List ℕ)} {whole : List ℕ} (line more : List ℕ) → TakesFront a b whole (line ++ more) →
+    AppendsBeginning b c line → AppendsBeginning a c whole
 AppendsBeginning-handed line more before next = AppendsBeginning-after before (AppendsBeginning-longer more next)
 
 -- the next text failed, and more was to come
-pub StopsShort-more : {a b c : Option (List ℕ)} {whole : List ℕ} (line left text more : List ℕ) → TakesFront a b whole (line ++ left) → left ≡ text ++ more → 0 < length more → AppendsBeginning b c (line ++ text) → StopsShort a c whole
-StopsShort-more line left text more before e some next = StopsShort-after (TakesFront-left (apart line left text more e) before) (StopsShort-longer more some next)
+pub StopsShort-more : {a b c : Option (List ℕ)} {whole : List ℕ} (line left text more : List ℕ) → TakesFront a b whole (line ++ left) →
+    left ≡ text ++ more → 0 < length more → AppendsBeginning b c (line ++ text) → StopsShort a c whole
+StopsShort-more line left text more before e some next =
+    StopsShort-after (TakesFront-left (apart line left text more e) before) (StopsShort-longer more some next)
 
-pub StopsShort-handed : {a b c : Option (List ℕ)} {whole : List ℕ} (line more : List ℕ) → TakesFront a b whole (line ++ more) → 0 < length more → AppendsBeginning b c line → StopsShort a c whole
+pub StopsShort-handed : {a b c : Option (List ℕ)} {whole : List ℕ} (line more : List ℕ) → TakesFront a b whole (line ++ more) →
+    0 < length more → AppendsBeginning b c line → StopsShort a c whole
 StopsShort-handed line more before some next = StopsShort-after before (StopsShort-longer more some next)
 
 -- nothing is left
-pub TakesFront-rest : {a b : Option (List ℕ)} {whole : List ℕ} (line more : List ℕ) → more ≡ [] → TakesFront a b whole (line ++ more) → TakesFront a b whole line
+pub TakesFront-rest : {a b : Option (List ℕ)} {whole : List ℕ} (line more : List ℕ) → more ≡ [] → TakesFront a b whole (line ++ more) →
+    TakesFront a b whole line
 TakesFront-rest line more none before = TakesFront-left (ap (λ z. line ++ z) none ∙ append-nil line) before
 
 pub OnErr-always : {T E P : Type 0} (r : Result T E) → P → OnErr r P

@@ -9,13 +9,15 @@ use Rattle.dv_eval.specs.Scope.{place_from, place_of}
 place_from_later : (k name : ℕ) (names : List ℕ) → place_from (k + 1) name names ≡ option_map suc (place_from k name names)
 place_from_later k name [] = refl
 place_from_later k name (n ∷ names) =
-    elim (eqb n name) as (λ b. cond b (Some (k + 1)) (place_from (k + 1 + 1) name names) ≡ option_map suc (cond b (Some k) (place_from (k + 1) name names))) [
+    elim (eqb n name) as (λ b. cond b (Some (k + 1)) (place_from (k + 1 + 1) name names) ≡ option_map suc
+        (cond b (Some k) (place_from (k + 1) name names))) [
       | true ↦ ap Some (omega arith)
       | false ↦ place_from_later (k + 1) name names
     ]
 
 -- behind one name more
-pub place_of-cons : (name n : ℕ) (names : List ℕ) → place_of name (n ∷ names) ≡ cond (eqb n name) (Some 0) (option_map suc (place_of name names))
+pub place_of-cons : (name n : ℕ) (names : List ℕ) →
+    place_of name (n ∷ names) ≡ cond (eqb n name) (Some 0) (option_map suc (place_of name names))
 place_of-cons name n names = ap (λ o. cond (eqb n name) (Some 0) o) (place_from_later 0 name names)
 
 -- the first of two that there is
@@ -23,7 +25,8 @@ abbrev pub first_of : Option ℕ → Option ℕ → Option ℕ
 first_of None o = o
 first_of (Some k) o = Some k
 
-first_of-later : (b : Bool) (o p : Option ℕ) → cond b (Some 0) (option_map suc (first_of o p)) ≡ first_of (cond b (Some 0) (option_map suc o)) (option_map suc p)
+first_of-later : (b : Bool) (o p : Option ℕ) →
+    cond b (Some 0) (option_map suc (first_of o p)) ≡ first_of (cond b (Some 0) (option_map suc o)) (option_map suc p)
 first_of-later true o p = refl
 first_of-later false None p = refl
 first_of-later false (Some k) p = refl
@@ -33,7 +36,8 @@ later_at true k = refl
 later_at false k = refl
 
 -- with one name more at the end
-pub place_of-push : (name : ℕ) (names : List ℕ) (n : ℕ) → place_of name (names ++ n ∷ []) ≡ first_of (place_of name names) (cond (eqb n name) (Some (length names)) None)
+pub place_of-push : (name : ℕ) (names : List ℕ) (n : ℕ) →
+    place_of name (names ++ n ∷ []) ≡ first_of (place_of name names) (cond (eqb n name) (Some (length names)) None)
 place_of-push name [] n = refl
 place_of-push name (m ∷ names) n =
     place_of-cons name m (names ++ n ∷ [])
@@ -43,17 +47,20 @@ place_of-push name (m ∷ names) n =
     ∙ ap (first_of (place_of name (m ∷ names))) (later_at (eqb n name) (length names)))))
 
 -- with one name more of a list
-pub place_of-more : (name : ℕ) (names : List ℕ) (i : ℕ) → i < length names → place_of name (take (i + 1) names) ≡ first_of (place_of name (take i names)) (cond (eqb (get_or names i 0) name) (Some i) None)
+pub place_of-more : (name : ℕ) (names : List ℕ) (i : ℕ) → i < length names →
+    place_of name (take (i + 1) names) ≡ first_of (place_of name (take i names)) (cond (eqb (get_or names i 0) name) (Some i) None)
 place_of-more name names i within =
     ap (place_of name) (take_more names i 0 within)
     ∙ (place_of-push name (take i names) (get_or names i 0)
-    ∙ ap (λ k. first_of (place_of name (take i names)) (cond (eqb (get_or names i 0) name) (Some k) None)) (length-take-le i names (omega arith)))
+    ∙ ap (λ k. first_of (place_of name (take i names)) (cond (eqb (get_or names i 0) name) (Some k) None))
+        (length-take-le i names (omega arith)))
 
 none_from_is_some : (o : Option ℕ) → is_some o ≡ false → o ≡ None
 none_from_is_some None e = refl
 none_from_is_some (Some k) e = absurd (cc)
 
-first_new : (b : Bool) (i : ℕ) (before : Option ℕ) → (b ≡ true → is_some before ≡ false) → cond b (Some i) before ≡ first_of before (cond b (Some i) None)
+first_new : (b : Bool) (i : ℕ) (before : Option ℕ) → (b ≡ true → is_some before ≡ false) →
+    cond b (Some i) before ≡ first_of before (cond b (Some i) None)
 first_new true i before absent = ap (λ o. first_of o (Some i)) (sym (none_from_is_some before (absent refl)))
 first_new false i None absent = refl
 first_new false i (Some k) absent = refl
@@ -64,7 +71,8 @@ first_old false i None present = refl
 first_old b i (Some k) present = refl
 
 -- a table of first places, with the place of a name that it lacks, and without that of one that it has
-module _ (names : List ℕ) (i : ℕ) (within : i < length names) (firsts : ℕ → Option ℕ) (so_far : (q : ℕ) → firsts q ≡ place_of q (take i names)) (known : Bool) (known_is : known ≡ is_some (firsts (get_or names i 0))) where
+module _ (names : List ℕ) (i : ℕ) (within : i < length names) (firsts : ℕ → Option ℕ)
+    (so_far : (q : ℕ) → firsts q ≡ place_of q (take i names)) (known : Bool) (known_is : known ≡ is_some (firsts (get_or names i 0))) where
   same_name : (q : ℕ) (b : Bool) → known ≡ b → eqb (get_or names i 0) q ≡ true → is_some (firsts q) ≡ b
   same_name q b e same = ap (λ n. is_some (firsts n)) (sym (eqb-true (get_or names i 0) q same)) ∙ (sym known_is ∙ e)
 

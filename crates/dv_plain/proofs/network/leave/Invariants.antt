@@ -7,5 +7,7 @@ use Rattle.dv_plain.proofs.network.leave.Given as goal
 abbrev pub invariant-loop-port : goal.invariant-loop-port
 invariant-loop-port l = record {
   entries : l.trace.entries ≡ l.initial.trace.entries;
-  outer : l.trace.outer ++ outer_from l.instant.limit (rank_of l.instant) l.port (drop l.port l.leaving) ≡ l.initial.trace.outer ++ outer_from l.instant.limit (rank_of l.instant) 0 l.leaving;
+  outer :
+      l.trace.outer ++ outer_from l.instant.limit (rank_of l.instant) l.port (drop l.port l.leaving)
+          ≡ l.initial.trace.outer ++ outer_from l.instant.limit (rank_of l.instant) 0 l.leaving;
 }

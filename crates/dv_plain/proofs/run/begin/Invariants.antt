@@ -12,6 +12,8 @@ abbrev pub invariant-loop-k : goal.invariant-loop-k
 invariant-loop-k l =
     let is = instances (file_of l.tree.file) in
     record {
-      start : map (component_of l.limit) l.components.items ++ map (λ (i : Instance). start_of l.limit i.model) (drop l.k is) ≡ map (λ (i : Instance). start_of l.limit i.model) is;
+      start :
+          map (component_of l.limit) l.components.items ++ map (λ (i : Instance). start_of l.limit i.model) (drop l.k is) ≡ map
+              (λ (i : Instance). start_of l.limit i.model) is;
       waits : All (λ (r : Running). IsWaitOfRun l.limit r.wait) l.components.items;
     }

@@ -9,7 +9,8 @@ returns-in-Ok c =
     let limit = c.args.instant.now.limit in
     let now = c.args.instant.now.time in
     let ends : after limit now c.in-Some.ticks ≡ Ok c.in-Ok.time = sym c.after.ensures ∙ c.in-Ok.is in (
-      ap (end_of_hold limit (rank limit now)) c.in-Some.is ∙ end_of_hold-some limit now c.in-Some.ticks c.args.instant.now.of_run ∙ ap (rank_or_fault limit) ends,
+      ap (end_of_hold limit (rank limit now)) c.in-Some.is ∙ end_of_hold-some limit now c.in-Some.ticks c.args.instant.now.of_run ∙ ap
+          (rank_or_fault limit) ends,
       refl,
       after-in_run limit now c.in-Some.ticks c.in-Ok.time ends,
     )
@@ -19,4 +20,5 @@ returns-in-Err c =
     let limit = c.args.instant.now.limit in
     let now = c.args.instant.now.time in
     let ends : after limit now c.in-Some.ticks ≡ Err c.in-Err.field-0 = sym c.after.ensures ∙ c.in-Err.is in
-    ap (end_of_hold limit (rank limit now)) c.in-Some.is ∙ end_of_hold-some limit now c.in-Some.ticks c.args.instant.now.of_run ∙ ap (rank_or_fault limit) ends
+    ap (end_of_hold limit (rank limit now)) c.in-Some.is ∙ end_of_hold-some limit now c.in-Some.ticks c.args.instant.now.of_run ∙ ap
+        (rank_or_fault limit) ends

@@ -7,4 +7,5 @@ pub returns-then-component-component_count : goal.returns-then-component-compone
 returns-then-component-component_count c = sym (path-names_at c.args.tree.now c.args.component c.path.result.now c.path.ensures)
 
 pub returns-else-component-component_count : goal.returns-else-component-component_count
-returns-else-component-component_count c = sym (ap (λ (w : ComponentNames). w.path) (names_at-past c.args.tree.now c.args.component (omega arith)))
+returns-else-component-component_count c =
+    sym (ap (λ (w : ComponentNames). w.path) (names_at-past c.args.tree.now c.args.component (omega arith)))

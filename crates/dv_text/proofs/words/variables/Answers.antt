@@ -10,4 +10,5 @@ returns-then-component-component_count c =
     ap (texts_of c.args.tree.now.names) c.variables.ensures ∙ sym shows.variables
 
 pub returns-else-component-component_count : goal.returns-else-component-component_count
-returns-else-component-component_count c = sym (ap (λ (w : ComponentNames). w.variables) (names_at-past c.args.tree.now c.args.component (omega arith)))
+returns-else-component-component_count c =
+    sym (ap (λ (w : ComponentNames). w.variables) (names_at-past c.args.tree.now c.args.component (omega arith)))
