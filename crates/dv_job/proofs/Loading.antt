@@ -66,26 +66,26 @@ module _ (tokens_law : TokenLaws) (files_law : FileLaws) where
       IsTokensOf text names tokens → refusal_of_tokens tokens (length text) ≡ Some r → IsTokensOf text others more → IsFileOf more f → ⊥
   no_file_and_file text names others tokens more f r one unread two parsed =
       none_or_some (refusal_of_tokens tokens (length text)) r
-          (subst (λ (ts : List Token). refusal_of_tokens ts (length text) ≡ None) (sym (same_tokens text names others tokens more one two))
-          (files_law.not_both more (length text) f parsed)) unread
+      (subst (λ (ts : List Token). refusal_of_tokens ts (length text) ≡ None) (sym (same_tokens text names others tokens more one two))
+      (files_law.not_both more (length text) f parsed)) unread
 
   same_file : (text : List ℕ) (names others : List (List ℕ)) (tokens more : List Token) (f g : FileTree) → IsTokensOf text names tokens →
       IsFileOf tokens f → IsTokensOf text others more → IsFileOf more g → f ≡ g
   same_file text names others tokens more f g one is two also =
       files_law.one_file tokens f g is
-          (subst (λ (ts : List Token). IsFileOf ts g) (sym (same_tokens text names others tokens more one two)) also)
+      (subst (λ (ts : List Token). IsFileOf ts g) (sym (same_tokens text names others tokens more one two)) also)
 
   one_unread : (text : List ℕ) (r other : Refusal) → HasNoFile text r → HasNoFile text other → r ≡ other
   one_unread text r other one two =
       same_in_option (refusal_of_tokens one.tokens (length text)) r other one.unread
-          (subst (λ (ts : List Token). refusal_of_tokens ts (length text) ≡ Some other)
-          (sym (same_tokens text one.names two.names one.tokens two.tokens one.lexed two.lexed)) two.unread)
+      (subst (λ (ts : List Token). refusal_of_tokens ts (length text) ≡ Some other)
+      (sym (same_tokens text one.names two.names one.tokens two.tokens one.lexed two.lexed)) two.unread)
 
   one_refused : (text : List ℕ) (r other : Refusal) → IsRefusedFile text r → IsRefusedFile text other → r ≡ other
   one_refused text r other one two =
       same_in_option (refusal_of one.file) r other one.refused
-          (subst (λ (f : FileTree). refusal_of f ≡ Some other)
-          (sym (same_file text one.names two.names one.tokens two.tokens one.file two.file one.lexed one.parsed two.lexed two.parsed)) two.refused)
+      (subst (λ (f : FileTree). refusal_of f ≡ Some other)
+      (sym (same_file text one.names two.names one.tokens two.tokens one.file two.file one.lexed one.parsed two.lexed two.parsed)) two.refused)
 
   one_later : (text : List ℕ) (r other : Refusal) → HasNoFile text r ⊎ IsRefusedFile text r →
       HasNoFile text other ⊎ IsRefusedFile text other → r ≡ other
@@ -123,8 +123,8 @@ module _ (tokens_law : TokenLaws) (files_law : FileLaws) where
       no_file_and_file text two.names names two.tokens m.tokens f r two.lexed two.unread m.lexed m.parsed
   model_and_refusal text names f r m (inr (inr two)) =
       none_or_some (refusal_of f) r m.accepted
-          (subst (λ (g : FileTree). refusal_of g ≡ Some r)
-          (same_file text two.names names two.tokens m.tokens two.file f two.lexed two.parsed m.lexed m.parsed) two.refused)
+      (subst (λ (g : FileTree). refusal_of g ≡ Some r)
+      (same_file text two.names names two.tokens m.tokens two.file f two.lexed two.parsed m.lexed m.parsed) two.refused)
 
   pub not_both : (text : List ℕ) (names : List (List ℕ)) (f : FileTree) (e : TextError) → IsModelOf text names f → ¬ IsAnswer text e
   not_both text names f e m a = model_and_refusal text names f a.refusal m a.refused
@@ -138,7 +138,7 @@ module _ (tokens_law : TokenLaws) (files_law : FileLaws) where
       inl (names, f, record { tokens = tokens; lexed = lexed; parsed = parsed; accepted = is })
   of_file text names tokens f (Some r) is lexed parsed =
       inr (refused_so text r
-          (inr (inr (record { names = names; tokens = tokens; file = f; lexed = lexed; parsed = parsed; refused = is }))))
+      (inr (inr (record { names = names; tokens = tokens; file = f; lexed = lexed; parsed = parsed; refused = is }))))
 
   of_tokens : (text : List ℕ) (names : List (List ℕ)) (tokens : List Token) → IsTokensOf text names tokens → HasModel text ⊎ HasAnswer text
   of_tokens text names tokens lexed = elim (files_law.some tokens (length text)) [

@@ -28,8 +28,8 @@ use Rattle.dv_job.specs.Ending.{PrintsTrace, PrintsBeginning, LeftBy, ending_of}
 abbrev pub AreInstants : Type 0
 AreInstants =
     (all : List ComponentNames) (outputs : List (List ℕ)) (limit : ℕ) (net : Network (List Counts)) (inputs : ℕ → List Counts)
-        (horizon : ℕ) → text_of all outputs (trace_before limit net inputs (end_of limit horizon)) (Horizon horizon)
-        ≡ whole_text all outputs limit net inputs horizon
+    (horizon : ℕ) → text_of all outputs (trace_before limit net inputs (end_of limit horizon)) (Horizon horizon)
+    ≡ whole_text all outputs limit net inputs horizon
 
 -- the tree of a text has the text's model
 pub model_of_tree : (text : List ℕ) (names : List (List ℕ)) (file : File) (tree : Source) → IsModelOf text names (file_of file) →
@@ -49,9 +49,9 @@ text_of_run tree h l trace are is_trace =
 -- a trace that was written whole
 pub prints :
     (text : List ℕ) (h l : ℕ) (old new : Option (List ℕ)) (names : List (List ℕ)) (file : File) (tree : Source) (trace : PartOf)
-        (ended : JobEnded)
+    (ended : JobEnded)
     → AreInstants → IsModelOf text names (file_of file) → (tree.file ≡ file) × (tree.names ≡ names) → trace ≡ trace_of
-        (file_of tree.file) h l → ended ≡ ending_of trace
+    (file_of tree.file) h l → ended ≡ ending_of trace
     → Appends old new (text_of (tree_names tree) (tree_ports tree) trace (Horizon h)) → PrintsTrace text h l old new ended
 prints text h l old new names file tree trace ended are m same is_trace ending written = record {
   names = tree.names;
@@ -65,7 +65,7 @@ prints text h l old new names file tree trace ended are m same is_trace ending w
 pub prints_beginning :
     (text : List ℕ) (h l : ℕ) (old new : Option (List ℕ)) (names : List (List ℕ)) (file : File) (tree : Source) (trace : PartOf)
     → AreInstants → IsModelOf text names (file_of file) → (tree.file ≡ file) × (tree.names ≡ names) → trace ≡ trace_of
-        (file_of tree.file) h l
+    (file_of tree.file) h l
     → StopsShort old new (text_of (tree_names tree) (tree_ports tree) trace (Horizon h)) → PrintsBeginning text h l old new
 prints_beginning text h l old new names file tree trace are m same is_trace written = record {
   names = tree.names;

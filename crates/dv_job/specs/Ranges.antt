@@ -1,8 +1,8 @@
 -- The ranges of a run's options.
 use Rattle.std.specs.Prelude.{ℕ, ◌≤◌, Option, IsSome}
 use Rattle.std.specs.Option.{ForSome}
-use Rattle.dv_time.specs.declared.TheConstants.{GREATEST_TICK}
-use Rattle.dv_job.specs.declared.options.TheConstants.{GREATEST_LIMIT, MOST_WORKERS, GREATEST_CAPACITY}
+use Rattle.dv_time.specs.declared.TheConstants.{GREATEST_TICK, GREATEST_LIMIT}
+use Rattle.dv_job.specs.declared.options.TheConstants.{MOST_WORKERS, GREATEST_CAPACITY}
 
 -- ---- The threads that run processes
 

@@ -16,5 +16,5 @@ pub mod plain;
 
 pub use check::check_bytes;
 pub use ended::{JobEnded, JobError};
-pub use options::{GREATEST_CAPACITY, GREATEST_LIMIT, MOST_WORKERS, Options};
+pub use options::{GREATEST_CAPACITY, MOST_WORKERS, Options};
 pub use plain::run_plain;

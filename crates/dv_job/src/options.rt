@@ -3,10 +3,7 @@
 ghost use Rattle.std.specs.Prelude.{◌≡◌, ◌≤◌, ◌↔◌, IsSome, IfSome, IsTrue};
 ghost use Rattle.dv_job.specs.Ranges.{AreInRange, AreWorkers, NotBoth};
 
-use dv_time::GREATEST_TICK;
-
-/// The greatest microstep limit of a run.
-pub const GREATEST_LIMIT: u32 = 1_000;
+use dv_time::{GREATEST_LIMIT, GREATEST_TICK};
 
 /// The most workers of a run.
 pub const MOST_WORKERS: u32 = 64;

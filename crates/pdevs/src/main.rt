@@ -1,16 +1,13 @@
 //! The program: checks model texts, and runs them and prints their traces.
 #![tactic(auto)]
 
-mod command_line;
 mod report;
-mod request;
 #[cfg(test)]
 mod tests;
 
-use command_line::request_of;
+use dv_command::{Check, Request, RequestError, Run, request_of};
 use dv_job::{JobError, Options, check_bytes, run_plain};
 use report::{line, status};
-use request::{Check, Request, RequestError, Run};
 use std::io::Write;
 use std::process::ExitCode;
 use std::rt::Files;

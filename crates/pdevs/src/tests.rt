@@ -1,8 +1,7 @@
 //! What the words of a command line ask for, and what is reported of how a run ended.
 
-use crate::command_line::request_of;
 use crate::report::{line, status};
-use crate::request::{Request, RequestError, Run};
+use dv_command::{Request, RequestError, Run, request_of};
 use dv_job::{JobEnded, JobError, Options, run_plain};
 use std::alloc::{AllocError, Global};
 use std::fmt::Debug;

@@ -10,5 +10,5 @@ pub returns-in_err-write_trace-clause-error : goal.returns-in_err-write_trace-cl
 returns-in_err-write_trace-clause-error g c =
     let p = err_from_is_err_and c.from_residual-in_err-write_trace.result c.from_residual-in_err-write_trace.ensures.1 in
     let beginning =
-        prints_beginning _ _ _ _ _ _ _ _ _ c.a_trace_is_its_instants.ensures.whole c.in-Ok.ensures.model c.in_ok-tree.ensures c.in_ok-trace.ensures c.in_err-write_trace.ensures.err in
+    prints_beginning _ _ _ _ _ _ _ _ _ c.a_trace_is_its_instants.ensures.whole c.in-Ok.ensures.model c.in_ok-tree.ensures c.in_ok-trace.ensures c.in_err-write_trace.ensures.err in
     rw (p.1, p.2) (left_by_write c.in_err-write_trace.field-0.0 _ _ _ _ _ beginning)

@@ -1,5 +1,7 @@
 //! What a command line asks for.
 
+ghost use Rattle.dv_command.specs.Ranges.{AreInRange};
+
 use std::alloc::AllocError;
 
 /// A subcommand with its values.
@@ -16,15 +18,16 @@ pub struct Check {
     pub model: String,
 }
 
-/// Run a model and print its trace.
+/// Run a model and print its trace. Its numbers are within their ranges: its type keeps that.
 #[derive(Debug, Drop)]
 pub struct Run {
     /// The file of the model.
     pub model: String,
-    /// The last tick of the run.
+    /// The last tick of the run, 0 to 10^12.
     pub horizon: u64,
-    /// The greatest microstep of a tick, where it was given.
+    /// The greatest microstep of a tick, 1 to 1,000, where it was given.
     pub microsteps: Option<u32>,
+    pub ghost in_range: { AreInRange horizon microsteps },
 }
 
 /// The text to print where the words are no command.

@@ -1,15 +1,18 @@
 //! Reads the words of a command line.
 
-ghost use Rattle.std.specs.Prelude.{◌≤◌, IfSome};
+ghost use Rattle.std.specs.Prelude.{◌≤◌, IfOk, IfSome};
 
 use crate::request::{Check, Request, RequestError, Run, Usage};
 use clap::error::ErrorKind;
 use clap::{Arg, ArgAction, ArgMatches, Command};
-use dv_job::GREATEST_LIMIT;
-use dv_time::GREATEST_TICK;
+use dv_time::{GREATEST_LIMIT, GREATEST_TICK};
 use std::alloc::{AllocError, Global};
 
 /// What the words ask for; the first word is the program's name.
+///
+/// # Errors
+///
+/// `Usage` where the words are no command or ask for help, with the text to print; or no memory.
 pub fn request_of(alloc: Global, words: &[String]) -> Result<Request, RequestError> {
     let matches = match command(alloc)?.try_get_matches_from(words) {
         Ok(matches) => matches,
@@ -79,24 +82,39 @@ fn check_of(alloc: Global, matches: &ArgMatches) -> Result<Check, RequestError> 
 
 fn run_of(alloc: Global, matches: &ArgMatches) -> Result<Run, RequestError> {
     let model = model_of(alloc, matches)?;
-    let Some(horizon) = matches
-        .get_str("horizon")
-        .and_then(|text| number(text, GREATEST_TICK))
-    else {
-        return Err(refused(alloc, "the horizon is a number from 0 to 1000000000000"));
-    };
-    let microsteps = match matches.get_str("microsteps") {
-        None => None,
-        Some(text) => match number(text, u64::from(GREATEST_LIMIT)) {
-            Some(limit) if limit >= 1 => Some(limit as u32),
-            _ => return Err(refused(alloc, "the microstep limit is a number from 1 to 1000")),
-        },
-    };
+    let horizon = horizon_of(alloc, matches)?;
+    let microsteps = microsteps_of(alloc, matches)?;
     Ok(Run {
         model,
         horizon,
         microsteps,
     })
+}
+
+/// The last tick of the run.
+fn horizon_of(alloc: Global, matches: &ArgMatches) -> Result<u64, RequestError>
+    ensures { IfOk result (λ n. n ≤ GREATEST_TICK) }
+{
+    match matches
+        .get_str("horizon")
+        .and_then(|text| number(text, GREATEST_TICK))
+    {
+        Some(horizon) => Ok(horizon),
+        None => Err(refused(alloc, "the horizon is a number from 0 to 1000000000000")),
+    }
+}
+
+/// The microstep limit, where one is given.
+fn microsteps_of(alloc: Global, matches: &ArgMatches) -> Result<Option<u32>, RequestError>
+    ensures { IfOk result (λ given. IfSome given (λ l. (1 ≤ l) × (l ≤ GREATEST_LIMIT))) }
+{
+    let Some(text) = matches.get_str("microsteps") else {
+        return Ok(None);
+    };
+    match number(text, u64::from(GREATEST_LIMIT)) {
+        Some(limit) if limit >= 1 => Ok(Some(limit as u32)),
+        _ => Err(refused(alloc, "the microstep limit is a number from 1 to 1000")),
+    }
 }
 
 /// The number that decimal digits spell, where it is at most the greatest.
