@@ -1,32 +1,32 @@
 -- What is accepted names only what its model declares.
-use Rattle.std.proofs.Common.{◌≡◌, ℕ, zero, suc, ◌+◌, ◌==◌, Bool, true, false, ◌||◌, if◌then◌else◌, List, [], ◌∷◌, ◌++◌, refl, sym, ap, ◌∙◌, Option, Some, None, is_some, option_map, arith}
+use Rattle.std.proofs.Common.{◌≡◌, ℕ, zero, suc, ◌+◌, ◌==◌, Bool, true, false, not, ◌&&◌, ◌||◌, if◌then◌else◌, List, [], ◌∷◌, ◌++◌, refl, sym, ap, ◌∙◌, Option, Some, None, is_some, option_map, arith}
 use Rattle.std.specs.Prelude.{slice_get}
 use Rattle.std.specs.List.{AllByRecursion, All, flat_map}
 use Rattle.std.specs.Option.{option_or}
 use Rattle.std.proofs.lemmas.List.Elements.{All-from_recursion}
 use Rattle.dv_syntax.specs.declared.tree.Name.{Name}
 use Rattle.dv_syntax.specs.declared.tree.Declaration.{Declaration}
-use Rattle.dv_syntax.specs.declared.tree.Declaration.TheVariants.{Out, Var, Flag}
+use Rattle.dv_syntax.specs.declared.tree.Declaration.TheVariants.{Out, Var, Flag, Bag}
 use Rattle.dv_syntax.specs.declared.tree.RuleSort.{RuleSort}
-use Rattle.dv_syntax.specs.Trees.{AtomicTree, HoldTree, RuleTree, Expression, Literal, TruthValue, Named, Parens, Prefixed, Binary, Statements, Done, Assign, Goto, Send, If, IfElse}
+use Rattle.dv_syntax.specs.Trees.{AtomicTree, HoldTree, RuleTree, Expression, Literal, TruthValue, Named, Parens, Prefixed, Binary, Call, Times, Statements, Done, Assign, Goto, Send, If, IfElse, For, Add, Drop}
 use Rattle.dv_bag.specs.declared.state.Datum.{Datum}
 use Rattle.dv_bag.specs.declared.state.State.{State}
 use Rattle.dv_eval.specs.declared.scope.Domain.{Domain}
 use Rattle.dv_eval.specs.declared.scope.Domain.TheVariants as domain
-use Rattle.dv_eval.specs.Scope.{Scope, is_declared, names_of, place_from, range_of, scope_of, state_variables_in, with_variable, with_variables}
+use Rattle.dv_eval.specs.Scope.{Scope, is_declared, names_of, phases_in, place_from, place_of, range_of, scope_of, state_variables_in, with_variable, with_variables}
 use Rattle.dv_check.specs.declared.declarations.NameSort.{NameSort}
-use Rattle.dv_check.specs.declared.declarations.NameSort.TheVariants.{Variable as ForVariable, Flag as ForFlag, Output as ForOutput}
+use Rattle.dv_check.specs.declared.declarations.NameSort.TheVariants.{Variable as ForVariable, Flag as ForFlag, Bag as ForBag, Output as ForOutput, LoopVariable as ForLoopVariable}
 use Rattle.dv_check.specs.declared.expression.ValueType.{ValueType}
 use Rattle.dv_check.specs.declared.expression.ValueType.TheVariants.{Number, Truth}
 use Rattle.dv_check.specs.Tables.{first_of}
-use Rattle.dv_check.specs.Types.{expression_refusals, first_place, operand_refusals, place_refusals, type_of, type_of_name, type_of_prefix, type_refusals, value_name_refusals, value_refusals}
-use Rattle.dv_check.specs.Rules.{atomic_refusals, assignment_refusals, domain_of_state_variable, hold_refusals, known_in, names_only, number_of_state_variable, phase_refusals, rule_refusals, sent_port_refusals, sort_in, statements_refusals, ticks_names_only, ticks_refusals}
+use Rattle.dv_check.specs.Types.{bag_name_refusals, expression_refusals, first_place, operand_refusals, place_refusals, type_of, type_of_name, type_of_prefix, type_refusals, value_name_refusals, value_refusals, is_bag as is_bag_sort}
+use Rattle.dv_check.specs.Rules.{Known, atomic_refusals, assignment_refusals, change_refusals, domain_of_state_variable, hold_refusals, known_in, known_in_loop, loop_variable_refusals, number_of_state_variable, phase_refusals, rule_refusals, sent_port_refusals, sort_in, statements_refusals, ticks_refusals}
 use Rattle.dv_check.specs.Couplings.{is_output}
-use Rattle.dv_accepted.specs.Fitting.{are_names_known, data_fit, datum_fits, fits_in, HoldsDatum, is_variable}
-use Rattle.dv_check.proofs.Accepted.{both_nil}
+use Rattle.dv_accepted.specs.Fitting.{are_names_known, are_terms_known, are_ticks_known, data_fit, datum_fits, domain_at, domain_named, fits_in, has_value, has_values, HoldsDatum, is_assignable, is_bag, is_value, is_variable}
+use Rattle.dv_check.proofs.Accepted.{both_nil, not_refused, not_false}
 use Rattle.dv_check.proofs.Declared.{output_declared, same_declared}
 use Rattle.dv_check.proofs.Firsts.{first_of_push}
-use Rattle.dv_accepted.proofs.Fitting.{and_true, both_true, parts_of_none, phase_declared}
+use Rattle.dv_accepted.proofs.Fitting.{among_declared, and_true, both_true, parts_of_none}
 
 -- ---- Variables and flags by their names
 
@@ -87,11 +87,14 @@ abbrev pub is_stored : Option NameSort → Bool
 is_stored None = false
 is_stored (Some ForVariable) = true
 is_stored (Some ForFlag) = true
+is_stored (Some ForBag) = true
 is_stored (Some ForOutput) = false
+is_stored (Some ForLoopVariable) = false
 
 abbrev pub sort_of_domain : Domain → NameSort
 sort_of_domain (domain.Number range) = ForVariable
 sort_of_domain (domain.Flag start) = ForFlag
+sort_of_domain (domain.Bag capacity) = ForBag
 
 sorted_if : (b : Bool) (d : Domain) (sort : NameSort) (found : Option Domain) (rest : Option NameSort) → sort_of_domain d ≡ sort
     → is_stored (if b then Some sort else rest) ≡ true → (is_stored rest ≡ true → option_map sort_of_domain found ≡ rest)
@@ -104,7 +107,7 @@ not_output_if : (b : Bool) (found : Option Domain) (rest : Option NameSort) → 
 not_output_if true found rest e later = absurd (cc)
 not_output_if false found rest e later = later e
 
--- the first declaration of a name of a variable or a flag is that of its domain
+-- the first declaration of a name of a variable, a flag or a bag is that of its domain
 declared_sort : (q : ℕ) (ds : List Declaration) → is_stored (sort_in ds q) ≡ true → option_map sort_of_domain (declared_in (state_variables_in ds) q) ≡ sort_in ds q
 unfolding first_of
 declared_sort q [] e = absurd (cc)
@@ -113,8 +116,10 @@ declared_sort q (Var v ∷ ds) e =
     sorted_if (v.name.number == q) (domain.Number (range_of v)) ForVariable (declared_in (state_variables_in ds) q) _ refl e (declared_sort q ds)
 declared_sort q (Flag f ∷ ds) e =
     sorted_if (f.name.number == q) (domain.Flag f.start) ForFlag (declared_in (state_variables_in ds) q) _ refl e (declared_sort q ds)
+declared_sort q (Bag b ∷ ds) e =
+    sorted_if (b.name.number == q) (domain.Bag b.capacity.value) ForBag (declared_in (state_variables_in ds) q) _ refl e (declared_sort q ds)
 
--- a name of a variable or a flag with what it may hold
+-- a name of a variable, a flag or a bag with what it may hold
 pub record Entered (m : AtomicTree) (q : ℕ) : Type 0 where
   pub domain : Domain
   pub there : entry_in (scope_of m).variables q ≡ Some domain
@@ -131,117 +136,7 @@ sort_entered m q e =
     let vs = state_variables_in m.declarations in
     entered_at m q (declared_in vs q) (with_variables_entry q vs []) (declared_sort q m.declarations e) e
 
-variable_declared : (m : AtomicTree) (q : ℕ) → is_stored (sort_in m.declarations q) ≡ true → is_variable (scope_of m) q ≡ true
-variable_declared m q e = declared_entry (scope_of m).variables q ∙ ap is_some (sort_entered m q e).there
-
--- ---- Expressions and statements
-
-value_name_known : (o : Option NameSort) (place : ℕ) → value_name_refusals o place ≡ [] → is_stored o ≡ true
-value_name_known None place e = absurd (cc)
-value_name_known (Some ForVariable) place e = refl
-value_name_known (Some ForFlag) place e = refl
-value_name_known (Some ForOutput) place e = absurd (cc)
-
-assigned_known : (sort : RuleSort) (o : Option NameSort) (place : ℕ) → assignment_refusals sort o place ≡ [] → is_stored o ≡ true
-assigned_known sort None place e = absurd (cc)
-assigned_known sort (Some ForVariable) place e = refl
-assigned_known sort (Some ForFlag) place e = refl
-assigned_known sort (Some ForOutput) place e = absurd (cc)
-
-sent_known : (o : Option NameSort) (place : ℕ) → sent_port_refusals o place ≡ [] → is_output o ≡ true
-sent_known None place e = absurd (cc)
-sent_known (Some ForVariable) place e = absurd (cc)
-sent_known (Some ForFlag) place e = absurd (cc)
-sent_known (Some ForOutput) place e = refl
-
-module _ (m : AtomicTree) where
-  names_known : (e : Expression) → expression_refusals (sort_in m.declarations) e ≡ [] → names_only (is_variable (scope_of m)) e ≡ true
-  names_known (Literal n) none = refl
-  names_known (TruthValue place value) none = refl
-  names_known (Named name) none = variable_declared m name.number (value_name_known (sort_in m.declarations name.number) name.place none)
-  names_known (Parens place e) none = names_known e none
-  names_known (Prefixed o place e) none =
-      let sort = sort_in m.declarations in
-      names_known e (both_nil (expression_refusals sort e) (type_refusals (type_of_prefix o) (type_of sort e) (first_place e)) none).0
-  names_known (Binary o a b) none =
-      let sort = sort_in m.declarations in
-      let operands = operand_refusals o (type_of sort a) (first_place a) (type_of sort b) (first_place b) in
-      let left = both_nil (expression_refusals sort a) (expression_refusals sort b ++ operands) none in
-      let right = both_nil (expression_refusals sort b) operands left.1 in
-      and_true (names_only (is_variable (scope_of m)) a) (names_only (is_variable (scope_of m)) b) (names_known a left.0) (names_known b right.0)
-
-  place_known : (wanted : ValueType) (e : Expression) → place_refusals wanted (sort_in m.declarations) e ≡ [] → names_only (is_variable (scope_of m)) e ≡ true
-  place_known wanted e none =
-      names_known e (both_nil (expression_refusals (sort_in m.declarations) e) (type_refusals wanted (type_of (sort_in m.declarations) e) (first_place e)) none).0
-
-  value_known : (wanted : Option ValueType) (e : Expression) → value_refusals wanted (sort_in m.declarations) e ≡ [] → names_only (is_variable (scope_of m)) e ≡ true
-  value_known None e none = names_known e none
-  value_known (Some wanted) e none = place_known wanted e none
-
-  pub statements_known : (sort : RuleSort) (body : Statements) → statements_refusals (known_in m) sort body ≡ [] → are_names_known (scope_of m) body ≡ true
-  statements_known sort Done none = refl
-  statements_known sort (Assign variable e rest) none =
-      let k = known_in m in
-      let wanted = type_of_name (k.sort variable.number) in
-      let left = both_nil (assignment_refusals sort (k.sort variable.number) variable.place) (value_refusals wanted k.sort e ++ statements_refusals k sort rest) none in
-      let right = both_nil (value_refusals wanted k.sort e) (statements_refusals k sort rest) left.1 in
-      and_true _ _ (variable_declared m variable.number (assigned_known sort (k.sort variable.number) variable.place left.0)) (and_true _ _ (value_known wanted e right.0) (statements_known sort rest right.1))
-  statements_known sort (Goto place phase rest) none =
-      let k = known_in m in
-      let behind = (both_nil _ (phase_refusals k phase ++ statements_refusals k sort rest) none).1 in
-      let both = both_nil (phase_refusals k phase) (statements_refusals k sort rest) behind in
-      and_true _ _ (phase_declared m phase both.0) (statements_known sort rest both.1)
-  statements_known sort (Send place port e rest) none =
-      let k = known_in m in
-      let port_refusals = sent_port_refusals (k.sort port.number) port.place in
-      let value_refusals = place_refusals Number k.sort e in
-      let rest_refusals = statements_refusals k sort rest in
-      let behind = (both_nil _ (port_refusals ++ (value_refusals ++ rest_refusals)) none).1 in
-      let left = both_nil port_refusals (value_refusals ++ rest_refusals) behind in
-      let right = both_nil value_refusals rest_refusals left.1 in
-      and_true _ _ (output_declared port.number m.declarations [] (sent_known (k.sort port.number) port.place left.0)) (and_true _ _ (place_known Number e right.0) (statements_known sort rest right.1))
-  statements_known sort (If place e block rest) none =
-      let k = known_in m in
-      let left = both_nil (place_refusals Truth k.sort e) (statements_refusals k sort block ++ statements_refusals k sort rest) none in
-      let right = both_nil (statements_refusals k sort block) (statements_refusals k sort rest) left.1 in
-      and_true _ _ (place_known Truth e left.0) (and_true _ _ (statements_known sort block right.0) (statements_known sort rest right.1))
-  statements_known sort (IfElse place e block other rest) none =
-      let k = known_in m in
-      let rest_refusals = statements_refusals k sort rest in
-      let other_refusals = statements_refusals k sort other in
-      let left = both_nil (place_refusals Truth k.sort e) (statements_refusals k sort block ++ (other_refusals ++ rest_refusals)) none in
-      let middle = both_nil (statements_refusals k sort block) (other_refusals ++ rest_refusals) left.1 in
-      let right = both_nil other_refusals rest_refusals middle.1 in
-      and_true _ _ (place_known Truth e left.0) (and_true _ _ (statements_known sort block middle.0) (and_true _ _ (statements_known sort other right.0) (statements_known sort rest right.1)))
-
-  rules_known_from : (rules : List RuleTree) → flat_map (rule_refusals (known_in m)) rules ≡ [] → AllByRecursion (λ (r : RuleTree). are_names_known (scope_of m) r.body ≡ true) rules
-  rules_known_from [] none = tt
-  rules_known_from (r ∷ rules) none =
-      let k = known_in m in
-      let both = both_nil (rule_refusals k r) (flat_map (rule_refusals k) rules) none in
-      let here = both_nil (phase_refusals k r.phase) (statements_refusals k r.sort r.body) both.0 in
-      (statements_known r.sort r.body here.1, rules_known_from rules both.1)
-
-  ticks_of_known : (ticks : Option Expression) → ticks_refusals (known_in m) ticks ≡ [] → ticks_names_only (is_variable (scope_of m)) ticks ≡ true
-  ticks_of_known None none = refl
-  ticks_of_known (Some e) none = place_known Number e none
-
-  ticks_known : (h : HoldTree) → hold_refusals (known_in m) h ≡ [] → ticks_names_only (is_variable (scope_of m)) h.ticks ≡ true
-  ticks_known h none = ticks_of_known h.ticks (both_nil (phase_refusals (known_in m) h.phase) (ticks_refusals (known_in m) h.ticks) none).1
-
-  holds_known_from : (holds : List HoldTree) → flat_map (hold_refusals (known_in m)) holds ≡ [] → AllByRecursion (λ (h : HoldTree). ticks_names_only (is_variable (scope_of m)) h.ticks ≡ true) holds
-  holds_known_from [] none = tt
-  holds_known_from (h ∷ holds) none =
-      let both = both_nil (hold_refusals (known_in m) h) (flat_map (hold_refusals (known_in m)) holds) none in
-      (ticks_known h both.0, holds_known_from holds both.1)
-
-  pub rules_known : atomic_refusals m ≡ [] → All (λ (r : RuleTree). are_names_known (scope_of m) r.body ≡ true) m.rules
-  rules_known e = All-from_recursion _ m.rules (rules_known_from m.rules (parts_of_none m e).rules)
-
-  pub holds_known : atomic_refusals m ≡ [] → All (λ (h : HoldTree). ticks_names_only (is_variable (scope_of m)) h.ticks ≡ true) m.holds
-  holds_known e = All-from_recursion _ m.holds (holds_known_from m.holds (parts_of_none m e).holds)
-
--- ---- Data of variables and flags
+-- ---- What entries say
 
 -- the place of an entry, from a number on
 record HasEntry (k q : ℕ) (entries : List (ℕ × Domain)) (d : Domain) : Type 0 where
@@ -264,6 +159,306 @@ unfolding first_of
 has_entry k q [] d is = absurd (cc)
 has_entry k q (e ∷ entries) d is = has_entry_if (e.0 == q) k q e entries d refl is (has_entry (k + 1) q entries d)
 
+domain_entered : (scope : Scope) (q : ℕ) (d : Domain) → entry_in scope.variables q ≡ Some d → domain_named scope q ≡ Some d
+domain_entered scope q d is =
+    let h = has_entry 0 q scope.variables d is in
+    let at_start : 0 + h.offset ≡ h.offset = omega arith in
+    ap (domain_at scope.variables) (h.found ∙ ap (λ n. Some n) at_start) ∙ h.there
+
+pub sort_named : (m : AtomicTree) (q : ℕ) → is_stored (sort_in m.declarations q) ≡ true → (d : Domain) × (domain_named (scope_of m) q ≡ Some d) × (Some (sort_of_domain d) ≡ sort_in m.declarations q)
+sort_named m q e =
+    let h = sort_entered m q e in
+    (h.domain, domain_entered (scope_of m) q h.domain h.there, h.sort)
+
+-- ---- Names that are known
+
+-- what stands for a value, what is assigned
+abbrev pub is_value_sort : Option NameSort → Bool
+is_value_sort None = false
+is_value_sort (Some ForVariable) = true
+is_value_sort (Some ForFlag) = true
+is_value_sort (Some ForBag) = false
+is_value_sort (Some ForOutput) = false
+is_value_sort (Some ForLoopVariable) = true
+
+abbrev is_variable_sort : Option NameSort → Bool
+is_variable_sort None = false
+is_variable_sort (Some ForVariable) = true
+is_variable_sort (Some ForFlag) = true
+is_variable_sort (Some ForBag) = false
+is_variable_sort (Some ForOutput) = false
+is_variable_sort (Some ForLoopVariable) = false
+
+variable_stored : (o : Option NameSort) → is_variable_sort o ≡ true → is_stored o ≡ true
+variable_stored None e = absurd (cc)
+variable_stored (Some ForVariable) e = refl
+variable_stored (Some ForFlag) e = refl
+variable_stored (Some ForBag) e = absurd (cc)
+variable_stored (Some ForOutput) e = absurd (cc)
+variable_stored (Some ForLoopVariable) e = absurd (cc)
+
+bag_stored : (o : Option NameSort) → is_bag_sort o ≡ true → is_stored o ≡ true
+bag_stored None e = absurd (cc)
+bag_stored (Some ForVariable) e = absurd (cc)
+bag_stored (Some ForFlag) e = absurd (cc)
+bag_stored (Some ForBag) e = refl
+bag_stored (Some ForOutput) e = absurd (cc)
+bag_stored (Some ForLoopVariable) e = absurd (cc)
+
+value_domain : (d : Domain) → is_variable_sort (Some (sort_of_domain d)) ≡ has_value (Some d)
+value_domain (domain.Number range) = refl
+value_domain (domain.Flag start) = refl
+value_domain (domain.Bag capacity) = refl
+
+bag_domain : (d : Domain) → is_bag_sort (Some (sort_of_domain d)) ≡ has_values (Some d)
+bag_domain (domain.Number range) = refl
+bag_domain (domain.Flag start) = refl
+bag_domain (domain.Bag capacity) = refl
+
+-- no declaration is that of a loop variable
+abbrev pub is_of_loop : Option NameSort → Bool
+is_of_loop None = false
+is_of_loop (Some ForVariable) = false
+is_of_loop (Some ForFlag) = false
+is_of_loop (Some ForBag) = false
+is_of_loop (Some ForOutput) = false
+is_of_loop (Some ForLoopVariable) = true
+
+of_no_loop_if : (b : Bool) (sort : NameSort) (o : Option NameSort) → is_of_loop (Some sort) ≡ false → is_of_loop o ≡ false → is_of_loop (if b then Some sort else o) ≡ false
+of_no_loop_if true sort o here later = here
+of_no_loop_if false sort o here later = later
+
+pub of_no_loop : (q : ℕ) (ds : List Declaration) → is_of_loop (sort_in ds q) ≡ false
+unfolding first_of
+of_no_loop q [] = refl
+of_no_loop q (Out port ∷ ds) = of_no_loop_if (port.number == q) ForOutput (sort_in ds q) refl (of_no_loop q ds)
+of_no_loop q (Var v ∷ ds) = of_no_loop_if (v.name.number == q) ForVariable (sort_in ds q) refl (of_no_loop q ds)
+of_no_loop q (Flag f ∷ ds) = of_no_loop_if (f.name.number == q) ForFlag (sort_in ds q) refl (of_no_loop q ds)
+of_no_loop q (Bag b ∷ ds) = of_no_loop_if (b.name.number == q) ForBag (sort_in ds q) refl (of_no_loop q ds)
+
+value_outside : (o : Option NameSort) → is_of_loop o ≡ false → is_value_sort o ≡ true → is_variable_sort o ≡ true
+value_outside None outside e = absurd (cc)
+value_outside (Some ForVariable) outside e = refl
+value_outside (Some ForFlag) outside e = refl
+value_outside (Some ForBag) outside e = absurd (cc)
+value_outside (Some ForOutput) outside e = absurd (cc)
+value_outside (Some ForLoopVariable) outside e = absurd (cc)
+
+-- what is known in loops of these variables is there
+record Knows (m : AtomicTree) (loops : List ℕ) (known : Known) : Type 0 where
+  value : (q : ℕ) → is_value_sort (known.sort q) ≡ true → is_value (scope_of m) loops q ≡ true
+  variable : (q : ℕ) → is_variable_sort (known.sort q) ≡ true → is_assignable (scope_of m) loops q ≡ true
+  bag : (q : ℕ) → is_bag_sort (known.sort q) ≡ true → is_bag (scope_of m) q ≡ true
+  output : (q : ℕ) → is_output (known.sort q) ≡ true → is_declared q (scope_of m).outputs ≡ true
+  phase : (q : ℕ) → known.has_phase q ≡ true → is_declared q (scope_of m).phases ≡ true
+
+module _ (m : AtomicTree) (q : ℕ) where
+  variable_there : is_variable_sort (sort_in m.declarations q) ≡ true → is_variable (scope_of m) q ≡ true
+  variable_there e =
+      let h = sort_named m q (variable_stored (sort_in m.declarations q) e) in
+      ap has_value h.1 ∙ (sym (value_domain h.0) ∙ (ap is_variable_sort h.2 ∙ e))
+
+  bag_there : is_bag_sort (sort_in m.declarations q) ≡ true → is_bag (scope_of m) q ≡ true
+  bag_there e =
+      let h = sort_named m q (bag_stored (sort_in m.declarations q) e) in
+      ap has_values h.1 ∙ (sym (bag_domain h.0) ∙ (ap is_bag_sort h.2 ∙ e))
+
+-- outside of all loops
+knows_outside : (m : AtomicTree) → Knows m [] (known_in m)
+knows_outside m = record {
+  value = λ q e. variable_there m q (value_outside (sort_in m.declarations q) (of_no_loop q m.declarations) e);
+  variable = λ q e. and_true (is_variable (scope_of m) q) true (variable_there m q e) refl;
+  bag = λ q e. bag_there m q e;
+  output = λ q e. output_declared q m.declarations [] e;
+  phase = λ q e. among_declared q (phases_in m.phases) e;
+}
+
+-- in the block of one loop more
+value_if : (b : Bool) (o : Option NameSort) (around declared : Bool) → is_value_sort (if b then Some ForLoopVariable else o) ≡ true
+    → (is_value_sort o ≡ true → (around || declared) ≡ true) → ((b || around) || declared) ≡ true
+value_if true o around declared e later = refl
+value_if false o around declared e later = later e
+
+variable_if : (b : Bool) (o : Option NameSort) (around declared : Bool) → is_variable_sort (if b then Some ForLoopVariable else o) ≡ true
+    → (is_variable_sort o ≡ true → (declared && not around) ≡ true) → (declared && not (b || around)) ≡ true
+variable_if true o around declared e later = absurd (cc)
+variable_if false o around declared e later = later e
+
+bag_if : (b : Bool) (o : Option NameSort) (declared : Bool) → is_bag_sort (if b then Some ForLoopVariable else o) ≡ true
+    → (is_bag_sort o ≡ true → declared ≡ true) → declared ≡ true
+bag_if true o declared e later = absurd (cc)
+bag_if false o declared e later = later e
+
+output_if : (b : Bool) (o : Option NameSort) (declared : Bool) → is_output (if b then Some ForLoopVariable else o) ≡ true
+    → (is_output o ≡ true → declared ≡ true) → declared ≡ true
+output_if true o declared e later = absurd (cc)
+output_if false o declared e later = later e
+
+knows_inside : (m : AtomicTree) (loops : List ℕ) (known : Known) (v : Name) → Knows m loops known → Knows m (v.number ∷ loops) (known_in_loop v known)
+knows_inside m loops known v k = record {
+  value = λ q e. value_if (v.number == q) (known.sort q) (is_declared q loops) (is_variable (scope_of m) q) e (k.value q);
+  variable = λ q e. variable_if (v.number == q) (known.sort q) (is_declared q loops) (is_variable (scope_of m) q) e (k.variable q);
+  bag = λ q e. bag_if (v.number == q) (known.sort q) (is_bag (scope_of m) q) e (k.bag q);
+  output = λ q e. output_if (v.number == q) (known.sort q) (is_declared q (scope_of m).outputs) e (k.output q);
+  phase = k.phase;
+}
+
+-- ---- Expressions and statements
+
+value_name_known : (o : Option NameSort) (place : ℕ) → value_name_refusals o place ≡ [] → is_value_sort o ≡ true
+value_name_known None place e = absurd (cc)
+value_name_known (Some ForVariable) place e = refl
+value_name_known (Some ForFlag) place e = refl
+value_name_known (Some ForBag) place e = absurd (cc)
+value_name_known (Some ForOutput) place e = absurd (cc)
+value_name_known (Some ForLoopVariable) place e = refl
+
+pub bag_name_known : (o : Option NameSort) (place : ℕ) → bag_name_refusals o place ≡ [] → is_bag_sort o ≡ true
+bag_name_known None place e = absurd (cc)
+bag_name_known (Some ForVariable) place e = absurd (cc)
+bag_name_known (Some ForFlag) place e = absurd (cc)
+bag_name_known (Some ForBag) place e = refl
+bag_name_known (Some ForOutput) place e = absurd (cc)
+bag_name_known (Some ForLoopVariable) place e = absurd (cc)
+
+assigned_known : (sort : RuleSort) (o : Option NameSort) (place : ℕ) → assignment_refusals sort o place ≡ [] → is_variable_sort o ≡ true
+assigned_known sort None place e = absurd (cc)
+assigned_known sort (Some ForVariable) place e = refl
+assigned_known sort (Some ForFlag) place e = refl
+assigned_known sort (Some ForBag) place e = absurd (cc)
+assigned_known sort (Some ForOutput) place e = absurd (cc)
+assigned_known sort (Some ForLoopVariable) place e = absurd (cc)
+
+sent_known : (o : Option NameSort) (place : ℕ) → sent_port_refusals o place ≡ [] → is_output o ≡ true
+sent_known None place e = absurd (cc)
+sent_known (Some ForVariable) place e = absurd (cc)
+sent_known (Some ForFlag) place e = absurd (cc)
+sent_known (Some ForBag) place e = absurd (cc)
+sent_known (Some ForOutput) place e = refl
+sent_known (Some ForLoopVariable) place e = absurd (cc)
+
+module _ (m : AtomicTree) (loops : List ℕ) (k : Known) (knows : Knows m loops k) where
+  terms_known : (e : Expression) → expression_refusals k.sort e ≡ [] → are_terms_known (scope_of m) loops e ≡ true
+  terms_known (Literal n) none = refl
+  terms_known (TruthValue place value) none = refl
+  terms_known (Named name) none = knows.value name.number (value_name_known (k.sort name.number) name.place none)
+  terms_known (Parens place e) none = terms_known e none
+  terms_known (Prefixed o place e) none =
+      terms_known e (both_nil (expression_refusals k.sort e) (type_refusals (type_of_prefix o) (type_of k.sort e) (first_place e)) none).0
+  terms_known (Binary o a b) none =
+      let operands = operand_refusals o (type_of k.sort a) (first_place a) (type_of k.sort b) (first_place b) in
+      let left = both_nil (expression_refusals k.sort a) (expression_refusals k.sort b ++ operands) none in
+      let right = both_nil (expression_refusals k.sort b) operands left.1 in
+      and_true (are_terms_known (scope_of m) loops a) (are_terms_known (scope_of m) loops b) (terms_known a left.0) (terms_known b right.0)
+  terms_known (Call c place b) none = knows.bag b.number (bag_name_known (k.sort b.number) b.place none)
+  terms_known (Times place e b) none =
+      let wanted = type_refusals Number (type_of k.sort e) (first_place e) in
+      let left = both_nil (expression_refusals k.sort e) (wanted ++ bag_name_refusals (k.sort b.number) b.place) none in
+      let right = both_nil wanted (bag_name_refusals (k.sort b.number) b.place) left.1 in
+      and_true (are_terms_known (scope_of m) loops e) (is_bag (scope_of m) b.number) (terms_known e left.0) (knows.bag b.number (bag_name_known (k.sort b.number) b.place right.1))
+
+  place_known : (wanted : ValueType) (e : Expression) → place_refusals wanted k.sort e ≡ [] → are_terms_known (scope_of m) loops e ≡ true
+  place_known wanted e none = terms_known e (both_nil (expression_refusals k.sort e) (type_refusals wanted (type_of k.sort e) (first_place e)) none).0
+
+  value_known : (wanted : Option ValueType) (e : Expression) → value_refusals wanted k.sort e ≡ [] → are_terms_known (scope_of m) loops e ≡ true
+  value_known None e none = terms_known e none
+  value_known (Some wanted) e none = place_known wanted e none
+
+  named_phase : (phase : Name) → phase_refusals k phase ≡ [] → is_declared phase.number (scope_of m).phases ≡ true
+  named_phase phase none = knows.phase phase.number (not_false _ (not_refused _ _ _ none))
+
+  -- one more or one less of a value in a bag, before what follows
+  change_known : (sort : RuleSort) (place : ℕ) (e : Expression) (b : Name) (rest : Bool) → change_refusals k sort place e b ≡ [] → rest ≡ true
+      → (are_terms_known (scope_of m) loops e && (is_bag (scope_of m) b.number && rest)) ≡ true
+  change_known sort place e b rest none follows =
+      let wanted = place_refusals Number k.sort e in
+      let bag = bag_name_refusals (k.sort b.number) b.place in
+      let both = both_nil wanted bag (both_nil _ (wanted ++ bag) none).1 in
+      and_true _ _ (place_known Number e both.0) (and_true _ _ (knows.bag b.number (bag_name_known (k.sort b.number) b.place both.1)) follows)
+
+module _ (m : AtomicTree) where
+  statements_known : (loops : List ℕ) (k : Known) (knows : Knows m loops k) (sort : RuleSort) (body : Statements) → statements_refusals k sort body ≡ []
+      → are_names_known (scope_of m) loops body ≡ true
+  statements_known loops k knows sort Done none = refl
+  statements_known loops k knows sort (Assign variable e rest) none =
+      let wanted = type_of_name (k.sort variable.number) in
+      let left = both_nil (assignment_refusals sort (k.sort variable.number) variable.place) (value_refusals wanted k.sort e ++ statements_refusals k sort rest) none in
+      let right = both_nil (value_refusals wanted k.sort e) (statements_refusals k sort rest) left.1 in
+      and_true _ _ (knows.variable variable.number (assigned_known sort (k.sort variable.number) variable.place left.0))
+      (and_true _ _ (value_known m loops k knows wanted e right.0) (statements_known loops k knows sort rest right.1))
+  statements_known loops k knows sort (Goto place phase rest) none =
+      let behind = (both_nil _ (phase_refusals k phase ++ statements_refusals k sort rest) none).1 in
+      let both = both_nil (phase_refusals k phase) (statements_refusals k sort rest) behind in
+      and_true _ _ (named_phase m loops k knows phase both.0) (statements_known loops k knows sort rest both.1)
+  statements_known loops k knows sort (Send place port e rest) none =
+      let port_refusals = sent_port_refusals (k.sort port.number) port.place in
+      let value_refusals = place_refusals Number k.sort e in
+      let rest_refusals = statements_refusals k sort rest in
+      let behind = (both_nil _ (port_refusals ++ (value_refusals ++ rest_refusals)) none).1 in
+      let left = both_nil port_refusals (value_refusals ++ rest_refusals) behind in
+      let right = both_nil value_refusals rest_refusals left.1 in
+      and_true _ _ (knows.output port.number (sent_known (k.sort port.number) port.place left.0))
+      (and_true _ _ (place_known m loops k knows Number e right.0) (statements_known loops k knows sort rest right.1))
+  statements_known loops k knows sort (If place e block rest) none =
+      let left = both_nil (place_refusals Truth k.sort e) (statements_refusals k sort block ++ statements_refusals k sort rest) none in
+      let right = both_nil (statements_refusals k sort block) (statements_refusals k sort rest) left.1 in
+      and_true _ _ (place_known m loops k knows Truth e left.0)
+      (and_true _ _ (statements_known loops k knows sort block right.0) (statements_known loops k knows sort rest right.1))
+  statements_known loops k knows sort (IfElse place e block other rest) none =
+      let rest_refusals = statements_refusals k sort rest in
+      let other_refusals = statements_refusals k sort other in
+      let left = both_nil (place_refusals Truth k.sort e) (statements_refusals k sort block ++ (other_refusals ++ rest_refusals)) none in
+      let middle = both_nil (statements_refusals k sort block) (other_refusals ++ rest_refusals) left.1 in
+      let right = both_nil other_refusals rest_refusals middle.1 in
+      and_true _ _ (place_known m loops k knows Truth e left.0)
+      (and_true _ _ (statements_known loops k knows sort block middle.0)
+      (and_true _ _ (statements_known loops k knows sort other right.0) (statements_known loops k knows sort rest right.1)))
+  statements_known loops k knows sort (For place v b block rest) none =
+      let bag = bag_name_refusals (k.sort b.number) b.place in
+      let inner = known_in_loop v k in
+      let block_refusals = statements_refusals inner sort block in
+      let rest_refusals = statements_refusals k sort rest in
+      let behind = (both_nil (loop_variable_refusals (k.place v.number) v.place) (bag ++ (block_refusals ++ rest_refusals)) none).1 in
+      let left = both_nil bag (block_refusals ++ rest_refusals) behind in
+      let right = both_nil block_refusals rest_refusals left.1 in
+      and_true _ _ (knows.bag b.number (bag_name_known (k.sort b.number) b.place left.0))
+      (and_true _ _ (statements_known (v.number ∷ loops) inner (knows_inside m loops k v knows) sort block right.0) (statements_known loops k knows sort rest right.1))
+  statements_known loops k knows sort (Add place e b rest) none =
+      let both = both_nil (change_refusals k sort place e b) (statements_refusals k sort rest) none in
+      change_known m loops k knows sort place e b _ both.0 (statements_known loops k knows sort rest both.1)
+  statements_known loops k knows sort (Drop place e b rest) none =
+      let both = both_nil (change_refusals k sort place e b) (statements_refusals k sort rest) none in
+      change_known m loops k knows sort place e b _ both.0 (statements_known loops k knows sort rest both.1)
+
+  rules_known_from : (rules : List RuleTree) → flat_map (rule_refusals (known_in m)) rules ≡ [] → AllByRecursion (λ (r : RuleTree). are_names_known (scope_of m) [] r.body ≡ true) rules
+  rules_known_from [] none = tt
+  rules_known_from (r ∷ rules) none =
+      let k = known_in m in
+      let both = both_nil (rule_refusals k r) (flat_map (rule_refusals k) rules) none in
+      let here = both_nil (phase_refusals k r.phase) (statements_refusals k r.sort r.body) both.0 in
+      (statements_known [] k (knows_outside m) r.sort r.body here.1, rules_known_from rules both.1)
+
+  ticks_of_known : (ticks : Option Expression) → ticks_refusals (known_in m) ticks ≡ [] → are_ticks_known (scope_of m) ticks ≡ true
+  ticks_of_known None none = refl
+  ticks_of_known (Some e) none = place_known m [] (known_in m) (knows_outside m) Number e none
+
+  ticks_known : (h : HoldTree) → hold_refusals (known_in m) h ≡ [] → are_ticks_known (scope_of m) h.ticks ≡ true
+  ticks_known h none = ticks_of_known h.ticks (both_nil (phase_refusals (known_in m) h.phase) (ticks_refusals (known_in m) h.ticks) none).1
+
+  holds_known_from : (holds : List HoldTree) → flat_map (hold_refusals (known_in m)) holds ≡ [] → AllByRecursion (λ (h : HoldTree). are_ticks_known (scope_of m) h.ticks ≡ true) holds
+  holds_known_from [] none = tt
+  holds_known_from (h ∷ holds) none =
+      let both = both_nil (hold_refusals (known_in m) h) (flat_map (hold_refusals (known_in m)) holds) none in
+      (ticks_known h both.0, holds_known_from holds both.1)
+
+  pub rules_known : atomic_refusals m ≡ [] → All (λ (r : RuleTree). are_names_known (scope_of m) [] r.body ≡ true) m.rules
+  rules_known e = All-from_recursion _ m.rules (rules_known_from m.rules (parts_of_none m e).rules)
+
+  pub holds_known : atomic_refusals m ≡ [] → All (λ (h : HoldTree). are_ticks_known (scope_of m) h.ticks ≡ true) m.holds
+  holds_known e = All-from_recursion _ m.holds (holds_known_from m.holds (parts_of_none m e).holds)
+
+-- ---- Data of variables, flags and bags
+
 -- the datum at the place of an entry
 record FitsAt (ds : List Datum) (place : ℕ) (o : Domain) : Type 0 where
   datum : Datum
@@ -281,21 +476,13 @@ fits_at (v ∷ vs) (d ∷ ds) (suc place) o e is =
     let h = fits_at vs ds place o (both_true (datum_fits v.1 d) (data_fit vs ds) e).1 is in
     record { datum = h.datum; there = h.there; fitting = h.fitting }
 
-pub entry_holds : (scope : Scope) (s : State) (q : ℕ) (d : Domain) → fits_in scope s ≡ true
-    → entry_in scope.variables q ≡ Some d → (h : HoldsDatum scope s q) × (h.domain ≡ d)
-entry_holds scope s q d fit is =
-    let h = has_entry 0 q scope.variables d is in
-    let held = fits_at scope.variables s.variables h.offset d (both_true _ (data_fit scope.variables s.variables) fit).1 h.there in
-    let at_start : 0 + h.offset ≡ h.offset = omega arith in (
-      record { place = h.offset; found = h.found ∙ ap (λ n. Some n) at_start; domain = d; declared = h.there; datum = held.datum; there = held.there; fitting = held.fitting },
-      refl,
-    )
+datum_held_at : (scope : Scope) (s : State) (q : ℕ) (d : Domain) (o : Option ℕ) → data_fit scope.variables s.variables ≡ true
+    → place_of q (names_of scope.variables) ≡ o → domain_at scope.variables o ≡ Some d → HoldsDatum scope s q d
+datum_held_at scope s q d None fit found is = absurd (cc)
+datum_held_at scope s q d (Some place) fit found is =
+    let held = fits_at scope.variables s.variables place d fit is in
+    record { place = place; found = found; datum = held.datum; there = held.there; fitting = held.fitting }
 
-some_of : {A : Type 0} (o : Option A) → is_some o ≡ true → (x : A) × (o ≡ Some x)
-some_of None e = absurd (cc)
-some_of (Some x) e = (x, refl)
-
-pub variable_holds : (scope : Scope) (s : State) (q : ℕ) → fits_in scope s ≡ true → is_variable scope q ≡ true → HoldsDatum scope s q
-variable_holds scope s q fit known =
-    let entry = some_of (entry_in scope.variables q) (sym (declared_entry scope.variables q) ∙ known) in
-    (entry_holds scope s q entry.0 fit entry.1).0
+pub datum_held : (scope : Scope) (s : State) (q : ℕ) (d : Domain) → fits_in scope s ≡ true → domain_named scope q ≡ Some d → HoldsDatum scope s q d
+datum_held scope s q d fit is =
+    datum_held_at scope s q d (place_of q (names_of scope.variables)) (both_true _ (data_fit scope.variables s.variables) fit).1 refl is

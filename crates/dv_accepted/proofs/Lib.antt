@@ -1,3 +1,5 @@
 pub mod Fitting
+pub mod Bags
+pub mod Effects
 pub mod Known
 pub mod Typed

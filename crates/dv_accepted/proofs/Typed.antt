@@ -1,12 +1,16 @@
 -- Accepted expressions have types, and their values are of these.
-use Rattle.std.proofs.Common.{◌≡◌, ℕ, ℤ, Bool, true, false, not, if◌then◌else◌, [], ◌++◌, refl, sym, ap, ◌∙◌, Option, Some, None, Result, Ok, Err, pos, neg_ℤ, ◌+ℤ◌, ◌-ℤ◌, ◌*ℤ◌, int_div, int_rem}
+use Rattle.std.proofs.Common.{◌≡◌, ℕ, ℤ, Bool, true, false, not, ◌==◌, if◌then◌else◌, List, [], ◌∷◌, ◌++◌, refl, sym, ap, ◌∙◌, Option, Some, None, Result, Ok, Err, pos, neg_ℤ, ◌+ℤ◌, ◌-ℤ◌, ◌*ℤ◌, int_div, int_rem}
 use Rattle.std.specs.Ordering.{int_eq}
 use Rattle.dv_lex.specs.declared.error.RefusalNumber.TheVariants.{E8}
 use Rattle.dv_syntax.specs.declared.tree.Prefix.{Prefix}
 use Rattle.dv_syntax.specs.declared.tree.Prefix.TheVariants.{Minus, Not}
 use Rattle.dv_syntax.specs.declared.tree.Operator.{Operator}
 use Rattle.dv_syntax.specs.declared.tree.Operator.TheVariants.{Or, And, Add, Subtract, Multiply, Divide, Remainder, Equal, Unequal, Less, AtMost, Greater, AtLeast}
-use Rattle.dv_syntax.specs.Trees.{AtomicTree, Expression, Literal, TruthValue, Named, Parens, Prefixed, Binary}
+use Rattle.dv_syntax.specs.declared.tree.Name.{Name}
+use Rattle.dv_syntax.specs.declared.tree.BagCall.{BagCall}
+use Rattle.dv_syntax.specs.declared.tree.BagCall.TheVariants.{Size, Sum, Least, Most}
+use Rattle.dv_syntax.specs.Trees.{AtomicTree, Expression, Literal, TruthValue, Named, Parens, Prefixed, Binary, Call, Times}
+use Rattle.dv_bag.specs.Bag.{Counts, count_of, least, most, sum_or_overflow, total}
 use Rattle.dv_bag.specs.Outcome.{◌>>=◌}
 use Rattle.dv_bag.specs.declared.fault.Fault.{Fault}
 use Rattle.dv_bag.specs.declared.fault.Fault.TheVariants as fault
@@ -18,18 +22,19 @@ use Rattle.dv_bag.specs.declared.state.State.{State}
 use Rattle.dv_eval.specs.declared.scope.Domain.{Domain}
 use Rattle.dv_eval.specs.declared.scope.Domain.TheVariants as domain
 use Rattle.dv_eval.specs.Scope.{Scope, scope_of}
-use Rattle.dv_eval.specs.Meaning.{datum_at, is_decided, is_kept, meaning, number_of, number_or_overflow, operator_result, prefix_result, truth_of, value_of_datum, value_of_name}
+use Rattle.dv_eval.specs.Meaning.{bag_of_name, call_result, datum_at, datum_of_name, is_decided, is_kept, loop_value, meaning, moment_in, number_of, number_or_empty, number_or_overflow, operator_result, prefix_result, truth_of, value_in_loop, value_of_datum, value_of_name}
 use Rattle.dv_check.specs.declared.declarations.NameSort.{NameSort}
-use Rattle.dv_check.specs.declared.declarations.NameSort.TheVariants.{Variable as ForVariable, Flag as ForFlag, Output as ForOutput}
+use Rattle.dv_check.specs.declared.declarations.NameSort.TheVariants.{Variable as ForVariable, Flag as ForFlag, Bag as ForBag, Output as ForOutput, LoopVariable as ForLoopVariable}
 use Rattle.dv_check.specs.declared.expression.ValueType.{ValueType}
 use Rattle.dv_check.specs.declared.expression.ValueType.TheVariants.{Number, Truth}
 use Rattle.dv_check.specs.Names.{refusal_if}
-use Rattle.dv_check.specs.Types.{alike, both_of, differ, expression_refusals, first_place, is_of, operand_refusals, operands_wanted, place_refusals, same_type, type_if, type_of, type_of_name, type_of_operator, type_of_prefix, type_refusals, value_name_refusals}
-use Rattle.dv_check.specs.Rules.{sort_in}
-use Rattle.dv_accepted.specs.Fitting.{datum_fits, fits_in, HoldsDatum, is_of_type}
+use Rattle.dv_check.specs.Types.{alike, bag_name_refusals, both_of, differ, expression_refusals, first_place, is_bag, is_of, operand_refusals, operands_wanted, place_refusals, same_type, type_if, type_of, type_of_name, type_of_operator, type_of_prefix, type_refusals, value_name_refusals}
+use Rattle.dv_check.specs.Rules.{known_in, sort_in}
+use Rattle.dv_accepted.specs.Fitting.{datum_fits, fits_in, HoldsDatum, is_of_type, known_within, values_within}
 use Rattle.dv_check.proofs.Accepted.{both_nil}
-use Rattle.dv_accepted.proofs.Fitting.{gave}
-use Rattle.dv_accepted.proofs.Known.{entry_holds, is_stored, sort_entered, sort_of_domain}
+use Rattle.dv_accepted.proofs.Fitting.{and_true}
+use Rattle.dv_accepted.proofs.Effects.{gave}
+use Rattle.dv_accepted.proofs.Known.{bag_name_known, datum_held, is_of_loop, is_stored, of_no_loop, sort_named, sort_of_domain}
 
 -- ---- An expression without refusals has a type
 
@@ -81,7 +86,9 @@ value_name_typed : (o : Option NameSort) (place : ℕ) → value_name_refusals o
 value_name_typed None place e = absurd (cc)
 value_name_typed (Some ForVariable) place e = (Number, refl)
 value_name_typed (Some ForFlag) place e = (Truth, refl)
+value_name_typed (Some ForBag) place e = absurd (cc)
 value_name_typed (Some ForOutput) place e = absurd (cc)
+value_name_typed (Some ForLoopVariable) place e = (Number, refl)
 
 wanted_type : (wanted t : ValueType) (place : ℕ) → refusal_if (not (same_type wanted t)) E8 place ≡ [] → wanted ≡ t
 wanted_type Number Number place e = refl
@@ -113,6 +120,13 @@ module _ (sort : ℕ → Option NameSort) where
       let left = both_nil (expression_refusals sort a) (expression_refusals sort b ++ operands) none in
       let right = both_nil (expression_refusals sort b) operands left.1 in
       operands_typed o (type_of sort a) (type_of sort b) (first_place a) (first_place b) (expression_typed a left.0) (expression_typed b right.0) right.1
+  expression_typed (Call c place bag) none = some_if (is_bag (sort bag.number)) Number (bag_name_known (sort bag.number) bag.place none)
+  expression_typed (Times place e bag) none =
+      let wanted = type_refusals Number (type_of sort e) (first_place e) in
+      let left = both_nil (expression_refusals sort e) (wanted ++ bag_name_refusals (sort bag.number) bag.place) none in
+      let right = both_nil wanted (bag_name_refusals (sort bag.number) bag.place) left.1 in
+      let of_wanted = type_wanted Number (type_of sort e) (first_place e) (expression_typed e left.0) right.0 in
+      some_if _ Number (and_true (is_of Number (type_of sort e)) (is_bag (sort bag.number)) (ap (is_of Number) of_wanted) (bag_name_known (sort bag.number) bag.place right.1))
 
   pub place_typed : (wanted : ValueType) (e : Expression) → place_refusals wanted sort e ≡ [] → type_of sort e ≡ Some wanted
   place_typed wanted e none =
@@ -128,6 +142,12 @@ of_type_if false t u v e h = absurd (cc)
 number_if : (b : Bool) (n : ℤ) (f : Fault) (v : Value) → (if b then Ok (value.Number n) else Err f) ≡ Ok v → is_of_type Number v ≡ true
 number_if true n f v e = let same : value.Number n ≡ v = cc in rw (← same) refl
 number_if false n f v e = absurd (cc)
+
+abbrev ok_number : ℤ → Result Value Fault
+ok_number n = Ok (value.Number n)
+
+number : (n : ℤ) (v : Value) → ok_number n ≡ Ok v → is_of_type Number v ≡ true
+number n v e = let same : value.Number n ≡ v = cc in rw (← same) refl
 
 kept_number : (n : ℤ) (v : Value) → number_or_overflow n ≡ Ok v → is_of_type Number v ≡ true
 kept_number n v e = number_if (is_kept n) n fault.Overflow v e
@@ -186,15 +206,27 @@ asked_typed false o a b t x v right asked typed e =
     let given = gave right (λ y. operator_result o x y) v e in
     result_typed o a b t x given.value v typed given.then_
 
+bag_end_typed : (o : Option ℤ) (v : Value) → number_or_empty o ≡ Ok v → is_of_type Number v ≡ true
+bag_end_typed None v e = absurd (cc)
+bag_end_typed (Some n) v e = number n v e
+
+call_typed : (c : BagCall) (b : Counts) (v : Value) → call_result c b ≡ Ok v → is_of_type Number v ≡ true
+call_typed Size b v e = number (pos (total b)) v e
+call_typed Sum b v e = let sum = gave (sum_or_overflow b) ok_number v e in number sum.value v sum.then_
+call_typed Least b v e = bag_end_typed (least b) v e
+call_typed Most b v e = bag_end_typed (most b) v e
+
 prefix_typed : (o : Prefix) (b : Bool) (t : ValueType) (x v : Value) → type_if b (type_of_prefix o) ≡ Some t → prefix_result o x ≡ Ok v → is_of_type t v ≡ true
 prefix_typed Minus b t x v typed e = of_type_if b Number t v typed (kept_number (neg_ℤ (number_of x)) v e)
 prefix_typed Not b t x v typed e = of_type_if b Truth t v typed (truth _ v e)
 
-name_stored : (o : Option NameSort) (t : ValueType) → type_of_name o ≡ Some t → is_stored o ≡ true
-name_stored None t e = absurd (cc)
-name_stored (Some ForVariable) t e = refl
-name_stored (Some ForFlag) t e = refl
-name_stored (Some ForOutput) t e = absurd (cc)
+name_stored : (o : Option NameSort) (t : ValueType) → is_of_loop o ≡ false → type_of_name o ≡ Some t → is_stored o ≡ true
+name_stored None t outside e = absurd (cc)
+name_stored (Some ForVariable) t outside e = refl
+name_stored (Some ForFlag) t outside e = refl
+name_stored (Some ForBag) t outside e = refl
+name_stored (Some ForOutput) t outside e = absurd (cc)
+name_stored (Some ForLoopVariable) t outside e = absurd (cc)
 
 -- a datum of a domain is of the type of its names
 datum_typed : (o : Domain) (d : Datum) (t : ValueType) → datum_fits o d ≡ true → type_of_name (Some (sort_of_domain o)) ≡ Some t
@@ -205,12 +237,46 @@ datum_typed (domain.Number range) (datum.Bag b) t fit typed = absurd (cc)
 datum_typed (domain.Flag start) (datum.Number n) t fit typed = absurd (cc)
 datum_typed (domain.Flag start) (datum.Flag b) t fit typed = let same : Truth ≡ t = cc in rw (← same) refl
 datum_typed (domain.Flag start) (datum.Bag b) t fit typed = absurd (cc)
+datum_typed (domain.Bag capacity) d t fit typed = absurd (cc)
 
-value_held : (scope : Scope) (s : State) (q : ℕ) (h : HoldsDatum scope s q) → value_of_name scope s q ≡ value_of_datum (Some h.datum)
-value_held scope s q h = ap (λ o. value_of_datum (datum_at s.variables o)) h.found ∙ ap value_of_datum h.there
+value_held : (scope : Scope) (s : State) (q : ℕ) (d : Domain) (h : HoldsDatum scope s q d)
+    → value_of_datum (datum_of_name scope s q) ≡ value_of_datum (Some h.datum)
+value_held scope s q d h = ap (λ o. value_of_datum (datum_at s.variables o)) h.found ∙ ap value_of_datum h.there
+
+-- in the block of one loop more
+typed_if : (b : Bool) (o : Option NameSort) (t : ValueType) (n : ℤ) (outer : Option ℤ) (v : Value)
+    → type_of_name (if b then Some ForLoopVariable else o) ≡ Some t
+    → (type_of_name o ≡ Some t → is_of_type t (value_in_loop outer v) ≡ true)
+    → is_of_type t (value_in_loop (if b then Some n else outer) v) ≡ true
+typed_if true o t n outer v typed later = let same : Number ≡ t = cc in rw (← same) refl
+typed_if false o t n outer v typed later = later typed
 
 module _ (m : AtomicTree) (s : State) (fit : fits_in (scope_of m) s ≡ true) where
-  pub value_typed : (e : Expression) (t : ValueType) (v : Value) → type_of (sort_in m.declarations) e ≡ Some t → meaning (scope_of m) s e ≡ Ok v → is_of_type t v ≡ true
+  stored_typed : (q : ℕ) (t : ValueType) → type_of_name (sort_in m.declarations q) ≡ Some t
+      → is_of_type t (value_of_datum (datum_of_name (scope_of m) s q)) ≡ true
+  stored_typed q t typed =
+      let stored = name_stored (sort_in m.declarations q) t (of_no_loop q m.declarations) typed in
+      let named = sort_named m q stored in
+      let holds = datum_held (scope_of m) s q named.0 fit named.1 in
+      ap (is_of_type t) (value_held (scope_of m) s q named.0 holds)
+      ∙ datum_typed named.0 holds.datum t holds.fitting (ap type_of_name named.2 ∙ typed)
+
+  name_typed : (bound : List (Name × ℤ)) (q : ℕ) (t : ValueType) → type_of_name ((known_within bound (known_in m)).sort q) ≡ Some t
+      → is_of_type t (value_of_name (scope_of m) (moment_in (values_within bound) s) q) ≡ true
+  name_typed [] q t typed = stored_typed q t typed
+  name_typed (l ∷ bound) q t typed =
+      let outer = loop_value q (values_within bound) in
+      let stored = value_of_datum (datum_of_name (scope_of m) s q) in
+      typed_if (l.0.number == q) ((known_within bound (known_in m)).sort q) t l.1 outer stored typed (name_typed bound q t)
+
+module _ (m : AtomicTree) (bound : List (Name × ℤ)) (s : State) (fit : fits_in (scope_of m) s ≡ true) where
+  abbrev sort : ℕ → Option NameSort
+  sort = (known_within bound (known_in m)).sort
+
+  abbrev given : Expression → Result Value Fault
+  given e = meaning (scope_of m) (moment_in (values_within bound) s) e
+
+  pub value_typed : (e : Expression) (t : ValueType) (v : Value) → type_of sort e ≡ Some t → given e ≡ Ok v → is_of_type t v ≡ true
   value_typed (Literal n) t v typed is =
       let same : Number ≡ t = cc in
       let number : value.Number (pos n.value) ≡ v = cc in
@@ -220,19 +286,19 @@ module _ (m : AtomicTree) (s : State) (fit : fits_in (scope_of m) s ≡ true) wh
       let truth_value : value.Truth b ≡ v = cc in
       rw (← same, ← truth_value) refl
   value_typed (Named name) t v typed is =
-      let entered = sort_entered m name.number (name_stored (sort_in m.declarations name.number) t typed) in
-      let holds = entry_holds (scope_of m) s name.number entered.domain fit entered.there in
-      let same : value_of_name (scope_of m) s name.number ≡ v = cc in
-      ap (is_of_type t) (sym same ∙ value_held (scope_of m) s name.number holds.0)
-      ∙ datum_typed holds.0.domain holds.0.datum t holds.0.fitting
-      (ap (λ d. type_of_name (Some (sort_of_domain d))) holds.1 ∙ ap type_of_name entered.sort ∙ typed)
+      let same : value_of_name (scope_of m) (moment_in (values_within bound) s) name.number ≡ v = cc in
+      ap (is_of_type t) (sym same) ∙ name_typed m s fit bound name.number t typed
   value_typed (Parens place e) t v typed is = value_typed e t v typed is
   value_typed (Prefixed o place e) t v typed is =
-      let first = gave (meaning (scope_of m) s e) (λ x. prefix_result o x) v is in
+      let first = gave (given e) (λ x. prefix_result o x) v is in
       prefix_typed o _ t first.value v typed first.then_
   value_typed (Binary o a b) t v typed is =
-      let sort = sort_in m.declarations in
-      let right = meaning (scope_of m) s b in
-      let rest = λ (x : Value). if is_decided o x then ok_truth (truth_of x) else (right >>= λ y. operator_result o x y) in
-      let first = gave (meaning (scope_of m) s a) rest v is in
-      asked_typed (is_decided o first.value) o (type_of sort a) (type_of sort b) t first.value v right refl typed first.then_
+      let rest = λ (x : Value). if is_decided o x then ok_truth (truth_of x) else (given b >>= λ y. operator_result o x y) in
+      let first = gave (given a) rest v is in
+      asked_typed (is_decided o first.value) o (type_of sort a) (type_of sort b) t first.value v (given b) refl typed first.then_
+  value_typed (Call c place b) t v typed is =
+      of_type_if _ Number t v typed (call_typed c (bag_of_name (scope_of m) (moment_in (values_within bound) s) b.number) v is)
+  value_typed (Times place e b) t v typed is =
+      let counted = bag_of_name (scope_of m) (moment_in (values_within bound) s) b.number in
+      let first = gave (given e) (λ x. ok_number (pos (count_of (number_of x) counted))) v is in
+      of_type_if _ Number t v typed (number (pos (count_of (number_of first.value) counted)) v first.then_)

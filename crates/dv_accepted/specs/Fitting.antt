@@ -1,7 +1,10 @@
 -- States that fit a model: what a model can reach. In such a state the meaning of what is accepted never takes a name for
 -- unknown, nor a truth value for a number.
-use Rattle.std.specs.Prelude.{◌≡◌, ℕ, ◌<◌, Bool, true, false, ◌&&◌, nat_lt, slice_get, List, [], ◌∷◌, length, option_map, Option, Some, None}
-use Rattle.dv_syntax.specs.Trees.{AtomicTree, Statements, Done, Assign, Goto, Send, If, IfElse}
+use Rattle.std.specs.Prelude.{◌≡◌, ℕ, ℤ, ◌<◌, Bool, true, false, not, ◌&&◌, ◌||◌, nat_lt, nat_le, slice_get, List, [], ◌∷◌, length, option_map, Option, Some, None}
+use Rattle.dv_syntax.specs.declared.tree.Name.{Name}
+use Rattle.dv_syntax.specs.Trees.{AtomicTree, Expression, Literal, TruthValue, Named, Parens, Prefixed, Binary, Call, Times, Statements, Done, Assign, Goto, Send, If, IfElse, For, Add, Drop}
+use Rattle.dv_bag.specs.Bag.{total}
+use Rattle.dv_bag.specs.declared.TheConstants.{GREATEST_COUNT}
 use Rattle.dv_bag.specs.declared.value.Value.{Value}
 use Rattle.dv_bag.specs.declared.value.Value.TheVariants as value
 use Rattle.dv_bag.specs.declared.state.Datum.{Datum}
@@ -13,9 +16,10 @@ use Rattle.dv_eval.specs.Scope.{Scope, is_declared, names_of, place_of, scope_of
 use Rattle.dv_eval.specs.Meaning.{is_within}
 use Rattle.dv_check.specs.declared.expression.ValueType.{ValueType}
 use Rattle.dv_check.specs.declared.expression.ValueType.TheVariants.{Number, Truth}
-use Rattle.dv_check.specs.Rules.{names_only}
+use Rattle.dv_check.specs.Rules.{Known, known_in_loop}
 
--- a number within the range of its variable, and a truth value for a flag
+-- a number within the range of its variable, a truth value for a flag, and for a bag no more values than its capacity, which is a
+-- capacity that a bag may have
 abbrev pub datum_fits : Domain → Datum → Bool
 datum_fits (domain.Number range) (datum.Number n) = is_within range.low range.high n
 datum_fits (domain.Number range) (datum.Flag b) = false
@@ -23,15 +27,19 @@ datum_fits (domain.Number range) (datum.Bag b) = false
 datum_fits (domain.Flag start) (datum.Number n) = false
 datum_fits (domain.Flag start) (datum.Flag b) = true
 datum_fits (domain.Flag start) (datum.Bag b) = false
+datum_fits (domain.Bag capacity) (datum.Number n) = false
+datum_fits (domain.Bag capacity) (datum.Flag b) = false
+datum_fits (domain.Bag capacity) (datum.Bag b) = nat_le (total b) capacity && nat_le capacity GREATEST_COUNT
 
--- one datum for each variable and flag
+-- one datum for each variable, flag and bag
 abbrev pub data_fit : List (ℕ × Domain) → List Datum → Bool
 data_fit [] [] = true
 data_fit (v ∷ variables) (d ∷ ds) = datum_fits v.1 d && data_fit variables ds
 data_fit [] (d ∷ ds) = false
 data_fit (v ∷ variables) [] = false
 
--- a phase of the model, and for each variable a number within its range, for each flag a truth value
+-- a phase of the model, and for each variable a number within its range, for each flag a truth value, for each bag one within its
+-- capacity
 abbrev pub fits_in : Scope → State → Bool
 fits_in scope s = nat_lt s.phase (length scope.phases) && data_fit scope.variables s.variables
 
@@ -47,18 +55,75 @@ abbrev pub LeadsToPhase : Scope → Option ℕ → Type 0
 LeadsToPhase scope None = Unit {0}
 LeadsToPhase scope (Some place) = place < length scope.phases
 
+-- what the variable, flag or bag of a name may hold
+abbrev pub domain_at : List (ℕ × Domain) → Option ℕ → Option Domain
+domain_at variables None = None
+domain_at variables (Some place) = option_map (λ v. v.1) (slice_get variables place)
+
+abbrev pub domain_named : Scope → ℕ → Option Domain
+domain_named scope name = domain_at scope.variables (place_of name (names_of scope.variables))
+
+abbrev pub has_value : Option Domain → Bool
+has_value None = false
+has_value (Some (domain.Number range)) = true
+has_value (Some (domain.Flag start)) = true
+has_value (Some (domain.Bag capacity)) = false
+
+abbrev pub has_values : Option Domain → Bool
+has_values None = false
+has_values (Some (domain.Number range)) = false
+has_values (Some (domain.Flag start)) = false
+has_values (Some (domain.Bag capacity)) = true
+
 -- a variable or a flag
 abbrev pub is_variable : Scope → ℕ → Bool
-is_variable scope name = is_declared name (names_of scope.variables)
+is_variable scope name = has_value (domain_named scope name)
 
--- all names of statements are known: variables and flags, phases and ports
-abbrev pub are_names_known : Scope → Statements → Bool
-are_names_known scope Done = true
-are_names_known scope (Assign variable e rest) = is_variable scope variable.number && (names_only (is_variable scope) e && are_names_known scope rest)
-are_names_known scope (Goto place phase rest) = is_declared phase.number scope.phases && are_names_known scope rest
-are_names_known scope (Send place port e rest) = is_declared port.number scope.outputs && (names_only (is_variable scope) e && are_names_known scope rest)
-are_names_known scope (If place e block rest) = names_only (is_variable scope) e && (are_names_known scope block && are_names_known scope rest)
-are_names_known scope (IfElse place e block other rest) = names_only (is_variable scope) e && (are_names_known scope block && (are_names_known scope other && are_names_known scope rest))
+-- a bag
+abbrev pub is_bag : Scope → ℕ → Bool
+is_bag scope name = has_values (domain_named scope name)
+
+-- a loop around that has this variable, or else a variable or a flag of the model
+abbrev pub is_value : Scope → List ℕ → ℕ → Bool
+is_value scope loops name = is_declared name loops || is_variable scope name
+
+-- a variable or a flag of the model that no loop around hides
+abbrev pub is_assignable : Scope → List ℕ → ℕ → Bool
+is_assignable scope loops name = is_variable scope name && not (is_declared name loops)
+
+-- all names of an expression are known: where a value is wanted of values, and else of bags
+abbrev pub are_terms_known : Scope → List ℕ → Expression → Bool
+are_terms_known scope loops (Literal n) = true
+are_terms_known scope loops (TruthValue place value) = true
+are_terms_known scope loops (Named name) = is_value scope loops name.number
+are_terms_known scope loops (Parens place e) = are_terms_known scope loops e
+are_terms_known scope loops (Prefixed operator place e) = are_terms_known scope loops e
+are_terms_known scope loops (Binary operator a b) = are_terms_known scope loops a && are_terms_known scope loops b
+are_terms_known scope loops (Call call place b) = is_bag scope b.number
+are_terms_known scope loops (Times place e b) = are_terms_known scope loops e && is_bag scope b.number
+
+-- those of a hold
+abbrev pub are_ticks_known : Scope → Option Expression → Bool
+are_ticks_known scope None = true
+are_ticks_known scope (Some e) = are_terms_known scope [] e
+
+-- all names of statements in loops of these variables are known: variables and flags, bags, phases and ports; no loop variable is
+-- assigned
+abbrev pub are_names_known : Scope → List ℕ → Statements → Bool
+are_names_known scope loops Done = true
+are_names_known scope loops (Assign variable e rest) =
+    is_assignable scope loops variable.number && (are_terms_known scope loops e && are_names_known scope loops rest)
+are_names_known scope loops (Goto place phase rest) = is_declared phase.number scope.phases && are_names_known scope loops rest
+are_names_known scope loops (Send place port e rest) =
+    is_declared port.number scope.outputs && (are_terms_known scope loops e && are_names_known scope loops rest)
+are_names_known scope loops (If place e block rest) =
+    are_terms_known scope loops e && (are_names_known scope loops block && are_names_known scope loops rest)
+are_names_known scope loops (IfElse place e block other rest) =
+    are_terms_known scope loops e && (are_names_known scope loops block && (are_names_known scope loops other && are_names_known scope loops rest))
+are_names_known scope loops (For place v b block rest) =
+    is_bag scope b.number && (are_names_known scope (v.number ∷ loops) block && are_names_known scope loops rest)
+are_names_known scope loops (Add place e b rest) = are_terms_known scope loops e && (is_bag scope b.number && are_names_known scope loops rest)
+are_names_known scope loops (Drop place e b rest) = are_terms_known scope loops e && (is_bag scope b.number && are_names_known scope loops rest)
 
 -- a value of a type
 abbrev pub is_of_type : ValueType → Value → Bool
@@ -67,12 +132,20 @@ is_of_type Number (value.Truth b) = false
 is_of_type Truth (value.Number n) = false
 is_of_type Truth (value.Truth b) = true
 
--- the name is that of a variable, which has a number within its range in the state, or of a flag, which has a truth value
-pub record HoldsDatum (scope : Scope) (s : State) (name : ℕ) : Type 0 where
+-- what is known in the blocks of loops with these variables, the innermost first
+abbrev pub known_within : List (Name × ℤ) → Known → Known
+known_within [] known = known
+known_within (v ∷ bound) known = known_in_loop v.0 (known_within bound known)
+
+-- the values of loop variables as a moment has them
+abbrev pub values_within : List (Name × ℤ) → List (ℕ × ℤ)
+values_within [] = []
+values_within (v ∷ bound) = (v.0.number, v.1) ∷ values_within bound
+
+-- the state has a datum of this domain at the place of the name
+pub record HoldsDatum (scope : Scope) (s : State) (name : ℕ) (d : Domain) : Type 0 where
   pub place : ℕ
   pub found : place_of name (names_of scope.variables) ≡ Some place
-  pub domain : Domain
-  pub declared : option_map (λ v. v.1) (slice_get scope.variables place) ≡ Some domain
   pub datum : Datum
   pub there : slice_get s.variables place ≡ Some datum
-  pub fitting : datum_fits domain datum ≡ true
+  pub fitting : datum_fits d datum ≡ true

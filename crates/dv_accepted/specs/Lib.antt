@@ -4,3 +4,4 @@ pub mod Fitting
 pub mod Clock
 pub mod Broken
 pub mod Flags
+pub mod Bags

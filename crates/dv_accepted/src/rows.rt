@@ -2,11 +2,13 @@
 
 ghost use Rattle.std.specs.Prelude.{◌≡◌, true, Some, None, [], ◌∷◌};
 ghost use Rattle.dv_lex.specs.declared.error.RefusalNumber.TheVariants as number;
-ghost use Rattle.dv_syntax.specs.Trees.{Binary, Named, Prefixed, TruthValue};
+ghost use Rattle.dv_syntax.specs.Trees.{Binary, Named, Prefixed, Times, TruthValue};
 ghost use Rattle.dv_syntax.specs.declared.tree.Operator.TheVariants as operator;
 ghost use Rattle.dv_syntax.specs.declared.tree.Prefix.TheVariants as prefix;
 ghost use Rattle.dv_check.specs.Names.{refusal};
 ghost use Rattle.dv_check.specs.Refusals.{refusal_of};
+ghost use Rattle.dv_check.specs.Rules.{atomic_refusals};
+ghost use Rattle.dv_accepted.specs.Bags.{assigning, below_nothing, heap, size_at, with_bag};
 ghost use Rattle.dv_accepted.specs.Broken.{of_an_unknown_part, on_one_line};
 ghost use Rattle.dv_accepted.specs.Clock.{clock, link_at, literal, named};
 ghost use Rattle.dv_accepted.specs.Flags.{with_flag};
@@ -45,4 +47,28 @@ pub fn flags_take_truth_values()
         (literal 1 93))) ≡ Some (refusal number.E8 93) }
     ensures added { refusal_of (with_flag (Binary operator.Add (TruthValue 86 true)
         (literal 1 93))) ≡ Some (refusal number.E8 86) }
+{}
+
+/// A bag is asked by calls, which give numbers: its name alone is no value. A call of what is no bag is refused at the
+/// name, and a call where a truth value is wanted at its word.
+pub fn bags_are_asked_by_calls()
+    ensures size { refusal_of (assigning (size_at 205 3)) ≡ None }
+    ensures times { refusal_of (assigning (Times 205 (Named (named 2 211)) (named 3 214))) ≡ None }
+    ensures alone { refusal_of (assigning (Named (named 3 205))) ≡ Some (refusal number.E8 205) }
+    ensures of_a_variable { refusal_of (assigning (size_at 205 2))
+        ≡ Some (refusal number.E8 210) }
+    ensures unknown { refusal_of (assigning (size_at 205 9)) ≡ Some (refusal number.E7 210) }
+    ensures of_a_truth_value { refusal_of (assigning (Times 205 (Named (named 4 211))
+        (named 3 215))) ≡ Some (refusal number.E8 211) }
+    ensures negated { refusal_of (assigning (Prefixed prefix.Not 205 (size_at 209 3)))
+        ≡ Some (refusal number.E8 209) }
+{}
+
+/// A hold that faults at the start is refused at the phase after `start`, but not where it names a bag whose capacity
+/// is refused.
+pub fn holds_of_refused_bags_are_not_asked()
+    ensures asked { refusal_of (with_bag 8 below_nothing (literal 1 205))
+        ≡ Some (refusal number.E11 81) }
+    ensures not_asked { atomic_refusals (heap 0 below_nothing (literal 1 205))
+        ≡ refusal number.E17 43 ∷ [] }
 {}

@@ -177,6 +177,17 @@ total_some v n (p ∷ ps) = by_order v p.0
 pub total_with : (v : ℤ) (n : ℕ) (b : Counts) → (capped (total (with_copies v n b)) ≡ capped (total b + n)) × (total (with_copies v n b) ≤ total b + n)
 total_with v n b = by_copies (λ new. (capped (total new) ≡ capped (total b + n)) × (total new ≤ total b + n)) v n b (λ e. (omega arith, omega arith)) (λ more. total_some v n b)
 
+pub total_without : (v : ℤ) (b : Counts) → total (without_one v b) ≤ total b
+total_without v [] = omega arith
+total_without v (p ∷ ps) = by_order v p.0
+    (λ lt. rw (cmp_less v p.0 lt) (omega arith))
+    (λ e. rw (cmp_equal v p.0 e) (one_less (nat_eq p.1 1)))
+    (λ gt. let rest = total_without v ps in rw (cmp_greater v p.0 gt) (omega arith))
+  where
+    one_less : (t : Bool) → total (cond t ps ((p.0, p.1 - 1) ∷ ps)) ≤ p.1 + total ps
+    one_less true = omega arith
+    one_less false = omega arith
+
 pub total_union : (a b : Counts) → (capped (total (union a b)) ≡ capped (total a + total b)) × (total (union a b) ≤ total a + total b)
 total_union a [] = (omega arith, omega arith)
 total_union a (p ∷ ps) =

@@ -2,8 +2,8 @@
 pub mod Bag
 pub mod Outcome
 pub mod Part
+pub mod Reading
 pub mod Words
 -- What serves proofs.
-pub mod Reading
 pub mod Same
 pub mod Sent

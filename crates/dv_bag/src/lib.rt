@@ -23,7 +23,7 @@ pub use entry::{Entry, Kind, Outer, What};
 pub use fault::{Fault, RuleError};
 pub use part::{Part, Trace};
 pub use sent::Sent;
-pub use state::{BoxedBag, Datum, DatumView, Effect, State, Variables};
+pub use state::{Datum, DatumView, Effect, HeldBag, State, Variables};
 pub use value::Value;
 
 /// The most values that are sent in one output, come to one port at one instant, or lie in a bag of a state.

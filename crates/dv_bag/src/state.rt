@@ -2,11 +2,13 @@
 
 ghost use Rattle.std.specs.Cmp.{decided, partial_equiv_from_equiv};
 ghost use Rattle.std.specs.Option.{option_map};
-ghost use Rattle.std.specs.Prelude.{◌≡◌, ◌==◌, ◌<◌, [], ◌∷◌, ◌++◌, length, slice_get, slice_set, IfOk, OnOk, OnErr};
-ghost use Rattle.dv_bag.specs.Reading.{datum_of};
+ghost use Rattle.std.specs.Prelude.{◌≡◌, ◌==◌, ◌<◌, ◌≤◌, [], ◌∷◌, ◌++◌, length, slice_get, slice_set, IfOk, IfSome, OnOk, OnErr};
+ghost use Rattle.dv_bag.specs.Bag.{total, with_copies, without_one};
+ghost use Rattle.dv_bag.specs.Reading.{HasBagAt, HoldsFew, bag_held_at, datum_of};
 ghost use Rattle.dv_bag.specs.Same.{same_bag, same_bag-decides, same_datum, same_datum-decides, same_variables, same_variables-decides};
 ghost use Rattle.dv_bag.specs.declared.state.Datum.TheVariants as datum;
 
+use crate::GREATEST_COUNT;
 use crate::bag::Bag;
 use crate::sent::Sent;
 use smallvec::SmallVec;
@@ -14,53 +16,76 @@ use std::alloc::{AllocError, Global};
 use std::default::MadeWith;
 use std::marker::Model;
 
-/// A bag in memory of its own. Two with the same values are equal, wherever they lie.
+/// A bag that a state holds, in memory of its own: it has at most `GREATEST_COUNT` values, each copy counted. Two with
+/// the same values are equal, wherever they lie.
 #[derive(Debug, Drop)]
-pub struct BoxedBag {
+pub struct HeldBag {
     bag: Box<Bag>,
 }
 
-impl Model for BoxedBag {
-    ghost use Rattle.dv_bag.specs.Bag.{Counts};
+impl Model for HeldBag {
+    ghost use Rattle.std.specs.Prelude.{◌≤◌};
+    ghost use Rattle.dv_bag.specs.Bag.{Counts, total};
+    ghost use Rattle.dv_bag.specs.declared.TheConstants.{GREATEST_COUNT};
 
     ghost Value = { Counts };
 
     ghost view = { λ b. b.bag.value };
+
+    ghost invariant = { λ b. total b.bag.value ≤ GREATEST_COUNT };
 }
 
-impl BoxedBag {
+impl HeldBag {
     /// A bag, moved to memory of its own.
     ///
     /// # Errors
     ///
     /// No memory for it. The bag is dropped.
     pub fn new(alloc: Global, bag: Bag) -> Result<Self, AllocError>
-        ensures { IfOk result (λ boxed. boxed ≡ bag) }
+        requires { total bag ≤ GREATEST_COUNT }
+        ensures { IfOk result (λ held. held ≡ bag) }
     {
-        Ok(BoxedBag {
+        Ok(HeldBag {
             bag: Box::new(alloc, bag)?,
         })
     }
 
     /// The bag.
     pub fn as_bag(&self) -> &Bag
-        ensures { result.now ≡ self.now }
+        ensures bag { result.now ≡ self.now }
+        ensures few { total self.now ≤ GREATEST_COUNT }
     {
         self.bag.as_ref()
     }
+
+    // One more copy of a value. Where there is no memory for it, the bag is as before.
+    fn insert(&mut self, value: i64) -> Result<(), AllocError>
+        requires { total self.old < GREATEST_COUNT }
+        ensures ok { OnOk result (self.new ≡ with_copies value 1 self.old) }
+        ensures err { OnErr result (self.new ≡ self.old) }
+    {
+        self.bag.insert(value)
+    }
+
+    // One copy of a value less, where there is one.
+    fn drop_one(&mut self, value: i64)
+        ensures { self.new ≡ without_one value self.old }
+    {
+        self.bag.drop_one(value);
+    }
 }
 
-impl Clone for BoxedBag {
+impl Clone for HeldBag {
     ghost is_clone = { λ b c. c ≡ b };
 
     fn clone(&self) -> Result<Self, AllocError> {
-        Ok(BoxedBag {
+        Ok(HeldBag {
             bag: self.bag.clone()?,
         })
     }
 }
 
-impl PartialEq for BoxedBag {
+impl PartialEq for HeldBag {
     ghost eq = { same_bag };
 
     ghost laws = { partial_equiv_from_equiv (decided same_bag same_bag-decides) };
@@ -70,7 +95,7 @@ impl PartialEq for BoxedBag {
     }
 }
 
-impl Eq for BoxedBag {
+impl Eq for HeldBag {
     ghost laws = { decided same_bag same_bag-decides };
 }
 
@@ -79,7 +104,7 @@ impl Eq for BoxedBag {
 pub enum Datum {
     Number(i64),
     Flag(bool),
-    Bag(BoxedBag),
+    Bag(HeldBag),
 }
 
 /// A datum as it is read: numbers and flags by value, a bag where it lies.
@@ -178,9 +203,10 @@ impl Variables {
         self.data.is_empty()
     }
 
-    /// The variable, flag or bag at a place, if there is one.
+    /// The variable, flag or bag at a place, if there is one. A bag has at most `GREATEST_COUNT` values.
     pub fn get(&self, place: usize) -> Option<DatumView<'_>>
-        ensures { option_map datum_of result ≡ slice_get self.now place }
+        ensures datum { option_map datum_of result ≡ slice_get self.now place }
+        ensures few { IfSome result (λ view. HoldsFew view) }
     {
         match self.data.as_slice().get(place) {
             None => None,
@@ -204,6 +230,35 @@ impl Variables {
         ensures { self.new ≡ slice_set self.old place (datum.Flag value) }
     {
         self.data[place] = Datum::Flag(value);
+    }
+
+    /// One more copy of a value in the bag at this place.
+    ///
+    /// # Errors
+    ///
+    /// No memory for a value that the bag lacks. The variables are as before.
+    pub fn insert(&mut self, place: usize, value: i64) -> Result<(), AllocError>
+        requires bag { HasBagAt place self.old }
+        requires room { total (bag_held_at self.old place) < GREATEST_COUNT }
+        ensures ok { OnOk result (self.new ≡ slice_set self.old place
+            (datum.Bag (with_copies value 1 (bag_held_at self.old place)))) }
+        ensures err { OnErr result (self.new ≡ self.old) }
+    {
+        match &mut self.data[place] {
+            Datum::Bag(bag) => bag.insert(value),
+            _ => Ok(()),
+        }
+    }
+
+    /// One copy of a value less in the bag at this place, where there is one.
+    pub fn drop_one(&mut self, place: usize, value: i64)
+        requires { HasBagAt place self.old }
+        ensures { self.new ≡ slice_set self.old place
+            (datum.Bag (without_one value (bag_held_at self.old place))) }
+    {
+        if let Datum::Bag(bag) = &mut self.data[place] {
+            bag.drop_one(value);
+        }
     }
 }
 

@@ -2,7 +2,7 @@
 
 use crate::compare::same;
 use dv_bag::{
-    Bag, Bags, BoxedBag, Datum, DatumView, Entry, Fault, Kind, Outer, Part, Sent, State, Variables,
+    Bag, Bags, Datum, DatumView, Entry, Fault, HeldBag, Kind, Outer, Part, Sent, State, Variables,
     What,
 };
 use dv_time::Time;
@@ -132,9 +132,9 @@ fn what_is_sent_has_a_bag_a_port(rt: HostRuntime) {
     same_at_port(&rt, &sent, 3, &[]);
 }
 
-// A state of a flag, a number and a bag of that number.
+// A state of a flag, a number and an empty bag.
 fn state_of<R: Abort + AllocGlobal>(rt: &R, number: i64) -> State {
-    let bag = BoxedBag::new(rt.alloc(), bag_of(rt, &[number])).expect(rt, "memory");
+    let bag = HeldBag::new(rt.alloc(), Bag::new(rt.alloc())).expect(rt, "memory");
     let mut variables = Variables::new(rt.alloc());
     variables.push(Datum::Flag(true)).expect(rt, "memory");
     variables.push(Datum::Number(number)).expect(rt, "memory");

@@ -2,7 +2,7 @@
 
 use crate::compare::{Call, error_text, rows};
 use dv_bag::{Effect, Fault, RuleError, State, Value};
-use dv_eval::{Scope, eval, hold, rule_body, run_rule, start_state};
+use dv_eval::{Loops, Moment, Scope, eval, hold, rule_body, run_rule, start_state};
 use dv_lex::{LoadError, tokens};
 use dv_parser::parse;
 use dv_syntax::{Atomic, File, Model, RuleSort, Ticks};
@@ -70,8 +70,12 @@ fn value_text(
     state: &State,
     scope: &Scope,
 ) -> Result<String, AllocError> {
+    let moment = Moment {
+        state,
+        loops: &Loops::Outermost,
+    };
     match ticks {
-        Ticks::After(expression) => text_of_value(alloc, eval(expression, state, scope)),
+        Ticks::After(expression) => text_of_value(alloc, eval(expression, &moment, scope)),
         Ticks::Forever => String::from_str(alloc, "forever"),
     }
 }

@@ -233,7 +233,12 @@ fn reads_up_to_the_greatest_length(rt: HostRuntime) {
 fn same_line(rt: &impl Abort, place: u32, line: u64) {
     let number = RefusalNumber::E4;
     let answer = answer(b"a\nb\r\n\nc", Refusal { number, place });
-    assert_eq!(rt; answer, TextError { number, line }, "place {place}");
+    let wanted = TextError {
+        number,
+        line,
+        place,
+    };
+    assert_eq!(rt; answer, wanted, "place {place}");
 }
 
 #[test]

@@ -1,12 +1,12 @@
--- Declared names: what stands for a port, a variable or a flag is declared in the scope of its model.
+-- Declared names: what stands for a port is declared in the scope of its model.
 use Rattle.std.proofs.Common.{◌≡◌, ℕ, ◌==◌, Bool, true, false, arith, ◌||◌, if◌then◌else◌, List, [], ◌∷◌, ◌++◌, refl, ◌∙◌, Option, Some}
 use Rattle.std.proofs.lemmas.List.Folds.{list_any-append}
 use Rattle.dv_syntax.specs.declared.tree.Name.{Name}
 use Rattle.dv_syntax.specs.declared.tree.Declaration.{Declaration}
-use Rattle.dv_syntax.specs.declared.tree.Declaration.TheVariants.{Out, Var, Flag}
+use Rattle.dv_syntax.specs.declared.tree.Declaration.TheVariants.{Out, Var, Flag, Bag}
 use Rattle.dv_eval.specs.Scope.{is_declared, outputs_in, with_name, with_names}
 use Rattle.dv_check.specs.declared.declarations.NameSort.{NameSort}
-use Rattle.dv_check.specs.declared.declarations.NameSort.TheVariants.{Variable as ForVariable, Flag as ForFlag, Output as ForOutput}
+use Rattle.dv_check.specs.declared.declarations.NameSort.TheVariants.{Variable as ForVariable, Flag as ForFlag, Bag as ForBag, Output as ForOutput}
 use Rattle.dv_check.specs.Couplings.{is_output}
 use Rattle.dv_check.specs.Rules.{sort_in}
 use Rattle.dv_check.specs.Tables.{first_of}
@@ -60,3 +60,4 @@ module _ (q : ℕ) where
   output_declared (Out port ∷ ds) names e = output_first (port.number == q) port ds names refl e (output_declared ds (with_name names port))
   output_declared (Var v ∷ ds) names e = output_declared ds names (output_if (v.name.number == q) ForVariable (sort_in ds q) refl e)
   output_declared (Flag f ∷ ds) names e = output_declared ds names (output_if (f.name.number == q) ForFlag (sort_in ds q) refl e)
+  output_declared (Bag b ∷ ds) names e = output_declared ds names (output_if (b.name.number == q) ForBag (sort_in ds q) refl e)

@@ -1,7 +1,7 @@
 pub mod Lists
 pub mod Firsts
 pub mod Found
-pub mod Statements
+pub mod Blocks
 pub mod Declared
 pub mod Accepted
 pub mod Order

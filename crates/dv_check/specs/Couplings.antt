@@ -8,7 +8,7 @@ use Rattle.dv_syntax.specs.declared.tree.Name.{Name}
 use Rattle.dv_syntax.specs.declared.tree.Part.{Part}
 use Rattle.dv_syntax.specs.declared.tree.Link.{Link}
 use Rattle.dv_check.specs.declared.declarations.NameSort.{NameSort}
-use Rattle.dv_check.specs.declared.declarations.NameSort.TheVariants.{Variable, Flag, Output}
+use Rattle.dv_check.specs.declared.declarations.NameSort.TheVariants.{Variable, Flag, Bag, Output, LoopVariable}
 use Rattle.dv_check.specs.declared.parts.Interior as tables
 use Rattle.dv_check.specs.Names.{refusal, refusal_if, among, repeats, excess, part_named}
 use Rattle.dv_check.specs.Tables.{has, value_for}
@@ -49,6 +49,8 @@ abbrev pub is_output : Option NameSort → Bool
 is_output (Some Output) = true
 is_output (Some Variable) = false
 is_output (Some Flag) = false
+is_output (Some Bag) = false
+is_output (Some LoopVariable) = false
 is_output None = false
 
 -- a port of the model itself where a link begins: its outputs are for ends

@@ -8,6 +8,7 @@ pub mod Couplings
 pub mod Refusals
 -- What the laws speak of.
 pub mod Accepted
+pub mod Loops
 -- What serves proofs.
 pub mod Findings
 pub mod Tables

@@ -1,30 +1,34 @@
--- The refusals of an atomic model: what is allowed where, phases and holds, ranges and the start.
-use Rattle.std.specs.Prelude.{ℕ, Bool, true, false, not, ◌&&◌, ◌||◌, int_lt, if◌then◌else◌, List, [], ◌∷◌, ◌++◌, map, filter_map, Option, Some, None, Result, Ok, Err}
+-- The refusals of an atomic model: what is allowed where, phases and holds, ranges and capacities, and the start.
+use Rattle.std.specs.Prelude.{ℕ, ◌==◌, Bool, true, false, not, ◌&&◌, ◌||◌, max, nat_le, int_lt, if◌then◌else◌, List, [], ◌∷◌, ◌++◌, map, filter_map, Option, Some, None, Result, Ok, Err}
 use Rattle.std.specs.List.{flat_map, list_any}
 use Rattle.dv_lex.specs.declared.error.Refusal.{Refusal}
-use Rattle.dv_lex.specs.declared.error.RefusalNumber.TheVariants.{E6, E7, E8, E9, E10, E11}
-use Rattle.dv_syntax.specs.Trees.{Expression, Literal, TruthValue, Named, Parens, Prefixed, Binary, Statements, Done, Assign, Goto, Send, If, IfElse, PhasesTree, HoldTree, RuleTree, AtomicTree}
+use Rattle.dv_lex.specs.declared.error.RefusalNumber.TheVariants.{E6, E7, E8, E9, E10, E11, E17}
+use Rattle.dv_syntax.specs.Trees.{Expression, Literal, TruthValue, Named, Parens, Prefixed, Binary, Call, Times, Statements, Done, Assign, Goto, Send, If, IfElse, For, Add, Drop, PhasesTree, HoldTree, RuleTree, AtomicTree}
 use Rattle.dv_syntax.specs.declared.tree.Name.{Name}
 use Rattle.dv_syntax.specs.declared.tree.Variable.{Variable}
+use Rattle.dv_syntax.specs.declared.tree.StateBag.{StateBag}
 use Rattle.dv_syntax.specs.declared.tree.Declaration.{Declaration}
-use Rattle.dv_syntax.specs.declared.tree.Declaration.TheVariants.{Out, Var, Flag}
+use Rattle.dv_syntax.specs.declared.tree.Declaration.TheVariants.{Out, Var, Flag, Bag}
 use Rattle.dv_syntax.specs.declared.tree.Start.{Start}
 use Rattle.dv_syntax.specs.declared.tree.RuleSort.{RuleSort}
 use Rattle.dv_syntax.specs.declared.tree.RuleSort.TheVariants as rule
+use Rattle.dv_bag.specs.declared.TheConstants.{GREATEST_COUNT}
 use Rattle.dv_eval.specs.declared.scope.VariableRange.{VariableRange}
 use Rattle.dv_eval.specs.declared.scope.Domain.{Domain}
 use Rattle.dv_eval.specs.declared.scope.Domain.TheVariants as domain
-use Rattle.dv_eval.specs.Scope.{scope_of, range_of, same_sort, start_state, hold_ticks, outputs_in, variables_in, state_variables_in, phases_in}
+use Rattle.dv_eval.specs.Scope.{scope_of, range_of, same_sort, start_state, hold_ticks, outputs_in, state_variables_in, phases_in}
 use Rattle.dv_eval.specs.Meaning.{hold_of}
 use Rattle.dv_check.specs.declared.limits.TheConstants.{GREATEST_NAMES}
 use Rattle.dv_check.specs.declared.declarations.NameSort.{NameSort}
-use Rattle.dv_check.specs.declared.declarations.NameSort.TheVariants.{Variable as ForVariable, Flag as ForFlag, Output as ForOutput}
+use Rattle.dv_check.specs.declared.declarations.NameSort.TheVariants.{Variable as ForVariable, Flag as ForFlag, Bag as ForBag, Output as ForOutput, LoopVariable as ForLoopVariable}
 use Rattle.dv_check.specs.declared.expression.ValueType.TheVariants.{Number, Truth}
 use Rattle.dv_check.specs.declared.declarations.Declarations.{Declarations}
+use Rattle.dv_check.specs.declared.environment.Environment.{Environment, fold-Environment}
+use Rattle.dv_check.specs.declared.environment.Environment.TheOpen.{Environment-F}
 use Rattle.dv_check.specs.declared.starts.Starts.{Starts}
 use Rattle.dv_check.specs.Names.{refusal, refusal_if, among, within_limit, repeats, excess}
 use Rattle.dv_check.specs.Tables.{first_of, value_for, has}
-use Rattle.dv_check.specs.Types.{type_of_name, place_refusals, value_refusals}
+use Rattle.dv_check.specs.Types.{type_of_name, bag_name_refusals, place_refusals, value_refusals}
 
 -- ---- Names
 
@@ -32,31 +36,58 @@ abbrev pub name_of_declaration : Declaration → Name
 name_of_declaration (Out port) = port
 name_of_declaration (Var v) = v.name
 name_of_declaration (Flag f) = f.name
+name_of_declaration (Bag b) = b.name
 
 abbrev pub number_of_declaration : Declaration → ℕ
 number_of_declaration d = (name_of_declaration d).number
+
+abbrev pub place_of_declaration : Declaration → ℕ
+place_of_declaration d = (name_of_declaration d).place
 
 abbrev pub sort_of : Declaration → NameSort
 sort_of (Out port) = ForOutput
 sort_of (Var v) = ForVariable
 sort_of (Flag f) = ForFlag
+sort_of (Bag b) = ForBag
 
--- what a name of a port, variable or flag stands for: of a name that is declared twice the first declaration counts
+-- what a name of a port, variable, flag or bag stands for: of a name that is declared twice the first declaration counts
 abbrev pub sort_in : List Declaration → ℕ → Option NameSort
 sort_in declarations = first_of number_of_declaration sort_of declarations
 
--- what is known of the names of an atomic model: what ports, variables and flags stand for, and the phases
+-- where the first declaration of a name stands
+abbrev pub place_in : List Declaration → ℕ → Option ℕ
+place_in declarations = first_of number_of_declaration place_of_declaration declarations
+
+-- what is known of names at a place of an atomic model: what ports, variables, flags, bags and loop variables stand for, where
+-- they are declared, and the phases
 pub record Known : Type 0 where
   pub sort : ℕ → Option NameSort
+  pub place : ℕ → Option ℕ
   pub has_phase : ℕ → Bool
 
--- the phases of all items of phases are known
+-- outside of all loops; the phases of all items of phases are known
 abbrev pub known_in : AtomicTree → Known
-known_in m = record { sort = sort_in m.declarations; has_phase = among (phases_in m.phases) }
+known_in m = record { sort = sort_in m.declarations; place = place_in m.declarations; has_phase = among (phases_in m.phases) }
+
+-- in the block of a loop its variable is known, and hides what else has its name
+abbrev pub known_in_loop : Name → Known → Known
+known_in_loop v known = record {
+  sort = λ q. if v.number == q then Some ForLoopVariable else known.sort q;
+  place = λ q. if v.number == q then Some v.place else known.place q;
+  has_phase = known.has_phase;
+}
 
 -- what tables know
 abbrev pub known_by : Declarations → Known
-known_by d = record { sort = value_for d.sorts; has_phase = has d.phases }
+known_by d = record { sort = value_for d.sorts; place = value_for d.places; has_phase = has d.phases }
+
+-- what an environment knows: its model's tables, and the variables of the loops around
+abbrev pub environment_step : Environment-F Known → Known
+environment_step (Environment-F.Model declarations) = known_by declarations.now
+environment_step (Environment-F.Loop variable outer) = known_in_loop variable outer.now
+
+abbrev pub known_at : Environment → Known
+known_at = fold-Environment Known environment_step
 
 -- the phase of a rule of a sort
 abbrev pub ruled_phase : RuleSort → RuleTree → Option Name
@@ -127,22 +158,37 @@ standing_refusals m =
 
 -- ---- Statements, holds and ranges
 
--- the variable of an assignment: known, a variable or a flag, and not in an output rule
+-- the variable of an assignment: known, a variable or a flag, and not in an output rule; a loop variable is never assigned
 abbrev pub assignment_refusals : RuleSort → Option NameSort → ℕ → List Refusal
 assignment_refusals sort None place = refusal E7 place ∷ []
 assignment_refusals sort (Some ForOutput) place = refusal E8 place ∷ []
 assignment_refusals sort (Some ForVariable) place = refusal_if (same_sort sort rule.Output) E9 place
 assignment_refusals sort (Some ForFlag) place = refusal_if (same_sort sort rule.Output) E9 place
+assignment_refusals sort (Some ForBag) place = refusal E8 place ∷ []
+assignment_refusals sort (Some ForLoopVariable) place = refusal E9 place ∷ []
 
 -- the port of a send: known, and an output
 abbrev pub sent_port_refusals : Option NameSort → ℕ → List Refusal
 sent_port_refusals None place = refusal E7 place ∷ []
 sent_port_refusals (Some ForVariable) place = refusal E8 place ∷ []
 sent_port_refusals (Some ForFlag) place = refusal E8 place ∷ []
+sent_port_refusals (Some ForBag) place = refusal E8 place ∷ []
 sent_port_refusals (Some ForOutput) place = []
+sent_port_refusals (Some ForLoopVariable) place = refusal E8 place ∷ []
 
 abbrev pub phase_refusals : Known → Name → List Refusal
 phase_refusals known phase = refusal_if (not (known.has_phase phase.number)) E7 phase.place
+
+-- a loop variable whose name is that of an item or of the variable of a loop around: of the two the second in the text is refused
+abbrev pub loop_variable_refusals : Option ℕ → ℕ → List Refusal
+loop_variable_refusals None place = []
+loop_variable_refusals (Some declared) place = refusal E6 (max declared place) ∷ []
+
+-- one more or one less of a value in a bag: not in an output rule
+abbrev pub change_refusals : Known → RuleSort → ℕ → Expression → Name → List Refusal
+change_refusals known sort place value bag =
+    refusal_if (same_sort sort rule.Output) E9 place
+    ++ (place_refusals Number known.sort value ++ bag_name_refusals (known.sort bag.number) bag.place)
 
 abbrev pub statements_refusals : Known → RuleSort → Statements → List Refusal
 statements_refusals known sort Done = []
@@ -157,6 +203,12 @@ statements_refusals known sort (If place condition block rest) =
     place_refusals Truth known.sort condition ++ (statements_refusals known sort block ++ statements_refusals known sort rest)
 statements_refusals known sort (IfElse place condition block other rest) =
     place_refusals Truth known.sort condition ++ (statements_refusals known sort block ++ (statements_refusals known sort other ++ statements_refusals known sort rest))
+statements_refusals known sort (For place variable bag block rest) =
+    loop_variable_refusals (known.place variable.number) variable.place
+    ++ (bag_name_refusals (known.sort bag.number) bag.place
+    ++ (statements_refusals (known_in_loop variable known) sort block ++ statements_refusals known sort rest))
+statements_refusals known sort (Add place value bag rest) = change_refusals known sort place value bag ++ statements_refusals known sort rest
+statements_refusals known sort (Drop place value bag rest) = change_refusals known sort place value bag ++ statements_refusals known sort rest
 
 -- an empty range, or a start value outside of it
 abbrev pub is_out_of_range : VariableRange → Bool
@@ -164,6 +216,20 @@ is_out_of_range r = int_lt r.high r.low || (int_lt r.start r.low || int_lt r.hig
 
 abbrev pub variable_refusals : Variable → List Refusal
 variable_refusals v = refusal_if (is_out_of_range (range_of v)) E11 v.name.place
+
+-- what a bag may be declared to hold at most: at least one value
+abbrev pub is_capacity : ℕ → Bool
+is_capacity n = nat_le 1 n && nat_le n GREATEST_COUNT
+
+abbrev pub bag_refusals : StateBag → List Refusal
+bag_refusals b = refusal_if (not (is_capacity b.capacity.value)) E17 b.capacity.place
+
+-- what a declaration says wrong of its name
+abbrev pub declaration_refusals : Declaration → List Refusal
+declaration_refusals (Out port) = []
+declaration_refusals (Var v) = variable_refusals v
+declaration_refusals (Flag f) = []
+declaration_refusals (Bag b) = bag_refusals b
 
 abbrev pub start_refusals : Known → Start → List Refusal
 start_refusals known s = phase_refusals known s.phase
@@ -181,7 +247,7 @@ rule_refusals known r = phase_refusals known r.phase ++ statements_refusals know
 -- what the items do wrong, each by itself
 abbrev pub items_refusals : Known → AtomicTree → List Refusal
 items_refusals known m =
-    flat_map variable_refusals (variables_in m.declarations)
+    flat_map declaration_refusals m.declarations
     ++ (flat_map (start_refusals known) m.starts
     ++ (flat_map (hold_refusals known) m.holds
     ++ flat_map (rule_refusals known) m.rules))
@@ -197,11 +263,12 @@ abbrev pub is_fault : {A B : Type 0} → Result A B → Bool
 is_fault (Ok x) = false
 is_fault (Err f) = true
 
--- a state variable that is there, and in range, which a flag always is
+-- a state variable that is there, and whose declaration is not refused: that of a flag never is
 abbrev pub is_in_range : Option Domain → Bool
 is_in_range None = false
 is_in_range (Some (domain.Number range)) = not (is_out_of_range range)
 is_in_range (Some (domain.Flag start)) = true
+is_in_range (Some (domain.Bag capacity)) = is_capacity capacity
 
 abbrev pub number_of_state_variable : Name × Domain → ℕ
 number_of_state_variable v = v.0.number
@@ -209,7 +276,7 @@ number_of_state_variable v = v.0.number
 abbrev pub domain_of_state_variable : Name × Domain → Domain
 domain_of_state_variable v = v.1
 
--- a variable or a flag whose first declaration is not refused: it is within the limit, and in range
+-- a variable, flag or bag whose first declaration is not refused: it is within the limit, and in range
 unfoldable pub is_start_known : List (Name × Domain) → ℕ → Bool
 is_start_known variables name =
     is_in_range (first_of number_of_state_variable domain_of_state_variable (within_limit GREATEST_NAMES variables) name)
@@ -226,6 +293,8 @@ names_only known (Named name) = known name.number
 names_only known (Parens place e) = names_only known e
 names_only known (Prefixed operator place e) = names_only known e
 names_only known (Binary operator a b) = names_only known a && names_only known b
+names_only known (Call call place bag) = known bag.number
+names_only known (Times place e bag) = names_only known e && known bag.number
 
 abbrev pub ticks_names_only : (ℕ → Bool) → Option Expression → Bool
 ticks_names_only known None = true
@@ -235,7 +304,7 @@ ticks_names_only known (Some e) = names_only known e
 abbrev pub is_hold_fine : Known → Name → Option Expression → Bool
 is_hold_fine known phase ticks = is_none_left (phase_refusals known phase ++ ticks_refusals known ticks)
 
--- a hold that can be asked: nothing is wrong with it, nor with the first declarations of the variables and flags that it names
+-- a hold that can be asked: nothing is wrong with it, nor with the first declarations of the variables, flags and bags that it names
 abbrev pub can_ask_hold : Known → List (Name × Domain) → Name → Option Expression → Bool
 can_ask_hold known variables phase ticks = is_hold_fine known phase ticks && ticks_names_only (is_start_known variables) ticks
 

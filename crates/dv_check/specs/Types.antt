@@ -2,13 +2,13 @@
 use Rattle.std.specs.Prelude.{ℕ, Bool, true, false, not, ◌&&◌, List, [], ◌∷◌, ◌++◌, Option, Some, None}
 use Rattle.dv_lex.specs.declared.error.Refusal.{Refusal}
 use Rattle.dv_lex.specs.declared.error.RefusalNumber.TheVariants.{E7, E8}
-use Rattle.dv_syntax.specs.Trees.{Expression, Literal, TruthValue, Named, Parens, Prefixed, Binary}
+use Rattle.dv_syntax.specs.Trees.{Expression, Literal, TruthValue, Named, Parens, Prefixed, Binary, Call, Times}
 use Rattle.dv_syntax.specs.declared.tree.Prefix.{Prefix}
 use Rattle.dv_syntax.specs.declared.tree.Prefix.TheVariants.{Minus, Not}
 use Rattle.dv_syntax.specs.declared.tree.Operator.{Operator}
 use Rattle.dv_syntax.specs.declared.tree.Operator.TheVariants.{Or, And, Add, Subtract, Multiply, Divide, Remainder, Equal, Unequal, Less, AtMost, Greater, AtLeast}
 use Rattle.dv_check.specs.declared.declarations.NameSort.{NameSort}
-use Rattle.dv_check.specs.declared.declarations.NameSort.TheVariants.{Variable, Flag, Output}
+use Rattle.dv_check.specs.declared.declarations.NameSort.TheVariants.{Variable, Flag, Bag, Output, LoopVariable}
 use Rattle.dv_check.specs.declared.expression.ValueType.{ValueType}
 use Rattle.dv_check.specs.declared.expression.ValueType.TheVariants.{Number, Truth}
 use Rattle.dv_check.specs.Names.{refusal, refusal_if}
@@ -27,12 +27,24 @@ first_place (Named name) = name.place
 first_place (Parens place e) = place
 first_place (Prefixed operator place e) = place
 first_place (Binary operator a b) = first_place a
+first_place (Call call place bag) = place
+first_place (Times place e bag) = place
 
 abbrev pub type_of_name : Option NameSort → Option ValueType
 type_of_name None = None
 type_of_name (Some Variable) = Some Number
 type_of_name (Some Flag) = Some Truth
+type_of_name (Some Bag) = None
 type_of_name (Some Output) = None
+type_of_name (Some LoopVariable) = Some Number
+
+abbrev pub is_bag : Option NameSort → Bool
+is_bag None = false
+is_bag (Some Variable) = false
+is_bag (Some Flag) = false
+is_bag (Some Bag) = true
+is_bag (Some Output) = false
+is_bag (Some LoopVariable) = false
 
 -- a known type, and this one
 abbrev pub is_of : ValueType → Option ValueType → Bool
@@ -81,6 +93,8 @@ type_of sort (Named name) = type_of_name (sort name.number)
 type_of sort (Parens place e) = type_of sort e
 type_of sort (Prefixed operator place e) = type_if (is_of (type_of_prefix operator) (type_of sort e)) (type_of_prefix operator)
 type_of sort (Binary operator a b) = type_of_operator operator (type_of sort a) (type_of sort b)
+type_of sort (Call call place bag) = type_if (is_bag (sort bag.number)) Number
+type_of sort (Times place e bag) = type_if (is_of Number (type_of sort e) && is_bag (sort bag.number)) Number
 
 -- an expression of another type than its place wants
 abbrev pub type_refusals : ValueType → Option ValueType → ℕ → List Refusal
@@ -112,12 +126,23 @@ operand_refusals AtMost a a_place b b_place = operands_wanted Number a a_place b
 operand_refusals Greater a a_place b b_place = operands_wanted Number a a_place b b_place
 operand_refusals AtLeast a a_place b b_place = operands_wanted Number a a_place b b_place
 
--- a name where the value of a variable or a flag is wanted
+-- a name where a value is wanted: that of a variable, a flag or a loop variable
 abbrev pub value_name_refusals : Option NameSort → ℕ → List Refusal
 value_name_refusals None place = refusal E7 place ∷ []
 value_name_refusals (Some Variable) place = []
 value_name_refusals (Some Flag) place = []
+value_name_refusals (Some Bag) place = refusal E8 place ∷ []
 value_name_refusals (Some Output) place = refusal E8 place ∷ []
+value_name_refusals (Some LoopVariable) place = []
+
+-- a name where a bag is wanted
+abbrev pub bag_name_refusals : Option NameSort → ℕ → List Refusal
+bag_name_refusals None place = refusal E7 place ∷ []
+bag_name_refusals (Some Variable) place = refusal E8 place ∷ []
+bag_name_refusals (Some Flag) place = refusal E8 place ∷ []
+bag_name_refusals (Some Bag) place = []
+bag_name_refusals (Some Output) place = refusal E8 place ∷ []
+bag_name_refusals (Some LoopVariable) place = refusal E8 place ∷ []
 
 abbrev pub expression_refusals : (ℕ → Option NameSort) → Expression → List Refusal
 expression_refusals sort (Literal n) = []
@@ -128,6 +153,9 @@ expression_refusals sort (Prefixed operator place e) =
     expression_refusals sort e ++ type_refusals (type_of_prefix operator) (type_of sort e) (first_place e)
 expression_refusals sort (Binary operator a b) =
     expression_refusals sort a ++ (expression_refusals sort b ++ operand_refusals operator (type_of sort a) (first_place a) (type_of sort b) (first_place b))
+expression_refusals sort (Call call place bag) = bag_name_refusals (sort bag.number) bag.place
+expression_refusals sort (Times place e bag) =
+    expression_refusals sort e ++ (type_refusals Number (type_of sort e) (first_place e) ++ bag_name_refusals (sort bag.number) bag.place)
 
 -- an expression in a place that wants a type
 abbrev pub place_refusals : ValueType → (ℕ → Option NameSort) → Expression → List Refusal

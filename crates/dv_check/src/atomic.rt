@@ -31,7 +31,7 @@ pub fn check_atomic(alloc: Global, model: &Atomic, found: &mut Findings) -> Resu
     check_names(alloc, model, found)?;
     check_standing(alloc, model, found)?;
     let declarations = Declarations::of(alloc, model)?;
-    declarations.check_items(alloc, model, found)?;
+    declarations.check_items(model, found);
     check_start_hold(alloc, model, &declarations, found)?;
     Ok(())
 }
@@ -82,7 +82,7 @@ fn check_outputs(
     Ok(())
 }
 
-// Too many variables and flags.
+// Too many variables, flags and bags.
 fn check_state_variables(
     alloc: Global,
     declarations: &[Declaration],
@@ -245,7 +245,7 @@ fn faults_at_start(alloc: Global, model: &Atomic, phase: &Name) -> Result<bool, 
     Ok(phase_hold(model, phase.number, &state, &scope).is_err())
 }
 
-// Whether nothing is wrong with the hold of a phase, nor with the variables and flags that it names.
+// Whether nothing is wrong with the hold of a phase, nor with the variables, flags and bags that it names.
 fn can_ask_hold(
     alloc: Global,
     declarations: &Declarations,

@@ -1,14 +1,13 @@
 //! The types of expressions.
 
 ghost use Rattle.std.specs.Prelude.{◌≡◌};
-ghost use Rattle.std.specs.Option.{option_copied};
 ghost use Rattle.dv_syntax.specs.Trees.{expression_of};
 ghost use Rattle.dv_check.specs.Findings.{with_refusals};
-ghost use Rattle.dv_check.specs.Tables.{value_for};
-ghost use Rattle.dv_check.specs.Types.{alike, both_of, differ, is_of, operands_wanted, type_if, expression_refusals, first_place, operand_refusals, place_refusals, type_of, type_of_operator, type_of_name, type_of_prefix, value_name_refusals, type_refusals, value_refusals};
+ghost use Rattle.dv_check.specs.Rules.{known_at};
+ghost use Rattle.dv_check.specs.Types.{alike, bag_name_refusals, both_of, differ, is_bag, is_of, operands_wanted, type_if, expression_refusals, first_place, operand_refusals, place_refusals, type_of, type_of_operator, type_of_name, type_of_prefix, value_name_refusals, type_refusals, value_refusals};
 
 use crate::declarations::NameSort;
-use crate::directory::Directory;
+use crate::environment::Environment;
 use crate::findings::Findings;
 use dv_lex::RefusalNumber;
 use dv_syntax::{Expr, Name, Operator, Prefix};
@@ -30,41 +29,41 @@ pub struct Typed {
 /// Tests an expression in a place that wants a type.
 pub fn check_place(
     wanted: ValueType,
-    sorts: &Directory<NameSort>,
+    environment: &Environment,
     expression: &Expr,
     found: &mut Findings,
 )
-    ensures { found.new ≡ with_refusals found.old (place_refusals wanted (value_for sorts.now)
-        (expression_of expression.now)) }
+    ensures { found.new ≡ with_refusals found.old (place_refusals wanted
+        (known_at environment.now).sort (expression_of expression.now)) }
 {
-    let given = check_expression(sorts, expression, found);
+    let given = check_expression(environment, expression, found);
     want(wanted, given, found);
 }
 
 /// Tests an expression whose value goes where this type is wanted, or where nothing is wanted of it.
 pub fn check_value(
     wanted: Option<ValueType>,
-    sorts: &Directory<NameSort>,
+    environment: &Environment,
     expression: &Expr,
     found: &mut Findings,
 )
-    ensures { found.new ≡ with_refusals found.old (value_refusals wanted (value_for sorts.now)
-        (expression_of expression.now)) }
+    ensures { found.new ≡ with_refusals found.old (value_refusals wanted
+        (known_at environment.now).sort (expression_of expression.now)) }
 {
     match wanted {
-        Some(wanted) => check_place(wanted, sorts, expression, found),
+        Some(wanted) => check_place(wanted, environment, expression, found),
         None => {
-            check_expression(sorts, expression, found);
+            check_expression(environment, expression, found);
         }
     }
 }
 
-fn check_expression(sorts: &Directory<NameSort>, expression: &Expr, found: &mut Findings) -> Typed
-    ensures value_type { result.value_type ≡ type_of (value_for sorts.now)
+fn check_expression(environment: &Environment, expression: &Expr, found: &mut Findings) -> Typed
+    ensures value_type { result.value_type ≡ type_of (known_at environment.now).sort
         (expression_of expression.now) }
     ensures place { result.place ≡ first_place (expression_of expression.now) }
-    ensures found { found.new ≡ with_refusals found.old (expression_refusals (value_for sorts.now)
-        (expression_of expression.now)) }
+    ensures found { found.new ≡ with_refusals found.old (expression_refusals
+        (known_at environment.now).sort (expression_of expression.now)) }
 {
     match expression {
         Expr::Literal(number) => Typed {
@@ -76,11 +75,11 @@ fn check_expression(sorts: &Directory<NameSort>, expression: &Expr, found: &mut 
             place: *place,
         },
         Expr::Named(name) => Typed {
-            value_type: check_value_name(sorts, name, found),
+            value_type: check_value_name(environment, name, found),
             place: name.place,
         },
         Expr::Parens { place, inner } => {
-            let given = check_expression(sorts, inner, found);
+            let given = check_expression(environment, inner, found);
             Typed {
                 value_type: given.value_type,
                 place: *place,
@@ -91,7 +90,7 @@ fn check_expression(sorts: &Directory<NameSort>, expression: &Expr, found: &mut 
             place,
             operand,
         } => {
-            let given = check_expression(sorts, operand, found);
+            let given = check_expression(environment, operand, found);
             let wanted = type_of_prefix(*operator);
             want(wanted, given, found);
             Typed {
@@ -104,24 +103,38 @@ fn check_expression(sorts: &Directory<NameSort>, expression: &Expr, found: &mut 
             left,
             right,
         } => {
-            let a = check_expression(sorts, left, found);
-            let b = check_expression(sorts, right, found);
+            let a = check_expression(environment, left, found);
+            let b = check_expression(environment, right, found);
             Typed {
                 value_type: check_operands(*operator, a, b, found),
                 place: a.place,
+            }
+        }
+        Expr::Call { place, bag, .. } => Typed {
+            value_type: type_if(check_bag(environment, bag, found), ValueType::Number),
+            place: *place,
+        },
+        Expr::Times { place, value, bag } => {
+            let given = check_expression(environment, value, found);
+            want(ValueType::Number, given, found);
+            let is_bag = check_bag(environment, bag, found);
+            let is_number = is_of(ValueType::Number, given.value_type);
+            Typed {
+                value_type: type_if(is_number && is_bag, ValueType::Number),
+                place: *place,
             }
         }
     }
 }
 
 /// The type of what a name stands for, if it has one.
-pub fn type_of_name(sort: Option<&NameSort>) -> Option<ValueType>
-    ensures { result ≡ type_of_name (option_copied sort.entry) }
+pub fn type_of_name(sort: Option<NameSort>) -> Option<ValueType>
+    ensures { result ≡ type_of_name sort }
 {
     match sort {
-        Some(NameSort::Variable) => Some(ValueType::Number),
+        Some(NameSort::Variable | NameSort::LoopVariable) => Some(ValueType::Number),
         Some(NameSort::Flag) => Some(ValueType::Truth),
-        Some(NameSort::Output) | None => None,
+        Some(NameSort::Bag | NameSort::Output) | None => None,
     }
 }
 
@@ -135,23 +148,42 @@ fn type_of_prefix(operator: Prefix) -> ValueType
     }
 }
 
-// A name where the value of a variable or a flag is wanted.
+// A name where a value is wanted: that of a variable, a flag or a loop variable.
 fn check_value_name(
-    sorts: &Directory<NameSort>,
+    environment: &Environment,
     name: &Name,
     found: &mut Findings,
 ) -> Option<ValueType>
-    ensures value_type { result ≡ type_of_name (value_for sorts.now name.now.number) }
+    ensures value_type { result ≡ type_of_name ((known_at environment.now).sort name.now.number) }
     ensures found { found.new ≡ with_refusals found.old
-        (value_name_refusals (value_for sorts.now name.now.number) name.now.place) }
+        (value_name_refusals ((known_at environment.now).sort name.now.number) name.now.place) }
 {
-    let sort = sorts.get(name.number);
+    let sort = environment.sort(name.number);
     match sort {
-        Some(NameSort::Variable | NameSort::Flag) => {}
-        Some(NameSort::Output) => found.note(RefusalNumber::E8, name.place),
+        Some(NameSort::Variable | NameSort::Flag | NameSort::LoopVariable) => {}
+        Some(NameSort::Bag | NameSort::Output) => found.note(RefusalNumber::E8, name.place),
         None => found.note(RefusalNumber::E7, name.place),
     }
     type_of_name(sort)
+}
+
+/// Tests a name where a bag is wanted, and answers whether it is that of one.
+pub fn check_bag(environment: &Environment, name: &Name, found: &mut Findings) -> bool
+    ensures is_bag { result ≡ is_bag ((known_at environment.now).sort name.now.number) }
+    ensures found { found.new ≡ with_refusals found.old
+        (bag_name_refusals ((known_at environment.now).sort name.now.number) name.now.place) }
+{
+    match environment.sort(name.number) {
+        None => {
+            found.note(RefusalNumber::E7, name.place);
+            false
+        }
+        Some(NameSort::Bag) => true,
+        Some(NameSort::Variable | NameSort::Flag | NameSort::Output | NameSort::LoopVariable) => {
+            found.note(RefusalNumber::E8, name.place);
+            false
+        }
+    }
 }
 
 // What an operator makes of its operands.

@@ -1,12 +1,15 @@
 //! Laws of refusals and of what is accepted. Each function stands for the law in its contract; its body does nothing.
 
-ghost use Rattle.std.specs.Prelude.{◌≡◌, true, false, List, Some, None, [], Contains};
+ghost use Rattle.std.specs.Prelude.{◌≡◌, true, false, List, Some, None, [], ◌∷◌, Contains};
 ghost use Rattle.std.specs.List.{All};
 ghost use Rattle.dv_lex.specs.Order.{first_refusal, precedes};
 ghost use Rattle.dv_lex.specs.declared.error.Refusal.{Refusal};
-ghost use Rattle.dv_syntax.specs.Trees.{CoupledModel, CoupledTree, FileTree};
+ghost use Rattle.dv_lex.specs.declared.error.RefusalNumber.TheVariants as number;
+ghost use Rattle.dv_syntax.specs.Trees.{Add, Assign, CoupledModel, CoupledTree, Done, Drop, FileTree, Named};
 ghost use Rattle.dv_syntax.specs.declared.tree.Link.{Link};
 ghost use Rattle.dv_check.specs.Accepted.{IsAcceptedFile, IsThrough};
+ghost use Rattle.dv_check.specs.Loops.{bag_at, flag_at, loop_at, name_at, one_at, wrong_inside, wrong_outside};
+ghost use Rattle.dv_check.specs.Names.{refusal};
 ghost use Rattle.dv_check.specs.Refusals.{refusal_of};
 
 /// An accepted file has a coupled root with at least one part and at most 4,096 parts and outputs. The model of each
@@ -37,4 +40,50 @@ pub fn refusals_are_ordered()
 pub fn no_link_leads_through()
     ensures { (f : FileTree) (m : CoupledTree) (l : Link) → refusal_of f ≡ None →
         Contains f.models (CoupledModel m) → Contains m.links l → IsThrough l → ⊥ }
+{}
+
+/// The variable of a loop has a name of its own: where an item of the model has it too, or the variable of a loop
+/// around, the second one in the text is refused. Loops side by side may share a name.
+pub fn loop_variables_have_names_of_their_own()
+    ensures item_before { wrong_inside (flag_at 1 30 ∷ []) (loop_at 100 1 2 Done Done)
+        ≡ refusal number.E6 104 ∷ [] }
+    ensures item_behind { wrong_inside (flag_at 1 200 ∷ []) (loop_at 100 1 2 Done Done)
+        ≡ refusal number.E6 200 ∷ [] }
+    ensures loop_around { wrong_inside [] (loop_at 100 1 2 (loop_at 113 1 2 Done Done) Done)
+        ≡ refusal number.E6 117 ∷ [] }
+    ensures side_by_side { wrong_inside [] (loop_at 100 1 2 Done (loop_at 113 1 2 Done Done)) ≡ [] }
+{}
+
+/// The variable of a loop is known in the loop's block alone: not in the name of the bag that the loop walks, and not
+/// behind the loop. In the block it is a number that no statement assigns, whatever the rule is for.
+pub fn loop_variables_are_known_in_their_blocks()
+    ensures not_in_front { wrong_inside [] (loop_at 100 1 1 Done Done)
+        ≡ refusal number.E7 109 ∷ [] }
+    ensures bag_of_the_name { wrong_inside (bag_at 1 30 8 ∷ []) (loop_at 100 1 1 Done Done)
+        ≡ refusal number.E6 104 ∷ [] }
+    ensures added { wrong_inside [] (loop_at 100 1 2 (Add 113 (Named (name_at 1 117))
+        (name_at 2 122) Done) Done) ≡ [] }
+    ensures not_behind { wrong_inside [] (loop_at 100 1 2 Done (Add 113 (Named (name_at 1 117))
+        (name_at 2 122) Done)) ≡ refusal number.E7 117 ∷ [] }
+    ensures assigned { wrong_inside [] (loop_at 100 1 2 (Assign (name_at 1 113) (one_at 118) Done)
+        Done) ≡ refusal number.E9 113 ∷ [] }
+    ensures assigned_outside { wrong_outside [] (loop_at 100 1 2 (Assign (name_at 1 113)
+        (one_at 118) Done) Done) ≡ refusal number.E9 113 ∷ [] }
+{}
+
+/// An output rule changes no bag: `add` and `drop` are refused there at their first word.
+pub fn output_rules_change_no_bag()
+    ensures added { wrong_inside [] (Add 100 (one_at 104) (name_at 2 109) Done) ≡ [] }
+    ensures added_outside { wrong_outside [] (Add 100 (one_at 104) (name_at 2 109) Done)
+        ≡ refusal number.E9 100 ∷ [] }
+    ensures dropped_outside { wrong_outside [] (Drop 100 (one_at 105) (name_at 2 112) Done)
+        ≡ refusal number.E9 100 ∷ [] }
+{}
+
+/// A bag holds at least one value and at most 4,096: any other capacity is refused at its number.
+pub fn capacities_have_bounds()
+    ensures nothing { wrong_inside (bag_at 1 30 0 ∷ []) Done ≡ refusal number.E17 32 ∷ [] }
+    ensures one { wrong_inside (bag_at 1 30 1 ∷ []) Done ≡ [] }
+    ensures greatest { wrong_inside (bag_at 1 30 4096 ∷ []) Done ≡ [] }
+    ensures too_great { wrong_inside (bag_at 1 30 4097 ∷ []) Done ≡ refusal number.E17 32 ∷ [] }
 {}

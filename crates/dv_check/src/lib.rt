@@ -29,6 +29,9 @@ mod declarations;
 /// What names stand for, where the first declaration counts.
 mod directory;
 
+/// What names stand for at a place of an atomic model.
+mod environment;
+
 /// The types of expressions.
 mod expression;
 
@@ -53,8 +56,11 @@ mod parts;
 /// Names that are declared twice or too often.
 mod repeats;
 
-/// The variables and flags of an atomic model whose start values are known.
+/// The variables, flags and bags of an atomic model that are known at the start.
 mod starts;
+
+/// The statements of rules.
+mod statements;
 
 pub use checked::Checked;
 pub use checker::check;

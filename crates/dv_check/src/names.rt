@@ -2,14 +2,14 @@
 
 ghost use Rattle.std.specs.Prelude.{◌≡◌, map, filter_map, IfOk};
 ghost use Rattle.dv_syntax.specs.Trees.{hold_of, phases_of, rule_of};
-ghost use Rattle.dv_eval.specs.Scope.{output_of, outputs_in, phases_in, state_variables_in, variable_of, variables_in};
+ghost use Rattle.dv_eval.specs.Scope.{output_of, outputs_in, phases_in, state_variables_in};
 ghost use Rattle.dv_check.specs.Rules.{first_phases, held_phase, held_phases, name_of_declaration, name_of_state_variable, ruled_phase, ruled_phases};
 
 use dv_eval::{Domain, state_variable_of};
-use dv_syntax::{Declaration, Hold, Name, Phases, Rule, RuleSort, Variable};
+use dv_syntax::{Declaration, Hold, Name, Phases, Rule, RuleSort};
 use std::alloc::{AllocError, Global};
 
-/// The name of a port, variable or flag.
+/// The name of a port, variable, flag or bag.
 pub fn name_of_declaration(declaration: &Declaration) -> Name
     ensures { result ≡ name_of_declaration declaration.now }
 {
@@ -17,10 +17,11 @@ pub fn name_of_declaration(declaration: &Declaration) -> Name
         Declaration::Out(port) => *port,
         Declaration::Var(variable) => variable.name,
         Declaration::Flag(flag) => flag.name,
+        Declaration::Bag(bag) => bag.name,
     }
 }
 
-/// The names of ports, variables and flags.
+/// The names of ports, variables, flags and bags.
 pub fn declared(alloc: Global, declarations: &[Declaration]) -> Result<Vec<Name>, AllocError>
     ensures { IfOk result (λ names. names.items ≡ map name_of_declaration declarations.now) }
 {
@@ -35,7 +36,7 @@ fn output_of(declaration: &Declaration) -> Option<Name>
 {
     match declaration {
         Declaration::Out(port) => Some(*port),
-        Declaration::Var(_) | Declaration::Flag(_) => None,
+        Declaration::Var(_) | Declaration::Flag(_) | Declaration::Bag(_) => None,
     }
 }
 
@@ -49,26 +50,7 @@ pub fn outputs(alloc: Global, declarations: &[Declaration]) -> Result<Vec<Name>,
         .collect(alloc)
 }
 
-fn variable_of(declaration: &Declaration) -> Option<Variable>
-    ensures { result ≡ variable_of declaration.now }
-{
-    match declaration {
-        Declaration::Out(_) | Declaration::Flag(_) => None,
-        Declaration::Var(variable) => Some(*variable),
-    }
-}
-
-/// The variables with a range.
-pub fn variables(alloc: Global, declarations: &[Declaration]) -> Result<Vec<Variable>, AllocError>
-    ensures { IfOk result (λ variables. variables.items ≡ variables_in declarations.now) }
-{
-    declarations
-        .iter()
-        .filter_map(|declaration| variable_of(declaration))
-        .collect(alloc)
-}
-
-/// The variables and flags: the name of each, and what it may hold.
+/// The variables, flags and bags: the name of each, and what it may hold.
 pub fn state_variables(
     alloc: Global,
     declarations: &[Declaration],
@@ -81,7 +63,7 @@ pub fn state_variables(
         .collect(alloc)
 }
 
-/// The names of variables and flags.
+/// The names of variables, flags and bags.
 pub fn names_of_state_variables(
     alloc: Global,
     variables: &[(Name, Domain)],

@@ -194,7 +194,8 @@ fn is_output(sort: Option<&NameSort>) -> bool
 {
     match sort {
         Some(NameSort::Output) => true,
-        Some(NameSort::Variable | NameSort::Flag) | None => false,
+        Some(NameSort::Variable | NameSort::Flag) => false,
+        Some(NameSort::Bag | NameSort::LoopVariable) | None => false,
     }
 }
 

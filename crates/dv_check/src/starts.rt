@@ -1,4 +1,4 @@
-//! The variables and flags of an atomic model whose start values are known.
+//! The variables, flags and bags of an atomic model that are known at the start.
 
 ghost use Rattle.std.specs.Prelude.{◌≡◌, IfOk};
 ghost use Rattle.std.specs.Option.{option_copied};
@@ -7,7 +7,7 @@ ghost use Rattle.dv_eval.specs.Scope.{state_variables_in};
 ghost use Rattle.dv_check.specs.Tables.{first_of, value_for};
 ghost use Rattle.dv_check.specs.Rules.{domain_of_state_variable, is_in_range, is_start_known, is_start_known_by, names_only, number_of_state_variable, ticks_names_only};
 
-use crate::declarations::is_out_of_range;
+use crate::declarations::{is_capacity, is_out_of_range};
 use crate::directory::Directory;
 use crate::limits::GREATEST_NAMES;
 use crate::names;
@@ -16,14 +16,14 @@ use dv_eval::Domain;
 use dv_syntax::{Declaration, Expr, Name, Ticks};
 use std::alloc::{AllocError, Global};
 
-/// What the first declarations of the variables and flags of an atomic model say that they may hold, within the
-/// limit.
+/// What the first declarations of the variables, flags and bags of an atomic model say that they may hold, within
+/// the limit.
 #[derive(Drop)]
 pub struct Starts {
     pub domains: Directory<Domain>,
 }
 
-// What the first declaration of each variable and flag says that it may hold.
+// What the first declaration of each variable, flag and bag says that it may hold.
 #[tactic(auto, using(crate::proofs::Firsts::first_of_none))]
 fn directory_of(
     alloc: Global,
@@ -40,7 +40,7 @@ fn directory_of(
 }
 
 impl Starts {
-    /// The variables and flags that these items declare.
+    /// The variables, flags and bags that these items declare.
     #[tactic(auto, unfolding(crate::specs::Rules::is_start_known, crate::specs::Rules::is_start_known_by))]
     pub fn of(alloc: Global, declarations: &[Declaration]) -> Result<Self, AllocError>
         ensures { IfOk result (λ starts. is_start_known_by starts
@@ -52,7 +52,7 @@ impl Starts {
         })
     }
 
-    /// Whether all variables and flags that a hold names are known.
+    /// Whether all variables, flags and bags that a hold names are known.
     pub fn know_ticks(&self, ticks: &Ticks) -> bool
         ensures { result ≡ ticks_names_only (is_start_known_by self.now) (ticks_of ticks.now) }
     {
@@ -71,6 +71,8 @@ impl Starts {
             Expr::Parens { inner, .. } => self.know_names(inner),
             Expr::Prefixed { operand, .. } => self.know_names(operand),
             Expr::Binary { left, right, .. } => self.know_names(left) && self.know_names(right),
+            Expr::Call { bag, .. } => self.know(bag.number),
+            Expr::Times { value, bag, .. } => self.know_names(value) && self.know(bag.number),
         }
     }
 
@@ -88,6 +90,7 @@ fn is_in_range(domain: Option<&Domain>) -> bool
     match domain {
         Some(Domain::Number(range)) => !is_out_of_range(*range),
         Some(Domain::Flag { .. }) => true,
+        Some(Domain::Bag { capacity }) => is_capacity(*capacity),
         None => false,
     }
 }

@@ -5,6 +5,7 @@ ghost use Rattle.std.specs.Prelude.{◌≤◌, IfOk, IfSome};
 use crate::request::{Check, Request, RequestError, Run, Usage};
 use clap::error::ErrorKind;
 use clap::{Arg, ArgAction, ArgMatches, Command};
+use dv_explain::{Explanation, FAULTS, REFUSALS, explanation_of};
 use dv_time::{GREATEST_LIMIT, GREATEST_TICK};
 use std::alloc::{AllocError, Global};
 
@@ -20,6 +21,7 @@ pub fn request_of(alloc: Global, words: &[String]) -> Result<Request, RequestErr
     };
     match matches.subcommand() {
         Some(("check", check)) => Ok(Request::Check(check_of(alloc, check)?)),
+        Some(("explain", explain)) => Ok(Request::Explain(explanation_for(alloc, explain)?)),
         Some((_, run)) => Ok(Request::Run(run_of(alloc, run)?)),
         None => Err(refused(alloc, "a subcommand is wanted")),
     }
@@ -32,7 +34,8 @@ fn command<'a>(alloc: Global) -> Result<Command<'a>, AllocError> {
         .about("Checks and runs Parallel DEVS models")
         .subcommand_required(true)
         .subcommand(check_command(alloc)?)?
-        .subcommand(run_command(alloc)?)
+        .subcommand(run_command(alloc)?)?
+        .subcommand(explain_command(alloc)?)
 }
 
 fn model_argument<'a>(alloc: Global) -> Arg<'a> {
@@ -42,10 +45,28 @@ fn model_argument<'a>(alloc: Global) -> Arg<'a> {
         .help("the file of the model")
 }
 
+fn explain_argument<'a>(alloc: Global) -> Arg<'a> {
+    Arg::new(alloc, "explain")
+        .long("explain")
+        .action(ArgAction::SetTrue)
+        .help("shows the line of a refusal, and what it means")
+}
+
 fn check_command<'a>(alloc: Global) -> Result<Command<'a>, AllocError> {
     Command::new(alloc, "check")
         .about("Checks a model and prints the number of its components")
-        .arg(model_argument(alloc))
+        .arg(model_argument(alloc))?
+        .arg(explain_argument(alloc))
+}
+
+fn explain_command<'a>(alloc: Global) -> Result<Command<'a>, AllocError> {
+    let code = Arg::new(alloc, "code")
+        .value_name("CODE")
+        .required(true)
+        .help("the number of a refusal, as E7, or the name of a fault, as overflow");
+    Command::new(alloc, "explain")
+        .about("Prints what a refusal or a fault means")
+        .arg(code)
 }
 
 fn run_command<'a>(alloc: Global) -> Result<Command<'a>, AllocError> {
@@ -64,7 +85,8 @@ fn run_command<'a>(alloc: Global) -> Result<Command<'a>, AllocError> {
         .about("Runs a model and prints its trace")
         .arg(model_argument(alloc))?
         .arg(horizon)?
-        .arg(microsteps)
+        .arg(microsteps)?
+        .arg(explain_argument(alloc))
 }
 
 fn model_of(alloc: Global, matches: &ArgMatches) -> Result<String, RequestError> {
@@ -77,7 +99,35 @@ fn model_of(alloc: Global, matches: &ArgMatches) -> Result<String, RequestError>
 fn check_of(alloc: Global, matches: &ArgMatches) -> Result<Check, RequestError> {
     Ok(Check {
         model: model_of(alloc, matches)?,
+        explained: matches.get_flag("explain"),
     })
+}
+
+/// The explanation of the code that is given.
+fn explanation_for(
+    alloc: Global,
+    matches: &ArgMatches,
+) -> Result<&'static Explanation, RequestError> {
+    match matches.get_str("code").and_then(explanation_of) {
+        Some(explanation) => Ok(explanation),
+        None => Err(unknown_code(alloc)?),
+    }
+}
+
+/// The words that list the codes.
+fn unknown_code(alloc: Global) -> Result<RequestError, AllocError> {
+    let mut reason = String::from_str(alloc, "there is no such code; the codes are")?;
+    push_codes(&mut reason, REFUSALS)?;
+    push_codes(&mut reason, FAULTS)?;
+    Ok(refused(alloc, reason.as_str()))
+}
+
+fn push_codes(text: &mut String, explanations: &[Explanation]) -> Result<(), AllocError> {
+    for explanation in explanations {
+        text.push(' ')?;
+        text.push_str(explanation.code)?;
+    }
+    Ok(())
 }
 
 fn run_of(alloc: Global, matches: &ArgMatches) -> Result<Run, RequestError> {
@@ -88,6 +138,7 @@ fn run_of(alloc: Global, matches: &ArgMatches) -> Result<Run, RequestError> {
         model,
         horizon,
         microsteps,
+        explained: matches.get_flag("explain"),
     })
 }
 

@@ -2,6 +2,7 @@
 
 ghost use Rattle.dv_command.specs.Ranges.{AreInRange};
 
+use dv_explain::Explanation;
 use std::alloc::AllocError;
 
 /// A subcommand with its values.
@@ -9,6 +10,8 @@ use std::alloc::AllocError;
 pub enum Request {
     Check(Check),
     Run(Run),
+    /// Print what a refusal or a fault means.
+    Explain(&'static Explanation),
 }
 
 /// Check a model and print the number of its components.
@@ -16,6 +19,8 @@ pub enum Request {
 pub struct Check {
     /// The file of the model.
     pub model: String,
+    /// Whether a refusal is explained.
+    pub explained: bool,
 }
 
 /// Run a model and print its trace. Its numbers are within their ranges: its type keeps that.
@@ -27,6 +32,8 @@ pub struct Run {
     pub horizon: u64,
     /// The greatest microstep of a tick, 1 to 1,000, where it was given.
     pub microsteps: Option<u32>,
+    /// Whether a refusal is explained.
+    pub explained: bool,
     pub ghost in_range: { AreInRange horizon microsteps },
 }
 

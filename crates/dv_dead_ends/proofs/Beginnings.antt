@@ -1,9 +1,10 @@
 -- The readers of the grammar complete tokens that end too early, so such tokens begin a file.
-use Rattle.std.proofs.Common.{◌≡◌, ℕ, zero, suc, ◌+◌, ◌<◌, arith, ltb, true, false, List, [], ◌∷◌, ◌++◌, Some, None, Ok, refl, ◌∙◌, inl, inr}
+use Rattle.std.proofs.Common.{◌≡◌, ℕ, zero, suc, ◌+◌, ◌-◌, ◌<◌, arith, ltb, true, false, List, [], ◌∷◌, ◌++◌, Some, None, Ok, refl, ◌∙◌, inl, inr}
 use Rattle.std.proofs.lemmas.Bool.{cases_Bool, ltb-true}
 use Rattle.dv_lex.specs.declared.token.Token.{Token}
 use Rattle.dv_lex.specs.declared.token.TokenKind.{TokenKind}
 use Rattle.dv_lex.specs.declared.token.TokenKind.TheVariants as kind
+use Rattle.dv_lex.specs.declared.token.Keyword.{Keyword}
 use Rattle.dv_lex.specs.declared.token.Keyword.TheVariants as keyword
 use Rattle.dv_lex.specs.declared.token.Symbol.{Symbol}
 use Rattle.dv_lex.specs.declared.token.Symbol.TheVariants as symbol
@@ -12,18 +13,18 @@ use Rattle.dv_syntax.specs.declared.tree.Prefix.{Prefix}
 use Rattle.dv_syntax.specs.declared.tree.Prefix.TheVariants as prefix
 use Rattle.dv_syntax.specs.declared.tree.RuleSort.{RuleSort}
 use Rattle.dv_syntax.specs.declared.tree.RuleSort.TheVariants as sort
-use Rattle.dv_syntax.specs.Trees.{Expression, Literal, TruthValue, Named, Parens, Prefixed, Binary}
+use Rattle.dv_syntax.specs.Trees.{Expression, Literal, TruthValue, Named, Parens, Prefixed, Binary, Call, Times}
 use Rattle.dv_syntax.specs.Written.{Declares, Lists, Starts, Holds, Rules, Outputs, Contains, Couples, WrittenModel, WrittenAtomic, WrittenCoupled, WrittenFile, sorted}
 use Rattle.dv_syntax.specs.Grammar.{Limits, prefix_kind, prefix_rank, operator_rank, depth, sort_word}
-use Rattle.dv_parser.specs.Reading.{SingleAssign, SingleGoto, SingleSend, SingleIf, SingleIfElse, joined, Unexpected, TooDeep, read_then, within, choose, maybe, same_kind, begins, begins_name, begins_truth, begins_prefix, truth_at, name_at, number_at, place_at, obstacle_at, operator_of, goes_on, operator_at, leaf_at, parens_at, prefixed_at, primary_at, turns, expression_at, many_at, braces_at, assign_at, goto_at, send_at, else_at, if_at, statement_at, block_at, bound_at, variable_at, flag_at, further_name_at, phases_at, start_at, ticks_at, hold_at, rule_at, out_at, item_at, atomic_at, end_at, part_at, link_at, coupled_item_at, coupled_at, model_at, file_at}
+use Rattle.dv_parser.specs.Reading.{SingleAssign, SingleGoto, SingleSend, SingleIf, SingleIfElse, SingleFor, SingleAdd, SingleDrop, joined, Unexpected, TooDeep, read_then, within, choose, maybe, same_kind, begins_name, begins_truth, begins_call, begins_prefix, truth_at, call_word_at, name_at, number_at, place_at, obstacle_at, operator_of, goes_on, operator_at, call_at, leaf_at, parens_at, prefixed_at, times_at, primary_at, turns, expression_at, many_at, braces_at, assign_at, goto_at, send_at, add_at, drop_at, else_at, if_at, for_at, statement_at, block_at, bound_at, variable_at, flag_at, bag_at, further_name_at, phases_at, start_at, ticks_at, hold_at, rule_at, out_at, item_at, atomic_at, end_at, part_at, link_at, coupled_item_at, coupled_at, model_at, file_at}
 use Rattle.dv_dead_ends.specs.Refusals.{BeginsFileWithin}
 use Rattle.dv_parser.proofs.Tokens.{then_is}
 use Rattle.dv_parser.proofs.Expressions.{positive_depth}
-use Rattle.dv_parser.proofs.Statements.{statement_shortens}
+use Rattle.dv_parser.proofs.Statements.{NoElse, statement_shortens}
 use Rattle.dv_parser.proofs.Models.{item_shortens, further_name_shortens, coupled_item_shortens, model_shortens, file_sound}
-use Rattle.dv_dead_ends.proofs.Steady.{Reader, begins_name_of_first, begins_truth_of_first, truth_steady, many_steady, braces_steady, name_steady, number_steady}
-use Rattle.dv_dead_ends.proofs.Completions.{of_kind, Unfinished, CompletesAt, Completes, Always, Begins, each, ReadsOn, Leaves, StopsThere, on_first, leaves_complete, then_completes, choose_completes, choose_completes_by, after_completes, deep_completes, name_completes, number_completes, truth_completes, many_completes, braces_complete}
-use Rattle.dv_dead_ends.proofs.SteadyReaders.{cases_option, begins_prefix_of_first, primary_steady, expression_steady, statement_steady, block_steady, bound_steady, further_name_steady, ticks_steady, out_steady, variable_steady, flag_steady, item_steady, end_steady, part_steady, link_steady, coupled_item_steady, atomic_steady, coupled_steady, model_steady, last_at, root_at, whole_at, file_whole, as_file}
+use Rattle.dv_dead_ends.proofs.Steady.{Reader, begins_name_of_first, begins_truth_of_first, begins_call_of_first, truth_steady, call_word_steady, many_steady, braces_steady, name_steady, number_steady}
+use Rattle.dv_dead_ends.proofs.Completions.{of_kind, Unfinished, CompletesAt, Completes, Always, Begins, each, ReadsOn, Leaves, StopsThere, on_first, leaves_complete, then_completes, choose_completes, choose_completes_by, after_completes, deep_completes, name_completes, number_completes, truth_completes, call_word_completes, many_completes, braces_complete}
+use Rattle.dv_dead_ends.proofs.SteadyReaders.{cases_option, begins_prefix_of_first, primary_steady, expression_steady, statement_steady, block_steady, bound_steady, further_name_steady, ticks_steady, out_steady, variable_steady, flag_steady, bag_steady, item_steady, end_steady, part_steady, link_steady, coupled_item_steady, atomic_steady, coupled_steady, model_steady, last_at, root_at, whole_at, file_whole, as_file}
 
 -- ---- Expressions
 
@@ -41,6 +42,17 @@ a_name = of_kind (kind.Name 0)
 abbrev a_sign : Symbol → Token
 a_sign s = of_kind (kind.Symbol s)
 
+abbrev a_word : Keyword → Token
+a_word k = of_kind (kind.Keyword k)
+
+call_completes : Completes call_at EndsExpression (a_word keyword.Most ∷ a_sign symbol.OpenParen ∷ a_name ∷ a_sign symbol.CloseParen ∷ [])
+unfolding call_at
+call_completes =
+    then_completes call_word_at _ call_word_steady call_word_completes (λ rest h. tt) (λ place c.
+    after_completes (kind.Symbol symbol.OpenParen) _ (λ _.
+    then_completes name_at _ name_steady name_completes (λ rest h. tt) (λ _ b.
+    after_completes (kind.Symbol symbol.CloseParen) _ (λ _. leaves_complete (Call c place b) EndsExpression))))
+
 leaf_completes : Completes leaf_at EndsExpression (a_number ∷ [])
 unfolding leaf_at
 leaf_completes =
@@ -50,7 +62,8 @@ leaf_completes =
     (choose_completes_by begins_truth _ _ begins_truth_of_first
     (then_completes truth_at _ truth_steady truth_completes (λ rest h. tt) (λ place v. leaves_complete (TruthValue place v) EndsExpression)).behind
     (λ rest h. refl)
-    (then_completes number_at _ number_steady number_completes (λ rest h. tt) (λ _ n. leaves_complete (Literal n) EndsExpression)))
+    (choose_completes_by begins_call _ _ begins_call_of_first call_completes.behind (λ rest h. refl)
+    (then_completes number_at _ number_steady number_completes (λ rest h. tt) (λ _ n. leaves_complete (Literal n) EndsExpression))))
 
 -- a reader of operands completes them where the limit leaves room for one
 abbrev WhereRoom : (ℕ → Reader Expression) → ℕ → Type 0
@@ -72,12 +85,26 @@ prefixed_completes o (suc limit) c =
     (after_completes (prefix_kind o) _ (λ place.
     then_completes (expression_at (suc limit) (prefix_rank o)) _ (expression_steady (suc limit) (prefix_rank o)) (c (prefix_rank o)) (λ rest h. h) (λ _ e. leaves_complete (Prefixed o place e) EndsExpression))).behind
 
+times_complete : (limit : ℕ) → WhereRoom (expression_at limit) limit → (t : Token) (us : List Token)
+    → CompletesAt (times_at (expression_at limit) limit) EndsExpression (t ∷ us)
+unfolding times_at within read_then operator_of
+times_complete zero c = deep_completes (kind.Keyword keyword.Times) EndsExpression
+times_complete (suc limit) c =
+    (after_completes (kind.Keyword keyword.Times) _ (λ place.
+    after_completes (kind.Symbol symbol.OpenParen) _ (λ _.
+    then_completes (expression_at (suc limit) 0) _ (expression_steady (suc limit) 0) (c 0) (λ rest h. refl) (λ _ e.
+    after_completes (kind.Symbol symbol.Comma) _ (λ _.
+    then_completes name_at _ name_steady name_completes (λ rest h. tt) (λ _ b.
+    after_completes (kind.Symbol symbol.CloseParen) _ (λ _. leaves_complete (Times place e b) EndsExpression))))))).behind
+
 primary_completes : (limit level : ℕ) → WhereRoom (expression_at limit) limit → Completes (primary_at (expression_at limit) limit level) EndsExpression (a_number ∷ [])
 unfolding primary_at
 primary_completes limit level c =
     choose_completes (kind.Symbol symbol.OpenParen) _ _ (parens_complete limit c) (λ rest h. refl)
+    (choose_completes (kind.Keyword keyword.Times) _ _ (times_complete limit c) (λ rest h. refl)
     (choose_completes_by (begins_prefix prefix.Minus level) _ _ (begins_prefix_of_first prefix.Minus level) (prefixed_completes prefix.Minus limit c) (λ rest h. refl)
-    (choose_completes_by (begins_prefix prefix.Not level) _ _ (begins_prefix_of_first prefix.Not level) (prefixed_completes prefix.Not limit c) (λ rest h. refl) leaf_completes))
+    (choose_completes_by (begins_prefix prefix.Not level) _ _ (begins_prefix_of_first prefix.Not level)
+    (prefixed_completes prefix.Not limit c) (λ rest h. refl) leaf_completes)))
 
 -- where a left operand lies less deep than the limit, there is room for a right one
 room : (limit : ℕ) (operand : ℕ → Reader Expression) → WhereRoom operand limit → (left : Expression) → ltb (depth left) (suc limit) ≡ true → (level : ℕ) → Completes (operand level) EndsExpression (a_number ∷ [])
@@ -130,7 +157,7 @@ operands_complete (suc limit) = λ level.
     then_completes (primary_at (expression_at limit) limit level) _ (primary_steady (expression_at limit) (expression_steady limit) limit level) (primary_completes limit level (operands_complete limit)) (λ rest h. h)
     (λ _ e. turns_complete limit (operands_complete limit) (suc limit) level e)
 
--- an expression and a block can be within the limits
+-- an expression and a block can be within the limits, with no loop
 pub record HaveRoom (limits : Limits) : Type 0 where
   pub expression : 0 < limits.expression
   pub block : 0 < limits.block
@@ -143,10 +170,6 @@ expression_completes : (limits : Limits) → HaveRoom limits → Completes (expr
 expression_completes limits room = some_operand limits.expression room.expression
 
 -- ---- Statements
-
--- no `else` follows
-abbrev NoElse : List Token → Type 0
-NoElse rest = begins (kind.Keyword keyword.Else) rest ≡ false
 
 assign_completes : (limits : Limits) → HaveRoom limits → Completes (assign_at limits) NoElse (a_name ∷ a_sign symbol.Assign ∷ a_number ∷ a_sign symbol.Semicolon ∷ [])
 unfolding assign_at operator_of
@@ -171,32 +194,78 @@ send_completes limits room =
     then_completes (expression_at limits.expression 0) _ (expression_steady limits.expression 0) (expression_completes limits room) (λ rest h. refl) (λ _ e.
     after_completes (kind.Symbol symbol.Semicolon) _ (λ _. leaves_complete (SingleSend place n e) NoElse))))
 
+add_completes : (limits : Limits) → HaveRoom limits
+    → Completes (add_at limits) NoElse (a_word keyword.Add ∷ a_number ∷ a_word keyword.To ∷ a_name ∷ a_sign symbol.Semicolon ∷ [])
+unfolding add_at operator_of
+add_completes limits room =
+    after_completes (kind.Keyword keyword.Add) _ (λ place.
+    then_completes (expression_at limits.expression 0) _ (expression_steady limits.expression 0)
+    (expression_completes limits room) (λ rest h. refl) (λ _ e.
+    after_completes (kind.Keyword keyword.To) _ (λ _.
+    then_completes name_at _ name_steady name_completes (λ rest h. tt) (λ _ b.
+    after_completes (kind.Symbol symbol.Semicolon) _ (λ _. leaves_complete (SingleAdd place e b) NoElse)))))
+
+drop_completes : (limits : Limits) → HaveRoom limits
+    → Completes (drop_at limits) NoElse (a_word keyword.Drop ∷ a_number ∷ a_word keyword.From ∷ a_name ∷ a_sign symbol.Semicolon ∷ [])
+unfolding drop_at operator_of
+drop_completes limits room =
+    after_completes (kind.Keyword keyword.Drop) _ (λ place.
+    then_completes (expression_at limits.expression 0) _ (expression_steady limits.expression 0)
+    (expression_completes limits room) (λ rest h. refl) (λ _ e.
+    after_completes (kind.Keyword keyword.From) _ (λ _.
+    then_completes name_at _ name_steady name_completes (λ rest h. tt) (λ _ b.
+    after_completes (kind.Symbol symbol.Semicolon) _ (λ _. leaves_complete (SingleDrop place e b) NoElse)))))
+
 abbrev empty_braces : List Token
 empty_braces = a_sign symbol.OpenBrace ∷ a_sign symbol.CloseBrace ∷ []
 
 -- blocks are completed where the limit leaves room for one
-abbrev BlocksWhereRoom : Limits → ℕ → Type 0
-BlocksWhereRoom limits zero = Unit {0}
-BlocksWhereRoom limits (suc limit) = Completes (block_at limits (suc limit)) Always empty_braces
+abbrev BlocksWhereRoom : Limits → (limit loops : ℕ) → Type 0
+BlocksWhereRoom limits zero loops = Unit {0}
+BlocksWhereRoom limits (suc limit) loops = Completes (block_at limits (suc limit) loops) Always empty_braces
 
-if_completes : (limits : Limits) → HaveRoom limits → (limit : ℕ) → BlocksWhereRoom limits limit → (t : Token) (us : List Token) → CompletesAt (if_at limits (block_at limits limit) limit) NoElse (t ∷ us)
+if_completes : (limits : Limits) → HaveRoom limits → (limit loops : ℕ) → BlocksWhereRoom limits limit loops → (t : Token) (us : List Token)
+    → CompletesAt (if_at limits (block_at limits limit loops) limit) NoElse (t ∷ us)
 unfolding if_at else_at within read_then operator_of
-if_completes limits room zero c = deep_completes (kind.Keyword keyword.If) NoElse
-if_completes limits room (suc limit) c =
+if_completes limits room zero loops c = deep_completes (kind.Keyword keyword.If) NoElse
+if_completes limits room (suc limit) loops c =
+    let steady = block_steady limits (suc limit) loops in
     (after_completes (kind.Keyword keyword.If) _ (λ place.
     then_completes (expression_at limits.expression 0) _ (expression_steady limits.expression 0) (expression_completes limits room) (λ rest h. refl) (λ _ e.
-    then_completes (block_at limits (suc limit)) _ (block_steady limits (suc limit)) c (λ rest h. tt) (λ _ b.
+    then_completes (block_at limits (suc limit) loops) _ steady c (λ rest h. tt) (λ _ b.
     choose_completes (kind.Keyword keyword.Else) _ _
-    (after_completes (kind.Keyword keyword.Else) _ (λ _. then_completes (block_at limits (suc limit)) _ (block_steady limits (suc limit)) c (λ rest h. tt) (λ _ other. leaves_complete (SingleIfElse place e b other) NoElse))).behind
+    (after_completes (kind.Keyword keyword.Else) _ (λ _.
+    then_completes (block_at limits (suc limit) loops) _ steady c (λ rest h. tt) (λ _ other.
+    leaves_complete (SingleIfElse place e b other) NoElse))).behind
     (λ rest h. h)
     (leaves_complete (SingleIf place e b) NoElse))))).behind
 
-statement_completes : (limits : Limits) → HaveRoom limits → (limit : ℕ) → BlocksWhereRoom limits limit → Completes (statement_at limits (block_at limits limit) limit) NoElse (a_name ∷ a_sign symbol.Assign ∷ a_number ∷ a_sign symbol.Semicolon ∷ [])
+for_completes : (limits : Limits) (limit loops : ℕ) → ((m : ℕ) → BlocksWhereRoom limits limit m) → (t : Token) (us : List Token)
+    → CompletesAt (for_at (block_at limits limit) limit loops) NoElse (t ∷ us)
+unfolding for_at within read_then
+for_completes limits zero loops c = deep_completes (kind.Keyword keyword.For) NoElse
+for_completes limits (suc limit) zero c = deep_completes (kind.Keyword keyword.For) NoElse
+for_completes limits (suc limit) (suc loops) c =
+    let fewer : ℕ = suc loops - 1 in
+    (after_completes (kind.Keyword keyword.For) _ (λ place.
+    then_completes name_at _ name_steady name_completes (λ rest h. tt) (λ _ v.
+    after_completes (kind.Keyword keyword.In) _ (λ _.
+    then_completes name_at _ name_steady name_completes (λ rest h. tt) (λ _ b.
+    then_completes (block_at limits (suc limit) fewer) _ (block_steady limits (suc limit) fewer) (c fewer) (λ rest h. tt) (λ _ block.
+    leaves_complete (SingleFor place v b block) NoElse)))))).behind
+
+statement_completes : (limits : Limits) → HaveRoom limits → (limit loops : ℕ) → ((m : ℕ) → BlocksWhereRoom limits limit m)
+    → Completes (statement_at limits (block_at limits limit) limit loops) NoElse
+    (a_name ∷ a_sign symbol.Assign ∷ a_number ∷ a_sign symbol.Semicolon ∷ [])
 unfolding statement_at
-statement_completes limits room limit c =
+statement_completes limits room limit loops c =
     choose_completes (kind.Keyword keyword.Goto) _ _ goto_completes.behind (λ rest h. refl)
     (choose_completes (kind.Keyword keyword.Send) _ _ (send_completes limits room).behind (λ rest h. refl)
-    (choose_completes (kind.Keyword keyword.If) _ _ (if_completes limits room limit c) (λ rest h. refl) (assign_completes limits room)))
+    (choose_completes (kind.Keyword keyword.If) _ _ (if_completes limits room limit loops (c loops)) (λ rest h. refl)
+    (choose_completes (kind.Keyword keyword.For) _ _ (for_completes limits limit loops c) (λ rest h. refl)
+    (choose_completes (kind.Keyword keyword.Add) _ _ (add_completes limits room).behind (λ rest h. refl)
+    (choose_completes (kind.Keyword keyword.Drop) _ _ (drop_completes limits room).behind (λ rest h. refl)
+    (assign_completes limits room))))))
 
 close_no_else : (rest : List Token) → Begins (kind.Symbol symbol.CloseBrace) rest → NoElse rest
 close_no_else [] h = refl
@@ -208,18 +277,21 @@ close_no_else (t ∷ ts) h = of_close t.kind h
     of_close (kind.Number n) h = refl
     of_close (kind.Symbol s) h = refl
 
-blocks_complete : (limits : Limits) → HaveRoom limits → (limit : ℕ) → BlocksWhereRoom limits limit
+blocks_complete : (limits : Limits) → HaveRoom limits → (limit loops : ℕ) → BlocksWhereRoom limits limit loops
 unfolding block_at
-blocks_complete limits room zero = tt
-blocks_complete limits room (suc limit) =
-    then_completes (braces_at (statement_at limits (block_at limits limit) limit)) _
-    (braces_steady (statement_at limits (block_at limits limit) limit) (statement_shortens limits limit) (statement_steady limits (block_at limits limit) (block_steady limits limit) limit))
-    (braces_complete (statement_at limits (block_at limits limit) limit) Always (statement_shortens limits limit) (statement_steady limits (block_at limits limit) (block_steady limits limit) limit) (statement_completes limits room limit (blocks_complete limits room limit)) close_no_else)
+blocks_complete limits room zero loops = tt
+blocks_complete limits room (suc limit) loops =
+    let one = statement_at limits (block_at limits limit) limit loops in
+    let steady = statement_steady limits (block_at limits limit) (block_steady limits limit) limit loops in
+    let inside = statement_completes limits room limit loops (λ m. blocks_complete limits room limit m) in
+    then_completes (braces_at one) _ (braces_steady one (statement_shortens limits limit loops) steady)
+    (braces_complete one Always (statement_shortens limits limit loops) steady inside close_no_else)
     (λ rest h. tt) (λ _ ss. leaves_complete (joined ss) Always)
 
-some_block : (limits : Limits) → HaveRoom limits → (limit : ℕ) → 0 < limit → Completes (block_at limits limit) Always empty_braces
-some_block limits room zero lt = absurd (omega (arith, lt))
-some_block limits room (suc limit) lt = blocks_complete limits room (suc limit)
+some_block : (limits : Limits) → HaveRoom limits → (limit loops : ℕ) → 0 < limit
+    → Completes (block_at limits limit loops) Always empty_braces
+some_block limits room zero loops lt = absurd (omega (arith, lt))
+some_block limits room (suc limit) loops lt = blocks_complete limits room (suc limit) loops
 
 -- ---- Atomic models
 
@@ -252,6 +324,14 @@ flag_completes =
     after_completes (kind.Symbol symbol.Equal) _ (λ _.
     then_completes truth_at _ truth_steady truth_completes (λ rest h. tt) (λ _ start.
     after_completes (kind.Symbol symbol.Semicolon) _ (λ _. leaves_complete (record { name = n; start = start }) Always)))))
+
+bag_completes : Completes bag_at Always (a_word keyword.Bag ∷ a_name ∷ a_number ∷ a_sign symbol.Semicolon ∷ [])
+unfolding bag_at
+bag_completes =
+    after_completes (kind.Keyword keyword.Bag) _ (λ _.
+    then_completes name_at _ name_steady name_completes (λ rest h. tt) (λ _ n.
+    then_completes number_at _ number_steady number_completes (λ rest h. tt) (λ _ capacity.
+    after_completes (kind.Symbol symbol.Semicolon) _ (λ _. leaves_complete (record { name = n; capacity = capacity }) Always))))
 
 further_name_completes : Completes further_name_at Always (a_sign symbol.Comma ∷ a_name ∷ [])
 unfolding further_name_at
@@ -295,7 +375,9 @@ unfolding rule_at
 rule_completes limits room sort =
     after_completes (kind.Keyword (sort_word sort)) _ (λ _.
     then_completes name_at _ name_steady name_completes (λ rest h. tt) (λ _ n.
-    then_completes (block_at limits limits.block) _ (block_steady limits limits.block) (some_block limits room limits.block room.block) (λ rest h. tt) (λ _ body. leaves_complete (Rules (record { sort = sort; phase = n; body = body })) Always)))
+    then_completes (block_at limits limits.block limits.loop) _ (block_steady limits limits.block limits.loop)
+    (some_block limits room limits.block limits.loop room.block) (λ rest h. tt) (λ _ body.
+    leaves_complete (Rules (record { sort = sort; phase = n; body = body })) Always)))
 
 out_completes : Completes out_at Always (of_kind (kind.Keyword keyword.Out) ∷ a_name ∷ a_sign symbol.Semicolon ∷ [])
 unfolding out_at
@@ -310,10 +392,14 @@ item_completes limits room =
     choose_completes (kind.Keyword keyword.Out) _ _ (then_completes out_at _ out_steady out_completes (λ rest h. tt) (λ _ n. leaves_complete (Declares (declaration.Out n)) Always)).behind (λ rest h. refl)
     (choose_completes (kind.Keyword keyword.Var) _ _ (then_completes variable_at _ variable_steady variable_completes (λ rest h. tt) (λ _ v. leaves_complete (Declares (declaration.Var v)) Always)).behind (λ rest h. refl)
     (choose_completes (kind.Keyword keyword.Flag) _ _ (then_completes flag_at _ flag_steady flag_completes (λ rest h. tt) (λ _ f. leaves_complete (Declares (declaration.Flag f)) Always)).behind (λ rest h. refl)
+    (choose_completes (kind.Keyword keyword.Bag) _ _
+    (then_completes bag_at _ bag_steady bag_completes (λ rest h. tt) (λ _ b. leaves_complete (Declares (declaration.Bag b)) Always)).behind
+    (λ rest h. refl)
     (choose_completes (kind.Keyword keyword.Phases) _ _ phases_complete.behind (λ rest h. refl)
     (choose_completes (kind.Keyword keyword.Start) _ _ start_completes.behind (λ rest h. refl)
     (choose_completes (kind.Keyword keyword.Hold) _ _ (hold_completes limits room).behind (λ rest h. refl)
-    (choose_completes (kind.Keyword keyword.Output) _ _ (rule_completes limits room sort.Output).behind (λ rest h. refl) (rule_completes limits room sort.Internal)))))))
+    (choose_completes (kind.Keyword keyword.Output) _ _ (rule_completes limits room sort.Output).behind (λ rest h. refl)
+    (rule_completes limits room sort.Internal))))))))
 
 atomic_completes : (limits : Limits) → HaveRoom limits → Completes (atomic_at limits) Always (of_kind (kind.Keyword keyword.Atomic) ∷ a_name ∷ empty_braces)
 unfolding atomic_at

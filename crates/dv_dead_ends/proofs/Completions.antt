@@ -6,7 +6,10 @@ use Rattle.dv_lex.specs.declared.token.TokenKind.{TokenKind}
 use Rattle.dv_lex.specs.declared.token.TokenKind.TheVariants as kind
 use Rattle.dv_lex.specs.declared.token.Keyword.TheVariants as keyword
 use Rattle.dv_lex.specs.declared.token.Symbol.TheVariants as symbol
-use Rattle.dv_parser.specs.Reading.{Obstacle, Unexpected, TooDeep, TooShort, Read, read_then, choose, same_kind, begins, after, place_at, name_of, name_at, number_of, number_at, truth_at, many_at, braces_at}
+use Rattle.dv_syntax.specs.declared.tree.BagCall.{BagCall}
+use Rattle.dv_syntax.specs.declared.tree.BagCall.TheVariants as call
+use Rattle.dv_syntax.specs.Grammar.{call_word}
+use Rattle.dv_parser.specs.Reading.{Obstacle, Unexpected, TooDeep, TooShort, Read, read_then, choose, same_kind, begins, after, place_at, name_of, name_at, number_of, number_at, truth_at, word_of_at, call_word_at, many_at, braces_at}
 use Rattle.dv_parser.proofs.Tokens.{ok_is, err_ok, same_kind-same}
 use Rattle.dv_parser.proofs.Readers.{Shortens}
 use Rattle.dv_dead_ends.proofs.Steady.{Reader, IsAt, SteadyAt, IsSteady, IsOfFirst, begins_of_first, ok_err, err_is, same_place, many_step, many_steady}
@@ -222,6 +225,17 @@ unfolding truth_at
 truth_completes =
     choose_completes (kind.Keyword keyword.True) _ _ (after_completes (kind.Keyword keyword.True) _ (λ _. leaves_complete true Always)).behind (λ rest h. refl)
     (after_completes (kind.Keyword keyword.False) _ (λ _. leaves_complete false Always))
+
+word_of_completes : (c : BagCall) → Completes (word_of_at c) Always (of_kind (kind.Keyword (call_word c)) ∷ [])
+unfolding word_of_at
+word_of_completes c = after_completes (kind.Keyword (call_word c)) _ (λ _. leaves_complete c Always)
+
+pub call_word_completes : Completes call_word_at Always (of_kind (kind.Keyword keyword.Most) ∷ [])
+unfolding call_word_at
+call_word_completes =
+    choose_completes (kind.Keyword keyword.Size) _ _ (word_of_completes call.Size).behind (λ rest h. refl)
+    (choose_completes (kind.Keyword keyword.Sum) _ _ (word_of_completes call.Sum).behind (λ rest h. refl)
+    (choose_completes (kind.Keyword keyword.Least) _ _ (word_of_completes call.Least).behind (λ rest h. refl) (word_of_completes call.Most)))
 
 -- ---- Lists
 

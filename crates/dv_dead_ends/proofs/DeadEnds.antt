@@ -113,15 +113,19 @@ room = record { expression = omega arith; block = omega arith }
 
 -- limits greater than those of the language, and than others
 above : Limits → Limits
-above limits = record { expression = suc (the_limits.expression + limits.expression); block = suc (the_limits.block + limits.block) }
+above limits = record {
+  expression = suc (the_limits.expression + limits.expression);
+  block = suc (the_limits.block + limits.block);
+  loop = suc (the_limits.loop + limits.loop);
+}
 
 above_theirs : (limits : Limits) → AreGreater limits (above limits)
 unfolding above
-above_theirs limits = record { expression = omega arith; block = omega arith }
+above_theirs limits = record { expression = omega arith; block = omega arith; loop = omega arith }
 
 above_ours : (limits : Limits) → AreWidened the_limits (above limits)
 unfolding above
-above_ours limits = record { room = room; greater = record { expression = omega arith; block = omega arith } }
+above_ours limits = record { room = room; greater = record { expression = omega arith; block = omega arith; loop = omega arith } }
 
 greater_room : (narrow wide : Limits) → AreGreater narrow wide → HaveRoom wide
 greater_room narrow wide g = record { expression = omega (arith, g.expression); block = omega (arith, g.block) }

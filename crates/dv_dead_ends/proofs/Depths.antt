@@ -2,13 +2,14 @@
 use Rattle.std.proofs.Common.{◌<◌, List, [], ◌∷◌, Option, Some, None, arith}
 use Rattle.std.specs.List.{AllByRecursion}
 use Rattle.dv_lex.specs.declared.token.Token.{Token}
-use Rattle.dv_syntax.specs.Trees.{Expression, Statements, Done, Assign, Goto, Send, If, IfElse, FileTree}
+use Rattle.dv_syntax.specs.Trees.{Expression, Statements, Done, Assign, Goto, Send, If, IfElse, For, Add, Drop, FileTree}
 use Rattle.dv_syntax.specs.Written.{AtomicItem, Declares, Lists, Starts, Holds, Rules, WrittenModel, WrittenAtomic, WrittenCoupled}
 use Rattle.dv_syntax.specs.Grammar.{Limits, IsExpression, AreStatements, AreTicks, IsItem, IsModel, IsFileWithin}
 
 pub record AreGreater (narrow wide : Limits) : Type 0 where
   pub expression : narrow.expression < wide.expression
   pub block : narrow.block < wide.block
+  pub loop : narrow.loop < wide.loop
 
 expression_within : (n w : Limits) → AreGreater n w → (e : Expression) → IsExpression n e → IsExpression w e
 expression_within n w g e is = record { formed = is.formed; within = omega (arith, is.within, g.expression) }
@@ -21,6 +22,9 @@ statements_within n w g (Send place p e rest) are = (expression_within n w g e a
 statements_within n w g (If place e block rest) are = (expression_within n w g e are.0, statements_within n w g block are.1, statements_within n w g rest are.2)
 statements_within n w g (IfElse place e block other rest) are =
     (expression_within n w g e are.0, statements_within n w g block are.1, statements_within n w g other are.2, statements_within n w g rest are.3)
+statements_within n w g (For place v b block rest) are = (statements_within n w g block are.0, statements_within n w g rest are.1)
+statements_within n w g (Add place e b rest) are = (expression_within n w g e are.0, statements_within n w g rest are.1)
+statements_within n w g (Drop place e b rest) are = (expression_within n w g e are.0, statements_within n w g rest are.1)
 
 ticks_within : (n w : Limits) → AreGreater n w → (ticks : Option Expression) → AreTicks n ticks → AreTicks w ticks
 ticks_within n w g None are = tt
@@ -31,7 +35,7 @@ item_within n w g (Declares d) is = is
 item_within n w g (Lists p) is = is
 item_within n w g (Starts s) is = is
 item_within n w g (Holds h) is = ticks_within n w g h.ticks is
-item_within n w g (Rules r) is = (statements_within n w g r.body is.0, omega (arith, is.1, g.block))
+item_within n w g (Rules r) is = (statements_within n w g r.body is.0, omega (arith, is.1, g.block), omega (arith, is.2, g.loop))
 
 each_within : {A : Type 0} {P Q : A → Type 0} → ((x : A) → P x → Q x) → (xs : List A) → AllByRecursion P xs → AllByRecursion Q xs
 each_within h [] all = tt

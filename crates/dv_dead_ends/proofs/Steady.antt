@@ -6,7 +6,10 @@ use Rattle.dv_lex.specs.declared.token.TokenKind.{TokenKind}
 use Rattle.dv_lex.specs.declared.token.TokenKind.TheVariants as kind
 use Rattle.dv_lex.specs.declared.token.Keyword.TheVariants as keyword
 use Rattle.dv_lex.specs.declared.token.Symbol.TheVariants as symbol
-use Rattle.dv_parser.specs.Reading.{Obstacle, Unexpected, TooDeep, TooShort, Read, read_then, choose, same_kind, begins, begins_name, begins_truth, truth_at, after, place_at, name_of, name_at, number_of, number_at, many, many_at, braces_at}
+use Rattle.dv_syntax.specs.declared.tree.BagCall.{BagCall}
+use Rattle.dv_syntax.specs.declared.tree.BagCall.TheVariants as call
+use Rattle.dv_syntax.specs.Grammar.{call_word}
+use Rattle.dv_parser.specs.Reading.{Obstacle, Unexpected, TooDeep, TooShort, Read, read_then, choose, same_kind, begins, begins_name, begins_truth, begins_call, truth_at, word_of_at, call_word_at, after, place_at, name_of, name_at, number_of, number_at, many, many_at, braces_at}
 use Rattle.dv_parser.proofs.Tokens.{then_ok, ok_is, err_ok}
 use Rattle.dv_parser.proofs.Readers.{Shortens, same_after, same_many}
 
@@ -202,6 +205,10 @@ pub begins_truth_of_first : IsOfFirst begins_truth
 begins_truth_of_first [] t more other = refl
 begins_truth_of_first (u ∷ front) t more other = refl
 
+pub begins_call_of_first : IsOfFirst begins_call
+begins_call_of_first [] t more other = refl
+begins_call_of_first (u ∷ front) t more other = refl
+
 pub choose_at : {A : Type 0} (test : List Token → Bool) (one two : Reader A) (ts : List Token) → IsOfFirst test → SteadyAt one ts → SteadyAt two ts → SteadyAt (λ us. choose (test us) (one us) (two us)) ts
 unfolding choose
 choose_at {A = A} test one two ts of_first y n =
@@ -268,6 +275,17 @@ truth_steady =
     choose_steady (kind.Keyword keyword.True) _ _
     (after_steady (kind.Keyword keyword.True) _ (λ _. leaves_steady true))
     (after_steady (kind.Keyword keyword.False) _ (λ _. leaves_steady false))
+
+word_of_steady : (c : BagCall) → IsSteady (word_of_at c)
+unfolding word_of_at
+word_of_steady c = after_steady (kind.Keyword (call_word c)) _ (λ _. leaves_steady c)
+
+pub call_word_steady : IsSteady call_word_at
+unfolding call_word_at
+call_word_steady =
+    choose_steady (kind.Keyword keyword.Size) _ _ (word_of_steady call.Size)
+    (choose_steady (kind.Keyword keyword.Sum) _ _ (word_of_steady call.Sum)
+    (choose_steady (kind.Keyword keyword.Least) _ _ (word_of_steady call.Least) (word_of_steady call.Most)))
 
 -- ---- Lists
 

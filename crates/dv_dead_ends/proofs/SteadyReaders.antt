@@ -1,5 +1,5 @@
 -- The readers of the grammar are steady.
-use Rattle.std.proofs.Common.{◌≡◌, ℕ, zero, suc, ◌+◌, ltb, List, [], ◌∷◌, Option, Some, None, Ok, Err, refl, sym, ◌∙◌, ◌⊎◌, inl, inr}
+use Rattle.std.proofs.Common.{◌≡◌, ℕ, zero, suc, ◌+◌, ◌-◌, ltb, List, [], ◌∷◌, Option, Some, None, Ok, Err, refl, sym, ◌∙◌, ◌⊎◌, inl, inr}
 use Rattle.std.proofs.lemmas.Bool.{cases_Bool}
 use Rattle.dv_lex.specs.declared.token.Token.{Token}
 use Rattle.dv_lex.specs.declared.token.TokenKind.TheVariants as kind
@@ -10,20 +10,28 @@ use Rattle.dv_syntax.specs.declared.tree.Prefix.{Prefix}
 use Rattle.dv_syntax.specs.declared.tree.Prefix.TheVariants as prefix
 use Rattle.dv_syntax.specs.declared.tree.RuleSort.{RuleSort}
 use Rattle.dv_syntax.specs.declared.tree.RuleSort.TheVariants as sort
-use Rattle.dv_syntax.specs.Trees.{Expression, Literal, TruthValue, Named, Parens, Prefixed, Binary, Statements}
+use Rattle.dv_syntax.specs.Trees.{Expression, Literal, TruthValue, Named, Parens, Prefixed, Binary, Call, Times, Statements}
 use Rattle.dv_syntax.specs.Written.{Declares, Lists, Starts, Holds, Rules, Outputs, Contains, Couples, WrittenModel, WrittenAtomic, WrittenCoupled, WrittenFile}
 use Rattle.dv_syntax.specs.Grammar.{Limits, prefix_kind, prefix_rank, operator_rank, depth, sort_word}
-use Rattle.dv_parser.specs.Reading.{SingleAssign, SingleGoto, SingleSend, SingleIf, SingleIfElse, joined, Obstacle, Unexpected, TooDeep, Read, read_then, within, choose, maybe, begins_name, begins_truth, begins_prefix, truth_at, after, name_at, number_at, place_at, obstacle_at, operator_of, goes_on, operator_at, leaf_at, parens_at, prefixed_at, primary_at, turns, expression_at, many_at, braces_at, assign_at, goto_at, send_at, else_at, if_at, statement_at, block_at, bound_at, variable_at, flag_at, further_name_at, phases_at, start_at, ticks_at, hold_at, rule_at, out_at, item_at, atomic_at, end_at, part_at, link_at, coupled_item_at, coupled_at, model_at, is_end, file_at}
+use Rattle.dv_parser.specs.Reading.{SingleAssign, SingleGoto, SingleSend, SingleIf, SingleIfElse, SingleFor, SingleAdd, SingleDrop, joined, Obstacle, Unexpected, TooDeep, Read, read_then, within, choose, maybe, begins_name, begins_truth, begins_call, begins_prefix, truth_at, call_word_at, after, name_at, number_at, place_at, obstacle_at, operator_of, goes_on, operator_at, call_at, leaf_at, parens_at, prefixed_at, times_at, primary_at, turns, expression_at, many_at, braces_at, assign_at, goto_at, send_at, add_at, drop_at, else_at, if_at, for_at, statement_at, block_at, bound_at, variable_at, flag_at, bag_at, further_name_at, phases_at, start_at, ticks_at, hold_at, rule_at, out_at, item_at, atomic_at, end_at, part_at, link_at, coupled_item_at, coupled_at, model_at, is_end, file_at}
 use Rattle.dv_parser.proofs.Statements.{statement_shortens}
 use Rattle.dv_parser.proofs.Models.{item_shortens, further_name_shortens, coupled_item_shortens, model_shortens}
 use Rattle.dv_parser.proofs.Sorting.{later, same_chosen, err_kept}
-use Rattle.dv_dead_ends.proofs.Steady.{Reader, IsSteady, ReadsOn, Leaves, StopsThere, by_first, leaves_steady, short_steady, then_steady, choose_at, choose_steady, IsOfFirst, begins_name_of_first, begins_truth_of_first, after_steady, deep_steady, name_steady, number_steady, truth_steady, many_steady, braces_steady, then_err}
+use Rattle.dv_dead_ends.proofs.Steady.{Reader, IsSteady, ReadsOn, Leaves, StopsThere, by_first, leaves_steady, short_steady, then_steady, choose_at, choose_steady, IsOfFirst, begins_name_of_first, begins_truth_of_first, begins_call_of_first, after_steady, deep_steady, name_steady, number_steady, truth_steady, call_word_steady, many_steady, braces_steady, then_err}
 
 -- ---- Expressions
 
 pub cases_option : {A : Type 0} (o : Option A) → (o ≡ None) ⊎ ((x : A) × (o ≡ Some x))
 cases_option None = inl refl
 cases_option (Some x) = inr (x, refl)
+
+call_steady : IsSteady call_at
+unfolding call_at
+call_steady =
+    then_steady call_word_at _ call_word_steady (λ place c.
+    after_steady (kind.Symbol symbol.OpenParen) _ (λ _.
+    then_steady name_at _ name_steady (λ _ b.
+    after_steady (kind.Symbol symbol.CloseParen) _ (λ _. leaves_steady (Call c place b)))))
 
 leaf_steady : IsSteady leaf_at
 unfolding leaf_at
@@ -32,7 +40,8 @@ leaf_steady ts =
     (then_steady name_at _ name_steady (λ _ n. leaves_steady (Named n)) ts)
     (choose_at begins_truth _ _ ts begins_truth_of_first
     (then_steady truth_at _ truth_steady (λ place v. leaves_steady (TruthValue place v)) ts)
-    (then_steady number_at _ number_steady (λ _ n. leaves_steady (Literal n)) ts))
+    (choose_at begins_call _ _ ts begins_call_of_first (call_steady ts)
+    (then_steady number_at _ number_steady (λ _ n. leaves_steady (Literal n)) ts)))
 
 parens_steady : (operand : ℕ → Reader Expression) → ((level : ℕ) → IsSteady (operand level)) → (limit : ℕ) → IsSteady (parens_at operand limit)
 unfolding parens_at within read_then
@@ -49,6 +58,18 @@ prefixed_steady o operand s (suc limit) =
     after_steady (prefix_kind o) _ (λ place.
     then_steady (operand (prefix_rank o)) _ (s (prefix_rank o)) (λ _ e. leaves_steady (Prefixed o place e)))
 
+times_steady : (operand : ℕ → Reader Expression) → ((level : ℕ) → IsSteady (operand level)) → (limit : ℕ)
+    → IsSteady (times_at operand limit)
+unfolding times_at within read_then
+times_steady operand s zero = deep_steady (kind.Keyword keyword.Times)
+times_steady operand s (suc limit) =
+    after_steady (kind.Keyword keyword.Times) _ (λ place.
+    after_steady (kind.Symbol symbol.OpenParen) _ (λ _.
+    then_steady (operand 0) _ (s 0) (λ _ e.
+    after_steady (kind.Symbol symbol.Comma) _ (λ _.
+    then_steady name_at _ name_steady (λ _ b.
+    after_steady (kind.Symbol symbol.CloseParen) _ (λ _. leaves_steady (Times place e b)))))))
+
 pub begins_prefix_of_first : (o : Prefix) (level : ℕ) → IsOfFirst (begins_prefix o level)
 begins_prefix_of_first o level [] t more other = refl
 begins_prefix_of_first o level (u ∷ front) t more other = refl
@@ -57,8 +78,10 @@ pub primary_steady : (operand : ℕ → Reader Expression) → ((level : ℕ) �
 unfolding primary_at
 primary_steady operand s limit level =
     choose_steady (kind.Symbol symbol.OpenParen) _ _ (parens_steady operand s limit)
+    (choose_steady (kind.Keyword keyword.Times) _ _ (times_steady operand s limit)
     (λ ts. choose_at (begins_prefix prefix.Minus level) _ _ ts (begins_prefix_of_first prefix.Minus level) (prefixed_steady prefix.Minus operand s limit ts)
-    (choose_at (begins_prefix prefix.Not level) _ _ ts (begins_prefix_of_first prefix.Not level) (prefixed_steady prefix.Not operand s limit ts) (leaf_steady ts)))
+    (choose_at (begins_prefix prefix.Not level) _ _ ts (begins_prefix_of_first prefix.Not level)
+    (prefixed_steady prefix.Not operand s limit ts) (leaf_steady ts))))
 
 turns_steady : (operand : ℕ → Reader Expression) → ((level : ℕ) → IsSteady (operand level)) → (limit more level : ℕ) (left : Expression) → IsSteady (turns operand limit more level left)
 unfolding operator_at maybe choose place_at
@@ -119,6 +142,24 @@ send_steady limits =
     then_steady (expression_at limits.expression 0) _ (expression_steady limits.expression 0) (λ _ e.
     after_steady (kind.Symbol symbol.Semicolon) _ (λ _. leaves_steady (SingleSend place n e)))))
 
+add_steady : (limits : Limits) → IsSteady (add_at limits)
+unfolding add_at
+add_steady limits =
+    after_steady (kind.Keyword keyword.Add) _ (λ place.
+    then_steady (expression_at limits.expression 0) _ (expression_steady limits.expression 0) (λ _ e.
+    after_steady (kind.Keyword keyword.To) _ (λ _.
+    then_steady name_at _ name_steady (λ _ b.
+    after_steady (kind.Symbol symbol.Semicolon) _ (λ _. leaves_steady (SingleAdd place e b))))))
+
+drop_steady : (limits : Limits) → IsSteady (drop_at limits)
+unfolding drop_at
+drop_steady limits =
+    after_steady (kind.Keyword keyword.Drop) _ (λ place.
+    then_steady (expression_at limits.expression 0) _ (expression_steady limits.expression 0) (λ _ e.
+    after_steady (kind.Keyword keyword.From) _ (λ _.
+    then_steady name_at _ name_steady (λ _ b.
+    after_steady (kind.Symbol symbol.Semicolon) _ (λ _. leaves_steady (SingleDrop place e b))))))
+
 pub if_steady : (limits : Limits) (block : Reader Statements) → IsSteady block → (limit : ℕ) → IsSteady (if_at limits block limit)
 unfolding if_at else_at within read_then
 if_steady limits block s zero = deep_steady (kind.Keyword keyword.If)
@@ -130,19 +171,36 @@ if_steady limits block s (suc limit) =
     (after_steady (kind.Keyword keyword.Else) _ (λ _. then_steady block _ s (λ _ other. leaves_steady (SingleIfElse place e b other))))
     (leaves_steady (SingleIf place e b)))))
 
-pub statement_steady : (limits : Limits) (block : Reader Statements) → IsSteady block → (limit : ℕ) → IsSteady (statement_at limits block limit)
+pub for_steady : (blocks : ℕ → Reader Statements) → ((loops : ℕ) → IsSteady (blocks loops)) → (limit loops : ℕ)
+    → IsSteady (for_at blocks limit loops)
+unfolding for_at within read_then
+for_steady blocks s zero loops = deep_steady (kind.Keyword keyword.For)
+for_steady blocks s (suc limit) zero = deep_steady (kind.Keyword keyword.For)
+for_steady blocks s (suc limit) (suc loops) =
+    after_steady (kind.Keyword keyword.For) _ (λ place.
+    then_steady name_at _ name_steady (λ _ v.
+    after_steady (kind.Keyword keyword.In) _ (λ _.
+    then_steady name_at _ name_steady (λ _ b.
+    then_steady (blocks (suc loops - 1)) _ (s (suc loops - 1)) (λ _ block. leaves_steady (SingleFor place v b block))))))
+
+pub statement_steady : (limits : Limits) (blocks : ℕ → Reader Statements) → ((loops : ℕ) → IsSteady (blocks loops)) → (limit loops : ℕ)
+    → IsSteady (statement_at limits blocks limit loops)
 unfolding statement_at
-statement_steady limits block s limit =
+statement_steady limits blocks s limit loops =
     choose_steady (kind.Keyword keyword.Goto) _ _ goto_steady
     (choose_steady (kind.Keyword keyword.Send) _ _ (send_steady limits)
-    (choose_steady (kind.Keyword keyword.If) _ _ (if_steady limits block s limit) (assign_steady limits)))
+    (choose_steady (kind.Keyword keyword.If) _ _ (if_steady limits (blocks loops) (s loops) limit)
+    (choose_steady (kind.Keyword keyword.For) _ _ (for_steady blocks s limit loops)
+    (choose_steady (kind.Keyword keyword.Add) _ _ (add_steady limits)
+    (choose_steady (kind.Keyword keyword.Drop) _ _ (drop_steady limits) (assign_steady limits))))))
 
-pub block_steady : (limits : Limits) (limit : ℕ) → IsSteady (block_at limits limit)
+pub block_steady : (limits : Limits) (limit loops : ℕ) → IsSteady (block_at limits limit loops)
 unfolding block_at
-block_steady limits zero = short_steady
-block_steady limits (suc limit) =
-    then_steady (braces_at (statement_at limits (block_at limits limit) limit)) _
-    (braces_steady (statement_at limits (block_at limits limit) limit) (statement_shortens limits limit) (statement_steady limits (block_at limits limit) (block_steady limits limit) limit))
+block_steady limits zero loops = short_steady
+block_steady limits (suc limit) loops =
+    let inside = statement_steady limits (block_at limits limit) (λ m. block_steady limits limit m) limit loops in
+    then_steady (braces_at (statement_at limits (block_at limits limit) limit loops)) _
+    (braces_steady (statement_at limits (block_at limits limit) limit loops) (statement_shortens limits limit loops) inside)
     (λ _ ss. leaves_steady (joined ss))
 
 -- ---- Atomic models
@@ -175,6 +233,14 @@ flag_steady =
     after_steady (kind.Symbol symbol.Equal) _ (λ _.
     then_steady truth_at _ truth_steady (λ _ start.
     after_steady (kind.Symbol symbol.Semicolon) _ (λ _. leaves_steady (record { name = n; start = start }))))))
+
+pub bag_steady : IsSteady bag_at
+unfolding bag_at
+bag_steady =
+    after_steady (kind.Keyword keyword.Bag) _ (λ _.
+    then_steady name_at _ name_steady (λ _ n.
+    then_steady number_at _ number_steady (λ _ capacity.
+    after_steady (kind.Symbol symbol.Semicolon) _ (λ _. leaves_steady (record { name = n; capacity = capacity })))))
 
 pub further_name_steady : IsSteady further_name_at
 unfolding further_name_at
@@ -216,7 +282,8 @@ unfolding rule_at
 rule_steady limits sort =
     after_steady (kind.Keyword (sort_word sort)) _ (λ _.
     then_steady name_at _ name_steady (λ _ n.
-    then_steady (block_at limits limits.block) _ (block_steady limits limits.block) (λ _ body. leaves_steady (Rules (record { sort = sort; phase = n; body = body })))))
+    then_steady (block_at limits limits.block limits.loop) _ (block_steady limits limits.block limits.loop) (λ _ body.
+    leaves_steady (Rules (record { sort = sort; phase = n; body = body })))))
 
 pub out_steady : IsSteady out_at
 unfolding out_at
@@ -231,10 +298,11 @@ item_steady limits =
     choose_steady (kind.Keyword keyword.Out) _ _ (then_steady out_at _ out_steady (λ _ n. leaves_steady (Declares (declaration.Out n))))
     (choose_steady (kind.Keyword keyword.Var) _ _ (then_steady variable_at _ variable_steady (λ _ v. leaves_steady (Declares (declaration.Var v))))
     (choose_steady (kind.Keyword keyword.Flag) _ _ (then_steady flag_at _ flag_steady (λ _ f. leaves_steady (Declares (declaration.Flag f))))
+    (choose_steady (kind.Keyword keyword.Bag) _ _ (then_steady bag_at _ bag_steady (λ _ b. leaves_steady (Declares (declaration.Bag b))))
     (choose_steady (kind.Keyword keyword.Phases) _ _ phases_steady
     (choose_steady (kind.Keyword keyword.Start) _ _ start_steady
     (choose_steady (kind.Keyword keyword.Hold) _ _ (hold_steady limits)
-    (choose_steady (kind.Keyword keyword.Output) _ _ (rule_steady limits sort.Output) (rule_steady limits sort.Internal)))))))
+    (choose_steady (kind.Keyword keyword.Output) _ _ (rule_steady limits sort.Output) (rule_steady limits sort.Internal))))))))
 
 pub atomic_steady : (limits : Limits) → IsSteady (atomic_at limits)
 unfolding atomic_at

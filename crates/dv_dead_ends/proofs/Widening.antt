@@ -8,9 +8,12 @@ use Rattle.dv_lex.specs.declared.token.TokenKind.{TokenKind}
 use Rattle.dv_lex.specs.declared.token.TokenKind.TheVariants as kind
 use Rattle.dv_lex.specs.declared.token.Keyword.TheVariants as keyword
 use Rattle.dv_lex.specs.declared.token.Symbol.TheVariants as symbol
+use Rattle.dv_syntax.specs.declared.tree.BagCall.{BagCall}
+use Rattle.dv_syntax.specs.declared.tree.BagCall.TheVariants as call
+use Rattle.dv_syntax.specs.Grammar.{call_word}
 use Rattle.dv_syntax.specs.declared.tree.Name.{Name}
 use Rattle.dv_syntax.specs.declared.tree.Number.{Number}
-use Rattle.dv_parser.specs.Reading.{Unexpected, TooDeep, TooShort, Read, read_then, choose, same_kind, begins, after, place_at, name_of, name_at, number_of, number_at, truth_at, many_at, braces_at}
+use Rattle.dv_parser.specs.Reading.{Unexpected, TooDeep, TooShort, Read, read_then, choose, same_kind, begins, after, place_at, name_of, name_at, number_of, number_at, truth_at, word_of_at, call_word_at, many_at, braces_at}
 use Rattle.dv_parser.proofs.Tokens.{then_is}
 use Rattle.dv_parser.proofs.Readers.{Shortens}
 use Rattle.dv_dead_ends.proofs.Steady.{Reader, Stops, SteadyAt, IsSteady, IsOfFirst, begins_of_first, ok_err, err_is, same_place, wider, after_both, then_err, leaves_steady, after_steady, then_steady, choose_at as choose_steady_at, name_steady, number_steady, many_step, many_steady}
@@ -313,6 +316,17 @@ truth_widens =
     choose_widens (kind.Keyword keyword.True)
     (after_widens (kind.Keyword keyword.True) _ _ (λ _. leaves_widens true))
     (after_widens (kind.Keyword keyword.False) _ _ (λ _. leaves_widens false))
+
+word_of_widens : (c : BagCall) → Widens (word_of_at c) (word_of_at c)
+unfolding word_of_at
+word_of_widens c = after_widens (kind.Keyword (call_word c)) _ _ (λ _. leaves_widens c)
+
+pub call_word_widens : Widens call_word_at call_word_at
+unfolding call_word_at
+call_word_widens =
+    choose_widens (kind.Keyword keyword.Size) (word_of_widens call.Size)
+    (choose_widens (kind.Keyword keyword.Sum) (word_of_widens call.Sum)
+    (choose_widens (kind.Keyword keyword.Least) (word_of_widens call.Least) (word_of_widens call.Most)))
 
 -- ---- Lists
 

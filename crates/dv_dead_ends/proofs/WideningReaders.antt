@@ -1,5 +1,5 @@
 -- With greater limits on depth the readers of the grammar answer the same, or go past the token that was too deep.
-use Rattle.std.proofs.Common.{◌≡◌, ℕ, zero, suc, ◌+◌, ◌<◌, ◌≤◌, ltb, true, List, [], ◌∷◌, Some, None, Ok, Err, refl, inl, inr, arith}
+use Rattle.std.proofs.Common.{◌≡◌, ℕ, zero, suc, ◌+◌, ◌-◌, ◌<◌, ◌≤◌, ltb, true, List, [], ◌∷◌, Some, None, Ok, Err, refl, inl, inr, arith}
 use Rattle.std.proofs.lemmas.Bool.{cases_Bool, ltb-true, lt-ltb}
 use Rattle.dv_lex.specs.declared.token.Token.{Token}
 use Rattle.dv_lex.specs.declared.token.TokenKind.TheVariants as kind
@@ -10,20 +10,28 @@ use Rattle.dv_syntax.specs.declared.tree.Prefix.{Prefix}
 use Rattle.dv_syntax.specs.declared.tree.Prefix.TheVariants as prefix
 use Rattle.dv_syntax.specs.declared.tree.RuleSort.{RuleSort}
 use Rattle.dv_syntax.specs.declared.tree.RuleSort.TheVariants as sort
-use Rattle.dv_syntax.specs.Trees.{Expression, Literal, TruthValue, Named, Parens, Prefixed, Binary}
+use Rattle.dv_syntax.specs.Trees.{Expression, Literal, TruthValue, Named, Parens, Prefixed, Binary, Call, Times}
 use Rattle.dv_syntax.specs.Written.{Declares, Lists, Starts, Holds, Rules, Outputs, Contains, Couples, WrittenModel, WrittenAtomic, WrittenCoupled, WrittenFile}
 use Rattle.dv_syntax.specs.Grammar.{Limits, prefix_kind, prefix_rank, operator_rank, depth, sort_word}
-use Rattle.dv_parser.specs.Reading.{SingleAssign, SingleGoto, SingleSend, SingleIf, SingleIfElse, joined, TooShort, read_then, within, choose, maybe, begins_name, begins_truth, after, number_at, place_at, obstacle_at, operator_of, goes_on, operator_at, leaf_at, parens_at, prefixed_at, primary_at, turns, expression_at, assign_at, goto_at, send_at, else_at, if_at, statement_at, block_at, bound_at, variable_at, flag_at, further_name_at, phases_at, start_at, ticks_at, hold_at, rule_at, out_at, item_at, atomic_at, end_at, part_at, link_at, coupled_item_at, coupled_at, model_at}
+use Rattle.dv_parser.specs.Reading.{SingleAssign, SingleGoto, SingleSend, SingleIf, SingleIfElse, SingleFor, SingleAdd, SingleDrop, joined, TooShort, read_then, within, choose, maybe, begins_name, begins_truth, begins_call, after, name_at, number_at, place_at, obstacle_at, operator_of, goes_on, operator_at, call_at, leaf_at, parens_at, prefixed_at, times_at, primary_at, turns, expression_at, assign_at, goto_at, send_at, add_at, drop_at, else_at, if_at, for_at, statement_at, block_at, bound_at, variable_at, flag_at, bag_at, further_name_at, phases_at, start_at, ticks_at, hold_at, rule_at, out_at, item_at, atomic_at, end_at, part_at, link_at, coupled_item_at, coupled_at, model_at}
 use Rattle.dv_parser.proofs.Expressions.{expression_read, primary_depth, positive_depth, operator_rank-le}
 use Rattle.dv_parser.proofs.Statements.{statement_shortens}
 use Rattle.dv_parser.proofs.Models.{item_shortens, further_name_shortens, coupled_item_shortens, model_shortens}
 use Rattle.dv_dead_ends.proofs.Depths.{AreGreater}
-use Rattle.dv_dead_ends.proofs.Steady.{Reader, begins_of_first, begins_name_of_first, begins_truth_of_first}
-use Rattle.dv_dead_ends.proofs.SteadyReaders.{cases_option, begins_prefix_of_first, primary_steady, expression_steady, if_steady, block_steady, last_at, last_steady, root_at, whole_at}
+use Rattle.dv_dead_ends.proofs.Steady.{Reader, begins_of_first, begins_name_of_first, begins_truth_of_first, begins_call_of_first}
+use Rattle.dv_dead_ends.proofs.SteadyReaders.{cases_option, begins_prefix_of_first, primary_steady, expression_steady, if_steady, for_steady, block_steady, last_at, last_steady, root_at, whole_at}
 use Rattle.dv_dead_ends.proofs.Beginnings.{HaveRoom}
-use Rattle.dv_dead_ends.proofs.Widening.{WidensAt, Widens, ReadOn, Leave, Refuse, Deep, by_first, leaves_at, leaves_widens, then_at, then_widens, choose_at, choose_widens_by, choose_widens, after_each, after_widens, deep_each, name_widens, number_widens, truth_widens, many_widens, braces_widens}
+use Rattle.dv_dead_ends.proofs.Widening.{WidensAt, Widens, ReadOn, Leave, Refuse, Deep, by_first, leaves_at, leaves_widens, then_at, then_widens, choose_at, choose_widens_by, choose_widens, after_each, after_widens, deep_each, name_widens, number_widens, truth_widens, call_word_widens, many_widens, braces_widens}
 
 -- ---- Expressions
+
+call_widens : Widens call_at call_at
+unfolding call_at
+call_widens =
+    then_widens _ _ call_word_widens (λ place c.
+    after_widens (kind.Symbol symbol.OpenParen) _ _ (λ _.
+    then_widens _ _ name_widens (λ _ b.
+    after_widens (kind.Symbol symbol.CloseParen) _ _ (λ _. leaves_widens (Call c place b)))))
 
 leaf_widens : Widens leaf_at leaf_at
 unfolding leaf_at
@@ -32,7 +40,8 @@ leaf_widens =
     (then_widens _ _ name_widens (λ _ n. leaves_widens (Named n)))
     (choose_widens_by begins_truth begins_truth_of_first
     (then_widens _ _ truth_widens (λ place v. leaves_widens (TruthValue place v)))
-    (then_widens _ _ number_widens (λ _ n. leaves_widens (Literal n))))
+    (choose_widens_by begins_call begins_call_of_first call_widens
+    (then_widens _ _ number_widens (λ _ n. leaves_widens (Literal n)))))
 
 -- what reads operands widens where the limit leaves room for one
 abbrev WidenWhereRoom : ℕ → ℕ → Type 0
@@ -68,13 +77,29 @@ prefixed_widens o (suc n) (suc w) lt c =
     after_each (prefix_kind o) _ _ (λ place.
     (then_widens _ _ (c (prefix_rank o)) (λ _ e. leaves_widens (Prefixed o place e))).each)
 
+times_widen : (n w : ℕ) → n < w → WidenWhereRoom n w
+    → (ts : List Token) → WidensAt (times_at (expression_at n) n) (times_at (expression_at w) w) ts
+unfolding times_at after place_at choose within read_then
+times_widen n zero lt c = absurd (omega (arith, lt))
+times_widen zero (suc w) lt c =
+    deep_each _ _ (kind.Keyword keyword.Times) refl refl
+    (λ t ts e. rw e refl) (λ t e. rw e refl) (λ t ts e. rw e refl) (λ t ts e. rw e refl)
+times_widen (suc n) (suc w) lt c =
+    after_each (kind.Keyword keyword.Times) _ _ (λ place.
+    (after_widens (kind.Symbol symbol.OpenParen) _ _ (λ _.
+    then_widens _ _ (c 0) (λ _ e.
+    after_widens (kind.Symbol symbol.Comma) _ _ (λ _.
+    then_widens _ _ name_widens (λ _ b.
+    after_widens (kind.Symbol symbol.CloseParen) _ _ (λ _. leaves_widens (Times place e b))))))).each)
+
 primary_widens : (n w level : ℕ) → n < w → WidenWhereRoom n w
     → (ts : List Token) → WidensAt (primary_at (expression_at n) n level) (primary_at (expression_at w) w level) ts
 unfolding primary_at
 primary_widens n w level lt c ts =
     choose_at _ _ _ _ _ ts (begins_of_first (kind.Symbol symbol.OpenParen)) (parens_widen n w lt c ts)
+    (choose_at _ _ _ _ _ ts (begins_of_first (kind.Keyword keyword.Times)) (times_widen n w lt c ts)
     (choose_at _ _ _ _ _ ts (begins_prefix_of_first prefix.Minus level) (prefixed_widens prefix.Minus n w lt c ts)
-    (choose_at _ _ _ _ _ ts (begins_prefix_of_first prefix.Not level) (prefixed_widens prefix.Not n w lt c ts) (leaf_widens.each ts)))
+    (choose_at _ _ _ _ _ ts (begins_prefix_of_first prefix.Not level) (prefixed_widens prefix.Not n w lt c ts) (leaf_widens.each ts))))
 
 turns_end : (operand : ℕ → Reader Expression) (limit more level : ℕ) (left : Expression)
     → turns operand limit more level left [] ≡ Ok (left, [])
@@ -188,22 +213,44 @@ send_widens n w g =
     then_widens _ _ (expression_widens n w g) (λ _ e.
     after_widens (kind.Symbol symbol.Semicolon) _ _ (λ _. leaves_widens (SingleSend place p e)))))
 
--- blocks widen where the limit leaves room for one
-abbrev BlocksWiden : Limits → Limits → ℕ → ℕ → Type 0
-BlocksWiden n w zero wide = Unit {0}
-BlocksWiden n w (suc narrow) wide = Widens (block_at n (suc narrow)) (block_at w wide)
+add_widens : (n w : Limits) → AreWidened n w → Widens (add_at n) (add_at w)
+unfolding add_at
+add_widens n w g =
+    after_widens (kind.Keyword keyword.Add) _ _ (λ place.
+    then_widens _ _ (expression_widens n w g) (λ _ e.
+    after_widens (kind.Keyword keyword.To) _ _ (λ _.
+    then_widens _ _ name_widens (λ _ b.
+    after_widens (kind.Symbol symbol.Semicolon) _ _ (λ _. leaves_widens (SingleAdd place e b))))))
 
-if_widens : (n w : Limits) → AreWidened n w → (narrow wide : ℕ) → narrow < wide → BlocksWiden n w narrow wide
-    → Widens (if_at n (block_at n narrow) narrow) (if_at w (block_at w wide) wide)
+drop_widens : (n w : Limits) → AreWidened n w → Widens (drop_at n) (drop_at w)
+unfolding drop_at
+drop_widens n w g =
+    after_widens (kind.Keyword keyword.Drop) _ _ (λ place.
+    then_widens _ _ (expression_widens n w g) (λ _ e.
+    after_widens (kind.Keyword keyword.From) _ _ (λ _.
+    then_widens _ _ name_widens (λ _ b.
+    after_widens (kind.Symbol symbol.Semicolon) _ _ (λ _. leaves_widens (SingleDrop place e b))))))
+
+-- blocks widen where the limit leaves room for one
+abbrev BlocksWiden : Limits → Limits → (narrow wide fewer more : ℕ) → Type 0
+BlocksWiden n w zero wide fewer more = Unit {0}
+BlocksWiden n w (suc narrow) wide fewer more = Widens (block_at n (suc narrow) fewer) (block_at w wide more)
+
+-- whatever number of loops may lie in one another in them, and more to the wide reader
+abbrev AllBlocksWiden : Limits → Limits → (narrow wide : ℕ) → Type 0
+AllBlocksWiden n w narrow wide = (fewer more : ℕ) → fewer < more → BlocksWiden n w narrow wide fewer more
+
+if_widens : (n w : Limits) → AreWidened n w → (narrow wide fewer more : ℕ) → narrow < wide → BlocksWiden n w narrow wide fewer more
+    → Widens (if_at n (block_at n narrow fewer) narrow) (if_at w (block_at w wide more) wide)
 unfolding if_at else_at after place_at choose within read_then
-if_widens n w g narrow zero lt c = absurd (omega (arith, lt))
-if_widens n w g zero (suc wide) lt c = record {
-  narrow_steady = if_steady n (block_at n zero) (block_steady n zero) zero;
-  wide_steady = if_steady w (block_at w (suc wide)) (block_steady w (suc wide)) (suc wide);
+if_widens n w g narrow zero fewer more lt c = absurd (omega (arith, lt))
+if_widens n w g zero (suc wide) fewer more lt c = record {
+  narrow_steady = if_steady n (block_at n zero fewer) (block_steady n zero fewer) zero;
+  wide_steady = if_steady w (block_at w (suc wide) more) (block_steady w (suc wide) more) (suc wide);
   each = deep_each _ _ (kind.Keyword keyword.If) refl refl
       (λ t ts e. rw e refl) (λ t e. rw (e, no_expression w.expression 0) refl) (λ t ts e. rw e refl) (λ t ts e. rw e refl);
 }
-if_widens n w g (suc narrow) (suc wide) lt c =
+if_widens n w g (suc narrow) (suc wide) fewer more lt c =
     after_widens (kind.Keyword keyword.If) _ _ (λ place.
     then_widens _ _ (expression_widens n w g) (λ _ e.
     then_widens _ _ c (λ _ b.
@@ -211,26 +258,61 @@ if_widens n w g (suc narrow) (suc wide) lt c =
     (after_widens (kind.Keyword keyword.Else) _ _ (λ _. then_widens _ _ c (λ _ other. leaves_widens (SingleIfElse place e b other))))
     (leaves_widens (SingleIf place e b)))))
 
-statement_widens : (n w : Limits) → AreWidened n w → (narrow wide : ℕ) → narrow < wide → BlocksWiden n w narrow wide
-    → Widens (statement_at n (block_at n narrow) narrow) (statement_at w (block_at w wide) wide)
+-- a name is no less than one token
+no_name : name_at [] ≡ Err TooShort
+unfolding name_at
+no_name = refl
+
+for_widens : (n w : Limits) → (narrow wide fewer more : ℕ) → narrow < wide → fewer < more → AllBlocksWiden n w narrow wide
+    → Widens (for_at (block_at n narrow) narrow fewer) (for_at (block_at w wide) wide more)
+unfolding for_at after place_at choose within read_then
+for_widens n w narrow zero fewer more lt loops c = absurd (omega (arith, lt))
+for_widens n w narrow (suc wide) fewer zero lt loops c = absurd (omega (arith, loops))
+for_widens n w zero (suc wide) fewer (suc more) lt loops c = record {
+  narrow_steady = for_steady (block_at n zero) (block_steady n zero) zero fewer;
+  wide_steady = for_steady (block_at w (suc wide)) (block_steady w (suc wide)) (suc wide) (suc more);
+  each = deep_each _ _ (kind.Keyword keyword.For) refl refl
+      (λ t ts e. rw e refl) (λ t e. rw (e, no_name) refl) (λ t ts e. rw e refl) (λ t ts e. rw e refl);
+}
+for_widens n w (suc narrow) (suc wide) zero (suc more) lt loops c = record {
+  narrow_steady = for_steady (block_at n (suc narrow)) (block_steady n (suc narrow)) (suc narrow) zero;
+  wide_steady = for_steady (block_at w (suc wide)) (block_steady w (suc wide)) (suc wide) (suc more);
+  each = deep_each _ _ (kind.Keyword keyword.For) refl refl
+      (λ t ts e. rw e refl) (λ t e. rw (e, no_name) refl) (λ t ts e. rw e refl) (λ t ts e. rw e refl);
+}
+for_widens n w (suc narrow) (suc wide) (suc fewer) (suc more) lt loops c =
+    after_widens (kind.Keyword keyword.For) _ _ (λ place.
+    then_widens _ _ name_widens (λ _ v.
+    after_widens (kind.Keyword keyword.In) _ _ (λ _.
+    then_widens _ _ name_widens (λ _ b.
+    then_widens _ _ (c (suc fewer - 1) (suc more - 1) (omega (arith, loops))) (λ _ block. leaves_widens (SingleFor place v b block))))))
+
+statement_widens : (n w : Limits) → AreWidened n w → (narrow wide fewer more : ℕ) → narrow < wide → fewer < more
+    → AllBlocksWiden n w narrow wide
+    → Widens (statement_at n (block_at n narrow) narrow fewer) (statement_at w (block_at w wide) wide more)
 unfolding statement_at
-statement_widens n w g narrow wide lt c =
+statement_widens n w g narrow wide fewer more lt loops c =
     choose_widens (kind.Keyword keyword.Goto) goto_widens
     (choose_widens (kind.Keyword keyword.Send) (send_widens n w g)
-    (choose_widens (kind.Keyword keyword.If) (if_widens n w g narrow wide lt c) (assign_widens n w g)))
+    (choose_widens (kind.Keyword keyword.If) (if_widens n w g narrow wide fewer more lt (c fewer more loops))
+    (choose_widens (kind.Keyword keyword.For) (for_widens n w narrow wide fewer more lt loops c)
+    (choose_widens (kind.Keyword keyword.Add) (add_widens n w g)
+    (choose_widens (kind.Keyword keyword.Drop) (drop_widens n w g) (assign_widens n w g))))))
 
-blocks_widen : (n w : Limits) → AreWidened n w → (narrow wide : ℕ) → narrow < wide → BlocksWiden n w narrow wide
+blocks_widen : (n w : Limits) → AreWidened n w → (narrow wide : ℕ) → narrow < wide → AllBlocksWiden n w narrow wide
 unfolding block_at
-blocks_widen n w g zero wide lt = tt
-blocks_widen n w g (suc narrow) zero lt = absurd (omega (arith, lt))
-blocks_widen n w g (suc narrow) (suc wide) lt =
+blocks_widen n w g zero wide lt fewer more loops = tt
+blocks_widen n w g (suc narrow) zero lt fewer more loops = absurd (omega (arith, lt))
+blocks_widen n w g (suc narrow) (suc wide) lt fewer more loops =
     let less : narrow < wide = omega (arith, lt) in
-    let statement = statement_widens n w g narrow wide less (blocks_widen n w g narrow wide less) in
-    then_widens _ _ (braces_widens (statement_shortens n narrow) (statement_shortens w wide) statement) (λ _ ss. leaves_widens (joined ss))
+    let statement = statement_widens n w g narrow wide fewer more less loops (blocks_widen n w g narrow wide less) in
+    then_widens _ _ (braces_widens (statement_shortens n narrow fewer) (statement_shortens w wide more) statement) (λ _ ss.
+    leaves_widens (joined ss))
 
-some_block : (n w : Limits) → AreWidened n w → (narrow wide : ℕ) → 0 < narrow → narrow < wide → Widens (block_at n narrow) (block_at w wide)
-some_block n w g zero wide some lt = absurd (omega (arith, some))
-some_block n w g (suc narrow) wide some lt = blocks_widen n w g (suc narrow) wide lt
+some_block : (n w : Limits) → AreWidened n w → (narrow wide fewer more : ℕ) → 0 < narrow → narrow < wide → fewer < more
+    → Widens (block_at n narrow fewer) (block_at w wide more)
+some_block n w g zero wide fewer more some lt loops = absurd (omega (arith, some))
+some_block n w g (suc narrow) wide fewer more some lt loops = blocks_widen n w g (suc narrow) wide lt fewer more loops
 
 -- ---- Atomic models
 
@@ -262,6 +344,14 @@ flag_widens =
     after_widens (kind.Symbol symbol.Equal) _ _ (λ _.
     then_widens _ _ truth_widens (λ _ start.
     after_widens (kind.Symbol symbol.Semicolon) _ _ (λ _. leaves_widens (record { name = f; start = start }))))))
+
+bag_widens : Widens bag_at bag_at
+unfolding bag_at
+bag_widens =
+    after_widens (kind.Keyword keyword.Bag) _ _ (λ _.
+    then_widens _ _ name_widens (λ _ b.
+    then_widens _ _ number_widens (λ _ capacity.
+    after_widens (kind.Symbol symbol.Semicolon) _ _ (λ _. leaves_widens (record { name = b; capacity = capacity })))))
 
 further_name_widens : Widens further_name_at further_name_at
 unfolding further_name_at
@@ -303,7 +393,7 @@ unfolding rule_at
 rule_widens n w g sort =
     after_widens (kind.Keyword (sort_word sort)) _ _ (λ _.
     then_widens _ _ name_widens (λ _ p.
-    then_widens _ _ (some_block n w g n.block w.block g.room.block g.greater.block) (λ _ body.
+    then_widens _ _ (some_block n w g n.block w.block n.loop w.loop g.room.block g.greater.block g.greater.loop) (λ _ body.
     leaves_widens (Rules (record { sort = sort; phase = p; body = body })))))
 
 out_widens : Widens out_at out_at
@@ -319,10 +409,11 @@ item_widens n w g =
     choose_widens (kind.Keyword keyword.Out) (then_widens _ _ out_widens (λ _ p. leaves_widens (Declares (declaration.Out p))))
     (choose_widens (kind.Keyword keyword.Var) (then_widens _ _ variable_widens (λ _ v. leaves_widens (Declares (declaration.Var v))))
     (choose_widens (kind.Keyword keyword.Flag) (then_widens _ _ flag_widens (λ _ f. leaves_widens (Declares (declaration.Flag f))))
+    (choose_widens (kind.Keyword keyword.Bag) (then_widens _ _ bag_widens (λ _ b. leaves_widens (Declares (declaration.Bag b))))
     (choose_widens (kind.Keyword keyword.Phases) phases_widen
     (choose_widens (kind.Keyword keyword.Start) start_widens
     (choose_widens (kind.Keyword keyword.Hold) (hold_widens n w g)
-    (choose_widens (kind.Keyword keyword.Output) (rule_widens n w g sort.Output) (rule_widens n w g sort.Internal)))))))
+    (choose_widens (kind.Keyword keyword.Output) (rule_widens n w g sort.Output) (rule_widens n w g sort.Internal))))))))
 
 atomic_widens : (n w : Limits) → AreWidened n w → Widens (atomic_at n) (atomic_at w)
 unfolding atomic_at

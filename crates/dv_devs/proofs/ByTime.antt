@@ -43,8 +43,8 @@ module _ {X : Type 0} (time : X → Time) where
       let rest = All-tail (λ z. time z ≡ t) y ys h in
       AllPairs-cons Follows y ys
       (All-weaker (λ z. time z ≡ t) (Follows y)
-          (λ z e. ap (λ (u : Time). is_lt (time_cmp u (time y))) e ∙ ap (λ (u : Time). is_lt (time_cmp t u)) here
-          ∙ not_before_itself t) ys rest)
+      (λ z e. ap (λ (u : Time). is_lt (time_cmp u (time y))) e ∙ ap (λ (u : Time). is_lt (time_cmp t u)) here
+      ∙ not_before_itself t) ys rest)
       (pairs_at t ys rest)
 
   -- and so it does after what is before that time
@@ -55,8 +55,8 @@ module _ {X : Type 0} (time : X → Time) where
       let less = All-head (λ z. time_cmp (time z) t ≡ Less) x xs early in
       AllPairs-cons Follows x (xs ++ ys)
       (All-append (Follows x) xs ys (first_pairs x xs pairs)
-          (All-weaker (λ z. time z ≡ t) (Follows x)
-          (λ z e. ap (λ (u : Time). is_lt (time_cmp u (time x))) e ∙ not_before (time x) t less) ys h))
+      (All-weaker (λ z. time z ≡ t) (Follows x)
+      (λ z e. ap (λ (u : Time). is_lt (time_cmp u (time x))) e ∙ not_before (time x) t less) ys h))
       (pairs_after t xs ys (other_pairs x xs pairs) (All-tail (λ z. time_cmp (time z) t ≡ Less) x xs early) h)
 
 module _ (limit : ℕ) (parts : ℕ → PartOf) (at : (k : ℕ) → IsAllAt (time_of limit k) (parts k)) where

@@ -40,26 +40,26 @@ not_less_rank limit a b h k le = grind (arith, nat_tests)
 pub ranks_before : (limit k n : ℕ) → k < n → time_cmp (time_of limit k) (time_of limit n) ≡ Less
 ranks_before limit k n lt =
     less_rank limit (time_of limit k) (time_of limit n) (time_of_run limit k) (time_of_run limit n)
-        (omega (arith, rank_at_time limit k, rank_at_time limit n))
+    (omega (arith, rank_at_time limit k, rank_at_time limit n))
 
 pub ranks_not_before : (limit k n : ℕ) → n ≤ k → is_lt (time_cmp (time_of limit k) (time_of limit n)) ≡ false
 ranks_not_before limit k n le =
     not_less_rank limit (time_of limit k) (time_of limit n) (time_of_run limit k) (time_of_run limit n)
-        (omega (arith, rank_at_time limit k, rank_at_time limit n))
+    (omega (arith, rank_at_time limit k, rank_at_time limit n))
 
 -- cuts of parts that are joined
 module _ (t : Time) (p q : PartOf) where
   pub before_joined : before t (joined p q) ≡ joined (before t p) (before t q)
   before_joined =
       same_part _ ((before t p).entries ++ (before t q).entries) _ ((before t p).outer ++ (before t q).outer)
-          (filter-append (λ (e : Entry). is_lt (time_cmp e.time t)) p.entries q.entries)
-          (filter-append (λ (o : Outer). is_lt (time_cmp o.time t)) p.outer q.outer)
+      (filter-append (λ (e : Entry). is_lt (time_cmp e.time t)) p.entries q.entries)
+      (filter-append (λ (o : Outer). is_lt (time_cmp o.time t)) p.outer q.outer)
 
   pub since_joined : since t (joined p q) ≡ joined (since t p) (since t q)
   since_joined =
       same_part _ ((since t p).entries ++ (since t q).entries) _ ((since t p).outer ++ (since t q).outer)
-          (filter-append (λ (e : Entry). not (is_lt (time_cmp e.time t))) p.entries q.entries)
-          (filter-append (λ (o : Outer). not (is_lt (time_cmp o.time t))) p.outer q.outer)
+      (filter-append (λ (e : Entry). not (is_lt (time_cmp e.time t))) p.entries q.entries)
+      (filter-append (λ (o : Outer). not (is_lt (time_cmp o.time t))) p.outer q.outer)
 
 -- a part that is all before a time, or all not before it
 abbrev Tests : Bool → Time → PartOf → Type 0
@@ -78,30 +78,30 @@ module _ (t : Time) (p : PartOf) where
   before_all : Tests true t p → before t p ≡ p
   before_all h =
       same_part _ p.entries _ p.outer (filter_keeps (λ (e : Entry). is_lt (time_cmp e.time t)) p.entries h.0)
-          (filter_keeps (λ (o : Outer). is_lt (time_cmp o.time t)) p.outer h.1)
+      (filter_keeps (λ (o : Outer). is_lt (time_cmp o.time t)) p.outer h.1)
 
   before_none : Tests false t p → before t p ≡ nothing
   before_none h =
       same_part _ [] _ [] (filter_drops (λ (e : Entry). is_lt (time_cmp e.time t)) p.entries h.0)
-          (filter_drops (λ (o : Outer). is_lt (time_cmp o.time t)) p.outer h.1)
+      (filter_drops (λ (o : Outer). is_lt (time_cmp o.time t)) p.outer h.1)
 
   since_all : Tests false t p → since t p ≡ p
   since_all h = same_part _ p.entries _ p.outer
       (filter_keeps (λ (e : Entry). not (is_lt (time_cmp e.time t))) p.entries
-          (All-weaker (λ (e : Entry). is_lt (time_cmp e.time t) ≡ false) (λ (e : Entry). not (is_lt (time_cmp e.time t)) ≡ true)
-          (λ e same. ap not same) p.entries h.0))
+      (All-weaker (λ (e : Entry). is_lt (time_cmp e.time t) ≡ false) (λ (e : Entry). not (is_lt (time_cmp e.time t)) ≡ true)
+      (λ e same. ap not same) p.entries h.0))
       (filter_keeps (λ (o : Outer). not (is_lt (time_cmp o.time t))) p.outer
-          (All-weaker (λ (o : Outer). is_lt (time_cmp o.time t) ≡ false) (λ (o : Outer). not (is_lt (time_cmp o.time t)) ≡ true)
-          (λ o same. ap not same) p.outer h.1))
+      (All-weaker (λ (o : Outer). is_lt (time_cmp o.time t) ≡ false) (λ (o : Outer). not (is_lt (time_cmp o.time t)) ≡ true)
+      (λ o same. ap not same) p.outer h.1))
 
   since_none : Tests true t p → since t p ≡ nothing
   since_none h = same_part _ [] _ []
       (filter_drops (λ (e : Entry). not (is_lt (time_cmp e.time t))) p.entries
-          (All-weaker (λ (e : Entry). is_lt (time_cmp e.time t) ≡ true) (λ (e : Entry). not (is_lt (time_cmp e.time t)) ≡ false)
-          (λ e same. ap not same) p.entries h.0))
+      (All-weaker (λ (e : Entry). is_lt (time_cmp e.time t) ≡ true) (λ (e : Entry). not (is_lt (time_cmp e.time t)) ≡ false)
+      (λ e same. ap not same) p.entries h.0))
       (filter_drops (λ (o : Outer). not (is_lt (time_cmp o.time t))) p.outer
-          (All-weaker (λ (o : Outer). is_lt (time_cmp o.time t) ≡ true) (λ (o : Outer). not (is_lt (time_cmp o.time t)) ≡ false)
-          (λ o same. ap not same) p.outer h.1))
+      (All-weaker (λ (o : Outer). is_lt (time_cmp o.time t) ≡ true) (λ (o : Outer). not (is_lt (time_cmp o.time t)) ≡ false)
+      (λ o same. ap not same) p.outer h.1))
 
 -- parts of which each is at its own time
 module _ (limit : ℕ) (parts : ℕ → PartOf) (at : (k : ℕ) → IsAllAt (time_of limit k) (parts k)) where
@@ -111,8 +111,8 @@ module _ (limit : ℕ) (parts : ℕ → PartOf) (at : (k : ℕ) → IsAllAt (tim
       before_joined (time_of limit n) (all_before parts m) (parts m)
       ∙ ap (λ (p : PartOf). joined p (before (time_of limit n) (parts m))) (all_early n m (omega arith))
       ∙ ap (joined (all_before parts m))
-          (before_all (time_of limit n) (parts m)
-          (tests_at limit m n true (parts m) (ap is_lt (ranks_before limit m n (omega arith))) (at m)))
+      (before_all (time_of limit n) (parts m)
+      (tests_at limit m n true (parts m) (ap is_lt (ranks_before limit m n (omega arith))) (at m)))
 
   -- what is before a time in all parts before a later rank
   pub cut_before : (n m : ℕ) → n ≤ m → before (time_of limit n) (all_before parts m) ≡ all_before parts n
@@ -122,7 +122,7 @@ module _ (limit : ℕ) (parts : ℕ → PartOf) (at : (k : ℕ) → IsAllAt (tim
         before_joined (time_of limit n) (all_before parts m) (parts m)
         ∙ ap (λ (p : PartOf). joined p (before (time_of limit n) (parts m))) (cut_before n m early)
         ∙ ap (joined (all_before parts n))
-            (before_none (time_of limit n) (parts m) (tests_at limit m n false (parts m) (ranks_not_before limit m n early) (at m)))
+        (before_none (time_of limit n) (parts m) (tests_at limit m n false (parts m) (ranks_not_before limit m n early) (at m)))
         ∙ append_nothing (all_before parts n)
     | inr same ↦ all_early n (suc m) (omega arith) ∙ ap (all_before parts) (sym same)
   ]
@@ -133,8 +133,8 @@ module _ (limit : ℕ) (parts : ℕ → PartOf) (at : (k : ℕ) → IsAllAt (tim
       since_joined (time_of limit n) (all_before parts m) (parts m)
       ∙ ap (λ (p : PartOf). joined p (since (time_of limit n) (parts m))) (none_late n m (omega arith))
       ∙ ap (joined nothing)
-          (since_none (time_of limit n) (parts m)
-          (tests_at limit m n true (parts m) (ap is_lt (ranks_before limit m n (omega arith))) (at m)))
+      (since_none (time_of limit n) (parts m)
+      (tests_at limit m n true (parts m) (ap is_lt (ranks_before limit m n (omega arith))) (at m)))
 
   -- what is since a time in all parts before so many ranks later
   since_count : (n count : ℕ) → since (time_of limit n) (all_before parts (n + count)) ≡ all_before (λ k. parts (n + k)) count
@@ -147,8 +147,8 @@ module _ (limit : ℕ) (parts : ℕ → PartOf) (at : (k : ℕ) → IsAllAt (tim
       ∙ since_joined (time_of limit n) (all_before parts (n + count)) (parts (n + count))
       ∙ ap (λ (p : PartOf). joined p (since (time_of limit n) (parts (n + count)))) (since_count n count)
       ∙ ap (joined (all_before (λ k. parts (n + k)) count))
-          (since_all (time_of limit n) (parts (n + count))
-          (tests_at limit (n + count) n false (parts (n + count)) (ranks_not_before limit (n + count) n (omega arith)) (at (n + count))))
+      (since_all (time_of limit n) (parts (n + count))
+      (tests_at limit (n + count) n false (parts (n + count)) (ranks_not_before limit (n + count) n (omega arith)) (at (n + count))))
 
   pub cut_since : (n m : ℕ) → n ≤ m → since (time_of limit n) (all_before parts m) ≡ all_between parts n m
   cut_since n m le =
@@ -165,17 +165,17 @@ module _ (limit : ℕ) (parts : ℕ → PartOf) (at : (k : ℕ) → IsAllAt (tim
       let less = ranks_before limit m n (omega arith) in (
         All-append (λ (e : Entry). time_cmp e.time (time_of limit n) ≡ Less) (all_before parts m).entries (parts m).entries rest.0
             (All-weaker (λ (e : Entry). e.time ≡ time_of limit m) (λ (e : Entry). time_cmp e.time (time_of limit n) ≡ Less)
-                (λ e same. ap (λ (t : Time). time_cmp t (time_of limit n)) same ∙ less) (parts m).entries here.0),
+            (λ e same. ap (λ (t : Time). time_cmp t (time_of limit n)) same ∙ less) (parts m).entries here.0),
         All-append (λ (o : Outer). time_cmp o.time (time_of limit n) ≡ Less) (all_before parts m).outer (parts m).outer rest.1
             (All-weaker (λ (o : Outer). o.time ≡ time_of limit m) (λ (o : Outer). time_cmp o.time (time_of limit n) ≡ Less)
-                (λ o same. ap (λ (t : Time). time_cmp t (time_of limit n)) same ∙ less) (parts m).outer here.1),
+            (λ o same. ap (λ (t : Time). time_cmp t (time_of limit n)) same ∙ less) (parts m).outer here.1),
       )
 
 -- parts before a rank, and those between it and a later one
 join_assoc : (p q r : PartOf) → joined (joined p q) r ≡ joined p (joined q r)
 join_assoc p q r =
     same_part _ (p.entries ++ (q.entries ++ r.entries)) _ (p.outer ++ (q.outer ++ r.outer)) (append-assoc p.entries q.entries r.entries)
-        (append-assoc p.outer q.outer r.outer)
+    (append-assoc p.outer q.outer r.outer)
   where
     append-assoc : {X : Type 0} (xs ys zs : List X) → (xs ++ ys) ++ zs ≡ xs ++ (ys ++ zs)
     append-assoc [] ys zs = refl
@@ -212,7 +212,7 @@ module _ (limit now : ℕ) where
   entries_at (k ∷ ks) [] = All-nil (λ (e : Entry). e.time ≡ time_of limit now)
   entries_at (k ∷ ks) (r ∷ rs) =
       All-append (λ (e : Entry). e.time ≡ time_of limit now) (entry_of limit now k r.event) (entries_by limit now ks rs)
-          (entry_at k r.event) (entries_at ks rs)
+      (entry_at k r.event) (entries_at ks rs)
 
   line_at : (port : ℕ) (b : Counts) (none : Bool) →
       All (λ (o : Outer). o.time ≡ time_of limit now) (cond none [] (record { time = time_of limit now; port = port; values = b } ∷ []))
@@ -224,7 +224,7 @@ module _ (limit now : ℕ) where
   lines_at port [] = All-nil (λ (o : Outer). o.time ≡ time_of limit now)
   lines_at port (b ∷ bs) =
       All-append (λ (o : Outer). o.time ≡ time_of limit now) (line_of limit now port b) (outer_from limit now (port + 1) bs)
-          (line_at port b (nat_eq (size b) 0)) (lines_at (port + 1) bs)
+      (line_at port b (nat_eq (size b) 0)) (lines_at (port + 1) bs)
 
   rise_weaker : (low high : ℕ) (ks : List ℕ) → low ≤ high → RiseFrom high ks → RiseFrom low ks
   rise_weaker low high [] le h = tt
@@ -239,7 +239,7 @@ module _ (limit now : ℕ) where
     where
       by_test : (none : Bool) → RiseFrom (port + 1) (ports_of (outer_from limit now (port + 1) bs)) →
           RiseFrom port (ports_of
-              (cond none [] (record { time = time_of limit now; port = port; values = b } ∷ []) ++ outer_from limit now (port + 1) bs))
+          (cond none [] (record { time = time_of limit now; port = port; values = b } ∷ []) ++ outer_from limit now (port + 1) bs))
       by_test true rest = rise_weaker port (port + 1) (ports_of (outer_from limit now (port + 1) bs)) (omega arith) rest
       by_test false rest =
           (omega arith, rise_weaker (suc port) (port + 1) (ports_of (outer_from limit now (port + 1) bs)) (omega arith) rest)
@@ -260,9 +260,11 @@ module _ (limit now : ℕ) where
 
 module _ {I : Type 0} (limit : ℕ) (net : Network I) where
   pub instant_at : (now : ℕ) (input : I) (cs : List Component) → IsAllAt (time_of limit now) (part_of_instant limit net now input cs)
-  instant_at now input cs =
-      (entries_at limit now net.numbers (instant limit net now input cs), lines_at limit now 0
-          (net.leaves (emissions net.behaviours now cs)))
+  instant_at now input cs = (
+    entries_at limit now net.numbers (instant limit net now input cs),
+    lines_at limit now 0
+        (net.leaves (emissions net.behaviours now cs)),
+  )
 
   module _ (inputs : ℕ → I) where
     pub traces_at : (n : ℕ) → IsAllAt (time_of limit n) (trace_at limit net inputs n)
@@ -271,9 +273,12 @@ module _ {I : Type 0} (limit : ℕ) (net : Network I) where
     pub parts_at : (who : ℕ → Bool) (n : ℕ) → IsAllAt (time_of limit n) (part_at who limit net inputs n)
     parts_at who n =
         let whole =
-            traces_at n in (All-filter (λ (e : Entry). who e.component) (λ (e : Entry). e.time ≡ time_of limit n)
-                (trace_at limit net inputs n).entries whole.0, lines_at limit n 0
-                (net.leaves (sent_among who net.numbers (emissions_at limit net inputs n))))
+        traces_at n in (
+          All-filter (λ (e : Entry). who e.component) (λ (e : Entry). e.time ≡ time_of limit n)
+              (trace_at limit net inputs n).entries whole.0,
+          lines_at limit n 0
+              (net.leaves (sent_among who net.numbers (emissions_at limit net inputs n))),
+        )
 
     pub trace_cut : (n m : ℕ) → n ≤ m → before (time_of limit n) (trace_before limit net inputs m) ≡ trace_before limit net inputs n
     trace_cut = cut_before limit (trace_at limit net inputs) traces_at

@@ -42,7 +42,7 @@ module _ (fits : State → Bool) (comes : List Counts → Bool) where
         IfOk (external_of b elapsed bags before) FitsAfter
     external_fits elapsed before come fit =
         bind FitsChange FitsAfter (b.external elapsed bags before.0) (λ m. cond m.goes (state_with_hold b m.state) (Ok (m.state, before.1)))
-            (keeps.external elapsed bags before.0 fit come) (λ m h. goes_or_stays b m before.1 m.goes h)
+        (keeps.external elapsed bags before.0 fit come) (λ m h. goes_or_stays b m before.1 m.goes h)
 
     confluent_fits : (s : State) (rule : Option (Result Change Fault)) → IsTrue (comes bags) → IsTrue (fits s) →
         IfSome rule (λ r. IfOk r FitsChange) → IfOk (confluent_of b bags s rule) FitsAfter
@@ -54,7 +54,7 @@ module _ (fits : State → Bool) (comes : List Counts → Bool) where
     by_kind : (limit now : ℕ) (c : Component) (imminent empty : Bool) → (empty ≡ false → IsTrue (comes bags)) →
         (imminent ≡ false → empty ≡ false) → IsTrue (fits c.state) →
         IfOk (cond imminent (cond empty (internal_of b c.state) (confluent_of b bags c.state (b.confluent bags c.state)))
-            (external_of b (tick_of limit now - c.last) bags (c.state, Continues))) FitsAfter
+        (external_of b (tick_of limit now - c.last) bags (c.state, Continues))) FitsAfter
     by_kind limit now c true true come some fit = internal_fits c.state fit
     by_kind limit now c true false come some fit =
         confluent_fits c.state (b.confluent bags c.state) (come refl) fit (keeps.confluent bags c.state fit (come refl))
@@ -74,14 +74,14 @@ module _ (fits : State → Bool) (comes : List Counts → Bool) where
         reaction_with_fits (tick_of limit now) c (kind_of now c bags) sent _ fit
         (bind (λ x. Unit {0}) Fit (bags_or_flood bags) _ (any (bags_or_flood bags)) (λ x u.
         bind FitsAfter Fit (transition_of limit b now c bags) _ (by_kind limit now c (is_imminent now c) (all_empty bags) come some fit)
-            (λ p h.
+        (λ p h.
         bind (λ x. Unit {0}) Fit (next_of limit now c.next p.1) _ (any (next_of limit now c.next p.1)) (λ next v. h))))
 
     reacts_or_not : (limit now : ℕ) (c : Component) (reacts : Bool) →
         (not c.quiet && (is_imminent now c || not (all_empty bags))) ≡ reacts → (all_empty bags ≡ false → IsTrue (comes bags)) →
         IsTrue (fits c.state) →
         IsTrue (fits (cond reacts (reaction_after_output limit b now c bags (emission b now c))
-            (record { event = None; component = c })).component.state)
+        (record { event = None; component = c })).component.state)
     reacts_or_not limit now c true e come fit =
         output_fits limit now c (emission b now c) come (some c.quiet (is_imminent now c) (all_empty bags) e) fit
       where
@@ -105,23 +105,23 @@ module _ (fits : State → Bool) (comes : List Counts → Bool) where
     internal_agree : (s : State) → IsTrue (fits s) → internal_of a s ≡ internal_of b s
     internal_agree s fit =
         bind_same FitsChange (a.internal s) (λ m. state_with_hold a m.state) (λ m. state_with_hold b m.state) (keeps.internal s fit)
-            (λ m h. hold_agree m.state h)
+        (λ m h. hold_agree m.state h)
         ∙ ap (λ (r : Result Change Fault). r >>= λ m. state_with_hold b m.state) (agree.internal s fit)
 
     external_agree : (elapsed : ℕ) (before : State × Hold) → IsTrue (comes bags) → IsTrue (fits before.0) →
         external_of a elapsed bags before ≡ external_of b elapsed bags before
     external_agree elapsed before come fit =
         bind_same FitsChange (a.external elapsed bags before.0) (λ m. cond m.goes (state_with_hold a m.state) (Ok (m.state, before.1)))
-            (λ m. cond m.goes (state_with_hold b m.state) (Ok (m.state, before.1))) (keeps.external elapsed bags before.0 fit come)
+        (λ m. cond m.goes (state_with_hold b m.state) (Ok (m.state, before.1))) (keeps.external elapsed bags before.0 fit come)
         (λ m h. ap (λ (r : Result (State × Hold) Fault). cond m.goes r (Ok (m.state, before.1))) (hold_agree m.state h))
         ∙ ap (λ (r : Result Change Fault). r >>= λ m. cond m.goes (state_with_hold b m.state) (Ok (m.state, before.1)))
-            (agree.external elapsed bags before.0 fit come)
+        (agree.external elapsed bags before.0 fit come)
 
     same_rule : (s : State) (rule : Option (Result Change Fault)) → IsTrue (comes bags) → IsTrue (fits s) →
         IfSome rule (λ r. IfOk r FitsChange) → confluent_of a bags s rule ≡ confluent_of b bags s rule
     same_rule s None come fit h =
         bind_same FitsAfter (internal_of a s) (external_of a 0 bags) (external_of b 0 bags) (internal_fits a keeps bags s fit)
-            (λ p k. external_agree 0 p come k)
+        (λ p k. external_agree 0 p come k)
         ∙ ap (λ (r : Result (State × Hold) Fault). r >>= external_of b 0 bags) (internal_agree s fit)
     same_rule s (Some rule) come fit h =
         bind_same FitsChange rule (λ m. state_with_hold a m.state) (λ m. state_with_hold b m.state) h (λ m k. hold_agree m.state k)
@@ -135,9 +135,9 @@ module _ (fits : State → Bool) (comes : List Counts → Bool) where
     kind_agree : (limit now : ℕ) (c : Component) (imminent empty : Bool) → (empty ≡ false → IsTrue (comes bags)) →
         (imminent ≡ false → empty ≡ false) → IsTrue (fits c.state)
         → cond imminent (cond empty (internal_of a c.state) (confluent_of a bags c.state (a.confluent bags c.state)))
-            (external_of a (tick_of limit now - c.last) bags (c.state, Continues))
+        (external_of a (tick_of limit now - c.last) bags (c.state, Continues))
         ≡ cond imminent (cond empty (internal_of b c.state) (confluent_of b bags c.state (b.confluent bags c.state)))
-            (external_of b (tick_of limit now - c.last) bags (c.state, Continues))
+        (external_of b (tick_of limit now - c.last) bags (c.state, Continues))
     kind_agree limit now c true true come some fit = internal_agree c.state fit
     kind_agree limit now c true false come some fit = confluent_agree c.state (come refl) fit
     kind_agree limit now c false empty come some fit =
@@ -149,7 +149,7 @@ module _ (fits : State → Bool) (comes : List Counts → Bool) where
     output_agree limit now c (Err f) come some fit = refl
     output_agree limit now c (Ok sent) come some fit =
         ap (λ (r : Result (State × Hold) Fault). reaction_with (tick_of limit now) c (kind_of now c bags) sent
-            (bags_or_flood bags >>= λ x. r >>= λ m. next_of limit now c.next m.1 >>= λ next. Ok (m.0, next)))
+        (bags_or_flood bags >>= λ x. r >>= λ m. next_of limit now c.next m.1 >>= λ next. Ok (m.0, next)))
         (kind_agree limit now c (is_imminent now c) (all_empty bags) come some fit)
 
     pub emission_agrees : (now : ℕ) (c : Component) → IsTrue (fits c.state) → emission a now c ≡ emission b now c
@@ -159,7 +159,7 @@ module _ (fits : State → Bool) (comes : List Counts → Bool) where
         (not c.quiet && (is_imminent now c || not (all_empty bags))) ≡ reacts → (all_empty bags ≡ false → IsTrue (comes bags)) →
         IsTrue (fits c.state)
         → cond reacts (reaction_after_output limit a now c bags (emission a now c)) (record { event = None; component = c }) ≡ cond reacts
-            (reaction_after_output limit b now c bags (emission b now c)) (record { event = None; component = c })
+        (reaction_after_output limit b now c bags (emission b now c)) (record { event = None; component = c })
     reacts_alike limit now c true e come fit =
         output_agree limit now c (emission a now c) come (some c.quiet (is_imminent now c) (all_empty bags) e) fit
         ∙ ap (reaction_after_output limit b now c bags) (emission_agrees now c fit)
@@ -206,9 +206,9 @@ module _ (fits : ℕ → State → Bool) (comes : List Counts → Bool) (limit :
   reactions_agree k (a ∷ rest) (b ∷ bs) now [] received keep agree come fit = refl
   reactions_agree k (a ∷ rest) (b ∷ bs) now (c ∷ cs) received keep agree come fit =
       ap (λ (r : Reaction). r ∷ reactions limit rest now cs (other_bags received))
-          (reaction_agrees (fits k) comes a b keep.0 agree.0 (first_bags received) limit now c (first_comes comes received come) fit.0)
+      (reaction_agrees (fits k) comes a b keep.0 agree.0 (first_bags received) limit now c (first_comes comes received come) fit.0)
       ∙ ap (λ (rs : List Reaction). reaction limit b now c (first_bags received) ∷ rs)
-          (reactions_agree (k + 1) rest bs now cs (other_bags received) keep.1 agree.1 (others_come comes received come) fit.1)
+      (reactions_agree (k + 1) rest bs now cs (other_bags received) keep.1 agree.1 (others_come comes received come) fit.1)
 
   emissions_agree : (k : ℕ) («as» bs : List Behaviour) (now : ℕ) (cs : List Component) → AllKeep fits comes k «as» →
       AllAgree fits comes k «as» bs → AllFit fits k cs → emissions «as» now cs ≡ emissions bs now cs
@@ -218,7 +218,7 @@ module _ (fits : ℕ → State → Bool) (comes : List Counts → Bool) (limit :
   emissions_agree k (a ∷ rest) (b ∷ bs) now [] keep agree fit = refl
   emissions_agree k (a ∷ rest) (b ∷ bs) now (c ∷ cs) keep agree fit =
       ap (λ (r : Result (List Counts) Fault). sent_by c r ∷ emissions rest now cs)
-          (emission_agrees (fits k) comes a b keep.0 agree.0 [] now c fit.0)
+      (emission_agrees (fits k) comes a b keep.0 agree.0 [] now c fit.0)
       ∙ ap (λ (es : List (List Counts)). sent_by c (emission b now c) ∷ es) (emissions_agree (k + 1) rest bs now cs keep.1 agree.1 fit.1)
 
 module _ {I : Type 0} (fits : ℕ → State → Bool) (comes : List Counts → Bool) (limit : ℕ) (net : Network I) (inputs : ℕ → I) where
@@ -227,8 +227,8 @@ module _ {I : Type 0} (fits : ℕ → State → Bool) (comes : List Counts → B
   states_fit zero keep fit come = fit
   states_fit (suc n) keep fit come =
       reactions_fit fits comes limit 0 net.behaviours n (components_at limit net inputs n)
-          (net.arrives (emissions_at limit net inputs n) (inputs n)) keep (come n (omega arith))
-          (states_fit n keep fit (λ j lt. come j (omega arith)))
+      (net.arrives (emissions_at limit net inputs n) (inputs n)) keep (come n (omega arith))
+      (states_fit n keep fit (λ j lt. come j (omega arith)))
 
   module _ (also : Network I) (alike : AreAlike fits comes limit net also inputs) where
     fit_at : (n : ℕ) → OnlyArrives comes limit net inputs n → AllFit fits 0 (components_at limit net inputs n)
@@ -238,16 +238,16 @@ module _ {I : Type 0} (fits : ℕ → State → Bool) (comes : List Counts → B
         emissions_at limit net inputs n ≡ emissions also.behaviours n (components_at limit net inputs n)
     sends_alike n come =
         emissions_agree fits comes limit 0 net.behaviours also.behaviours n (components_at limit net inputs n) alike.keep alike.agree
-            (fit_at n come)
+        (fit_at n come)
 
     instants_alike : (n : ℕ) → OnlyArrives comes limit net inputs (suc n) →
         instant limit net n (inputs n) (components_at limit net inputs n) ≡ instant limit also n (inputs n)
-            (components_at limit net inputs n)
+        (components_at limit net inputs n)
     instants_alike n come =
         let cs = components_at limit net inputs n in
         let earlier : OnlyArrives comes limit net inputs n = λ j lt. come j (omega arith) in
         reactions_agree fits comes limit 0 net.behaviours also.behaviours n cs
-            (net.arrives (emissions_at limit net inputs n) (inputs n)) alike.keep alike.agree (come n (omega arith)) (fit_at n earlier)
+        (net.arrives (emissions_at limit net inputs n) (inputs n)) alike.keep alike.agree (come n (omega arith)) (fit_at n earlier)
         ∙ ap (reactions limit also.behaviours n cs) (alike.arrives n)
         ∙ ap (λ (sent : List (List Counts)). reactions limit also.behaviours n cs (also.arrives sent (inputs n))) (sends_alike n earlier)
 
@@ -267,11 +267,11 @@ module _ {I : Type 0} (fits : ℕ → State → Bool) (comes : List Counts → B
         let cs = components_at limit net inputs n in
         let earlier : OnlyArrives comes limit net inputs n = λ j lt. come j (omega arith) in
         ap (λ (rs : List Reaction). part_of (entries_by limit n net.numbers rs)
-            (outer_from limit n 0 (net.leaves (emissions_at limit net inputs n)))) (instants_alike n come)
+        (outer_from limit n 0 (net.leaves (emissions_at limit net inputs n)))) (instants_alike n come)
         ∙ ap (λ (ks : List ℕ). part_of (entries_by limit n ks (instant limit also n (inputs n) cs))
-            (outer_from limit n 0 (net.leaves (emissions_at limit net inputs n)))) alike.numbers
+        (outer_from limit n 0 (net.leaves (emissions_at limit net inputs n)))) alike.numbers
         ∙ ap (λ (bags : List Counts). part_of (entries_by limit n also.numbers (instant limit also n (inputs n) cs))
-            (outer_from limit n 0 bags)) (alike.leaves n ∙ ap also.leaves (sends_alike n earlier))
+        (outer_from limit n 0 bags)) (alike.leaves n ∙ ap also.leaves (sends_alike n earlier))
         ∙ ap (part_of_instant limit also n (inputs n)) (components_run_alike n earlier)
 
     pub traces_run_alike : (n : ℕ) → OnlyArrives comes limit net inputs n →
@@ -286,15 +286,15 @@ module _ {I : Type 0} (fits : ℕ → State → Bool) (comes : List Counts → B
           let earlier : OnlyArrives comes limit net inputs n = λ j lt. come j (omega arith) in
           let sent = emissions_at limit net inputs n in
           same_part (part_at who limit net inputs n).entries (part_at who limit also inputs n).entries
-              (part_at who limit net inputs n).outer (part_at who limit also inputs n).outer
+          (part_at who limit net inputs n).outer (part_at who limit also inputs n).outer
           (ap (λ (p : PartOf). filter (λ (e : Entry). who e.component) p.entries) (traces_alike_at n come))
           (ap (outer_from limit n 0)
-              (leaves ∙ ap (λ (ks : List ℕ). also.leaves (sent_among who ks sent)) alike.numbers ∙ ap
-              (λ (s : List (List Counts)). also.leaves (sent_among who also.numbers s)) (emissions_run_alike n earlier)))
+          (leaves ∙ ap (λ (ks : List ℕ). also.leaves (sent_among who ks sent)) alike.numbers ∙ ap
+          (λ (s : List (List Counts)). also.leaves (sent_among who also.numbers s)) (emissions_run_alike n earlier)))
 
       pub parts_run_alike : (n : ℕ) → OnlyArrives comes limit net inputs n →
           ((k : ℕ) → k < n → LeavesAlikeOf who net also (emissions_at limit net inputs k)) →
           part_before who limit net inputs n ≡ part_before who limit also inputs n
       parts_run_alike n come leaves =
           all_same (part_at who limit net inputs) (part_at who limit also inputs) n
-              (λ k lt. parts_alike_at k (λ j less. come j (omega arith)) (leaves k lt))
+          (λ k lt. parts_alike_at k (λ j less. come j (omega arith)) (leaves k lt))

@@ -27,8 +27,11 @@ silent_when_not_imminent b now c h = rw h (cond_same c.quiet [])
 
 sends_nothing : (b : Behaviour) (now : ℕ) (c : Component) → IsTrue (c.quiet || not (is_imminent now c)) → sent_by c (emission b now c) ≡ []
 sends_nothing b now c h =
-    elim (quiet_or_not_imminent c.quiet (is_imminent now c) h) [ inl q ↦ silent_when_quiet c
-        (emission b now c) q | inr d ↦ silent_when_not_imminent b now c d ]
+    elim (quiet_or_not_imminent c.quiet (is_imminent now c) h) [
+      | inl q ↦ silent_when_quiet c
+          (emission b now c) q
+      | inr d ↦ silent_when_not_imminent b now c d
+    ]
 
 pub none_send : (bs : List Behaviour) (now : ℕ) (cs : List Component) → length bs ≡ length cs → IsTrue (none_imminent now cs) →
     emissions bs now cs ≡ map (λ (b : Behaviour). []) bs
@@ -105,7 +108,7 @@ module _ {I : Type 0} (limit : ℕ) (net : Network I) (now : ℕ) (input : I) (c
   pub idle_outside : LeavesOnlyWhatIsSent net → (part_of_instant limit net now input cs).outer ≡ []
   idle_outside leaves =
       no_lines limit now 0 (net.leaves (emissions net.behaviours now cs))
-          (ap (λ (sent : List (List Counts)). all_empty (net.leaves sent)) none_sent ∙ leaves)
+      (ap (λ (sent : List (List Counts)). all_empty (net.leaves sent)) none_sent ∙ leaves)
 
   pub idle_part : LeavesOnlyWhatIsSent net → part_of_instant limit net now input cs ≡ nothing
   idle_part leaves =

@@ -15,7 +15,7 @@ use Rattle.dv_devs.proofs.Results.{any, bind}
 -- a hold that begins at a time of the run ends later
 ends_later_at_once : (limit : ℕ) (t : Time) (more : Bool) →
     IfOk (rank_or_fault limit (cond more (Ok (record { tick = t.tick; micro = t.micro + 1 })) (Err (record {}))))
-        (IsFrom (suc (rank limit t)))
+    (IsFrom (suc (rank limit t)))
 ends_later_at_once limit t true = omega arith
 ends_later_at_once limit t false = tt
 
@@ -34,7 +34,7 @@ pub begun_is_later : (limit now : ℕ) (ticks : Option ℕ) → IfOk (end_of_hol
 begun_is_later limit now None = tt
 begun_is_later limit now (Some hold) =
     subst (λ (n : ℕ). IfOk (rank_or_fault limit (after limit (time_of limit now) hold)) (IsFrom (suc n))) (rank_at_time limit now)
-        (ends_later limit (time_of limit now) hold (time_of_run limit now))
+    (ends_later limit (time_of limit now) hold (time_of_run limit now))
 
 module _ (limit now : ℕ) (next : Option ℕ) where
   -- the hold after a transition ends later than now
@@ -58,8 +58,8 @@ module _ (limit now : ℕ) (next : Option ℕ) where
       IfOk (external_of b elapsed bags before) IsLater
   external_is_later b elapsed bags before h =
       bind (λ x. Unit {0}) IsLater (b.external elapsed bags before.0)
-          (λ m. cond m.goes (state_with_hold b m.state) (Ok (m.state, before.1))) (any (b.external elapsed bags before.0))
-          (λ m k. goes_or_stays b m before.1 m.goes h)
+      (λ m. cond m.goes (state_with_hold b m.state) (Ok (m.state, before.1))) (any (b.external elapsed bags before.0))
+      (λ m k. goes_or_stays b m before.1 m.goes h)
 
   confluent_is_later : (b : Behaviour) (bags : List Counts) (s : State) (rule : Option (Result Change Fault)) →
       IfOk (confluent_of b bags s rule) IsLater
@@ -71,7 +71,7 @@ module _ (limit now : ℕ) (next : Option ℕ) where
   next_is_later : (b : Behaviour) (c : Component) (bags : List Counts) (imminent empty : Bool) → c.next ≡ next →
       (imminent ≡ false → IsFrom (suc now) next) →
       IfOk (cond imminent (cond empty (internal_of b c.state) (confluent_of b bags c.state (b.confluent bags c.state)))
-          (external_of b (tick_of limit now - c.last) bags (c.state, Continues))) IsLater
+      (external_of b (tick_of limit now - c.last) bags (c.state, Continues))) IsLater
   next_is_later b c bags true true e h = internal_is_later b c.state
   next_is_later b c bags true false e h = confluent_is_later b bags c.state (b.confluent bags c.state)
   next_is_later b c bags false empty e h = external_is_later b (tick_of limit now - c.last) bags (c.state, Continues) (h refl)
@@ -93,7 +93,7 @@ output_ahead limit b now c bags (Ok sent) h =
     reaction_with_ahead (tick_of limit now) now c (kind_of now c bags) sent _
     (bind (λ x. Unit {0}) Ahead (bags_or_flood bags) _ (any (bags_or_flood bags)) (λ x u.
     bind (IsLater limit now c.next) Ahead (transition_of limit b now c bags) _
-        (next_is_later limit now c.next b c bags (is_imminent now c) (all_empty bags) refl h) (λ m later.
+    (next_is_later limit now c.next b c bags (is_imminent now c) (all_empty bags) refl h) (λ m later.
     bind (IsFrom (suc now)) Ahead (next_of limit now c.next m.1) _ later (λ next k. k))))
 
 not_imminent_is_later : (now : ℕ) (next : Option ℕ) → IsFrom now next → is_at now next ≡ false → IsFrom (suc now) next
@@ -108,7 +108,7 @@ quiet_or_waits false false e h = inr refl
 reacts_or_not : (limit : ℕ) (b : Behaviour) (now : ℕ) (c : Component) (bags : List Counts) (reacts : Bool) →
     (not c.quiet && (is_imminent now c || not (all_empty bags))) ≡ reacts → IsAhead now c →
     IsAhead (suc now) (cond reacts (reaction_after_output limit b now c bags (emission b now c))
-        (record { event = None; component = c })).component
+    (record { event = None; component = c })).component
 reacts_or_not limit b now c bags true e h = output_ahead limit b now c bags (emission b now c) (not_imminent_is_later now c.next h.0)
 reacts_or_not limit b now c bags false e h = (
   elim (quiet_or_waits c.quiet (is_imminent now c) (all_empty bags) e) [
@@ -125,7 +125,7 @@ reaction_ahead limit b now c bags h = reacts_or_not limit b now c bags (not c.qu
 reactions_ahead : (limit : ℕ) (bs : List Behaviour) (now : ℕ) (cs : List Component) (received : List (List Counts)) → AllFrom now cs →
     AllQuietForGood cs →
     AllFrom (suc now) (map (λ (r : Reaction). r.component) (reactions limit bs now cs received)) × AllQuietForGood
-        (map (λ (r : Reaction). r.component) (reactions limit bs now cs received))
+    (map (λ (r : Reaction). r.component) (reactions limit bs now cs received))
 reactions_ahead limit [] now cs received h q = (tt, tt)
 reactions_ahead limit (b ∷ bs) now [] received h q = (tt, tt)
 reactions_ahead limit (b ∷ bs) now (c ∷ cs) received h q =
@@ -173,9 +173,11 @@ module _ {I : Type 0} (limit : ℕ) (net : Network I) (inputs : ℕ → I) (read
   ahead_at : (n : ℕ) → AllFrom n (components_at limit net inputs n) × AllQuietForGood (components_at limit net inputs n)
   ahead_at zero = (from_0 net.start, ready.quiet)
   ahead_at (suc n) =
-      let before = ahead_at n in
-      (instant_rises limit net n (inputs n) (components_at limit net inputs n) before.0 before.1, instant_quiet limit net n (inputs n)
-          (components_at limit net inputs n) before.0 before.1)
+      let before = ahead_at n in (
+        instant_rises limit net n (inputs n) (components_at limit net inputs n) before.0 before.1,
+        instant_quiet limit net n (inputs n)
+            (components_at limit net inputs n) before.0 before.1,
+      )
 
   -- every next time is at this rank or later
   pub next_times_at : (n : ℕ) → AllFrom n (components_at limit net inputs n)

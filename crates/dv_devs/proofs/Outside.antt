@@ -42,7 +42,7 @@ greater_rank limit a b h k lt = grind (arith, nat_tests)
 ranks_after : (limit k n : ℕ) → k < n → time_cmp (time_of limit n) (time_of limit k) ≡ Greater
 ranks_after limit k n lt =
     greater_rank limit (time_of limit n) (time_of limit k) (time_of_run limit n) (time_of_run limit k)
-        (omega (arith, rank_at_time limit k, rank_at_time limit n))
+    (omega (arith, rank_at_time limit k, rank_at_time limit n))
 
 same_time : (t : Time) → time_cmp t t ≡ Equal
 same_time t = grind (arith, nat_tests)
@@ -77,7 +77,7 @@ module _ (limit now : ℕ) where
   line_earlier port b true = All-nil (IsEarlier limit now (port + 1))
   line_earlier port b false =
       All-cons (IsEarlier limit now (port + 1)) (line limit now port b) [] (now, refl, inr (refl, omega arith))
-          (All-nil (IsEarlier limit now (port + 1)))
+      (All-nil (IsEarlier limit now (port + 1)))
 
   -- a line goes past those that are earlier
   line_past : (port : ℕ) (b : Counts) (xs ys : List Outer) → All (IsEarlier limit now port) xs →
@@ -85,7 +85,7 @@ module _ (limit now : ℕ) where
   line_past port b [] ys h = refl
   line_past port b (x ∷ xs) ys h =
       rw (after_earlier port b x (All-head (IsEarlier limit now port) x xs h))
-          (ap (λ (l : List Outer). x ∷ l) (line_past port b xs ys (All-tail (IsEarlier limit now port) x xs h)))
+      (ap (λ (l : List Outer). x ∷ l) (line_past port b xs ys (All-tail (IsEarlier limit now port) x xs h)))
 
   -- and stands before those of later ports
   line_first : (port q : ℕ) (b : Counts) (bags : List Counts) → port < q →
@@ -99,7 +99,7 @@ module _ (limit now : ℕ) where
       by_test : (none : Bool) →
           with_line (line limit now port b) (outer_from limit now (q + 1) rest) ≡ line limit now port b ∷ outer_from limit now (q + 1) rest
           → with_line (line limit now port b) (cond none [] (line limit now q a ∷ []) ++ outer_from limit now (q + 1) rest)
-              ≡ line limit now port b ∷ (cond none [] (line limit now q a ∷ []) ++ outer_from limit now (q + 1) rest)
+          ≡ line limit now port b ∷ (cond none [] (line limit now q a ∷ []) ++ outer_from limit now (q + 1) rest)
       by_test true h = h
       by_test false h = rw less refl
 
@@ -108,7 +108,7 @@ module _ (limit now : ℕ) where
       with_line (line limit now port b) (line limit now port a ∷ rest) ≡ line limit now port (union a b) ∷ rest
   line_joins port a b rest =
       let same : line_cmp (line limit now port b) (line limit now port a) ≡ Equal =
-          ap (λ (r : Ordering). ordering_then r (nat_cmp port port)) (same_time (time_of limit now)) ∙ port_same port in
+      ap (λ (r : Ordering). ordering_then r (nat_cmp port port)) (same_time (time_of limit now)) ∙ port_same port in
       rw same refl
 
   module _ (add : SizesAdd) (empty : NoneIsEmpty) (unit : UnionWithNone) where
@@ -116,7 +116,7 @@ module _ (limit now : ℕ) where
     one_port : (port : ℕ) (xs : List Outer) (a b : Counts) (bags : List Counts) (lines : List Outer) → All (IsEarlier limit now port) xs →
         IsBag a → IsBag b → (i j : Bool) → nat_eq (size a) 0 ≡ i → nat_eq (size b) 0 ≡ j
         → union_of_lines (xs ++ (cond i [] (line limit now port a ∷ []) ++ outer_from limit now (port + 1) bags))
-            (cond j [] (line limit now port b ∷ []) ++ lines)
+        (cond j [] (line limit now port b ∷ []) ++ lines)
         ≡ union_of_lines (xs ++ (line_of limit now port (union a b) ++ outer_from limit now (port + 1) bags)) lines
     one_port port xs a b bags lines early bag_a bag_b i true e f =
         let none : size b ≡ 0 = grind (arith, nat_tests) in
@@ -126,19 +126,19 @@ module _ (limit now : ℕ) where
         let none : size a ≡ 0 = grind (arith, nat_tests) in
         let same : union a b ≡ b = ap (λ (c : Counts). union c b) (empty a bag_a none) ∙ unit b bag_b in
         rw (same, f) (ap (λ (l : List Outer). union_of_lines l lines)
-            (line_past port b xs (outer_from limit now (port + 1) bags) early ∙ ap (λ (l : List Outer). xs ++ l)
-            (line_first port (port + 1) b bags (omega arith))))
+        (line_past port b xs (outer_from limit now (port + 1) bags) early ∙ ap (λ (l : List Outer). xs ++ l)
+        (line_first port (port + 1) b bags (omega arith))))
     one_port port xs a b bags lines early bag_a bag_b false false e f =
         let some : nat_eq (size (union a b)) 0 ≡ false = ap (λ (n : ℕ). nat_eq n 0) (add a b) ∙ grind (arith, nat_tests) in
         rw some (ap (λ (l : List Outer). union_of_lines l lines)
-            (line_past port b xs (line limit now port a ∷ outer_from limit now (port + 1) bags) early ∙ ap (λ (l : List Outer). xs ++ l)
-            (line_joins port a b (outer_from limit now (port + 1) bags))))
+        (line_past port b xs (line limit now port a ∷ outer_from limit now (port + 1) bags) early ∙ ap (λ (l : List Outer). xs ++ l)
+        (line_joins port a b (outer_from limit now (port + 1) bags))))
 
     -- the lines of an instant, from a port on
     abbrev Unites : ℕ → List Counts → List Counts → List Counts → Type 0
     Unites port bags more both =
         (xs : List Outer) → All (IsEarlier limit now port) xs → union_of_lines (xs ++ outer_from limit now port bags)
-            (outer_from limit now port more) ≡ xs ++ outer_from limit now port both
+        (outer_from limit now port more) ≡ xs ++ outer_from limit now port both
 
     one_step : (port : ℕ) (a b : Counts) (bags more both : List Counts) → IsBag a → IsBag b → Unites (port + 1) bags more both →
         Unites port (a ∷ bags) (b ∷ more) (union a b ∷ both)
@@ -146,9 +146,9 @@ module _ (limit now : ℕ) where
         let here = line_of limit now port (union a b) in
         one_port port xs a b bags (outer_from limit now (port + 1) more) early bag_a bag_b (nat_eq (size a) 0) (nat_eq (size b) 0) refl refl
         ∙ ap (λ (l : List Outer). union_of_lines l (outer_from limit now (port + 1) more))
-            (sym (append_assoc xs here (outer_from limit now (port + 1) bags)))
+        (sym (append_assoc xs here (outer_from limit now (port + 1) bags)))
         ∙ rest (xs ++ here) (All-append (IsEarlier limit now (port + 1)) xs here (all_weaker port xs early)
-            (line_earlier port (union a b) (nat_eq (size (union a b)) 0)))
+        (line_earlier port (union a b) (nat_eq (size (union a b)) 0)))
         ∙ append_assoc xs here (outer_from limit now (port + 1) both)
 
     pub all_ports : (port : ℕ) (bags more : List Counts) → All IsBag bags → All IsBag more → Unites port bags more (union_of_bags bags more)
@@ -160,7 +160,7 @@ module _ (limit now : ℕ) where
     all_ports port (a ∷ bags) [] h k xs early = refl
     all_ports port (a ∷ bags) (b ∷ more) h k xs early =
         one_step port a b bags more (union_of_bags bags more) (All-head IsBag a bags h) (All-head IsBag b more k)
-            (all_ports (port + 1) bags more (All-tail IsBag a bags h) (All-tail IsBag b more k)) xs early
+        (all_ports (port + 1) bags more (All-tail IsBag a bags h) (All-tail IsBag b more k)) xs early
 
 -- lines of earlier ranks do not touch those of a later one
 module _ (limit now : ℕ) where
@@ -183,9 +183,9 @@ module _ (limit now : ℕ) where
     where
       by_order : (r : Ordering) → with_line o (xs ++ ys) ≡ with_line o xs ++ ys
           → match_ordering r (o ∷ x ∷ (xs ++ ys)) (record { time = x.time; port = x.port; values = union x.values o.values } ∷ (xs ++ ys))
-              (x ∷ with_line o (xs ++ ys))
+          (x ∷ with_line o (xs ++ ys))
           ≡ match_ordering r (o ∷ x ∷ xs) (record { time = x.time; port = x.port; values = union x.values o.values } ∷ xs)
-              (x ∷ with_line o xs) ++ ys
+          (x ∷ with_line o xs) ++ ys
       by_order Less e = refl
       by_order Equal e = refl
       by_order Greater e = ap (λ (l : List Outer). x ∷ l) e
@@ -223,7 +223,7 @@ module _ (who also : ℕ → Bool) (apart : (k : ℕ) → IsTrue (who k) → als
   both_send (k ∷ ks) [] = refl
   both_send (k ∷ ks) (bags ∷ rest) =
       ap (λ (bs : List Counts). bs ∷ union_of_sent (sent_among who ks rest) (sent_among also ks rest))
-          (one_sends bags (who k) (also k) (apart k))
+      (one_sends bags (who k) (also k) (apart k))
       ∙ ap (λ (l : List (List Counts)). cond (both k) bags [] ∷ l) (both_send ks rest)
 
 bags_among : (who : ℕ → Bool) (ks : List ℕ) (sent : List (List Counts)) → AllBags sent → AllBags (sent_among who ks sent)
@@ -231,7 +231,7 @@ bags_among who [] sent h = All-nil (All IsBag)
 bags_among who (k ∷ ks) [] h = All-nil (All IsBag)
 bags_among who (k ∷ ks) (bags ∷ rest) h =
     All-cons (All IsBag) (cond (who k) bags []) (sent_among who ks rest) (by_test (who k))
-        (bags_among who ks rest (All-tail (All IsBag) bags rest h))
+    (bags_among who ks rest (All-tail (All IsBag) bags rest h))
   where
     by_test : (t : Bool) → All IsBag (cond t bags [])
     by_test true = All-head (All IsBag) bags rest h
@@ -248,14 +248,14 @@ all_earlier limit parts at n (suc m) le =
     let here = at m in
     All-append (IsEarlier limit n 0) (all_before parts m).outer (parts m).outer (all_earlier limit parts at n m (omega arith))
     (All-weaker (λ (o : Outer). o.time ≡ time_of limit m) (IsEarlier limit n 0) (rank_earlier limit m n (omega arith))
-        (parts m).outer here.1)
+    (parts m).outer here.1)
 
 module _ (add : SizesAdd) (empty : NoneIsEmpty) (unit : UnionWithNone) {I : Type 0} (limit : ℕ) (net : Network I) (inputs : ℕ → I)
     (linear : LeavesLinearly net) where
   module _ (who also : ℕ → Bool) (apart : (k : ℕ) → IsTrue (who k) → also k ≡ false) where
     pub part_united : (n : ℕ) → ((k : ℕ) → k < n → AllBags (emissions_at limit net inputs k)) →
         union_of_lines (part_before who limit net inputs n).outer (part_before also limit net inputs n).outer ≡
-            (part_before (both who also apart) limit net inputs n).outer
+        (part_before (both who also apart) limit net inputs n).outer
     part_united zero h = refl
     part_united (suc n) h =
         let sent = emissions_at limit net inputs n in
@@ -271,16 +271,16 @@ module _ (add : SizesAdd) (empty : NoneIsEmpty) (unit : UnionWithNone) {I : Type
         let more = outer_from limit n 0 (net.leaves theirs) in
         union-append (early ++ now) others more
         ∙ ap (λ (l : List Outer). union_of_lines l more)
-            (lines_in_front limit n others early now
-            (all_earlier limit (part_at also limit net inputs) (parts_at limit net inputs also) n n (omega arith))
-            (lines_at limit n 0 (net.leaves mine)))
+        (lines_in_front limit n others early now
+        (all_earlier limit (part_at also limit net inputs) (parts_at limit net inputs also) n n (omega arith))
+        (lines_at limit n 0 (net.leaves mine)))
         ∙ ap (λ (l : List Outer). union_of_lines (l ++ now) more) (part_united n (λ k lt. h k (omega arith)))
         ∙ all_ports limit n add empty unit 0 (net.leaves mine) (net.leaves theirs) (linear.bags mine bags_mine)
-            (linear.bags theirs bags_theirs) whole
-            (all_earlier limit (part_at (both who also apart) limit net inputs) (parts_at limit net inputs (both who also apart)) n n
-            (omega arith))
+        (linear.bags theirs bags_theirs) whole
+        (all_earlier limit (part_at (both who also apart) limit net inputs) (parts_at limit net inputs (both who also apart)) n n
+        (omega arith))
         ∙ ap (λ (bs : List Counts). whole ++ outer_from limit n 0 bs)
-            (sym (linear.union mine theirs bags_mine bags_theirs) ∙ ap net.leaves (both_send who also apart net.numbers sent))
+        (sym (linear.union mine theirs bags_mine bags_theirs) ∙ ap net.leaves (both_send who also apart net.numbers sent))
 
   -- a set and all others
   module _ (who : ℕ → Bool) where
@@ -302,12 +302,12 @@ module _ (add : SizesAdd) (empty : NoneIsEmpty) (unit : UnionWithNone) {I : Type
     all_outer (suc n) =
         ap (λ (l : List Outer). l ++ (part_at (λ k. who k || not (who k)) limit net inputs n).outer) (all_outer n)
         ∙ ap (λ (sent : List (List Counts)). (part_before (λ k. true) limit net inputs n).outer ++ outer_from limit n 0 (net.leaves sent))
-            (everyone net.numbers (emissions_at limit net inputs n))
+        (everyone net.numbers (emissions_at limit net inputs n))
 
     pub trace_united : length net.numbers ≡ length net.behaviours → (n : ℕ) →
         ((k : ℕ) → k < n → AllBags (emissions_at limit net inputs k)) →
         union_of_lines (part_before who limit net inputs n).outer (part_before (λ k. not (who k)) limit net inputs n).outer ≡
-            (trace_before limit net inputs n).outer
+        (trace_before limit net inputs n).outer
     trace_united numbered n h =
         part_united who (λ k. not (who k)) others_apart n h
         ∙ all_outer n

@@ -45,7 +45,7 @@ module _ {I : Type 0} (limit : ℕ) (net : Network I) (inputs : ℕ → I) where
       let sent = emissions_at limit net inputs n in
       let short : length sent ≤ length net.numbers = omega (arith, emissions_short net.behaviours n (components_at limit net inputs n)) in
       same_part _ (trace_at limit net inputs n).entries _ _ (all_pass (trace_at limit net inputs n).entries)
-          (ap (λ (xs : List (List Counts)). outer_from limit n 0 (net.leaves xs)) (sent_by_all net.numbers sent short))
+      (ap (λ (xs : List (List Counts)). outer_from limit n 0 (net.leaves xs)) (sent_by_all net.numbers sent short))
 
   -- the part of all components is the trace
   pub part_of_all : length net.numbers ≡ length net.behaviours → (n : ℕ) →

@@ -19,7 +19,7 @@ module _ {I : Type 0} (limit : ℕ) (net : Network I) (i j : ℕ → I) where
       let cs = components_at limit net j n in
       ap (components_after limit net n (i n)) (components_agree n (λ k lt. h k (omega arith)))
       ∙ ap (λ (received : List (List Counts)). map (λ (r : Reaction). r.component) (reactions limit net.behaviours n cs received))
-          (h n (omega arith) (emissions net.behaviours n cs))
+      (h n (omega arith) (emissions net.behaviours n cs))
 
   -- what is sent at a rank depends on what arrives strictly before it
   pub emissions_agree : (n : ℕ) → AlikeBefore n → emissions_at limit net i n ≡ emissions_at limit net j n
@@ -29,9 +29,12 @@ module _ {I : Type 0} (limit : ℕ) (net : Network I) (i j : ℕ → I) where
   instants_agree n h =
       let cs = components_at limit net j n in
       ap (part_of_instant limit net n (i n)) (components_agree n (λ k lt. h k (omega arith)))
-      ∙ ap (λ (received : List (List Counts)). let p : PartOf = record { entries = entries_by limit n net.numbers
-          (reactions limit net.behaviours n cs received); outer = outer_from limit n 0 (net.leaves (emissions net.behaviours n cs)) } in p)
-          (h n (omega arith) (emissions net.behaviours n cs))
+      ∙ ap (λ (received : List (List Counts)). let p : PartOf = record {
+        entries = entries_by limit n net.numbers
+            (reactions limit net.behaviours n cs received);
+        outer = outer_from limit n 0 (net.leaves (emissions net.behaviours n cs));
+      } in p)
+      (h n (omega arith) (emissions net.behaviours n cs))
 
   pub traces_agree : (n : ℕ) → AlikeBefore n → trace_before limit net i n ≡ trace_before limit net j n
   traces_agree zero h = refl

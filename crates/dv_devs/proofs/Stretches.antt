@@ -40,7 +40,7 @@ module _ {I : Type 0} (limit : ℕ) (net : Network I) (inputs : ℕ → I) (read
     | inl before ↦
         ap (components_after limit net m (inputs m)) (resting_components m before (λ k low high. rests k low (omega arith)))
         ∙ idle_components limit net m (inputs m) (components_at limit net inputs n) (rests m before (omega arith))
-            (matched_at limit net inputs ready n)
+        (matched_at limit net inputs ready n)
     | inr same ↦ ap (components_at limit net inputs) (sym same)
   ]
 
@@ -52,8 +52,8 @@ module _ {I : Type 0} (limit : ℕ) (net : Network I) (inputs : ℕ → I) (read
         let same = resting_components m before (λ k low high. rests k low (omega arith)) in
         ap (λ cs. joined (trace_before limit net inputs m) (part_of_instant limit net m (inputs m) cs)) same
         ∙ ap (λ p. joined (trace_before limit net inputs m) p)
-            (idle_part limit net m (inputs m) (components_at limit net inputs n) (rests m before (omega arith))
-            (matched_at limit net inputs ready n) leaves)
+        (idle_part limit net m (inputs m) (components_at limit net inputs n) (rests m before (omega arith))
+        (matched_at limit net inputs ready n) leaves)
         ∙ append_nothing (trace_before limit net inputs m)
         ∙ resting_trace leaves m before (λ k low high. rests k low (omega arith))
     | inr same ↦ ap (trace_before limit net inputs) (sym same)
@@ -103,7 +103,7 @@ output_event : (limit : ℕ) (b : Behaviour) (now : ℕ) (c : Component) (bags :
 output_event limit b now c bags (Err f) = ((what.Fault f, []), refl)
 output_event limit b now c bags (Ok sent) =
     reaction_with_event (tick_of limit now) c (kind_of now c bags) sent
-        (bags_or_flood bags >>= λ x. transition_of limit b now c bags >>= λ m. next_of limit now c.next m.1 >>= λ next. Ok (m.0, next))
+    (bags_or_flood bags >>= λ x. transition_of limit b now c bags >>= λ m. next_of limit now c.next m.1 >>= λ next. Ok (m.0, next))
 
 reacts : (q d e : Bool) → q ≡ false → d ≡ true → (not q && (d || not e)) ≡ true
 reacts true d e h k = absurd (cc)
@@ -120,7 +120,7 @@ entry_here : (limit now k : ℕ) (event : Option (What × List Counts)) (rest : 
 entry_here limit now k event rest e same =
     let entry : Entry = record { time = time_of limit now; component = k; what = e.0; sent = e.1 } in
     subst (λ (event : Option (What × List Counts)). HasEntry (entry_of limit now k event ++ rest) limit now k) (sym same)
-        (entry, (0, omega arith, refl), refl, refl)
+    (entry, (0, omega arith, refl), refl, refl)
 
 pub imminent_has_entry :
     (limit : ℕ) (ks : List ℕ) (bs : List Behaviour) (now i k : ℕ) (cs : List Component) (received : List (List Counts)) (c : Component) →
@@ -132,16 +132,20 @@ imminent_has_entry limit (j ∷ ks) (b ∷ bs) now i k [] received c within numb
 imminent_has_entry limit (j ∷ ks) (b ∷ bs) now zero k (d ∷ cs) received c within number there awake imminent =
     let same : d ≡ c = same_Some d c there in
     let event =
-        imminent_event limit b now d (first_bags received) (ap (λ (c : Component). c.quiet) same ∙ awake)
-            (ap (is_imminent now) same ∙ imminent) in
+    imminent_event limit b now d (first_bags received) (ap (λ (c : Component). c.quiet) same ∙ awake)
+    (ap (is_imminent now) same ∙ imminent) in
     subst (HasEntry (entry_of limit now j (reaction limit b now d (first_bags received)).event ++ entries_by limit now ks
-        (reactions limit bs now cs (other_bags received))) limit now) (same_Some j k number)
-        (entry_here limit now j (reaction limit b now d (first_bags received)).event
-        (entries_by limit now ks (reactions limit bs now cs (other_bags received))) event.0 event.1)
+    (reactions limit bs now cs (other_bags received))) limit now) (same_Some j k number)
+    (entry_here limit now j (reaction limit b now d (first_bags received)).event
+    (entries_by limit now ks (reactions limit bs now cs (other_bags received))) event.0 event.1)
 imminent_has_entry limit (j ∷ ks) (b ∷ bs) now (suc i) k (d ∷ cs) received c within number there awake imminent =
-    let later = imminent_has_entry limit ks bs now i k cs (other_bags received) c (omega arith) number there awake imminent in
-    (later.0, Contains-append_right (entry_of limit now j (reaction limit b now d (first_bags received)).event)
-        (entries_by limit now ks (reactions limit bs now cs (other_bags received))) later.0 later.1, later.2, later.3)
+    let later = imminent_has_entry limit ks bs now i k cs (other_bags received) c (omega arith) number there awake imminent in (
+      later.0,
+      Contains-append_right (entry_of limit now j (reaction limit b now d (first_bags received)).event)
+          (entries_by limit now ks (reactions limit bs now cs (other_bags received))) later.0 later.1,
+      later.2,
+      later.3,
+    )
 
 -- the component whose next time is the least
 pub least_is_imminent : (m : ℕ) (cs : List Component) → least_next cs ≡ Some m →
@@ -198,7 +202,7 @@ module _ {I : Type 0} where
       let first = least_is_imminent m cs least in
       let c = first.1 in
       let awake : c.quiet ≡ false =
-          awake_when_imminent c.quiet m c.next first.4 (quiet_for_good cs first.0 c (quiet_at limit net inputs ready m) first.3) in
+      awake_when_imminent c.quiet m c.next first.4 (quiet_for_good cs first.0 c (quiet_at limit net inputs ready m) first.3) in
       let imminent : is_imminent m c ≡ true = imminent_at m c.next first.4 in
       let within : first.0 < length net.behaviours = omega (arith, first.2, matched_at limit net inputs ready m) in
       let number = number_at net.numbers first.0 (omega (arith, within, ready.numbered)) in

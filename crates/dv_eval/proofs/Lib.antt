@@ -1,2 +1,3 @@
+pub mod Bags
 pub mod Names
 pub mod Rules

@@ -1,5 +1,8 @@
 -- What a reader believes: what names stand for, and what expressions, rules and holds do.
 pub mod Scope
 pub mod Meaning
--- What serves proofs.
+pub mod Loops
+-- What serves proofs and worked rows.
+pub mod Copies
 pub mod Edges
+pub mod Rows

@@ -1,19 +1,23 @@
 -- The meaning of expressions, rules and holds, by recursion on the tree: a value or an effect, or the first fault from the left.
 -- A checked model knows its names and gives every operator what it wants; for all others a name that is not known counts
--- as 0, and a truth value as 0 or 1.
-use Rattle.std.specs.Prelude.{ℕ, ℤ, pos, negsuc, neg_ℤ, ◌+ℤ◌, ◌-ℤ◌, ◌*ℤ◌, ◌^◌, Bool, true, false, not, ◌&&◌, ◌||◌, if◌then◌else◌, nat_le, int_lt, int_div, int_rem, List, [], length, replicate, slice_get, slice_set, Option, Some, None, Result, Ok, Err}
+-- as 0 or as an empty bag, and a truth value as 0 or 1.
+use Rattle.std.specs.Prelude.{ℕ, ℤ, pos, negsuc, neg_ℤ, ◌+ℤ◌, ◌-ℤ◌, ◌*ℤ◌, ◌^◌, Bool, true, false, not, ◌&&◌, ◌||◌, if◌then◌else◌, ◌==◌, nat_le, int_lt, int_div, int_rem, List, [], ◌∷◌, length, replicate, slice_get, slice_set, Option, Some, None, Result, Ok, Err}
 use Rattle.std.specs.Ordering.{int_eq}
-use Rattle.dv_syntax.specs.Trees.{Expression, Literal, TruthValue, Named, Parens, Prefixed, Binary, Statements, Done, Assign, Goto, Send, If, IfElse}
+use Rattle.dv_syntax.specs.Trees.{Expression, Literal, TruthValue, Named, Parens, Prefixed, Binary, Call, Times, Statements, Done, Assign, Goto, Send, If, IfElse, For, Drop}
+use Rattle.dv_syntax.specs.Trees.{Add as AddTo}
 use Rattle.dv_syntax.specs.declared.tree.Prefix.{Prefix}
 use Rattle.dv_syntax.specs.declared.tree.Prefix.TheVariants.{Minus, Not}
 use Rattle.dv_syntax.specs.declared.tree.Operator.{Operator}
 use Rattle.dv_syntax.specs.declared.tree.Operator.TheVariants.{Or, And, Add, Subtract, Multiply, Divide as DivideBy, Remainder, Equal, Unequal, Less, AtMost, Greater, AtLeast}
-use Rattle.dv_bag.specs.Bag.{bag_at, total_of_all, with_copies}
+use Rattle.dv_syntax.specs.declared.tree.BagCall.{BagCall}
+use Rattle.dv_syntax.specs.declared.tree.BagCall.TheVariants.{Size, Sum, Least, Most}
+use Rattle.dv_bag.specs.Bag.{Counts, bag_at, count_of, least, most, sum_or_overflow, total, total_of_all, values_of, with_copies, without_one}
+use Rattle.dv_bag.specs.Reading.{bag_of_datum}
 use Rattle.dv_bag.specs.Outcome.{◌>>=◌}
 use Rattle.dv_bag.specs.declared.value.Value.{Value}
 use Rattle.dv_bag.specs.declared.value.Value.TheVariants.{Number, Truth}
 use Rattle.dv_bag.specs.declared.fault.Fault.{Fault}
-use Rattle.dv_bag.specs.declared.fault.Fault.TheVariants.{Overflow, Divide, Range, Negative as BelowZero, Flood}
+use Rattle.dv_bag.specs.declared.fault.Fault.TheVariants.{Overflow, Divide, Range, Empty, Full, Negative as BelowZero, Flood}
 use Rattle.dv_bag.specs.declared.state.Datum.{Datum}
 use Rattle.dv_bag.specs.declared.state.Datum.TheVariants as datum
 use Rattle.dv_bag.specs.declared.state.State.{State}
@@ -92,19 +96,58 @@ abbrev pub datum_at : List Datum → Option ℕ → Option Datum
 datum_at contents None = None
 datum_at contents (Some place) = slice_get contents place
 
--- what a name stands for in a state
-abbrev pub value_of_name : Scope → State → ℕ → Value
-value_of_name scope s name = value_of_datum (datum_at s.variables (place_of name (names_of scope.variables)))
+-- what is known where an expression stands: the state, and the values of the enclosing loops' variables by name, the
+-- innermost first
+pub record Moment : Type 0 where
+  pub state : State
+  pub loops : List (ℕ × ℤ)
 
--- the value of an expression in a state; where the left operand decides, the right one is not asked
-abbrev pub meaning : Scope → State → Expression → Result Value Fault
-meaning scope s (Literal n) = Ok (Number (pos n.value))
-meaning scope s (TruthValue place b) = Ok (Truth b)
-meaning scope s (Named name) = Ok (value_of_name scope s name.number)
-meaning scope s (Parens place e) = meaning scope s e
-meaning scope s (Prefixed operator place e) = meaning scope s e >>= λ v. prefix_result operator v
-meaning scope s (Binary operator a b) =
-    meaning scope s a >>= λ x. if is_decided operator x then Ok (Truth (truth_of x)) else (meaning scope s b >>= λ y. operator_result operator x y)
+abbrev pub moment_in : List (ℕ × ℤ) → State → Moment
+moment_in loops s = record { state = s; loops = loops }
+
+-- the value of the innermost loop variable of a name, if there is one
+abbrev pub loop_value : ℕ → List (ℕ × ℤ) → Option ℤ
+loop_value name [] = None
+loop_value name (l ∷ loops) = if l.0 == name then Some l.1 else loop_value name loops
+
+-- what the state variable of a name holds
+abbrev pub datum_of_name : Scope → State → ℕ → Option Datum
+datum_of_name scope s name = datum_at s.variables (place_of name (names_of scope.variables))
+
+abbrev pub value_in_loop : Option ℤ → Value → Value
+value_in_loop None v = v
+value_in_loop (Some n) v = Number n
+
+-- what a name stands for: the innermost loop variable of that name, else the state variable
+abbrev pub value_of_name : Scope → Moment → ℕ → Value
+value_of_name scope m name = value_in_loop (loop_value name m.loops) (value_of_datum (datum_of_name scope m.state name))
+
+-- the bag that a name stands for; a name that is no bag stands for the empty one
+abbrev pub bag_of_name : Scope → Moment → ℕ → Counts
+bag_of_name scope m name = bag_of_datum (datum_of_name scope m.state name)
+
+abbrev pub number_or_empty : Option ℤ → Result Value Fault
+number_or_empty None = Err Empty
+number_or_empty (Some n) = Ok (Number n)
+
+-- what a call gives of a bag: the number of the values, their exact sum, the least and the greatest
+abbrev pub call_result : BagCall → Counts → Result Value Fault
+call_result Size b = Ok (Number (pos (total b)))
+call_result Sum b = sum_or_overflow b >>= λ n. Ok (Number n)
+call_result Least b = number_or_empty (least b)
+call_result Most b = number_or_empty (most b)
+
+-- the value of an expression at a moment; where the left operand decides, the right one is not asked
+abbrev pub meaning : Scope → Moment → Expression → Result Value Fault
+meaning scope m (Literal n) = Ok (Number (pos n.value))
+meaning scope m (TruthValue place b) = Ok (Truth b)
+meaning scope m (Named name) = Ok (value_of_name scope m name.number)
+meaning scope m (Parens place e) = meaning scope m e
+meaning scope m (Prefixed operator place e) = meaning scope m e >>= λ v. prefix_result operator v
+meaning scope m (Binary operator a b) =
+    meaning scope m a >>= λ x. if is_decided operator x then Ok (Truth (truth_of x)) else (meaning scope m b >>= λ y. operator_result operator x y)
+meaning scope m (Call call place b) = call_result call (bag_of_name scope m b.number)
+meaning scope m (Times place e b) = meaning scope m e >>= λ v. Ok (Number (pos (count_of (number_of v) (bag_of_name scope m b.number))))
 
 -- a number within a range
 abbrev pub is_within : ℤ → ℤ → ℤ → Bool
@@ -124,6 +167,7 @@ assignment_in_range range place n e = if is_within range.low range.high n then O
 abbrev pub assignment_in_domain : Domain → ℕ → Value → Effect → Result Effect Fault
 assignment_in_domain (domain.Number range) place v e = assignment_in_range range place (number_of v) e
 assignment_in_domain (domain.Flag start) place v e = Ok (with_state e (with_datum e.state place (datum.Flag (truth_of v))))
+assignment_in_domain (domain.Bag capacity) place v e = Ok e
 
 abbrev pub assignment_to : Option (ℕ × Domain) → ℕ → Value → Effect → Result Effect Fault
 assignment_to None place v e = Ok e
@@ -146,22 +190,89 @@ with_value_at (Some port) n e = record { state = e.state; sent = slice_set e.sen
 abbrev pub sending : Scope → ℕ → Value → Effect → Result Effect Fault
 sending scope port v e = if nat_le GREATEST_COUNT (total_of_all e.sent) then Err Flood else Ok (with_value_at (place_of port scope.outputs) (number_of v) e)
 
+-- how many values a state bag may hold
+abbrev pub capacity_in : Domain → Option ℕ
+capacity_in (domain.Number range) = None
+capacity_in (domain.Flag start) = None
+capacity_in (domain.Bag capacity) = Some capacity
+
+abbrev pub capacity_of : Option (ℕ × Domain) → Option ℕ
+capacity_of None = None
+capacity_of (Some variable) = capacity_in variable.1
+
+abbrev pub with_bag : Effect → ℕ → Counts → Effect
+with_bag e place b = with_state e (with_datum e.state place (datum.Bag b))
+
+-- whether a bag holds as many values as it may; no accepted capacity is above the greatest count
+abbrev pub is_full : ℕ → Counts → Bool
+is_full capacity b = nat_le capacity (total b) || nat_le GREATEST_COUNT (total b)
+
+-- a number added to the bag at a place, which may hold so many values; where there is no bag, nothing changes
+abbrev pub addition_to : Option ℕ → Option Datum → ℕ → ℤ → Effect → Result Effect Fault
+addition_to (Some capacity) (Some (datum.Bag b)) place n e =
+    if is_full capacity b then Err Full else Ok (with_bag e place (with_copies n 1 b))
+addition_to capacity content place n e = Ok e
+
+abbrev pub addition_at : Scope → Option ℕ → ℤ → Effect → Result Effect Fault
+addition_at scope None n e = Ok e
+addition_at scope (Some place) n e =
+    addition_to (capacity_of (slice_get scope.variables place)) (slice_get e.state.variables place) place n e
+
+-- a number added to a state bag
+abbrev pub addition : Scope → ℕ → ℤ → Effect → Result Effect Fault
+addition scope name n e = addition_at scope (place_of name (names_of scope.variables)) n e
+
+-- one copy of a number less in the bag at a place; where there is no bag, nothing changes
+abbrev pub removal_from : Option Datum → ℕ → ℤ → Effect → Effect
+removal_from (Some (datum.Bag b)) place n e = with_bag e place (without_one n b)
+removal_from content place n e = e
+
+abbrev pub removal_at : Option ℕ → ℤ → Effect → Effect
+removal_at None n e = e
+removal_at (Some place) n e = removal_from (slice_get e.state.variables place) place n e
+
+-- one copy of a number less in a state bag, where there is one
+abbrev pub removal : Scope → ℕ → ℤ → Effect → Effect
+removal scope name n e = removal_at (place_of name (names_of scope.variables)) n e
+
 abbrev pub with_goto : Option ℕ → Effect → Effect
 with_goto None e = e
 with_goto (Some phase) e = record { state = e.state; sent = e.sent; goto = Some phase }
 
--- What a list of statements does, one after the other; the last goto that ran counts
-abbrev pub run : Scope → Statements → Effect → Result Effect Fault
-run scope Done e = Ok e
-run scope (Assign variable value rest) e = meaning scope e.state value >>= λ v. assignment scope variable.number v e >>= run scope rest
-run scope (Goto place phase rest) e = run scope rest (with_goto (place_of phase.number scope.phases) e)
-run scope (Send place port value rest) e = meaning scope e.state value >>= λ v. sending scope port.number v e >>= run scope rest
-run scope (If place condition block rest) e = meaning scope e.state condition >>= λ v. (if truth_of v then run scope block e else Ok e) >>= run scope rest
-run scope (IfElse place condition block other rest) e = meaning scope e.state condition >>= λ v. (if truth_of v then run scope block e else run scope other e) >>= run scope rest
+-- a step for each of some values, one after the other; the first fault ends it
+abbrev pub repetition : (ℤ → Effect → Result Effect Fault) → List ℤ → Effect → Result Effect Fault
+repetition step [] e = Ok e
+repetition step (n ∷ ns) e = step n e >>= repetition step ns
+
+-- the value of an expression within loops, in the state that an effect has left
+abbrev pub value_within : Scope → List (ℕ × ℤ) → Effect → Expression → Result Value Fault
+value_within scope loops e value = meaning scope (moment_in loops e.state) value
+
+-- What a list of statements within loops does, one after the other; the last goto that ran counts. A loop walks the values
+-- of its bag as it stood at the loop's entry, in ascending order, each copy once.
+abbrev pub run : Scope → List (ℕ × ℤ) → Statements → Effect → Result Effect Fault
+run scope loops Done e = Ok e
+run scope loops (Assign variable value rest) e =
+    value_within scope loops e value >>= λ v. assignment scope variable.number v e >>= run scope loops rest
+run scope loops (Goto place phase rest) e = run scope loops rest (with_goto (place_of phase.number scope.phases) e)
+run scope loops (Send place port value rest) e =
+    value_within scope loops e value >>= λ v. sending scope port.number v e >>= run scope loops rest
+run scope loops (If place condition block rest) e =
+    value_within scope loops e condition >>= λ v. (if truth_of v then run scope loops block e else Ok e) >>= run scope loops rest
+run scope loops (IfElse place condition block other rest) e =
+    value_within scope loops e condition
+    >>= λ v. (if truth_of v then run scope loops block e else run scope loops other e) >>= run scope loops rest
+run scope loops (For place v b block rest) e =
+    repetition (λ n. run scope ((v.number, n) ∷ loops) block) (values_of (bag_of_name scope (moment_in loops e.state) b.number)) e
+    >>= run scope loops rest
+run scope loops (AddTo place value b rest) e =
+    value_within scope loops e value >>= λ v. addition scope b.number (number_of v) e >>= run scope loops rest
+run scope loops (Drop place value b rest) e =
+    value_within scope loops e value >>= λ v. run scope loops rest (removal scope b.number (number_of v) e)
 
 -- the effect of a rule on a state
 abbrev pub effect_of : Scope → Statements → State → Result Effect Fault
-effect_of scope body s = run scope body (record { state = s; sent = replicate (length scope.outputs) []; goto = None })
+effect_of scope body s = run scope [] body (record { state = s; sent = replicate (length scope.outputs) []; goto = None })
 
 -- ticks, unless they are below 0
 abbrev pub ticks_from : ℤ → Result (Option ℕ) Fault
@@ -171,4 +282,4 @@ ticks_from (negsuc n) = Err BelowZero
 -- the ticks of a hold, or forever
 abbrev pub hold_of : Scope → Option Expression → State → Result (Option ℕ) Fault
 hold_of scope None s = Ok None
-hold_of scope (Some e) s = meaning scope s e >>= λ v. ticks_from (number_of v)
+hold_of scope (Some e) s = meaning scope (moment_in [] s) e >>= λ v. ticks_from (number_of v)

@@ -6,7 +6,7 @@ use Rattle.dv_syntax.specs.declared.tree.Name.{Name}
 use Rattle.dv_syntax.specs.declared.tree.Bound.{Bound}
 use Rattle.dv_syntax.specs.declared.tree.Variable.{Variable}
 use Rattle.dv_syntax.specs.declared.tree.Declaration.{Declaration}
-use Rattle.dv_syntax.specs.declared.tree.Declaration.TheVariants.{Out, Var, Flag}
+use Rattle.dv_syntax.specs.declared.tree.Declaration.TheVariants.{Out, Var, Flag, Bag}
 use Rattle.dv_syntax.specs.declared.tree.Start.{Start}
 use Rattle.dv_syntax.specs.declared.tree.Ticks.{Ticks}
 use Rattle.dv_syntax.specs.declared.tree.RuleSort.{RuleSort}
@@ -18,7 +18,7 @@ use Rattle.dv_eval.specs.declared.scope.VariableRange.{VariableRange}
 use Rattle.dv_eval.specs.declared.scope.Domain.{Domain}
 use Rattle.dv_eval.specs.declared.scope.Domain.TheVariants as domain
 
--- variables and flags with what they may hold, phases and output ports, each in the order of declaration
+-- variables, flags and bags with what they may hold, phases and output ports, each in the order of declaration
 pub record Scope : Type 0 where
   pub variables : List (ℕ × Domain)
   pub phases : List ℕ
@@ -29,12 +29,14 @@ abbrev pub output_of : Declaration → Option Name
 output_of (Out port) = Some port
 output_of (Var v) = None
 output_of (Flag f) = None
+output_of (Bag b) = None
 
 -- the variable with a range that it declares
 abbrev pub variable_of : Declaration → Option Variable
 variable_of (Out port) = None
 variable_of (Var v) = Some v
 variable_of (Flag f) = None
+variable_of (Bag b) = None
 
 abbrev pub outputs_in : List Declaration → List Name
 outputs_in declarations = filter_map output_of declarations
@@ -79,11 +81,12 @@ bound_value b = signed b.minus b.magnitude.value
 abbrev pub range_of : Variable → VariableRange
 range_of v = record { low = bound_value v.low; high = bound_value v.high; start = bound_value v.start }
 
--- the state variable that a declaration declares, a variable or a flag: its name, and what it may hold
+-- the state variable that a declaration declares, a variable, a flag or a bag: its name, and what it may hold
 abbrev pub state_variable_of : Declaration → Option (Name × Domain)
 state_variable_of (Out port) = None
 state_variable_of (Var v) = Some (v.name, domain.Number (range_of v))
 state_variable_of (Flag f) = Some (f.name, domain.Flag f.start)
+state_variable_of (Bag b) = Some (b.name, domain.Bag b.capacity.value)
 
 abbrev pub state_variables_in : List Declaration → List (Name × Domain)
 state_variables_in declarations = filter_map state_variable_of declarations
@@ -111,10 +114,11 @@ same_sort Output Output = true
 same_sort Internal Internal = true
 same_sort a b = false
 
--- what a state variable holds at the start
+-- what a state variable holds at the start; a bag is empty
 abbrev pub start_datum : Domain → Datum
 start_datum (domain.Number range) = datum.Number range.start
 start_datum (domain.Flag start) = datum.Flag start
+start_datum (domain.Bag capacity) = datum.Bag []
 
 abbrev pub start_data : List (ℕ × Domain) → List Datum
 start_data entries = map (λ e. start_datum e.1) entries

@@ -1,57 +1,130 @@
 //! The value of an expression.
 
-ghost use Rattle.std.specs.Prelude.{◌≡◌, ◌+ℤ◌, ◌-ℤ◌, ◌*ℤ◌, neg_ℤ};
+ghost use Rattle.std.specs.Prelude.{◌≡◌, ◌≤◌, ◌+ℤ◌, ◌-ℤ◌, ◌*ℤ◌, neg_ℤ, pos, [], option_map, unwrap_or, IfSome};
+ghost use Rattle.std.specs.Option.{option_copied};
+ghost use Rattle.dv_bag.specs.Bag.{count_of, total};
+ghost use Rattle.dv_bag.specs.Reading.{HoldsFew, datum_of};
 ghost use Rattle.dv_syntax.specs.Trees.{expression_of};
-ghost use Rattle.dv_eval.specs.Meaning.{is_decided, meaning, number_or_overflow, number_of, operator_result, prefix_result, quotient, remainder, same, truth_of, value_of_name};
+ghost use Rattle.dv_eval.specs.Loops.{moment_of};
+ghost use Rattle.dv_eval.specs.Meaning.{bag_of_name, call_result, datum_of_name, is_decided, meaning, number_or_empty, number_or_overflow, number_of, operator_result, prefix_result, quotient, remainder, same, truth_of, value_of_name};
 
+use crate::moment::Moment;
 use crate::scope::Scope;
-use dv_bag::{DatumView, Fault, State, Value};
-use dv_syntax::{Expr, Operator, Prefix};
+use dv_bag::{Bag, DatumView, Fault, GREATEST_COUNT, State, Value};
+use dv_syntax::{BagCall, Expr, Operator, Prefix};
 
-/// The value of an expression in a state.
+/// The value of an expression at a moment.
 ///
 /// # Errors
 ///
-/// The first fault from the left: `Overflow` or `Divide`.
-pub fn eval(expression: &Expr, state: &State, scope: &Scope) -> Result<Value, Fault>
-    ensures { result ≡ meaning scope.now state.now (expression_of expression.now) }
+/// The first fault from the left: `Overflow`, `Divide`, or `Empty` of the least or the greatest value of a bag that has
+/// none.
+pub fn eval(expression: &Expr, moment: &Moment, scope: &Scope) -> Result<Value, Fault>
+    ensures { result ≡ meaning scope.now (moment_of moment.now) (expression_of expression.now) }
 {
     match expression {
         Expr::Literal(number) => Ok(Value::Number(number.value.value())),
         Expr::TruthValue { value, .. } => Ok(Value::Truth(*value)),
-        Expr::Named(name) => Ok(value_of_name(name.number, state, scope)),
-        Expr::Parens { inner, .. } => eval(inner, state, scope),
+        Expr::Named(name) => Ok(value_of_name(name.number, moment, scope)),
+        Expr::Parens { inner, .. } => eval(inner, moment, scope),
         Expr::Prefixed {
             operator,
             operand,
             ..
-        } => prefix_result(*operator, eval(operand, state, scope)?),
+        } => prefix_result(*operator, eval(operand, moment, scope)?),
         Expr::Binary {
             operator,
             left,
             right,
         } => {
-            let left = eval(left, state, scope)?;
+            let left = eval(left, moment, scope)?;
             if is_decided(*operator, left) {
                 return Ok(Value::Truth(truth_of(left)));
             }
-            let right = eval(right, state, scope)?;
+            let right = eval(right, moment, scope)?;
             operator_result(*operator, left, right)
+        }
+        Expr::Call { call, bag, .. } => {
+            call_result(*call, bag_of_name(bag.number, moment, scope))
+        }
+        Expr::Times { value, bag, .. } => {
+            let value = eval(value, moment, scope)?;
+            let copies = copies_of(number_of(value), bag_of_name(bag.number, moment, scope));
+            Ok(Value::Number(copies))
         }
     }
 }
 
 // What a name stands for.
-fn value_of_name(name: u32, state: &State, scope: &Scope) -> Value
-    ensures { result ≡ value_of_name scope.now state.now name }
+fn value_of_name(name: u32, moment: &Moment, scope: &Scope) -> Value
+    ensures { result ≡ value_of_name scope.now (moment_of moment.now) name }
 {
-    let Some(place) = scope.variable(name) else {
-        return Value::Number(0);
-    };
-    match state.variables.get(place) {
+    if let Some(number) = moment.loops.value(name) {
+        return Value::Number(number);
+    }
+    match datum_of_name(name, moment.state, scope) {
         Some(DatumView::Number(number)) => Value::Number(number),
         Some(DatumView::Flag(truth)) => Value::Truth(truth),
         Some(DatumView::Bag(_)) | None => Value::Number(0),
+    }
+}
+
+// What the state variable of a name holds.
+fn datum_of_name<'a>(name: u32, state: &'a State, scope: &Scope) -> Option<DatumView<'a>>
+    ensures datum { option_map datum_of result ≡ datum_of_name scope.now state.now name }
+    ensures few { IfSome result (λ view. HoldsFew view) }
+{
+    let place = scope.variable(name)?;
+    state.variables.get(place)
+}
+
+// The bag that a name stands for, if it stands for one.
+pub(crate) fn bag_of_name<'a>(name: u32, moment: &'a Moment, scope: &Scope) -> Option<&'a Bag>
+    ensures bag { unwrap_or (option_copied result) [] ≡ bag_of_name scope.now (moment_of moment.now) name }
+    ensures few { IfSome result (λ bag. total bag.now ≤ GREATEST_COUNT) }
+{
+    match datum_of_name(name, moment.state, scope) {
+        Some(DatumView::Bag(bag)) => Some(bag),
+        _ => None,
+    }
+}
+
+// What a call gives of a bag, and of none what it gives of an empty one.
+fn call_result(call: BagCall, bag: Option<&Bag>) -> Result<Value, Fault>
+    requires { IfSome bag (λ bag. total bag.now ≤ GREATEST_COUNT) }
+    ensures { result ≡ call_result call (unwrap_or (option_copied bag.entry) []) }
+{
+    let Some(bag) = bag else {
+        return match call {
+            BagCall::Size | BagCall::Sum => Ok(Value::Number(0)),
+            BagCall::Least | BagCall::Most => Err(Fault::Empty),
+        };
+    };
+    match call {
+        BagCall::Size => Ok(Value::Number(bag.size() as i64)),
+        BagCall::Sum => Ok(Value::Number(bag.sum()?)),
+        BagCall::Least => number_or_empty(bag.least()),
+        BagCall::Most => number_or_empty(bag.most()),
+    }
+}
+
+fn number_or_empty(number: Option<i64>) -> Result<Value, Fault>
+    ensures { result ≡ number_or_empty number }
+{
+    match number {
+        Some(number) => Ok(Value::Number(number)),
+        None => Err(Fault::Empty),
+    }
+}
+
+// How often a number is in a bag.
+fn copies_of(number: i64, bag: Option<&Bag>) -> i64
+    requires { IfSome bag (λ bag. total bag.now ≤ GREATEST_COUNT) }
+    ensures { result ≡ pos (count_of number (unwrap_or (option_copied bag.entry) [])) }
+{
+    match bag {
+        Some(bag) => bag.times(number) as i64,
+        None => 0,
     }
 }
 

@@ -1,12 +1,15 @@
 //! Laws of the language. Each function stands for the law in its contract; its body does nothing.
 
-ghost use Rattle.std.specs.Prelude.{◌≡◌, true, false, pos, negsuc, Ok, Err};
-ghost use Rattle.dv_syntax.specs.Trees.{Binary, Prefixed};
+ghost use Rattle.std.specs.Prelude.{◌≡◌, true, false, pos, negsuc, [], ◌∷◌, Ok, Err};
+ghost use Rattle.dv_syntax.specs.Trees.{Assign, Binary, Call, Done, Drop, Prefixed, Times};
+ghost use Rattle.dv_syntax.specs.Trees.{Add as AddTo};
+ghost use Rattle.dv_syntax.specs.declared.tree.BagCall.TheVariants as call;
 ghost use Rattle.dv_syntax.specs.declared.tree.Prefix.TheVariants as prefix;
 ghost use Rattle.dv_syntax.specs.declared.tree.Operator.TheVariants as operator;
 ghost use Rattle.dv_bag.specs.declared.fault.Fault.TheVariants as fault;
 ghost use Rattle.dv_bag.specs.declared.value.Value.TheVariants as outcome;
 ghost use Rattle.dv_eval.specs.Edges.{by_nothing, failing, faulty, greatest, holding, least, minus, number, too_great, value};
+ghost use Rattle.dv_eval.specs.Rows.{add_it, bag, effect_with, for_each, great, least_is_one, left, next_digit, send_it, some_there, twice, two_threes, value_with};
 
 /// Numbers have 64 bits and a sign. A quotient is rounded towards 0, and a remainder is what the exact quotient
 /// leaves. Of two operands with faults the left one's fault is the expression's.
@@ -40,4 +43,54 @@ pub fn decided_operators_stop_early()
     ensures or_left_fault { value (Binary operator.Or faulty holding) ≡ Err fault.Divide }
     ensures not_failing { value (Prefixed prefix.Not 1 failing) ≡ Ok (outcome.Truth true) }
     ensures not_holding { value (Prefixed prefix.Not 1 holding) ≡ Ok (outcome.Truth false) }
+{}
+
+/// A bag's calls count copies. An empty bag has no least value, and asks for none where the left operand decides.
+pub fn bags_in_expressions()
+    ensures size { value_with two_threes (Call call.Size 1 bag) ≡ Ok (outcome.Number (pos 3)) }
+    ensures sum { value_with two_threes (Call call.Sum 1 bag) ≡ Ok (outcome.Number (pos 8)) }
+    ensures least { value_with two_threes (Call call.Least 1 bag) ≡ Ok (outcome.Number (pos 2)) }
+    ensures most { value_with two_threes (Call call.Most 1 bag) ≡ Ok (outcome.Number (pos 3)) }
+    ensures times { value_with two_threes (Times 1 (number 3) bag) ≡ Ok (outcome.Number (pos 2)) }
+    ensures never { value_with two_threes (Times 1 (number 4) bag) ≡ Ok (outcome.Number (pos 0)) }
+    ensures times_fault { value_with two_threes (Times 1 by_nothing bag) ≡ Err fault.Divide }
+    ensures none { value_with [] (Call call.Size 1 bag) ≡ Ok (outcome.Number (pos 0)) }
+    ensures nothing { value_with [] (Call call.Sum 1 bag) ≡ Ok (outcome.Number (pos 0)) }
+    ensures no_least { value_with [] (Call call.Least 1 bag) ≡ Err fault.Empty }
+    ensures no_most { value_with [] (Call call.Most 1 bag) ≡ Err fault.Empty }
+    ensures asked_first { value_with [] (Binary operator.And some_there least_is_one)
+        ≡ Ok (outcome.Truth false) }
+    ensures asked_last { value_with [] (Binary operator.And least_is_one some_there)
+        ≡ Err fault.Empty }
+    ensures past_the_greatest { value_with great (Call call.Sum 1 bag) ≡ Err fault.Overflow }
+{}
+
+/// A bag takes values until it is full, and gives back what it has.
+pub fn bags_in_statements()
+    ensures one_more { effect_with two_threes (AddTo 1 (number 2) bag Done)
+        ≡ Ok (left (pos 0) ((pos 2, 2) ∷ (pos 3, 2) ∷ []) []) }
+    ensures last { effect_with ((pos 1, 5) ∷ []) (AddTo 1 (number 1) bag Done)
+        ≡ Ok (left (pos 0) ((pos 1, 6) ∷ []) []) }
+    ensures full { effect_with ((pos 1, 6) ∷ []) (AddTo 1 (number 1) bag Done) ≡ Err fault.Full }
+    ensures value_first { effect_with ((pos 1, 6) ∷ []) (AddTo 1 by_nothing bag Done)
+        ≡ Err fault.Divide }
+    ensures one_less { effect_with two_threes (Drop 1 (number 3) bag Done)
+        ≡ Ok (left (pos 0) ((pos 2, 1) ∷ (pos 3, 1) ∷ []) []) }
+    ensures none_less { effect_with two_threes (Drop 1 (number 4) bag Done)
+        ≡ Ok (left (pos 0) two_threes []) }
+{}
+
+/// A loop takes the values in ascending order, each copy once, of its bag as it stood at the loop's entry. The first
+/// fault ends it. Of two loop variables of one name the inner one counts.
+pub fn loops_walk_bags()
+    ensures sends { effect_with two_threes (for_each send_it)
+        ≡ Ok (left (pos 0) two_threes two_threes) }
+    ensures in_order { effect_with two_threes (for_each next_digit)
+        ≡ Ok (left (pos 233) two_threes []) }
+    ensures as_it_stood { effect_with two_threes (for_each add_it)
+        ≡ Ok (left (pos 0) ((pos 2, 2) ∷ (pos 3, 4) ∷ []) []) }
+    ensures fault_ends { effect_with ((pos 9, 4) ∷ []) (for_each next_digit) ≡ Err fault.Range }
+    ensures nothing { effect_with [] (for_each next_digit) ≡ Ok (left (pos 0) [] []) }
+    ensures inner { effect_with two_threes twice
+        ≡ Ok (left (pos 0) two_threes ((pos 2, 3) ∷ (pos 3, 6) ∷ [])) }
 {}

@@ -7,6 +7,8 @@ pub mod expression;
 pub mod laws;
 /// The start, the rules and the holds of an atomic model.
 pub mod model;
+/// What is known where an expression stands.
+pub mod moment;
 /// What a rule does.
 pub mod rule;
 /// What the names of an atomic model stand for.
@@ -14,5 +16,6 @@ pub mod scope;
 
 pub use expression::eval;
 pub use model::{hold, phase_hold, phase_ticks, rule_body, start_state};
+pub use moment::{Loops, Moment};
 pub use rule::run_rule;
 pub use scope::{Domain, Scope, VariableRange, state_variable_of};

@@ -7,8 +7,9 @@ ghost use Rattle.dv_eval.specs.Scope.{hold_ticks, rule_body, same_sort, scope_of
 ghost use Rattle.dv_eval.specs.Meaning.{hold_of};
 
 use crate::expression::{eval, number_of};
+use crate::moment::{Loops, Moment};
 use crate::scope::{Domain, Scope};
-use dv_bag::{Datum, Fault, State, Variables};
+use dv_bag::{Bag, Datum, Fault, HeldBag, State, Variables};
 use dv_syntax::{Atomic, RuleSort, Stmt, Ticks};
 use std::alloc::{AllocError, Global};
 
@@ -41,17 +42,18 @@ fn start_data(alloc: Global, scope: &Scope) -> Result<Variables, AllocError>
 {
     let mut variables = Variables::new(alloc);
     for domain in scope.domains() {
-        variables.push(start_datum(*domain))?;
+        variables.push(start_datum(alloc, *domain)?)?;
     }
     Ok(variables)
 }
 
-fn start_datum(domain: Domain) -> Datum
-    ensures { result ≡ start_datum domain }
+fn start_datum(alloc: Global, domain: Domain) -> Result<Datum, AllocError>
+    ensures { IfOk result (λ datum. datum ≡ start_datum domain) }
 {
     match domain {
-        Domain::Number(range) => Datum::Number(range.start),
-        Domain::Flag { start } => Datum::Flag(start),
+        Domain::Number(range) => Ok(Datum::Number(range.start)),
+        Domain::Flag { start } => Ok(Datum::Flag(start)),
+        Domain::Bag { .. } => Ok(Datum::Bag(HeldBag::new(alloc, Bag::new(alloc))?)),
     }
 }
 
@@ -79,7 +81,11 @@ pub fn hold(ticks: &Ticks, state: &State, scope: &Scope) -> Result<Option<u64>, 
     match ticks {
         Ticks::Forever => Ok(None),
         Ticks::After(expression) => {
-            let ticks = number_of(eval(expression, state, scope)?);
+            let moment = Moment {
+                state,
+                loops: &Loops::Outermost,
+            };
+            let ticks = number_of(eval(expression, &moment, scope)?);
             if ticks < 0 {
                 return Err(Fault::Negative);
             }

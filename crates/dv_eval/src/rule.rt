@@ -1,24 +1,28 @@
 //! What the rules of a phase do.
 
-ghost use Rattle.std.specs.Prelude.{◌≡◌};
+ghost use Rattle.std.specs.Prelude.{◌≡◌, ◌∷◌, [], option_map, slice_get, unwrap_or, IfOk};
 ghost use Rattle.dv_syntax.specs.Trees.{Done, expression_of, statement_before, statements_of};
+ghost use Rattle.dv_bag.specs.Bag.{values_of};
 ghost use Rattle.dv_bag.specs.Outcome.{Gives};
 ghost use Rattle.dv_bag.specs.declared.state.Datum.TheVariants as datum;
-ghost use Rattle.dv_eval.specs.Meaning.{assignment, assignment_in_range, effect_of, meaning, run, sending, with_datum, with_goto, with_state};
+ghost use Rattle.dv_eval.specs.Copies.{repeated};
+ghost use Rattle.dv_eval.specs.Loops.{loops_of};
+ghost use Rattle.dv_eval.specs.Meaning.{addition, addition_to, assignment, assignment_in_range, bag_of_name, capacity_of, effect_of, meaning, moment_in, removal, repetition, run, sending, with_datum, with_goto, with_state};
 
-use crate::expression::{eval, number_of, truth_of};
+use crate::expression::{bag_of_name, eval, number_of, truth_of};
+use crate::moment::{Loops, Moment};
 use crate::scope::{Domain, Scope, VariableRange};
-use dv_bag::{Effect, Fault, GREATEST_COUNT, RuleError, Sent, State, Value};
+use dv_bag::{Bag, DatumView, Effect, Fault, GREATEST_COUNT, RuleError, Sent, State, Value};
 use dv_syntax::laws::trees_keep_blocks;
 use dv_syntax::{Expr, Stmt};
-use std::alloc::Global;
+use std::alloc::{AllocError, Global};
 
 /// The effect of a rule's statements on a state.
 ///
 /// # Errors
 ///
-/// The first fault: `Overflow` or `Divide` of an expression, `Range` of an assignment, `Flood` of the 4,097th
-/// value that is sent. Or no memory.
+/// The first fault: one of an expression, `Range` of an assignment, `Full` of a bag that takes one more value than it
+/// may hold, `Flood` of the 4,097th value that is sent. Or no memory.
 pub fn run_rule(
     alloc: Global,
     statements: &[Stmt],
@@ -32,33 +36,45 @@ pub fn run_rule(
         sent: Sent::empty(alloc, scope.output_count()),
         goto: None,
     };
-    run(statements, scope, effect)
+    run(statements, &Loops::Outermost, scope, effect)
 }
 
 // What statements do, one after the other.
 #[cycle(run)]
-fn run(statements: &[Stmt], scope: &Scope, mut effect: Effect) -> Result<Effect, RuleError>
-    ensures { Gives result (run scope.now (statements_of statements.now) effect) }
+fn run(
+    statements: &[Stmt],
+    loops: &Loops,
+    scope: &Scope,
+    mut effect: Effect,
+) -> Result<Effect, RuleError>
+    ensures { Gives result
+        (run scope.now (loops_of loops.now) (statements_of statements.now) effect) }
 {
     for statement in statements {
-        effect = run_statement(statement, scope, effect)?;
+        effect = run_statement(statement, loops, scope, effect)?;
     }
     Ok(effect)
 }
 
 #[cycle(run)]
-fn run_statement(statement: &Stmt, scope: &Scope, effect: Effect) -> Result<Effect, RuleError>
-    ensures { Gives result (run scope.now (statement_before statement.now Done) effect) }
+fn run_statement(
+    statement: &Stmt,
+    loops: &Loops,
+    scope: &Scope,
+    effect: Effect,
+) -> Result<Effect, RuleError>
+    ensures { Gives result
+        (run scope.now (loops_of loops.now) (statement_before statement.now Done) effect) }
 {
     trees_keep_blocks();
     match statement {
         Stmt::Assign { variable, value } => {
-            let value = value_of(value, &effect.state, scope)?;
+            let value = value_of(value, &effect.state, loops, scope)?;
             assign(variable.number, value, scope, effect).map_err(RuleError::Fault)
         }
         Stmt::Goto { phase, .. } => Ok(with_goto(scope.phase(phase.number), effect)),
         Stmt::Send { port, value, .. } => {
-            let value = value_of(value, &effect.state, scope)?;
+            let value = value_of(value, &effect.state, loops, scope)?;
             send(port.number, value, scope, effect)
         }
         Stmt::If {
@@ -66,9 +82,9 @@ fn run_statement(statement: &Stmt, scope: &Scope, effect: Effect) -> Result<Effe
             then_block,
             ..
         } => {
-            let condition = value_of(condition, &effect.state, scope)?;
+            let condition = value_of(condition, &effect.state, loops, scope)?;
             if truth_of(condition) {
-                run(&then_block.statements, scope, effect)
+                run(&then_block.statements, loops, scope, effect)
             } else {
                 Ok(effect)
             }
@@ -79,20 +95,109 @@ fn run_statement(statement: &Stmt, scope: &Scope, effect: Effect) -> Result<Effe
             else_block,
             ..
         } => {
-            let condition = value_of(condition, &effect.state, scope)?;
+            let condition = value_of(condition, &effect.state, loops, scope)?;
             if truth_of(condition) {
-                run(&then_block.statements, scope, effect)
+                run(&then_block.statements, loops, scope, effect)
             } else {
-                run(&else_block.statements, scope, effect)
+                run(&else_block.statements, loops, scope, effect)
             }
+        }
+        Stmt::For {
+            variable,
+            bag,
+            block,
+            ..
+        } => match bag_at_entry(bag.number, &effect.state, loops, scope)? {
+            Some(values) => run_loop(
+                values.pairs(),
+                variable.number,
+                &block.statements,
+                loops,
+                scope,
+                effect,
+            ),
+            None => Ok(effect),
+        },
+        Stmt::Add { value, bag, .. } => {
+            let value = value_of(value, &effect.state, loops, scope)?;
+            add(bag.number, number_of(value), scope, effect)
+        }
+        Stmt::Drop { value, bag, .. } => {
+            let value = value_of(value, &effect.state, loops, scope)?;
+            Ok(drop_one(bag.number, number_of(value), scope, effect))
         }
     }
 }
 
-fn value_of(expression: &Expr, state: &State, scope: &Scope) -> Result<Value, RuleError>
-    ensures { Gives result (meaning scope.now state.now (expression_of expression.now)) }
+// What a block does for each of the values in their order, each copy once.
+#[cycle(run)]
+fn run_loop(
+    pairs: &[(i64, u64)],
+    variable: u32,
+    block: &[Stmt],
+    loops: &Loops,
+    scope: &Scope,
+    mut effect: Effect,
+) -> Result<Effect, RuleError>
+    ensures { Gives result (repetition
+        (λ n. run scope.now ((variable, n) ∷ loops_of loops.now) (statements_of block.now))
+        (values_of pairs.now) effect) }
 {
-    eval(expression, state, scope).map_err(RuleError::Fault)
+    for pair in pairs {
+        let within = Loops::Within {
+            variable,
+            value: pair.0,
+            outer: &*loops,
+        };
+        effect = run_copies(pair.1, block, &within, scope, effect)?;
+    }
+    Ok(effect)
+}
+
+// What a block does for so many copies of one value.
+#[cycle(run)]
+fn run_copies(
+    copies: u64,
+    block: &[Stmt],
+    loops: &Loops,
+    scope: &Scope,
+    mut effect: Effect,
+) -> Result<Effect, RuleError>
+    ensures { Gives result
+        (repeated (run scope.now (loops_of loops.now) (statements_of block.now)) copies effect) }
+{
+    for _ in 0..copies {
+        effect = run(block, loops, scope, effect)?;
+    }
+    Ok(effect)
+}
+
+// The bag that a name stands for, to be walked while the state changes.
+fn bag_at_entry(
+    name: u32,
+    state: &State,
+    loops: &Loops,
+    scope: &Scope,
+) -> Result<Option<Bag>, AllocError>
+    ensures { IfOk result (λ bag. unwrap_or bag []
+        ≡ bag_of_name scope.now (moment_in (loops_of loops.now) state.now) name) }
+{
+    match bag_of_name(name, &Moment { state, loops }, scope) {
+        Some(bag) => Ok(Some(bag.clone()?)),
+        None => Ok(None),
+    }
+}
+
+fn value_of(
+    expression: &Expr,
+    state: &State,
+    loops: &Loops,
+    scope: &Scope,
+) -> Result<Value, RuleError>
+    ensures { Gives result (meaning scope.now (moment_in (loops_of loops.now) state.now)
+        (expression_of expression.now)) }
+{
+    eval(expression, &Moment { state, loops }, scope).map_err(RuleError::Fault)
 }
 
 // A value assigned to a variable or a flag.
@@ -106,6 +211,7 @@ fn assign(name: u32, value: Value, scope: &Scope, effect: Effect) -> Result<Effe
         None => Ok(effect),
         Some(Domain::Number(range)) => assign_number(range, place, number_of(value), effect),
         Some(Domain::Flag { .. }) => Ok(assign_flag(place, truth_of(value), effect)),
+        Some(Domain::Bag { .. }) => Ok(effect),
     }
 }
 
@@ -159,4 +265,50 @@ fn send(name: u32, value: Value, scope: &Scope, mut effect: Effect) -> Result<Ef
         effect.sent.insert(port, number_of(value))?;
     }
     Ok(effect)
+}
+
+// A number added to a state bag.
+fn add(name: u32, number: i64, scope: &Scope, effect: Effect) -> Result<Effect, RuleError>
+    ensures { Gives result (addition scope.now name number effect) }
+{
+    let Some(place) = scope.variable(name) else {
+        return Ok(effect);
+    };
+    match scope.domain(place) {
+        Some(Domain::Bag { capacity }) => add_within(capacity, place, number, effect),
+        _ => Ok(effect),
+    }
+}
+
+// A number added to the bag at a place, if there is one.
+fn add_within(
+    capacity: u64,
+    place: usize,
+    number: i64,
+    mut effect: Effect,
+) -> Result<Effect, RuleError>
+    ensures { Gives result
+        (addition_to (Some capacity) (slice_get effect.state.variables place) place number effect) }
+{
+    let Some(DatumView::Bag(bag)) = effect.state.variables.get(place) else {
+        return Ok(effect);
+    };
+    if capacity <= bag.size() || GREATEST_COUNT <= bag.size() {
+        return Err(RuleError::Fault(Fault::Full));
+    }
+    effect.state.variables.insert(place, number)?;
+    Ok(effect)
+}
+
+// One copy of a number less in a state bag, where there is one.
+fn drop_one(name: u32, number: i64, scope: &Scope, mut effect: Effect) -> Effect
+    ensures { result ≡ removal scope.now name number effect }
+{
+    let Some(place) = scope.variable(name) else {
+        return effect;
+    };
+    if let Some(DatumView::Bag(_)) = effect.state.variables.get(place) {
+        effect.state.variables.drop_one(place, number);
+    }
+    effect
 }

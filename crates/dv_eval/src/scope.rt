@@ -48,6 +48,8 @@ pub enum Domain {
     Number(VariableRange),
     /// A truth value.
     Flag { start: bool },
+    /// A bag of at most so many values, each copy counted. It is empty at the start.
+    Bag { capacity: u64 },
 }
 
 /// The name of the state variable that a declaration declares, and what it may hold.
@@ -60,6 +62,10 @@ pub fn state_variable_of(declaration: &Declaration) -> Option<(Name, Domain)>
             Some((variable.name, Domain::Number(VariableRange::of(variable))))
         }
         Declaration::Flag(flag) => Some((flag.name, Domain::Flag { start: flag.start })),
+        Declaration::Bag(bag) => {
+            let capacity = bag.capacity.value.value() as u64;
+            Some((bag.name, Domain::Bag { capacity }))
+        }
     }
 }
 
@@ -107,7 +113,7 @@ impl Scope {
         })
     }
 
-    /// The place of a variable or a flag.
+    /// The place of a variable, a flag or a bag.
     pub fn variable(&self, name: u32) -> Option<usize>
         ensures { result ≡ place_of name (names_of self.now.variables) }
     {
@@ -129,7 +135,7 @@ impl Scope {
         self.outputs.get_index_of(&name)
     }
 
-    /// What the variable or flag at a place may hold.
+    /// What the variable, flag or bag at a place may hold.
     pub fn domain(&self, place: usize) -> Option<Domain>
         ensures { result ≡ option_map (λ v. v.1) (slice_get self.now.variables place) }
     {
@@ -144,14 +150,14 @@ impl Scope {
         self.phases.get_index(place as usize).copied()
     }
 
-    /// The names of the variables and flags by place.
+    /// The names of the variables, flags and bags by place.
     pub fn variables(&self) -> &[u32]
         ensures { result.now ≡ names_of self.now.variables }
     {
         self.variables.keys().as_slice()
     }
 
-    /// What the variables and flags may hold, by place.
+    /// What the variables, flags and bags may hold, by place.
     pub fn domains(&self) -> &[Domain]
         ensures { result.now ≡ map (λ v. v.1) self.now.variables }
     {

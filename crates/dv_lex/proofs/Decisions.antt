@@ -21,7 +21,7 @@ found_text : {X : Type 0} (text_of : X → List ℕ) (text : List ℕ) (all : Li
 found_text text_of text [] = tt
 found_text {X = X} text_of text (x ∷ xs) =
     cond_both (bytes_eq (text_of x) text) (Some x) (find (λ y. bytes_eq (text_of y) text) xs)
-        (λ (o : Option X). IfSome o (λ y. text_of y ≡ text))
+    (λ (o : Option X). IfSome o (λ y. text_of y ≡ text))
     (λ h. (bytes_eq-Decides (text_of x) text).0 h)
     (λ _. found_text text_of text xs)
 
@@ -31,7 +31,7 @@ by_found : {X : Type 0} (text_of : X → List ℕ) (all : List X) (text : List �
 by_found text_of all text each (Some x) e is = inl (x, sym is)
 by_found {X = X} text_of all text each None e is =
     inr (λ x same. let t : ◌≡◌ {A = Option X} None (Some x) = sym e ∙
-        (ap (λ (bytes : List ℕ). find (λ y. bytes_eq (text_of y) bytes) all) same ∙ each x) in cc)
+    (ap (λ (bytes : List ℕ). find (λ y. bytes_eq (text_of y) bytes) all) same ∙ each x) in cc)
 
 text_of_one : {X : Type 0} (text_of : X → List ℕ) (all : List X) (text : List ℕ) →
     ((x : X) → find (λ y. bytes_eq (text_of y) (text_of x)) all ≡ Some x) → IsTextOfOne text_of text

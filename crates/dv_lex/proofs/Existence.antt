@@ -87,7 +87,7 @@ token_front c text u b blank comment =
     elim (cases_Bool (starts_name c)) [
       | inl name ↦
           word_front c text _ _ b name
-              (SplitsCharacters-encoded continues_name u.0 _ _ text (SplitsRun-cut continues_name u.0 _ refl) u.1.1)
+          (SplitsCharacters-encoded continues_name u.0 _ _ text (SplitsRun-cut continues_name u.0 _ refl) u.1.1)
       | inr no_name ↦ elim (cases_Bool (is_ascii_digit c)) [
         | inl digit ↦ digits_front c text _ _ b digit (SplitsRun-cut is_ascii_digit text _ refl)
         | inr no_digit ↦ symbol_front c text b blank comment no_name no_digit

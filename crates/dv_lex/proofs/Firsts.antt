@@ -48,7 +48,7 @@ IsFirst-comment bytes run rest s =
       spelled = (refl, s.each);
       longest = λ other longer more e t.
           comment_longest run rest s.ends other longer more
-              (sym (same_class (35 ∷ bytes) Comment other (35 ∷ run) rest longer more whole e (refl, s.each) t)) (sym whole ∙ e) t;
+          (sym (same_class (35 ∷ bytes) Comment other (35 ∷ run) rest longer more whole e (refl, s.each) t)) (sym whole ∙ e) t;
     }
 
 -- a word
@@ -70,7 +70,7 @@ IsFirst-word text run rest x s k h = record {
   spelled = h;
   longest = λ other longer more e t.
       word_longest run rest text s longer more e
-          (IsWord-spelled other longer (sym (same_class text x other run rest longer more s.whole e h t) ∙ k) t);
+      (IsWord-spelled other longer (sym (same_class text x other run rest longer more s.whole e h t) ∙ k) t);
 }
 
 -- a number
@@ -88,7 +88,7 @@ IsFirst-numeral bytes run rest s h =
       spelled = spelled;
       longest = λ other longer more e t.
           numeral_longest run rest s.ends other longer more
-              (sym (same_class bytes (Numeral (digits_value 10 run)) other run rest longer more s.whole e spelled t)) (sym s.whole ∙ e) t;
+          (sym (same_class bytes (Numeral (digits_value 10 run)) other run rest longer more s.whole e spelled t)) (sym s.whole ∙ e) t;
     }
 
 -- a symbol
@@ -105,7 +105,7 @@ IsFirst-sign bytes s rest l = record {
   spelled = refl;
   longest = λ other longer more e t.
       sign_longest bytes s rest l other longer more
-          (sym (same_class bytes (Sign s) other (symbol_text s) rest longer more l.whole e refl t)) e t;
+      (sym (same_class bytes (Sign s) other (symbol_text s) rest longer more l.whole e refl t)) e t;
 }
 
 -- none
@@ -127,9 +127,11 @@ NoneBegins-first c bytes begins blank comment name digit none x front rest e t =
 longer_comment : (front : List ℕ) (b : ℕ) → Spells Comment front → not (b == 10) ≡ true → Spells Comment (front ++ b ∷ [])
 longer_comment [] b h e = absurd h
 longer_comment (a ∷ front) b h e =
-    let last : list_all (λ c. not (c == 10)) (b ∷ []) ≡ true = and_from (not (b == 10)) true e refl in
-    (h.0, list_all-append (λ c. not (c == 10)) front (b ∷ []) ∙ and_from (list_all (λ c. not (c == 10)) front)
-        (list_all (λ c. not (c == 10)) (b ∷ [])) h.1 last)
+    let last : list_all (λ c. not (c == 10)) (b ∷ []) ≡ true = and_from (not (b == 10)) true e refl in (
+      h.0,
+      list_all-append (λ c. not (c == 10)) front (b ∷ []) ∙ and_from (list_all (λ c. not (c == 10)) front)
+          (list_all (λ c. not (c == 10)) (b ∷ [])) h.1 last,
+    )
 
 comment_ends : (bytes front rest : List ℕ) → IsFirst bytes Comment front rest → Ends (λ b. not (b == 10)) rest
 comment_ends bytes front [] f = tt
@@ -167,12 +169,12 @@ pub IsFirst-same : (bytes : List ℕ) (x y : Lexeme) (front rest other more : Li
     IsFirst bytes y other more → (x ≡ y) × (front ≡ other) × (rest ≡ more)
 IsFirst-same bytes x y front rest other more f g =
     let n : length front ≡ length other =
-        omega (arith, f.longest y other more g.whole g.spelled, g.longest x front rest f.whole f.spelled) in
+    omega (arith, f.longest y other more g.whole g.spelled, g.longest x front rest f.whole f.spelled) in
     let joined : front ++ rest ≡ other ++ more = sym f.whole ∙ g.whole in
     let fronts : front ≡ other =
-        sym (take_at front rest (length front) refl) ∙ (ap (take (length front)) joined ∙ take_at other more (length front) (sym n)) in
+    sym (take_at front rest (length front) refl) ∙ (ap (take (length front)) joined ∙ take_at other more (length front) (sym n)) in
     let rests : rest ≡ more =
-        sym (drop_at front rest (length front) refl) ∙ (ap (drop (length front)) joined ∙ drop_at other more (length front) (sym n)) in
+    sym (drop_at front rest (length front) refl) ∙ (ap (drop (length front)) joined ∙ drop_at other more (length front) (sym n)) in
     (same_spelling x y front f.spelled (subst (Spells y) (sym fronts) g.spelled), fronts, rests)
 
 -- nothing is first in no bytes

@@ -47,18 +47,18 @@ first_appearances-push (u ∷ ts) t =
       | inl e ↦
           let back : bytes_eq u t ≡ true = (bytes_eq-Decides u t).1 (sym ((bytes_eq-Decides t u).0 e)) in
           rw e (cond_both (has_name (first_appearances ts) t) (first_appearances ts) (first_appearances ts ++ t ∷ [])
-              (λ names. u ∷ without names ≡ u ∷ without (first_appearances ts)) (λ _. refl)
-              (λ _. ap (λ (names : List (List ℕ)). u ∷ names)
-              (filter-append (λ other. not (bytes_eq u other)) (first_appearances ts) (t ∷ []) ∙ rw back
-              (append-nil (without (first_appearances ts))))))
+          (λ names. u ∷ without names ≡ u ∷ without (first_appearances ts)) (λ _. refl)
+          (λ _. ap (λ (names : List (List ℕ)). u ∷ names)
+          (filter-append (λ other. not (bytes_eq u other)) (first_appearances ts) (t ∷ []) ∙ rw back
+          (append-nil (without (first_appearances ts))))))
       | inr e ↦
           let back : bytes_eq u t ≡ false = bytes_eq-other t u e in
           cond_both (has_name (first_appearances ts) t) (first_appearances ts) (first_appearances ts ++ t ∷ [])
-              (λ names. u ∷ without names ≡ with_name (u ∷ without (first_appearances ts)) t)
-              (λ h. sym (cond-true (has_name (u ∷ without (first_appearances ts)) t) _ _ (has_more ts t u e ∙ h)))
-              (λ h. ap (λ (names : List (List ℕ)). u ∷ names)
-              (filter-append (λ other. not (bytes_eq u other)) (first_appearances ts) (t ∷ []) ∙ rw back refl) ∙ sym
-              (cond-false (has_name (u ∷ without (first_appearances ts)) t) _ _ (has_more ts t u e ∙ h)))
+          (λ names. u ∷ without names ≡ with_name (u ∷ without (first_appearances ts)) t)
+          (λ h. sym (cond-true (has_name (u ∷ without (first_appearances ts)) t) _ _ (has_more ts t u e ∙ h)))
+          (λ h. ap (λ (names : List (List ℕ)). u ∷ names)
+          (filter-append (λ other. not (bytes_eq u other)) (first_appearances ts) (t ∷ []) ∙ rw back refl) ∙ sym
+          (cond-false (has_name (u ∷ without (first_appearances ts)) t) _ _ (has_more ts t u e ∙ h)))
     ])
 
 name_more : (ts : List (List ℕ)) (x : Lexeme) → first_appearances (ts ++ cons_option (name_in x) []) ≡ with_lexeme (first_appearances ts) x
@@ -69,7 +69,7 @@ name_more ts _ = ap first_appearances (append-nil ts)
 pub names_of-push : (xs : List Placed) (x : Placed) → names_of (xs ++ x ∷ []) ≡ with_lexeme (names_of xs) x.lexeme
 names_of-push xs x =
     ap first_appearances (filter_map-append (λ (p : Placed). name_in p.lexeme) xs (x ∷ [])) ∙ name_more
-        (filter_map (λ (p : Placed). name_in p.lexeme) xs) x.lexeme
+    (filter_map (λ (p : Placed). name_in p.lexeme) xs) x.lexeme
 
 -- a name that is there keeps its number as the table grows
 number_of-grown : (names more : List (List ℕ)) (t : List ℕ) → has_name names t ≡ true → number_of (names ++ more) t ≡ number_of names t
@@ -83,17 +83,17 @@ number_of-grown (n ∷ names) more t h =
 number_of-with : (names : List (List ℕ)) (u t : List ℕ) → has_name names t ≡ true → number_of (with_name names u) t ≡ number_of names t
 number_of-with names u t h =
     cond_both (has_name names u) names (names ++ u ∷ []) (λ ns. number_of ns t ≡ number_of names t) (λ _. refl)
-        (λ _. number_of-grown names (u ∷ []) t h)
+    (λ _. number_of-grown names (u ∷ []) t h)
 
 has_name-with : (names : List (List ℕ)) (u t : List ℕ) → has_name names t ≡ true → has_name (with_name names u) t ≡ true
 has_name-with names u t h =
     cond_both (has_name names u) names (names ++ u ∷ []) (λ ns. has_name ns t ≡ true) (λ _. h)
-        (λ _. list_any-append (bytes_eq t) names (u ∷ []) ∙ or_left (has_name names t) _ h)
+    (λ _. list_any-append (bytes_eq t) names (u ∷ []) ∙ or_left (has_name names t) _ h)
 
 has_name-new : (names : List (List ℕ)) (t : List ℕ) → has_name (with_name names t) t ≡ true
 has_name-new names t =
     cond_both (has_name names t) names (names ++ t ∷ []) (λ ns. has_name ns t ≡ true) (λ h. h)
-        (λ _. list_any-append (bytes_eq t) names (t ∷ []) ∙ or_right (has_name names t) _ (or_left (bytes_eq t t) false (bytes_eq-same t)))
+    (λ _. list_any-append (bytes_eq t) names (t ∷ []) ∙ or_right (has_name names t) _ (or_left (bytes_eq t t) false (bytes_eq-same t)))
 
 -- the names among the lexemes are in the table
 abbrev pub IsNamed : List (List ℕ) → Lexeme → Type 0
@@ -128,14 +128,14 @@ tokens_of-with : (names : List (List ℕ)) (y : Lexeme) (xs : List Placed) → A
 tokens_of-with names y [] h = refl
 tokens_of-with names y (x ∷ xs) h =
     ap (λ (k : Option TokenKind). cons_option (option_map (λ e. record { kind = e; place = x.place }) k)
-        (tokens_of (with_lexeme names y) xs)) (kind_of-with names y x.lexeme h.0) ∙ ap (cons_option (token_of names x))
-        (tokens_of-with names y xs h.1)
+    (tokens_of (with_lexeme names y) xs)) (kind_of-with names y x.lexeme h.0) ∙ ap (cons_option (token_of names x))
+    (tokens_of-with names y xs h.1)
 
 pub tokens_of-push : (names : List (List ℕ)) (xs : List Placed) (x : Placed) → AreNamed names xs →
     tokens_of (with_lexeme names x.lexeme) (xs ++ x ∷ []) ≡ tokens_of names xs ++ cons_option (token_of (with_lexeme names x.lexeme) x) []
 tokens_of-push names xs x h =
     filter_map-append (token_of (with_lexeme names x.lexeme)) xs (x ∷ []) ∙ ap
-        (λ (ts : List Token). ts ++ cons_option (token_of (with_lexeme names x.lexeme) x) []) (tokens_of-with names x.lexeme xs h)
+    (λ (ts : List Token). ts ++ cons_option (token_of (with_lexeme names x.lexeme) x) []) (tokens_of-with names x.lexeme xs h)
 
 -- the table has all names
 first_appearances-has : (ts : List (List ℕ)) (t : List ℕ) → list_any (bytes_eq t) ts ≡ true → has_name (first_appearances ts) t ≡ true
@@ -151,9 +151,11 @@ AreNamed-all : (names : List (List ℕ)) (xs : List Placed) →
     ((t : List ℕ) → list_any (bytes_eq t) (filter_map (λ (x : Placed). name_in x.lexeme) xs) ≡ true → has_name names t ≡ true) →
     AreNamed names xs
 AreNamed-all names [] h = tt
-AreNamed-all names (x ∷ xs) h =
-    (head_named x.lexeme (filter_map (λ (y : Placed). name_in y.lexeme) xs) h, AreNamed-all names xs
-        (λ t e. h t (tail_named x.lexeme (filter_map (λ (y : Placed). name_in y.lexeme) xs) t e)))
+AreNamed-all names (x ∷ xs) h = (
+  head_named x.lexeme (filter_map (λ (y : Placed). name_in y.lexeme) xs) h,
+  AreNamed-all names xs
+      (λ t e. h t (tail_named x.lexeme (filter_map (λ (y : Placed). name_in y.lexeme) xs) t e)),
+)
   where
     head_named : (x : Lexeme) (ts : List (List ℕ)) →
         ((t : List ℕ) → list_any (bytes_eq t) (cons_option (name_in x) ts) ≡ true → has_name names t ≡ true) → IsNamed names x
@@ -223,7 +225,7 @@ pub IsNumbered-tokens_of : (xs : List Placed) → All (λ (token : Token). IsNum
 IsNumbered-tokens_of xs =
     All-from_recursion (λ (token : Token). IsNumbered (names_of xs) token.kind) (tokens_of (names_of xs) xs)
     (tokens_of-each (λ (x : Placed). IsNamed (names_of xs) x.lexeme) (λ (token : Token). IsNumbered (names_of xs) token.kind) (names_of xs)
-        (λ x kind h e. numbered_kind (names_of xs) x.lexeme kind h e) xs (AreNamed-names_of xs))
+    (λ x kind h e. numbered_kind (names_of xs) x.lexeme kind h e) xs (AreNamed-names_of xs))
 
 pub all_tokens_of : (P : ℕ → Type 0) (names : List (List ℕ)) (xs : List Placed) → AllByRecursion (λ (x : Placed). P x.place) xs →
     AllByRecursion (λ (token : Token). P token.place) (tokens_of names xs)

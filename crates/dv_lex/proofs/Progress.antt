@@ -37,13 +37,13 @@ pub record HasRead (text : List ℕ) (names : List (List ℕ)) (tokens : List To
 length-with_lexeme : (names : List (List ℕ)) (x : Lexeme) → length (with_lexeme names x) ≤ length names + 1
 length-with_lexeme names (Identifier text) =
     cond_both (has_name names text) names (names ++ text ∷ []) (λ ns. length ns ≤ length names + 1) (λ _. omega arith)
-        (λ _. omega (arith, length_push names text))
+    (λ _. omega (arith, length_push names text))
 length-with_lexeme names _ = omega arith
 
 HasRead-more : (text : List ℕ) (names : List (List ℕ)) (tokens : List Token) (rest : List ℕ) → HasRead text names tokens rest →
     (x : Lexeme) (front after : List ℕ) → IsInRange x → IsFirst rest x front after →
     HasRead text (with_lexeme names x)
-        (tokens ++ cons_option (token_of (with_lexeme names x) (record { lexeme = x; place = place_of text rest })) []) after
+    (tokens ++ cons_option (token_of (with_lexeme names x) (record { lexeme = x; place = place_of text rest })) []) after
 HasRead-more text names tokens rest h x front after range f =
     let place : ℕ = place_of text rest in
     let placed : Placed = record { lexeme = x; place = place } in
@@ -54,7 +54,7 @@ HasRead-more text names tokens rest h x front after range f =
       lexemes = h.lexemes ++ placed ∷ [];
       reads =
           subst (λ n. Reads 0 text (h.lexemes ++ placed ∷ []) n after) next
-              (Reads-push 0 text h.lexemes place rest h.reads placed front after refl range f);
+          (Reads-push 0 text h.lexemes place rest h.reads placed front after refl range f);
       table = ap (λ (ns : List (List ℕ)). with_lexeme ns x) h.table ∙ sym (names_of-push h.lexemes placed);
       named = AreNamed-push names h.lexemes placed h.named;
       numbered =
@@ -69,13 +69,13 @@ pub HasRead-blank : (text : List ℕ) (names : List (List ℕ)) (tokens : List T
     (front after : List ℕ) → IsFirst rest Blank front after → HasRead text names tokens after
 HasRead-blank text names tokens rest h front after f =
     subst (λ (ts : List Token). HasRead text names ts after) (append-nil tokens)
-        (HasRead-more text names tokens rest h Blank front after tt f)
+    (HasRead-more text names tokens rest h Blank front after tt f)
 
 pub HasRead-comment : (text : List ℕ) (names : List (List ℕ)) (tokens : List Token) (rest : List ℕ) → HasRead text names tokens rest →
     (front after : List ℕ) → IsFirst rest Comment front after → HasRead text names tokens after
 HasRead-comment text names tokens rest h front after f =
     subst (λ (ts : List Token). HasRead text names ts after) (append-nil tokens)
-        (HasRead-more text names tokens rest h Comment front after tt f)
+    (HasRead-more text names tokens rest h Comment front after tt f)
 
 same_token : (token : Token) (kind : TokenKind) (place : ℕ) → token.kind ≡ kind → token.place ≡ place →
     ◌≡◌ {A = Token} (record { kind = kind; place = place }) token
@@ -88,10 +88,10 @@ HasRead-token text names tokens rest h new token after r =
     let place : ℕ = place_of text rest in
     let more = HasRead-more text names tokens rest h r.lexeme r.front after r.range r.first in
     let kind : kind_of (with_lexeme names r.lexeme) r.lexeme ≡ Some token.kind =
-        ap (λ (ns : List (List ℕ)). kind_of ns r.lexeme) (sym r.table) ∙ r.kind in
+    ap (λ (ns : List (List ℕ)). kind_of ns r.lexeme) (sym r.table) ∙ r.kind in
     let made : token_of (with_lexeme names r.lexeme) (record { lexeme = r.lexeme; place = place }) ≡ Some token =
     ap (option_map (λ (k : TokenKind). record { kind = k; place = place })) kind ∙ ap Some
-        (same_token token token.kind place refl r.at_place) in
+    (same_token token token.kind place refl r.at_place) in
     subst (λ (ns : List (List ℕ)). HasRead text ns (tokens ++ token ∷ []) after) (sym r.table)
     (subst (λ (o : Option Token). HasRead text (with_lexeme names r.lexeme) (tokens ++ cons_option o []) after) made more)
 
@@ -101,7 +101,7 @@ pub HasRead-blank_first : (text : List ℕ) (names : List (List ℕ)) (tokens : 
 HasRead-blank_first text names tokens rest h c b blank =
     let whole : rest ≡ c ∷ b.0 = BeginsWith-ascii c rest b (is_blank-ascii c blank) in
     HasRead-blank text names tokens rest h (c ∷ []) b.0
-        (subst (λ (bs : List ℕ). IsFirst bs Blank (c ∷ []) b.0) (sym whole) (IsFirst-blank c b.0 blank))
+    (subst (λ (bs : List ℕ). IsFirst bs Blank (c ∷ []) b.0) (sym whole) (IsFirst-blank c b.0 blank))
 
 -- a comment, up to the end of its line
 pub HasRead-line : (text : List ℕ) (names : List (List ℕ)) (tokens : List Token) (rest : List ℕ) → HasRead text names tokens rest →
@@ -110,7 +110,7 @@ pub HasRead-line : (text : List ℕ) (names : List (List ℕ)) (tokens : List To
 HasRead-line text names tokens rest h c b e run after s =
     let whole : rest ≡ 35 ∷ b.0 = BeginsWith-ascii c rest b (omega (arith, e)) ∙ ap (λ n. n ∷ b.0) e in
     HasRead-comment text names tokens rest h (35 ∷ run) after
-        (subst (λ (bs : List ℕ). IsFirst bs Comment (35 ∷ run) after) (sym whole) (IsFirst-comment b.0 run after s))
+    (subst (λ (bs : List ℕ). IsFirst bs Comment (35 ∷ run) after) (sym whole) (IsFirst-comment b.0 run after s))
 
 -- a token leaves fewer bytes
 pub ReadsToken-shorter : (place : ℕ) (rest : List ℕ) (old new : List (List ℕ)) (token : Token) (after : List ℕ) →

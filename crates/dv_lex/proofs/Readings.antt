@@ -30,7 +30,7 @@ Reads-rest place bytes (x ∷ xs) (y ∷ ys) last end rest r s =
     let same = IsFirst-same bytes x.lexeme y.lexeme r.2.0 r.2.1 s.2.0 s.2.1 r.2.2 s.2.2 in
     let more : Reads (place + length r.2.0) r.2.1 ys end rest =
     subst (λ (front : List ℕ). Reads (place + length front) r.2.1 ys end rest) (sym same.1)
-        (subst (λ (bs : List ℕ). Reads (place + length s.2.0) bs ys end rest) (sym same.2) s.2.3) in
+    (subst (λ (bs : List ℕ). Reads (place + length s.2.0) bs ys end rest) (sym same.2) s.2.3) in
     let found = Reads-rest (place + length r.2.0) r.2.1 xs ys last end rest r.2.3 more in
     (found.0, ap (λ (p : Placed). p ∷ xs) (same_placed x y same.0 (r.0 ∙ sym s.0)) ∙ ap (λ (ps : List Placed). y ∷ ps) found.1, found.2)
 
@@ -62,7 +62,7 @@ Reads-stuck place bytes (x ∷ xs) (y ∷ ys) end other rest more r s p q =
     let same = IsFirst-same bytes x.lexeme y.lexeme r.2.0 r.2.1 s.2.0 s.2.1 r.2.2 s.2.2 in
     let on : Reads (place + length r.2.0) r.2.1 ys other more =
     subst (λ (front : List ℕ). Reads (place + length front) r.2.1 ys other more) (sym same.1)
-        (subst (λ (bs : List ℕ). Reads (place + length s.2.0) bs ys other more) (sym same.2) s.2.3) in
+    (subst (λ (bs : List ℕ). Reads (place + length s.2.0) bs ys other more) (sym same.2) s.2.3) in
     Reads-stuck (place + length r.2.0) r.2.1 xs ys end other rest more r.2.3 on p q
 
 -- the place counts the bytes that are read
@@ -70,9 +70,12 @@ pub Reads-before : (place : ℕ) (bytes : List ℕ) (xs : List Placed) (end : �
     (before : List ℕ) × (bytes ≡ before ++ rest) × (end ≡ place + length before)
 Reads-before place bytes [] end rest r = ([], sym r.1, r.0 ∙ sym (add-zero place))
 Reads-before place bytes (x ∷ xs) end rest r =
-    let more = Reads-before (place + length r.2.0) r.2.1 xs end rest r.2.3 in
-    (r.2.0 ++ more.0, r.2.2.whole ∙ (ap (λ (bs : List ℕ). r.2.0 ++ bs) more.1 ∙ sym (append_assoc r.2.0 more.0 rest)), omega
-        (arith, more.2, length-append r.2.0 more.0))
+    let more = Reads-before (place + length r.2.0) r.2.1 xs end rest r.2.3 in (
+      r.2.0 ++ more.0,
+      r.2.2.whole ∙ (ap (λ (bs : List ℕ). r.2.0 ++ bs) more.1 ∙ sym (append_assoc r.2.0 more.0 rest)),
+      omega
+          (arith, more.2, length-append r.2.0 more.0),
+    )
 
 pub Reads-end : (place : ℕ) (bytes : List ℕ) (xs : List Placed) (end : ℕ) (rest : List ℕ) → Reads place bytes xs end rest →
     end + length rest ≡ place + length bytes

@@ -42,7 +42,7 @@ not_refused text names tokens t E2 place r =
     none_goes_on place r.0 _ (length text) ((Reads-rest 0 text t.lexemes r.1.lexemes (length text) place r.0 t.reads r.1.reads).2) r.2 r.3
 not_refused text names tokens t E3 place r =
     large_goes_on place r.0 _ (length text)
-        ((Reads-rest 0 text t.lexemes r.1.lexemes (length text) place r.0 t.reads r.1.reads).2) r.2.0 r.2.1 r.2.2 r.2.3 r.2.4
+    ((Reads-rest 0 text t.lexemes r.1.lexemes (length text) place r.0 t.reads r.1.reads).2) r.2.0 r.2.1 r.2.2 r.2.3 r.2.4
 not_refused text names tokens t _ place r = r
 
 -- where a text is refused, nothing is read
@@ -89,9 +89,11 @@ same_refusal text E3 E1 place at r s = absurd (utf8_not_valid text at r.1.readab
 same_refusal text E3 E2 place at r s =
     let same = stuck_at text place at r.0 s.0 r.1 s.1 (stuck_large r.0 r.2.0 r.2.1 r.2.2 r.2.3 r.2.4) (stuck_none s.0 s.3) in
     absurd (s.3 (Numeral r.2.0) r.2.1 r.2.2 (sym same.1 ∙ r.2.3.whole) r.2.3.spelled)
-same_refusal text E3 E3 place at r s =
-    (refl, (stuck_at text place at r.0 s.0 r.1 s.1 (stuck_large r.0 r.2.0 r.2.1 r.2.2 r.2.3 r.2.4)
-        (stuck_large s.0 s.2.0 s.2.1 s.2.2 s.2.3 s.2.4)).0)
+same_refusal text E3 E3 place at r s = (
+  refl,
+  (stuck_at text place at r.0 s.0 r.1 s.1 (stuck_large r.0 r.2.0 r.2.1 r.2.2 r.2.3 r.2.4)
+      (stuck_large s.0 s.2.0 s.2.1 s.2.2 s.2.3 s.2.4)).0,
+)
 same_refusal text E17 _ place at r s = absurd s
 same_refusal text E1 _ place at r s = absurd s
 same_refusal text E2 _ place at r s = absurd s

@@ -33,7 +33,7 @@ number_of-push names t =
 pub number_of-with_name : (names : List (List ℕ)) (t : List ℕ) → number_of (with_name names t) t ≡ number_of names t
 number_of-with_name names t =
     cond_both (has_name names t) names (names ++ t ∷ []) (λ ns. number_of ns t ≡ number_of names t) (λ _. refl)
-        (λ _. number_of-push names t)
+    (λ _. number_of-push names t)
 
 -- the table is kept as strings: a name is found among them
 pub number_of-found : {Z : Type 0} (keys : List (String Z)) (t : List ℕ) (i : ℕ) →
@@ -50,16 +50,16 @@ pub number_of-added : {Z : Type 0} (keys : List (String Z)) (s : String Z) (t : 
     position_or_len (string_eq s) keys ≡ number_of (with_name (map string_bytes keys) t) t
 number_of-added keys s t e =
     rw (← e) (sym (number_of-with_name (map string_bytes keys) (string_bytes s) ∙ position_or_len-map
-        (bytes_eq (string_bytes s)) string_bytes keys))
+    (bytes_eq (string_bytes s)) string_bytes keys))
 
 pub with_name-added : {Z : Type 0} (keys : List (String Z)) (s : String Z) (t : List ℕ) → string_bytes s ≡ t →
     map string_bytes (cond (list_any (string_eq s) keys) keys (keys ++ s ∷ [])) ≡ with_name (map string_bytes keys) t
 with_name-added keys s t e =
     rw (← e, list_any-map (bytes_eq (string_bytes s)) string_bytes keys)
     (cond_both (list_any (string_eq s) keys) keys (keys ++ s ∷ [])
-        (λ ks. map string_bytes ks ≡ cond (list_any (string_eq s) keys) (map string_bytes keys)
-        (map string_bytes keys ++ string_bytes s ∷ [])) (λ h. sym (cond-true _ _ _ h))
-        (λ h. map-append string_bytes keys (s ∷ []) ∙ sym (cond-false _ _ _ h)))
+    (λ ks. map string_bytes ks ≡ cond (list_any (string_eq s) keys) (map string_bytes keys)
+    (map string_bytes keys ++ string_bytes s ∷ [])) (λ h. sym (cond-true _ _ _ h))
+    (λ h. map-append string_bytes keys (s ∷ []) ∙ sym (cond-false _ _ _ h)))
 
 -- the number of a name that is there is a place in the table
 pub number_of-lt : (names : List (List ℕ)) (t : List ℕ) → has_name names t ≡ true → number_of names t < length names
@@ -69,5 +69,5 @@ number_of-lt (n ∷ names) t h =
       | inl e ↦ rw e (omega arith)
       | inr e ↦
           cond_both (not (bytes_eq t n)) (1 + number_of names t) 0 (λ k. k < suc (length names))
-              (λ _. omega (arith, number_of-lt names t e)) (λ _. omega arith)
+          (λ _. omega (arith, number_of-lt names t e)) (λ _. omega arith)
     ]

@@ -70,6 +70,6 @@ abbrev pub IsAscending : List Token → Type 0
 IsAscending [] = Unit {0}
 IsAscending (t ∷ ts) = AllByRecursion (λ other. t.place < other.place) ts × IsAscending ts
 
--- the answer to a refusal of a text: its number, and the line of its place
+-- the answer to a refusal of a text: its number, its place, and the line of that
 abbrev pub answer_to : List ℕ → Refusal → TextError
-answer_to text r = record { number = r.number; line = line_of text r.place }
+answer_to text r = record { number = r.number; line = line_of text r.place; place = r.place }

@@ -7,7 +7,7 @@ ghost use Rattle.dv_lex.specs.Texts.{answer_to};
 use std::alloc::{AllocError, AllocFailed};
 use std::fmt;
 
-/// The number of a refusal; docs/LANGUAGE.md says what each one means.
+/// The number of a refusal; docs/ERRORS.md says what each one means.
 #[derive(Clone, Copy, Debug, PartialEq, Eq)]
 pub enum RefusalNumber {
     /// The text is not UTF-8.
@@ -84,11 +84,13 @@ pub struct Refusal {
     pub place: u32,
 }
 
-/// A refused text as it is answered: which refusal, and the line, counted from 1.
+/// A refused text as it is answered: which refusal, the line, counted from 1, and the place of the token that is named,
+/// as the number of the bytes of the text before it.
 #[derive(Clone, Copy, Debug, PartialEq, Eq)]
 pub struct TextError {
     pub number: RefusalNumber,
     pub line: u64,
+    pub place: u32,
 }
 
 impl fmt::Display for TextError {
@@ -102,14 +104,15 @@ impl fmt::Display for TextError {
     }
 }
 
-/// The answer to a refusal of the text: its number, and the line of its place. A place past the text's end lies on the
-/// last line.
+/// The answer to a refusal of the text: its number, its place, and the line of that. A place past the text's end lies
+/// on the last line.
 pub fn answer(text: &[u8], refusal: Refusal) -> TextError
     ensures { result ≡ answer_to text.now refusal }
 {
     TextError {
         number: refusal.number,
         line: 1 + line_feeds(front(text, refusal.place as usize)),
+        place: refusal.place,
     }
 }
 

@@ -1,36 +1,11 @@
 -- The turns of the loop that reads an expression.
 use Rattle.std.proofs.Common.{◌≡◌, ℕ, zero, suc, ◌+◌, ◌-◌, ◌<◌, ◌≤◌, List, Some, None, Ok, Err, refl, sym, ap, subst, ◌∙◌, arith}
 use Rattle.dv_lex.specs.declared.token.Token.{Token}
-use Rattle.dv_lex.specs.declared.token.TokenKind.TheVariants as kind
-use Rattle.dv_lex.specs.declared.token.Symbol.TheVariants as symbol
-use Rattle.dv_syntax.specs.declared.tree.Prefix.{Prefix}
 use Rattle.dv_syntax.specs.declared.tree.Operator.{Operator}
-use Rattle.dv_syntax.specs.Trees.{Expression, Parens, Prefixed, Binary}
-use Rattle.dv_syntax.specs.Grammar.{prefix_kind, prefix_rank, operator_rank, depth}
-use Rattle.dv_parser.specs.Reading.{Obstacle, TooDeep, read_then, place_at, within, after, operator_at, parens_at, prefixed_at, primary_at, turns, expression_at, more_at}
-use Rattle.dv_parser.proofs.Expressions.{within_positive, turns_stop, turns_step, turns_deep}
-
--- nothing is read where there is no room
-pub parens_deep : (limit : ℕ) (ts behind : List Token) → limit ≡ 1 → after (kind.Symbol symbol.OpenParen) ts ≡ Ok behind → parens_at (expression_at (limit - 1)) (limit - 1) ts ≡ Err (TooDeep (place_at ts))
-unfolding parens_at within read_then
-parens_deep limit ts behind e h = rw (e, h) refl
-
-pub prefixed_deep : (o : Prefix) (limit : ℕ) (ts behind : List Token) → limit ≡ 1 → after (prefix_kind o) ts ≡ Ok behind → prefixed_at o (expression_at (limit - 1)) (limit - 1) ts ≡ Err (TooDeep (place_at ts))
-unfolding prefixed_at within read_then
-prefixed_deep o limit ts behind e h = rw (e, h) refl
-
-pub parens_some : (limit : ℕ) (ts behind : List Token) → 1 < limit → after (kind.Symbol symbol.OpenParen) ts ≡ Ok behind → parens_at (expression_at (limit - 1)) (limit - 1) ts ≡ read_then (expression_at (limit - 1) 0 behind) (λ e. read_then (after (kind.Symbol symbol.CloseParen) e.1) (λ rest. Ok (Parens (place_at ts) e.0, rest)))
-unfolding parens_at read_then
-parens_some limit ts behind lt h =
-    let positive = within_positive (limit - 1) (place_at ts) (expression_at (limit - 1) 0 behind) (omega (arith, lt)) in
-    rw (h, positive) refl
-
-pub prefixed_some : (o : Prefix) (limit : ℕ) (ts behind : List Token) → 1 < limit → after (prefix_kind o) ts ≡ Ok behind
-    → prefixed_at o (expression_at (limit - 1)) (limit - 1) ts ≡ read_then (expression_at (limit - 1) (prefix_rank o) behind) (λ e. Ok (Prefixed o (place_at ts) e.0, e.1))
-unfolding prefixed_at read_then
-prefixed_some o limit ts behind lt h =
-    let positive = within_positive (limit - 1) (place_at ts) (expression_at (limit - 1) (prefix_rank o) behind) (omega (arith, lt)) in
-    rw (h, positive) refl
+use Rattle.dv_syntax.specs.Trees.{Expression, Binary}
+use Rattle.dv_syntax.specs.Grammar.{operator_rank, depth}
+use Rattle.dv_parser.specs.Reading.{Obstacle, TooDeep, read_then, place_at, operator_at, primary_at, turns, expression_at, more_at}
+use Rattle.dv_parser.proofs.Expressions.{turns_stop, turns_step, turns_deep}
 
 pub first_err : (limit level : ℕ) (ts : List Token) (o : Obstacle) → 0 < limit → primary_at (expression_at (limit - 1)) (limit - 1) level ts ≡ Err o → expression_at limit level ts ≡ Err o
 unfolding expression_at read_then

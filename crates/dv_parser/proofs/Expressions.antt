@@ -15,10 +15,12 @@ use Rattle.dv_syntax.specs.declared.tree.Prefix.{Prefix}
 use Rattle.dv_syntax.specs.declared.tree.Prefix.TheVariants as prefix
 use Rattle.dv_syntax.specs.declared.tree.Operator.{Operator}
 use Rattle.dv_syntax.specs.declared.tree.Operator.TheVariants as operator
-use Rattle.dv_syntax.specs.Trees.{Expression, Literal, TruthValue, Named, Parens, Prefixed, Binary}
-use Rattle.dv_syntax.specs.Grammar.{Spelled, At, Anywhere, Spells, sign, word_at, name, number, Limits, truth_word, prefix_kind, prefix_rank, operator_kind, operator_rank, left_rank, rank, depth, IsWellFormed, IsExpression, expression_spelling}
-use Rattle.dv_parser.specs.Reading.{Obstacle, TooDeep, Read, read_then, within, place_at, choose, maybe, begins, keyword_operator, symbol_operator, operator_of, goes_on, operator_at, leaf_at, parens_at, prefixed_at, primary_at, turns, expression_at}
-use Rattle.dv_parser.proofs.Tokens.{then_ok, then_is, chosen, maybe_is, ok_is, err_ok, some_is, none_some, Spells-then, Spells-split, front, name_front, number_front, truth_front, unplaced, after_spells, after_spells_at, name_spells, number_spells, truth_spells}
+use Rattle.dv_syntax.specs.declared.tree.BagCall.{BagCall}
+use Rattle.dv_syntax.specs.declared.tree.BagCall.TheVariants as call
+use Rattle.dv_syntax.specs.Trees.{Expression, Literal, TruthValue, Named, Parens, Prefixed, Binary, Call, Times}
+use Rattle.dv_syntax.specs.Grammar.{Spelled, At, Anywhere, Spells, sign, word_at, name, number, Limits, truth_word, call_word, prefix_kind, prefix_rank, operator_kind, operator_rank, left_rank, rank, depth, IsWellFormed, IsExpression, expression_spelling}
+use Rattle.dv_parser.specs.Reading.{Obstacle, TooDeep, Read, read_then, within, place_at, choose, maybe, begins, keyword_operator, symbol_operator, operator_of, goes_on, operator_at, call_at, leaf_at, parens_at, prefixed_at, times_at, primary_at, turns, expression_at}
+use Rattle.dv_parser.proofs.Tokens.{then_ok, then_is, chosen, maybe_is, ok_is, err_ok, some_is, none_some, Spells-then, Spells-split, front, name_front, number_front, truth_front, call_front, unplaced, after_spells, after_spells_at, name_spells, number_spells, truth_spells, call_spells}
 
 abbrev pub Reader : Type 0
 Reader = ℕ → List Token → Read (Expression × List Token)
@@ -37,6 +39,26 @@ prefix_rank-le : (o : Prefix) → prefix_rank o ≤ 7
 prefix_rank-le prefix.Minus = omega arith
 prefix_rank-le prefix.Not = omega arith
 
+call_read : (limit level : ℕ) → level ≤ 7 → (ts : List Token) (x : Expression × List Token) → call_at ts ≡ Ok x
+    → IsRead (suc limit) level x.0 ts x.1
+unfolding call_at
+call_read limit level low ts x e =
+    let a = then_ok _ _ _ e in
+    let b = then_ok _ _ _ a.2 in
+    let c = then_ok _ _ _ b.2 in
+    let d = then_ok _ _ _ c.2 in
+    let last : List Spelled = sign symbol.CloseParen ∷ [] in
+    let close = after_spells (kind.Symbol symbol.CloseParen) [] c.0.1 d.0 d.0 d.1 refl in
+    let bag = name_spells last b.0 d.0 c.0 c.1 close in
+    let opened = after_spells (kind.Symbol symbol.OpenParen) (name c.0.0 ∷ last) a.0.1 b.0 d.0 b.1 bag in
+    subst (λ (y : Expression × List Token). IsRead (suc limit) level y.0 ts y.1) (ok_is _ _ d.2)
+    (record {
+      spelled = call_spells (sign symbol.OpenParen ∷ name c.0.0 ∷ last) ts d.0 a.0 a.1 opened;
+      formed = tt;
+      within = omega arith;
+      ranked = omega (arith, low);
+    })
+
 leaf_read : (limit level : ℕ) → level ≤ 7 → (ts : List Token) (x : Expression × List Token) → leaf_at ts ≡ Ok x → IsRead (suc limit) level x.0 ts x.1
 unfolding leaf_at
 leaf_read limit level low ts x e =
@@ -50,10 +72,13 @@ leaf_read limit level low ts x e =
             let a = then_ok _ _ _ q.1 in
             subst (λ (y : Expression × List Token). IsRead (suc limit) level y.0 ts y.1) (ok_is _ _ a.2)
             (record { spelled = truth_spells [] ts a.0.1 a.0 a.1 refl; formed = tt; within = omega arith; ranked = omega (arith, low) })
-        | inr q ↦
-            let a = then_ok _ _ _ q.1 in
-            subst (λ (y : Expression × List Token). IsRead (suc limit) level y.0 ts y.1) (ok_is _ _ a.2)
-            (record { spelled = number_spells [] ts a.0.1 a.0 a.1 refl; formed = tt; within = omega arith; ranked = omega (arith, low) })
+        | inr q ↦ elim (chosen _ _ _ _ q.1) [
+          | inl r ↦ call_read limit level low ts x r.1
+          | inr r ↦
+              let a = then_ok _ _ _ r.1 in
+              subst (λ (y : Expression × List Token). IsRead (suc limit) level y.0 ts y.1) (ok_is _ _ a.2)
+              (record { spelled = number_spells [] ts a.0.1 a.0 a.1 refl; formed = tt; within = omega arith; ranked = omega (arith, low) })
+        ]
       ]
     ]
 
@@ -61,6 +86,11 @@ pub within_ok : {A : Type 0} (limit place : ℕ) (read : Read A) (x : A) → wit
 unfolding within
 within_ok zero place read x e = absurd (err_ok _ _ e)
 within_ok (suc limit) place read x e = e
+
+pub within_room : {A : Type 0} (limit place : ℕ) (read : Read A) (x : A) → within limit place read ≡ Ok x → 0 < limit
+unfolding within
+within_room zero place read x e = absurd (err_ok _ _ e)
+within_room (suc limit) place read x e = omega arith
 
 pub within_positive : {A : Type 0} (limit place : ℕ) (read : Read A) → 0 < limit → within limit place read ≡ read
 unfolding within
@@ -88,6 +118,33 @@ prefixed_read o operand limit level sound low ts x e =
     subst (λ (y : Expression × List Token). IsRead (suc limit) level y.0 ts y.1) (ok_is _ _ b.2)
     (record { spelled = after_spells_at (prefix_kind o) (expression_spelling b.0.0) ts a.0 b.0.1 a.1 r.spelled; formed = (r.formed, r.ranked); within = omega (arith, r.within); ranked = low })
 
+times_read : (operand : Reader) (limit level : ℕ) → IsSound operand limit → level ≤ 7 → (ts : List Token) (x : Expression × List Token)
+    → times_at operand limit ts ≡ Ok x → IsRead (suc limit) level x.0 ts x.1
+unfolding times_at
+times_read operand limit level sound low ts x e =
+    let a = then_ok _ _ _ e in
+    let b = then_ok _ _ _ a.2 in
+    let c = then_ok _ _ _ b.2 in
+    let d = then_ok _ _ _ c.2 in
+    let f = then_ok _ _ _ d.2 in
+    let g = then_ok _ _ _ f.2 in
+    let r = sound 0 b.0 c.0 (omega arith) c.1 in
+    let close = after_spells (kind.Symbol symbol.CloseParen) [] f.0.1 g.0 g.0 g.1 refl in
+    let bag = name_spells (sign symbol.CloseParen ∷ []) d.0 g.0 f.0 f.1 close in
+    let last : List Spelled = sign symbol.Comma ∷ name f.0.0 ∷ sign symbol.CloseParen ∷ [] in
+    let comma = after_spells (kind.Symbol symbol.Comma) (name f.0.0 ∷ sign symbol.CloseParen ∷ []) c.0.1 d.0 g.0 d.1 bag in
+    let inside = Spells-then (expression_spelling c.0.0) last b.0 c.0.1 g.0 r.spelled comma in
+    let here = within_ok _ _ _ _ b.1 in
+    let opened = after_spells (kind.Symbol symbol.OpenParen) (expression_spelling c.0.0 ++ last) a.0 b.0 g.0 here inside in
+    let spelling : List Spelled = sign symbol.OpenParen ∷ (expression_spelling c.0.0 ++ last) in
+    subst (λ (y : Expression × List Token). IsRead (suc limit) level y.0 ts y.1) (ok_is _ _ g.2)
+    (record {
+      spelled = after_spells_at (kind.Keyword keyword.Times) spelling ts a.0 g.0 a.1 opened;
+      formed = r.formed;
+      within = omega (arith, r.within);
+      ranked = omega (arith, low);
+    })
+
 pub and_true : (a b : Bool) → (a && b) ≡ true → (a ≡ true) × (b ≡ true)
 and_true true b e = (refl, e)
 and_true false b e = absurd cc
@@ -98,10 +155,13 @@ primary_read operand limit level sound low ts x e =
     elim (chosen _ _ _ _ e) [
       | inl p ↦ parens_read operand limit level sound low ts x p.1
       | inr p ↦ elim (chosen _ _ _ _ p.1) [
-        | inl q ↦ prefixed_read prefix.Minus operand limit level sound low ts x q.1
-        | inr q ↦ elim (chosen _ _ _ _ q.1) [
-          | inl r ↦ prefixed_read prefix.Not operand limit level sound (leb-true _ _ (and_true _ _ r.0).1) ts x r.1
-          | inr r ↦ leaf_read limit level low ts x r.1
+        | inl t ↦ times_read operand limit level sound low ts x t.1
+        | inr t ↦ elim (chosen _ _ _ _ t.1) [
+          | inl q ↦ prefixed_read prefix.Minus operand limit level sound low ts x q.1
+          | inr q ↦ elim (chosen _ _ _ _ q.1) [
+            | inl r ↦ prefixed_read prefix.Not operand limit level sound (leb-true _ _ (and_true _ _ r.0).1) ts x r.1
+            | inr r ↦ leaf_read limit level low ts x r.1
+          ]
         ]
       ]
     ]
@@ -228,10 +288,13 @@ primary_within operand limit level sound ts x e =
     elim (chosen _ _ _ _ e) [
       | inl p ↦ (parens_read operand limit 0 sound (omega arith) ts x p.1).within
       | inr p ↦ elim (chosen _ _ _ _ p.1) [
-        | inl q ↦ (prefixed_read prefix.Minus operand limit 0 sound (omega arith) ts x q.1).within
-        | inr q ↦ elim (chosen _ _ _ _ q.1) [
-          | inl r ↦ (prefixed_read prefix.Not operand limit 0 sound (omega arith) ts x r.1).within
-          | inr r ↦ (leaf_read limit 0 (omega arith) ts x r.1).within
+        | inl t ↦ (times_read operand limit 0 sound (omega arith) ts x t.1).within
+        | inr t ↦ elim (chosen _ _ _ _ t.1) [
+          | inl q ↦ (prefixed_read prefix.Minus operand limit 0 sound (omega arith) ts x q.1).within
+          | inr q ↦ elim (chosen _ _ _ _ q.1) [
+            | inl r ↦ (prefixed_read prefix.Not operand limit 0 sound (omega arith) ts x r.1).within
+            | inr r ↦ (leaf_read limit 0 (omega arith) ts x r.1).within
+          ]
         ]
       ]
     ]
@@ -385,36 +448,129 @@ positive_depth (Named n) = omega arith
 positive_depth (Parens place e) = omega arith
 positive_depth (Prefixed o place e) = omega arith
 positive_depth (Binary o a b) = omega arith
+positive_depth (Call c place b) = omega arith
+positive_depth (Times place e b) = omega arith
 
-primary_leaf : (operand : Reader) (limit level : ℕ) (ts : List Token) → begins (kind.Symbol symbol.OpenParen) ts ≡ false → begins (kind.Symbol symbol.Minus) ts ≡ false → begins (kind.Keyword keyword.Not) ts ≡ false
+primary_leaf : (operand : Reader) (limit level : ℕ) (ts : List Token) → begins (kind.Symbol symbol.OpenParen) ts ≡ false
+    → begins (kind.Keyword keyword.Times) ts ≡ false → begins (kind.Symbol symbol.Minus) ts ≡ false
+    → begins (kind.Keyword keyword.Not) ts ≡ false
     → primary_at operand limit level ts ≡ leaf_at ts
 unfolding primary_at choose
-primary_leaf operand limit level ts a b c = rw (a, b, c) refl
+primary_leaf operand limit level ts a b c d = rw (a, b, c, d) refl
 
 number_again : (operand : Reader) (limit level : ℕ) (n : Number) (ts rest : List Token) → Spells (number n ∷ []) ts rest → primary_at operand limit level ts ≡ Ok (Literal n, rest)
 unfolding leaf_at choose read_then
 number_again operand limit level n ts rest h =
     let f = front (number n) [] ts rest h in
     let g = number_front n [] ts rest h in
-    primary_leaf operand limit level ts (f.begins _) (f.begins _) (f.begins _) ∙ rw (f.begins_name, f.begins (kind.Keyword keyword.True), f.begins (kind.Keyword keyword.False), g.1, g.2) refl
+    let size = f.begins (kind.Keyword keyword.Size) in
+    let sum = f.begins (kind.Keyword keyword.Sum) in
+    let least = f.begins (kind.Keyword keyword.Least) in
+    let most = f.begins (kind.Keyword keyword.Most) in
+    primary_leaf operand limit level ts (f.begins _) (f.begins _) (f.begins _) (f.begins _)
+    ∙ rw (f.begins_name, f.begins (kind.Keyword keyword.True), f.begins (kind.Keyword keyword.False), size, sum, least, most, g.1, g.2) refl
 
 truth_again : (operand : Reader) (limit level place : ℕ) (value : Bool) (ts rest : List Token) → Spells (word_at (truth_word value) place ∷ []) ts rest → primary_at operand limit level ts ≡ Ok (TruthValue place value, rest)
 unfolding leaf_at choose read_then
 truth_again operand limit level place true ts rest h =
     let f = front (word_at keyword.True place) [] ts rest h in
     let g = truth_front true [] ts rest (unplaced _ place [] ts rest h) in
-    primary_leaf operand limit level ts (f.begins _) (f.begins _) (f.begins _) ∙ rw (f.begins_name, f.begins (kind.Keyword keyword.True), g.1, g.2, f.place) refl
+    primary_leaf operand limit level ts (f.begins _) (f.begins _) (f.begins _) (f.begins _)
+    ∙ rw (f.begins_name, f.begins (kind.Keyword keyword.True), g.1, g.2, f.place) refl
 truth_again operand limit level place false ts rest h =
     let f = front (word_at keyword.False place) [] ts rest h in
     let g = truth_front false [] ts rest (unplaced _ place [] ts rest h) in
-    primary_leaf operand limit level ts (f.begins _) (f.begins _) (f.begins _) ∙ rw (f.begins_name, f.begins (kind.Keyword keyword.True), f.begins (kind.Keyword keyword.False), g.1, g.2, f.place) refl
+    primary_leaf operand limit level ts (f.begins _) (f.begins _) (f.begins _) (f.begins _)
+    ∙ rw (f.begins_name, f.begins (kind.Keyword keyword.True), f.begins (kind.Keyword keyword.False), g.1, g.2, f.place) refl
 
 name_again : (operand : Reader) (limit level : ℕ) (n : Name) (ts rest : List Token) → Spells (name n ∷ []) ts rest → primary_at operand limit level ts ≡ Ok (Named n, rest)
 unfolding leaf_at choose read_then
 name_again operand limit level n ts rest h =
     let f = front (name n) [] ts rest h in
     let g = name_front n [] ts rest h in
-    primary_leaf operand limit level ts (f.begins _) (f.begins _) (f.begins _) ∙ rw (f.begins_name, g.1, g.2) refl
+    primary_leaf operand limit level ts (f.begins _) (f.begins _) (f.begins _) (f.begins _) ∙ rw (f.begins_name, g.1, g.2) refl
+
+-- what begins with the word of a call and is read as a call
+call_leaf : (operand : Reader) (limit level : ℕ) (c : BagCall) (place : ℕ) (ss : List Spelled) (ts rest : List Token)
+    → Spells (word_at (call_word c) place ∷ ss) ts rest → primary_at operand limit level ts ≡ call_at ts
+unfolding leaf_at choose
+call_leaf operand limit level call.Size place ss ts rest h =
+    let f = front (word_at keyword.Size place) ss ts rest h in
+    primary_leaf operand limit level ts (f.begins _) (f.begins _) (f.begins _) (f.begins _)
+    ∙ rw (
+      f.begins_name,
+      f.begins (kind.Keyword keyword.True),
+      f.begins (kind.Keyword keyword.False),
+      f.begins (kind.Keyword keyword.Size),
+    ) refl
+call_leaf operand limit level call.Sum place ss ts rest h =
+    let f = front (word_at keyword.Sum place) ss ts rest h in
+    let size = f.begins (kind.Keyword keyword.Size) in
+    primary_leaf operand limit level ts (f.begins _) (f.begins _) (f.begins _) (f.begins _)
+    ∙ rw (
+      f.begins_name,
+      f.begins (kind.Keyword keyword.True),
+      f.begins (kind.Keyword keyword.False),
+      size,
+      f.begins (kind.Keyword keyword.Sum),
+    ) refl
+call_leaf operand limit level call.Least place ss ts rest h =
+    let f = front (word_at keyword.Least place) ss ts rest h in
+    let size = f.begins (kind.Keyword keyword.Size) in
+    let sum = f.begins (kind.Keyword keyword.Sum) in
+    let least = f.begins (kind.Keyword keyword.Least) in
+    primary_leaf operand limit level ts (f.begins _) (f.begins _) (f.begins _) (f.begins _)
+    ∙ rw (f.begins_name, f.begins (kind.Keyword keyword.True), f.begins (kind.Keyword keyword.False), size, sum, least) refl
+call_leaf operand limit level call.Most place ss ts rest h =
+    let f = front (word_at keyword.Most place) ss ts rest h in
+    let size = f.begins (kind.Keyword keyword.Size) in
+    let sum = f.begins (kind.Keyword keyword.Sum) in
+    let least = f.begins (kind.Keyword keyword.Least) in
+    let most = f.begins (kind.Keyword keyword.Most) in
+    primary_leaf operand limit level ts (f.begins _) (f.begins _) (f.begins _) (f.begins _)
+    ∙ rw (f.begins_name, f.begins (kind.Keyword keyword.True), f.begins (kind.Keyword keyword.False), size, sum, least, most) refl
+
+call_again : (operand : Reader) (limit level : ℕ) (c : BagCall) (place : ℕ) (b : Name) (ts rest : List Token)
+    → Spells (expression_spelling (Call c place b)) ts rest → primary_at operand limit level ts ≡ Ok (Call c place b, rest)
+unfolding call_at read_then
+call_again operand limit level c place b ts rest h =
+    let last : List Spelled = sign symbol.CloseParen ∷ [] in
+    let ss : List Spelled = sign symbol.OpenParen ∷ name b ∷ last in
+    let f = front (word_at (call_word c) place) ss ts rest h in
+    let g = call_front c ss ts rest (unplaced _ place ss ts rest h) in
+    let opened = front (sign symbol.OpenParen) (name b ∷ last) g.0 rest g.2 in
+    let bag = name_front b last opened.behind rest opened.spelled in
+    let close = front (sign symbol.CloseParen) [] bag.0 rest bag.2 in
+    call_leaf operand limit level c place ss ts rest h ∙ rw (g.1, opened.after, bag.1, close.after, f.place, close.spelled) refl
+
+times_again : (operand : Reader) (limit level place : ℕ) (e : Expression) (b : Name) (ts rest : List Token)
+    → Spells (expression_spelling (Times place e b)) ts rest
+    → ((us vs : List Token) → Spells (expression_spelling e) us vs → IsClosed vs → operand 0 us ≡ Ok (e, vs))
+    → primary_at operand (suc limit) level ts ≡ Ok (Times place e b, rest)
+unfolding primary_at times_at within choose read_then operator_of
+times_again operand limit level place e b ts rest h inner =
+    let last : List Spelled = name b ∷ sign symbol.CloseParen ∷ [] in
+    let tail : List Spelled = sign symbol.Comma ∷ last in
+    let f = front (word_at keyword.Times place) (sign symbol.OpenParen ∷ (expression_spelling e ++ tail)) ts rest h in
+    let opened = front (sign symbol.OpenParen) (expression_spelling e ++ tail) f.behind rest f.spelled in
+    let s = Spells-split (expression_spelling e) tail opened.behind rest opened.spelled in
+    let comma = front (sign symbol.Comma) last s.0 rest s.2 in
+    let bag = name_front b (sign symbol.CloseParen ∷ []) comma.behind rest comma.spelled in
+    let close = front (sign symbol.CloseParen) [] bag.0 rest bag.2 in
+    let i = inner opened.behind s.0 s.1 (IsClosed-front (kind.Symbol symbol.Comma) last s.0 rest refl s.2) in
+    let word = f.begins (kind.Keyword keyword.Times) in
+    rw (
+      f.begins (kind.Symbol symbol.OpenParen),
+      word,
+      f.after,
+      opened.after,
+      i,
+      comma.after,
+      bag.1,
+      close.after,
+      f.place,
+      close.spelled,
+    ) refl
 
 parens_again : (operand : Reader) (limit level place : ℕ) (e : Expression) (ts rest : List Token) → Spells (expression_spelling (Parens place e)) ts rest
     → ((us vs : List Token) → Spells (expression_spelling e) us vs → IsClosed vs → operand 0 us ≡ Ok (e, vs)) → primary_at operand (suc limit) level ts ≡ Ok (Parens place e, rest)
@@ -433,12 +589,23 @@ prefixed_again prefix.Minus operand limit level place e ts rest low h inner =
     let f = front (At (kind.Symbol symbol.Minus) place) (expression_spelling e) ts rest h in
     let i = inner f.behind f.spelled in
     let l : leb level 7 ≡ true = le-leb _ _ low in
-    rw (f.begins (kind.Symbol symbol.OpenParen), f.begins (kind.Symbol symbol.Minus), l, f.after, i, f.place) refl
+    let times = f.begins (kind.Keyword keyword.Times) in
+    rw (f.begins (kind.Symbol symbol.OpenParen), times, f.begins (kind.Symbol symbol.Minus), l, f.after, i, f.place) refl
 prefixed_again prefix.Not operand limit level place e ts rest low h inner =
     let f = front (At (kind.Keyword keyword.Not) place) (expression_spelling e) ts rest h in
     let i = inner f.behind f.spelled in
     let l : leb level 3 ≡ true = le-leb _ _ low in
-    rw (f.begins (kind.Symbol symbol.OpenParen), f.begins (kind.Symbol symbol.Minus), f.begins (kind.Keyword keyword.Not), l, f.after, i, f.place) refl
+    let times = f.begins (kind.Keyword keyword.Times) in
+    rw (
+      f.begins (kind.Symbol symbol.OpenParen),
+      times,
+      f.begins (kind.Symbol symbol.Minus),
+      f.begins (kind.Keyword keyword.Not),
+      l,
+      f.after,
+      i,
+      f.place,
+    ) refl
 
 -- no operator between two operands binds as tightly as one before its operand
 apart : (p : Prefix) (o : Operator) → operator_rank o ≤ prefix_rank p → operator_rank o < prefix_rank p
@@ -501,6 +668,14 @@ expression_again (Binary o a b) (suc limit) level ts rest formed within ranked l
     expression_again b limit (operator_rank o + 1) next.0 rest formed.1 (omega (arith, within)) (omega (arith, formed.3)) (omega (arith, operator_rank-le o)) (IsLoose-weaker (operator_rank o) (rank b) rest (omega (arith, formed.3)) loose) next.2
     ∙ turns_stop (expression_at limit) k k (operator_rank o + 1) b rest (operator_at-none (operator_rank o + 1) b (operator_rank o) rest loose (omega arith)) in
     left ∙ step ∙ then_is (expression_at k (operator_rank o + 1) next.0) (λ right. turns (expression_at k) (suc k) (suc k) level (Binary o a right.0) right.1) (b, rest) right
+expression_again (Call c place b) limit level ts rest formed within ranked low loose h =
+    then_turns limit level (Call c place b) ts rest (call_again (expression_at limit) limit level c place b ts rest h)
+expression_again (Times place e b) zero level ts rest formed within ranked low loose h = absurd (omega (arith, within, positive_depth e))
+expression_again (Times place e b) (suc limit) level ts rest formed within ranked low loose h =
+    then_turns (suc limit) level (Times place e b) ts rest
+    (times_again (expression_at (suc limit)) limit level place e b ts rest h (λ us vs k closed.
+    expression_again e limit 0 us vs formed (omega (arith, within)) (omega arith) (omega arith) (IsLoose-closed (rank e) vs closed) k
+    ∙ turns_stop (expression_at limit) (suc limit) (suc limit) 0 e vs (operator_at-closed 0 e vs closed)))
 
 all_read : (limit : ℕ) (e : Expression) (ts rest : List Token) → IsWellFormed e → depth e ≤ limit → Spells (expression_spelling e) ts rest → IsClosed rest → expression_at limit 0 ts ≡ Ok (e, rest)
 all_read zero e ts rest formed within h closed = absurd (omega (arith, within, positive_depth e))

@@ -12,16 +12,18 @@ use Rattle.dv_syntax.specs.declared.tree.Number.{Number}
 use Rattle.dv_syntax.specs.declared.tree.Bound.{Bound}
 use Rattle.dv_syntax.specs.declared.tree.Variable.{Variable}
 use Rattle.dv_syntax.specs.declared.tree.Flag.{Flag}
+use Rattle.dv_syntax.specs.declared.tree.StateBag.{StateBag}
+use Rattle.dv_syntax.specs.declared.tree.BagCall.TheVariants as call
 use Rattle.dv_syntax.specs.declared.tree.Declaration.TheVariants as declaration
 use Rattle.dv_syntax.specs.declared.tree.RuleSort.{RuleSort}
 use Rattle.dv_syntax.specs.declared.tree.RuleSort.TheVariants as sort
 use Rattle.dv_syntax.specs.declared.tree.End.{End}
 use Rattle.dv_syntax.specs.declared.tree.Part.{Part}
 use Rattle.dv_syntax.specs.declared.tree.Link.{Link}
-use Rattle.dv_syntax.specs.Trees.{Expression, Statements, Literal, TruthValue, Named, Parens, Prefixed, Binary, FileTree}
+use Rattle.dv_syntax.specs.Trees.{Expression, Statements, Literal, TruthValue, Named, Parens, Prefixed, Binary, Call, Times, FileTree}
 use Rattle.dv_syntax.specs.Written.{AtomicItem, Declares, Lists, Starts, Holds, Rules, CoupledItem, Outputs, Contains, Couples, WrittenModel, WrittenAtomic, WrittenCoupled, WrittenFile, sorted}
-use Rattle.dv_syntax.specs.Grammar.{Spelled, Anywhere, Limits, the_limits, name, number, sign, word, braces, operator_kind, expression_spelling, minus_spelling, bound_spelling, variable_spelling, flag_spelling, ticks_spelling, phases_spelling, rule_spelling, item_spelling, AreTicks, IsItem, part_name_spelling, end_spelling, coupled_item_spelling, model_spelling, IsModel, file_spelling, IsWritten, IsFileWithin, IsFileOf}
-use Rattle.dv_parser.specs.Reading.{Obstacle, read_then, choose, begins, operator_of, many_at, braces_at, bound_at, variable_at, flag_at, further_name_at, phases_at, start_at, ticks_at, hold_at, rule_at, out_at, item_at, atomic_at, end_at, part_at, link_at, coupled_item_at, coupled_at, model_at, is_end, file_at}
+use Rattle.dv_syntax.specs.Grammar.{Spelled, Anywhere, Limits, the_limits, name, number, sign, word, braces, operator_kind, expression_spelling, minus_spelling, bound_spelling, variable_spelling, flag_spelling, bag_spelling, ticks_spelling, phases_spelling, rule_spelling, item_spelling, AreTicks, IsItem, part_name_spelling, end_spelling, coupled_item_spelling, model_spelling, IsModel, file_spelling, IsWritten, IsFileWithin, IsFileOf}
+use Rattle.dv_parser.specs.Reading.{Obstacle, read_then, choose, begins, operator_of, many_at, braces_at, bound_at, variable_at, flag_at, bag_at, further_name_at, phases_at, start_at, ticks_at, hold_at, rule_at, out_at, item_at, atomic_at, end_at, part_at, link_at, coupled_item_at, coupled_at, model_at, is_end, file_at}
 use Rattle.dv_parser.proofs.Tokens.{then_ok, chosen, ok_is, err_ok}
 use Rattle.dv_parser.proofs.Readers.{Spans, nothing, after_spans, after_spans_at, name_spans, number_spans, truth_spans, then_spans, split, first, first_name, first_number, first_truth, span_end, IsReader, IsListed, many_reader, braces_reader, shortens, Shortens}
 use Rattle.dv_parser.proofs.Expressions.{IsClosed-front}
@@ -124,6 +126,25 @@ flag_complete f ts rest h =
     let d = first start.spelled in
     rw (a.after, b.read, c.after, start.read, d.after, span_end d.spelled) refl
 
+bag_sound : (ts : List Token) (x : StateBag × List Token) → bag_at ts ≡ Ok x → Spans (bag_spelling x.0) ts x.1
+unfolding bag_at
+bag_sound ts x e =
+    let a = then_ok _ _ _ e in
+    let b = then_ok _ _ _ a.2 in
+    let c = then_ok _ _ _ b.2 in
+    let d = then_ok _ _ _ c.2 in
+    subst (λ (y : StateBag × List Token). Spans (bag_spelling y.0) ts y.1) (ok_is _ _ d.2)
+    (after_spans a.1 (name_spans b.1 (number_spans c.1 (after_spans d.1 nothing))))
+
+bag_complete : (b : StateBag) (ts rest : List Token) → Spans (bag_spelling b) ts rest → bag_at ts ≡ Ok (b, rest)
+unfolding bag_at read_then
+bag_complete b ts rest h =
+    let a = first h in
+    let n = first_name b.name a.spelled in
+    let capacity = first_number b.capacity n.spelled in
+    let d = first capacity.spelled in
+    rw (a.after, n.read, capacity.read, d.after, span_end d.spelled) refl
+
 -- ---- Items
 
 further_reader : IsReader further_name_at (λ n. sign symbol.Comma ∷ name n ∷ []) (λ n. Unit {0}) Always
@@ -196,7 +217,7 @@ rule_sound limits sort ts x e =
     let a = then_ok _ _ _ e in
     let b = then_ok _ _ _ a.2 in
     let c = then_ok _ _ _ b.2 in
-    let s = (block_reader limits limits.block).sound b.0.1 c.0 c.1 in
+    let s = (block_reader limits limits.block limits.loop).sound b.0.1 c.0 c.1 in
     subst (ReadsItem limits ts) (ok_is _ _ c.2) (after_spans a.1 (name_spans b.1 s.0), s.1)
 
 -- `out port;`
@@ -225,14 +246,17 @@ item_sound limits ts x e =
         | inr q ↦ elim (chosen _ _ _ _ q.1) [
           | inl f ↦ let a = then_ok _ _ _ f.1 in let s = flag_sound ts a.0 a.1 in subst (ReadsItem limits ts) (ok_is _ _ a.2) (s, tt)
           | inr f ↦ elim (chosen _ _ _ _ f.1) [
-            | inl w ↦ phases_sound limits ts x w.1
-            | inr w ↦ elim (chosen _ _ _ _ w.1) [
-              | inl u ↦ start_sound limits ts x u.1
-              | inr u ↦ elim (chosen _ _ _ _ u.1) [
-                | inl v ↦ hold_sound limits ts x v.1
-                | inr v ↦ elim (chosen _ _ _ _ v.1) [
-                  | inl z ↦ rule_sound limits sort.Output ts x z.1
-                  | inr z ↦ rule_sound limits sort.Internal ts x z.1
+            | inl b ↦ let a = then_ok _ _ _ b.1 in let s = bag_sound ts a.0 a.1 in subst (ReadsItem limits ts) (ok_is _ _ a.2) (s, tt)
+            | inr b ↦ elim (chosen _ _ _ _ b.1) [
+              | inl w ↦ phases_sound limits ts x w.1
+              | inr w ↦ elim (chosen _ _ _ _ w.1) [
+                | inl u ↦ start_sound limits ts x u.1
+                | inr u ↦ elim (chosen _ _ _ _ u.1) [
+                  | inl v ↦ hold_sound limits ts x v.1
+                  | inr v ↦ elim (chosen _ _ _ _ v.1) [
+                    | inl z ↦ rule_sound limits sort.Output ts x z.1
+                    | inr z ↦ rule_sound limits sort.Internal ts x z.1
+                  ]
                 ]
               ]
             ]
@@ -241,12 +265,14 @@ item_sound limits ts x e =
       ]
     ]
 
-rule_complete : (limits : Limits) (sort : RuleSort) (p : Name) (body : Statements) (ts rest : List Token) → IsBlock limits limits.block body → Spans (rule_spelling (record { sort = sort; phase = p; body = body })) ts rest → rule_at limits sort ts ≡ Ok (Rules (record { sort = sort; phase = p; body = body }), rest)
+rule_complete : (limits : Limits) (sort : RuleSort) (p : Name) (body : Statements) (ts rest : List Token)
+    → IsBlock limits limits.block limits.loop body → Spans (rule_spelling (record { sort = sort; phase = p; body = body })) ts rest
+    → rule_at limits sort ts ≡ Ok (Rules (record { sort = sort; phase = p; body = body }), rest)
 unfolding rule_at read_then
 rule_complete limits sort p body ts rest is h =
     let a = first h in
     let b = first_name p a.spelled in
-    let c = (block_reader limits limits.block).complete body b.behind rest is b.spelled tt in
+    let c = (block_reader limits limits.block limits.loop).complete body b.behind rest is b.spelled tt in
     rw (a.after, b.read, c) refl
 
 -- no expression begins with `forever`
@@ -258,6 +284,11 @@ expression_no_word (Named n) ts rest h = (first h).begins _
 expression_no_word (Parens place e) ts rest h = (first h).begins _
 expression_no_word (Prefixed prefix.Minus place e) ts rest h = (first h).begins _
 expression_no_word (Prefixed prefix.Not place e) ts rest h = (first h).begins _
+expression_no_word (Call call.Size place b) ts rest h = (first h).begins _
+expression_no_word (Call call.Sum place b) ts rest h = (first h).begins _
+expression_no_word (Call call.Least place b) ts rest h = (first h).begins _
+expression_no_word (Call call.Most place b) ts rest h = (first h).begins _
+expression_no_word (Times place e b) ts rest h = (first h).begins _
 expression_no_word (Binary o a b) ts rest h = expression_no_word a ts _ (split (expression_spelling a) (Anywhere (operator_kind o) ∷ expression_spelling b) h).1
 
 all_names : (ns : List Name) → AllByRecursion (λ n. Unit {0}) ns
@@ -275,16 +306,38 @@ ticks_complete limits (Some e) ts rest is h =
     let v = (expression_reader limits).complete e ts s.0 is s.1 (IsClosed-front (kind.Symbol symbol.Semicolon) [] s.0 rest refl s.2.spells) in
     (s.0, rw (expression_no_word e ts s.0 s.1, v) refl, s.2)
 
-rule_item_complete : (limits : Limits) (sort : RuleSort) (p : Name) (body : Statements) (ts rest : List Token) → IsBlock limits limits.block body → Spans (rule_spelling (record { sort = sort; phase = p; body = body })) ts rest → item_at limits ts ≡ Ok (Rules (record { sort = sort; phase = p; body = body }), rest)
+rule_item_complete : (limits : Limits) (sort : RuleSort) (p : Name) (body : Statements) (ts rest : List Token)
+    → IsBlock limits limits.block limits.loop body → Spans (rule_spelling (record { sort = sort; phase = p; body = body })) ts rest
+    → item_at limits ts ≡ Ok (Rules (record { sort = sort; phase = p; body = body }), rest)
 unfolding item_at choose
 rule_item_complete limits sort.Output p body ts rest is h =
     let a = first h in
     let r = rule_complete limits sort.Output p body ts rest is h in
-    rw (a.begins (kind.Keyword keyword.Out), a.begins (kind.Keyword keyword.Var), a.begins (kind.Keyword keyword.Flag), a.begins (kind.Keyword keyword.Phases), a.begins (kind.Keyword keyword.Start), a.begins (kind.Keyword keyword.Hold), a.begins (kind.Keyword keyword.Output), r) refl
+    rw (
+      a.begins (kind.Keyword keyword.Out),
+      a.begins (kind.Keyword keyword.Var),
+      a.begins (kind.Keyword keyword.Flag),
+      a.begins (kind.Keyword keyword.Bag),
+      a.begins (kind.Keyword keyword.Phases),
+      a.begins (kind.Keyword keyword.Start),
+      a.begins (kind.Keyword keyword.Hold),
+      a.begins (kind.Keyword keyword.Output),
+      r,
+    ) refl
 rule_item_complete limits sort.Internal p body ts rest is h =
     let a = first h in
     let r = rule_complete limits sort.Internal p body ts rest is h in
-    rw (a.begins (kind.Keyword keyword.Out), a.begins (kind.Keyword keyword.Var), a.begins (kind.Keyword keyword.Flag), a.begins (kind.Keyword keyword.Phases), a.begins (kind.Keyword keyword.Start), a.begins (kind.Keyword keyword.Hold), a.begins (kind.Keyword keyword.Output), r) refl
+    rw (
+      a.begins (kind.Keyword keyword.Out),
+      a.begins (kind.Keyword keyword.Var),
+      a.begins (kind.Keyword keyword.Flag),
+      a.begins (kind.Keyword keyword.Bag),
+      a.begins (kind.Keyword keyword.Phases),
+      a.begins (kind.Keyword keyword.Start),
+      a.begins (kind.Keyword keyword.Hold),
+      a.begins (kind.Keyword keyword.Output),
+      r,
+    ) refl
 
 phases_complete : (place : ℕ) (names : List Name) (ts rest : List Token) → 0 < length names → Spans (phases_spelling (record { place = place; names = names })) ts rest → phases_at ts ≡ Ok (Lists (record { place = place; names = names }), rest)
 unfolding phases_at read_then
@@ -312,28 +365,73 @@ item_complete limits (Declares (declaration.Flag f)) ts rest is h =
     let a = first h in
     let o = flag_complete f ts rest h in
     rw (a.begins (kind.Keyword keyword.Out), a.begins (kind.Keyword keyword.Var), a.begins (kind.Keyword keyword.Flag), o) refl
+item_complete limits (Declares (declaration.Bag b)) ts rest is h =
+    let a = first h in
+    let o = bag_complete b ts rest h in
+    rw (
+      a.begins (kind.Keyword keyword.Out),
+      a.begins (kind.Keyword keyword.Var),
+      a.begins (kind.Keyword keyword.Flag),
+      a.begins (kind.Keyword keyword.Bag),
+      o,
+    ) refl
 item_complete limits (Lists p) ts rest is h =
     let a = first h in
     let o = phases_complete p.place p.names ts rest is h in
-    rw (a.begins (kind.Keyword keyword.Out), a.begins (kind.Keyword keyword.Var), a.begins (kind.Keyword keyword.Flag), a.begins (kind.Keyword keyword.Phases), o) refl
+    rw (
+      a.begins (kind.Keyword keyword.Out),
+      a.begins (kind.Keyword keyword.Var),
+      a.begins (kind.Keyword keyword.Flag),
+      a.begins (kind.Keyword keyword.Bag),
+      a.begins (kind.Keyword keyword.Phases),
+      o,
+    ) refl
 item_complete limits (Starts s) ts rest is h =
     let a = first h in
     let b = first_name s.phase a.spelled in
     let c = first b.spelled in
-    rw (a.begins (kind.Keyword keyword.Out), a.begins (kind.Keyword keyword.Var), a.begins (kind.Keyword keyword.Flag), a.begins (kind.Keyword keyword.Phases), a.begins (kind.Keyword keyword.Start), a.after, b.read, c.after, a.place, span_end c.spelled) refl
+    rw (
+      a.begins (kind.Keyword keyword.Out),
+      a.begins (kind.Keyword keyword.Var),
+      a.begins (kind.Keyword keyword.Flag),
+      a.begins (kind.Keyword keyword.Bag),
+      a.begins (kind.Keyword keyword.Phases),
+      a.begins (kind.Keyword keyword.Start),
+      a.after,
+      b.read,
+      c.after,
+      a.place,
+      span_end c.spelled,
+    ) refl
 item_complete limits (Holds d) ts rest is h =
     let a = first h in
     let b = first_name d.phase a.spelled in
     let c = first b.spelled in
     let t = ticks_complete limits d.ticks c.behind rest is c.spelled in
     let e = first t.2 in
-    rw (a.begins (kind.Keyword keyword.Out), a.begins (kind.Keyword keyword.Var), a.begins (kind.Keyword keyword.Flag), a.begins (kind.Keyword keyword.Phases), a.begins (kind.Keyword keyword.Start), a.begins (kind.Keyword keyword.Hold), a.after, b.read, c.after, t.1, e.after, a.place, span_end e.spelled) refl
+    rw (
+      a.begins (kind.Keyword keyword.Out),
+      a.begins (kind.Keyword keyword.Var),
+      a.begins (kind.Keyword keyword.Flag),
+      a.begins (kind.Keyword keyword.Bag),
+      a.begins (kind.Keyword keyword.Phases),
+      a.begins (kind.Keyword keyword.Start),
+      a.begins (kind.Keyword keyword.Hold),
+      a.after,
+      b.read,
+      c.after,
+      t.1,
+      e.after,
+      a.place,
+      span_end e.spelled,
+    ) refl
 item_complete limits (Rules r) ts rest is h = rule_item_complete limits r.sort r.phase r.body ts rest is h
 
 item_opens : (k : Symbol) (x : AtomicItem) (ts rest : List Token) → Spans (item_spelling x) ts rest → begins (kind.Symbol k) ts ≡ false
 item_opens k (Declares (declaration.Out n)) ts rest h = (first h).begins _
 item_opens k (Declares (declaration.Var v)) ts rest h = (first h).begins _
 item_opens k (Declares (declaration.Flag f)) ts rest h = (first h).begins _
+item_opens k (Declares (declaration.Bag b)) ts rest h = (first h).begins _
 item_opens k (Lists p) ts rest h = (first h).begins _
 item_opens k (Starts s) ts rest h = (first h).begins _
 item_opens k (Holds d) ts rest h = (first h).begins _
@@ -343,6 +441,7 @@ item_some : (x : AtomicItem) → 0 < length (item_spelling x)
 item_some (Declares (declaration.Out n)) = omega arith
 item_some (Declares (declaration.Var v)) = omega arith
 item_some (Declares (declaration.Flag f)) = omega arith
+item_some (Declares (declaration.Bag b)) = omega arith
 item_some (Lists p) = omega arith
 item_some (Starts s) = omega arith
 item_some (Holds d) = omega arith

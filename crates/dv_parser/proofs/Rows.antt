@@ -16,6 +16,9 @@ one_before (stmt.Goto place p) rest = refl
 one_before (stmt.Send place p e) rest = refl
 one_before (stmt.If' place e shape block) rest = refl
 one_before (stmt.IfElse' place e shape block other_shape other) rest = refl
+one_before (stmt.For' place v b shape block) rest = refl
+one_before (stmt.Add place e b) rest = refl
+one_before (stmt.Drop place e b) rest = refl
 
 pub joined_items : (items : List Stmt) → joined (map single_of items) ≡ statements_of items
 joined_items [] = refl

@@ -1,20 +1,22 @@
 -- What is read as statements and blocks is spelled so, and what is spelled so is read.
-use Rattle.std.proofs.Common.{◌≡◌, ℕ, zero, suc, ◌-◌, ◌<◌, ◌≤◌, true, false, List, [], ◌∷◌, ◌++◌, length, Ok, Err, refl, ap, subst, ◌∙◌, append_assoc, inl, inr, arith}
+use Rattle.std.proofs.Common.{◌≡◌, ℕ, zero, suc, ◌-◌, ◌<◌, ◌≤◌, true, false, List, [], ◌∷◌, ◌++◌, length, None, Ok, Err, refl, ap, subst, ◌∙◌, append_assoc, inl, inr, arith}
 use Rattle.std.specs.List.{flat_map, AllByRecursion}
 use Rattle.std.proofs.lemmas.List.{append-nil}
 use Rattle.dv_lex.specs.declared.token.Token.{Token}
 use Rattle.dv_lex.specs.declared.token.TokenKind.{TokenKind}
 use Rattle.dv_lex.specs.declared.token.TokenKind.TheVariants as kind
+use Rattle.dv_lex.specs.declared.token.Keyword.{Keyword}
 use Rattle.dv_lex.specs.declared.token.Keyword.TheVariants as keyword
 use Rattle.dv_lex.specs.declared.token.Symbol.TheVariants as symbol
-use Rattle.dv_syntax.specs.Trees.{Expression, Statements, Done, Assign, Goto, Send, If, IfElse}
-use Rattle.dv_syntax.specs.Grammar.{Spelled, name, sign, word, word_at, braces, Limits, IsExpression, expression_spelling, statements_spelling, block_depth, AreStatements}
+use Rattle.dv_syntax.specs.declared.tree.Name.{Name}
+use Rattle.dv_syntax.specs.Trees.{Statements, Done, Assign, Goto, Send, If, IfElse, For, Add, Drop}
+use Rattle.dv_syntax.specs.Grammar.{Spelled, name, sign, word, word_at, braces, Limits, IsExpression, expression_spelling, statements_spelling, block_depth, loop_depth, AreStatements}
 use Rattle.dv_parser.specs.declared.parse_error.ParseError.{ParseError}
 use Rattle.dv_parser.specs.declared.parse_error.ParseError.TheVariants as parse_error
-use Rattle.dv_parser.specs.Reading.{Obstacle, TooDeep, Read, Fails, read_then, place_at, within, choose, same_kind, begins, after, operator_of, expression_at, braces_at, Single, SingleAssign, SingleGoto, SingleSend, SingleIf, SingleIfElse, single_before, joined, assign_at, goto_at, send_at, else_at, if_at, statement_at, block_at}
+use Rattle.dv_parser.specs.Reading.{Obstacle, Read, Fails, read_then, name_at, place_at, within, choose, same_kind, begins, keyword_operator, operator_of, expression_at, braces_at, Single, SingleAssign, SingleGoto, SingleSend, SingleIf, SingleIfElse, SingleFor, SingleAdd, SingleDrop, single_before, joined, assign_at, goto_at, send_at, add_at, drop_at, else_at, if_at, for_at, statement_at, block_at}
 use Rattle.dv_parser.proofs.Tokens.{then_ok, chosen, ok_is, err_ok, same_kind-true}
 use Rattle.dv_parser.proofs.Readers.{Spans, nothing, after_spans, after_spans_at, name_spans, then_spans, split, first, first_name, span_end, IsReader, IsListed, braces_reader, shortens, Shortens}
-use Rattle.dv_parser.proofs.Expressions.{within_ok, within_positive, IsClosed, IsClosed-front, expression_complete, expression_sound}
+use Rattle.dv_parser.proofs.Expressions.{within_ok, within_room, within_positive, IsClosed, IsClosed-front, expression_complete, expression_sound}
 
 pub expression_reader : (limits : Limits) → IsReader (expression_at limits.expression 0) expression_spelling (IsExpression limits) IsClosed
 expression_reader limits = record {
@@ -24,64 +26,94 @@ expression_reader limits = record {
 
 -- ---- Single statements
 
+-- a word, and the bag of a statement behind it
+abbrev bag_behind : Keyword → Name → List Spelled
+bag_behind k b = word k ∷ name b ∷ sign symbol.Semicolon ∷ []
+
 abbrev pub single_spelling : Single → List Spelled
 single_spelling (SingleAssign n e) = name n ∷ sign symbol.Assign ∷ (expression_spelling e ++ sign symbol.Semicolon ∷ [])
 single_spelling (SingleGoto place p) = word_at keyword.Goto place ∷ name p ∷ sign symbol.Semicolon ∷ []
 single_spelling (SingleSend place p e) = word_at keyword.Send place ∷ name p ∷ (expression_spelling e ++ sign symbol.Semicolon ∷ [])
 single_spelling (SingleIf place e block) = word_at keyword.If place ∷ (expression_spelling e ++ braces (statements_spelling block))
 single_spelling (SingleIfElse place e block other) = word_at keyword.If place ∷ (expression_spelling e ++ (braces (statements_spelling block) ++ (word keyword.Else ∷ braces (statements_spelling other))))
+single_spelling (SingleFor place v b block) =
+    word_at keyword.For place ∷ name v ∷ word keyword.In ∷ name b ∷ braces (statements_spelling block)
+single_spelling (SingleAdd place e b) = word_at keyword.Add place ∷ (expression_spelling e ++ bag_behind keyword.To b)
+single_spelling (SingleDrop place e b) = word_at keyword.Drop place ∷ (expression_spelling e ++ bag_behind keyword.From b)
 
-abbrev pub IsBlock : Limits → ℕ → Statements → Type 0
-IsBlock limits limit s = AreStatements limits s × (block_depth s ≤ limit)
+-- a block in which blocks lie in one another no deeper than the limit, and at most so many loops
+abbrev pub IsBlock : Limits → (limit loops : ℕ) → Statements → Type 0
+IsBlock limits limit loops s = AreStatements limits s × (block_depth s ≤ limit) × (loop_depth s ≤ loops)
 
-abbrev pub IsSingle : Limits → ℕ → Single → Type 0
-IsSingle limits limit (SingleAssign n e) = IsExpression limits e
-IsSingle limits limit (SingleGoto place p) = Unit {0}
-IsSingle limits limit (SingleSend place p e) = IsExpression limits e
-IsSingle limits limit (SingleIf place e block) = IsExpression limits e × IsBlock limits limit block
-IsSingle limits limit (SingleIfElse place e block other) = IsExpression limits e × IsBlock limits limit block × IsBlock limits limit other
+abbrev pub IsSingle : Limits → (limit loops : ℕ) → Single → Type 0
+IsSingle limits limit loops (SingleAssign n e) = IsExpression limits e
+IsSingle limits limit loops (SingleGoto place p) = Unit {0}
+IsSingle limits limit loops (SingleSend place p e) = IsExpression limits e
+IsSingle limits limit loops (SingleIf place e block) = IsExpression limits e × IsBlock limits limit loops block
+IsSingle limits limit loops (SingleIfElse place e block other) =
+    IsExpression limits e × IsBlock limits limit loops block × IsBlock limits limit loops other
+IsSingle limits limit loops (SingleFor place v b block) = (0 < loops) × IsBlock limits limit (loops - 1) block
+IsSingle limits limit loops (SingleAdd place e b) = IsExpression limits e
+IsSingle limits limit loops (SingleDrop place e b) = IsExpression limits e
 
 abbrev pub block_spelling : Statements → List Spelled
 block_spelling s = braces (statements_spelling s)
 
-abbrev pub BlockReader : Limits → ℕ → (List Token → Read (Statements × List Token)) → Type 0
-BlockReader limits limit block = IsReader block block_spelling (IsBlock limits limit) (λ rest. Unit {0})
+abbrev pub BlockReader : Limits → (limit loops : ℕ) → (List Token → Read (Statements × List Token)) → Type 0
+BlockReader limits limit loops block = IsReader block block_spelling (IsBlock limits limit loops) (λ rest. Unit {0})
+
+-- blocks, by how many loops may lie in one another in them
+abbrev Blocks : Type 0
+Blocks = ℕ → List Token → Read (Statements × List Token)
+
+abbrev BlockReaders : Limits → ℕ → Blocks → Type 0
+BlockReaders limits limit blocks = (loops : ℕ) → BlockReader limits limit loops (blocks loops)
+
+-- no `else` follows
+abbrev pub NoElse : List Token → Type 0
+NoElse rest = begins (kind.Keyword keyword.Else) rest ≡ false
 
 -- what is known of a statement that was read
-abbrev Reads : Limits → ℕ → List Token → Single × List Token → Type 0
-Reads limits limit ts x = Spans (single_spelling x.0) ts x.1 × IsSingle limits limit x.0
+abbrev Reads : Limits → (limit loops : ℕ) → List Token → Single × List Token → Type 0
+Reads limits limit loops ts x = Spans (single_spelling x.0) ts x.1 × IsSingle limits limit loops x.0
 
-assign_sound : (limits : Limits) (limit : ℕ) (ts : List Token) (x : Single × List Token) → assign_at limits ts ≡ Ok x → Reads limits limit ts x
+assign_sound : (limits : Limits) (limit loops : ℕ) (ts : List Token) (x : Single × List Token) → assign_at limits ts ≡ Ok x
+    → Reads limits limit loops ts x
 unfolding assign_at
-assign_sound limits limit ts x e =
+assign_sound limits limit loops ts x e =
     let a = then_ok _ _ _ e in
     let b = then_ok _ _ _ a.2 in
     let c = then_ok _ _ _ b.2 in
     let d = then_ok _ _ _ c.2 in
     let s = (expression_reader limits).sound b.0 c.0 c.1 in
-    subst (Reads limits limit ts) (ok_is _ _ d.2) (name_spans a.1 (after_spans b.1 (then_spans s.0 (after_spans d.1 nothing))), s.1)
+    subst (Reads limits limit loops ts) (ok_is _ _ d.2) (name_spans a.1 (after_spans b.1 (then_spans s.0 (after_spans d.1 nothing))), s.1)
 
-goto_sound : (limits : Limits) (limit : ℕ) (ts : List Token) (x : Single × List Token) → goto_at ts ≡ Ok x → Reads limits limit ts x
+goto_sound : (limits : Limits) (limit loops : ℕ) (ts : List Token) (x : Single × List Token) → goto_at ts ≡ Ok x
+    → Reads limits limit loops ts x
 unfolding goto_at
-goto_sound limits limit ts x e =
+goto_sound limits limit loops ts x e =
     let a = then_ok _ _ _ e in
     let b = then_ok _ _ _ a.2 in
     let c = then_ok _ _ _ b.2 in
-    subst (Reads limits limit ts) (ok_is _ _ c.2) (after_spans_at a.1 (name_spans b.1 (after_spans c.1 nothing)), tt)
+    subst (Reads limits limit loops ts) (ok_is _ _ c.2) (after_spans_at a.1 (name_spans b.1 (after_spans c.1 nothing)), tt)
 
-send_sound : (limits : Limits) (limit : ℕ) (ts : List Token) (x : Single × List Token) → send_at limits ts ≡ Ok x → Reads limits limit ts x
+send_sound : (limits : Limits) (limit loops : ℕ) (ts : List Token) (x : Single × List Token) → send_at limits ts ≡ Ok x
+    → Reads limits limit loops ts x
 unfolding send_at
-send_sound limits limit ts x e =
+send_sound limits limit loops ts x e =
     let a = then_ok _ _ _ e in
     let b = then_ok _ _ _ a.2 in
     let c = then_ok _ _ _ b.2 in
     let d = then_ok _ _ _ c.2 in
     let s = (expression_reader limits).sound b.0.1 c.0 c.1 in
-    subst (Reads limits limit ts) (ok_is _ _ d.2) (after_spans_at a.1 (name_spans b.1 (then_spans s.0 (after_spans d.1 nothing))), s.1)
+    subst (Reads limits limit loops ts) (ok_is _ _ d.2)
+    (after_spans_at a.1 (name_spans b.1 (then_spans s.0 (after_spans d.1 nothing))), s.1)
 
-if_sound : (limits : Limits) (limit : ℕ) (block : List Token → Read (Statements × List Token)) → BlockReader limits limit block → (ts : List Token) (x : Single × List Token) → if_at limits block limit ts ≡ Ok x → Reads limits limit ts x
+if_sound : (limits : Limits) (limit loops : ℕ) (block : List Token → Read (Statements × List Token))
+    → BlockReader limits limit loops block → (ts : List Token) (x : Single × List Token) → if_at limits block limit ts ≡ Ok x
+    → Reads limits limit loops ts x
 unfolding if_at else_at
-if_sound limits limit block r ts x e =
+if_sound limits limit loops block r ts x e =
     let a = then_ok _ _ _ e in
     let b = then_ok _ _ _ a.2 in
     let c = then_ok _ _ _ b.2 in
@@ -92,20 +124,74 @@ if_sound limits limit block r ts x e =
           let d = then_ok _ _ _ p.1 in
           let o = then_ok _ _ _ d.2 in
           let u = r.sound d.0 o.0 o.1 in
-          subst (Reads limits limit ts) (ok_is _ _ o.2) (after_spans_at a.1 (then_spans s.0 (then_spans t.0 (after_spans d.1 u.0))), (s.1, t.1, u.1))
-      | inr p ↦ subst (Reads limits limit ts) (ok_is _ _ p.1) (after_spans_at a.1 (then_spans s.0 t.0), (s.1, t.1))
+          subst (Reads limits limit loops ts) (ok_is _ _ o.2)
+          (after_spans_at a.1 (then_spans s.0 (then_spans t.0 (after_spans d.1 u.0))), (s.1, t.1, u.1))
+      | inr p ↦ subst (Reads limits limit loops ts) (ok_is _ _ p.1) (after_spans_at a.1 (then_spans s.0 t.0), (s.1, t.1))
     ]
 
-statement_sound : (limits : Limits) (limit : ℕ) (block : List Token → Read (Statements × List Token)) → BlockReader limits limit block → (ts : List Token) (x : Single × List Token) → statement_at limits block limit ts ≡ Ok x → Reads limits limit ts x
+add_sound : (limits : Limits) (limit loops : ℕ) (ts : List Token) (x : Single × List Token) → add_at limits ts ≡ Ok x
+    → Reads limits limit loops ts x
+unfolding add_at
+add_sound limits limit loops ts x e =
+    let a = then_ok _ _ _ e in
+    let b = then_ok _ _ _ a.2 in
+    let c = then_ok _ _ _ b.2 in
+    let d = then_ok _ _ _ c.2 in
+    let f = then_ok _ _ _ d.2 in
+    let s = (expression_reader limits).sound a.0 b.0 b.1 in
+    subst (Reads limits limit loops ts) (ok_is _ _ f.2)
+    (after_spans_at a.1 (then_spans s.0 (after_spans c.1 (name_spans d.1 (after_spans f.1 nothing)))), s.1)
+
+drop_sound : (limits : Limits) (limit loops : ℕ) (ts : List Token) (x : Single × List Token) → drop_at limits ts ≡ Ok x
+    → Reads limits limit loops ts x
+unfolding drop_at
+drop_sound limits limit loops ts x e =
+    let a = then_ok _ _ _ e in
+    let b = then_ok _ _ _ a.2 in
+    let c = then_ok _ _ _ b.2 in
+    let d = then_ok _ _ _ c.2 in
+    let f = then_ok _ _ _ d.2 in
+    let s = (expression_reader limits).sound a.0 b.0 b.1 in
+    subst (Reads limits limit loops ts) (ok_is _ _ f.2)
+    (after_spans_at a.1 (then_spans s.0 (after_spans c.1 (name_spans d.1 (after_spans f.1 nothing)))), s.1)
+
+for_sound : (limits : Limits) (limit loops : ℕ) (blocks : Blocks) → BlockReaders limits limit blocks
+    → (ts : List Token) (x : Single × List Token)
+    → for_at blocks limit loops ts ≡ Ok x → Reads limits limit loops ts x
+unfolding for_at
+for_sound limits limit loops blocks r ts x e =
+    let a = then_ok _ _ _ e in
+    let b = then_ok _ _ _ a.2 in
+    let c = then_ok _ _ _ b.2 in
+    let d = then_ok _ _ _ c.2 in
+    let f = then_ok _ _ _ d.2 in
+    let room = within_ok _ _ _ _ b.1 in
+    let s = (r (loops - 1)).sound d.0.1 f.0 f.1 in
+    let y : Single × List Token = (SingleFor (place_at ts) b.0.0 d.0.0 f.0.0, f.0.1) in
+    subst (Reads limits limit loops ts) {x = y} (ok_is y x f.2)
+    (after_spans_at a.1 (name_spans (within_ok _ _ _ _ room) (after_spans c.1 (name_spans d.1 s.0))), (within_room _ _ _ _ room, s.1))
+
+statement_sound : (limits : Limits) (limit loops : ℕ) (blocks : Blocks) → BlockReaders limits limit blocks
+    → (ts : List Token) (x : Single × List Token)
+    → statement_at limits blocks limit loops ts ≡ Ok x → Reads limits limit loops ts x
 unfolding statement_at
-statement_sound limits limit block r ts x e =
+statement_sound limits limit loops blocks r ts x e =
     elim (chosen _ _ _ _ e) [
-      | inl p ↦ goto_sound limits limit ts x p.1
+      | inl p ↦ goto_sound limits limit loops ts x p.1
       | inr p ↦ elim (chosen _ _ _ _ p.1) [
-        | inl q ↦ send_sound limits limit ts x q.1
+        | inl q ↦ send_sound limits limit loops ts x q.1
         | inr q ↦ elim (chosen _ _ _ _ q.1) [
-          | inl w ↦ if_sound limits limit block r ts x w.1
-          | inr w ↦ assign_sound limits limit ts x w.1
+          | inl w ↦ if_sound limits limit loops (blocks loops) (r loops) ts x w.1
+          | inr w ↦ elim (chosen _ _ _ _ w.1) [
+            | inl u ↦ for_sound limits limit loops blocks r ts x u.1
+            | inr u ↦ elim (chosen _ _ _ _ u.1) [
+              | inl v ↦ add_sound limits limit loops ts x v.1
+              | inr v ↦ elim (chosen _ _ _ _ v.1) [
+                | inl z ↦ drop_sound limits limit loops ts x z.1
+                | inr z ↦ assign_sound limits limit loops ts x z.1
+              ]
+            ]
+          ]
         ]
       ]
     ]
@@ -116,6 +202,11 @@ semicolon = sign symbol.Semicolon ∷ []
 semicolon_closed : (ts rest : List Token) → Spans semicolon ts rest → IsClosed ts
 unfolding operator_of
 semicolon_closed ts rest h = IsClosed-front (kind.Symbol symbol.Semicolon) [] ts rest refl h.spells
+
+word_closed : (k : Keyword) (ss : List Spelled) (ts rest : List Token) → keyword_operator k ≡ None → Spans (word k ∷ ss) ts rest
+    → IsClosed ts
+unfolding operator_of
+word_closed k ss ts rest none h = IsClosed-front (kind.Keyword k) ss ts rest none h.spells
 
 braces_closed : (s : Statements) (ss : List Spelled) (ts rest : List Token) → Spans (block_spelling s ++ ss) ts rest → IsClosed ts
 unfolding operator_of
@@ -128,52 +219,143 @@ positive_block (Goto place p rest) = positive_block rest
 positive_block (Send place p e rest) = positive_block rest
 positive_block (If place e b rest) = omega arith
 positive_block (IfElse place e b o rest) = omega arith
+positive_block (For place v b block rest) = omega arith
+positive_block (Add place e b rest) = positive_block rest
+positive_block (Drop place e b rest) = positive_block rest
 
-statement_complete : (limits : Limits) (limit : ℕ) (block : List Token → Read (Statements × List Token)) → BlockReader limits limit block → (x : Single) (ts rest : List Token) → IsSingle limits limit x → Spans (single_spelling x) ts rest → begins (kind.Keyword keyword.Else) rest ≡ false
-    → statement_at limits block limit ts ≡ Ok (x, rest)
-unfolding statement_at assign_at goto_at send_at if_at else_at choose read_then
-statement_complete limits limit block r (SingleAssign n e) ts rest is h ends =
+statement_complete : (limits : Limits) (limit loops : ℕ) (blocks : Blocks) → BlockReaders limits limit blocks
+    → (x : Single) (ts rest : List Token)
+    → IsSingle limits limit loops x → Spans (single_spelling x) ts rest → NoElse rest
+    → statement_at limits blocks limit loops ts ≡ Ok (x, rest)
+unfolding statement_at assign_at goto_at send_at add_at drop_at if_at else_at for_at choose read_then
+statement_complete limits limit loops blocks r (SingleAssign n e) ts rest is h ends =
     let f = first h in
     let n' = first_name n h in
     let b = first n'.spelled in
     let s = split (expression_spelling e) semicolon b.spelled in
     let v = (expression_reader limits).complete e b.behind s.0 is s.1 (semicolon_closed s.0 rest s.2) in
     let c = first s.2 in
-    rw (f.begins (kind.Keyword keyword.Goto), f.begins (kind.Keyword keyword.Send), f.begins (kind.Keyword keyword.If), n'.read, b.after, v, c.after, span_end c.spelled) refl
-statement_complete limits limit block r (SingleGoto place p) ts rest is h ends =
+    let no_if = f.begins (kind.Keyword keyword.If) in
+    let no_for = f.begins (kind.Keyword keyword.For) in
+    let no_add = f.begins (kind.Keyword keyword.Add) in
+    let no_drop = f.begins (kind.Keyword keyword.Drop) in
+    let no_goto = f.begins (kind.Keyword keyword.Goto) in
+    rw (
+      no_goto,
+      f.begins (kind.Keyword keyword.Send),
+      no_if,
+      no_for,
+      no_add,
+      no_drop,
+      n'.read,
+      b.after,
+      v,
+      c.after,
+      span_end c.spelled,
+    ) refl
+statement_complete limits limit loops blocks r (SingleGoto place p) ts rest is h ends =
     let f = first h in
     let n' = first_name p f.spelled in
     let c = first n'.spelled in
     rw (f.begins (kind.Keyword keyword.Goto), f.after, n'.read, c.after, f.place, span_end c.spelled) refl
-statement_complete limits limit block r (SingleSend place p e) ts rest is h ends =
+statement_complete limits limit loops blocks r (SingleSend place p e) ts rest is h ends =
     let f = first h in
     let n' = first_name p f.spelled in
     let s = split (expression_spelling e) semicolon n'.spelled in
     let v = (expression_reader limits).complete e n'.behind s.0 is s.1 (semicolon_closed s.0 rest s.2) in
     let c = first s.2 in
     rw (f.begins (kind.Keyword keyword.Goto), f.begins (kind.Keyword keyword.Send), f.after, n'.read, v, c.after, f.place, span_end c.spelled) refl
-statement_complete limits limit block r (SingleIf place e b) ts rest is h ends =
+statement_complete limits limit loops blocks r (SingleIf place e b) ts rest is h ends =
     let f = first h in
     let s = split (expression_spelling e) (block_spelling b) f.spelled in
     let closed : Spans (block_spelling b ++ []) s.0 rest = rw append-nil s.2 in
     let v = (expression_reader limits).complete e f.behind s.0 is.0 s.1 (braces_closed b [] s.0 rest closed) in
-    let c = r.complete b s.0 rest is.1 s.2 tt in
+    let c = (r loops).complete b s.0 rest is.1 s.2 tt in
     let room = within_positive limit (place_at ts) (expression_at limits.expression 0 f.behind) (omega (arith, is.1.1, positive_block b)) in
     rw (f.begins (kind.Keyword keyword.Goto), f.begins (kind.Keyword keyword.Send), f.begins (kind.Keyword keyword.If), f.after, room, v, c, ends, f.place) refl
-statement_complete limits limit block r (SingleIfElse place e b o) ts rest is h ends =
+statement_complete limits limit loops blocks r (SingleIfElse place e b o) ts rest is h ends =
     let f = first h in
     let tail : List Spelled = word keyword.Else ∷ block_spelling o in
     let s = split (expression_spelling e) (block_spelling b ++ tail) f.spelled in
     let v = (expression_reader limits).complete e f.behind s.0 is.0 s.1 (braces_closed b tail s.0 rest s.2) in
     let t = split (block_spelling b) tail s.2 in
-    let c = r.complete b s.0 t.0 is.1 t.1 tt in
+    let c = (r loops).complete b s.0 t.0 is.1 t.1 tt in
     let w = first t.2 in
-    let d = r.complete o w.behind rest is.2 w.spelled tt in
+    let d = (r loops).complete o w.behind rest is.2 w.spelled tt in
     let room = within_positive limit (place_at ts) (expression_at limits.expression 0 f.behind) (omega (arith, is.1.1, positive_block b)) in
     rw (f.begins (kind.Keyword keyword.Goto), f.begins (kind.Keyword keyword.Send), f.begins (kind.Keyword keyword.If), f.after, room, v, c, w.begins (kind.Keyword keyword.Else), w.after, d, f.place) refl
+statement_complete limits limit loops blocks r (SingleFor place v b block) ts rest is h ends =
+    let f = first h in
+    let n = first_name v f.spelled in
+    let w = first n.spelled in
+    let m = first_name b w.spelled in
+    let c = (r (loops - 1)).complete block m.behind rest is.1 m.spelled tt in
+    let inner = within_positive loops (place_at ts) (name_at f.behind) is.0 in
+    let some : 0 < limit = omega (arith, is.1.1, positive_block block) in
+    let room = within_positive limit (place_at ts) (within loops (place_at ts) (name_at f.behind)) some in
+    let no_goto = f.begins (kind.Keyword keyword.Goto) in
+    let no_if = f.begins (kind.Keyword keyword.If) in
+    let here = f.begins (kind.Keyword keyword.For) in
+    rw (no_goto, f.begins (kind.Keyword keyword.Send), no_if, here, f.after, room, inner, n.read, w.after, m.read, c, f.place) refl
+statement_complete limits limit loops blocks r (SingleAdd place e b) ts rest is h ends =
+    let f = first h in
+    let s = split (expression_spelling e) (bag_behind keyword.To b) f.spelled in
+    let v = (expression_reader limits).complete e f.behind s.0 is s.1 (word_closed keyword.To _ s.0 rest refl s.2) in
+    let w = first s.2 in
+    let n = first_name b w.spelled in
+    let c = first n.spelled in
+    let no_goto = f.begins (kind.Keyword keyword.Goto) in
+    let no_if = f.begins (kind.Keyword keyword.If) in
+    let no_for = f.begins (kind.Keyword keyword.For) in
+    let here = f.begins (kind.Keyword keyword.Add) in
+    rw (
+      no_goto,
+      f.begins (kind.Keyword keyword.Send),
+      no_if,
+      no_for,
+      here,
+      f.after,
+      v,
+      w.after,
+      n.read,
+      c.after,
+      f.place,
+      span_end c.spelled,
+    ) refl
+statement_complete limits limit loops blocks r (SingleDrop place e b) ts rest is h ends =
+    let f = first h in
+    let s = split (expression_spelling e) (bag_behind keyword.From b) f.spelled in
+    let v = (expression_reader limits).complete e f.behind s.0 is s.1 (word_closed keyword.From _ s.0 rest refl s.2) in
+    let w = first s.2 in
+    let n = first_name b w.spelled in
+    let c = first n.spelled in
+    let no_goto = f.begins (kind.Keyword keyword.Goto) in
+    let no_if = f.begins (kind.Keyword keyword.If) in
+    let no_for = f.begins (kind.Keyword keyword.For) in
+    let no_add = f.begins (kind.Keyword keyword.Add) in
+    let here = f.begins (kind.Keyword keyword.Drop) in
+    rw (
+      no_goto,
+      f.begins (kind.Keyword keyword.Send),
+      no_if,
+      no_for,
+      no_add,
+      here,
+      f.after,
+      v,
+      w.after,
+      n.read,
+      c.after,
+      f.place,
+      span_end c.spelled,
+    ) refl
 
-pub statement_reader : (limits : Limits) (limit : ℕ) (block : List Token → Read (Statements × List Token)) → BlockReader limits limit block → IsReader (statement_at limits block limit) single_spelling (IsSingle limits limit) (λ rest. begins (kind.Keyword keyword.Else) rest ≡ false)
-statement_reader limits limit block r = record { sound = statement_sound limits limit block r; complete = statement_complete limits limit block r }
+pub statement_reader : (limits : Limits) (limit loops : ℕ) (blocks : Blocks) → BlockReaders limits limit blocks
+    → IsReader (statement_at limits blocks limit loops) single_spelling (IsSingle limits limit loops) NoElse
+statement_reader limits limit loops blocks r = record {
+  sound = statement_sound limits limit loops blocks r;
+  complete = statement_complete limits limit loops blocks r;
+}
 
 single_opens : (x : Single) (ts rest : List Token) → Spans (single_spelling x) ts rest → (begins (kind.Symbol symbol.CloseBrace) ts ≡ false) × (begins (kind.Keyword keyword.Else) ts ≡ false)
 single_opens (SingleAssign n e) ts rest h = let f = first h in (f.begins _, f.begins _)
@@ -181,6 +363,9 @@ single_opens (SingleGoto place p) ts rest h = let f = first h in (f.begins _, f.
 single_opens (SingleSend place p e) ts rest h = let f = first h in (f.begins _, f.begins _)
 single_opens (SingleIf place e b) ts rest h = let f = first h in (f.begins _, f.begins _)
 single_opens (SingleIfElse place e b o) ts rest h = let f = first h in (f.begins _, f.begins _)
+single_opens (SingleFor place v b block) ts rest h = let f = first h in (f.begins _, f.begins _)
+single_opens (SingleAdd place e b) ts rest h = let f = first h in (f.begins _, f.begins _)
+single_opens (SingleDrop place e b) ts rest h = let f = first h in (f.begins _, f.begins _)
 
 single_some : (x : Single) → 0 < length (single_spelling x)
 single_some (SingleAssign n e) = omega arith
@@ -188,6 +373,9 @@ single_some (SingleGoto place p) = omega arith
 single_some (SingleSend place p e) = omega arith
 single_some (SingleIf place e b) = omega arith
 single_some (SingleIfElse place e b o) = omega arith
+single_some (SingleFor place v b block) = omega arith
+single_some (SingleAdd place e b) = omega arith
+single_some (SingleDrop place e b) = omega arith
 
 -- ---- Statements as a list of single ones
 
@@ -197,6 +385,9 @@ single_before-spelling (SingleGoto place p) rest = refl
 single_before-spelling (SingleSend place p e) rest = simp append_assoc
 single_before-spelling (SingleIf place e b) rest = simp append_assoc
 single_before-spelling (SingleIfElse place e b o) rest = simp append_assoc
+single_before-spelling (SingleFor place v b block) rest = simp append_assoc
+single_before-spelling (SingleAdd place e b) rest = simp append_assoc
+single_before-spelling (SingleDrop place e b) rest = simp append_assoc
 
 joined-spelling : (ss : List Single) → statements_spelling (joined ss) ≡ flat_map single_spelling ss
 joined-spelling [] = refl
@@ -209,6 +400,9 @@ apart (Goto place p rest) = SingleGoto place p ∷ apart rest
 apart (Send place p e rest) = SingleSend place p e ∷ apart rest
 apart (If place e block rest) = SingleIf place e block ∷ apart rest
 apart (IfElse place e block other rest) = SingleIfElse place e block other ∷ apart rest
+apart (For place v b block rest) = SingleFor place v b block ∷ apart rest
+apart (Add place e b rest) = SingleAdd place e b ∷ apart rest
+apart (Drop place e b rest) = SingleDrop place e b ∷ apart rest
 
 joined-apart : (s : Statements) → joined (apart s) ≡ s
 joined-apart Done = refl
@@ -217,22 +411,48 @@ joined-apart (Goto place p rest) = ap (Goto place p) (joined-apart rest)
 joined-apart (Send place p e rest) = ap (Send place p e) (joined-apart rest)
 joined-apart (If place e block rest) = ap (If place e block) (joined-apart rest)
 joined-apart (IfElse place e block other rest) = ap (IfElse place e block other) (joined-apart rest)
+joined-apart (For place v b block rest) = ap (For place v b block) (joined-apart rest)
+joined-apart (Add place e b rest) = ap (Add place e b) (joined-apart rest)
+joined-apart (Drop place e b rest) = ap (Drop place e b) (joined-apart rest)
 
-are_joined : (limits : Limits) (limit : ℕ) (ss : List Single) → AllByRecursion (IsSingle limits limit) ss → IsBlock limits (suc limit) (joined ss)
-are_joined limits limit [] all = (tt, omega arith)
-are_joined limits limit (SingleAssign n e ∷ ss) all = let r = are_joined limits limit ss all.1 in ((all.0, r.0), r.1)
-are_joined limits limit (SingleGoto place p ∷ ss) all = let r = are_joined limits limit ss all.1 in (r.0, r.1)
-are_joined limits limit (SingleSend place p e ∷ ss) all = let r = are_joined limits limit ss all.1 in ((all.0, r.0), r.1)
-are_joined limits limit (SingleIf place e b ∷ ss) all = let r = are_joined limits limit ss all.1 in ((all.0.0, all.0.1.0, r.0), omega (arith, r.1, all.0.1.1))
-are_joined limits limit (SingleIfElse place e b o ∷ ss) all = let r = are_joined limits limit ss all.1 in ((all.0.0, all.0.1.0, all.0.2.0, r.0), omega (arith, r.1, all.0.1.1, all.0.2.1))
+are_joined : (limits : Limits) (limit loops : ℕ) (ss : List Single) → AllByRecursion (IsSingle limits limit loops) ss
+    → IsBlock limits (suc limit) loops (joined ss)
+are_joined limits limit loops [] all = (tt, omega arith, omega arith)
+are_joined limits limit loops (SingleAssign n e ∷ ss) all = let r = are_joined limits limit loops ss all.1 in ((all.0, r.0), r.1, r.2)
+are_joined limits limit loops (SingleGoto place p ∷ ss) all = let r = are_joined limits limit loops ss all.1 in (r.0, r.1, r.2)
+are_joined limits limit loops (SingleSend place p e ∷ ss) all = let r = are_joined limits limit loops ss all.1 in ((all.0, r.0), r.1, r.2)
+are_joined limits limit loops (SingleIf place e b ∷ ss) all =
+    let r = are_joined limits limit loops ss all.1 in
+    ((all.0.0, all.0.1.0, r.0), omega (arith, r.1, all.0.1.1), omega (arith, r.2, all.0.1.2))
+are_joined limits limit loops (SingleIfElse place e b o ∷ ss) all =
+    let r = are_joined limits limit loops ss all.1 in
+    ((all.0.0, all.0.1.0, all.0.2.0, r.0), omega (arith, r.1, all.0.1.1, all.0.2.1), omega (arith, r.2, all.0.1.2, all.0.2.2))
+are_joined limits limit loops (SingleFor place v b block ∷ ss) all =
+    let r = are_joined limits limit loops ss all.1 in
+    ((all.0.1.0, r.0), omega (arith, r.1, all.0.1.1), omega (arith, r.2, all.0.0, all.0.1.2))
+are_joined limits limit loops (SingleAdd place e b ∷ ss) all = let r = are_joined limits limit loops ss all.1 in ((all.0, r.0), r.1, r.2)
+are_joined limits limit loops (SingleDrop place e b ∷ ss) all = let r = are_joined limits limit loops ss all.1 in ((all.0, r.0), r.1, r.2)
 
-are_apart : (limits : Limits) (limit : ℕ) (s : Statements) → IsBlock limits (suc limit) s → AllByRecursion (IsSingle limits limit) (apart s)
-are_apart limits limit Done is = tt
-are_apart limits limit (Assign n e rest) is = (is.0.0, are_apart limits limit rest (is.0.1, is.1))
-are_apart limits limit (Goto place p rest) is = (tt, are_apart limits limit rest (is.0, is.1))
-are_apart limits limit (Send place p e rest) is = (is.0.0, are_apart limits limit rest (is.0.1, is.1))
-are_apart limits limit (If place e b rest) is = ((is.0.0, (is.0.1, omega (arith, is.1))), are_apart limits limit rest (is.0.2, omega (arith, is.1)))
-are_apart limits limit (IfElse place e b o rest) is = ((is.0.0, (is.0.1, omega (arith, is.1)), (is.0.2, omega (arith, is.1))), are_apart limits limit rest (is.0.3, omega (arith, is.1)))
+are_apart : (limits : Limits) (limit loops : ℕ) (s : Statements) → IsBlock limits (suc limit) loops s
+    → AllByRecursion (IsSingle limits limit loops) (apart s)
+are_apart limits limit loops Done is = tt
+are_apart limits limit loops (Assign n e rest) is = (is.0.0, are_apart limits limit loops rest (is.0.1, is.1, is.2))
+are_apart limits limit loops (Goto place p rest) is = (tt, are_apart limits limit loops rest (is.0, is.1, is.2))
+are_apart limits limit loops (Send place p e rest) is = (is.0.0, are_apart limits limit loops rest (is.0.1, is.1, is.2))
+are_apart limits limit loops (If place e b rest) is = (
+  (is.0.0, (is.0.1, omega (arith, is.1), omega (arith, is.2))),
+  are_apart limits limit loops rest (is.0.2, omega (arith, is.1), omega (arith, is.2)),
+)
+are_apart limits limit loops (IfElse place e b o rest) is = (
+  (is.0.0, (is.0.1, omega (arith, is.1), omega (arith, is.2)), (is.0.2, omega (arith, is.1), omega (arith, is.2))),
+  are_apart limits limit loops rest (is.0.3, omega (arith, is.1), omega (arith, is.2)),
+)
+are_apart limits limit loops (For place v b block rest) is = (
+  (omega (arith, is.2), (is.0.0, omega (arith, is.1), omega (arith, is.2))),
+  are_apart limits limit loops rest (is.0.1, omega (arith, is.1), omega (arith, is.2)),
+)
+are_apart limits limit loops (Add place e b rest) is = (is.0.0, are_apart limits limit loops rest (is.0.1, is.1, is.2))
+are_apart limits limit loops (Drop place e b rest) is = (is.0.0, are_apart limits limit loops rest (is.0.1, is.1, is.2))
 
 -- ---- Blocks
 
@@ -240,7 +460,7 @@ brace_no_else : (ts : List Token) → begins (kind.Symbol symbol.CloseBrace) ts 
 brace_no_else [] e = refl
 brace_no_else (t ∷ ts) e = ap (λ (k : TokenKind). same_kind k (kind.Keyword keyword.Else)) (same_kind-true t.kind (kind.Symbol symbol.CloseBrace) e)
 
-single_listed : IsListed single_spelling (λ rest. begins (kind.Keyword keyword.Else) rest ≡ false) (kind.Symbol symbol.CloseBrace)
+single_listed : IsListed single_spelling NoElse (kind.Symbol symbol.CloseBrace)
 single_listed = record {
   opens = λ x ts rest h. (single_opens x ts rest h).0;
   before = λ x ts rest h. (single_opens x ts rest h).1;
@@ -248,63 +468,60 @@ single_listed = record {
   some = single_some;
 }
 
-pub block_reader : (limits : Limits) (limit : ℕ) → BlockReader limits limit (block_at limits limit)
+pub block_reader : (limits : Limits) (limit loops : ℕ) → BlockReader limits limit loops (block_at limits limit loops)
 unfolding block_at read_then
-block_reader limits zero = record {
+block_reader limits zero loops = record {
   sound = λ ts x e. absurd (err_ok _ _ e);
   complete = λ x ts rest is h ends. absurd (omega (arith, is.1, positive_block x));
 }
-block_reader limits (suc limit) =
-    let r = statement_reader limits limit (block_at limits limit) (block_reader limits limit) in
-    let all = braces_reader (statement_at limits (block_at limits limit) limit) single_spelling (IsSingle limits limit) (λ rest. begins (kind.Keyword keyword.Else) rest ≡ false) r single_listed in
+block_reader limits (suc limit) loops =
+    let r = statement_reader limits limit loops (block_at limits limit) (λ m. block_reader limits limit m) in
+    let all = braces_reader _ single_spelling (IsSingle limits limit loops) NoElse r single_listed in
     record {
       sound = λ ts x e.
           let a = then_ok _ _ _ e in
           let s = all.sound ts a.0 a.1 in
           let spelled : Spans (block_spelling (joined a.0.0)) ts a.0.1 = rw (joined-spelling a.0.0) s.0 in
-          subst (λ (y : Statements × List Token). Spans (block_spelling y.0) ts y.1 × IsBlock limits (suc limit) y.0) (ok_is _ _ a.2) (spelled, are_joined limits limit a.0.0 s.1);
+          subst (λ (y : Statements × List Token). Spans (block_spelling y.0) ts y.1 × IsBlock limits (suc limit) loops y.0) (ok_is _ _ a.2)
+          (spelled, are_joined limits limit loops a.0.0 s.1);
       complete = λ x ts rest is h ends.
           let spelled : Spans (braces (flat_map single_spelling (apart x))) ts rest = rw (← joined-spelling (apart x), joined-apart x) h in
-          let c = all.complete (apart x) ts rest (are_apart limits limit x is) spelled tt in
+          let c = all.complete (apart x) ts rest (are_apart limits limit loops x is) spelled tt in
           rw (c, joined-apart x) refl;
     }
 
-pub statement_shortens : (limits : Limits) (limit : ℕ) → Shortens (statement_at limits (block_at limits limit) limit)
-statement_shortens limits limit = shortens (statement_at limits (block_at limits limit) limit) single_spelling (IsSingle limits limit) _ _ (statement_reader limits limit (block_at limits limit) (block_reader limits limit)) single_listed
+pub statement_shortens : (limits : Limits) (limit loops : ℕ) → Shortens (statement_at limits (block_at limits limit) limit loops)
+statement_shortens limits limit loops =
+    let r = statement_reader limits limit loops (block_at limits limit) (block_reader limits limit) in
+    shortens (statement_at limits (block_at limits limit) limit loops) single_spelling (IsSingle limits limit loops) _ _ r single_listed
 
--- an `if` where no block may follow
-pub if_deep : (limits : Limits) (limit : ℕ) (ts behind : List Token) → limit ≡ 1 → after (kind.Keyword keyword.If) ts ≡ Ok behind → if_at limits (block_at limits (limit - 1)) (limit - 1) ts ≡ Err (TooDeep (place_at ts))
-unfolding if_at within read_then
-if_deep limits limit ts behind e h = rw (e, h) refl
+-- a statement of a block within the limit
+abbrev pub inside_at : Limits → (limit loops : ℕ) → List Token → Read (Single × List Token)
+inside_at limits limit loops = statement_at limits (block_at limits (limit - 1)) (limit - 1) loops
 
--- what follows the condition of an `if`
-abbrev pub block_behind : (limits : Limits) (limit place : ℕ) → Expression → List Token → Read (Single × List Token)
-block_behind limits limit place e ts = read_then (block_at limits limit ts) (λ block. choose (begins (kind.Keyword keyword.Else) block.1) (else_at (block_at limits limit) place e block.0 block.1) (Ok (SingleIf place e block.0, block.1)))
-
-pub if_some : (limits : Limits) (limit : ℕ) (ts behind : List Token) → 1 < limit → after (kind.Keyword keyword.If) ts ≡ Ok behind → if_at limits (block_at limits (limit - 1)) (limit - 1) ts ≡ read_then (expression_at limits.expression 0 behind) (λ e. block_behind limits (limit - 1) (place_at ts) e.0 e.1)
-unfolding if_at read_then
-if_some limits limit ts behind lt h =
-    let room = within_positive (limit - 1) (place_at ts) (expression_at limits.expression 0 behind) (omega (arith, lt)) in
-    rw (h, room) refl
-
-pub block_some : (limits : Limits) (limit : ℕ) (ts : List Token) (ss : List Single) (rest : List Token) → 0 < limit → braces_at (statement_at limits (block_at limits (limit - 1)) (limit - 1)) ts ≡ Ok (ss, rest) → block_at limits limit ts ≡ Ok (joined ss, rest)
+pub block_some : (limits : Limits) (limit loops : ℕ) (ts : List Token) (ss : List Single) (rest : List Token) → 0 < limit
+    → braces_at (inside_at limits limit loops) ts ≡ Ok (ss, rest) → block_at limits limit loops ts ≡ Ok (joined ss, rest)
 unfolding block_at read_then
-block_some limits zero ts ss rest lt e = absurd (omega (arith, lt))
-block_some limits (suc limit) ts ss rest lt e =
+block_some limits zero loops ts ss rest lt e = absurd (omega (arith, lt))
+block_some limits (suc limit) loops ts ss rest lt e =
     let k : suc limit - 1 ≡ limit = omega arith in
-    let f : braces_at (statement_at limits (block_at limits limit) limit) ts ≡ Ok (ss, rest) = subst (λ (n : ℕ). braces_at (statement_at limits (block_at limits n) n) ts ≡ Ok (ss, rest)) k e in
+    let f : braces_at (statement_at limits (block_at limits limit) limit loops) ts ≡ Ok (ss, rest) =
+    subst (λ (n : ℕ). braces_at (statement_at limits (block_at limits n) n loops) ts ≡ Ok (ss, rest)) k e in
     rw f refl
 
-block_err : (limits : Limits) (limit : ℕ) (ts : List Token) (o : Obstacle) → 0 < limit → braces_at (statement_at limits (block_at limits (limit - 1)) (limit - 1)) ts ≡ Err o → block_at limits limit ts ≡ Err o
+block_err : (limits : Limits) (limit loops : ℕ) (ts : List Token) (o : Obstacle) → 0 < limit
+    → braces_at (inside_at limits limit loops) ts ≡ Err o → block_at limits limit loops ts ≡ Err o
 unfolding block_at read_then
-block_err limits zero ts o lt e = absurd (omega (arith, lt))
-block_err limits (suc limit) ts o lt e =
+block_err limits zero loops ts o lt e = absurd (omega (arith, lt))
+block_err limits (suc limit) loops ts o lt e =
     let k : suc limit - 1 ≡ limit = omega arith in
-    let f : braces_at (statement_at limits (block_at limits limit) limit) ts ≡ Err o = subst (λ (n : ℕ). braces_at (statement_at limits (block_at limits n) n) ts ≡ Err o) k e in
+    let f : braces_at (statement_at limits (block_at limits limit) limit loops) ts ≡ Err o =
+    subst (λ (n : ℕ). braces_at (statement_at limits (block_at limits n) n loops) ts ≡ Err o) k e in
     rw f refl
 
-pub block_fails : (e : ParseError) (limits : Limits) (limit : ℕ) (ts : List Token) → 0 < limit → Fails e (braces_at (statement_at limits (block_at limits (limit - 1)) (limit - 1)) ts) → Fails e (block_at limits limit ts)
-block_fails parse_error.Memory limits limit ts lt f = tt
-block_fails (parse_error.Unexpected place) limits limit ts lt f = block_err limits limit ts _ lt f
-block_fails (parse_error.TooDeep place) limits limit ts lt f = block_err limits limit ts _ lt f
-block_fails parse_error.TooShort limits limit ts lt f = block_err limits limit ts _ lt f
+pub block_fails : (e : ParseError) (limits : Limits) (limit loops : ℕ) (ts : List Token) → 0 < limit
+    → Fails e (braces_at (inside_at limits limit loops) ts) → Fails e (block_at limits limit loops ts)
+block_fails parse_error.Memory limits limit loops ts lt f = tt
+block_fails (parse_error.Unexpected place) limits limit loops ts lt f = block_err limits limit loops ts _ lt f
+block_fails (parse_error.TooDeep place) limits limit loops ts lt f = block_err limits limit loops ts _ lt f
+block_fails parse_error.TooShort limits limit loops ts lt f = block_err limits limit loops ts _ lt f

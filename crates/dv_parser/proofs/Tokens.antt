@@ -11,8 +11,10 @@ use Rattle.dv_lex.specs.declared.token.Symbol.{Symbol}
 use Rattle.dv_lex.specs.declared.token.Symbol.TheVariants as symbol
 use Rattle.dv_syntax.specs.declared.tree.Name.{Name}
 use Rattle.dv_syntax.specs.declared.tree.Number.{Number}
-use Rattle.dv_syntax.specs.Grammar.{Spelled, At, Anywhere, Spells, name, number, word, word_at, truth_word}
-use Rattle.dv_parser.specs.Reading.{Obstacle, Read, read_then, choose, maybe, keyword_number, symbol_number, same_kind, begins, after, is_name, begins_name, name_of, name_at, number_of, number_at, truth_at, place_at}
+use Rattle.dv_syntax.specs.declared.tree.BagCall.{BagCall}
+use Rattle.dv_syntax.specs.declared.tree.BagCall.TheVariants as call
+use Rattle.dv_syntax.specs.Grammar.{Spelled, At, Anywhere, Spells, name, number, word, word_at, truth_word, call_word}
+use Rattle.dv_parser.specs.Reading.{Obstacle, Read, read_then, choose, maybe, keyword_number, symbol_number, same_kind, begins, after, is_name, begins_name, name_of, name_at, number_of, number_at, truth_at, word_of_at, call_word_at, place_at}
 
 -- ---- What was read
 
@@ -230,6 +232,24 @@ unfolding truth_at choose read_then
 truth_front true ss ts rest h = let f = front (word keyword.True) ss ts rest h in (f.behind, rw (f.begins (kind.Keyword keyword.True), f.after) refl, f.spelled)
 truth_front false ss ts rest h = let f = front (word keyword.False) ss ts rest h in (f.behind, rw (f.begins (kind.Keyword keyword.True), f.after) refl, f.spelled)
 
+pub call_front : (c : BagCall) (ss : List Spelled) (ts rest : List Token) → Spells (word (call_word c) ∷ ss) ts rest
+    → (behind : List Token) × (call_word_at ts ≡ Ok (c, behind)) × Spells ss behind rest
+unfolding call_word_at word_of_at choose read_then
+call_front call.Size ss ts rest h =
+    let f = front (word keyword.Size) ss ts rest h in
+    (f.behind, rw (f.begins (kind.Keyword keyword.Size), f.after) refl, f.spelled)
+call_front call.Sum ss ts rest h =
+    let f = front (word keyword.Sum) ss ts rest h in
+    (f.behind, rw (f.begins (kind.Keyword keyword.Size), f.begins (kind.Keyword keyword.Sum), f.after) refl, f.spelled)
+call_front call.Least ss ts rest h =
+    let f = front (word keyword.Least) ss ts rest h in
+    let sum = f.begins (kind.Keyword keyword.Sum) in
+    (f.behind, rw (f.begins (kind.Keyword keyword.Size), sum, f.begins (kind.Keyword keyword.Least), f.after) refl, f.spelled)
+call_front call.Most ss ts rest h =
+    let f = front (word keyword.Most) ss ts rest h in
+    let sum = f.begins (kind.Keyword keyword.Sum) in
+    (f.behind, rw (f.begins (kind.Keyword keyword.Size), sum, f.begins (kind.Keyword keyword.Least), f.after) refl, f.spelled)
+
 -- a token whose place is kept is one that stands anywhere
 pub unplaced : (k : TokenKind) (place : ℕ) (ss : List Spelled) (ts rest : List Token) → Spells (At k place ∷ ss) ts rest → Spells (Anywhere k ∷ ss) ts rest
 unplaced k place ss [] rest h = absurd h
@@ -278,4 +298,29 @@ truth_spells ss ts rest x e h =
       | inr p ↦
           let a = then_ok _ _ _ p.1 in
           subst (λ (y : Bool × List Token). Spells ss y.1 rest → Spells (word_at (truth_word y.0) (place_at ts) ∷ ss) ts rest) (ok_is _ _ a.2) (after_spells_at (kind.Keyword keyword.False) ss ts a.0 rest a.1) h
+    ]
+
+-- what is known of the word of a call that was read, before what is spelled
+abbrev CallSpells : List Spelled → List Token → List Token → BagCall × List Token → Type 0
+CallSpells ss ts rest x = Spells ss x.1 rest → Spells (word_at (call_word x.0) (place_at ts) ∷ ss) ts rest
+
+word_of_spells : (c : BagCall) (ss : List Spelled) (ts rest : List Token) (x : BagCall × List Token) → word_of_at c ts ≡ Ok x
+    → CallSpells ss ts rest x
+unfolding word_of_at
+word_of_spells c ss ts rest x e =
+    let a = then_ok _ _ _ e in
+    subst (CallSpells ss ts rest) (ok_is _ _ a.2) (after_spells_at (kind.Keyword (call_word c)) ss ts a.0 rest a.1)
+
+pub call_spells : (ss : List Spelled) (ts rest : List Token) (x : BagCall × List Token) → call_word_at ts ≡ Ok x → CallSpells ss ts rest x
+unfolding call_word_at
+call_spells ss ts rest x e =
+    elim (chosen _ _ _ _ e) [
+      | inl p ↦ word_of_spells call.Size ss ts rest x p.1
+      | inr p ↦ elim (chosen _ _ _ _ p.1) [
+        | inl q ↦ word_of_spells call.Sum ss ts rest x q.1
+        | inr q ↦ elim (chosen _ _ _ _ q.1) [
+          | inl r ↦ word_of_spells call.Least ss ts rest x r.1
+          | inr r ↦ word_of_spells call.Most ss ts rest x r.1
+        ]
+      ]
     ]

@@ -14,9 +14,12 @@ use Rattle.dv_syntax.specs.declared.tree.Prefix.{Prefix}
 use Rattle.dv_syntax.specs.declared.tree.Prefix.TheVariants as prefix
 use Rattle.dv_syntax.specs.declared.tree.Operator.{Operator}
 use Rattle.dv_syntax.specs.declared.tree.Operator.TheVariants as operator
+use Rattle.dv_syntax.specs.declared.tree.BagCall.{BagCall}
+use Rattle.dv_syntax.specs.declared.tree.BagCall.TheVariants as call
 use Rattle.dv_syntax.specs.declared.tree.Bound.{Bound}
 use Rattle.dv_syntax.specs.declared.tree.Variable.{Variable}
 use Rattle.dv_syntax.specs.declared.tree.Flag.{Flag}
+use Rattle.dv_syntax.specs.declared.tree.StateBag.{StateBag}
 use Rattle.dv_syntax.specs.declared.tree.RuleSort.{RuleSort}
 use Rattle.dv_syntax.specs.declared.tree.RuleSort.TheVariants as sort
 use Rattle.dv_syntax.specs.declared.tree.End.{End}
@@ -35,9 +38,9 @@ use Rattle.dv_lex.specs.declared.error.LoadError.{LoadError}
 use Rattle.dv_lex.specs.declared.error.LoadError.TheVariants as error
 use Rattle.dv_lex.specs.declared.error.Refusal.{Refusal}
 use Rattle.dv_lex.specs.declared.error.RefusalNumber.TheVariants.{E4, E5}
-use Rattle.dv_syntax.specs.Trees.{expression_of, row_statements, phases_of, hold_of, rule_of, Expression, Literal, TruthValue, Named, Parens, Prefixed, Binary, Statements, Done, Assign, Goto, Send, If, IfElse, AtomicTree, CoupledTree, ModelTree, AtomicModel, CoupledModel, FileTree}
+use Rattle.dv_syntax.specs.Trees.{expression_of, row_statements, phases_of, hold_of, rule_of, Expression, Literal, TruthValue, Named, Parens, Prefixed, Binary, Call, Times, Statements, Done, Assign, Goto, Send, If, IfElse, For, Add, Drop, AtomicTree, CoupledTree, ModelTree, AtomicModel, CoupledModel, FileTree}
 use Rattle.dv_syntax.specs.Written.{AtomicItem, Declares, Lists, Starts, Holds, Rules, CoupledItem, Outputs, Contains, Couples, WrittenModel, WrittenAtomic, WrittenCoupled, WrittenFile, sorted_items, sorted_coupled_items}
-use Rattle.dv_syntax.specs.Grammar.{Limits, the_limits, prefix_kind, prefix_rank, operator_rank, left_rank, rank, depth, sort_word}
+use Rattle.dv_syntax.specs.Grammar.{Limits, the_limits, prefix_kind, prefix_rank, operator_rank, left_rank, rank, depth, call_word, sort_word}
 
 -- What stops a reader: the token at a place can't stand there, or what begins with it, or what it joins, lies too deep; or
 -- more tokens have to follow.
@@ -203,6 +206,25 @@ truth_at ts = choose (begins (kind.Keyword keyword.True) ts)
     (after (kind.Keyword keyword.True) ts >>= λ rest. Ok (true, rest))
     (after (kind.Keyword keyword.False) ts >>= λ rest. Ok (false, rest))
 
+-- the word of this call comes first
+abbrev pub begins_word_of : BagCall → List Token → Bool
+begins_word_of c ts = begins (kind.Keyword (call_word c)) ts
+
+-- a call, by its word
+unfoldable pub word_of_at : BagCall → List Token → Read (BagCall × List Token)
+word_of_at c ts = after (kind.Keyword (call_word c)) ts >>= λ rest. Ok (c, rest)
+
+-- `size`, `sum`, `least` or `most`
+abbrev pub begins_call : List Token → Bool
+begins_call ts = begins_word_of call.Size ts || begins_word_of call.Sum ts || begins_word_of call.Least ts || begins_word_of call.Most ts
+
+unfoldable pub call_word_at : List Token → Read (BagCall × List Token)
+call_word_at ts =
+    choose (begins_word_of call.Size ts) (word_of_at call.Size ts)
+    (choose (begins_word_of call.Sum ts) (word_of_at call.Sum ts)
+    (choose (begins_word_of call.Least ts) (word_of_at call.Least ts)
+    (word_of_at call.Most ts)))
+
 -- ---- Expressions
 
 abbrev pub keyword_operator : Keyword → Option Operator
@@ -245,11 +267,21 @@ abbrev pub begins_name : List Token → Bool
 begins_name [] = false
 begins_name (t ∷ ts) = is_name t.kind
 
--- a name, a truth value or a number
+-- a question about a bag
+unfoldable pub call_at : List Token → Read (Expression × List Token)
+call_at ts = do
+  c ← call_word_at ts
+  inside ← after (kind.Symbol symbol.OpenParen) c.1
+  bag ← name_at inside
+  rest ← after (kind.Symbol symbol.CloseParen) bag.1
+  Ok (Call c.0 (place_at ts) bag.0, rest)
+
+-- a name, a truth value, a call or a number
 unfoldable pub leaf_at : List Token → Read (Expression × List Token)
 leaf_at ts = choose (begins_name ts) (name_at ts >>= λ n. Ok (Named n.0, n.1))
     (choose (begins_truth ts) (truth_at ts >>= λ v. Ok (TruthValue (place_at ts) v.0, v.1))
-    (number_at ts >>= λ n. Ok (Literal n.0, n.1)))
+    (choose (begins_call ts) (call_at ts)
+    (number_at ts >>= λ n. Ok (Literal n.0, n.1))))
 
 -- what a reader reads where there is room for it, and else an obstacle at the place of what owes it
 unfoldable pub within : {A : Type 0} → (limit place : ℕ) → Read A → Read A
@@ -257,7 +289,7 @@ within zero place read = Err (TooDeep place)
 within (suc limit) place read = read
 
 -- An operand that no operator joins to another, at a level: `not` stands where no operator binds more tightly than it.
--- `operand` reads what lies behind an operator or a parenthesis, at a level, no deeper than the limit.
+-- `operand` reads what lies behind an operator, in parentheses or in `times`, at a level, no deeper than the limit.
 unfoldable pub parens_at : (ℕ → List Token → Read (Expression × List Token)) → ℕ → List Token → Read (Expression × List Token)
 parens_at operand limit ts = do
   inside ← after (kind.Symbol symbol.OpenParen) ts
@@ -271,6 +303,17 @@ prefixed_at o operand limit ts = do
   e ← within limit (place_at ts) (operand (prefix_rank o) behind)
   Ok (Prefixed o (place_at ts) e.0, e.1)
 
+-- how often a value is in a bag
+unfoldable pub times_at : (ℕ → List Token → Read (Expression × List Token)) → ℕ → List Token → Read (Expression × List Token)
+times_at operand limit ts = do
+  behind ← after (kind.Keyword keyword.Times) ts
+  inside ← within limit (place_at ts) (after (kind.Symbol symbol.OpenParen) behind)
+  e ← operand 0 inside
+  comma ← after (kind.Symbol symbol.Comma) e.1
+  bag ← name_at comma
+  rest ← after (kind.Symbol symbol.CloseParen) bag.1
+  Ok (Times (place_at ts) e.0 bag.0, rest)
+
 -- a prefix comes first, and may stand at the level
 abbrev pub begins_prefix : Prefix → ℕ → List Token → Bool
 begins_prefix o level ts = begins (prefix_kind o) ts && nat_le level (prefix_rank o)
@@ -278,9 +321,10 @@ begins_prefix o level ts = begins (prefix_kind o) ts && nat_le level (prefix_ran
 unfoldable pub primary_at : (ℕ → List Token → Read (Expression × List Token)) → (limit level : ℕ) → List Token → Read (Expression × List Token)
 primary_at operand limit level ts =
     choose (begins (kind.Symbol symbol.OpenParen) ts) (parens_at operand limit ts)
+    (choose (begins (kind.Keyword keyword.Times) ts) (times_at operand limit ts)
     (choose (begins_prefix prefix.Minus level ts) (prefixed_at prefix.Minus operand limit ts)
     (choose (begins_prefix prefix.Not level ts) (prefixed_at prefix.Not operand limit ts)
-    (leaf_at ts)))
+    (leaf_at ts))))
 
 -- What follows a left operand, as long as an operator of the level goes on with it. `more` counts the turns that are left.
 abbrev pub turns : (ℕ → List Token → Read (Expression × List Token)) → (limit more level : ℕ) → Expression → List Token → Read (Expression × List Token)
@@ -332,6 +376,9 @@ pub data Single : Type 0 where
   SingleSend : (place : ℕ) → (port : Name) → (value : Expression) → Single
   SingleIf : (place : ℕ) → (condition : Expression) → (block : Statements) → Single
   SingleIfElse : (place : ℕ) → (condition : Expression) → (block other : Statements) → Single
+  SingleFor : (place : ℕ) → (variable bag : Name) → (block : Statements) → Single
+  SingleAdd : (place : ℕ) → (value : Expression) → (bag : Name) → Single
+  SingleDrop : (place : ℕ) → (value : Expression) → (bag : Name) → Single
 
 abbrev pub single_before : Single → Statements → Statements
 single_before (SingleAssign n e) rest = Assign n e rest
@@ -339,6 +386,9 @@ single_before (SingleGoto place p) rest = Goto place p rest
 single_before (SingleSend place p e) rest = Send place p e rest
 single_before (SingleIf place e block) rest = If place e block rest
 single_before (SingleIfElse place e block other) rest = IfElse place e block other rest
+single_before (SingleFor place v b block) rest = For place v b block rest
+single_before (SingleAdd place e b) rest = Add place e b rest
+single_before (SingleDrop place e b) rest = Drop place e b rest
 
 abbrev pub joined : List Single → Statements
 joined [] = Done
@@ -350,6 +400,9 @@ single_of (stmt.Goto place p) = SingleGoto place p
 single_of (stmt.Send place p e) = SingleSend place p (expression_of e)
 single_of (stmt.If' place e shape block) = SingleIf place (expression_of e) (row_statements block)
 single_of (stmt.IfElse' place e shape block other_shape other) = SingleIfElse place (expression_of e) (row_statements block) (row_statements other)
+single_of (stmt.For' place v b shape block) = SingleFor place v b (row_statements block)
+single_of (stmt.Add place e b) = SingleAdd place (expression_of e) b
+single_of (stmt.Drop place e b) = SingleDrop place (expression_of e) b
 
 unfoldable pub assign_at : Limits → List Token → Read (Single × List Token)
 assign_at limits ts = do
@@ -374,6 +427,24 @@ send_at limits ts = do
   rest ← after (kind.Symbol symbol.Semicolon) e.1
   Ok (SingleSend (place_at ts) n.0 e.0, rest)
 
+unfoldable pub add_at : Limits → List Token → Read (Single × List Token)
+add_at limits ts = do
+  behind ← after (kind.Keyword keyword.Add) ts
+  e ← expression_at limits.expression 0 behind
+  word ← after (kind.Keyword keyword.To) e.1
+  bag ← name_at word
+  rest ← after (kind.Symbol symbol.Semicolon) bag.1
+  Ok (SingleAdd (place_at ts) e.0 bag.0, rest)
+
+unfoldable pub drop_at : Limits → List Token → Read (Single × List Token)
+drop_at limits ts = do
+  behind ← after (kind.Keyword keyword.Drop) ts
+  e ← expression_at limits.expression 0 behind
+  word ← after (kind.Keyword keyword.From) e.1
+  bag ← name_at word
+  rest ← after (kind.Symbol symbol.Semicolon) bag.1
+  Ok (SingleDrop (place_at ts) e.0 bag.0, rest)
+
 -- what follows the block of an `if`
 unfoldable pub else_at : (List Token → Read (Statements × List Token)) → ℕ → Expression → Statements → List Token → Read (Single × List Token)
 else_at block_at place e block ts = do
@@ -389,17 +460,32 @@ if_at limits block_at limit ts = do
   block ← block_at e.1
   choose (begins (kind.Keyword keyword.Else) block.1) (else_at block_at (place_at ts) e.0 block.0 block.1) (Ok (SingleIf (place_at ts) e.0 block.0, block.1))
 
-unfoldable pub statement_at : Limits → (List Token → Read (Statements × List Token)) → ℕ → List Token → Read (Single × List Token)
-statement_at limits block_at limit ts =
+-- The limit is that of the blocks. `loops` is how many loops may lie in one another here; in the block it is one less.
+unfoldable pub for_at : (ℕ → List Token → Read (Statements × List Token)) → (limit loops : ℕ) → List Token → Read (Single × List Token)
+for_at block_at limit loops ts = do
+  behind ← after (kind.Keyword keyword.For) ts
+  v ← within limit (place_at ts) (within loops (place_at ts) (name_at behind))
+  word ← after (kind.Keyword keyword.In) v.1
+  bag ← name_at word
+  block ← block_at (loops - 1) bag.1
+  Ok (SingleFor (place_at ts) v.0 bag.0 block.0, block.1)
+
+-- `block_at` reads a block, by how many loops may lie in one another in it.
+unfoldable pub statement_at : Limits → (ℕ → List Token → Read (Statements × List Token)) → (limit loops : ℕ) → List Token
+    → Read (Single × List Token)
+statement_at limits block_at limit loops ts =
     choose (begins (kind.Keyword keyword.Goto) ts) (goto_at ts)
     (choose (begins (kind.Keyword keyword.Send) ts) (send_at limits ts)
-    (choose (begins (kind.Keyword keyword.If) ts) (if_at limits block_at limit ts)
-    (assign_at limits ts)))
+    (choose (begins (kind.Keyword keyword.If) ts) (if_at limits (block_at loops) limit ts)
+    (choose (begins (kind.Keyword keyword.For) ts) (for_at block_at limit loops ts)
+    (choose (begins (kind.Keyword keyword.Add) ts) (add_at limits ts)
+    (choose (begins (kind.Keyword keyword.Drop) ts) (drop_at limits ts)
+    (assign_at limits ts))))))
 
--- a block in which blocks lie in one another no deeper than the limit
-unfoldable pub block_at : Limits → ℕ → List Token → Read (Statements × List Token)
-block_at limits zero ts = Err TooShort
-block_at limits (suc limit) ts = braces_at (statement_at limits (block_at limits limit) limit) ts >>= λ x. Ok (joined x.0, x.1)
+-- a block in which blocks lie in one another no deeper than the limit, and at most so many loops
+unfoldable pub block_at : Limits → (limit loops : ℕ) → List Token → Read (Statements × List Token)
+block_at limits zero loops ts = Err TooShort
+block_at limits (suc limit) loops ts = braces_at (statement_at limits (block_at limits limit) limit loops) ts >>= λ x. Ok (joined x.0, x.1)
 
 -- ---- Atomic models
 
@@ -429,6 +515,14 @@ flag_at ts = do
   start ← truth_at equal
   rest ← after (kind.Symbol symbol.Semicolon) start.1
   Ok (record { name = n.0; start = start.0 }, rest)
+
+unfoldable pub bag_at : List Token → Read (StateBag × List Token)
+bag_at ts = do
+  behind ← after (kind.Keyword keyword.Bag) ts
+  n ← name_at behind
+  capacity ← number_at n.1
+  rest ← after (kind.Symbol symbol.Semicolon) capacity.1
+  Ok (record { name = n.0; capacity = capacity.0 }, rest)
 
 -- a comma and a name
 unfoldable pub further_name_at : List Token → Read (Name × List Token)
@@ -467,7 +561,7 @@ unfoldable pub rule_at : Limits → RuleSort → List Token → Read (AtomicItem
 rule_at limits sort ts = do
   behind ← after (kind.Keyword (sort_word sort)) ts
   n ← name_at behind
-  body ← block_at limits limits.block n.1
+  body ← block_at limits limits.block limits.loop n.1
   Ok (Rules (record { sort = sort; phase = n.0; body = body.0 }), body.1)
 
 -- `out port;`
@@ -483,11 +577,12 @@ item_at limits ts =
     choose (begins (kind.Keyword keyword.Out) ts) (out_at ts >>= λ n. Ok (Declares (declaration.Out n.0), n.1))
     (choose (begins (kind.Keyword keyword.Var) ts) (variable_at ts >>= λ v. Ok (Declares (declaration.Var v.0), v.1))
     (choose (begins (kind.Keyword keyword.Flag) ts) (flag_at ts >>= λ f. Ok (Declares (declaration.Flag f.0), f.1))
+    (choose (begins (kind.Keyword keyword.Bag) ts) (bag_at ts >>= λ b. Ok (Declares (declaration.Bag b.0), b.1))
     (choose (begins (kind.Keyword keyword.Phases) ts) (phases_at ts)
     (choose (begins (kind.Keyword keyword.Start) ts) (start_at ts)
     (choose (begins (kind.Keyword keyword.Hold) ts) (hold_at limits ts)
     (choose (begins (kind.Keyword keyword.Output) ts) (rule_at limits sort.Output ts)
-    (rule_at limits sort.Internal ts)))))))
+    (rule_at limits sort.Internal ts))))))))
 
 unfoldable pub atomic_at : Limits → List Token → Read ((Name × List AtomicItem) × List Token)
 atomic_at limits ts = do

@@ -3,7 +3,7 @@
 ghost use Rattle.std.specs.Prelude.{◌≡◌, [], OnOk, IfErr};
 ghost use Rattle.dv_syntax.specs.Trees.{ticks_of, atomic_of};
 ghost use Rattle.dv_syntax.specs.Grammar.{the_limits, sort_word};
-ghost use Rattle.dv_parser.specs.Reading.{Gives, with_front, many_at, braces_at, bound_at, variable_at, flag_at, further_name_at, phases_at, start_at, ticks_at, hold_at, rule_at, out_at, item_at, item_of, with_item, with_items, empty_atomic, becoming, atomic_tree_at};
+ghost use Rattle.dv_parser.specs.Reading.{Gives, with_front, many_at, braces_at, bound_at, variable_at, flag_at, bag_at, further_name_at, phases_at, start_at, ticks_at, hold_at, rule_at, out_at, item_at, item_of, with_item, with_items, empty_atomic, becoming, atomic_tree_at};
 
 use crate::expression::expression;
 use crate::parse_error::ParseError;
@@ -14,12 +14,16 @@ use crate::token::{
 };
 use dv_lex::{Keyword, Symbol, Token, TokenKind};
 use dv_syntax::{
-    Atomic, Bound, Declaration, Flag, Hold, Name, Phases, Rule, RuleSort, Start, Ticks, Variable,
+    Atomic, Bound, Declaration, Flag, Hold, Name, Phases, Rule, RuleSort, Start, StateBag, Ticks,
+    Variable,
 };
 use std::alloc::Global;
 
 /// How deep the blocks of a rule may lie in one another.
 const BLOCK_LIMIT: u32 = 16;
+
+/// How many loops of a rule may lie in one another.
+const LOOP_LIMIT: u32 = 3;
 
 /// An item of an atomic model.
 #[derive(Debug, Drop)]
@@ -110,6 +114,21 @@ fn flag(tokens: &[Token]) -> Result<(Flag, &[Token]), ParseError>
     let (start, rest) = truth(rest)?;
     let rest = after_symbol(rest, Symbol::Semicolon)?;
     Ok((Flag { name, start }, rest))
+}
+
+/// `bag name capacity;`
+#[tactic(auto, unfolding(crate::specs::Reading::bag_at, crate::specs::Reading::read_then))]
+fn bag(tokens: &[Token]) -> Result<(StateBag, &[Token]), ParseError>
+    ensures { Gives (λ x. (x.0, x.1.now)) result (bag_at tokens.now) }
+{
+    let rest = after_keyword(tokens, Keyword::Bag)?;
+    let (name, rest) = name(rest)?;
+    let (capacity, rest) = match number(rest) {
+        Ok(read) => read,
+        Err(e) => return Err(e),
+    };
+    let rest = after_symbol(rest, Symbol::Semicolon)?;
+    Ok((StateBag { name, capacity }, rest))
 }
 
 /// A comma and a name.
@@ -220,7 +239,7 @@ fn rule(
 {
     let rest = after_keyword(tokens, word_of(sort))?;
     let (phase, rest) = name(rest)?;
-    let (body, rest) = block(alloc, rest, BLOCK_LIMIT)?;
+    let (body, rest) = block(alloc, rest, BLOCK_LIMIT, LOOP_LIMIT)?;
     Ok((AtomicItem::Rules(Rule { sort, phase, body }), rest))
 }
 
@@ -252,6 +271,12 @@ fn item(alloc: Global, tokens: &[Token]) -> Result<(AtomicItem, &[Token]), Parse
     } else if begins_with_keyword(tokens, Keyword::Flag) {
         let (flag, rest) = flag(tokens)?;
         Ok((AtomicItem::Declares(Declaration::Flag(flag)), rest))
+    } else if begins_with_keyword(tokens, Keyword::Bag) {
+        let (bag, rest) = match bag(tokens) {
+            Ok(read) => read,
+            Err(e) => return Err(e),
+        };
+        Ok((AtomicItem::Declares(Declaration::Bag(bag)), rest))
     } else if begins_with_keyword(tokens, Keyword::Phases) {
         phases(alloc, tokens)
     } else if begins_with_keyword(tokens, Keyword::Start) {

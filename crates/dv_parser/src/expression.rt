@@ -3,12 +3,13 @@
 ghost use Rattle.std.specs.Prelude.{◌≡◌, ◌+◌, ◌-◌, ◌<◌, ◌≤◌, IfOk, MatchOption, None, Some};
 ghost use Rattle.dv_syntax.specs.Trees.{expression_of};
 ghost use Rattle.dv_syntax.specs.Grammar.{prefix_kind, prefix_rank, operator_rank, left_rank, rank, depth};
-ghost use Rattle.dv_parser.specs.Reading.{Gives, operator_of, keyword_operator, symbol_operator, goes_on, operator_at, place_at, leaf_at, parens_at, prefixed_at, begins_prefix, primary_at, expression_at};
+ghost use Rattle.dv_parser.specs.Reading.{Gives, operator_of, keyword_operator, symbol_operator, goes_on, operator_at, place_at, call_at, leaf_at, parens_at, prefixed_at, times_at, begins_prefix, primary_at, expression_at};
 
 use crate::parse_error::ParseError;
 use crate::token::{
-    after_kind, after_symbol, begins_with, begins_with_name, begins_with_symbol, begins_with_truth,
-    first_place, name, number, truth,
+    after_keyword, after_kind, after_symbol, begins_with, begins_with_call, begins_with_keyword,
+    begins_with_name, begins_with_symbol, begins_with_truth, call_word, first_place, name, number,
+    truth,
 };
 use dv_lex::{Keyword, Symbol, Token, TokenKind};
 use dv_syntax::{Expr, Operator, Prefix};
@@ -120,7 +121,12 @@ fn rank_of(expression: &Expr) -> u32
     match expression {
         Expr::Binary { operator, .. } => rank_of_operator(*operator),
         Expr::Prefixed { operator, .. } => rank_of_prefix(*operator),
-        Expr::Literal(_) | Expr::TruthValue { .. } | Expr::Named(_) | Expr::Parens { .. } => SINGLE,
+        Expr::Literal(_)
+        | Expr::TruthValue { .. }
+        | Expr::Named(_)
+        | Expr::Parens { .. }
+        | Expr::Call { .. }
+        | Expr::Times { .. } => SINGLE,
     }
 }
 
@@ -147,7 +153,21 @@ fn next_operator<'a>(
     }
 }
 
-/// A name, a truth value or a number, and what follows it.
+/// A question about a bag, and what follows it.
+#[tactic(auto, unfolding(crate::specs::Reading::call_at, crate::specs::Reading::read_then))]
+fn call(tokens: &[Token]) -> Result<(Expr, &[Token]), ParseError>
+    ensures gives { Gives (λ x. (expression_of x.0, x.1.now)) result (call_at tokens.now) }
+    ensures depth { IfOk result (λ x. depth (expression_of x.0) ≡ 1) }
+{
+    let place = first_place(tokens);
+    let (call, rest) = call_word(tokens)?;
+    let rest = after_symbol(rest, Symbol::OpenParen)?;
+    let (bag, rest) = name(rest)?;
+    let rest = after_symbol(rest, Symbol::CloseParen)?;
+    Ok((Expr::Call { call, place, bag }, rest))
+}
+
+/// A name, a truth value, a call or a number, and what follows it.
 #[tactic(auto, unfolding(crate::specs::Reading::leaf_at, crate::specs::Reading::read_then, crate::specs::Reading::choose))]
 fn leaf(tokens: &[Token]) -> Result<(Expr, &[Token]), ParseError>
     ensures gives { Gives (λ x. (expression_of x.0, x.1.now)) result (leaf_at tokens.now) }
@@ -160,6 +180,8 @@ fn leaf(tokens: &[Token]) -> Result<(Expr, &[Token]), ParseError>
         let place = first_place(tokens);
         let (value, rest) = truth(tokens)?;
         Ok((Expr::TruthValue { place, value }, rest))
+    } else if begins_with_call(tokens) {
+        call(tokens)
     } else {
         let (number, rest) = match number(tokens) {
             Ok(read) => read,
@@ -222,6 +244,31 @@ fn prefixed(
     Ok((expression, depth + 1, rest))
 }
 
+/// How often a value is in a bag.
+#[cycle(expression)]
+#[tactic(auto, unfolding(crate::specs::Reading::times_at, crate::specs::Reading::within, crate::specs::Reading::read_then))]
+fn times(alloc: Global, tokens: &[Token], limit: u32) -> Result<(Expr, u32, &[Token]), ParseError>
+    requires positive { 0 < limit }
+    requires bounded { limit ≤ 64 }
+    ensures gives { Gives (λ x. (expression_of x.0, x.2.now)) result
+        (times_at (expression_at (limit - 1)) (limit - 1) tokens.now) }
+    ensures depth { IfOk result (λ x. x.1 ≡ depth (expression_of x.0)) }
+    ensures within { IfOk result (λ x. (0 < x.1) × (x.1 ≤ limit)) }
+{
+    let place = first_place(tokens);
+    let behind = after_keyword(tokens, Keyword::Times)?;
+    if limit == 1 {
+        return Err(ParseError::TooDeep(place));
+    }
+    let inside = after_symbol(behind, Symbol::OpenParen)?;
+    let (value, depth, rest) = within(alloc, inside, limit - 1, 0)?;
+    let rest = after_symbol(rest, Symbol::Comma)?;
+    let (bag, rest) = name(rest)?;
+    let rest = after_symbol(rest, Symbol::CloseParen)?;
+    let value = Box::new(alloc, value)?;
+    Ok((Expr::Times { place, value, bag }, depth + 1, rest))
+}
+
 /// Whether an operator before its operand comes first, and may stand at the level.
 fn begins_with_prefix(tokens: &[Token], operator: Prefix, level: u32) -> bool
     ensures { result ≡ begins_prefix operator level tokens.now }
@@ -247,6 +294,8 @@ fn primary(
 {
     if begins_with_symbol(tokens, Symbol::OpenParen) {
         parens(alloc, tokens, limit)
+    } else if begins_with_keyword(tokens, Keyword::Times) {
+        times(alloc, tokens, limit)
     } else if begins_with_prefix(tokens, Prefix::Minus, level) {
         prefixed(alloc, tokens, Prefix::Minus, limit)
     } else if begins_with_prefix(tokens, Prefix::Not, level) {

@@ -3,7 +3,7 @@
 ghost use Rattle.std.specs.Prelude.{◌-◌, ◌<◌, ◌≤◌, map};
 ghost use Rattle.dv_syntax.specs.Trees.{block_of};
 ghost use Rattle.dv_syntax.specs.Grammar.{the_limits};
-ghost use Rattle.dv_parser.specs.Reading.{Gives, single_of, many_at, assign_at, goto_at, send_at, if_at, statement_at, braces_at, block_at};
+ghost use Rattle.dv_parser.specs.Reading.{Gives, single_of, many_at, assign_at, goto_at, send_at, add_at, drop_at, if_at, for_at, statement_at, braces_at, block_at};
 
 use crate::expression::expression;
 use crate::parse_error::ParseError;
@@ -51,13 +51,46 @@ fn send(alloc: Global, tokens: &[Token]) -> Result<(Stmt, &[Token]), ParseError>
     Ok((Stmt::Send { place, port, value }, rest))
 }
 
+/// `add value to bag;`
+#[tactic(auto, unfolding(crate::specs::Reading::add_at, crate::specs::Reading::read_then))]
+fn add_to_bag(alloc: Global, tokens: &[Token]) -> Result<(Stmt, &[Token]), ParseError>
+    ensures { Gives (λ x. (single_of x.0, x.1.now)) result (add_at the_limits tokens.now) }
+{
+    let place = first_place(tokens);
+    let rest = after_keyword(tokens, Keyword::Add)?;
+    let (value, rest) = expression(alloc, rest)?;
+    let rest = after_keyword(rest, Keyword::To)?;
+    let (bag, rest) = name(rest)?;
+    let rest = after_symbol(rest, Symbol::Semicolon)?;
+    Ok((Stmt::Add { place, value, bag }, rest))
+}
+
+/// `drop value from bag;`
+#[tactic(auto, unfolding(crate::specs::Reading::drop_at, crate::specs::Reading::read_then))]
+fn drop_from_bag(alloc: Global, tokens: &[Token]) -> Result<(Stmt, &[Token]), ParseError>
+    ensures { Gives (λ x. (single_of x.0, x.1.now)) result (drop_at the_limits tokens.now) }
+{
+    let place = first_place(tokens);
+    let rest = after_keyword(tokens, Keyword::Drop)?;
+    let (value, rest) = expression(alloc, rest)?;
+    let rest = after_keyword(rest, Keyword::From)?;
+    let (bag, rest) = name(rest)?;
+    let rest = after_symbol(rest, Symbol::Semicolon)?;
+    Ok((Stmt::Drop { place, value, bag }, rest))
+}
+
 /// `if condition { .. }`, and its `else` where that follows.
 #[cycle(block)]
 #[tactic(auto, unfolding(crate::specs::Reading::if_at, crate::specs::Reading::within, crate::specs::Reading::else_at, crate::specs::Reading::read_then, crate::specs::Reading::choose))]
-fn if_statement(alloc: Global, tokens: &[Token], limit: u32) -> Result<(Stmt, &[Token]), ParseError>
+fn if_statement(
+    alloc: Global,
+    tokens: &[Token],
+    limit: u32,
+    loops: u32,
+) -> Result<(Stmt, &[Token]), ParseError>
     requires { 0 < limit }
     ensures { Gives (λ x. (single_of x.0, x.1.now)) result
-        (if_at the_limits (block_at the_limits (limit - 1)) (limit - 1) tokens.now) }
+        (if_at the_limits (block_at the_limits (limit - 1) loops) (limit - 1) tokens.now) }
 {
     let place = first_place(tokens);
     let rest = after_keyword(tokens, Keyword::If)?;
@@ -65,10 +98,10 @@ fn if_statement(alloc: Global, tokens: &[Token], limit: u32) -> Result<(Stmt, &[
         return Err(ParseError::TooDeep(place));
     }
     let (condition, rest) = expression(alloc, rest)?;
-    let (then_block, rest) = block(alloc, rest, limit - 1)?;
+    let (then_block, rest) = block(alloc, rest, limit - 1, loops)?;
     if begins_with_keyword(rest, Keyword::Else) {
         let rest = after_keyword(rest, Keyword::Else)?;
-        let (else_block, rest) = block(alloc, rest, limit - 1)?;
+        let (else_block, rest) = block(alloc, rest, limit - 1, loops)?;
         Ok((
             Stmt::IfElse {
                 place,
@@ -90,20 +123,64 @@ fn if_statement(alloc: Global, tokens: &[Token], limit: u32) -> Result<(Stmt, &[
     }
 }
 
+/// `for variable in bag { .. }`
+#[cycle(block)]
+#[tactic(auto, unfolding(crate::specs::Reading::for_at, crate::specs::Reading::within, crate::specs::Reading::read_then))]
+fn for_statement(
+    alloc: Global,
+    tokens: &[Token],
+    limit: u32,
+    loops: u32,
+) -> Result<(Stmt, &[Token]), ParseError>
+    requires { 0 < limit }
+    ensures { Gives (λ x. (single_of x.0, x.1.now)) result
+        (for_at (block_at the_limits (limit - 1)) (limit - 1) loops tokens.now) }
+{
+    let place = first_place(tokens);
+    let rest = after_keyword(tokens, Keyword::For)?;
+    if limit == 1 || loops == 0 {
+        return Err(ParseError::TooDeep(place));
+    }
+    let (variable, rest) = name(rest)?;
+    let rest = after_keyword(rest, Keyword::In)?;
+    let (bag, rest) = name(rest)?;
+    let (block, rest) = block(alloc, rest, limit - 1, loops - 1)?;
+    Ok((
+        Stmt::For {
+            place,
+            variable,
+            bag,
+            block,
+        },
+        rest,
+    ))
+}
+
 /// A statement at the front.
 #[cycle(block)]
 #[tactic(auto, unfolding(crate::specs::Reading::statement_at, crate::specs::Reading::choose))]
-fn statement(alloc: Global, tokens: &[Token], limit: u32) -> Result<(Stmt, &[Token]), ParseError>
+fn statement(
+    alloc: Global,
+    tokens: &[Token],
+    limit: u32,
+    loops: u32,
+) -> Result<(Stmt, &[Token]), ParseError>
     requires { 0 < limit }
     ensures { Gives (λ x. (single_of x.0, x.1.now)) result
-        (statement_at the_limits (block_at the_limits (limit - 1)) (limit - 1) tokens.now) }
+        (statement_at the_limits (block_at the_limits (limit - 1)) (limit - 1) loops tokens.now) }
 {
     if begins_with_keyword(tokens, Keyword::Goto) {
         goto(tokens)
     } else if begins_with_keyword(tokens, Keyword::Send) {
         send(alloc, tokens)
     } else if begins_with_keyword(tokens, Keyword::If) {
-        if_statement(alloc, tokens, limit)
+        if_statement(alloc, tokens, limit, loops)
+    } else if begins_with_keyword(tokens, Keyword::For) {
+        for_statement(alloc, tokens, limit, loops)
+    } else if begins_with_keyword(tokens, Keyword::Add) {
+        add_to_bag(alloc, tokens)
+    } else if begins_with_keyword(tokens, Keyword::Drop) {
+        drop_from_bag(alloc, tokens)
     } else {
         assign(alloc, tokens)
     }
@@ -115,16 +192,17 @@ fn statements(
     alloc: Global,
     tokens: &[Token],
     limit: u32,
+    loops: u32,
 ) -> Result<(Vec<Stmt>, &[Token]), ParseError>
     requires { 0 < limit }
     ensures { Gives (λ x. (map single_of x.0.items, x.1.now)) result
-        (many_at (statement_at the_limits (block_at the_limits (limit - 1)) (limit - 1))
+        (many_at (statement_at the_limits (block_at the_limits (limit - 1)) (limit - 1) loops)
         (TokenKind.Symbol Symbol.CloseBrace) tokens.now) }
 {
     let mut statements = Vec::new(alloc);
     let mut rest = tokens;
     while !begins_with_symbol(rest, Symbol::CloseBrace) {
-        let (statement, after) = statement(alloc, rest, limit)?;
+        let (statement, after) = statement(alloc, rest, limit, loops)?;
         statements.push(statement)?;
         rest = after;
     }
@@ -138,24 +216,32 @@ fn braced_statements(
     alloc: Global,
     tokens: &[Token],
     limit: u32,
+    loops: u32,
 ) -> Result<(Vec<Stmt>, &[Token]), ParseError>
     requires { 0 < limit }
     ensures { Gives (λ x. (map single_of x.0.items, x.1.now)) result
-        (braces_at (statement_at the_limits (block_at the_limits (limit - 1)) (limit - 1))
+        (braces_at (statement_at the_limits (block_at the_limits (limit - 1)) (limit - 1) loops)
         tokens.now) }
 {
     let inside = after_symbol(tokens, Symbol::OpenBrace)?;
-    let (statements, rest) = statements(alloc, inside, limit)?;
+    let (statements, rest) = statements(alloc, inside, limit, loops)?;
     let rest = after_symbol(rest, Symbol::CloseBrace)?;
     Ok((statements, rest))
 }
 
-/// Statements in braces. The limit counts how deep blocks may lie in one another, this one too.
+/// Statements in braces. The limit counts how deep blocks may lie in one another, this one too; `loops` counts how many
+/// loops may lie in one another in it.
 #[cycle(block)]
-pub fn block(alloc: Global, tokens: &[Token], limit: u32) -> Result<(Block, &[Token]), ParseError>
+pub fn block(
+    alloc: Global,
+    tokens: &[Token],
+    limit: u32,
+    loops: u32,
+) -> Result<(Block, &[Token]), ParseError>
     requires { 0 < limit }
-    ensures { Gives (λ x. (block_of x.0, x.1.now)) result (block_at the_limits limit tokens.now) }
+    ensures { Gives (λ x. (block_of x.0, x.1.now)) result
+        (block_at the_limits limit loops tokens.now) }
 {
-    let (statements, rest) = braced_statements(alloc, tokens, limit)?;
+    let (statements, rest) = braced_statements(alloc, tokens, limit, loops)?;
     Ok((Block { statements }, rest))
 }

@@ -1,11 +1,12 @@
 //! Single tokens.
 
 ghost use Rattle.std.specs.Prelude.{◌≡◌};
-ghost use Rattle.dv_parser.specs.Reading.{Gives, IsParseError, obstacle_at, same_kind, begins, begins_name, begins_truth, after, place_at, name_at, truth_at, number_at};
+ghost use Rattle.dv_syntax.specs.Grammar.{call_word};
+ghost use Rattle.dv_parser.specs.Reading.{Gives, IsParseError, obstacle_at, same_kind, begins, begins_name, begins_truth, begins_word_of, begins_call, after, place_at, name_at, truth_at, number_at, word_of_at, call_word_at};
 
 use crate::parse_error::ParseError;
 use dv_lex::{Keyword, Symbol, Token, TokenKind};
-use dv_syntax::{Name, Number};
+use dv_syntax::{BagCall, Name, Number};
 
 fn is_same(first: TokenKind, second: TokenKind) -> bool
     ensures { result ≡ same_kind first second }
@@ -55,6 +56,35 @@ pub fn begins_with_truth(tokens: &[Token]) -> bool
     ensures { result ≡ begins_truth tokens.now }
 {
     begins_with_keyword(tokens, Keyword::True) || begins_with_keyword(tokens, Keyword::False)
+}
+
+/// The word of a call.
+fn word_of_call(call: BagCall) -> Keyword
+    ensures { result ≡ call_word call }
+{
+    match call {
+        BagCall::Size => Keyword::Size,
+        BagCall::Sum => Keyword::Sum,
+        BagCall::Least => Keyword::Least,
+        BagCall::Most => Keyword::Most,
+    }
+}
+
+/// Whether the word of this call comes first.
+fn begins_with_word_of(tokens: &[Token], call: BagCall) -> bool
+    ensures { result ≡ begins_word_of call tokens.now }
+{
+    begins_with_keyword(tokens, word_of_call(call))
+}
+
+/// Whether `size`, `sum`, `least` or `most` comes first.
+pub fn begins_with_call(tokens: &[Token]) -> bool
+    ensures { result ≡ begins_call tokens.now }
+{
+    begins_with_word_of(tokens, BagCall::Size)
+        || begins_with_word_of(tokens, BagCall::Sum)
+        || begins_with_word_of(tokens, BagCall::Least)
+        || begins_with_word_of(tokens, BagCall::Most)
 }
 
 /// The place of the first token.
@@ -159,5 +189,30 @@ pub fn truth(tokens: &[Token]) -> Result<(bool, &[Token]), ParseError>
     } else {
         let rest = after_keyword(tokens, Keyword::False)?;
         Ok((false, rest))
+    }
+}
+
+/// This call, whose word is at the front, and what follows the word.
+#[tactic(auto, unfolding(crate::specs::Reading::word_of_at, crate::specs::Reading::read_then))]
+fn word_of(tokens: &[Token], call: BagCall) -> Result<(BagCall, &[Token]), ParseError>
+    ensures { Gives (λ x. (x.0, x.1.now)) result (word_of_at call tokens.now) }
+{
+    let rest = after_keyword(tokens, word_of_call(call))?;
+    Ok((call, rest))
+}
+
+/// The call whose word is at the front, and what follows the word.
+#[tactic(auto, unfolding(crate::specs::Reading::call_word_at, crate::specs::Reading::choose))]
+pub fn call_word(tokens: &[Token]) -> Result<(BagCall, &[Token]), ParseError>
+    ensures { Gives (λ x. (x.0, x.1.now)) result (call_word_at tokens.now) }
+{
+    if begins_with_word_of(tokens, BagCall::Size) {
+        word_of(tokens, BagCall::Size)
+    } else if begins_with_word_of(tokens, BagCall::Sum) {
+        word_of(tokens, BagCall::Sum)
+    } else if begins_with_word_of(tokens, BagCall::Least) {
+        word_of(tokens, BagCall::Least)
+    } else {
+        word_of(tokens, BagCall::Most)
     }
 }

@@ -25,7 +25,7 @@ earlier-assoc (Some x) (Some y) (Some z) = let e : min (min x y) z ≡ min x (mi
 -- one component more
 pub least-step : (limit : ℕ) (rs : List Running) (k : ℕ) (r : Running) (next sooner whole : Option ℕ) → k < length rs → r ≡ get_or rs k r →
     sooner ≡ earlier next (next_of_wait limit r.wait) → earlier next (least_next (components_from limit k rs)) ≡ whole → earlier sooner
-        (least_next (components_from limit (k + 1) rs)) ≡ whole
+    (least_next (components_from limit (k + 1) rs)) ≡ whole
 least-step limit rs k r next sooner whole h e is kept =
     ap (λ n. earlier n (least_next (components_from limit (k + 1) rs))) is
     ∙ earlier-assoc next (next_of_wait limit r.wait) (least_next (components_from limit (k + 1) rs))
@@ -37,4 +37,4 @@ pub least-all : (limit : ℕ) (rs : List Running) (k : ℕ) (next whole : Option
     earlier next (least_next (components_from limit k rs)) ≡ whole → next ≡ whole
 least-all limit rs k next whole h kept =
     sym (earlier-none next) ∙ ap (λ (xs : List Running). earlier next (least_next (map (component_of limit) xs))) (sym (drop_all k rs h))
-        ∙ kept
+    ∙ kept

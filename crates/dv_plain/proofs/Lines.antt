@@ -30,7 +30,7 @@ line-step limit now k bags b none h e size =
 pub line-kept : (limit : ℕ) (t : Time) (k : ℕ) (bags : List Counts) (b : Counts) (old whole : List Outer) → k < length bags →
     b ≡ get_or bags k b → nat_eq (size b) 0 ≡ true →
     old ++ outer_from limit (rank limit t) k (drop k bags) ≡ whole → old ++ outer_from limit (rank limit t) (k + 1) (drop (k + 1) bags)
-        ≡ whole
+    ≡ whole
 line-kept limit t k bags b old whole h e size kept =
     ap (λ os. old ++ os) (sym (line-step limit (rank limit t) k bags b true h e size)) ∙ kept
 
@@ -38,10 +38,10 @@ pub line-added : (limit : ℕ) (t : Time) (k : ℕ) (bags : List Counts) (b : Co
     k < length bags → b ≡ get_or bags k b → nat_eq (size b) 0 ≡ false →
     new ≡ old ++ record { time = t; port = k; values = b } ∷ [] →
     old ++ outer_from limit (rank limit t) k (drop k bags) ≡ whole → new ++ outer_from limit (rank limit t) (k + 1) (drop (k + 1) bags)
-        ≡ whole
+    ≡ whole
 line-added limit t k bags b old new whole run h e size is kept =
     ap (λ (os : List Outer). os ++ outer_from limit (rank limit t) (k + 1) (drop (k + 1) bags))
-        (is ∙ ap (λ (u : Time). old ++ line_of u k b false) (sym (time_of-rank limit t run)))
+    (is ∙ ap (λ (u : Time). old ++ line_of u k b false) (sym (time_of-rank limit t run)))
     ∙ append_assoc old (line_of (time_of limit (rank limit t)) k b false) (outer_from limit (rank limit t) (k + 1) (drop (k + 1) bags))
     ∙ ap (λ os. old ++ os) (sym (line-step limit (rank limit t) k bags b false h e size))
     ∙ kept

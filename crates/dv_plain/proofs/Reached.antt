@@ -40,14 +40,14 @@ pub reached-matched : (limit : ℕ) (f : FileTree) (horizon : ℕ) (rs : List Ru
     Reached limit f horizon rs t → length rs ≡ length (instances f)
 reached-matched limit f horizon rs t laws r =
     sym (length-map rs (component_of limit)) ∙ ap length (sym r.components) ∙ sym (laws.matched r.at) ∙ length-map (instances f)
-        (λ (i : Instance). behaviour_of i.model)
+    (λ (i : Instance). behaviour_of i.model)
 
 -- nobody is imminent before the end
 pub reached-end : (limit : ℕ) (f : FileTree) (horizon : ℕ) (rs : List Running) (t : PartOf) → Laws limit f → Reached limit f horizon rs t →
     IsFrom (end_of limit horizon) (least_next (map (component_of limit) rs)) → t ≡ trace_of f horizon limit
 reached-end limit f horizon rs t laws r last =
     sym (laws.trace r.at (end_of limit horizon) r.within
-        (subst (λ cs. IsFrom (end_of limit horizon) (least_next cs)) (sym r.components) last) ∙ r.trace)
+    (subst (λ cs. IsFrom (end_of limit horizon) (least_next cs)) (sym r.components) last) ∙ r.trace)
 
 least_at : (n m : ℕ) (next : Option ℕ) → IsFrom n next → Some m ≡ next → n ≤ m
 least_at n m next h e = subst (IsFrom n) (sym e) h
@@ -56,7 +56,7 @@ least_at n m next h e = subst (IsFrom n) (sym e) h
 resting : (limit : ℕ) (f : FileTree) (horizon : ℕ) (rs : List Running) (t : PartOf) (m : ℕ) → Laws limit f → Reached limit f horizon rs t →
     Some m ≡ least_next (map (component_of limit) rs) →
     (components_at limit (network_of limit f) no_input m ≡ map (component_of limit) rs) ×
-        (trace_before limit (network_of limit f) no_input m ≡ t)
+    (trace_before limit (network_of limit f) no_input m ≡ t)
 resting limit f horizon rs t m laws r least =
     let next : Some m ≡ least_next (components_at limit (network_of limit f) no_input r.at) = least ∙ ap least_next (sym r.components) in
     let before : r.at ≤ m = least_at r.at m (least_next (components_at limit (network_of limit f) no_input r.at)) (laws.rises r.at) next in
@@ -67,7 +67,7 @@ resting limit f horizon rs t m laws r least =
 step-components : (limit : ℕ) (f : FileTree) (horizon : ℕ) (rs new : List Running) (t : PartOf) (m : ℕ) → Laws limit f →
     Reached limit f horizon rs t → Some m ≡ least_next (map (component_of limit) rs) →
     map (component_of limit) new ≡ components_after limit (network_of limit f) m [] (map (component_of limit) rs) → components_at limit
-        (network_of limit f) no_input (suc m) ≡ map (component_of limit) new
+    (network_of limit f) no_input (suc m) ≡ map (component_of limit) new
 step-components limit f horizon rs new t m laws r least after =
     ap (components_after limit (network_of limit f) m []) (resting limit f horizon rs t m laws r least).0 ∙ sym after
 
@@ -85,7 +85,7 @@ reached-step limit f horizon rs new t more m laws r least within after part =
       components = step-components limit f horizon rs new t m laws r least after;
       trace =
           ap (λ (p : PartOf). joined p
-              (part_of_instant limit (network_of limit f) m [] (components_at limit (network_of limit f) no_input m))) rest.1
+          (part_of_instant limit (network_of limit f) m [] (components_at limit (network_of limit f) no_input m))) rest.1
           ∙ ap (λ ks. joined t (part_of_instant limit (network_of limit f) m [] ks)) rest.0
           ∙ sym part;
     }
@@ -102,11 +102,11 @@ work limit horizon rs = end_of limit horizon - unwrap_or (least_next (map (compo
 pub work-step : (limit : ℕ) (f : FileTree) (horizon : ℕ) (rs new : List Running) (t : PartOf) (m : ℕ) → Laws limit f →
     Reached limit f horizon rs t →
     Some m ≡ least_next (map (component_of limit) rs) → m < end_of limit horizon → map (component_of limit) new ≡ components_after limit
-        (network_of limit f) m [] (map (component_of limit) rs) →
+    (network_of limit f) m [] (map (component_of limit) rs) →
     work limit horizon new < work limit horizon rs
 work-step limit f horizon rs new t m laws r least within after =
     let e = end_of limit horizon in
     let there = step-components limit f horizon rs new t m laws r least after in
     subst (λ (n : Option ℕ). work limit horizon new < e - unwrap_or n e) least
     (work-falls e m (least_next (map (component_of limit) new)) within
-        (subst (λ cs. IsFrom (suc m) (least_next cs)) there (laws.rises (suc m))))
+    (subst (λ cs. IsFrom (suc m) (least_next cs)) there (laws.rises (suc m))))

@@ -35,8 +35,11 @@ sent_by-nothing c = elim c.quiet as (λ q. sent_by (record c { quiet = q }) (Ok 
 pub reaction-given : (limit : ℕ) (b : Behaviour) (t : Time) (c : Component) (sent : List Counts) (s : State) (next : Option ℕ) →
     IsOfRun limit t → is_imminent (rank limit t) c ≡ true → next_state limit b (rank limit t) c [] ≡ Ok (s, next) →
     let after : Reaction =
-        record { event = Some
-            (what.Transition Internal s, sent); component = record { state = s; last = t.tick; next = next; quiet = false } } in
+    record {
+      event = Some
+          (what.Transition Internal s, sent);
+      component = record { state = s; last = t.tick; next = next; quiet = false };
+    } in
     reaction_after_output limit b (rank limit t) c [] (Ok sent) ≡ after
 reaction-given limit b t c sent s next run imminent given =
     ap (reaction_with (tick_of limit (rank limit t)) c (if is_imminent (rank limit t) c then Internal else External) sent) given

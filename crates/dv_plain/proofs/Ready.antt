@@ -19,9 +19,11 @@ quiet-first_component s (Err f) h = refl
 
 quiet-starts : (limit : ℕ) (is : List Instance) → AllQuietForGood (map (λ (i : Instance). start_of limit i.model) is)
 quiet-starts limit [] = tt
-quiet-starts limit (i ∷ is) =
-    (quiet-first_component (start_state i.model)
-        ((behaviour_of i.model).hold (start_state i.model) >>= λ ticks. end_of_hold limit 0 ticks), quiet-starts limit is)
+quiet-starts limit (i ∷ is) = (
+  quiet-first_component (start_state i.model)
+      ((behaviour_of i.model).hold (start_state i.model) >>= λ ticks. end_of_hold limit 0 ticks),
+  quiet-starts limit is,
+)
 
 pub ready : (limit : ℕ) (f : FileTree) → IsReady (network_of limit f)
 ready limit f = record {

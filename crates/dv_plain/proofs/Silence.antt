@@ -76,9 +76,9 @@ passed_on-empty : SizesAdd →
 passed_on-empty add ports parts sent [] bags none h = h
 passed_on-empty add ports parts sent (l ∷ links) bags none h =
     passed_on-empty add ports parts sent links
-        (joined_at (exit_of ports l.to.part l.to.port.number) (carried parts sent l.from.part l.from.port.number) bags) none
+    (joined_at (exit_of ports l.to.part l.to.port.number) (carried parts sent l.from.part l.from.port.number) bags) none
     (joined-empty add (exit_of ports l.to.part l.to.port.number) (carried parts sent l.from.part l.from.port.number) bags
-        (carried-empty parts sent l.from.part l.from.port.number none) h)
+    (carried-empty parts sent l.from.part l.from.port.number none) h)
 
 no_bags : (n : ℕ) → IsTrue (all_empty (replicate n []))
 no_bags zero = refl
@@ -87,4 +87,4 @@ no_bags (suc n) = no_bags n
 pub nothing_leaves : SizesAdd → (limit : ℕ) (f : FileTree) → LeavesOnlyWhatIsSent (network_of limit f)
 nothing_leaves add limit f =
     passed_on-empty add (root_outputs f) (instances f) (nothing_sent (network_of limit f)) (root_links f)
-        (replicate (length (root_outputs f)) []) (none_arrive (network_of limit f).behaviours) (no_bags (length (root_outputs f)))
+    (replicate (length (root_outputs f)) []) (none_arrive (network_of limit f).behaviours) (no_bags (length (root_outputs f)))

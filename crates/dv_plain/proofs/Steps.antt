@@ -71,7 +71,7 @@ pub entry-of_event : (limit : ℕ) (t : Time) (number : ℕ) (event : What × Li
     (record { time = t; component = number; what = event.0; sent = event.1 } ∷ []) ≡ entry_of limit (rank limit t) number (Some event)
 entry-of_event limit t number event h =
     ap (λ (u : Time). let e : Entry = record { time = u; component = number; what = event.0; sent = event.1 } in e ∷ [])
-        (sym (time_of-rank limit t h))
+    (sym (time_of-rank limit t h))
 
 pub outputs-step : (now : ℕ) (bs bs' : List Behaviour) (cs cs' : List Component) (b : Behaviour) (c : Component) → bs ≡ b ∷ bs' →
     cs ≡ c ∷ cs' → outputs bs now cs ≡ emission b now c ∷ outputs bs' now cs'
@@ -99,13 +99,13 @@ outputs_from limit is now rs k = outputs (behaviours_from k is) now (components_
 
 pub outputs_from-step :
     (limit : ℕ) (is : List Instance) (now : ℕ) (rs : List Running) (k : ℕ) (m : AtomicTree) (r : Running)
-        (emitted : Result (List Counts) Fault) →
+    (emitted : Result (List Counts) Fault) →
     slice_get (map (λ (i : Instance). i.model) is) k ≡ Some m → k < length rs → r ≡ get_or rs k r → emission (behaviour_of m) now
-        (component_of limit r) ≡ emitted →
+    (component_of limit r) ≡ emitted →
     outputs_from limit is now rs k ≡ emitted ∷ outputs_from limit is now rs (k + 1)
 outputs_from-step limit is now rs k m r emitted e h f gave =
     outputs-step now (behaviours_from k is) (behaviours_from (k + 1) is) (components_from limit k rs) (components_from limit (k + 1) rs)
-        (behaviour_of m) (component_of limit r) (behaviour-step is k m e) (component-step limit rs k r h f)
+    (behaviour_of m) (component_of limit r) (behaviour-step is k m e) (component-step limit rs k r h f)
     ∙ ap (λ x. x ∷ outputs_from limit is now rs (k + 1)) gave
 
 -- what happens to the components from one on
@@ -115,11 +115,11 @@ reactions_from limit is now rs k = reactions limit (behaviours_from k is) now (c
 pub reactions_from-step : (limit : ℕ) (is : List Instance) (now : ℕ) (rs : List Running) (k : ℕ) (m : AtomicTree) (r : Running) →
     slice_get (map (λ (i : Instance). i.model) is) k ≡ Some m → k < length rs → r ≡ get_or rs k r →
     reactions_from limit is now rs k ≡ reaction limit (behaviour_of m) now (component_of limit r) [] ∷ reactions_from limit is now rs
-        (k + 1)
+    (k + 1)
 reactions_from-step limit is now rs k m r e h f =
     reactions-step limit now (behaviours_from k is) (behaviours_from (k + 1) is) (components_from limit k rs)
-        (components_from limit (k + 1) rs) (behaviour_of m) (component_of limit r) (behaviour-step is k m e)
-        (component-step limit rs k r h f)
+    (components_from limit (k + 1) rs) (behaviour_of m) (component_of limit r) (behaviour-step is k m e)
+    (component-step limit rs k r h f)
 
 -- lists that are the same from a place on are so at it
 pub same_at : {X : Type 0} (xs ys : List X) (k : ℕ) (d : X) → k < length xs → k < length ys → drop k xs ≡ drop k ys →
@@ -151,11 +151,11 @@ pub components-turn :
     (limit : ℕ) (xs : List Running) (k : ℕ) (new : Running) (q : Reaction) (rest rest' : List Reaction) (whole : List Component) →
     k < length xs → component_of limit new ≡ q.component → rest ≡ q ∷ rest' →
     map (component_of limit) (take k xs) ++ map (λ (r : Reaction). r.component) rest ≡ whole → map (component_of limit)
-        (take (k + 1) (set xs k new)) ++ map (λ (r : Reaction). r.component) rest' ≡ whole
+    (take (k + 1) (set xs k new)) ++ map (λ (r : Reaction). r.component) rest' ≡ whole
 components-turn limit xs k new q rest rest' whole h is e kept =
     ap (λ (ys : List Running). map (component_of limit) ys ++ map (λ (r : Reaction). r.component) rest') (take_more_set xs k new h)
     ∙ ap (λ (cs : List Component). cs ++ map (λ (r : Reaction). r.component) rest')
-        (map_push (component_of limit) (take k xs) new ∙ ap (λ (c : Component). map (component_of limit) (take k xs) ++ c ∷ []) is)
+    (map_push (component_of limit) (take k xs) new ∙ ap (λ (c : Component). map (component_of limit) (take k xs) ++ c ∷ []) is)
     ∙ one_more (λ (r : Reaction). r.component) (map (component_of limit) (take k xs)) whole rest rest' q e kept
 
 -- the entries of components that are counted from k on
@@ -194,17 +194,17 @@ rest-turn xs ys k new same = drop-set-lt (k + 1) xs k new (omega arith) ∙ same
 no_reactions : (limit now : ℕ) (is : List Instance) (rs : List Running) (k : ℕ) → length is ≤ k → reactions_from limit is now rs k ≡ []
 no_reactions limit now is rs k h =
     ap (λ (js : List Instance). reactions limit (map (λ (i : Instance). behaviour_of i.model) js) now (components_from limit k rs) [])
-        (drop_all k is h)
+    (drop_all k is h)
 
 pub components-end : (limit now : ℕ) (is : List Instance) (rs xs : List Running) (k : ℕ) (whole : List Component) → length xs ≤ k →
     length is ≤ k →
     map (component_of limit) (take k xs) ++ map (λ (r : Reaction). r.component) (reactions_from limit is now rs k) ≡ whole → map
-        (component_of limit) xs ≡ whole
+    (component_of limit) xs ≡ whole
 components-end limit now is rs xs k whole h g kept =
     sym (append-nil (map (component_of limit) xs))
     ∙ ap (λ (ys : List Running). map (component_of limit) ys ++ []) (sym (take_all k xs h))
     ∙ ap (λ (qs : List Reaction). map (component_of limit) (take k xs) ++ map (λ (r : Reaction). r.component) qs)
-        (sym (no_reactions limit now is rs k g))
+    (sym (no_reactions limit now is rs k g))
     ∙ kept
 
 pub entries-end : (limit now : ℕ) (is : List Instance) (rs : List Running) (k : ℕ) (entries whole : List Entry) → length is ≤ k →
@@ -240,21 +240,21 @@ outputs_from-drop limit (i ∷ is) now (r ∷ rs) (suc k) = outputs_from-drop li
 -- what the output function of a component gave, from the lists
 pub output-at :
     (limit : ℕ) (is : List Instance) (now : ℕ) (rs : List Running) (k : ℕ) (m : AtomicTree) (r : Running) (sent : List (List Counts))
-        (faults : List (Option Fault)) (gave : Result (List Counts) Fault) →
+    (faults : List (Option Fault)) (gave : Result (List Counts) Fault) →
     slice_get (map (λ (i : Instance). i.model) is) k ≡ Some m → k < length rs → r ≡ get_or rs k r →
     sent ≡ map sent_of (outputs_from limit is now rs 0) → faults ≡ map fault_of (outputs_from limit is now rs 0) → gave ≡ output_from
-        (get_or faults k None) (get_or sent k []) →
+    (get_or faults k None) (get_or sent k []) →
     emission (behaviour_of m) now (component_of limit r) ≡ gave
 output-at limit is now rs k m r sent faults gave e h f sents faulty is-gave =
     let here = emission (behaviour_of m) now (component_of limit r) in
     let first = outputs_from-drop limit is now rs k ∙ outputs_from-step limit is now rs k m r here e h f refl in
     sym (output_from-parts here)
     ∙ ap (λ s. output_from (fault_of here) s)
-        (sym (ap (λ xs. get_or xs k []) sents ∙ get_or-first sent_of (outputs_from limit is now rs 0) k here
-        (outputs_from limit is now rs (k + 1)) [] first))
+    (sym (ap (λ xs. get_or xs k []) sents ∙ get_or-first sent_of (outputs_from limit is now rs 0) k here
+    (outputs_from limit is now rs (k + 1)) [] first))
     ∙ ap (λ o. output_from o (get_or sent k []))
-        (sym (ap (λ xs. get_or xs k None) faulty ∙ get_or-first fault_of (outputs_from limit is now rs 0) k here
-        (outputs_from limit is now rs (k + 1)) None first))
+    (sym (ap (λ xs. get_or xs k None) faulty ∙ get_or-first fault_of (outputs_from limit is now rs 0) k here
+    (outputs_from limit is now rs (k + 1)) None first))
     ∙ sym is-gave
 
 -- as many as there are components

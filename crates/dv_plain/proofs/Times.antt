@@ -54,7 +54,7 @@ same_time-rank limit t u h k =
       | inl e ↦
           let same = same_from_rank limit t u h k (eqb-true (rank limit t) (rank limit u) e) in
           and_from _ _ (eq-eqb t.tick u.tick (ap (λ (v : Time). v.tick) same)) (eq-eqb t.micro u.micro (ap (λ (v : Time). v.micro) same))
-              ∙ sym e
+          ∙ sym e
       | inr other ↦
           elim (cases_Bool (nat_eq t.tick u.tick && nat_eq t.micro u.micro)) [
             | inl both ↦
@@ -62,7 +62,7 @@ same_time-rank limit t u h k =
                 let tick : t.tick ≡ u.tick = eqb-true t.tick u.tick parts.0 in
                 let micro : t.micro ≡ u.micro = eqb-true t.micro u.micro parts.1 in
                 absurd (eqb-false (rank limit t) (rank limit u) other
-                    (ap (λ n. n * (limit + 1) + t.micro) tick ∙ ap (λ n. u.tick * (limit + 1) + n) micro))
+                (ap (λ n. n * (limit + 1) + t.micro) tick ∙ ap (λ n. u.tick * (limit + 1) + n) micro))
             | inr apart ↦ apart ∙ sym other
           ]
     ]

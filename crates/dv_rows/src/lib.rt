@@ -3,6 +3,10 @@
 #![tactic(auto)]
 
 #[cfg(test)]
+mod bags;
+#[cfg(test)]
+mod documents;
+#[cfg(test)]
 mod limits;
 #[cfg(test)]
 mod models;

@@ -44,6 +44,33 @@ const NEGATIONS: Nest = Nest {
     after: " { } } } coupled Top { part a: A; } root Top;",
 };
 
+/// A model whose start hold counts in an empty bag.
+const COUNTS: Nest = Nest {
+    before: "atomic A { bag b 1; phases z; start z; hold z: ",
+    open: "times(",
+    middle: "1",
+    close: ", b)",
+    after: "+ 1; } coupled Top { part a: A; } root Top;",
+};
+
+/// A model whose internal rule has a loop in a loop in a loop, and a fourth part there.
+const LOOPS: Nest = Nest {
+    before: "atomic A { bag b 1; phases z; start z; hold z: 9; internal z { for p in b { for q in b { for r in b {",
+    open: "for s in b {",
+    middle: "",
+    close: "}",
+    after: "} } } } } coupled Top { part a: A; } root Top;",
+};
+
+/// A model whose first rule adds to a bag.
+const ADDS: Nest = Nest {
+    before: "atomic A { bag b 4096; phases z, d; start z; hold z: 1; hold d: forever; internal z { goto d; ",
+    open: "add 1 to b;",
+    middle: "",
+    close: "",
+    after: "} } coupled Top { part a: A; } root Top;",
+};
+
 /// A model whose first output sends.
 const SENDS: Nest = Nest {
     before: "atomic A { out y; phases z, d; start z; hold z: 1; hold d: forever; internal z { goto d; } output z { ",
@@ -74,6 +101,11 @@ fn nesting(rt: HostRuntime) {
     // The comparison is two deep.
     same_nested(&rt, &NEGATIONS, 62, FINE);
     same_nested(&rt, &NEGATIONS, 63, "E5 line 1");
+    // The sum is one deeper than its operands.
+    same_nested(&rt, &COUNTS, 62, FINE);
+    same_nested(&rt, &COUNTS, 63, "E5 line 1");
+    same_nested(&rt, &LOOPS, 0, FINE);
+    same_nested(&rt, &LOOPS, 1, "E5 line 1");
     same_nested(&rt, &BLOCKS, 15, FINE);
     same_nested(&rt, &BLOCKS, 16, "E5 line 1");
 }
@@ -84,6 +116,14 @@ fn sends_of_one_output(rt: HostRuntime) {
     same!(rt; most.as_str().ends_with("whole 1\nstatus 0"), true);
     let above = run(&rt, nested(&rt, &SENDS, 4_097).as_str(), 1, 20);
     same!(rt; above.as_str(), "1.0 a fault flood\nwhole 1\nstatus 3");
+}
+
+#[test]
+fn values_of_one_bag(rt: HostRuntime) {
+    let most = run(&rt, nested(&rt, &ADDS, 4_096).as_str(), 1, 20);
+    same!(rt; most.as_str().ends_with("1,1]\nwhole 1\nstatus 0"), true);
+    let above = run(&rt, nested(&rt, &ADDS, 4_097).as_str(), 1, 20);
+    same!(rt; above.as_str(), "1.0 a fault full\nwhole 1\nstatus 3");
 }
 
 /// A model with numbered declarations between two texts.
@@ -113,6 +153,14 @@ const FLAGS: Numbered = Numbered {
     before: "atomic A { var v: 0..1 = 0; ",
     left: "flag f",
     right: " = true;",
+    after: "phases z; start z; hold z: 9; } coupled Top { part a: A; } root Top;",
+};
+
+/// A model with a variable and these bags.
+const BAGS: Numbered = Numbered {
+    before: "atomic A { var v: 0..1 = 0; ",
+    left: "bag b",
+    right: " 1;",
     after: "phases z; start z; hold z: 9; } coupled Top { part a: A; } root Top;",
 };
 
@@ -186,6 +234,8 @@ fn names_of_one_kind(rt: HostRuntime) {
     // With the variable these are 4,096 and 4,097.
     same_numbered(&rt, &FLAGS, 4_095, FINE);
     same_numbered(&rt, &FLAGS, 4_096, "E17 line 1");
+    same_numbered(&rt, &BAGS, 4_095, FINE);
+    same_numbered(&rt, &BAGS, 4_096, "E17 line 1");
     same_numbered(&rt, &PARTS, 4_096, FINE);
     same_numbered(&rt, &PARTS, 4_097, "E17 line 1");
     same_numbered(&rt, &OUTPUTS_OF_THE_ROOT, 4_096, FINE);

@@ -41,3 +41,17 @@ pub const LAMP: &str =
 coupled Top { out o; part l: Lamp; link l.wear -> self.o; }
 root Top;
 ";
+
+/// A bag that is filled past its capacity, and sent from.
+pub const PACK: &str =
+    "atomic Pack { out y; bag b 3; flag f = false; phases w; start w; hold w: size(b) + 1; output w { for v in b { send y v; } } internal w { add 3 - size(b) to b; f := not f; } }
+coupled Top { out o; part p: Pack; link p.y -> self.o; }
+root Top;
+";
+
+/// A bench that keeps what it cuts, and ships it once three rods are there.
+pub const BENCH: &str =
+    "atomic Bench { out rod; bag store 3; var length: 1..100 = 1; phases cut, ship; start cut; hold cut: 2; hold ship: 1; internal cut { add length to store; length := length * 7 % 10 + 1; if size(store) = 3 { goto ship; } } output ship { for one in store { send rod one; } } internal ship { for one in store { drop one from store; } goto cut; } }
+coupled Top { out o; part b: Bench; link b.rod -> self.o; }
+root Top;
+";

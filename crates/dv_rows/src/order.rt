@@ -75,6 +75,11 @@ const PIECES: &[Piece] = &[
         number: "E11",
         pass: Pass::Rules,
     },
+    Piece {
+        text: "bag k 0;",
+        number: "E17",
+        pass: Pass::Rules,
+    },
 ];
 
 fn model(

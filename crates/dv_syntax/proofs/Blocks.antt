@@ -1,11 +1,12 @@
 -- A block in the code's tree, as a list of statements.
 use Rattle.std.proofs.Common.{◌≡◌, ℕ, refl, ap, sym, ◌∙◌}
 use mathlib.Core.Former.{Count}
+use Rattle.dv_syntax.specs.declared.tree.Name.{Name}
 use Rattle.dv_syntax.specs.declared.tree.Expr.{Expr}
 use Rattle.dv_syntax.specs.declared.tree.Block.{Block}
 use Rattle.dv_syntax.specs.declared.tree.Stmt.{Stmt, Row_of-Stmt, end_of-Stmt, more_of-Stmt, items-the_row-Stmt, items_hidden-the_row-Stmt-0}
 use Rattle.dv_syntax.specs.declared.tree.Stmt as stmt
-use Rattle.dv_syntax.specs.Trees.{Statements, If, IfElse, block_of, expression_of, statement_before, row_statements, statements_of}
+use Rattle.dv_syntax.specs.Trees.{Statements, If, IfElse, For, block_of, expression_of, statement_before, row_statements, statements_of}
 
 statements_of-row : (n : Count) (row : Row_of-Stmt n) → statements_of (items-the_row-Stmt n row) ≡ row_statements row
 statements_of-row n end_of-Stmt = refl
@@ -14,6 +15,7 @@ statements_of-row n (more_of-Stmt s rest) = ap (statement_before s) (statements_
 abbrev then_row : Stmt → (n : Count) × Row_of-Stmt n
 then_row (stmt.If' place e shape block) = (_, block)
 then_row (stmt.IfElse' place e shape block other_shape other) = (_, block)
+then_row (stmt.For' place v b shape block) = (_, block)
 then_row _ = (_, end_of-Stmt)
 
 abbrev else_row : Stmt → (n : Count) × Row_of-Stmt n
@@ -31,3 +33,8 @@ tree_of_if_else place e block other rest =
     let other_row = else_row (stmt.IfElse place e block other) in
     ap (λ b. IfElse place (expression_of e) b (row_statements other_row.1) rest) (sym (statements_of-row row.0 row.1) ∙ ap statements_of (items_hidden-the_row-Stmt-0 block.statements))
     ∙ ap (λ b. IfElse place (expression_of e) (statements_of block.statements.items) b rest) (sym (statements_of-row other_row.0 other_row.1) ∙ ap statements_of (items_hidden-the_row-Stmt-0 other.statements))
+
+pub tree_of_loop : (place : ℕ) (v b : Name) (block : Block) (rest : Statements) → statement_before (stmt.For place v b block) rest ≡ For place v b (block_of block) rest
+tree_of_loop place v b block rest =
+    let row = then_row (stmt.For place v b block) in
+    ap (λ inside. For place v b inside rest) (sym (statements_of-row row.0 row.1) ∙ ap statements_of (items_hidden-the_row-Stmt-0 block.statements))

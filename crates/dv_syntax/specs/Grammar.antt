@@ -14,9 +14,12 @@ use Rattle.dv_syntax.specs.declared.tree.Prefix.{Prefix}
 use Rattle.dv_syntax.specs.declared.tree.Prefix.TheVariants as prefix
 use Rattle.dv_syntax.specs.declared.tree.Operator.{Operator}
 use Rattle.dv_syntax.specs.declared.tree.Operator.TheVariants as operator
+use Rattle.dv_syntax.specs.declared.tree.BagCall.{BagCall}
+use Rattle.dv_syntax.specs.declared.tree.BagCall.TheVariants as call
 use Rattle.dv_syntax.specs.declared.tree.Bound.{Bound}
 use Rattle.dv_syntax.specs.declared.tree.Variable.{Variable}
 use Rattle.dv_syntax.specs.declared.tree.Flag.{Flag}
+use Rattle.dv_syntax.specs.declared.tree.StateBag.{StateBag}
 use Rattle.dv_syntax.specs.declared.tree.Declaration.{Declaration}
 use Rattle.dv_syntax.specs.declared.tree.Declaration.TheVariants as declaration
 use Rattle.dv_syntax.specs.declared.tree.Part.{Part}
@@ -25,7 +28,7 @@ use Rattle.dv_syntax.specs.declared.tree.Start.{Start}
 use Rattle.dv_syntax.specs.declared.tree.RuleSort.{RuleSort}
 use Rattle.dv_syntax.specs.declared.tree.RuleSort.TheVariants as sort
 use Rattle.dv_syntax.specs.declared.tree.End.{End}
-use Rattle.dv_syntax.specs.Trees.{Expression, Literal, TruthValue, Named, Parens, Prefixed, Binary, Statements, Done, Assign, Goto, Send, If, IfElse, PhasesTree, HoldTree, RuleTree, FileTree}
+use Rattle.dv_syntax.specs.Trees.{Expression, Literal, TruthValue, Named, Parens, Prefixed, Binary, Call, Times, Statements, Done, Assign, Goto, Send, If, IfElse, For, Add, Drop, PhasesTree, HoldTree, RuleTree, FileTree}
 use Rattle.dv_syntax.specs.Written.{AtomicItem, Declares, Lists, Starts, Holds, Rules, CoupledItem, Outputs, Contains, Couples, WrittenModel, WrittenAtomic, WrittenCoupled, WrittenFile, sorted}
 
 -- ---- Spellings
@@ -66,14 +69,15 @@ braces inside = sign symbol.OpenBrace ∷ (inside ++ sign symbol.CloseBrace ∷ 
 
 -- ---- Limits on depth
 
--- how deep expressions and blocks may lie in one another
+-- how deep expressions, blocks and loops may lie in one another
 pub record Limits : Type 0 where
   pub expression : ℕ
   pub block : ℕ
+  pub loop : ℕ
 
 -- those of the language
 abbrev pub the_limits : Limits
-the_limits = record { expression = 64; block = 16 }
+the_limits = record { expression = 64; block = 16; loop = 3 }
 
 -- ---- Expressions
 
@@ -100,6 +104,12 @@ operator_kind operator.AtMost = kind.Symbol symbol.AtMost
 operator_kind operator.Greater = kind.Symbol symbol.Greater
 operator_kind operator.AtLeast = kind.Symbol symbol.AtLeast
 
+abbrev pub call_word : BagCall → Keyword
+call_word call.Size = keyword.Size
+call_word call.Sum = keyword.Sum
+call_word call.Least = keyword.Least
+call_word call.Most = keyword.Most
+
 abbrev pub expression_spelling : Expression → List Spelled
 expression_spelling (Literal n) = number n ∷ []
 expression_spelling (TruthValue place value) = word_at (truth_word value) place ∷ []
@@ -107,6 +117,8 @@ expression_spelling (Named n) = name n ∷ []
 expression_spelling (Parens place e) = At (kind.Symbol symbol.OpenParen) place ∷ (expression_spelling e ++ sign symbol.CloseParen ∷ [])
 expression_spelling (Prefixed o place e) = At (prefix_kind o) place ∷ expression_spelling e
 expression_spelling (Binary o a b) = expression_spelling a ++ Anywhere (operator_kind o) ∷ expression_spelling b
+expression_spelling (Call c place b) = word_at (call_word c) place ∷ sign symbol.OpenParen ∷ name b ∷ sign symbol.CloseParen ∷ []
+expression_spelling (Times place e b) = word_at keyword.Times place ∷ sign symbol.OpenParen ∷ (expression_spelling e ++ sign symbol.Comma ∷ name b ∷ sign symbol.CloseParen ∷ [])
 
 -- how tightly an operator before its operand binds
 abbrev pub prefix_rank : Prefix → ℕ
@@ -153,6 +165,8 @@ rank (Named n) = 8
 rank (Parens place e) = 8
 rank (Prefixed o place e) = prefix_rank o
 rank (Binary o a b) = operator_rank o
+rank (Call c place b) = 8
+rank (Times place e b) = 8
 
 -- each operand has a rank that the grammar allows there
 abbrev pub IsWellFormed : Expression → Type 0
@@ -162,6 +176,8 @@ IsWellFormed (Named n) = Unit {0}
 IsWellFormed (Parens place e) = IsWellFormed e
 IsWellFormed (Prefixed o place e) = IsWellFormed e × (prefix_rank o ≤ rank e)
 IsWellFormed (Binary o a b) = IsWellFormed a × IsWellFormed b × (left_rank o ≤ rank a) × (operator_rank o < rank b)
+IsWellFormed (Call c place b) = Unit {0}
+IsWellFormed (Times place e b) = IsWellFormed e
 
 abbrev pub depth : Expression → ℕ
 depth (Literal n) = 1
@@ -170,6 +186,8 @@ depth (Named n) = 1
 depth (Parens place e) = depth e + 1
 depth (Prefixed o place e) = depth e + 1
 depth (Binary o a b) = max (depth a) (depth b) + 1
+depth (Call c place b) = 1
+depth (Times place e b) = depth e + 1
 
 pub record IsExpression (limits : Limits) (e : Expression) : Type 0 where
   pub formed : IsWellFormed e
@@ -184,6 +202,9 @@ statements_spelling (Goto place p rest) = word_at keyword.Goto place ∷ name p 
 statements_spelling (Send place p e rest) = word_at keyword.Send place ∷ name p ∷ (expression_spelling e ++ sign symbol.Semicolon ∷ statements_spelling rest)
 statements_spelling (If place e block rest) = word_at keyword.If place ∷ (expression_spelling e ++ (braces (statements_spelling block) ++ statements_spelling rest))
 statements_spelling (IfElse place e block other rest) = word_at keyword.If place ∷ (expression_spelling e ++ (braces (statements_spelling block) ++ (word keyword.Else ∷ (braces (statements_spelling other) ++ statements_spelling rest))))
+statements_spelling (For place v b block rest) = word_at keyword.For place ∷ name v ∷ word keyword.In ∷ name b ∷ (braces (statements_spelling block) ++ statements_spelling rest)
+statements_spelling (Add place e b rest) = word_at keyword.Add place ∷ (expression_spelling e ++ word keyword.To ∷ name b ∷ sign symbol.Semicolon ∷ statements_spelling rest)
+statements_spelling (Drop place e b rest) = word_at keyword.Drop place ∷ (expression_spelling e ++ word keyword.From ∷ name b ∷ sign symbol.Semicolon ∷ statements_spelling rest)
 
 -- how many blocks lie in one another here, the one that holds these statements counted
 abbrev pub block_depth : Statements → ℕ
@@ -193,6 +214,21 @@ block_depth (Goto place p rest) = block_depth rest
 block_depth (Send place p e rest) = block_depth rest
 block_depth (If place e block rest) = max (block_depth block + 1) (block_depth rest)
 block_depth (IfElse place e block other rest) = max (max (block_depth block + 1) (block_depth other + 1)) (block_depth rest)
+block_depth (For place v b block rest) = max (block_depth block + 1) (block_depth rest)
+block_depth (Add place e b rest) = block_depth rest
+block_depth (Drop place e b rest) = block_depth rest
+
+-- how many loops lie in one another in these statements
+abbrev pub loop_depth : Statements → ℕ
+loop_depth Done = 0
+loop_depth (Assign n e rest) = loop_depth rest
+loop_depth (Goto place p rest) = loop_depth rest
+loop_depth (Send place p e rest) = loop_depth rest
+loop_depth (If place e block rest) = max (loop_depth block) (loop_depth rest)
+loop_depth (IfElse place e block other rest) = max (max (loop_depth block) (loop_depth other)) (loop_depth rest)
+loop_depth (For place v b block rest) = max (loop_depth block + 1) (loop_depth rest)
+loop_depth (Add place e b rest) = loop_depth rest
+loop_depth (Drop place e b rest) = loop_depth rest
 
 abbrev pub AreStatements : Limits → Statements → Type 0
 AreStatements limits Done = Unit {0}
@@ -201,6 +237,9 @@ AreStatements limits (Goto place p rest) = AreStatements limits rest
 AreStatements limits (Send place p e rest) = IsExpression limits e × AreStatements limits rest
 AreStatements limits (If place e block rest) = IsExpression limits e × AreStatements limits block × AreStatements limits rest
 AreStatements limits (IfElse place e block other rest) = IsExpression limits e × AreStatements limits block × AreStatements limits other × AreStatements limits rest
+AreStatements limits (For place v b block rest) = AreStatements limits block × AreStatements limits rest
+AreStatements limits (Add place e b rest) = IsExpression limits e × AreStatements limits rest
+AreStatements limits (Drop place e b rest) = IsExpression limits e × AreStatements limits rest
 
 -- ---- Atomic models
 
@@ -217,6 +256,9 @@ variable_spelling v = word keyword.Var ∷ name v.name ∷ sign symbol.Colon ∷
 abbrev pub flag_spelling : Flag → List Spelled
 flag_spelling f = word keyword.Flag ∷ name f.name ∷ sign symbol.Equal ∷ word (truth_word f.start) ∷ sign symbol.Semicolon ∷ []
 
+abbrev pub bag_spelling : StateBag → List Spelled
+bag_spelling b = word keyword.Bag ∷ name b.name ∷ number b.capacity ∷ sign symbol.Semicolon ∷ []
+
 abbrev pub output_spelling : Name → List Spelled
 output_spelling n = word keyword.Out ∷ name n ∷ sign symbol.Semicolon ∷ []
 
@@ -224,6 +266,7 @@ abbrev pub declaration_spelling : Declaration → List Spelled
 declaration_spelling (declaration.Out n) = output_spelling n
 declaration_spelling (declaration.Var v) = variable_spelling v
 declaration_spelling (declaration.Flag f) = flag_spelling f
+declaration_spelling (declaration.Bag b) = bag_spelling b
 
 -- names with commas between them
 abbrev pub names_spelling : List Name → List Spelled
@@ -266,7 +309,7 @@ IsItem limits (Declares d) = Unit {0}
 IsItem limits (Lists p) = 0 < length p.names
 IsItem limits (Starts s) = Unit {0}
 IsItem limits (Holds h) = AreTicks limits h.ticks
-IsItem limits (Rules r) = AreStatements limits r.body × (block_depth r.body ≤ limits.block)
+IsItem limits (Rules r) = AreStatements limits r.body × (block_depth r.body ≤ limits.block) × (loop_depth r.body ≤ limits.loop)
 
 -- ---- Coupled models
 

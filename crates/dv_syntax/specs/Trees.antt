@@ -5,6 +5,7 @@ use Rattle.dv_syntax.specs.declared.tree.Name.{Name}
 use Rattle.dv_syntax.specs.declared.tree.Number.{Number}
 use Rattle.dv_syntax.specs.declared.tree.Prefix.{Prefix}
 use Rattle.dv_syntax.specs.declared.tree.Operator.{Operator}
+use Rattle.dv_syntax.specs.declared.tree.BagCall.{BagCall}
 use Rattle.dv_syntax.specs.declared.tree.Declaration.{Declaration}
 use Rattle.dv_syntax.specs.declared.tree.Start.{Start}
 use Rattle.dv_syntax.specs.declared.tree.RuleSort.{RuleSort}
@@ -34,6 +35,8 @@ pub data Expression : Type 0 where
   Parens : (place : ℕ) → (inner : Expression) → Expression
   Prefixed : (operator : Prefix) → (place : ℕ) → (operand : Expression) → Expression
   Binary : (operator : Operator) → (left right : Expression) → Expression
+  Call : (call : BagCall) → (place : ℕ) → (bag : Name) → Expression
+  Times : (place : ℕ) → (value : Expression) → (bag : Name) → Expression
 
 -- a list of statements: none, or one and the rest
 pub data Statements : Type 0 where
@@ -43,6 +46,9 @@ pub data Statements : Type 0 where
   Send : (place : ℕ) → (port : Name) → (value : Expression) → (rest : Statements) → Statements
   If : (place : ℕ) → (condition : Expression) → (block rest : Statements) → Statements
   IfElse : (place : ℕ) → (condition : Expression) → (block other rest : Statements) → Statements
+  For : (place : ℕ) → (variable bag : Name) → (block rest : Statements) → Statements
+  Add : (place : ℕ) → (value : Expression) → (bag : Name) → (rest : Statements) → Statements
+  Drop : (place : ℕ) → (value : Expression) → (bag : Name) → (rest : Statements) → Statements
 
 -- an item of phases
 pub record PhasesTree : Type 0 where
@@ -60,7 +66,7 @@ pub record RuleTree : Type 0 where
   pub phase : Name
   pub body : Statements
 
--- an atomic model: ports, variables and flags, which share their names; phases; starts; holds; rules
+-- an atomic model: ports, variables, flags and bags, which share their names; phases; starts; holds; rules
 pub record AtomicTree : Type 0 where
   pub name : Name
   pub declarations : List Declaration
@@ -91,6 +97,8 @@ expression_of (expr.Named n) = Named n
 expression_of (expr.Parens' place p e) = Parens place (expression_of e)
 expression_of (expr.Prefixed' o place p e) = Prefixed o place (expression_of e)
 expression_of (expr.Binary' o p a q b) = Binary o (expression_of a) (expression_of b)
+expression_of (expr.Call c place b) = Call c place b
+expression_of (expr.Times' place p e b) = Times place (expression_of e) b
 
 abbrev mutual
   -- a statement of the code, before a rest
@@ -101,6 +109,9 @@ abbrev mutual
   statement_before (stmt.If' place e shape block) rest = If place (expression_of e) (row_statements block) rest
   statement_before (stmt.IfElse' place e shape block other_shape other) rest =
       IfElse place (expression_of e) (row_statements block) (row_statements other) rest
+  statement_before (stmt.For' place v b shape block) rest = For place v b (row_statements block) rest
+  statement_before (stmt.Add place e b) rest = Add place (expression_of e) b rest
+  statement_before (stmt.Drop place e b) rest = Drop place (expression_of e) b rest
 
   pub row_statements : {n : _} → Row_of-Stmt n → Statements
   row_statements end_of-Stmt = Done

@@ -7,6 +7,7 @@ pub mod laws;
 pub mod tree;
 
 pub use tree::{
-    Atomic, Block, Bound, Coupled, Declaration, End, Expr, File, Flag, Hold, Link, Model, Name,
-    Number, Operator, Part, Phases, Prefix, Rule, RuleSort, Start, Stmt, Ticks, Variable,
+    Atomic, BagCall, Block, Bound, Coupled, Declaration, End, Expr, File, Flag, Hold, Link, Model,
+    Name, Number, Operator, Part, Phases, Prefix, Rule, RuleSort, Start, StateBag, Stmt, Ticks,
+    Variable,
 };

@@ -42,6 +42,19 @@ pub enum Operator {
     AtLeast,
 }
 
+/// What a call asks of a bag.
+#[derive(Clone, Copy, Debug, PartialEq, Eq)]
+pub enum BagCall {
+    /// The number of its values, each copy counted.
+    Size,
+    /// The sum of its values, each copy added.
+    Sum,
+    /// Its least value.
+    Least,
+    /// Its greatest value.
+    Most,
+}
+
 /// An expression. A place is that of the node's first token where no operand has it.
 #[derive(Debug, Drop)]
 pub enum Expr {
@@ -65,6 +78,18 @@ pub enum Expr {
         operator: Operator,
         left: Box<Expr>,
         right: Box<Expr>,
+    },
+    /// `size(bag)`, and `sum`, `least` and `most` alike
+    Call {
+        call: BagCall,
+        place: u32,
+        bag: Name,
+    },
+    /// `times(value, bag)`: how often the value is in the bag
+    Times {
+        place: u32,
+        value: Box<Expr>,
+        bag: Name,
     },
 }
 
@@ -101,6 +126,25 @@ pub enum Stmt {
         then_block: Block,
         else_block: Block,
     },
+    /// `for variable in bag { .. }`
+    For {
+        place: u32,
+        variable: Name,
+        bag: Name,
+        block: Block,
+    },
+    /// `add value to bag;`
+    Add {
+        place: u32,
+        value: Expr,
+        bag: Name,
+    },
+    /// `drop value from bag;`
+    Drop {
+        place: u32,
+        value: Expr,
+        bag: Name,
+    },
 }
 
 /// Statements in braces.
@@ -133,7 +177,14 @@ pub struct Flag {
     pub start: bool,
 }
 
-/// What declares a name that ports, variables and flags share.
+/// `bag name capacity;`
+#[derive(Clone, Copy, Debug, PartialEq, Eq)]
+pub struct StateBag {
+    pub name: Name,
+    pub capacity: Number,
+}
+
+/// What declares a name that ports, variables, flags and bags share.
 #[derive(Clone, Copy, Debug, PartialEq, Eq)]
 pub enum Declaration {
     /// `out port;`
@@ -142,6 +193,8 @@ pub enum Declaration {
     Var(Variable),
     /// `flag name = start;`
     Flag(Flag),
+    /// `bag name capacity;`
+    Bag(StateBag),
 }
 
 /// `phases first, second, ..;` and the place of its first word.

@@ -33,21 +33,21 @@ same_time : (t u : Time) → is_eq (time_cmp t u) ≡ true → t ≡ u
 same_time t u h =
     let both = both_equal (nat_cmp t.tick u.tick) (nat_cmp t.micro u.micro) h in
     ap (λ n. let x : Time = record { tick = n; micro = t.micro } in x) (same_number t.tick u.tick both.0) ∙ ap
-        (λ n. let x : Time = record { tick = u.tick; micro = n } in x) (same_number t.micro u.micro both.1)
+    (λ n. let x : Time = record { tick = u.tick; micro = n } in x) (same_number t.micro u.micro both.1)
 
 put_case : (names : List (List ℕ)) (o p : Outer) (os : List Outer) →
     groups_of names (p ∷ os) ≡ (p.time, outer_text names p ++ ports_at names p.time os) ∷ groups_of names (after_at p.time os) →
     (e : Bool) → is_eq (time_cmp o.time p.time) ≡ e →
     cond e ((o.time, outer_text names o ++ (outer_text names p ++ ports_at names p.time os)) ∷ groups_of names (after_at p.time os))
-        ((o.time, outer_text names o) ∷ (p.time, outer_text names p ++ ports_at names p.time os) ∷ groups_of names (after_at p.time os)) ≡
-        (o.time, outer_text names o ++ cond e (outer_text names p ++ ports_at names o.time os) []) ∷ groups_of names
-        (cond e (after_at o.time os) (p ∷ os))
+    ((o.time, outer_text names o) ∷ (p.time, outer_text names p ++ ports_at names p.time os) ∷ groups_of names (after_at p.time os)) ≡
+    (o.time, outer_text names o ++ cond e (outer_text names p ++ ports_at names o.time os) []) ∷ groups_of names
+    (cond e (after_at o.time os) (p ∷ os))
 put_case names o p os ih true h =
     ap (λ (t : Time). (o.time, outer_text names o ++ (outer_text names p ++ ports_at names t os)) ∷ groups_of names (after_at t os))
-        (sym (same_time o.time p.time h))
+    (sym (same_time o.time p.time h))
 put_case names o p os ih false h =
     ap (λ (z : List ℕ). (o.time, z) ∷ (p.time, outer_text names p ++ ports_at names p.time os) ∷ groups_of names (after_at p.time os))
-        (sym (append-nil (outer_text names o)))
+    (sym (append-nil (outer_text names o)))
     ∙ ap (λ (gs : List (Time × List ℕ)). (o.time, outer_text names o ++ []) ∷ gs) (sym ih)
 
 -- the first group has all that is at the front with its time
@@ -109,10 +109,10 @@ pub groups_before-more : (names : List (List ℕ)) (t : Time) (all : List Outer)
     groups_before t (groups_of names all) ≡ first_text (groups_of names all) ++ groups_before t (other_groups (groups_of names all))
 groups_before-more names t all o os e h =
     first_before t (groups_of names all) (o.time, outer_text names o ++ ports_at names o.time os) (groups_of names (after_at o.time os))
-        (group_at names all o os e) h
+    (group_at names all o os e) h
 
 pub groups_from-more : (names : List (List ℕ)) (t : Time) (all : List Outer) (o : Outer) (os : List Outer) → all ≡ o ∷ os →
     is_before o.time t ≡ true → groups_from t (groups_of names all) ≡ groups_from t (other_groups (groups_of names all))
 groups_from-more names t all o os e h =
     first_passed t (groups_of names all) (o.time, outer_text names o ++ ports_at names o.time os) (groups_of names (after_at o.time os))
-        (group_at names all o os e) h
+    (group_at names all o os e) h

@@ -168,8 +168,8 @@ module _ (all : List ComponentNames) where
       let late = not_before_itself t e.time same in
       let waits = groups_before-append e.time t gs hs late at ∙ groups_before-all t e.time gs same before in
       let left =
-          groups_from-append e.time t gs hs late at
-          ∙ ap (λ (ks : List (Time × List ℕ)). ks ++ hs) (groups_from-all t e.time gs same before) in
+      groups_from-append e.time t gs hs late at
+      ∙ ap (λ (ks : List (Time × List ℕ)). ks ++ hs) (groups_from-all t e.time gs same before) in
       ap (λ x. x ++ (entry_line e ++ lines_by_time all es (groups_from e.time (gs ++ hs)))) waits
       ∙ ap (λ ks. flat_map group_text gs ++ (entry_line e ++ lines_by_time all es ks)) left
 
@@ -194,10 +194,10 @@ module _ (all : List ComponentNames) where
       let late = not_before e.time t es_before.0 in
       let left = groups_from e.time gs in
       ap (λ x. x ++ (entry_line e ++ lines_by_time all (es ++ fs) (groups_from e.time (gs ++ hs))))
-          (groups_before-append e.time t gs hs late at)
+      (groups_before-append e.time t gs hs late at)
       ∙ ap (λ ks. groups_before e.time gs ++ (entry_line e ++ lines_by_time all (es ++ fs) ks)) (groups_from-append e.time t gs hs late at)
       ∙ ap (λ x. groups_before e.time gs ++ (entry_line e ++ x))
-          (lines-append t es fs left hs es_before.1 fs_at (groups_from-before t e.time gs before) at)
+      (lines-append t es fs left hs es_before.1 fs_at (groups_from-before t e.time gs before) at)
       ∙ ap (λ x. groups_before e.time gs ++ x) (sym (append_assoc (entry_line e) (lines_by_time all es left) (lines_by_time all fs hs)))
       ∙ sym (append_assoc (groups_before e.time gs) (entry_line e ++ lines_by_time all es left) (lines_by_time all fs hs))
 
@@ -210,7 +210,7 @@ module _ (all : List ComponentNames) where
       let group = group_at outputs t part.outer in
       ap (lines_by_time all (past.entries ++ part.entries)) (groups_of-append outputs t past.outer part.outer outers_before outers_at)
       ∙ lines-append t past.entries part.entries (groups_of outputs past.outer) group entries_before entries_at
-          (groups_of-before outputs t past.outer outers_before) (group_at-at outputs t part.outer)
+      (groups_of-before outputs t past.outer outers_before) (group_at-at outputs t part.outer)
       ∙ ap (λ x. lines_by_time all past.entries (groups_of outputs past.outer) ++ x)
       (lines_at t part.entries group entries_at (group_at-at outputs t part.outer)
       ∙ ap (λ x. flat_map entry_line part.entries ++ x) (lines_of_group outputs t part.outer))
@@ -222,8 +222,8 @@ module _ {I : Type 0} (limit : ℕ) (net : Network I) (inputs : ℕ → I) where
     -- one more instant
     next_instant : (n : ℕ) →
         trace_text all outputs (trace_before limit net inputs (suc n)) ≡ trace_text all outputs
-            (trace_before limit net inputs n) ++ instant_text all outputs (time_of limit n)
-            (part_of_instant limit net n (inputs n) (components_at limit net inputs n))
+        (trace_before limit net inputs n) ++ instant_text all outputs (time_of limit n)
+        (part_of_instant limit net n (inputs n) (components_at limit net inputs n))
     next_instant n =
         let t = time_of limit n in
         let past = trace_before limit net inputs n in
@@ -241,4 +241,4 @@ module _ {I : Type 0} (limit : ℕ) (net : Network I) (inputs : ℕ → I) where
     trace-instants (suc n) =
         next_instant n
         ∙ ap (λ x. x ++ instant_text all outputs (time_of limit n)
-            (part_of_instant limit net n (inputs n) (components_at limit net inputs n))) (trace-instants n)
+        (part_of_instant limit net n (inputs n) (components_at limit net inputs n))) (trace-instants n)

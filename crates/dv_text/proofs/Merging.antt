@@ -11,7 +11,7 @@ use Rattle.dv_text.specs.Texts.{ComponentNames, entry_text, names_at}
 pub next_entry : (all : List ComponentNames) (items : List Entry) (i : ℕ) (e : Entry) (gs left : List (Time × List ℕ)) (ending : List ℕ) →
     i < length items → e ≡ get_or items i e → left ≡ groups_from e.time gs →
     lines_by_time all (drop i items) gs ++ ending ≡ groups_before e.time gs ++
-        (entry_text (names_at all e.component) e ++ (lines_by_time all (drop (i + 1) items) left ++ ending))
+    (entry_text (names_at all e.component) e ++ (lines_by_time all (drop (i + 1) items) left ++ ending))
 next_entry all items i e gs left ending h is from =
     let after = drop (i + 1) items in
     let text = entry_text (names_at all e.component) e in

@@ -24,7 +24,7 @@ pub path-names_at : (s : Source) (k : ℕ) (path : List ℕ) →
 path-names_at s k path h =
     let all = instances (file_of s.file) in
     ap (λ (o : Option ComponentNames). (unwrap_or o no_names).path) (slice_get-map (instance_names s.names) all k) ∙ path-instance s.names
-        (slice_get all k) path (sym (slice_get-map (λ (i : Instance). with_dots (texts_of s.names i.path)) all k) ∙ h)
+    (slice_get all k) path (sym (slice_get-map (λ (i : Instance). with_dots (texts_of s.names i.path)) all k) ∙ h)
 
 -- the names that a model declares are the words of its components
 pub record HasScope (names : List (List ℕ)) (w : ComponentNames) (scope : Scope) : Type 0 where
@@ -38,8 +38,12 @@ scope-instance : (names : List (List ℕ)) (o : Option Instance) (scope : Scope)
 scope-instance names None scope h = cc
 scope-instance names (Some i) scope h =
     let e : scope_of i.model ≡ scope = cc in
-    record { phases = ap (λ (c : Scope). texts_of names c.phases) e; variables = ap
-        (λ (c : Scope). texts_of names (names_of c.variables)) e; outputs = ap (λ (c : Scope). texts_of names c.outputs) e }
+    record {
+      phases = ap (λ (c : Scope). texts_of names c.phases) e;
+      variables = ap
+          (λ (c : Scope). texts_of names (names_of c.variables)) e;
+      outputs = ap (λ (c : Scope). texts_of names c.outputs) e;
+    }
 
 pub scope-names_at : (s : Source) (k : ℕ) (scope : Scope) →
     slice_get (map (λ (i : Instance). scope_of i.model) (instances (file_of s.file))) k ≡ Some scope →
@@ -48,13 +52,13 @@ scope-names_at s k scope h =
     let all = instances (file_of s.file) in
     let P : Option ComponentNames → Type 0 = λ o. HasScope s.names (unwrap_or o no_names) scope in
     subst P (sym (slice_get-map (instance_names s.names) all k))
-        (scope-instance s.names (slice_get all k) scope (sym (slice_get-map (λ (i : Instance). scope_of i.model) all k) ∙ h))
+    (scope-instance s.names (slice_get all k) scope (sym (slice_get-map (λ (i : Instance). scope_of i.model) all k) ∙ h))
 
 -- a number that no component has
 pub names_at-past : (s : Source) (k : ℕ) → length (instances (file_of s.file)) ≤ k → names_at (tree_names s) k ≡ no_names
 names_at-past s k h =
     let long : length (tree_names s) ≤ k = omega (arith, length-map (instances (file_of s.file)) (instance_names s.names)) in ap
-        (λ (o : Option ComponentNames). unwrap_or o no_names) (slice_get_past (tree_names s) k long)
+    (λ (o : Option ComponentNames). unwrap_or o no_names) (slice_get_past (tree_names s) k long)
 
 -- the name at a place of names that stand as numbers
 pub name_at-texts : (names : List (List ℕ)) (numbers : List ℕ) (k : ℕ) →

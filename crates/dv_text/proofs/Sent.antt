@@ -15,7 +15,7 @@ variables_step names line line1 line2 whole ns ns' ds ds' n d en ed before named
     let rest = variables_text (texts_of names ns') ds' in
     let name = 32 ∷ name_at names n in
     let left =
-        ap (λ t. line ++ t) (ap (λ ms. variables_text (texts_of names ms) ds) en ∙ ap (variables_text (texts_of names (n ∷ ns'))) ed) in
+    ap (λ t. line ++ t) (ap (λ ms. variables_text (texts_of names ms) ds) en ∙ ap (variables_text (texts_of names (n ∷ ns'))) ed) in
     ap (λ t. t ++ rest) (shown ∙ ap (λ t. t ++ datum_text d) named)
     ∙ append_assoc (line ++ (name ++ (61 ∷ []))) (datum_text d) rest
     ∙ append_assoc line (name ++ (61 ∷ [])) (datum_text d ++ rest)
@@ -63,7 +63,7 @@ pub sent_end : (names : List (List ℕ)) (line whole : List ℕ) (is_first : Boo
 sent_end names line whole is_first ns bags none before =
     sym (append-nil line)
     ∙ ap (λ t. line ++ t)
-        (sym (ap (sent_from is_first) (no_ports (texts_of names ns) bags (either_texts names ns bags none)) ∙ sent_from-nothing is_first))
+    (sym (ap (sent_from is_first) (no_ports (texts_of names ns) bags (either_texts names ns bags none)) ∙ sent_from-nothing is_first))
     ∙ before
 
 -- the next port is in front of what is left
@@ -73,7 +73,7 @@ pub left_ports :
     line ++ sent_from is_first (port_text (name_at names n) b ++ ports_text (texts_of names ns') bags') ≡ whole
 left_ports names line whole is_first ns ns' bags bags' n b en eb before =
     ap (λ t. line ++ sent_from is_first t)
-        (sym (ap (λ ms. ports_text (texts_of names ms) bags) en ∙ ap (ports_text (texts_of names (n ∷ ns'))) eb)) ∙ before
+    (sym (ap (λ ms. ports_text (texts_of names ms) bags) en ∙ ap (ports_text (texts_of names (n ∷ ns'))) eb)) ∙ before
 
 -- a port with no values is passed over
 pub no_port : (line : List ℕ) (is_first : Bool) (name : List ℕ) (b : Counts) (rest : List ℕ) → nat_eq (size b) 0 ≡ true →
@@ -85,8 +85,8 @@ marked : (is_first : Bool) (name : List ℕ) (b : Counts) (rest : List ℕ) → 
     cond is_first (32 ∷ 62 ∷ []) [] ++ (port_text name b ++ rest) ≡ sent_from is_first (port_text name b ++ rest)
 marked true name b rest some =
     let P : Bool → Type 0 =
-        λ e. (32 ∷ 62 ∷ []) ++ (cond e [] ((32 ∷ name) ++ (58 ∷ values_text b)) ++ rest) ≡ sent_text
-            (cond e [] ((32 ∷ name) ++ (58 ∷ values_text b)) ++ rest) in
+    λ e. (32 ∷ 62 ∷ []) ++ (cond e [] ((32 ∷ name) ++ (58 ∷ values_text b)) ++ rest) ≡ sent_text
+    (cond e [] ((32 ∷ name) ++ (58 ∷ values_text b)) ++ rest) in
     subst P (sym some) refl
 marked false name b rest some = refl
 

@@ -55,7 +55,7 @@ copies_step line line' whole is_first n i v h before more =
     let rest = values_from false (replicate (n - (i + 1)) v) in
     let left = ap (λ vs. line ++ values_from is_first vs) (replicate_left n i v h) in
     ap (λ t. t ++ rest) more ∙ append_assoc line (cond is_first [] (44 ∷ []) ++ signed_decimal v) rest ∙ ap (λ t. line ++ t)
-        (append_assoc (cond is_first [] (44 ∷ [])) (signed_decimal v) rest) ∙ sym left ∙ before
+    (append_assoc (cond is_first [] (44 ∷ [])) (signed_decimal v) rest) ∙ sym left ∙ before
 
 -- one more pair
 pub values_step : (line line' whole : List ℕ) (is_first : Bool) (ps : Counts) → IsBag ps → (k : ℕ) (d : ℤ × ℕ) → k < length ps →
@@ -68,7 +68,7 @@ values_step line line' whole is_first ps b k d h before more =
     let left = at_drop_more (λ xs. line ++ values_from is_first (values_of xs)) ps k d h in
     let copies = ap (λ t. line ++ t) (values_from-copies is_first p.1 p.0 rest (count_above_0 ps b k d h)) in
     ap (λ t. t ++ values_from false rest) more ∙ append_assoc line (values_from is_first (replicate p.1 p.0)) (values_from false rest)
-        ∙ sym copies ∙ sym left ∙ before
+    ∙ sym copies ∙ sym left ∙ before
 
 -- no pair is left
 pub values_end : (line whole : List ℕ) (is_first : Bool) (ps : Counts) (k : ℕ) → length ps ≤ k →
@@ -79,18 +79,18 @@ values_end line whole is_first ps k h before =
 -- what is left of the copies, and of the pairs
 pub copies_left : (is_first : Bool) (n i : ℕ) (v : ℤ) → i < n →
     values_from is_first (replicate (n - i) v) ≡ (cond is_first [] (44 ∷ []) ++ signed_decimal v) ++ values_from false
-        (replicate (n - (i + 1)) v)
+    (replicate (n - (i + 1)) v)
 copies_left is_first n i v h =
     ap (values_from is_first) (replicate_left n i v h)
     ∙ sym (append_assoc (cond is_first [] (44 ∷ [])) (signed_decimal v) (values_from false (replicate (n - (i + 1)) v)))
 
 pub values_left : (is_first : Bool) (ps : Counts) → IsBag ps → (k : ℕ) (d : ℤ × ℕ) → k < length ps →
     values_from is_first (values_of (drop k ps)) ≡ values_from is_first (replicate (get_or ps k d).1 (get_or ps k d).0) ++ values_from false
-        (values_of (drop (k + 1) ps))
+    (values_of (drop (k + 1) ps))
 values_left is_first ps b k d h =
     let p = get_or ps k d in
     at_drop_more (λ xs. values_from is_first (values_of xs)) ps k d h ∙ values_from-copies is_first p.1 p.0 (values_of (drop (k + 1) ps))
-        (count_above_0 ps b k d h)
+    (count_above_0 ps b k d h)
 
 pub no_values_left : (is_first : Bool) (ps : Counts) (k : ℕ) → length ps ≤ k → values_from is_first (values_of (drop k ps)) ≡ []
 no_values_left is_first ps k h = at_drop_all (λ xs. values_from is_first (values_of xs)) ps k h

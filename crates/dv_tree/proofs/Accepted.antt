@@ -154,7 +154,7 @@ found checked s components scopes k accepted view same_components same_scopes wi
     let e = ap (λ (x : Source). file_of x.file) view in
     let Within : FileTree → Type 0 = λ x. k < length (instances x) in
     let Found : FileTree → Type 0 =
-        λ x. IsFound checked.file x (components_of (file_of checked.file)) (scopes_of (file_of checked.file)) k in
+    λ x. IsFound checked.file x (components_of (file_of checked.file)) (scopes_of (file_of checked.file)) k in
     rw (same_components, same_scopes) (subst Found e (found_in checked k accepted (subst Within (sym e) within)))
 
 -- what indexing reads
@@ -176,7 +176,7 @@ module _ {file : File} {f : FileTree} {components : List Component} {scopes : Li
   pub within_models : (x : Component) → x ≡ get_or components k x → x.model < length file.models.items
   within_models x read =
       let Within : ℕ → Type 0 = λ n. n < length file.models.items in subst Within (sym (place_read x read))
-          (slice_get_within file.models.items h.place _ h.there)
+      (slice_get_within file.models.items h.place _ h.there)
 
   pub within_scopes : (x : Component) → x ≡ get_or components k x → x.model < length scopes
   within_scopes x read =
@@ -186,7 +186,7 @@ module _ {file : File} {f : FileTree} {components : List Component} {scopes : Li
       y ≡ model.Atomic h.atomic
   model_read x y read there =
       let Reads : ℕ → Type 0 = λ n. y ≡ get_or file.models.items n y in read_is file.models.items h.place _ y h.there
-          (subst Reads (place_read x read) there)
+      (subst Reads (place_read x read) there)
 
   pub scope_read : (x : Component) (y : Scope) → x ≡ get_or components k x → y ≡ get_or scopes x.model y → y ≡ scope_of (atomic_of h.atomic)
   scope_read x y read there =

@@ -15,12 +15,12 @@ use Rattle.dv_tree.proofs.Accepted.{parts_accepted, length-instances}
 few_parts : (f : FileTree) → IsAcceptedFile f → length (root_parts f) ≤ GREATEST_NAMES
 few_parts f h =
     let Few : Option ModelTree → Type 0 = λ o. length (parts_in (coupled_model o)) ≤ GREATEST_NAMES in subst Few
-        (sym h.named) h.coupled.few_parts
+    (sym h.named) h.coupled.few_parts
 
 few_ports : (f : FileTree) → IsAcceptedFile f → length (root_ports f) ≤ GREATEST_NAMES
 few_ports f h =
     let Few : Option ModelTree → Type 0 = λ o. length (outputs_in (coupled_model o)) ≤ GREATEST_NAMES in subst Few
-        (sym h.named) h.coupled.few_outputs
+    (sym h.named) h.coupled.few_outputs
 
 pub few_components : (f : FileTree) → IsAcceptedFile f → length (instances f) ≤ GREATEST_NAMES
 few_components f h = omega (arith, length-instances f.models (root_parts f) (parts_accepted f h), few_parts f h)
@@ -37,7 +37,7 @@ length-passed_on : (ports : List ℕ) (parts : List Instance) (sent : List (List
 length-passed_on ports parts sent [] bags = refl
 length-passed_on ports parts sent (l ∷ links) bags =
     length-passed_on ports parts sent links
-        (joined_at (exit_of ports l.to.part l.to.port.number) (carried parts sent l.from.part l.from.port.number) bags)
+    (joined_at (exit_of ports l.to.part l.to.port.number) (carried parts sent l.from.part l.from.port.number) bags)
     ∙ length-joined_at (exit_of ports l.to.part l.to.port.number) (carried parts sent l.from.part l.from.port.number) bags
 
 -- what leaves has a bag for each output

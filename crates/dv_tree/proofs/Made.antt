@@ -30,10 +30,10 @@ module _ (f : FileTree) (models : List ℕ) (root : Option CoupledTree) (models_
       made
       ∙ (ap (λ (x : List ℕ). filter_map (exit_of_link x parts components scopes) (links_in root)) ports_are
       ∙ (ap (λ (x : List ℕ). filter_map (exit_of_link (root_outputs f) x components scopes) (links_in root))
-          (parts_are ∙ ap part_numbers components_are)
+      (parts_are ∙ ap part_numbers components_are)
       ∙ (ap (λ (x : List Component). filter_map (exit_of_link (root_outputs f) (part_numbers (components_of f)) x scopes)
-          (links_in root)) components_are
+      (links_in root)) components_are
       ∙ (ap (λ (x : List Scope). filter_map (exit_of_link (root_outputs f) (part_numbers (components_of f)) (components_of f) x)
-          (links_in root)) scopes_are
+      (links_in root)) scopes_are
       ∙ ap (λ (x : Option CoupledTree). filter_map
-          (exit_of_link (root_outputs f) (part_numbers (components_of f)) (components_of f) (scopes_of f)) (links_in x)) root_is))))
+      (exit_of_link (root_outputs f) (part_numbers (components_of f)) (components_of f) (scopes_of f)) (links_in x)) root_is))))

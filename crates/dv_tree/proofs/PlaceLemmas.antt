@@ -10,7 +10,7 @@ place_from_later : (k name : ℕ) (names : List ℕ) → place_from (k + 1) name
 place_from_later k name [] = refl
 place_from_later k name (n ∷ names) =
     elim (eqb n name) as (λ b. cond b (Some (k + 1)) (place_from (k + 1 + 1) name names) ≡ option_map suc
-        (cond b (Some k) (place_from (k + 1) name names))) [
+    (cond b (Some k) (place_from (k + 1) name names))) [
       | true ↦ ap Some (omega arith)
       | false ↦ place_from_later (k + 1) name names
     ]
@@ -53,7 +53,7 @@ place_of-more name names i within =
     ap (place_of name) (take_more names i 0 within)
     ∙ (place_of-push name (take i names) (get_or names i 0)
     ∙ ap (λ k. first_of (place_of name (take i names)) (cond (eqb (get_or names i 0) name) (Some k) None))
-        (length-take-le i names (omega arith)))
+    (length-take-le i names (omega arith)))
 
 none_from_is_some : (o : Option ℕ) → is_some o ≡ false → o ≡ None
 none_from_is_some None e = refl

@@ -57,9 +57,9 @@ sent_by_places-later bags sent component (Some port) = refl
 
 sent_by_output-later :
     (bags : List Counts) (sent : List (List Counts)) (c : Component) (components : List Component) (scopes : List Scope) (port : ℕ)
-        (component : Option ℕ) →
+    (component : Option ℕ) →
     sent_by_places sent component (output_from components scopes component port) ≡ sent_by_places (bags ∷ sent) (option_map suc component)
-        (output_from (c ∷ components) scopes (option_map suc component) port)
+    (output_from (c ∷ components) scopes (option_map suc component) port)
 sent_by_output-later bags sent c components scopes port None = refl
 sent_by_output-later bags sent c components scopes port (Some component) =
     sent_by_places-later bags sent component (output_of components scopes component port)
@@ -80,11 +80,11 @@ SentIs is sent components scopes component part port =
 
 sent_from_at :
     (models : List ModelTree) (p : Part) (parts : List Part) (h : IsAtomicPart models p) (part port : ℕ) (bags : List Counts)
-        (sent : List (List Counts)) (found : Option ℕ) (b : Bool) →
+    (sent : List (List Counts)) (found : Option ℕ) (b : Bool) →
     SentIs (instances_from models parts) sent (map (component_of models) parts) (map scope_of_model models) found part port →
     cond b (bag_of_port (place_of port (scope_of h.model).outputs) bags) (sent_from part port (instances_from models parts) sent)
-        ≡ sent_by_places (bags ∷ sent) (cond b (Some 0) (option_map suc found))
-        (output_from (map (component_of models) (p ∷ parts)) (map scope_of_model models) (cond b (Some 0) (option_map suc found)) port)
+    ≡ sent_by_places (bags ∷ sent) (cond b (Some 0) (option_map suc found))
+    (output_from (map (component_of models) (p ∷ parts)) (map scope_of_model models) (cond b (Some 0) (option_map suc found)) port)
 sent_from_at models p parts h part port bags sent found true later =
     sent_by_places-first bags sent (place_of port (scope_of h.model).outputs)
     ∙ ap (λ (s : Scope). sent_by_places (bags ∷ sent) (Some 0) (place_of port s.outputs)) (sym (scope_of_part models p h))
@@ -94,29 +94,29 @@ sent_from_at models p parts h part port bags sent found false later =
 sent_from_is : (models : List ModelTree) (parts : List Part) → AreAtomic models parts → (part port : ℕ) (sent : List (List Counts)) →
     length sent ≡ length parts →
     SentIs (instances_from models parts) sent (map (component_of models) parts) (map scope_of_model models)
-        (place_of part (part_numbers (map (component_of models) parts))) part port
+    (place_of part (part_numbers (map (component_of models) parts))) part port
 sent_from_is models [] h part port sent same = refl
 sent_from_is models (p ∷ parts) h part port [] same = absurd (omega arith)
 sent_from_is models (p ∷ parts) h part port (bags ∷ sent) same =
     let components = map (component_of models) parts in
     let here =
-        sent_from_at models p parts h.0 part port bags sent (place_of part (part_numbers components)) (eqb p.name.number part)
-            (sent_from_is models parts h.1 part port sent (omega arith)) in
+    sent_from_at models p parts h.0 part port bags sent (place_of part (part_numbers components)) (eqb p.name.number part)
+    (sent_from_is models parts h.1 part port sent (omega arith)) in
     let ByInstances : List Instance → Type 0 =
-        λ is. SentIs is (bags ∷ sent) (component_of models p ∷ components) (map scope_of_model models)
-            (place_of part (p.name.number ∷ part_numbers components)) part port in
+    λ is. SentIs is (bags ∷ sent) (component_of models p ∷ components) (map scope_of_model models)
+    (place_of part (p.name.number ∷ part_numbers components)) part port in
     let ByPlace : Option ℕ → Type 0 =
-        λ component. SentIs (record { path = p.name.number ∷ []; model = h.0.model } ∷ instances_from models parts) (bags ∷ sent)
-            (component_of models p ∷ components) (map scope_of_model models) component part port in
+    λ component. SentIs (record { path = p.name.number ∷ []; model = h.0.model } ∷ instances_from models parts) (bags ∷ sent)
+    (component_of models p ∷ components) (map scope_of_model models) component part port in
     subst ByInstances (sym (instance_first models p parts h.0))
-        (subst ByPlace (sym (place_of-cons part p.name.number (part_numbers components))) here)
+    (subst ByPlace (sym (place_of-cons part p.name.number (part_numbers components))) here)
 
 carried_is : (models : List ModelTree) (parts : List Part) → AreAtomic models parts →
     (part : Option Name) (port : ℕ) (sent : List (List Counts)) → length sent ≡ length parts →
     carried (instances_from models parts) sent part port ≡ sent_by_places sent
-        (source_of (part_numbers (map (component_of models) parts)) part)
-        (output_from (map (component_of models) parts) (map scope_of_model models)
-        (source_of (part_numbers (map (component_of models) parts)) part) port)
+    (source_of (part_numbers (map (component_of models) parts)) part)
+    (output_from (map (component_of models) parts) (map scope_of_model models)
+    (source_of (part_numbers (map (component_of models) parts)) part) port)
 carried_is models parts h None port sent same = refl
 carried_is models parts h (Some part) port sent same = sent_from_is models parts h part.number port sent same
 
@@ -140,8 +140,8 @@ exit_joins sent (Some component) (Some port) (Some root_port) more bags rest e =
 passed_by_exits : (models : List ModelTree) (parts : List Part) → AreAtomic models parts → (ports : List ℕ) (sent : List (List Counts)) →
     length sent ≡ length parts → (links : List Link) (bags : List Counts) →
     with_exits sent bags (filter_map
-        (exit_of_link ports (part_numbers (map (component_of models) parts)) (map (component_of models) parts)
-        (map scope_of_model models)) links) ≡ passed_on ports (instances_from models parts) sent links bags
+    (exit_of_link ports (part_numbers (map (component_of models) parts)) (map (component_of models) parts)
+    (map scope_of_model models)) links) ≡ passed_on ports (instances_from models parts) sent links bags
 passed_by_exits models parts h ports sent same [] bags = refl
 passed_by_exits models parts h ports sent same (l ∷ links) bags =
     let components = map (component_of models) parts in
@@ -150,8 +150,8 @@ passed_by_exits models parts h ports sent same (l ∷ links) bags =
     let more = carried (instances_from models parts) sent l.from.part l.from.port.number in
     let root_port = exit_of ports l.to.part l.to.port.number in
     exit_joins sent component (output_from components scopes component l.from.port.number) root_port more bags
-        (filter_map (exit_of_link ports (part_numbers components) components scopes) links)
-        (carried_is models parts h l.from.part l.from.port.number sent same)
+    (filter_map (exit_of_link ports (part_numbers components) components scopes) links)
+    (carried_is models parts h l.from.part l.from.port.number sent same)
     ∙ passed_by_exits models parts h ports sent same links (joined_at root_port more bags)
 
 -- what leaves by the exits is what leaves by the links
@@ -159,7 +159,7 @@ pub leaves_by_exits : (f : FileTree) → AreAtomic f.models (root_parts f) → (
     length sent ≡ length (instances f) → with_exits sent (replicate (length (root_outputs f)) []) (exits_of f) ≡ leaves f sent
 leaves_by_exits f h sent same =
     passed_by_exits f.models (root_parts f) h (root_outputs f) sent (same ∙ length-instances f.models (root_parts f) h) (root_links f)
-        (replicate (length (root_outputs f)) [])
+    (replicate (length (root_outputs f)) [])
 
 pub route_made : (checked : Checked) → IsAcceptedFile (file_of checked.file) →
     (s : Source) (exits : List Exit) (sent : List (List Counts)) (ports : ℕ) (first last : List Counts) →

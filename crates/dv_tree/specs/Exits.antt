@@ -43,7 +43,7 @@ exit_between component port root_port = None
 abbrev pub exit_of_link : List ℕ → List ℕ → List Component → List Scope → Link → Option Exit
 exit_of_link ports parts components scopes l =
     exit_between (source_of parts l.from.part) (output_from components scopes (source_of parts l.from.part) l.from.port.number)
-        (exit_of ports l.to.part l.to.port.number)
+    (exit_of ports l.to.part l.to.port.number)
 
 -- the exits of a text, in the order of the links
 abbrev pub exits_of : FileTree → List Exit

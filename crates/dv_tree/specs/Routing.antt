@@ -44,7 +44,7 @@ abbrev pub passed_on : List ℕ → List Instance → List (List Counts) → Lis
 passed_on ports parts sent [] bags = bags
 passed_on ports parts sent (l ∷ links) bags =
     passed_on ports parts sent links
-        (joined_at (exit_of ports l.to.part l.to.port.number) (carried parts sent l.from.part l.from.port.number) bags)
+    (joined_at (exit_of ports l.to.part l.to.port.number) (carried parts sent l.from.part l.from.port.number) bags)
 
 -- the names of the root's output ports
 abbrev pub root_outputs : FileTree → List ℕ

@@ -20,7 +20,7 @@ pub record Source : Type 0 where
 abbrev pub source_code : Coded Source
 source_code =
     code_by (File × List (List ℕ)) (coded× file.the_row.coded (coded_list (coded_list coded_ℕ))) (λ s. (s.file, s.names))
-        (λ p. record { file = p.0; names = p.1 }) (λ _. refl)
+    (λ p. record { file = p.0; names = p.1 }) (λ _. refl)
 
 abbrev pub numbers : List Name → List ℕ
 numbers names = map (λ (n : Name). n.number) names

@@ -1,4 +1,4 @@
-//! The program: checks model texts, and runs them and prints their traces.
+//! The program: checks model texts, runs them and prints their traces, and explains refusals and faults.
 #![tactic(auto)]
 
 mod report;
@@ -7,7 +7,7 @@ mod tests;
 
 use dv_command::{Check, Request, RequestError, Run, request_of};
 use dv_job::{JobError, Options, check_bytes, run_plain};
-use report::{line, status};
+use report::{explained, explanation_text, line, status};
 use std::io::Write;
 use std::process::ExitCode;
 use std::rt::Files;
@@ -33,6 +33,10 @@ fn main(rt: HostRuntime) -> io::Result<ExitCode> {
     match request_of(rt.alloc(), words.as_slice()) {
         Ok(Request::Check(check)) => Ok(ExitCode::from(check_model(&rt, &check)?)),
         Ok(Request::Run(run)) => Ok(ExitCode::from(run_model(&rt, &run)?)),
+        Ok(Request::Explain(explanation)) => {
+            print!(rt; "{}", explanation_text(rt.alloc(), explanation)?)?;
+            Ok(ExitCode::from(ACCEPTED))
+        }
         Err(RequestError::Usage(usage)) => {
             eprint!(rt; "{}", usage.text)?;
             Ok(ExitCode::from(USAGE))
@@ -55,6 +59,20 @@ fn bytes_of<R: AllocGlobal + Files + Eprint>(rt: &R, name: &str) -> io::Result<O
     }
 }
 
+/// Tells an error on standard error: its line, and where it is to be explained, what it means.
+fn tell<R: AllocGlobal + Eprint>(
+    rt: &R,
+    model: &[u8],
+    error: &JobError,
+    is_explained: bool,
+) -> io::Result<()> {
+    eprintln!(rt; "{}", line(rt.alloc(), error)?)?;
+    if is_explained {
+        eprint!(rt; "{}", explained(rt.alloc(), model, error)?)?;
+    }
+    Ok(())
+}
+
 /// Checks what was asked for, and answers the status.
 fn check_model<R: AllocGlobal + Files + Print + Eprint>(rt: &R, check: &Check) -> io::Result<u8> {
     let Some(model) = bytes_of(rt, check.model.as_str())? else {
@@ -66,7 +84,7 @@ fn check_model<R: AllocGlobal + Files + Print + Eprint>(rt: &R, check: &Check) -
             Ok(ACCEPTED)
         }
         Err(error) => {
-            eprintln!(rt; "{}", line(rt.alloc(), &error)?)?;
+            tell(rt, &model, &error, check.explained)?;
             Ok(REFUSED)
         }
     }
@@ -87,7 +105,7 @@ fn run_model<R: AllocGlobal + Files + Print + Eprint>(rt: &R, run: &Run) -> io::
         result = Err(JobError::Write);
     }
     if let Err(error) = &result {
-        eprintln!(rt; "{}", line(rt.alloc(), error)?)?;
+        tell(rt, &model, error, run.explained)?;
     }
     Ok(status(&result))
 }

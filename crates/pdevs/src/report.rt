@@ -1,8 +1,9 @@
-//! What the program reports of how a run ended.
+//! What the program reports of how a run ended, and what it explains.
 
 ghost use Rattle.std.specs.Prelude.{◌≡◌};
 ghost use Rattle.pdevs.specs.Status.{status_of};
 
+use dv_explain::{Example, Explanation, excerpt, explanation_of};
 use dv_job::{JobEnded, JobError};
 use std::alloc::{AllocError, Global};
 
@@ -20,4 +21,43 @@ pub fn status(outcome: &Result<JobEnded, JobError>) -> u8
 /// The line on standard error that tells an error.
 pub fn line(alloc: Global, error: &JobError) -> Result<String, AllocError> {
     format!(in alloc; "pdevs: {error}")
+}
+
+/// What an error means, with the line of the model at which it was found. Nothing where the model is not at fault.
+pub fn explained(alloc: Global, model: &[u8], error: &JobError) -> Result<String, AllocError> {
+    let JobError::Text(refusal) = error else {
+        return Ok(String::new(alloc));
+    };
+    let shown = excerpt(alloc, model, refusal.line, refusal.place as usize)?;
+    let code = format!(in alloc; "{}", refusal.number)?;
+    match explanation_of(code.as_str()) {
+        Some(explanation) => format!(in alloc; "{shown}{}\n", explanation.words),
+        None => Ok(shown),
+    }
+}
+
+/// The words of an explanation, and its example.
+pub fn explanation_text(alloc: Global, explanation: &Explanation) -> Result<String, AllocError> {
+    let words = format!(in alloc; "{}: {}\n", explanation.code, explanation.words)?;
+    match &explanation.example {
+        Some(example) => example_text(alloc, words.as_str(), example),
+        None => Ok(words),
+    }
+}
+
+/// An example behind other words: the model, and what comes of it.
+fn example_text(alloc: Global, words: &str, example: &Example) -> Result<String, AllocError> {
+    let mut text = format!(in alloc; "{words}\n")?;
+    push_indented(&mut text, example.model)?;
+    text.push_str("\nis answered\n\n")?;
+    push_indented(&mut text, example.answer)?;
+    Ok(text)
+}
+
+/// Lines, each four blanks further to the right.
+fn push_indented(text: &mut String, lines: &str) -> Result<(), AllocError> {
+    for line in lines.lines() {
+        write!(text, "    {line}\n")?;
+    }
+    Ok(())
 }

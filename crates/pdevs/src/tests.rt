@@ -1,8 +1,9 @@
 //! What the words of a command line ask for, and what is reported of how a run ended.
 
-use crate::report::{line, status};
+use crate::report::{explained, explanation_text, line, status};
 use dv_command::{Request, RequestError, Run, request_of};
-use dv_job::{JobEnded, JobError, Options, run_plain};
+use dv_explain::{Example, Explanation};
+use dv_job::{JobEnded, JobError, Options, check_bytes, run_plain};
 use std::alloc::{AllocError, Global};
 use std::fmt::Debug;
 use std::process::Abort;
@@ -24,17 +25,23 @@ fn command_line(alloc: Global, words: &[&str]) -> Result<Vec<String>, AllocError
 
 // Model, horizon and microstep limit.
 fn run_text(alloc: Global, run: &Run) -> Result<String, AllocError> {
+    let way = if run.explained { "explained " } else { "" };
     match run.microsteps {
-        None => format!(in alloc; "{} {}", run.model, run.horizon),
-        Some(limit) => format!(in alloc; "{} {} {limit}", run.model, run.horizon),
+        None => format!(in alloc; "{way}{} {}", run.model, run.horizon),
+        Some(limit) => format!(in alloc; "{way}{} {} {limit}", run.model, run.horizon),
     }
 }
 
 // What is asked for: a check, a run, or usage.
 fn summary(alloc: Global, words: &[String]) -> Result<String, AllocError> {
     match request_of(alloc, words) {
+        Ok(Request::Check(check)) if check.explained => format!(in alloc;
+            "explained check {}",
+            check.model
+        ),
         Ok(Request::Check(check)) => format!(in alloc; "check {}", check.model),
         Ok(Request::Run(run)) => run_text(alloc, &run),
+        Ok(Request::Explain(explanation)) => format!(in alloc; "explain {}", explanation.code),
         Err(RequestError::Usage(usage)) if usage.text.is_empty() => String::from_str(
             alloc, "nothing",
         ),
@@ -59,6 +66,9 @@ fn a_check_is_asked_for(rt: HostRuntime) {
         &[
             (&["check", "m.pd"], "check m.pd"),
             (&["check", "--", "-m"], "check -m"),
+            (&["check", "--explain", "m.pd"], "explained check m.pd"),
+            (&["check", "m.pd", "--explain"], "explained check m.pd"),
+            (&["check", "m.pd", "--explain=1"], "usage"),
             (&["check"], "usage"),
             (&["check", "m.pd", "n.pd"], "usage"),
             (&["check", "m.pd", "--horizon", "5"], "usage"),
@@ -91,6 +101,24 @@ fn a_run_is_asked_for(rt: HostRuntime) {
             ),
             (&["run", "--horizon", "5", "--", "-m"], "-m 5"),
             (&["run", "-", "--horizon", "5"], "- 5"),
+            (
+                &["run", "m.pd", "--explain", "--horizon", "5"],
+                "explained m.pd 5",
+            ),
+        ],
+    );
+}
+
+#[test]
+fn an_explanation_is_asked_for(rt: HostRuntime) {
+    rows(
+        &rt,
+        &[
+            (&["explain", "E7"], "explain E7"),
+            (&["explain", "overflow"], "explain overflow"),
+            (&["explain", "e7"], "usage"),
+            (&["explain", "E19"], "usage"),
+            (&["explain"], "usage"),
         ],
     );
 }
@@ -159,4 +187,43 @@ fn a_refusal_is_reported_with_its_line(rt: HostRuntime) {
         Err(error) => same_line(&rt, error, "pdevs: E2 line 2"),
         Ok(_) => panic!(rt; "the text is taken"),
     }
+}
+
+// What is told beside the line of a text's answer.
+fn same_explained<R: Abort + AllocGlobal>(rt: &R, model: &str, wanted: &str) {
+    let error = check_bytes(rt.alloc(), model.as_bytes()).expect_err(rt, "the text is taken");
+    let got = explained(rt.alloc(), model.as_bytes(), &error).expect(rt, "memory");
+    expect_same(rt, model, got.as_str().starts_with(wanted), true);
+}
+
+#[test]
+fn a_refusal_is_explained_where_it_stands(rt: HostRuntime) {
+    same_explained(
+        &rt,
+        "# é\n\tréal $;\n",
+        "2 | \tréal $;\n  | \t     ^\nNo token begins with this character. ",
+    );
+    same_explained(&rt, "", "1 | \n  | ^\nThis token can't stand here. ");
+    same_explained(
+        &rt,
+        "atomic A { }\r\nroot A;",
+        "1 | atomic A { } \n  |        ^\nThe item `phases`, ",
+    );
+}
+
+#[test]
+fn an_explanation_has_an_example(rt: HostRuntime) {
+    let explanation = Explanation {
+        code: "E0",
+        words: "Words.",
+        example: Some(Example {
+            model: "a\nb\n",
+            horizon: 0,
+            limit: 20,
+            answer: "E0 line 1",
+        }),
+    };
+    let got = explanation_text(rt.alloc(), &explanation).expect(&rt, "memory");
+    let wanted = "E0: Words.\n\n    a\n    b\n\nis answered\n\n    E0 line 1\n";
+    expect_same(&rt, "an explanation", got.as_str(), wanted);
 }

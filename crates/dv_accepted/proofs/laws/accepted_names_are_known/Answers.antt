@@ -1,5 +1,5 @@
 use Rattle.dv_eval.specs.Scope.{scope_of}
-use Rattle.dv_accepted.proofs.Known.{holds_known, rules_known, variable_holds}
+use Rattle.dv_accepted.proofs.Known.{datum_held, holds_known, rules_known}
 use Rattle.dv_accepted.proofs.laws.accepted_names_are_known.Goals as goal
 
 pub returns-clause-rules : goal.returns-clause-rules
@@ -9,4 +9,4 @@ pub returns-clause-holds : goal.returns-clause-holds
 returns-clause-holds c = holds_known
 
 pub returns-clause-values : goal.returns-clause-values
-returns-clause-values c = λ m s name fit known. variable_holds (scope_of m) s name fit known
+returns-clause-values c = λ m s name d fit known. datum_held (scope_of m) s name d fit known

@@ -1,5 +1,5 @@
 use Rattle.dv_eval.specs.Scope.{scope_of}
-use Rattle.dv_accepted.proofs.Fitting.{effect_fits, phase_fits}
+use Rattle.dv_accepted.proofs.Effects.{effect_fits, phase_fits}
 use Rattle.dv_accepted.proofs.laws.rules_keep_to_the_ranges.Goals as goal
 
 pub returns-clause-state : goal.returns-clause-state

@@ -1,51 +1,136 @@
-use Rattle.std.proofs.Common.{ap, sym, ◌∙◌, subst, true, false}
-use Rattle.dv_syntax.specs.Trees.{Done, If, IfElse, expression_of, statement_before, statements_of}
+use Rattle.std.proofs.Common.{◌≡◌, [], ◌∷◌, ℤ, Option, unwrap_or, pos, Ok, ap, sym, ◌∙◌, get_or, subst, true, false, rules, w64}
+use Rattle.std.proofs.lemmas.Int.{to_z-of_z}
 use Rattle.std.proofs.lemmas.Result.{err_from_is_err_and}
-use Rattle.dv_bag.specs.Outcome.{Gives}
-use Rattle.dv_eval.proofs.Rules.{run-drop_ok, run-drop_err, run-If, run-IfElse}
+use Rattle.dv_syntax.specs.Trees.{Done, For, If, IfElse, expression_of, statement_before, statements_of}
+use Rattle.dv_bag.specs.Bag.{Counts, values_of}
+use Rattle.dv_bag.specs.Outcome.{Fails, Gives}
+use Rattle.dv_eval.specs.Copies.{repeated}
+use Rattle.dv_eval.specs.Loops.{loops_of}
+use Rattle.dv_eval.specs.Meaning.{addition, bag_of_name, moment_in, repetition, run}
+use Rattle.dv_eval.proofs.Rules.{run-drop_ok, run-drop_err, run-If, run-IfElse, run-For, run-Add, repeated_fails, repeated_next, repetition_fails, repetition_next}
 use Rattle.dv_eval.proofs.rule.+run.Goals as goal
 
 pub run-returns-in_err-effect : goal.run-returns-in_err-effect
 run-returns-in_err-effect t c =
     let p = err_from_is_err_and c.from_residual.result c.from_residual.ensures.1 in
-    let fails = run-drop_err c.args.scope.now c.args.statements.now c.loop-statement.statement-index c.statement-item.result c.loop-statement.effect _ c.in_err-effect.field-0.0 c.loop-statement-test.true c.statement-item.is c.loop-statement.invariant c.in_err-effect.ensures in
+    let at = c.loop-statement in
+    let fails = run-drop_err c.args.scope.now (loops_of c.args.loops.now) c.args.statements.now at.statement-index c.statement-item.result
+    at.effect _ c.in_err-effect.field-0.0 c.loop-statement-test.true c.statement-item.is at.invariant c.in_err-effect.ensures in
     rw (p.1, p.2) fails
 
 pub run-loop-statement-preserved : goal.run-loop-statement-preserved
 run-loop-statement-preserved t c =
-    run-drop_ok c.args.scope.now c.args.statements.now c.loop-statement.statement-index c.statement-item.result c.loop-statement.effect c.in_ok-effect.effect _ c.loop-statement-test.true c.statement-item.is c.loop-statement.invariant c.in_ok-effect.ensures
+    let at = c.loop-statement in
+    run-drop_ok c.args.scope.now (loops_of c.args.loops.now) c.args.statements.now at.statement-index c.statement-item.result
+    at.effect c.in_ok-effect.effect _ c.loop-statement-test.true c.statement-item.is at.invariant c.in_ok-effect.ensures
 
 pub run_statement-returns-then-truth_of : goal.run_statement-returns-then-truth_of
 run_statement-returns-then-truth_of t c =
     let place = c.in-If.place in
     let e = c.in-If.condition in
+    let block = statements_of c.deref.result.now in
     let tree =
     ap (λ s. statement_before s Done) c.in-If.is
     ∙ c.trees_keep_blocks.ensures.alone place e c.in-If.then_block Done
     ∙ ap (λ items. If place (expression_of e) (statements_of items) Done) (sym c.deref.ensures.value) in
     let holds = sym c.truth_of.ensures ∙ c.if-truth_of.true in
-    subst (Gives c.run.result) (sym (run-If c.args.scope.now c.args.statement.now place (expression_of e) (statements_of c.deref.result.now) c.args.effect c.in_ok-condition-in-If.condition tree c.in_ok-condition-in-If.ensures holds)) c.run.ensures
+    let value = c.in_ok-condition-in-If in
+    let taken = run-If c.args.scope.now (loops_of c.args.loops.now) c.args.statement.now place c.args.effect (expression_of e) block
+    value.condition tree value.ensures holds in
+    subst (Gives c.run.result) (sym taken) c.run.ensures
 
 pub run_statement-returns-then-truth_of-2 : goal.run_statement-returns-then-truth_of-2
 run_statement-returns-then-truth_of-2 t c =
     let place = c.in-IfElse.place in
     let e = c.in-IfElse.condition in
+    let block = statements_of c.deref-then-truth_of-2.result.now in
     let other = statements_of c.in-IfElse.else_block.statements.items in
     let tree =
     ap (λ s. statement_before s Done) c.in-IfElse.is
     ∙ c.trees_keep_blocks.ensures.with_else place e c.in-IfElse.then_block c.in-IfElse.else_block Done
     ∙ ap (λ items. IfElse place (expression_of e) (statements_of items) other Done) (sym c.deref-then-truth_of-2.ensures.value) in
     let holds = sym c.truth_of-in-IfElse.ensures ∙ c.if-truth_of-2.true in
-    subst (Gives c.run-then-truth_of-2.result) (sym (run-IfElse c.args.scope.now c.args.statement.now place (expression_of e) (statements_of c.deref-then-truth_of-2.result.now) other c.args.effect c.in_ok-condition-in-IfElse.condition true tree c.in_ok-condition-in-IfElse.ensures holds)) c.run-then-truth_of-2.ensures
+    let value = c.in_ok-condition-in-IfElse in
+    let taken = run-IfElse c.args.scope.now (loops_of c.args.loops.now) c.args.statement.now place c.args.effect (expression_of e) block
+    other value.condition true tree value.ensures holds in
+    subst (Gives c.run-then-truth_of-2.result) (sym taken) c.run-then-truth_of-2.ensures
 
 pub run_statement-returns-else-truth_of-2 : goal.run_statement-returns-else-truth_of-2
 run_statement-returns-else-truth_of-2 t c =
     let place = c.in-IfElse.place in
     let e = c.in-IfElse.condition in
     let block = statements_of c.in-IfElse.then_block.statements.items in
+    let other = statements_of c.deref-else-truth_of-2.result.now in
     let tree =
     ap (λ s. statement_before s Done) c.in-IfElse.is
     ∙ c.trees_keep_blocks.ensures.with_else place e c.in-IfElse.then_block c.in-IfElse.else_block Done
     ∙ ap (λ items. IfElse place (expression_of e) block (statements_of items) Done) (sym c.deref-else-truth_of-2.ensures.value) in
     let fails = sym c.truth_of-in-IfElse.ensures ∙ c.if-truth_of-2.false in
-    subst (Gives c.run-else-truth_of-2.result) (sym (run-IfElse c.args.scope.now c.args.statement.now place (expression_of e) block (statements_of c.deref-else-truth_of-2.result.now) c.args.effect c.in_ok-condition-in-IfElse.condition false tree c.in_ok-condition-in-IfElse.ensures fails)) c.run-else-truth_of-2.ensures
+    let value = c.in_ok-condition-in-IfElse in
+    let taken = run-IfElse c.args.scope.now (loops_of c.args.loops.now) c.args.statement.now place c.args.effect (expression_of e) block
+    other value.condition false tree value.ensures fails in
+    subst (Gives c.run-else-truth_of-2.result) (sym taken) c.run-else-truth_of-2.ensures
+
+pub run_copies-returns-in_err-effect : goal.run_copies-returns-in_err-effect
+run_copies-returns-in_err-effect t c =
+    let p = err_from_is_err_and c.from_residual.result c.from_residual.ensures.1 in
+    let step = run c.args.scope.now (loops_of c.args.loops.now) (statements_of c.args.block.now) in
+    let fails = repeated_fails step c.args.copies c.loop.counter c.loop.effect _ c.loop-test.true c.loop.invariant
+    c.in_err-effect.field-0.0 c.in_err-effect.ensures in
+    rw (p.1, p.2) fails
+
+pub run_copies-loop-preserved : goal.run_copies-loop-preserved
+run_copies-loop-preserved t c =
+    let step = run c.args.scope.now (loops_of c.args.loops.now) (statements_of c.args.block.now) in
+    repeated_next step c.args.copies c.loop.counter c.loop.effect _ c.loop-test.true c.loop.invariant c.in_ok-effect.effect c.in_ok-effect.ensures
+
+pub run_loop-returns-in_err-effect : goal.run_loop-returns-in_err-effect
+run_loop-returns-in_err-effect t c =
+    let p = err_from_is_err_and c.from_residual.result c.from_residual.ensures.1 in
+    let step = λ (n : ℤ). run c.args.scope.now ((c.args.variable, n) ∷ loops_of c.args.loops.now) (statements_of c.args.block.now) in
+    let at = c.loop-pair in
+    let pair = get_or c.args.pairs.now at.pair-index (pos 0, 0) in
+    let error = c.in_err-effect.field-0.0 in
+    let number = to_z-of_z w64 pair.0 (search rules) in
+    let failed = subst (λ (n : ℤ). Fails error (repeated (step n) pair.1 at.effect)) number c.in_err-effect.ensures in
+    let fails = repetition_fails step c.args.pairs.now at.pair-index at.effect _ c.loop-pair-test.true at.invariant error failed in
+    rw (p.1, p.2) fails
+
+pub run_loop-loop-pair-preserved : goal.run_loop-loop-pair-preserved
+run_loop-loop-pair-preserved t c =
+    let step = λ (n : ℤ). run c.args.scope.now ((c.args.variable, n) ∷ loops_of c.args.loops.now) (statements_of c.args.block.now) in
+    let at = c.loop-pair in
+    let pair = get_or c.args.pairs.now at.pair-index (pos 0, 0) in
+    let next = c.in_ok-effect.effect in
+    let number = to_z-of_z w64 pair.0 (search rules) in
+    let done = subst (λ (n : ℤ). repeated (step n) pair.1 at.effect ≡ Ok next) number c.in_ok-effect.ensures in
+    repetition_next step c.args.pairs.now at.pair-index at.effect _ c.loop-pair-test.true at.invariant next done
+
+pub run_statement-returns-in-Some : goal.run_statement-returns-in-Some
+run_statement-returns-in-Some t c =
+    let place = c.in-For.place in
+    let v = c.in-For.variable in
+    let b = c.in-For.bag in
+    let block = statements_of c.deref-in-Some.result.now in
+    let scope = c.args.scope.now in
+    let loops = loops_of c.args.loops.now in
+    let tree =
+    ap (λ s. statement_before s Done) c.in-For.is
+    ∙ c.trees_keep_blocks.ensures.repeated place v b c.in-For.block Done
+    ∙ ap (λ items. For place v b (statements_of items) Done) (sym c.deref-in-Some.ensures.value) in
+    let walked : c.pairs.result.now ≡ bag_of_name scope (moment_in loops c.args.effect.state) b.number =
+    c.pairs.ensures.walk ∙ ap (λ (bag : Option Counts). unwrap_or bag []) (sym c.in-Some.is) ∙ c.in_ok-values-in-For.ensures in
+    let whole =
+    ap (λ values. repetition (λ n. run scope ((v.number, n) ∷ loops) block) (values_of values) c.args.effect) walked
+    ∙ sym (run-For scope loops c.args.statement.now place c.args.effect v b block tree) in
+    subst (Gives c.run_loop.result) whole c.run_loop.ensures
+
+pub run_statement-returns-in_ok-value-in-Add : goal.run_statement-returns-in_ok-value-in-Add
+run_statement-returns-in_ok-value-in-Add t c =
+    let b = c.in-Add.bag in
+    let value = c.in_ok-value-in-Add in
+    let number = to_z-of_z w64 c.number_of.result (search rules) ∙ c.number_of.ensures in
+    let added = ap (λ (n : ℤ). addition c.args.scope.now b.number n c.args.effect) number in
+    let whole = run-Add c.args.scope.now (loops_of c.args.loops.now) c.args.statement.now c.in-Add.place c.args.effect c.in-Add.value b
+    value.value c.in-Add.is value.ensures in
+    subst (Gives c.add.result) (added ∙ sym whole) c.add.ensures

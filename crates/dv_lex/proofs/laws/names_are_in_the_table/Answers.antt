@@ -9,4 +9,4 @@ pub returns : goal.returns
 returns c = λ text names tokens t.
     subst (λ (ts : List Token). All (λ (token : Token). IsNumbered names token.kind) ts) (sym t.numbered)
     (subst (λ (ns : List (List ℕ)). All (λ (token : Token). IsNumbered ns token.kind) (tokens_of ns t.lexemes)) (sym t.table)
-        (IsNumbered-tokens_of t.lexemes))
+    (IsNumbered-tokens_of t.lexemes))

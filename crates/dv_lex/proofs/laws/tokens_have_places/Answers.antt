@@ -12,7 +12,7 @@ returns-clause-in_text c = λ text names tokens t.
     subst (λ (ts : List Token). All (λ (token : Token). token.place < length text) ts) (sym t.numbered)
     (All-from_recursion (λ (token : Token). token.place < length text) (tokens_of names t.lexemes)
     (all_tokens_of (λ n. n < length text) names t.lexemes
-        (Reads-below (length text) 0 text t.lexemes (length text) _ t.reads (omega arith))))
+    (Reads-below (length text) 0 text t.lexemes (length text) _ t.reads (omega arith))))
 
 pub returns-clause-ascending : goal.returns-clause-ascending
 returns-clause-ascending c = λ text names tokens t.

@@ -8,7 +8,7 @@ pub returns-in-Some : goal.returns-in-Some
 returns-in-Some c =
     let found = c.in-Some.ensures.cases.1 (λ d. not (continues_name d)) (always_returns_same _ _ _ (λ a r f k. search rules)) in
     rw (c.split_at.ensures.front, c.split_at.ensures.back)
-        (SplitsCharacters-found continues_name c.args.text.now c.in-Some.end c.in-Some.ensures.cases.0 found)
+    (SplitsCharacters-found continues_name c.args.text.now c.in-Some.end c.in-Some.ensures.cases.0 found)
 
 pub returns-in-None : goal.returns-in-None
 returns-in-None c =

@@ -13,13 +13,13 @@ use Rattle.dv_lex.proofs.lexer.token.Goals as goal
 pub word_kind-requires-clause-word : goal.word_kind-requires-clause-word
 word_kind-requires-clause-word c =
     IsWord-split c.args.first c.args.text.now c.split_word.result.0.now c.split_word.result.1.now c.requires.first
-        (sym c.starts_name.ensures ∙ c.if-starts_name.true) c.split_word.ensures
+    (sym c.starts_name.ensures ∙ c.if-starts_name.true) c.split_word.ensures
 
 pub returns-then-starts_name-clause-token : goal.returns-then-starts_name-clause-token
 returns-then-starts_name-clause-token c =
     let word =
-        IsWord-split c.args.first c.args.text.now c.split_word.result.0.now c.split_word.result.1.now c.requires.first
-            (sym c.starts_name.ensures ∙ c.if-starts_name.true) c.split_word.ensures in
+    IsWord-split c.args.first c.args.text.now c.split_word.result.0.now c.split_word.result.1.now c.requires.first
+    (sym c.starts_name.ensures ∙ c.if-starts_name.true) c.split_word.ensures in
     let class = word_class c.in_ok-kind.ensures.0 c.split_word.result.0.now word c.in_ok-kind.ensures.1 in
     record {
       lexeme = c.in_ok-kind.ensures.0;
@@ -41,7 +41,7 @@ returns-in_default-clause-refused c = λ e was.
       c.split_digits.result.1.now,
       IsFirst-numeral c.args.text.now c.split_digits.result.0.now c.split_digits.result.1.now c.split_digits.ensures
           (digits-split c.args.first c.args.text.now c.split_digits.result.0.now c.split_digits.result.1.now c.requires.first
-              (sym c.is_ascii_digit.ensures.value ∙ c.if-is_ascii_digit.true) c.split_digits.ensures),
+          (sym c.is_ascii_digit.ensures.value ∙ c.if-is_ascii_digit.true) c.split_digits.ensures),
       c.in_default.ensures,
     )
 
@@ -52,7 +52,7 @@ returns-then-is_ascii_digit-clause-token c =
       front = c.split_digits.result.0.now;
       first = IsFirst-numeral c.args.text.now c.split_digits.result.0.now c.split_digits.result.1.now c.split_digits.ensures
           (digits-split c.args.first c.args.text.now c.split_digits.result.0.now c.split_digits.result.1.now c.requires.first
-              (sym c.is_ascii_digit.ensures.value ∙ c.if-is_ascii_digit.true) c.split_digits.ensures);
+          (sym c.is_ascii_digit.ensures.value ∙ c.if-is_ascii_digit.true) c.split_digits.ensures);
       range = c.in-Some.ensures.1;
       table = refl;
       kind = ap (λ n. Some (kind.Number n)) (sym c.in-Some.ensures.0);
@@ -64,8 +64,8 @@ pub returns-in_default-symbol-clause-refused : goal.returns-in_default-symbol-cl
 returns-in_default-symbol-clause-refused c = λ e was.
     refused_so (IsNoToken c.args.text.now) E2 c.args.place c.refused-in_default-symbol.result e c.refused-in_default-symbol.ensures was
     (NoneBegins-first c.args.first c.args.text.now c.requires.first c.requires.no_blank c.requires.no_comment
-        (sym c.starts_name.ensures ∙ c.if-starts_name.false)
-        (sym c.is_ascii_digit.ensures.value ∙ c.if-is_ascii_digit.false) c.in_default-symbol.ensures)
+    (sym c.starts_name.ensures ∙ c.if-starts_name.false)
+    (sym c.is_ascii_digit.ensures.value ∙ c.if-is_ascii_digit.false) c.in_default-symbol.ensures)
 
 pub returns-clause-token : goal.returns-clause-token
 returns-clause-token c = record {

@@ -7,7 +7,7 @@ use Rattle.dv_lex.proofs.lexer.tokens.Goals as goal
 pub returns-in-Err-clause-not_text : goal.returns-in-Err-clause-not_text
 returns-in-Err-clause-not_text c place refused =
     ap Err (c.refused-in-Err.ensures ∙ ap (λ (p : ℕ). Refused (record { number = E1; place = p }))
-        (c.valid_up_to.ensures ∙ same_valid c.args.text.now _ place c.in-Err.ensures.cases.1 refused.1))
+    (c.valid_up_to.ensures ∙ same_valid c.args.text.now _ place c.in-Err.ensures.cases.1 refused.1))
 
 pub returns-in-Ok-clause-not_text : goal.returns-in-Ok-clause-not_text
 returns-in-Ok-clause-not_text c place refused =

@@ -16,6 +16,9 @@ decreases-parens l = 3 * l.limit
 abbrev pub decreases-prefixed : goal.decreases-prefixed
 decreases-prefixed l = 3 * l.limit
 
+abbrev pub decreases-times : goal.decreases-times
+decreases-times l = 3 * l.limit
+
 abbrev pub invariant-within-loop-operator : goal.invariant-within-loop-operator
 invariant-within-loop-operator l = record {
   same : more_at l.limit l.level (expression_of l.left) l.rest ≡ expression_at l.limit l.level l.tokens;

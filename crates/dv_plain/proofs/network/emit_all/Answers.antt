@@ -9,7 +9,7 @@ use Rattle.dv_plain.proofs.network.emit_all.Goals as goal
 pub emit-requires : goal.emit-requires
 emit-requires c =
     wait-at c.args.instant.now.limit c.args.components.now c.loop-k.k c.index-components-k.result
-        (omega arith) c.index-components-k.is c.requires.waits
+    (omega arith) c.index-components-k.is c.requires.waits
 
 pub loop-k-preserved : goal.loop-k-preserved
 loop-k-preserved c =
@@ -20,16 +20,16 @@ loop-k-preserved c =
     let k = c.loop-k.k in
     let within : k < length rs = omega arith in
     let step =
-        outputs_from-step limit is now rs k
-            (atomic_of c.of.result.model.now) c.index-components-k.result c.in_ok-output.output c.of.ensures within c.index-components-k.is c.in_ok-output.ensures in
+    outputs_from-step limit is now rs k
+    (atomic_of c.of.result.model.now) c.index-components-k.result c.in_ok-output.output c.of.ensures within c.index-components-k.is c.in_ok-output.ensures in
     let rest = outputs_from limit is now rs (k + 1) in
     record {
       sent =
           ap (λ xs. xs ++ map sent_of rest) c.in_ok-push.ensures.sent
           ∙ one_more sent_of c.loop-k.emitted.sent.items (map sent_of (outputs_from limit is now rs 0))
-              (outputs_from limit is now rs k) rest c.in_ok-output.output step c.loop-k.invariant.sent;
+          (outputs_from limit is now rs k) rest c.in_ok-output.output step c.loop-k.invariant.sent;
       faults =
           ap (λ xs. xs ++ map fault_of rest) c.in_ok-push.ensures.faults
           ∙ one_more fault_of c.loop-k.emitted.faults.items (map fault_of (outputs_from limit is now rs 0))
-              (outputs_from limit is now rs k) rest c.in_ok-output.output step c.loop-k.invariant.faults;
+          (outputs_from limit is now rs k) rest c.in_ok-output.output step c.loop-k.invariant.faults;
     }

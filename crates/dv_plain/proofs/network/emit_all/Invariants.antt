@@ -15,8 +15,8 @@ invariant-loop-k l =
     record {
       sent :
           l.emitted.sent.items ++ map sent_of (outputs (behaviours_from l.k is) now (components_from limit l.k l.components)) ≡ map sent_of
-              (outputs (behaviours_from 0 is) now (components_from limit 0 l.components));
+          (outputs (behaviours_from 0 is) now (components_from limit 0 l.components));
       faults :
           l.emitted.faults.items ++ map fault_of (outputs (behaviours_from l.k is) now (components_from limit l.k l.components))
-              ≡ map fault_of (outputs (behaviours_from 0 is) now (components_from limit 0 l.components));
+          ≡ map fault_of (outputs (behaviours_from 0 is) now (components_from limit 0 l.components));
     }

@@ -23,10 +23,10 @@ loop-port-preserved c =
             entries = ap (λ (p : PartOf). p.entries) pushed ∙ c.loop-port.invariant.entries;
             outer =
                 line-added c.args.instant.now.limit c.args.instant.now.time k bags b c.loop-port.trace.outer c.if-not-is_empty.trace.outer
-                    (c.args.trace.now.outer ++ outer_from c.args.instant.now.limit
-                    (rank_of c.args.instant.now) 0 bags) c.args.instant.now.of_run within here some
+                (c.args.trace.now.outer ++ outer_from c.args.instant.now.limit
+                (rank_of c.args.instant.now) 0 bags) c.args.instant.now.of_run within here some
                 (ap (λ (p : PartOf). p.outer) pushed ∙ ap
-                    (λ (v : Counts). let o : Outer = record { time = c.args.instant.now.time; port = k; values = v } in c.loop-port.trace.outer ++ o ∷ []) w.in_ok-clone.ensures.cases)
+                (λ (v : Counts). let o : Outer = record { time = c.args.instant.now.time; port = k; values = v } in c.loop-port.trace.outer ++ o ∷ []) w.in_ok-clone.ensures.cases)
                 c.loop-port.invariant.outer;
           }
       | else-not-is_empty w ↦
@@ -35,9 +35,9 @@ loop-port-preserved c =
             entries = ap (λ (p : PartOf). p.entries) w.trace-is ∙ c.loop-port.invariant.entries;
             outer =
                 ap (λ (p : PartOf). p.outer ++ outer_from c.args.instant.now.limit (rank_of c.args.instant.now) (k + 1)
-                    (drop (k + 1) bags)) w.trace-is
+                (drop (k + 1) bags)) w.trace-is
                 ∙ line-kept c.args.instant.now.limit c.args.instant.now.time k bags b c.loop-port.trace.outer
-                    (c.args.trace.now.outer ++ outer_from c.args.instant.now.limit
-                    (rank_of c.args.instant.now) 0 bags) within here none c.loop-port.invariant.outer;
+                (c.args.trace.now.outer ++ outer_from c.args.instant.now.limit
+                (rank_of c.args.instant.now) 0 bags) within here none c.loop-port.invariant.outer;
           }
     ]

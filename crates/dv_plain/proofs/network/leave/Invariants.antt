@@ -9,5 +9,5 @@ invariant-loop-port l = record {
   entries : l.trace.entries ≡ l.initial.trace.entries;
   outer :
       l.trace.outer ++ outer_from l.instant.limit (rank_of l.instant) l.port (drop l.port l.leaving)
-          ≡ l.initial.trace.outer ++ outer_from l.instant.limit (rank_of l.instant) 0 l.leaving;
+      ≡ l.initial.trace.outer ++ outer_from l.instant.limit (rank_of l.instant) 0 l.leaving;
 }

@@ -26,7 +26,7 @@ take-requires-clause-sent c =
     let now = rank_of c.args.instant.now in
     let gave = outputs_from limit is now c.args.components.now 0 in
     let within : c.loop-k.k < length c.args.emitted.now.sent.items =
-        omega (arith, ap length c.requires.sent, length-map gave sent_of, length-outputs limit is now c.args.components.now c.requires.matched, c.component_count-k-end.ensures.value) in
+    omega (arith, ap length c.requires.sent, length-map gave sent_of, length-outputs limit is now c.args.components.now c.requires.matched, c.component_count-k-end.ensures.value) in
     let there = left-length c.loop-k.emitted.sent.items c.args.emitted.now.sent.items c.loop-k.k within c.loop-k.invariant.sent in
     omega (arith, c.loop-k.emitted.sent.ok.0, there)
 
@@ -53,18 +53,18 @@ react-requires-clause-emitted c =
     let within : k < length xs = omega (arith, c.loop-k.auto.components, c.requires.matched, c.component_count-k-end.ensures.value) in
     let within_first : k < length first = omega (arith, c.requires.matched, c.component_count-k-end.ensures.value) in
     let within_sent : k < length sent =
-        omega (arith, ap length c.requires.sent, length-map gave sent_of, length-outputs limit is now first c.requires.matched, c.component_count-k-end.ensures.value) in
+    omega (arith, ap length c.requires.sent, length-map gave sent_of, length-outputs limit is now first c.requires.matched, c.component_count-k-end.ensures.value) in
     let same =
-        same_from_drop xs first k r within within_first c.loop-k.invariant.rest
-            (get_or_default xs k c.index-components-k.result r within) in
+    same_from_drop xs first k r within within_first c.loop-k.invariant.rest
+    (get_or_default xs k c.index-components-k.result r within) in
     let given =
     c.in_ok-output.ensures.output
     ∙ ap (λ (fs : List (Option Fault)). output_from (get_or fs k None) (get_or c.loop-k.emitted.sent.items k [])) c.loop-k.invariant.faults
     ∙ ap (output_from (get_or faults k None))
-        (same_at c.loop-k.emitted.sent.items sent k []
-        (left-length c.loop-k.emitted.sent.items sent k within_sent c.loop-k.invariant.sent) within_sent c.loop-k.invariant.sent) in
+    (same_at c.loop-k.emitted.sent.items sent k []
+    (left-length c.loop-k.emitted.sent.items sent k within_sent c.loop-k.invariant.sent) within_sent c.loop-k.invariant.sent) in
     output-at limit is now first k
-        (atomic_of c.of.result.model.now) r sent faults c.in_ok-output.output c.of.ensures within_first same.0 c.requires.sent c.requires.faults given
+    (atomic_of c.of.result.model.now) r sent faults c.in_ok-output.output c.of.ensures within_first same.0 c.requires.sent c.requires.faults given
 
 pub loop-k-preserved : goal.loop-k-preserved
 loop-k-preserved c =
@@ -78,13 +78,13 @@ loop-k-preserved c =
     let within : k < length xs = omega (arith, c.loop-k.auto.components, c.requires.matched, c.component_count-k-end.ensures.value) in
     let within_first : k < length first = omega (arith, c.requires.matched, c.component_count-k-end.ensures.value) in
     let same =
-        same_from_drop xs first k r within within_first c.loop-k.invariant.rest
-            (get_or_default xs k c.index-components-k.result r within) in
+    same_from_drop xs first k r within within_first c.loop-k.invariant.rest
+    (get_or_default xs k c.index-components-k.result r within) in
     let step = reactions_from-step limit is now first k (atomic_of c.of.result.model.now) r c.of.ensures within_first same.0 in
     let sent = c.args.emitted.now.sent.items in
     let gave = outputs_from limit is now first 0 in
     let within_sent : k < length sent =
-        omega (arith, ap length c.requires.sent, length-map gave sent_of, length-outputs limit is now first c.requires.matched, c.component_count-k-end.ensures.value) in
+    omega (arith, ap length c.requires.sent, length-map gave sent_of, length-outputs limit is now first c.requires.matched, c.component_count-k-end.ensures.value) in
     let left = c.loop-k.emitted.sent.items in
     let happened = reaction limit (behaviour_of (atomic_of c.of.result.model.now)) now (component_of limit r) [] in
     record {
@@ -92,15 +92,15 @@ loop-k-preserved c =
       rest = rest-turn xs first k c.react.new.self same.1;
       components =
           components-turn limit xs k c.react.new.self happened (reactions_from limit is now first k)
-              (reactions_from limit is now first (k + 1)) (map (λ (q : Reaction). q.component) (reactions_from limit is now first 0)) within
-              (sym (ap (λ (q : Reaction). q.component) c.in_ok-event.ensures.reaction)) step c.loop-k.invariant.components;
+          (reactions_from limit is now first (k + 1)) (map (λ (q : Reaction). q.component) (reactions_from limit is now first 0)) within
+          (sym (ap (λ (q : Reaction). q.component) c.in_ok-event.ensures.reaction)) step c.loop-k.invariant.components;
       entries =
           entries-turn limit now k c.loop-k.trace.entries c.push_event.new.trace.entries
-              (c.args.trace.now.entries ++ entries_from limit now 0 (reactions_from limit is now first 0)) happened
-              (reactions_from limit is now first k) (reactions_from limit is now first (k + 1))
-              (ap (λ (p : PartOf). p.entries) c.in_ok-push_event.ensures ∙ ap
-              (λ (q : Reaction). c.loop-k.trace.entries ++ entry_of limit now k q.event)
-              (sym c.in_ok-event.ensures.reaction)) step c.loop-k.invariant.entries;
+          (c.args.trace.now.entries ++ entries_from limit now 0 (reactions_from limit is now first 0)) happened
+          (reactions_from limit is now first k) (reactions_from limit is now first (k + 1))
+          (ap (λ (p : PartOf). p.entries) c.in_ok-push_event.ensures ∙ ap
+          (λ (q : Reaction). c.loop-k.trace.entries ++ entry_of limit now k q.event)
+          (sym c.in_ok-event.ensures.reaction)) step c.loop-k.invariant.entries;
       sent =
           ap (drop (k + 1)) c.in_ok-output.ensures.sent
           ∙ same_behind left sent k [] (left-length left sent k within_sent c.loop-k.invariant.sent) within_sent c.loop-k.invariant.sent [];
@@ -118,9 +118,9 @@ returns-clause-components c =
     let count : length is ≤ c.loop-k.k = omega (arith, c.component_count-k-end.ensures.value) in
     let all : length xs ≤ c.loop-k.k = omega (arith, c.loop-k.auto.components, c.requires.matched, c.component_count-k-end.ensures.value) in
     components-end limit now is first xs c.loop-k.k
-        (map (λ (q : Reaction). q.component) (reactions_from limit is now first 0)) all count c.loop-k.invariant.components
+    (map (λ (q : Reaction). q.component) (reactions_from limit is now first 0)) all count c.loop-k.invariant.components
     ∙ ap (map (λ (q : Reaction). q.component))
-        (sym (instant-alone limit (file_of c.args.tree.now.file) now [] (map (component_of limit) first)))
+    (sym (instant-alone limit (file_of c.args.tree.now.file) now [] (map (component_of limit) first)))
 
 pub returns-clause-entries : goal.returns-clause-entries
 returns-clause-entries c =
@@ -133,13 +133,17 @@ returns-clause-entries c =
     let cs = map (component_of limit) first in
     let happened = instant limit net now [] cs in
     let short : length happened ≤ length is =
-        omega (arith, reactions-short limit net.behaviours now cs (net.arrives (emissions net.behaviours now cs) []), length-map is
-            (λ (i : Instance). behaviour_of i.model)) in
+    omega (
+      arith,
+      reactions-short limit net.behaviours now cs (net.arrives (emissions net.behaviours now cs) []),
+      length-map is
+          (λ (i : Instance). behaviour_of i.model),
+    ) in
     let entries =
     entries-end limit now is first c.loop-k.k c.loop-k.trace.entries
-        (c.args.trace.now.entries ++ entries_from limit now 0 (reactions_from limit is now first 0)) count c.loop-k.invariant.entries
+    (c.args.trace.now.entries ++ entries_from limit now 0 (reactions_from limit is now first 0)) count c.loop-k.invariant.entries
     ∙ ap (λ (rs : List Reaction). c.args.trace.now.entries ++ entries_from limit now 0 rs)
-        (sym (instant-alone limit (file_of c.args.tree.now.file) now [] (map (component_of limit) first)))
+    (sym (instant-alone limit (file_of c.args.tree.now.file) now [] (map (component_of limit) first)))
     ∙ ap (λ (es : List Entry). c.args.trace.now.entries ++ es) (sym (entries-counted limit now 0 (length is) happened short))
     in
     ap (λ (es : List Entry). let p : PartOf = record { entries = es; outer = c.loop-k.trace.outer } in p) entries

@@ -20,7 +20,7 @@ route-requires c =
     let now = rank_of c.args.instant.now in
     ap length c.deref.ensures.value ∙ ap length c.in_ok-emitted.ensures.sent
     ∙ length-map (outputs_from limit is now c.args.components.now 0) sent_of
-        ∙ length-outputs limit is now c.args.components.now c.requires.matched
+    ∙ length-outputs limit is now c.args.components.now c.requires.matched
 
 pub returns-clause-trace : goal.returns-clause-trace
 returns-clause-trace c =
@@ -31,8 +31,8 @@ returns-clause-trace c =
     let t = c.args.trace.now in
     let entries = entries_by limit now (network_of limit f).numbers (instant limit (network_of limit f) now [] cs) in
     let sent =
-        c.deref.ensures.value ∙ c.in_ok-emitted.ensures.sent
-        ∙ sym (emissions-outputs limit (network_of limit f).behaviours now c.args.components.now) in
+    c.deref.ensures.value ∙ c.in_ok-emitted.ensures.sent
+    ∙ sym (emissions-outputs limit (network_of limit f).behaviours now c.args.components.now) in
     let leaving = c.in_ok-leaving.ensures.value ∙ ap (leaves f) sent in
     c.in_ok-leave.ensures
     ∙ ap (λ (p : PartOf). let q : PartOf = record { entries = p.entries; outer = p.outer ++ outer_from limit now 0 c.in_ok-leaving.leaving } in q) c.in_ok-react_all.ensures.entries

@@ -20,12 +20,12 @@ loop-k-preserved c =
     record {
       start =
           ap (λ (ys : List Running). map (component_of limit) ys ++ map (λ (i : Instance). start_of limit i.model)
-              (drop (c.loop-k.k + 1) is)) c.in_ok-push.ensures.items
+          (drop (c.loop-k.k + 1) is)) c.in_ok-push.ensures.items
           ∙ starts-turn limit is xs c.loop-k.k
-              (atomic_of c.of.result.model.now) r all c.of.ensures c.in_ok-start.ensures.start c.loop-k.invariant.start;
+          (atomic_of c.of.result.model.now) r all c.of.ensures c.in_ok-start.ensures.start c.loop-k.invariant.start;
       waits =
           subst (All (λ (x : Running). IsWaitOfRun limit x.wait)) (sym c.in_ok-push.ensures.items)
-              (All-push (λ (x : Running). IsWaitOfRun limit x.wait) xs r c.loop-k.invariant.waits c.in_ok-start.ensures.wait);
+          (All-push (λ (x : Running). IsWaitOfRun limit x.wait) xs r c.loop-k.invariant.waits c.in_ok-start.ensures.wait);
     }
 
 pub returns-clause-start : goal.returns-clause-start
@@ -34,4 +34,4 @@ returns-clause-start c =
     let limit = c.args.limit in
     let count : length is ≤ c.loop-k.k = omega (arith, c.component_count-k-end.ensures.value) in
     starts-end limit is (map (component_of limit) c.loop-k.components.items)
-        (map (λ (i : Instance). start_of limit i.model) is) c.loop-k.k count c.loop-k.invariant.start
+    (map (λ (i : Instance). start_of limit i.model) is) c.loop-k.k count c.loop-k.invariant.start

@@ -14,6 +14,6 @@ invariant-loop-k l =
     record {
       start :
           map (component_of l.limit) l.components.items ++ map (λ (i : Instance). start_of l.limit i.model) (drop l.k is) ≡ map
-              (λ (i : Instance). start_of l.limit i.model) is;
+          (λ (i : Instance). start_of l.limit i.model) is;
       waits : All (λ (r : Running). IsWaitOfRun l.limit r.wait) l.components.items;
     }

@@ -10,8 +10,8 @@ pub returns-then-is_before-clause-least : goal.returns-then-is_before-clause-lea
 returns-then-is_before-clause-least c = λ limit next time.
     let other : IsOfRun limit c.in-At.other = subst (IsNextOfRun limit) c.in-At.is next in
     let before =
-        ltb-true (rank limit c.in-At.other) (rank limit c.args.time)
-            (sym (c.is_before.ensures.rank limit other time) ∙ c.if-is_before.true) in
+    ltb-true (rank limit c.in-At.other) (rank limit c.args.time)
+    (sym (c.is_before.ensures.rank limit other time) ∙ c.if-is_before.true) in
     earlier-first (rank limit c.in-At.other) (rank limit c.args.time) before
     ∙ ap (λ n. earlier (next_rank limit n) (Some (rank limit c.args.time))) (sym c.in-At.is)
 
@@ -19,7 +19,7 @@ pub returns-else-is_before-clause-least : goal.returns-else-is_before-clause-lea
 returns-else-is_before-clause-least c = λ limit next time.
     let other : IsOfRun limit c.in-At.other = subst (IsNextOfRun limit) c.in-At.is next in
     let after =
-        ltb-false (rank limit c.in-At.other) (rank limit c.args.time)
-            (sym (c.is_before.ensures.rank limit other time) ∙ c.if-is_before.false) in
+    ltb-false (rank limit c.in-At.other) (rank limit c.args.time)
+    (sym (c.is_before.ensures.rank limit other time) ∙ c.if-is_before.false) in
     earlier-second (rank limit c.in-At.other) (rank limit c.args.time) after
     ∙ ap (λ n. earlier (next_rank limit n) (Some (rank limit c.args.time))) (sym c.in-At.is)

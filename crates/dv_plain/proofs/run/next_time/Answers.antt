@@ -14,17 +14,17 @@ loop-component-preserved c =
     record {
       least = λ limit waits.
           least-step limit rs k r (next_rank limit c.loop-component.next) (next_rank limit c.sooner-next.result)
-              (least_next (map (component_of limit) rs)) c.loop-component-test.true c.component-item.is
+          (least_next (map (component_of limit) rs)) c.loop-component-test.true c.component-item.is
           (c.sooner-next.ensures.least limit (c.loop-component.invariant.of_run limit waits)
-              (wait-at limit rs k r c.loop-component-test.true c.component-item.is waits))
+          (wait-at limit rs k r c.loop-component-test.true c.component-item.is waits))
           (c.loop-component.invariant.least limit waits);
       of_run =
           λ limit waits. c.sooner-next.ensures.of_run limit (c.loop-component.invariant.of_run limit waits)
-              (wait-at limit rs k r c.loop-component-test.true c.component-item.is waits);
+          (wait-at limit rs k r c.loop-component-test.true c.component-item.is waits);
     }
 
 pub returns-clause-least : goal.returns-clause-least
 returns-clause-least c = λ limit waits.
     least-all limit c.args.components.now c.loop-component.component-index (next_rank limit c.loop-component.next)
-        (least_next (map (component_of limit) c.args.components.now)) c.loop-component-test.false
-        (c.loop-component.invariant.least limit waits)
+    (least_next (map (component_of limit) c.args.components.now)) c.loop-component-test.false
+    (c.loop-component.invariant.least limit waits)

@@ -12,6 +12,6 @@ abbrev pub invariant-loop-component : goal.invariant-loop-component
 invariant-loop-component l = record {
   least : (limit : ℕ) → All (λ (r : Running). IsWaitOfRun limit r.wait) l.components →
       earlier (next_rank limit l.next) (least_next (components_from limit l.component-index l.components)) ≡ least_next
-          (map (component_of limit) l.components);
+      (map (component_of limit) l.components);
   of_run : (limit : ℕ) → All (λ (r : Running). IsWaitOfRun limit r.wait) l.components → IsNextOfRun limit l.next;
 }

@@ -21,4 +21,4 @@ returns-in-Err c =
     let now = c.args.instant.now.time in
     let ends : after limit now c.in-Some.ticks ≡ Err c.in-Err.field-0 = sym c.after.ensures ∙ c.in-Err.is in
     ap (end_of_hold limit (rank limit now)) c.in-Some.is ∙ end_of_hold-some limit now c.in-Some.ticks c.args.instant.now.of_run ∙ ap
-        (rank_or_fault limit) ends
+    (rank_or_fault limit) ends

@@ -6,5 +6,5 @@ use Rattle.dv_text.proofs.handing.write_values.Given as goal
 abbrev pub invariant-loop-pair : goal.invariant-loop-pair
 invariant-loop-pair g l =
     TakesFront (g.W.Write.contents l.initial.writer) (g.W.Write.contents l.writer)
-        (string_bytes l.initial.line ++ values_from true (values_of l.pair-items))
-        (string_bytes l.line ++ values_from l.is_first (values_of (drop l.pair-index l.pair-items)))
+    (string_bytes l.initial.line ++ values_from true (values_of l.pair-items))
+    (string_bytes l.line ++ values_from l.is_first (values_of (drop l.pair-index l.pair-items)))

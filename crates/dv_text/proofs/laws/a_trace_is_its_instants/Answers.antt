@@ -12,7 +12,7 @@ returns-clause-lines g c =
     let law = c.instants_are_at_their_time.ensures in
     λ all outputs limit net inputs n.
     trace-instants limit net inputs all outputs (λ k. law.at limit net k (inputs k) (components_at limit net inputs k))
-        (law.trace limit net inputs) n
+    (law.trace limit net inputs) n
 
 pub returns-clause-whole : goal.returns-clause-whole
 returns-clause-whole g c = λ all outputs limit net inputs horizon.

@@ -12,12 +12,12 @@ loop-pair-preserved c =
     let items = c.pairs-pair-items.result.now in
     let fits : SFits w64 (get_or items c.loop-pair.pair-index (pos 0, 0)).0 = search rules in
     values_step _ _ _ c.loop-pair.is_first items
-        (subst IsBag (sym c.pairs-pair-items.ensures.walk) c.pairs-pair-items.ensures.bag) c.loop-pair.pair-index (pos 0, 0)
-        (omega arith) c.loop-pair.invariant (simp to_z-of_z at c.in_ok-push_copies.ensures)
+    (subst IsBag (sym c.pairs-pair-items.ensures.walk) c.pairs-pair-items.ensures.bag) c.loop-pair.pair-index (pos 0, 0)
+    (omega arith) c.loop-pair.invariant (simp to_z-of_z at c.in_ok-push_copies.ensures)
 
 pub returns : goal.returns
 returns c =
     let line = string_bytes c.args.line.now in
     values_end _ _ c.loop-pair.is_first c.pairs-pair-items.result.now c.loop-pair.pair-index (omega arith) c.loop-pair.invariant ∙ ap
-        (λ b. line ++ values_from true (values_of b)) c.pairs-pair-items.ensures.walk ∙ ap (λ t. line ++ t)
-        (sym (values_text-from c.args.values.now))
+    (λ b. line ++ values_from true (values_of b)) c.pairs-pair-items.ensures.walk ∙ ap (λ t. line ++ t)
+    (sym (values_text-from c.args.values.now))

@@ -19,17 +19,17 @@ loop-port-preserved c =
     c.in_ok-is_first.ensures rest
     ∙ ap (λ (name : List ℕ). line ++ sent_from c.loop-port.is_first (port_text name c.in_ok-bag.field-0 ++ rest)) c.name.ensures
     ∙ ap (λ (b : Counts). line ++ sent_from c.loop-port.is_first
-        (port_text (name_at texts (get_or names i 0)) b ++ rest)) c.in_ok-bag.ensures
+    (port_text (name_at texts (get_or names i 0)) b ++ rest)) c.in_ok-bag.ensures
     ∙ left_ports texts _ _ c.loop-port.is_first (drop i names) (drop (i + 1) names) (drop i bags) (drop (i + 1) bags) (get_or names i 0)
-        (bag_at bags i) (drop_more names i 0 c.loop-port-test.true) (drop_more bags i [] within) c.loop-port.invariant
+    (bag_at bags i) (drop_more names i 0 c.loop-port-test.true) (drop_more bags i [] within) c.loop-port.invariant
 
 pub returns-then-port-len : goal.returns-then-port-len
 returns-then-port-len c =
     let past : length c.args.sent.now ≤ c.loop-port.port = omega (arith, c.if-port-len.true, c.len.ensures) in
     sent_end c.args.tree.now.names _ _ c.loop-port.is_first (drop c.loop-port.port c.args.names.now) (drop c.loop-port.port c.args.sent.now)
-        (inr (drop_all c.loop-port.port c.args.sent.now past)) c.loop-port.invariant
+    (inr (drop_all c.loop-port.port c.args.sent.now past)) c.loop-port.invariant
 
 pub returns : goal.returns
 returns c =
     sent_end c.args.tree.now.names _ _ c.loop-port.is_first (drop c.loop-port.port c.args.names.now) (drop c.loop-port.port c.args.sent.now)
-        (inl (drop_all c.loop-port.port c.args.names.now c.loop-port-test.false)) c.loop-port.invariant
+    (inl (drop_all c.loop-port.port c.args.names.now c.loop-port-test.false)) c.loop-port.invariant

@@ -7,4 +7,4 @@ use Rattle.dv_text.proofs.words.push_sent.Given as goal
 abbrev pub invariant-loop-port : goal.invariant-loop-port
 invariant-loop-port l =
     string_bytes l.line ++ sent_from l.is_first (ports_text (texts_of l.tree.names (drop l.port l.names)) (drop l.port l.sent))
-        ≡ string_bytes l.initial.line ++ sent_text (ports_text (texts_of l.tree.names l.names) l.sent)
+    ≡ string_bytes l.initial.line ++ sent_text (ports_text (texts_of l.tree.names l.names) l.sent)

@@ -25,19 +25,19 @@ loop-place-preserved c =
     let values = c.args.variables.now in
     let i = c.loop-place.place in
     variables_step c.args.tree.now.names _ _ _ _ (drop i names) (drop (i + 1) names) (drop i values) (drop (i + 1) values)
-        (get_or names i 0) (datum_of c.in-Some.datum) (drop_more names i 0 c.loop-place-test.true)
-        (left_at values i (datum_of c.in-Some.datum) (sym c.in-Some.ensures)) c.loop-place.invariant
-        (c.in_ok-write.ensures.bytes ∙ ap
-        (λ (t : List ℕ). string_bytes c.loop-place.line ++ (32 ∷ (t ++ (61 ∷ [])))) c.name.ensures) c.in_ok-push_datum.ensures
+    (get_or names i 0) (datum_of c.in-Some.datum) (drop_more names i 0 c.loop-place-test.true)
+    (left_at values i (datum_of c.in-Some.datum) (sym c.in-Some.ensures.datum)) c.loop-place.invariant
+    (c.in_ok-write.ensures.bytes ∙ ap
+    (λ (t : List ℕ). string_bytes c.loop-place.line ++ (32 ∷ (t ++ (61 ∷ [])))) c.name.ensures) c.in_ok-push_datum.ensures
 
 pub returns-in_default : goal.returns-in_default
 returns-in_default c =
     let i = c.loop-place.place in
     variables_end c.args.tree.now.names _ _ (drop i c.args.names.now) (drop i c.args.variables.now)
-        (inr (none_left c.args.variables.now i c.in_default.ensures)) c.loop-place.invariant
+    (inr (none_left c.args.variables.now i c.in_default.ensures.datum)) c.loop-place.invariant
 
 pub returns : goal.returns
 returns c =
     let i = c.loop-place.place in
     variables_end c.args.tree.now.names _ _ (drop i c.args.names.now) (drop i c.args.variables.now)
-        (inl (drop_all i c.args.names.now c.loop-place-test.false)) c.loop-place.invariant
+    (inl (drop_all i c.args.names.now c.loop-place-test.false)) c.loop-place.invariant

@@ -6,4 +6,4 @@ use Rattle.dv_text.proofs.words.push_variables.Given as goal
 abbrev pub invariant-loop-place : goal.invariant-loop-place
 invariant-loop-place l =
     string_bytes l.line ++ variables_text (texts_of l.tree.names (drop l.place l.names)) (drop l.place l.variables)
-        ≡ string_bytes l.initial.line ++ variables_text (texts_of l.tree.names l.names) l.variables
+    ≡ string_bytes l.initial.line ++ variables_text (texts_of l.tree.names l.names) l.variables

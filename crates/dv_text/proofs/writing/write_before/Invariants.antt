@@ -8,8 +8,8 @@ abbrev pub invariant-loop-first : goal.invariant-loop-first
 invariant-loop-first g l = record {
   text :
       TakesFront (g.W.Write.contents l.fn.writer) (g.W.Write.contents l.writer)
-          (string_bytes l.fn.line ++ groups_before l.time (groups_of (tree_ports l.tree) l.outer))
-          (string_bytes l.line ++ groups_before l.time (groups_of (tree_ports l.tree) l.rest));
+      (string_bytes l.fn.line ++ groups_before l.time (groups_of (tree_ports l.tree) l.outer))
+      (string_bytes l.line ++ groups_before l.time (groups_of (tree_ports l.tree) l.rest));
   left : groups_from l.time (groups_of (tree_ports l.tree) l.rest) ≡ groups_from l.time (groups_of (tree_ports l.tree) l.outer);
 }
 

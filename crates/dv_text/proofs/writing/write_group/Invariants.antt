@@ -9,8 +9,8 @@ abbrev pub invariant-loop-next : goal.invariant-loop-next
 invariant-loop-next g l = record {
   text :
       TakesFront (g.W.Write.contents l.fn.writer) (g.W.Write.contents l.writer)
-          (string_bytes l.fn.line ++ first_text (groups_of (tree_ports l.tree) l.outer))
-          (string_bytes l.line ++ (ports_at (tree_ports l.tree) l.first.time l.rest ++ (10 ∷ [])));
+      (string_bytes l.fn.line ++ first_text (groups_of (tree_ports l.tree) l.outer))
+      (string_bytes l.line ++ (ports_at (tree_ports l.tree) l.first.time l.rest ++ (10 ∷ [])));
   left : groups_of (tree_ports l.tree) (after_at l.first.time l.rest) ≡ other_groups (groups_of (tree_ports l.tree) l.outer);
   fewer : length l.rest ≤ length l.outer - 1;
 }

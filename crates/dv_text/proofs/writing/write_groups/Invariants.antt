@@ -8,8 +8,8 @@ use Rattle.dv_text.proofs.writing.write_groups.Given as goal
 abbrev pub invariant-loop-rest : goal.invariant-loop-rest
 invariant-loop-rest g l =
     TakesFront (g.W.Write.contents l.fn.writer) (g.W.Write.contents l.writer)
-        (string_bytes l.fn.line ++ flat_map group_text (groups_of (tree_ports l.tree) l.outer))
-        (string_bytes l.line ++ flat_map group_text (groups_of (tree_ports l.tree) l.rest))
+    (string_bytes l.fn.line ++ flat_map group_text (groups_of (tree_ports l.tree) l.outer))
+    (string_bytes l.line ++ flat_map group_text (groups_of (tree_ports l.tree) l.rest))
 
 abbrev pub decreases-loop-rest : goal.decreases-loop-rest
 decreases-loop-rest g l = length l.rest

@@ -23,9 +23,9 @@ loop-entry-init g c =
     let outer = c.outer_of-outer.result.now in
     let text = lines_by_time all items (groups_of names outer) ++ ending in
     let start =
-        ap (λ (es : List Entry). lines_by_time all es (groups_of names trace.outer) ++ ending) (sym c.entries_of-entry-items.ensures)
-        ∙ ap (λ (os : List Outer). lines_by_time all items (groups_of names os) ++ ending) (sym c.outer_of-outer.ensures)
-        ∙ ap (λ z. z ++ text) (sym c.new-line.ensures.bytes) in
+    ap (λ (es : List Entry). lines_by_time all es (groups_of names trace.outer) ++ ending) (sym c.entries_of-entry-items.ensures)
+    ∙ ap (λ (os : List Outer). lines_by_time all items (groups_of names os) ++ ending) (sym c.outer_of-outer.ensures)
+    ∙ ap (λ z. z ++ text) (sym c.new-line.ensures.bytes) in
     TakesFront-left start (TakesFront-nothing (g.W.Write.contents c.args.writer.now) (text_of all names trace c.args.ending.now))
 
 ending-some : (e : Ending) → 0 < length (ending_text e)
@@ -42,11 +42,11 @@ returns-in_err-outer-clause-err g c =
     let ending = ending_text c.args.ending.now in
     let behind = lines_by_time all (drop (i + 1) items) left ++ ending in
     let some =
-        some-behind (entry_text (names_at all e.component) e) behind
-            (some-behind (lines_by_time all (drop (i + 1) items) left) ending (ending-some c.args.ending.now)) in
+    some-behind (entry_text (names_at all e.component) e) behind
+    (some-behind (lines_by_time all (drop (i + 1) items) left) ending (ending-some c.args.ending.now)) in
     OnErr-always _ (StopsShort-more (string_bytes c.loop-entry.line) (lines_by_time all (drop i items) groups ++ ending)
-        (groups_before e.time groups) (entry_text (names_at all e.component) e ++ behind) c.loop-entry.invariant
-        (next_entry all items i e groups left ending (omega arith) c.entry-item.is refl) some c.in_err-outer.ensures.err)
+    (groups_before e.time groups) (entry_text (names_at all e.component) e ++ behind) c.loop-entry.invariant
+    (next_entry all items i e groups left ending (omega arith) c.entry-item.is refl) some c.in_err-outer.ensures.err)
 
 pub returns-in_err-push_entry-clause-err : goal.returns-in_err-push_entry-clause-err
 returns-in_err-push_entry-clause-err g c =
@@ -60,13 +60,13 @@ returns-in_err-push_entry-clause-err g c =
     let text = entry_text (names_at all e.component) e in
     let more = lines_by_time all (drop (i + 1) items) left ++ ending in
     let some =
-        some-behind (string_bytes c.write_before.new.line) (text ++ more)
-            (some-behind text more (some-behind (lines_by_time all (drop (i + 1) items) left) ending (ending-some c.args.ending.now))) in
+    some-behind (string_bytes c.write_before.new.line) (text ++ more)
+    (some-behind text more (some-behind (lines_by_time all (drop (i + 1) items) left) ending (ending-some c.args.ending.now))) in
     OnErr-always _ (StopsShort-from
-        (TakesFront-more (string_bytes c.loop-entry.line) (string_bytes c.write_before.new.line)
-        (lines_by_time all (drop i items) groups ++ ending) (groups_before e.time groups) (text ++ more) c.loop-entry.invariant
-        (next_entry all items i e groups left ending
-        (omega arith) c.entry-item.is c.in_ok-outer.ensures.left) c.in_ok-outer.ensures.ok) some)
+    (TakesFront-more (string_bytes c.loop-entry.line) (string_bytes c.write_before.new.line)
+    (lines_by_time all (drop i items) groups ++ ending) (groups_before e.time groups) (text ++ more) c.loop-entry.invariant
+    (next_entry all items i e groups left ending
+    (omega arith) c.entry-item.is c.in_ok-outer.ensures.left) c.in_ok-outer.ensures.ok) some)
 
 pub returns-in_err-hand_over_if_long-clause-err : goal.returns-in_err-hand_over_if_long-clause-err
 returns-in_err-hand_over_if_long-clause-err g c =
@@ -80,16 +80,16 @@ returns-in_err-hand_over_if_long-clause-err g c =
     let text = entry_text (names_at all e.component) e in
     let more = lines_by_time all (drop (i + 1) items) left ++ ending in
     let before =
-        TakesFront-more (string_bytes c.loop-entry.line) (string_bytes c.write_before.new.line)
-            (lines_by_time all (drop i items) groups ++ ending) (groups_before e.time groups) (text ++ more) c.loop-entry.invariant
-            (next_entry all items i e groups left ending
-            (omega arith) c.entry-item.is c.in_ok-outer.ensures.left) c.in_ok-outer.ensures.ok in
+    TakesFront-more (string_bytes c.loop-entry.line) (string_bytes c.write_before.new.line)
+    (lines_by_time all (drop i items) groups ++ ending) (groups_before e.time groups) (text ++ more) c.loop-entry.invariant
+    (next_entry all items i e groups left ending
+    (omega arith) c.entry-item.is c.in_ok-outer.ensures.left) c.in_ok-outer.ensures.ok in
     let pushed =
-        TakesFront-pushed (string_bytes c.write_before.new.line) (string_bytes c.push_entry.new.line)
-            (text ++ more) text more before refl c.in_ok-push_entry.ensures in
+    TakesFront-pushed (string_bytes c.write_before.new.line) (string_bytes c.push_entry.new.line)
+    (text ++ more) text more before refl c.in_ok-push_entry.ensures in
     OnErr-always _ (StopsShort-handed (string_bytes c.push_entry.new.line) more pushed
-        (some-behind (lines_by_time all (drop (i + 1) items) left) ending (ending-some c.args.ending.now))
-        (AppendsBeginning-short c.in_err-hand_over_if_long.ensures.err))
+    (some-behind (lines_by_time all (drop (i + 1) items) left) ending (ending-some c.args.ending.now))
+    (AppendsBeginning-short c.in_err-hand_over_if_long.ensures.err))
 
 pub loop-entry-preserved : goal.loop-entry-preserved
 loop-entry-preserved g c =
@@ -103,15 +103,15 @@ loop-entry-preserved g c =
     let text = entry_text (names_at all e.component) e in
     let more = lines_by_time all (drop (i + 1) items) left ++ ending in
     let before =
-        TakesFront-more (string_bytes c.loop-entry.line) (string_bytes c.write_before.new.line)
-            (lines_by_time all (drop i items) groups ++ ending) (groups_before e.time groups) (text ++ more) c.loop-entry.invariant
-            (next_entry all items i e groups left ending
-            (omega arith) c.entry-item.is c.in_ok-outer.ensures.left) c.in_ok-outer.ensures.ok in
+    TakesFront-more (string_bytes c.loop-entry.line) (string_bytes c.write_before.new.line)
+    (lines_by_time all (drop i items) groups ++ ending) (groups_before e.time groups) (text ++ more) c.loop-entry.invariant
+    (next_entry all items i e groups left ending
+    (omega arith) c.entry-item.is c.in_ok-outer.ensures.left) c.in_ok-outer.ensures.ok in
     let pushed =
-        TakesFront-pushed (string_bytes c.write_before.new.line) (string_bytes c.push_entry.new.line)
-            (text ++ more) text more before refl c.in_ok-push_entry.ensures in
+    TakesFront-pushed (string_bytes c.write_before.new.line) (string_bytes c.push_entry.new.line)
+    (text ++ more) text more before refl c.in_ok-push_entry.ensures in
     TakesFront-handed (string_bytes c.push_entry.new.line)
-        (string_bytes c.hand_over_if_long.new.line) more pushed c.in_ok-hand_over_if_long.ensures.ok
+    (string_bytes c.hand_over_if_long.new.line) more pushed c.in_ok-hand_over_if_long.ensures.ok
 
 pub returns-in_err-write_groups-clause-err : goal.returns-in_err-write_groups-clause-err
 returns-in_err-write_groups-clause-err g c =
@@ -121,8 +121,8 @@ returns-in_err-write_groups-clause-err g c =
     let groups = groups_of (tree_ports c.args.tree.now) c.loop-entry.outer.now in
     let ending = ending_text c.args.ending.now in
     OnErr-always _ (StopsShort-more (string_bytes c.loop-entry.line) (lines_by_time all (drop i items) groups ++ ending)
-        (flat_map group_text groups) ending c.loop-entry.invariant (last_groups all items i groups ending (omega arith))
-        (ending-some c.args.ending.now) c.in_err-write_groups.ensures.err)
+    (flat_map group_text groups) ending c.loop-entry.invariant (last_groups all items i groups ending (omega arith))
+    (ending-some c.args.ending.now) c.in_err-write_groups.ensures.err)
 
 pub returns-in_err-push_end-clause-err : goal.returns-in_err-push_end-clause-err
 returns-in_err-push_end-clause-err g c =
@@ -132,10 +132,10 @@ returns-in_err-push_end-clause-err g c =
     let groups = groups_of (tree_ports c.args.tree.now) c.loop-entry.outer.now in
     let ending = ending_text c.args.ending.now in
     OnErr-always _ (StopsShort-from
-        (TakesFront-more (string_bytes c.loop-entry.line) (string_bytes c.write_groups.new.line)
-        (lines_by_time all (drop i items) groups ++ ending) (flat_map group_text groups) ending c.loop-entry.invariant
-        (last_groups all items i groups ending (omega arith)) c.in_ok-write_groups.ensures.ok)
-        (some-behind (string_bytes c.write_groups.new.line) ending (ending-some c.args.ending.now)))
+    (TakesFront-more (string_bytes c.loop-entry.line) (string_bytes c.write_groups.new.line)
+    (lines_by_time all (drop i items) groups ++ ending) (flat_map group_text groups) ending c.loop-entry.invariant
+    (last_groups all items i groups ending (omega arith)) c.in_ok-write_groups.ensures.ok)
+    (some-behind (string_bytes c.write_groups.new.line) ending (ending-some c.args.ending.now)))
 
 pub returns-clause-err : goal.returns-clause-err
 returns-clause-err g c =
@@ -145,14 +145,14 @@ returns-clause-err g c =
     let groups = groups_of (tree_ports c.args.tree.now) c.loop-entry.outer.now in
     let ending = ending_text c.args.ending.now in
     let before =
-        TakesFront-more (string_bytes c.loop-entry.line) (string_bytes c.write_groups.new.line)
-            (lines_by_time all (drop i items) groups ++ ending) (flat_map group_text groups) ending c.loop-entry.invariant
-            (last_groups all items i groups ending (omega arith)) c.in_ok-write_groups.ensures.ok in
+    TakesFront-more (string_bytes c.loop-entry.line) (string_bytes c.write_groups.new.line)
+    (lines_by_time all (drop i items) groups ++ ending) (flat_map group_text groups) ending c.loop-entry.invariant
+    (last_groups all items i groups ending (omega arith)) c.in_ok-write_groups.ensures.ok in
     let pushed =
-        TakesFront-pushed (string_bytes c.write_groups.new.line) (string_bytes c.push_end.new.line) ending ending [] before
-            (sym (append-nil ending)) c.in_ok-push_end.ensures in
+    TakesFront-pushed (string_bytes c.write_groups.new.line) (string_bytes c.push_end.new.line) ending ending [] before
+    (sym (append-nil ending)) c.in_ok-push_end.ensures in
     let whole = TakesFront-rest (string_bytes c.push_end.new.line) [] refl pushed in
     on_err_weaker c.hand_over.result
-        (λ (p : StopsShort (g.W.Write.contents c.write_groups.new.writer)
-        (g.W.Write.contents c.hand_over.new.writer) c.as_bytes.result.now). StopsShort-after whole
-        (rw c.as_bytes.ensures.value at p)) c.hand_over.ensures.err
+    (λ (p : StopsShort (g.W.Write.contents c.write_groups.new.writer)
+    (g.W.Write.contents c.hand_over.new.writer) c.as_bytes.result.now). StopsShort-after whole
+    (rw c.as_bytes.ensures.value at p)) c.hand_over.ensures.err

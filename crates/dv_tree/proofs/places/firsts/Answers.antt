@@ -14,9 +14,9 @@ loop-place-preserved c = λ q.
           ap (λ m. get nat_eq m q) w.firsts-is
           ∙ (w.in_ok-insert.ensures.updates.0 q
           ∙ place_put numbers c.loop-place.place within
-              (get nat_eq before) c.loop-place.invariant c.contains_key.result c.contains_key.ensures w.if-not-contains_key.true q)
+          (get nat_eq before) c.loop-place.invariant c.contains_key.result c.contains_key.ensures w.if-not-contains_key.true q)
       | else-not-contains_key w ↦
           ap (λ m. get nat_eq m q) w.firsts-is
           ∙ place_kept numbers c.loop-place.place within
-              (get nat_eq before) c.loop-place.invariant c.contains_key.result c.contains_key.ensures w.if-not-contains_key.false q
+          (get nat_eq before) c.loop-place.invariant c.contains_key.result c.contains_key.ensures w.if-not-contains_key.false q
     ]

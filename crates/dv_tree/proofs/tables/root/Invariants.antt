@@ -7,4 +7,4 @@ use Rattle.dv_tree.proofs.tables.root.Given as goal
 abbrev pub invariant-loop-model : goal.invariant-loop-model
 invariant-loop-model l =
     model_named l.file.root.number (map model_of (drop l.model-index l.file.models.items)) ≡ model_named l.file.root.number
-        (map model_of l.file.models.items)
+    (map model_of l.file.models.items)

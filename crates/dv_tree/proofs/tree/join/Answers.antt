@@ -20,4 +20,4 @@ returns-in_ok-union_sent c =
 pub returns-else-exit-len : goal.returns-else-exit-len
 returns-else-exit-len c =
     let past : length c.args.bags.now ≤ c.args.exit.now.root_port =
-        omega arith in adds_past c.args.sent.now c.args.bags.now c.args.exit.now past
+    omega arith in adds_past c.args.sent.now c.args.bags.now c.args.exit.now past

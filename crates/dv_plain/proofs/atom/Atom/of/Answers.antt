@@ -7,5 +7,5 @@ pub invariant_of-result : goal.invariant_of-result
 invariant_of-result c = record {
   of_model =
       scope-at (instances (file_of c.args.tree.now.file)) c.args.component
-          (atomic_of c.atomic.result.now) c.scope.result.now c.atomic.ensures c.scope.ensures;
+      (atomic_of c.atomic.result.now) c.scope.result.now c.atomic.ensures c.scope.ensures;
 }

@@ -16,8 +16,14 @@ returns-in_ok-entered-in-Ok-clause-reaction c = λ sent.
     let before = component_of limit c.args.self.now in
     let next = next_of_wait limit c.in-Ok.wait in
     reaction-given limit (behaviour_of
-        (atomic_of c.args.atom.now.model.now)) time before sent c.in-Ok.state next c.args.instant.now.of_run c.requires c.in-Ok.ensures.0
-    ∙ ap (λ (s : State). let r : Reaction = record { event = Some
-        (what.Transition Internal s, sent); component = record { state = c.in-Ok.state; last = time.tick; next = next; quiet = false } } in r) (sym c.in_ok-entered-in-Ok.ensures.cases)
-    ∙ ap (λ (q : Bool). let r : Reaction = record { event = Some
-        (what.Transition Internal c.in_ok-entered-in-Ok.entered, sent); component = record { state = c.in-Ok.state; last = time.tick; next = next; quiet = q } } in r) (sym c.in-Ok.ensures.1)
+    (atomic_of c.args.atom.now.model.now)) time before sent c.in-Ok.state next c.args.instant.now.of_run c.requires c.in-Ok.ensures.0
+    ∙ ap (λ (s : State). let r : Reaction = record {
+      event = Some
+          (what.Transition Internal s, sent);
+      component = record { state = c.in-Ok.state; last = time.tick; next = next; quiet = false };
+    } in r) (sym c.in_ok-entered-in-Ok.ensures.cases)
+    ∙ ap (λ (q : Bool). let r : Reaction = record {
+      event = Some
+          (what.Transition Internal c.in_ok-entered-in-Ok.entered, sent);
+      component = record { state = c.in-Ok.state; last = time.tick; next = next; quiet = q };
+    } in r) (sym c.in-Ok.ensures.1)

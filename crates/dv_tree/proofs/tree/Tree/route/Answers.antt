@@ -16,10 +16,10 @@ left c =
     let sent = c.args.sent.now in
     let exits = c.deref-exit-items.result.now in
     let last =
-        sym (at_drop_all (with_exits sent c.loop-exit.bags) exits c.loop-exit.exit-index c.loop-exit-test.false)
-        ∙ (c.loop-exit.invariant ∙ ap (with_exits sent c.in_ok-bags.bags) c.deref-exit-items.ensures.value) in
+    sym (at_drop_all (with_exits sent c.loop-exit.bags) exits c.loop-exit.exit-index c.loop-exit-test.false)
+    ∙ (c.loop-exit.invariant ∙ ap (with_exits sent c.in_ok-bags.bags) c.deref-exit-items.ensures.value) in
     route_made c.self.inside.checked.now
-        (c.accepted_files.ensures _ c.self.inside.checked.now.accepted) c.args.self.now c.self.inside.exits.items sent c.output_count.result c.in_ok-bags.bags c.loop-exit.bags c.self.view_is c.self.invariant.3 c.output_count.ensures c.in_ok-bags.ensures last c.requires
+    (c.accepted_files.ensures _ c.self.inside.checked.now.accepted) c.args.self.now c.self.inside.exits.items sent c.output_count.result c.in_ok-bags.bags c.loop-exit.bags c.self.view_is c.self.invariant.3 c.output_count.ensures c.in_ok-bags.ensures last c.requires
 
 pub returns-clause-value : goal.returns-clause-value
 returns-clause-value c = left c

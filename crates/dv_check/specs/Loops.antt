@@ -1,0 +1,47 @@
+-- A model with one rule, by what it declares and by what the rule says.
+use Rattle.std.specs.Prelude.{ℕ, ◌+◌, List, [], ◌∷◌, false, None}
+use Rattle.dv_lex.specs.declared.error.Refusal.{Refusal}
+use Rattle.dv_syntax.specs.declared.tree.Name.{Name}
+use Rattle.dv_syntax.specs.declared.tree.Declaration.{Declaration}
+use Rattle.dv_syntax.specs.declared.tree.Declaration.TheVariants.{Flag, Bag}
+use Rattle.dv_syntax.specs.declared.tree.RuleSort.{RuleSort}
+use Rattle.dv_syntax.specs.declared.tree.RuleSort.TheVariants as rule
+use Rattle.dv_syntax.specs.Trees.{Expression, Literal, Statements, For, AtomicTree}
+use Rattle.dv_check.specs.Rules.{atomic_refusals}
+
+-- the names: 0 Heap, 1 v, 2 b, 3 z
+abbrev pub name_at : ℕ → ℕ → Name
+name_at number place = record { number = number; place = place }
+
+-- bag NAME CAPACITY; and flag NAME = false;
+abbrev pub bag_at : ℕ → ℕ → ℕ → Declaration
+bag_at number place capacity = Bag (record { name = name_at number place; capacity = record { value = capacity; place = place + 2 } })
+
+abbrev pub flag_at : ℕ → ℕ → Declaration
+flag_at number place = Flag (record { name = name_at number place; start = false })
+
+abbrev pub one_at : ℕ → Expression
+one_at place = Literal (record { value = 1; place = place })
+
+-- for NAME in BAG { .. } and what follows
+abbrev pub loop_at : ℕ → ℕ → ℕ → Statements → Statements → Statements
+loop_at place variable bag block rest = For place (name_at variable (place + 4)) (name_at bag (place + 9)) block rest
+
+-- atomic Heap { phases z; start z; hold z: forever; SORT z { .. } } and the declarations
+abbrev pub heap : List Declaration → RuleSort → Statements → AtomicTree
+heap declarations sort body = record {
+  name = name_at 0 7;
+  declarations = declarations;
+  phases = record { place = 40; names = name_at 3 47 ∷ [] } ∷ [];
+  starts = record { place = 50; phase = name_at 3 56 } ∷ [];
+  holds = record { place = 60; phase = name_at 3 65; ticks = None } ∷ [];
+  rules = record { sort = sort; phase = name_at 3 89; body = body } ∷ [];
+}
+
+-- what is wrong where bag b 8; stands in front, with these declarations and this internal rule
+abbrev pub wrong_inside : List Declaration → Statements → List Refusal
+wrong_inside declarations body = atomic_refusals (heap (bag_at 2 15 8 ∷ declarations) rule.Internal body)
+
+-- and with this output rule
+abbrev pub wrong_outside : List Declaration → Statements → List Refusal
+wrong_outside declarations body = atomic_refusals (heap (bag_at 2 15 8 ∷ declarations) rule.Output body)

@@ -1,0 +1,63 @@
+//! What names stand for at a place of an atomic model.
+
+ghost use Rattle.std.specs.Prelude.{◌≡◌};
+ghost use Rattle.dv_check.specs.Rules.{known_at};
+
+use crate::declarations::{Declarations, NameSort};
+use dv_syntax::Name;
+
+/// What names stand for at a place of an atomic model.
+#[derive(Clone, Copy)]
+pub enum Environment<'a> {
+    /// Outside of all loops: what the model declares.
+    Model(&'a Declarations),
+    /// In the block of a loop, whose variable hides what else has its name.
+    Loop {
+        variable: Name,
+        outer: &'a Environment<'a>,
+    },
+}
+
+impl<'a> Environment<'a> {
+    /// What a name stands for.
+    pub fn sort(&self, name: u32) -> Option<NameSort>
+        ensures { result ≡ (known_at self.now).sort name }
+    {
+        match self {
+            Environment::Model(declarations) => declarations.sorts.get(name).copied(),
+            Environment::Loop { variable, outer } => {
+                if variable.number == name {
+                    Some(NameSort::LoopVariable)
+                } else {
+                    outer.sort(name)
+                }
+            }
+        }
+    }
+
+    /// The place at which a name is declared.
+    pub fn place(&self, name: u32) -> Option<u32>
+        ensures { result ≡ (known_at self.now).place name }
+    {
+        match self {
+            Environment::Model(declarations) => declarations.places.get(name).copied(),
+            Environment::Loop { variable, outer } => {
+                if variable.number == name {
+                    Some(variable.place)
+                } else {
+                    outer.place(name)
+                }
+            }
+        }
+    }
+
+    /// Whether a phase is known.
+    pub fn has_phase(&self, phase: u32) -> bool
+        ensures { result ≡ (known_at self.now).has_phase phase }
+    {
+        match self {
+            Environment::Model(declarations) => declarations.phases.contains(phase),
+            Environment::Loop { outer, .. } => outer.has_phase(phase),
+        }
+    }
+}

@@ -1,0 +1,185 @@
+//! The statements of rules.
+
+ghost use Rattle.std.specs.Prelude.{◌≡◌, not};
+ghost use Rattle.dv_syntax.specs.Trees.{expression_of, statement_before, Statements, statements_of};
+ghost use Rattle.dv_syntax.specs.declared.tree.RuleSort.TheVariants.{Output};
+ghost use Rattle.dv_eval.specs.Scope.{same_sort};
+ghost use Rattle.dv_lex.specs.declared.error.RefusalNumber.TheVariants.{E9};
+ghost use Rattle.dv_check.specs.Findings.{with_refusals};
+ghost use Rattle.dv_check.specs.Names.{refusal_if};
+ghost use Rattle.dv_check.specs.Rules.{assignment_refusals, change_refusals, known_at, loop_variable_refusals, phase_refusals, sent_port_refusals, statements_refusals};
+
+use crate::declarations::NameSort;
+use crate::environment::Environment;
+use crate::expression::{ValueType, check_bag, check_place, check_value, type_of_name};
+use crate::findings::Findings;
+use dv_lex::RefusalNumber;
+use dv_syntax::laws::trees_keep_blocks;
+use dv_syntax::{Expr, Name, RuleSort, Stmt};
+
+/// Tests the statements of a block.
+#[cycle(statements)]
+pub fn check_statements<'a>(
+    environment: &'a Environment<'a>,
+    sort: RuleSort,
+    statements: &'a [Stmt],
+    found: &mut Findings,
+)
+    ensures { found.new ≡ with_refusals found.old
+        (statements_refusals (known_at environment.now) sort (statements_of statements.now)) }
+{
+    for statement in statements {
+        check_statement(environment, sort, statement, found);
+    }
+}
+
+#[cycle(statements)]
+fn check_statement<'a>(
+    environment: &'a Environment<'a>,
+    sort: RuleSort,
+    statement: &'a Stmt,
+    found: &mut Findings,
+)
+    ensures { (rest : Statements)
+        → with_refusals found.new (statements_refusals (known_at environment.now) sort rest)
+        ≡ with_refusals found.old (statements_refusals (known_at environment.now) sort
+        (statement_before statement.now rest)) }
+{
+    trees_keep_blocks();
+    match statement {
+        Stmt::Assign { variable, value } => {
+            check_assigned(environment, sort, variable, found);
+            let wanted = type_of_name(environment.sort(variable.number));
+            check_value(wanted, environment, value, found);
+        }
+        Stmt::Goto { place, phase } => {
+            deny_in_output(sort, *place, found);
+            check_goto_phase(environment, phase, found);
+        }
+        Stmt::Send { place, port, value } => {
+            deny_outside_output(sort, *place, found);
+            check_sent_port(environment, port, found);
+            check_place(ValueType::Number, environment, value, found);
+        }
+        Stmt::If {
+            condition,
+            then_block,
+            ..
+        } => {
+            check_place(ValueType::Truth, environment, condition, found);
+            check_statements(environment, sort, &then_block.statements, found);
+        }
+        Stmt::IfElse {
+            condition,
+            then_block,
+            else_block,
+            ..
+        } => {
+            check_place(ValueType::Truth, environment, condition, found);
+            check_statements(environment, sort, &then_block.statements, found);
+            check_statements(environment, sort, &else_block.statements, found);
+        }
+        Stmt::For {
+            variable,
+            bag,
+            block,
+            ..
+        } => {
+            check_loop_variable(environment, variable, found);
+            check_bag(environment, bag, found);
+            let inner = Environment::Loop {
+                variable: *variable,
+                outer: environment,
+            };
+            check_statements(&inner, sort, &block.statements, found);
+        }
+        Stmt::Add { place, value, bag } => {
+            check_change(environment, sort, *place, value, bag, found);
+        }
+        Stmt::Drop { place, value, bag } => {
+            check_change(environment, sort, *place, value, bag, found);
+        }
+    }
+}
+
+fn check_assigned(environment: &Environment, sort: RuleSort, variable: &Name, found: &mut Findings)
+    ensures { found.new ≡ with_refusals found.old
+        (assignment_refusals sort ((known_at environment.now).sort variable.now.number)
+        variable.now.place) }
+{
+    match environment.sort(variable.number) {
+        None => found.note(RefusalNumber::E7, variable.place),
+        Some(NameSort::Bag | NameSort::Output) => found.note(RefusalNumber::E8, variable.place),
+        Some(NameSort::Variable | NameSort::Flag) => {
+            deny_in_output(sort, variable.place, found);
+        }
+        Some(NameSort::LoopVariable) => found.note(RefusalNumber::E9, variable.place),
+    }
+}
+
+fn check_goto_phase(environment: &Environment, phase: &Name, found: &mut Findings)
+    ensures { found.new ≡ with_refusals found.old
+        (phase_refusals (known_at environment.now) phase.now) }
+{
+    if !environment.has_phase(phase.number) {
+        found.note(RefusalNumber::E7, phase.place);
+    }
+}
+
+fn check_sent_port(environment: &Environment, port: &Name, found: &mut Findings)
+    ensures { found.new ≡ with_refusals found.old (sent_port_refusals
+        ((known_at environment.now).sort port.now.number) port.now.place) }
+{
+    match environment.sort(port.number) {
+        None => found.note(RefusalNumber::E7, port.place),
+        Some(NameSort::Variable | NameSort::Flag | NameSort::Bag | NameSort::LoopVariable) =>
+            found.note(RefusalNumber::E8, port.place),
+        Some(NameSort::Output) => {}
+    }
+}
+
+// The variable of a loop has a name of its own: of two equal ones the second in the text is refused.
+fn check_loop_variable(environment: &Environment, variable: &Name, found: &mut Findings)
+    ensures { found.new ≡ with_refusals found.old (loop_variable_refusals
+        ((known_at environment.now).place variable.now.number) variable.now.place) }
+{
+    if let Some(declared) = environment.place(variable.number) {
+        found.note(RefusalNumber::E6, declared.max(variable.place));
+    }
+}
+
+// One more or one less of a value in a bag.
+fn check_change(
+    environment: &Environment,
+    sort: RuleSort,
+    place: u32,
+    value: &Expr,
+    bag: &Name,
+    found: &mut Findings,
+)
+    ensures { found.new ≡ with_refusals found.old (change_refusals (known_at environment.now) sort
+        place (expression_of value.now) bag.now) }
+{
+    deny_in_output(sort, place, found);
+    check_place(ValueType::Number, environment, value, found);
+    check_bag(environment, bag, found);
+}
+
+// What changes a state has no place in an output rule.
+fn deny_in_output(sort: RuleSort, place: u32, found: &mut Findings)
+    ensures { found.new ≡ with_refusals found.old (refusal_if (same_sort sort Output) E9 place) }
+{
+    if sort == RuleSort::Output {
+        found.note(RefusalNumber::E9, place);
+    }
+}
+
+// And `send` none outside of one.
+fn deny_outside_output(sort: RuleSort, place: u32, found: &mut Findings)
+    ensures { found.new ≡ with_refusals found.old
+        (refusal_if (not (same_sort sort Output)) E9 place) }
+{
+    if sort != RuleSort::Output {
+        found.note(RefusalNumber::E9, place);
+    }
+}

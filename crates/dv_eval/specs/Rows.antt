@@ -1,0 +1,92 @@
+-- Bags and loops in worked rows, over a model with a variable tally of the range 0..999, a bag of at most 6 values and an output
+-- port.
+use Rattle.std.specs.Prelude.{ℕ, ℤ, pos, [], ◌∷◌, None, Result}
+use Rattle.dv_syntax.specs.declared.tree.Name.{Name}
+use Rattle.dv_syntax.specs.declared.tree.BagCall.TheVariants.{Size, Least}
+use Rattle.dv_syntax.specs.declared.tree.Operator.TheVariants.{Add, Multiply, Equal, Greater}
+use Rattle.dv_syntax.specs.Trees.{Expression, Named, Binary, Call, Statements, Done, Assign, Send, For}
+use Rattle.dv_syntax.specs.Trees.{Add as AddTo}
+use Rattle.dv_bag.specs.Bag.{Counts}
+use Rattle.dv_bag.specs.declared.fault.Fault.{Fault}
+use Rattle.dv_bag.specs.declared.value.Value.{Value}
+use Rattle.dv_bag.specs.declared.state.Datum.TheVariants as datum
+use Rattle.dv_bag.specs.declared.state.State.{State}
+use Rattle.dv_bag.specs.declared.state.Effect.{Effect}
+use Rattle.dv_eval.specs.declared.scope.Domain.TheVariants as domain
+use Rattle.dv_eval.specs.Scope.{Scope}
+use Rattle.dv_eval.specs.Edges.{number}
+use Rattle.dv_eval.specs.Meaning.{effect_of, meaning, moment_in}
+
+abbrev pub named : ℕ → Name
+named n = record { number = n; place = 1 }
+
+abbrev pub tally : Name
+tally = named 0
+
+abbrev pub bag : Name
+bag = named 1
+
+abbrev pub port : Name
+port = named 2
+
+-- the variable of a loop
+abbrev pub item : Name
+item = named 3
+
+abbrev pub with_bag : Scope
+with_bag = record {
+  variables = (0, domain.Number (record { low = pos 0; high = pos 999; start = pos 0 })) ∷ (1, domain.Bag 6) ∷ [];
+  phases = [];
+  outputs = 2 ∷ [];
+}
+
+abbrev pub holding : ℤ → Counts → State
+holding count values = record { phase = 0; variables = datum.Number count ∷ datum.Bag values ∷ [] }
+
+-- the value where the bag has such values
+abbrev pub value_with : Counts → Expression → Result Value Fault
+value_with values e = meaning with_bag (moment_in [] (holding (pos 0) values)) e
+
+-- the effect where the bag has such values
+abbrev pub effect_with : Counts → Statements → Result Effect Fault
+effect_with values body = effect_of with_bag body (holding (pos 0) values)
+
+-- the number and the values after a rule, and what it sent
+abbrev pub left : ℤ → Counts → Counts → Effect
+left count values sent = record { state = holding count values; sent = sent ∷ []; goto = None }
+
+-- 2, 3 and 3
+abbrev pub two_threes : Counts
+two_threes = (pos 2, 1) ∷ (pos 3, 2) ∷ []
+
+-- the greatest number twice
+abbrev pub great : Counts
+great = (pos 9223372036854775807, 2) ∷ []
+
+-- size(bag) > 0
+abbrev pub some_there : Expression
+some_there = Binary Greater (Call Size 1 bag) (number 0)
+
+-- least(bag) = 1
+abbrev pub least_is_one : Expression
+least_is_one = Binary Equal (Call Least 1 bag) (number 1)
+
+-- for item in bag { .. }
+abbrev pub for_each : Statements → Statements
+for_each block = For 1 item bag block Done
+
+-- tally := tally * 10 + item;
+abbrev pub next_digit : Statements
+next_digit = Assign tally (Binary Add (Binary Multiply (Named tally) (number 10)) (Named item)) Done
+
+-- send port item;
+abbrev pub send_it : Statements
+send_it = Send 1 port (Named item) Done
+
+-- add item to bag;
+abbrev pub add_it : Statements
+add_it = AddTo 1 (Named item) bag Done
+
+-- for item in bag { for item in bag { send port item; } }
+abbrev pub twice : Statements
+twice = for_each (for_each send_it)

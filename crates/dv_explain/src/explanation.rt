@@ -1,0 +1,50 @@
+//! Explanations, found by their codes.
+
+ghost use Rattle.std.specs.Prelude.{◌≡◌, IfSome};
+
+use crate::words::{FAULTS, REFUSALS};
+
+/// What a refusal or a fault means, and its cure.
+#[derive(Clone, Copy, Debug)]
+pub struct Explanation {
+    /// The number of a refusal, as `E7`, or the name of a fault, as `overflow`.
+    pub code: &'static str,
+    /// What is wrong, which token is named, and what helps.
+    pub words: &'static str,
+    /// The smallest model that has it, where there is one.
+    pub example: Option<Example>,
+}
+
+/// A model, and what comes of it.
+#[derive(Clone, Copy, Debug)]
+pub struct Example {
+    /// The text of the model.
+    pub model: &'static str,
+    /// The last tick of its run.
+    pub horizon: u64,
+    /// The greatest microstep of a tick in its run.
+    pub limit: u32,
+    /// The answer to a refused text, as `E7 line 1`, else the lines of the trace.
+    pub answer: &'static str,
+}
+
+/// The explanation of a code: of a refusal's number or a fault's name, as they are printed.
+pub fn explanation_of(code: &str) -> Option<&'static Explanation>
+    ensures { IfSome result (λ explanation. explanation.now.code.now ≡ code.now) }
+{
+    match find(REFUSALS, code) {
+        Some(refusal) => Some(refusal),
+        None => find(FAULTS, code),
+    }
+}
+
+fn find(explanations: &'static [Explanation], code: &str) -> Option<&'static Explanation>
+    ensures { IfSome result (λ explanation. explanation.now.code.now ≡ code.now) }
+{
+    for explanation in explanations {
+        if explanation.code == code {
+            return Some(explanation);
+        }
+    }
+    None
+}

@@ -1,0 +1,13 @@
+//! What each refusal and each fault means.
+#![tactic(auto)]
+
+/// Explanations, found by their codes.
+pub mod explanation;
+/// The line of a text that a refusal points at.
+pub mod pointing;
+/// The words of the explanations.
+pub mod words;
+
+pub use explanation::{Example, Explanation, explanation_of};
+pub use pointing::excerpt;
+pub use words::{FAULTS, REFUSALS};

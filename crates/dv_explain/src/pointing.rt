@@ -1,0 +1,71 @@
+//! The line of a text that a refusal points at, with a mark under the token.
+
+use std::alloc::{AllocError, Global};
+
+/// The most characters that are shown on each side of the mark.
+const SHOWN: usize = 60;
+
+/// The line of a text around a place, and below it a mark under the place. `line` is the number of the line, which is
+/// shown before it; `place` is the number of bytes before the token. Of a long line the 60 characters before the place
+/// and the 60 behind it are shown, and no bytes that are not UTF-8.
+///
+/// # Errors
+///
+/// No memory for the two lines.
+pub fn excerpt(alloc: Global, text: &[u8], line: u64, place: usize) -> Result<String, AllocError> {
+    let (before, after) = text.split_at(place.min(text.len()));
+    let before = str::from_utf8(last_line(before)).unwrap_or("");
+    let after = str::from_utf8(first_line(after)).unwrap_or("");
+    marked(alloc, line, before, after)
+}
+
+/// What stands behind the last line feed.
+fn last_line(bytes: &[u8]) -> &[u8] {
+    let mut start = 0;
+    for (place, byte) in bytes.iter().enumerate() {
+        if *byte == b'\n' {
+            start = place + 1;
+        }
+    }
+    bytes.get(start..).unwrap_or(&[])
+}
+
+/// What stands before the first line feed.
+fn first_line(bytes: &[u8]) -> &[u8] {
+    let end = bytes
+        .iter()
+        .position(|byte| *byte == b'\n')
+        .unwrap_or(bytes.len());
+    bytes.get(..end).unwrap_or(bytes)
+}
+
+/// The two lines, out of what stands on the line before the place and from it on.
+fn marked(alloc: Global, line: u64, before: &str, after: &str) -> Result<String, AllocError> {
+    let number = format!(in alloc; "{line}")?;
+    let margin = " ".repeat(alloc, number.len())?;
+    let hidden = before.chars().count().saturating_sub(SHOWN);
+    let mut shown = String::new(alloc);
+    let mut indent = String::new(alloc);
+    for character in before.chars().skip(hidden) {
+        shown.push(visible(character))?;
+        indent.push(blank(character))?;
+    }
+    for character in after.chars().take(SHOWN) {
+        shown.push(visible(character))?;
+    }
+    format!(in alloc; "{number} | {shown}\n{margin} | {indent}^\n")
+}
+
+/// A character as it is shown: a blank for one that moves the cursor, but a tab.
+fn visible(character: char) -> char {
+    if character < ' ' && character != '\t' {
+        ' '
+    } else {
+        character
+    }
+}
+
+/// What is as wide as a character.
+fn blank(character: char) -> char {
+    if character == '\t' { '\t' } else { ' ' }
+}

@@ -1,0 +1,237 @@
+//! What each refusal and each fault means, with the smallest text that has it, and its cure. The page of errors has the
+//! same words.
+
+use crate::{Example, Explanation};
+
+/// The refusals, in the order of their numbers.
+pub const REFUSALS: &[Explanation] = &[
+    Explanation {
+        code: "E1",
+        words: "The text is not UTF-8. The first byte that belongs to no whole character is named; comments are looked at too. Save the file as UTF-8. A single `é` in an older encoding is enough.",
+        example: None,
+    },
+    Explanation {
+        code: "E2",
+        words: "No token begins with this character. Outside of comments a text has names, numbers, words and the signs of the language; a byte order mark and a no-break space are none of these. Take the character out.",
+        example: Some(Example {
+            model: "root $;\n",
+            horizon: 0,
+            limit: 20,
+            answer: "E2 line 1",
+        }),
+    },
+    Explanation {
+        code: "E3",
+        words: "A number is above 9223372036854775807. Write a smaller one. The sign is no part of a number, so -2^63 can't be written either: compute it, as `-9223372036854775807 - 1`.",
+        example: Some(Example {
+            model: "root 9223372036854775808;\n",
+            horizon: 0,
+            limit: 20,
+            answer: "E3 line 1",
+        }),
+    },
+    Explanation {
+        code: "E4",
+        words: "This token can't stand here. It is the first one with which no text goes on; where a text ends too early, its end is named. Look up in the grammar what may stand at this place. In the example a colon is missing before `A`.",
+        example: Some(Example {
+            model: "coupled T { part a A; }\nroot T;\n",
+            horizon: 0,
+            limit: 20,
+            answer: "E4 line 1",
+        }),
+    },
+    Explanation {
+        code: "E5",
+        words: "An expression, a block or a loop is nested too deeply. The first token is named that leaves no room for what it owes, as an opening parenthesis, an operator, `times`, `if` or `for`. Expressions nest 64 deep, blocks 16 and loops 3. Compute a part of the expression into a variable first, or join conditions with `and`.",
+        example: Some(Example {
+            model: "atomic A { bag b 1; phases z; start z; hold z: 1; internal z {\nfor p in b { for q in b { for r in b {\nfor s in b { } } } } } }\nroot A;\n",
+            horizon: 0,
+            limit: 20,
+            answer: "E5 line 3",
+        }),
+    },
+    Explanation {
+        code: "E6",
+        words: "A name is declared twice. The second one is named. Ports, variables, flags and bags of an atomic model share their names, and a loop has another name than these and than the loops around it; so do models, the phases of a model, its parts, and the ports of a coupled model; and a phase has one rule of each sort. Give one of the two another name.",
+        example: Some(Example {
+            model: "atomic A { out y; var y: 0..1 = 0; phases z; start z; hold z: 1; }\nroot A;\n",
+            horizon: 0,
+            limit: 20,
+            answer: "E6 line 1",
+        }),
+    },
+    Explanation {
+        code: "E7",
+        words: "This name is unknown. Declare the model, part, port, variable, flag, bag or phase, or mend its spelling; the variable of a loop is known in its block alone. Today a part whose model is coupled is refused so too.",
+        example: Some(Example {
+            model: "coupled T { part a: A; }\nroot T;\n",
+            horizon: 0,
+            limit: 20,
+            answer: "E7 line 1",
+        }),
+    },
+    Explanation {
+        code: "E8",
+        words: "The type is wrong. The first token of the expression is named, or a name of another sort than its place wants. Numbers are wanted by arithmetic, by `<` and its like, by `send`, `add`, `drop`, `times` and by holds; truth values by conditions, `not`, `and` and `or`; `=` and `!=` want two of one type; a variable takes a number and a flag a truth value; a bag stands in `for`, `add`, `drop` and in the calls on bags, and nowhere else.",
+        example: Some(Example {
+            model: "atomic A { phases z; start z; hold z: true; }\nroot A;\n",
+            horizon: 0,
+            limit: 20,
+            answer: "E8 line 1",
+        }),
+    },
+    Explanation {
+        code: "E9",
+        words: "This is not allowed in a rule of this sort. The first token of the statement is named. Send in an output rule; assign, `goto`, `add` and `drop` in an internal one. Nothing is assigned to the variable of a loop: declare a variable for what has to stay.",
+        example: Some(Example {
+            model: "atomic A { out y; phases z; start z; hold z: 1; internal z { send y 1; } }\nroot A;\n",
+            horizon: 0,
+            limit: 20,
+            answer: "E9 line 1",
+        }),
+    },
+    Explanation {
+        code: "E10",
+        words: "The item `phases`, `start` or the `hold` of a phase is missing, or stands twice. The model's name is named where one is missing, the second word where one stands twice. Each atomic model has one `phases`, one `start`, and one `hold` for each phase.",
+        example: Some(Example {
+            model: "atomic A { phases z; start z; }\nroot A;\n",
+            horizon: 0,
+            limit: 20,
+            answer: "E10 line 1",
+        }),
+    },
+    Explanation {
+        code: "E11",
+        words: "A range is empty, a start value is outside of it, or the hold of the start phase faults. The variable's name is named, or the phase behind `start`. Let the range run from its low end to its high end, with the start value in it; let the hold of the start phase have a value on the start values.",
+        example: Some(Example {
+            model: "atomic A { var v: 3..2 = 2; phases z; start z; hold z: 1; }\nroot A;\n",
+            horizon: 0,
+            limit: 20,
+            answer: "E11 line 1",
+        }),
+    },
+    Explanation {
+        code: "E12",
+        words: "A link leads the wrong way. The port is named. A link leads from an output of a part, today to an output of `self`.",
+        example: Some(Example {
+            model: "atomic A { out y; phases z; start z; hold z: 1; }\ncoupled T { part a: A; part b: A; link a.y -> b.y; }\nroot T;\n",
+            horizon: 0,
+            limit: 20,
+            answer: "E12 line 2",
+        }),
+    },
+    Explanation {
+        code: "E14",
+        words: "A link stands twice. The second `link` is named. Take one of them out. To send a value twice, send it twice.",
+        example: Some(Example {
+            model: "atomic A { out y; phases z; start z; hold z: 1; }\ncoupled T { out o; part a: A; link a.y -> self.o; link a.y -> self.o; }\nroot T;\n",
+            horizon: 0,
+            limit: 20,
+            answer: "E14 line 2",
+        }),
+    },
+    Explanation {
+        code: "E16",
+        words: "The root is atomic. Its name behind `root` is named. Put the model into a coupled one, as `coupled Top { part a: A; }`, and let that be the root.",
+        example: Some(Example {
+            model: "atomic A { phases z; start z; hold z: 1; }\nroot A;\n",
+            horizon: 0,
+            limit: 20,
+            answer: "E16 line 2",
+        }),
+    },
+    Explanation {
+        code: "E17",
+        words: "A limit on size is passed. The name that is too many is named, the capacity of a bag, or the root's name; line 1 where the text is too long. A root has at least one component. An atomic model has at most 4,096 ports, 4,096 variables, flags and bags together, and 4,096 phases, and a bag holds 1 to 4,096 numbers; a coupled model has at most 4,096 ports and 4,096 parts; a text 16,777,216 bytes.",
+        example: Some(Example {
+            model: "coupled T { }\nroot T;\n",
+            horizon: 0,
+            limit: 20,
+            answer: "E17 line 2",
+        }),
+    },
+    Explanation {
+        code: "E18",
+        words: "Memory ran out. No place is named. Run it where there is more memory, or run a smaller model. A long run keeps its trace until the end.",
+        example: None,
+    },
+];
+
+/// The faults.
+pub const FAULTS: &[Explanation] = &[
+    Explanation {
+        code: "overflow",
+        words: "A result is outside -2^63..2^63-1. Compute in smaller steps, or keep the numbers in a range.",
+        example: Some(Example {
+            model: "atomic A { out y; phases z; start z; hold z: 1; output z { send y 9223372036854775807 + 1; } }\ncoupled T { part a: A; }\nroot T;\n",
+            horizon: 1,
+            limit: 20,
+            answer: "1.0 a fault overflow\nwhole 1\n",
+        }),
+    },
+    Explanation {
+        code: "divide",
+        words: "A division by 0, or what it leaves. Ask before: `if v != 0 and 9 / v > 2` does not divide where `v` is 0.",
+        example: Some(Example {
+            model: "atomic A { out y; var v: 0..9 = 0; phases z; start z; hold z: 1; output z { send y 1 / v; } }\ncoupled T { part a: A; }\nroot T;\n",
+            horizon: 1,
+            limit: 20,
+            answer: "1.0 a fault divide\nwhole 1\n",
+        }),
+    },
+    Explanation {
+        code: "range",
+        words: "A number that is assigned to a variable is outside its range. Widen the range, or keep the number in it.",
+        example: Some(Example {
+            model: "atomic A { var v: 0..1 = 0; phases z; start z; hold z: 1; internal z { v := v + 1; } }\ncoupled T { part a: A; }\nroot T;\n",
+            horizon: 2,
+            limit: 20,
+            answer: "1.0 a i z v=1\n2.0 a fault range\nwhole 2\n",
+        }),
+    },
+    Explanation {
+        code: "empty",
+        words: "`least` or `most` of a bag that is empty. Ask before: `if size(b) > 0 and least(b) = 1` is false where `b` is empty.",
+        example: Some(Example {
+            model: "atomic A { out y; bag b 1; phases z; start z; hold z: 1; output z { send y least(b); } }\ncoupled T { part a: A; }\nroot T;\n",
+            horizon: 1,
+            limit: 20,
+            answer: "1.0 a fault empty\nwhole 1\n",
+        }),
+    },
+    Explanation {
+        code: "full",
+        words: "An `add` to a bag that holds its capacity. Declare a greater one, or ask for its `size` before.",
+        example: Some(Example {
+            model: "atomic A { bag b 1; phases z; start z; hold z: 1; internal z { add 7 to b; } }\ncoupled T { part a: A; }\nroot T;\n",
+            horizon: 2,
+            limit: 20,
+            answer: "1.0 a i z b=[7]\n2.0 a fault full\nwhole 2\n",
+        }),
+    },
+    Explanation {
+        code: "negative",
+        words: "A hold is below 0. Let the hold be 0 or more.",
+        example: Some(Example {
+            model: "atomic A { var v: -1..1 = 1; phases z; start z; hold z: v; internal z { v := -1; } }\ncoupled T { part a: A; }\nroot T;\n",
+            horizon: 1,
+            limit: 20,
+            answer: "1.0 a fault negative\nwhole 1\n",
+        }),
+    },
+    Explanation {
+        code: "microsteps",
+        words: "A hold of 0 at the last microstep of a tick. Let some hold of the loop be above 0, or give the run more microsteps.",
+        example: Some(Example {
+            model: "atomic A { phases z; start z; hold z: 0; }\ncoupled T { part a: A; }\nroot T;\n",
+            horizon: 0,
+            limit: 3,
+            answer: "0.1 a i z\n0.2 a i z\n0.3 a fault microsteps\nwhole 0\n",
+        }),
+    },
+    Explanation {
+        code: "flood",
+        words: "The 4,097th `send` of one output rule. Send less at one instant.",
+        example: None,
+    },
+];

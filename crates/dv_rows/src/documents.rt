@@ -1,0 +1,35 @@
+//! The examples of the explanations: each has the answer that stands beside it.
+
+use crate::runs::{expect_same, run};
+use dv_explain::{Explanation, FAULTS, REFUSALS};
+use std::process::Abort;
+
+/// Runs the examples, of which there are so many, and fails the test where something else comes of one than its
+/// explanation says, and then how the run ended.
+fn same_examples<R: Abort + AllocGlobal>(
+    rt: &R,
+    explanations: &[Explanation],
+    ending: &str,
+    count: usize,
+) {
+    let mut seen: usize = 0;
+    for explanation in explanations {
+        if let Some(example) = &explanation.example {
+            let got = run(rt, example.model, example.horizon, example.limit);
+            let wanted = format!(in rt.alloc(); "{}{ending}", example.answer).expect(rt, "memory");
+            assert_eq!(rt; got.as_str(), wanted.as_str(), "{}", explanation.code);
+            seen = seen.saturating_add(1);
+        }
+    }
+    expect_same(rt, "examples", seen, count);
+}
+
+#[test]
+fn refusals_are_as_explained(rt: HostRuntime) {
+    same_examples(&rt, REFUSALS, "", 14);
+}
+
+#[test]
+fn faults_are_as_explained(rt: HostRuntime) {
+    same_examples(&rt, FAULTS, "status 3", 7);
+}
