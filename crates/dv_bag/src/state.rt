@@ -53,7 +53,7 @@ impl HeldBag {
     /// The bag.
     pub fn as_bag(&self) -> &Bag
         ensures bag { result.now ≡ self.now }
-        ensures few { total self.now ≤ GREATEST_COUNT }
+        ensures few { total result.now ≤ GREATEST_COUNT }
     {
         self.bag.as_ref()
     }

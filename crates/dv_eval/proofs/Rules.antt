@@ -189,6 +189,15 @@ bind_ok : {A : Type 0} (m : Result A Fault) → (m >>= λ x. Ok x) ≡ m
 bind_ok (Ok x) = refl
 bind_ok (Err f) = refl
 
+pub run-Assign :
+    (scope : Scope) (loops : List (ℕ × ℤ)) (s : Stmt) (e : Effect) (variable : Name) (value : Expr) (v : Value)
+    → s ≡ stmt.Assign variable value → value_within scope loops e (expression_of value) ≡ Ok v
+    → run scope loops (statement_before s Done) e ≡ assignment scope variable.number v e
+run-Assign scope loops s e variable value v is known =
+    ap (λ x. run scope loops (statement_before x Done) e) is
+    ∙ ap (λ m. m >>= λ x. assignment scope variable.number x e >>= λ y. Ok y) known
+    ∙ bind_ok (assignment scope variable.number v e)
+
 module _ (scope : Scope) (loops : List (ℕ × ℤ)) (s : Stmt) (place : ℕ) (e : Effect) where
   pub run-If :
       (condition : Expression) (block : Statements) (v : Value) → statement_before s Done ≡ If place condition block Done

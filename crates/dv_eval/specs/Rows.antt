@@ -1,5 +1,5 @@
--- Bags and loops in worked rows, over a model with a variable tally of the range 0..999, a bag of at most 6 values and an output
--- port.
+-- Bags and loops in worked rows, over a model with a variable tally of the range 0..9999, a bag of at most 6 values and an
+-- output port.
 use Rattle.std.specs.Prelude.{ℕ, ℤ, pos, [], ◌∷◌, None, Result}
 use Rattle.dv_syntax.specs.declared.tree.Name.{Name}
 use Rattle.dv_syntax.specs.declared.tree.BagCall.TheVariants.{Size, Least}
@@ -33,9 +33,9 @@ port = named 2
 abbrev pub item : Name
 item = named 3
 
-abbrev pub with_bag : Scope
-with_bag = record {
-  variables = (0, domain.Number (record { low = pos 0; high = pos 999; start = pos 0 })) ∷ (1, domain.Bag 6) ∷ [];
+abbrev pub tally_and_bag : Scope
+tally_and_bag = record {
+  variables = (0, domain.Number (record { low = pos 0; high = pos 9999; start = pos 0 })) ∷ (1, domain.Bag 6) ∷ [];
   phases = [];
   outputs = 2 ∷ [];
 }
@@ -45,11 +45,11 @@ holding count values = record { phase = 0; variables = datum.Number count ∷ da
 
 -- the value where the bag has such values
 abbrev pub value_with : Counts → Expression → Result Value Fault
-value_with values e = meaning with_bag (moment_in [] (holding (pos 0) values)) e
+value_with values e = meaning tally_and_bag (moment_in [] (holding (pos 0) values)) e
 
 -- the effect where the bag has such values
 abbrev pub effect_with : Counts → Statements → Result Effect Fault
-effect_with values body = effect_of with_bag body (holding (pos 0) values)
+effect_with values body = effect_of tally_and_bag body (holding (pos 0) values)
 
 -- the number and the values after a rule, and what it sent
 abbrev pub left : ℤ → Counts → Counts → Effect
@@ -87,6 +87,6 @@ send_it = Send 1 port (Named item) Done
 abbrev pub add_it : Statements
 add_it = AddTo 1 (Named item) bag Done
 
--- for item in bag { for item in bag { send port item; } }
-abbrev pub twice : Statements
-twice = for_each (for_each send_it)
+-- for item in bag { for item in bag { tally := tally * 10 + item; } }
+abbrev pub nested : Statements
+nested = for_each (for_each next_digit)

@@ -80,7 +80,8 @@ fn datum_of_name<'a>(name: u32, state: &'a State, scope: &Scope) -> Option<Datum
 
 // The bag that a name stands for, if it stands for one.
 pub(crate) fn bag_of_name<'a>(name: u32, moment: &'a Moment, scope: &Scope) -> Option<&'a Bag>
-    ensures bag { unwrap_or (option_copied result) [] ≡ bag_of_name scope.now (moment_of moment.now) name }
+    ensures bag { unwrap_or (option_copied result) []
+        ≡ bag_of_name scope.now (moment_of moment.now) name }
     ensures few { IfSome result (λ bag. total bag.now ≤ GREATEST_COUNT) }
 {
     match datum_of_name(name, moment.state, scope) {

@@ -1,7 +1,7 @@
 //! Laws of the language. Each function stands for the law in its contract; its body does nothing.
 
 ghost use Rattle.std.specs.Prelude.{◌≡◌, true, false, pos, negsuc, [], ◌∷◌, Ok, Err};
-ghost use Rattle.dv_syntax.specs.Trees.{Assign, Binary, Call, Done, Drop, Prefixed, Times};
+ghost use Rattle.dv_syntax.specs.Trees.{Binary, Call, Done, Drop, Prefixed, Times};
 ghost use Rattle.dv_syntax.specs.Trees.{Add as AddTo};
 ghost use Rattle.dv_syntax.specs.declared.tree.BagCall.TheVariants as call;
 ghost use Rattle.dv_syntax.specs.declared.tree.Prefix.TheVariants as prefix;
@@ -9,7 +9,7 @@ ghost use Rattle.dv_syntax.specs.declared.tree.Operator.TheVariants as operator;
 ghost use Rattle.dv_bag.specs.declared.fault.Fault.TheVariants as fault;
 ghost use Rattle.dv_bag.specs.declared.value.Value.TheVariants as outcome;
 ghost use Rattle.dv_eval.specs.Edges.{by_nothing, failing, faulty, greatest, holding, least, minus, number, too_great, value};
-ghost use Rattle.dv_eval.specs.Rows.{add_it, bag, effect_with, for_each, great, least_is_one, left, next_digit, send_it, some_there, twice, two_threes, value_with};
+ghost use Rattle.dv_eval.specs.Rows.{add_it, bag, effect_with, for_each, great, least_is_one, left, nested, next_digit, send_it, some_there, two_threes, value_with};
 
 /// Numbers have 64 bits and a sign. A quotient is rounded towards 0, and a remainder is what the exact quotient
 /// leaves. Of two operands with faults the left one's fault is the expression's.
@@ -45,7 +45,8 @@ pub fn decided_operators_stop_early()
     ensures not_holding { value (Prefixed prefix.Not 1 holding) ≡ Ok (outcome.Truth false) }
 {}
 
-/// A bag's calls count copies. An empty bag has no least value, and asks for none where the left operand decides.
+/// Calls count copies. An empty bag has no least and no greatest value, and none is asked for where the left operand
+/// decides.
 pub fn bags_in_expressions()
     ensures size { value_with two_threes (Call call.Size 1 bag) ≡ Ok (outcome.Number (pos 3)) }
     ensures sum { value_with two_threes (Call call.Sum 1 bag) ≡ Ok (outcome.Number (pos 8)) }
@@ -89,8 +90,8 @@ pub fn loops_walk_bags()
         ≡ Ok (left (pos 233) two_threes []) }
     ensures as_it_stood { effect_with two_threes (for_each add_it)
         ≡ Ok (left (pos 0) ((pos 2, 2) ∷ (pos 3, 4) ∷ []) []) }
-    ensures fault_ends { effect_with ((pos 9, 4) ∷ []) (for_each next_digit) ≡ Err fault.Range }
+    ensures fault_ends { effect_with ((pos 9, 5) ∷ []) (for_each next_digit) ≡ Err fault.Range }
     ensures nothing { effect_with [] (for_each next_digit) ≡ Ok (left (pos 0) [] []) }
-    ensures inner { effect_with two_threes twice
-        ≡ Ok (left (pos 0) two_threes ((pos 2, 3) ∷ (pos 3, 6) ∷ [])) }
+    ensures inner { effect_with ((pos 1, 1) ∷ (pos 2, 1) ∷ []) nested
+        ≡ Ok (left (pos 1212) ((pos 1, 1) ∷ (pos 2, 1) ∷ []) []) }
 {}

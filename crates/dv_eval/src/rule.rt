@@ -1,13 +1,13 @@
 //! What the rules of a phase do.
 
-ghost use Rattle.std.specs.Prelude.{◌≡◌, ◌∷◌, [], option_map, slice_get, unwrap_or, IfOk};
+ghost use Rattle.std.specs.Prelude.{◌≡◌, ◌∷◌, [], slice_get, unwrap_or, IfOk};
 ghost use Rattle.dv_syntax.specs.Trees.{Done, expression_of, statement_before, statements_of};
 ghost use Rattle.dv_bag.specs.Bag.{values_of};
 ghost use Rattle.dv_bag.specs.Outcome.{Gives};
 ghost use Rattle.dv_bag.specs.declared.state.Datum.TheVariants as datum;
 ghost use Rattle.dv_eval.specs.Copies.{repeated};
 ghost use Rattle.dv_eval.specs.Loops.{loops_of};
-ghost use Rattle.dv_eval.specs.Meaning.{addition, addition_to, assignment, assignment_in_range, bag_of_name, capacity_of, effect_of, meaning, moment_in, removal, repetition, run, sending, with_datum, with_goto, with_state};
+ghost use Rattle.dv_eval.specs.Meaning.{addition, addition_to, assignment, assignment_in_range, bag_of_name, effect_of, meaning, moment_in, removal, repetition, run, sending, with_datum, with_goto, with_state};
 
 use crate::expression::{bag_of_name, eval, number_of, truth_of};
 use crate::moment::{Loops, Moment};
@@ -70,7 +70,7 @@ fn run_statement(
     match statement {
         Stmt::Assign { variable, value } => {
             let value = value_of(value, &effect.state, loops, scope)?;
-            assign(variable.number, value, scope, effect).map_err(RuleError::Fault)
+            assign(variable.number, value, scope, effect)
         }
         Stmt::Goto { phase, .. } => Ok(with_goto(scope.phase(phase.number), effect)),
         Stmt::Send { port, value, .. } => {
@@ -201,8 +201,8 @@ fn value_of(
 }
 
 // A value assigned to a variable or a flag.
-fn assign(name: u32, value: Value, scope: &Scope, effect: Effect) -> Result<Effect, Fault>
-    ensures { result ≡ assignment scope.now name value effect }
+fn assign(name: u32, value: Value, scope: &Scope, effect: Effect) -> Result<Effect, RuleError>
+    ensures { Gives result (assignment scope.now name value effect) }
 {
     let Some(place) = scope.variable(name) else {
         return Ok(effect);
@@ -221,11 +221,11 @@ fn assign_number(
     place: usize,
     number: i64,
     mut effect: Effect,
-) -> Result<Effect, Fault>
-    ensures { result ≡ assignment_in_range range place number effect }
+) -> Result<Effect, RuleError>
+    ensures { Gives result (assignment_in_range range place number effect) }
 {
     if number < range.low || range.high < number {
-        return Err(Fault::Range);
+        return Err(RuleError::Fault(Fault::Range));
     }
     if place < effect.state.variables.len() {
         effect.state.variables.set_number(place, number);

@@ -7,7 +7,7 @@ use Rattle.dv_bag.specs.Outcome.{Fails, Gives}
 use Rattle.dv_eval.specs.Copies.{repeated}
 use Rattle.dv_eval.specs.Loops.{loops_of}
 use Rattle.dv_eval.specs.Meaning.{addition, bag_of_name, moment_in, repetition, run}
-use Rattle.dv_eval.proofs.Rules.{run-drop_ok, run-drop_err, run-If, run-IfElse, run-For, run-Add, repeated_fails, repeated_next, repetition_fails, repetition_next}
+use Rattle.dv_eval.proofs.Rules.{run-drop_ok, run-drop_err, run-If, run-IfElse, run-For, run-Assign, run-Add, repeated_fails, repeated_next, repetition_fails, repetition_next}
 use Rattle.dv_eval.proofs.rule.+run.Goals as goal
 
 pub run-returns-in_err-effect : goal.run-returns-in_err-effect
@@ -134,3 +134,10 @@ run_statement-returns-in_ok-value-in-Add t c =
     let whole = run-Add c.args.scope.now (loops_of c.args.loops.now) c.args.statement.now c.in-Add.place c.args.effect c.in-Add.value b
     value.value c.in-Add.is value.ensures in
     subst (Gives c.add.result) (added ∙ sym whole) c.add.ensures
+
+pub run_statement-returns-in_ok-value-in-Assign : goal.run_statement-returns-in_ok-value-in-Assign
+run_statement-returns-in_ok-value-in-Assign t c =
+    let value = c.in_ok-value-in-Assign in
+    let whole = run-Assign c.args.scope.now (loops_of c.args.loops.now) c.args.statement.now c.args.effect c.in-Assign.variable
+    c.in-Assign.value value.value c.in-Assign.is value.ensures in
+    subst (Gives c.assign.result) (sym whole) c.assign.ensures
