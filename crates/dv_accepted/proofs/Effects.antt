@@ -15,7 +15,7 @@ use Rattle.dv_bag.specs.declared.value.Value.{Value}
 use Rattle.dv_eval.specs.declared.scope.Domain.{Domain}
 use Rattle.dv_eval.specs.declared.scope.Domain.TheVariants as domain
 use Rattle.dv_eval.specs.Scope.{Scope, names_of, place_of}
-use Rattle.dv_eval.specs.Meaning.{addition, addition_at, addition_to, assignment, assignment_at, assignment_in_domain, assignment_to, bag_of_name, capacity_of, effect_of, is_full, is_within, moment_in, number_of, removal_at, removal_from, repetition, run, sending, truth_of, value_within, with_bag, with_datum, with_goto, with_state, with_value_at}
+use Rattle.dv_eval.specs.Meaning.{Arrivals, Context, addition, addition_at, addition_to, assignment, assignment_at, assignment_in_domain, assignment_to, bag_of_name, capacity_of, effect_of, in_loop, is_full, is_within, moment_in, number_of, outermost, removal_at, removal_from, repetition, run, sending, truth_of, value_within, with_bag, with_datum, with_goto, with_state, with_value_at}
 use Rattle.dv_accepted.specs.Fitting.{data_fit, datum_fits, fits_in, in_phase, LeadsToPhase}
 use Rattle.dv_accepted.proofs.Fitting.{and_true, both_true, found_within}
 use Rattle.dv_accepted.proofs.Bags.{less_fits, more_fits}
@@ -188,61 +188,64 @@ module _ (scope : Scope) where
       let first = gave (step n e) (repetition step ns) next is in
       walk_fits step ns first.value next keeps (keeps n e first.value fit first.first) first.then_
 
-  run_fits : (loops : List (ℕ × ℤ)) (body : Statements) (e next : Effect) → Fits scope e
-      → run scope loops body e ≡ Ok next → Fits scope next
-  run_fits loops Done e next fit is = same_fits e next fit is
-  run_fits loops (Assign variable value rest) e next fit is =
-      let first = gave (value_within scope loops e value) (λ v. assignment scope variable.number v e >>= run scope loops rest) next is in
-      let second = gave (assignment scope variable.number first.value e) (run scope loops rest) next first.then_ in
+  run_fits : (context : Context) (body : Statements) (e next : Effect) → Fits scope e
+      → run scope context body e ≡ Ok next → Fits scope next
+  run_fits context Done e next fit is = same_fits e next fit is
+  run_fits context (Assign variable value rest) e next fit is =
+      let assign = λ (v : Value). assignment scope variable.number v e >>= run scope context rest in
+      let first = gave (value_within scope context e value) assign next is in
+      let second = gave (assignment scope variable.number first.value e) (run scope context rest) next first.then_ in
       let assigned = assignment_at_fits (place_of variable.number (names_of scope.variables)) first.value e second.value fit second.first in
-      run_fits loops rest second.value next assigned second.then_
-  run_fits loops (Goto place phase rest) e next fit is =
-      run_fits loops rest _ next (goto_fits (place_of phase.number scope.phases) phase.number e refl fit) is
-  run_fits loops (Send place port value rest) e next fit is =
-      let first = gave (value_within scope loops e value) (λ v. sending scope port.number v e >>= run scope loops rest) next is in
-      let second = gave (sending scope port.number first.value e) (run scope loops rest) next first.then_ in
+      run_fits context rest second.value next assigned second.then_
+  run_fits context (Goto place phase rest) e next fit is =
+      run_fits context rest _ next (goto_fits (place_of phase.number scope.phases) phase.number e refl fit) is
+  run_fits context (Send place port value rest) e next fit is =
+      let first = gave (value_within scope context e value) (λ v. sending scope port.number v e >>= run scope context rest) next is in
+      let second = gave (sending scope port.number first.value e) (run scope context rest) next first.then_ in
       let sent = sending_fits _ (place_of port.number scope.outputs) (number_of first.value) e second.value fit second.first in
-      run_fits loops rest second.value next sent second.then_
-  run_fits loops (If place condition block rest) e next fit is =
-      let after = λ (b : Bool). if b then run scope loops block e else Ok e in
-      let first = gave (value_within scope loops e condition) (λ v. after (truth_of v) >>= run scope loops rest) next is in
-      let second = gave (after (truth_of first.value)) (run scope loops rest) next first.then_ in
-      let inside = run_fits loops block e second.value fit in
+      run_fits context rest second.value next sent second.then_
+  run_fits context (If place condition block rest) e next fit is =
+      let after = λ (b : Bool). if b then run scope context block e else Ok e in
+      let first = gave (value_within scope context e condition) (λ v. after (truth_of v) >>= run scope context rest) next is in
+      let second = gave (after (truth_of first.value)) (run scope context rest) next first.then_ in
+      let inside = run_fits context block e second.value fit in
       let past = same_fits e second.value fit in
-      let run_on = branch_fits (truth_of first.value) (run scope loops block e) (Ok e) second.value inside past second.first in
-      run_fits loops rest second.value next run_on second.then_
-  run_fits loops (IfElse place condition block other rest) e next fit is =
-      let after = λ (b : Bool). if b then run scope loops block e else run scope loops other e in
-      let first = gave (value_within scope loops e condition) (λ v. after (truth_of v) >>= run scope loops rest) next is in
-      let second = gave (after (truth_of first.value)) (run scope loops rest) next first.then_ in
-      let one = run scope loops block e in
-      let two = run scope loops other e in
-      let in_one = run_fits loops block e second.value fit in
-      let in_two = run_fits loops other e second.value fit in
+      let run_on = branch_fits (truth_of first.value) (run scope context block e) (Ok e) second.value inside past second.first in
+      run_fits context rest second.value next run_on second.then_
+  run_fits context (IfElse place condition block other rest) e next fit is =
+      let after = λ (b : Bool). if b then run scope context block e else run scope context other e in
+      let first = gave (value_within scope context e condition) (λ v. after (truth_of v) >>= run scope context rest) next is in
+      let second = gave (after (truth_of first.value)) (run scope context rest) next first.then_ in
+      let one = run scope context block e in
+      let two = run scope context other e in
+      let in_one = run_fits context block e second.value fit in
+      let in_two = run_fits context other e second.value fit in
       let run_on = branch_fits (truth_of first.value) one two second.value in_one in_two second.first in
-      run_fits loops rest second.value next run_on second.then_
-  run_fits loops (For place v b block rest) e next fit is =
-      let step = λ (n : ℤ). run scope ((v.number, n) ∷ loops) block in
-      let values = values_of (bag_of_name scope (moment_in loops e.state) b.number) in
-      let walk = gave (repetition step values e) (run scope loops rest) next is in
-      let walked = walk_fits step values e walk.value (λ n now later. run_fits ((v.number, n) ∷ loops) block now later) fit walk.first in
-      run_fits loops rest walk.value next walked walk.then_
-  run_fits loops (Add place value b rest) e next fit is =
-      let first = gave (value_within scope loops e value) (λ v. addition scope b.number (number_of v) e >>= run scope loops rest) next is in
-      let second = gave (addition scope b.number (number_of first.value) e) (run scope loops rest) next first.then_ in
+      run_fits context rest second.value next run_on second.then_
+  run_fits context (For place v b block rest) e next fit is =
+      let step = λ (n : ℤ). run scope (in_loop (v.number, n) context) block in
+      let values = values_of (bag_of_name scope (moment_in context e.state) b.number) in
+      let walk = gave (repetition step values e) (run scope context rest) next is in
+      let keeps = λ (n : ℤ) (now later : Effect). run_fits (in_loop (v.number, n) context) block now later in
+      let walked = walk_fits step values e walk.value keeps fit walk.first in
+      run_fits context rest walk.value next walked walk.then_
+  run_fits context (Add place value b rest) e next fit is =
+      let add = λ (v : Value). addition scope b.number (number_of v) e >>= run scope context rest in
+      let first = gave (value_within scope context e value) add next is in
+      let second = gave (addition scope b.number (number_of first.value) e) (run scope context rest) next first.then_ in
       let added = addition_at_fits (place_of b.number (names_of scope.variables)) (number_of first.value) e second.value fit second.first in
-      run_fits loops rest second.value next added second.then_
-  run_fits loops (Drop place value b rest) e next fit is =
+      run_fits context rest second.value next added second.then_
+  run_fits context (Drop place value b rest) e next fit is =
       let dropped = λ (v : Value). removal_at (place_of b.number (names_of scope.variables)) (number_of v) e in
-      let first = gave (value_within scope loops e value) (λ v. run scope loops rest (dropped v)) next is in
+      let first = gave (value_within scope context e value) (λ v. run scope context rest (dropped v)) next is in
       let remaining = removal_at_fits (place_of b.number (names_of scope.variables)) (number_of first.value) e fit in
-      run_fits loops rest (dropped first.value) next remaining first.then_
+      run_fits context rest (dropped first.value) next remaining first.then_
 
-  pub effect_fits : (body : Statements) (s : State) (next : Effect) → fits_in scope s ≡ true
-      → effect_of scope body s ≡ Ok next → Fits scope next
-  effect_fits body s next fit is =
+  pub effect_fits : (body : Statements) (arrivals : Arrivals) (s : State) (next : Effect) → fits_in scope s ≡ true
+      → effect_of scope body arrivals s ≡ Ok next → Fits scope next
+  effect_fits body arrivals s next fit is =
       let start : Effect = record { state = s; sent = replicate (length scope.outputs) []; goto = None } in
-      run_fits [] body start next (record { state = fit; goto = tt }) is
+      run_fits (outermost arrivals) body start next (record { state = fit; goto = tt }) is
 
   pub phase_fits : (s : State) (place : ℕ) → fits_in scope s ≡ true → place < length scope.phases → fits_in scope (in_phase s place) ≡ true
   phase_fits s place fit within =

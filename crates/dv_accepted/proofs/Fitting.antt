@@ -5,7 +5,7 @@ use Rattle.std.proofs.lemmas.Bool.{lt-ltb}
 use Rattle.std.proofs.lemmas.Bool.Decides.{nat_tests}
 use Rattle.dv_syntax.specs.declared.tree.Name.{Name}
 use Rattle.dv_syntax.specs.declared.tree.Declaration.{Declaration}
-use Rattle.dv_syntax.specs.declared.tree.Declaration.TheVariants.{Out, Var, Flag, Bag}
+use Rattle.dv_syntax.specs.declared.tree.Declaration.TheVariants.{In, Out, Var, Flag, Bag}
 use Rattle.dv_syntax.specs.declared.tree.Start.{Start}
 use Rattle.dv_syntax.specs.Trees.{AtomicTree}
 use Rattle.dv_bag.specs.declared.TheConstants.{GREATEST_COUNT}
@@ -94,6 +94,7 @@ empty_bag_fits capacity e = and_true (nat_le 0 capacity) (nat_le capacity GREATE
 starts_fit : (ds : List Declaration) (entries : List (ℕ × Domain)) → flat_map declaration_refusals ds ≡ [] → data_fit entries (start_data entries) ≡ true
     → data_fit (with_variables entries (state_variables_in ds)) (start_data (with_variables entries (state_variables_in ds))) ≡ true
 starts_fit [] entries none e = e
+starts_fit (In port ∷ ds) entries none e = starts_fit ds entries none e
 starts_fit (Out port ∷ ds) entries none e = starts_fit ds entries none e
 starts_fit (Var v ∷ ds) entries none e =
     let both = both_nil (variable_refusals v) (flat_map declaration_refusals ds) none in

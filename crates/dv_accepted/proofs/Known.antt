@@ -6,25 +6,25 @@ use Rattle.std.specs.Option.{option_or}
 use Rattle.std.proofs.lemmas.List.Elements.{All-from_recursion}
 use Rattle.dv_syntax.specs.declared.tree.Name.{Name}
 use Rattle.dv_syntax.specs.declared.tree.Declaration.{Declaration}
-use Rattle.dv_syntax.specs.declared.tree.Declaration.TheVariants.{Out, Var, Flag, Bag}
+use Rattle.dv_syntax.specs.declared.tree.Declaration.TheVariants.{In, Out, Var, Flag, Bag}
 use Rattle.dv_syntax.specs.declared.tree.RuleSort.{RuleSort}
-use Rattle.dv_syntax.specs.Trees.{AtomicTree, HoldTree, RuleTree, Expression, Literal, TruthValue, Named, Parens, Prefixed, Binary, Call, Times, Statements, Done, Assign, Goto, Send, If, IfElse, For, Add, Drop}
+use Rattle.dv_syntax.specs.Trees.{AtomicTree, HoldTree, RuleTree, Expression, Literal, TruthValue, Named, Parens, Prefixed, Binary, Call, Elapsed, Times, Statements, Done, Assign, Goto, Send, If, IfElse, For, Add, Drop}
 use Rattle.dv_bag.specs.declared.state.Datum.{Datum}
 use Rattle.dv_bag.specs.declared.state.State.{State}
 use Rattle.dv_eval.specs.declared.scope.Domain.{Domain}
 use Rattle.dv_eval.specs.declared.scope.Domain.TheVariants as domain
 use Rattle.dv_eval.specs.Scope.{Scope, is_declared, names_of, phases_in, place_from, place_of, range_of, scope_of, state_variables_in, with_variable, with_variables}
 use Rattle.dv_check.specs.declared.declarations.NameSort.{NameSort}
-use Rattle.dv_check.specs.declared.declarations.NameSort.TheVariants.{Variable as ForVariable, Flag as ForFlag, Bag as ForBag, Output as ForOutput, LoopVariable as ForLoopVariable}
+use Rattle.dv_check.specs.declared.declarations.NameSort.TheVariants.{Variable as ForVariable, Flag as ForFlag, Bag as ForBag, Input as ForInput, Output as ForOutput, LoopVariable as ForLoopVariable}
 use Rattle.dv_check.specs.declared.expression.ValueType.{ValueType}
 use Rattle.dv_check.specs.declared.expression.ValueType.TheVariants.{Number, Truth}
 use Rattle.dv_check.specs.Tables.{first_of}
-use Rattle.dv_check.specs.Types.{bag_name_refusals, expression_refusals, first_place, operand_refusals, place_refusals, type_of, type_of_name, type_of_prefix, type_refusals, value_name_refusals, value_refusals, is_bag as is_bag_sort}
-use Rattle.dv_check.specs.Rules.{Known, atomic_refusals, assignment_refusals, change_refusals, domain_of_state_variable, hold_refusals, known_in, known_in_loop, loop_variable_refusals, number_of_state_variable, phase_refusals, rule_refusals, sent_port_refusals, sort_in, statements_refusals, ticks_refusals}
-use Rattle.dv_check.specs.Couplings.{is_output}
-use Rattle.dv_accepted.specs.Fitting.{are_names_known, are_terms_known, are_ticks_known, data_fit, datum_fits, domain_at, domain_named, fits_in, has_value, has_values, HoldsDatum, is_assignable, is_bag, is_value, is_variable}
+use Rattle.dv_check.specs.Types.{Known, bag_name_refusals, expression_refusals, first_place, operand_refusals, place_refusals, sees_inputs, type_of, type_of_name, type_of_prefix, type_refusals, value_name_refusals, value_refusals, is_bag as is_bag_sort}
+use Rattle.dv_check.specs.Rules.{atomic_refusals, assignment_refusals, change_refusals, changed_bag_refusals, domain_of_state_variable, hold_refusals, known_in, known_in_loop, known_in_rule, loop_variable_refusals, number_of_state_variable, phase_refusals, rule_refusals, sent_port_refusals, sort_in, statements_refusals, ticks_refusals}
+use Rattle.dv_check.specs.Couplings.{is_input, is_output}
+use Rattle.dv_accepted.specs.Fitting.{are_names_known, are_terms_known, are_ticks_known, data_fit, datum_fits, domain_at, domain_named, fits_in, has_value, has_values, HoldsDatum, is_assignable, is_bag, is_readable, is_value, is_variable}
 use Rattle.dv_check.proofs.Accepted.{both_nil, not_refused, not_false}
-use Rattle.dv_check.proofs.Declared.{output_declared, same_declared}
+use Rattle.dv_check.proofs.Declared.{input_declared, output_declared, same_declared}
 use Rattle.dv_check.proofs.Firsts.{first_of_push}
 use Rattle.dv_accepted.proofs.Fitting.{among_declared, and_true, both_true, parts_of_none}
 
@@ -35,7 +35,7 @@ abbrev pub entry_in : List (ℕ × Domain) → ℕ → Option Domain
 entry_in entries q = first_of (λ (e : ℕ × Domain). e.0) (λ (e : ℕ × Domain). e.1) entries q
 
 -- what the first declaration of a name says that a variable or a flag may hold
-abbrev declared_in : List (Name × Domain) → ℕ → Option Domain
+abbrev pub declared_in : List (Name × Domain) → ℕ → Option Domain
 declared_in vs q = first_of number_of_state_variable domain_of_state_variable vs q
 
 or_none : {A : Type 0} (o : Option A) → o ≡ option_or o None
@@ -56,7 +56,7 @@ declared_if : (b : Bool) (d : Domain) (o : Option Domain) (rest : Bool) → rest
 declared_if true d o rest e = refl
 declared_if false d o rest e = e
 
-declared_entry : (entries : List (ℕ × Domain)) (q : ℕ) → is_declared q (names_of entries) ≡ is_some (entry_in entries q)
+pub declared_entry : (entries : List (ℕ × Domain)) (q : ℕ) → is_declared q (names_of entries) ≡ is_some (entry_in entries q)
 unfolding first_of
 declared_entry [] q = refl
 declared_entry (e ∷ entries) q = declared_if (e.0 == q) e.1 (entry_in entries q) (is_declared q (names_of entries)) (declared_entry entries q)
@@ -74,7 +74,8 @@ with_variable_entry_if true q v entries there = kept_if (v.0.number == q) q v.0.
 with_variable_entry_if false q v entries new = first_of_push (λ (e : ℕ × Domain). e.0) (λ (e : ℕ × Domain). e.1) entries (v.0.number, v.1) q
 
 -- the entries are the first declarations
-with_variables_entry : (q : ℕ) (vs : List (Name × Domain)) (entries : List (ℕ × Domain)) → entry_in (with_variables entries vs) q ≡ option_or (entry_in entries q) (declared_in vs q)
+pub with_variables_entry : (q : ℕ) (vs : List (Name × Domain)) (entries : List (ℕ × Domain))
+    → entry_in (with_variables entries vs) q ≡ option_or (entry_in entries q) (declared_in vs q)
 unfolding first_of
 with_variables_entry q [] entries = or_none (entry_in entries q)
 with_variables_entry q (v ∷ vs) entries =
@@ -88,6 +89,7 @@ is_stored None = false
 is_stored (Some ForVariable) = true
 is_stored (Some ForFlag) = true
 is_stored (Some ForBag) = true
+is_stored (Some ForInput) = false
 is_stored (Some ForOutput) = false
 is_stored (Some ForLoopVariable) = false
 
@@ -102,16 +104,20 @@ sorted_if : (b : Bool) (d : Domain) (sort : NameSort) (found : Option Domain) (r
 sorted_if true d sort found rest is e later = ap (λ x. Some x) is
 sorted_if false d sort found rest is e later = later e
 
-not_output_if : (b : Bool) (found : Option Domain) (rest : Option NameSort) → is_stored (if b then Some ForOutput else rest) ≡ true
-    → (is_stored rest ≡ true → option_map sort_of_domain found ≡ rest) → option_map sort_of_domain found ≡ (if b then Some ForOutput else rest)
-not_output_if true found rest e later = absurd (cc)
-not_output_if false found rest e later = later e
+port_if : (b : Bool) (sort : NameSort) (found : Option Domain) (rest : Option NameSort) → is_stored (Some sort) ≡ false
+    → is_stored (if b then Some sort else rest) ≡ true → (is_stored rest ≡ true → option_map sort_of_domain found ≡ rest)
+    → option_map sort_of_domain found ≡ (if b then Some sort else rest)
+port_if true sort found rest other e later = absurd (cc)
+port_if false sort found rest other e later = later e
 
 -- the first declaration of a name of a variable, a flag or a bag is that of its domain
 declared_sort : (q : ℕ) (ds : List Declaration) → is_stored (sort_in ds q) ≡ true → option_map sort_of_domain (declared_in (state_variables_in ds) q) ≡ sort_in ds q
 unfolding first_of
 declared_sort q [] e = absurd (cc)
-declared_sort q (Out port ∷ ds) e = not_output_if (port.number == q) (declared_in (state_variables_in ds) q) _ e (declared_sort q ds)
+declared_sort q (In port ∷ ds) e =
+    port_if (port.number == q) ForInput (declared_in (state_variables_in ds) q) _ refl e (declared_sort q ds)
+declared_sort q (Out port ∷ ds) e =
+    port_if (port.number == q) ForOutput (declared_in (state_variables_in ds) q) _ refl e (declared_sort q ds)
 declared_sort q (Var v ∷ ds) e =
     sorted_if (v.name.number == q) (domain.Number (range_of v)) ForVariable (declared_in (state_variables_in ds) q) _ refl e (declared_sort q ds)
 declared_sort q (Flag f ∷ ds) e =
@@ -178,6 +184,7 @@ is_value_sort None = false
 is_value_sort (Some ForVariable) = true
 is_value_sort (Some ForFlag) = true
 is_value_sort (Some ForBag) = false
+is_value_sort (Some ForInput) = false
 is_value_sort (Some ForOutput) = false
 is_value_sort (Some ForLoopVariable) = true
 
@@ -186,22 +193,35 @@ is_variable_sort None = false
 is_variable_sort (Some ForVariable) = true
 is_variable_sort (Some ForFlag) = true
 is_variable_sort (Some ForBag) = false
+is_variable_sort (Some ForInput) = false
 is_variable_sort (Some ForOutput) = false
 is_variable_sort (Some ForLoopVariable) = false
+
+-- a state bag
+abbrev is_state_bag : Option NameSort → Bool
+is_state_bag None = false
+is_state_bag (Some ForVariable) = false
+is_state_bag (Some ForFlag) = false
+is_state_bag (Some ForBag) = true
+is_state_bag (Some ForInput) = false
+is_state_bag (Some ForOutput) = false
+is_state_bag (Some ForLoopVariable) = false
 
 variable_stored : (o : Option NameSort) → is_variable_sort o ≡ true → is_stored o ≡ true
 variable_stored None e = absurd (cc)
 variable_stored (Some ForVariable) e = refl
 variable_stored (Some ForFlag) e = refl
 variable_stored (Some ForBag) e = absurd (cc)
+variable_stored (Some ForInput) e = absurd (cc)
 variable_stored (Some ForOutput) e = absurd (cc)
 variable_stored (Some ForLoopVariable) e = absurd (cc)
 
-bag_stored : (o : Option NameSort) → is_bag_sort o ≡ true → is_stored o ≡ true
+bag_stored : (o : Option NameSort) → is_state_bag o ≡ true → is_stored o ≡ true
 bag_stored None e = absurd (cc)
 bag_stored (Some ForVariable) e = absurd (cc)
 bag_stored (Some ForFlag) e = absurd (cc)
 bag_stored (Some ForBag) e = refl
+bag_stored (Some ForInput) e = absurd (cc)
 bag_stored (Some ForOutput) e = absurd (cc)
 bag_stored (Some ForLoopVariable) e = absurd (cc)
 
@@ -210,7 +230,7 @@ value_domain (domain.Number range) = refl
 value_domain (domain.Flag start) = refl
 value_domain (domain.Bag capacity) = refl
 
-bag_domain : (d : Domain) → is_bag_sort (Some (sort_of_domain d)) ≡ has_values (Some d)
+bag_domain : (d : Domain) → is_state_bag (Some (sort_of_domain d)) ≡ has_values (Some d)
 bag_domain (domain.Number range) = refl
 bag_domain (domain.Flag start) = refl
 bag_domain (domain.Bag capacity) = refl
@@ -221,6 +241,7 @@ is_of_loop None = false
 is_of_loop (Some ForVariable) = false
 is_of_loop (Some ForFlag) = false
 is_of_loop (Some ForBag) = false
+is_of_loop (Some ForInput) = false
 is_of_loop (Some ForOutput) = false
 is_of_loop (Some ForLoopVariable) = true
 
@@ -231,6 +252,7 @@ of_no_loop_if false sort o here later = later
 pub of_no_loop : (q : ℕ) (ds : List Declaration) → is_of_loop (sort_in ds q) ≡ false
 unfolding first_of
 of_no_loop q [] = refl
+of_no_loop q (In port ∷ ds) = of_no_loop_if (port.number == q) ForInput (sort_in ds q) refl (of_no_loop q ds)
 of_no_loop q (Out port ∷ ds) = of_no_loop_if (port.number == q) ForOutput (sort_in ds q) refl (of_no_loop q ds)
 of_no_loop q (Var v ∷ ds) = of_no_loop_if (v.name.number == q) ForVariable (sort_in ds q) refl (of_no_loop q ds)
 of_no_loop q (Flag f ∷ ds) = of_no_loop_if (f.name.number == q) ForFlag (sort_in ds q) refl (of_no_loop q ds)
@@ -241,6 +263,7 @@ value_outside None outside e = absurd (cc)
 value_outside (Some ForVariable) outside e = refl
 value_outside (Some ForFlag) outside e = refl
 value_outside (Some ForBag) outside e = absurd (cc)
+value_outside (Some ForInput) outside e = absurd (cc)
 value_outside (Some ForOutput) outside e = absurd (cc)
 value_outside (Some ForLoopVariable) outside e = absurd (cc)
 
@@ -248,9 +271,14 @@ value_outside (Some ForLoopVariable) outside e = absurd (cc)
 record Knows (m : AtomicTree) (loops : List ℕ) (known : Known) : Type 0 where
   value : (q : ℕ) → is_value_sort (known.sort q) ≡ true → is_value (scope_of m) loops q ≡ true
   variable : (q : ℕ) → is_variable_sort (known.sort q) ≡ true → is_assignable (scope_of m) loops q ≡ true
-  bag : (q : ℕ) → is_bag_sort (known.sort q) ≡ true → is_bag (scope_of m) q ≡ true
+  bag : (q : ℕ) → is_state_bag (known.sort q) ≡ true → is_bag (scope_of m) q ≡ true
+  readable : (q : ℕ) → is_bag_sort known.rule (known.sort q) ≡ true → is_readable (scope_of m) known.rule q ≡ true
   output : (q : ℕ) → is_output (known.sort q) ≡ true → is_declared q (scope_of m).outputs ≡ true
   phase : (q : ℕ) → known.has_phase q ≡ true → is_declared q (scope_of m).phases ≡ true
+
+pub or_second : (a b : Bool) → b ≡ true → (a || b) ≡ true
+or_second true b e = refl
+or_second false b e = e
 
 module _ (m : AtomicTree) (q : ℕ) where
   variable_there : is_variable_sort (sort_in m.declarations q) ≡ true → is_variable (scope_of m) q ≡ true
@@ -258,17 +286,31 @@ module _ (m : AtomicTree) (q : ℕ) where
       let h = sort_named m q (variable_stored (sort_in m.declarations q) e) in
       ap has_value h.1 ∙ (sym (value_domain h.0) ∙ (ap is_variable_sort h.2 ∙ e))
 
-  bag_there : is_bag_sort (sort_in m.declarations q) ≡ true → is_bag (scope_of m) q ≡ true
+  bag_there : is_state_bag (sort_in m.declarations q) ≡ true → is_bag (scope_of m) q ≡ true
   bag_there e =
       let h = sort_named m q (bag_stored (sort_in m.declarations q) e) in
-      ap has_values h.1 ∙ (sym (bag_domain h.0) ∙ (ap is_bag_sort h.2 ∙ e))
+      ap has_values h.1 ∙ (sym (bag_domain h.0) ∙ (ap is_state_bag h.2 ∙ e))
+
+  readable_as : (rule : Option RuleSort) (o : Option NameSort) → sort_in m.declarations q ≡ o → is_bag_sort rule o ≡ true
+      → is_readable (scope_of m) rule q ≡ true
+  readable_as rule None sort e = absurd (cc)
+  readable_as rule (Some ForVariable) sort e = absurd (cc)
+  readable_as rule (Some ForFlag) sort e = absurd (cc)
+  readable_as rule (Some ForBag) sort e =
+      let bag = bag_there (ap is_state_bag sort) in
+      rw bag refl
+  readable_as rule (Some ForInput) sort e =
+      or_second (is_bag (scope_of m) q) _ (and_true (sees_inputs rule) _ e (input_declared q m.declarations [] (ap is_input sort)))
+  readable_as rule (Some ForOutput) sort e = absurd (cc)
+  readable_as rule (Some ForLoopVariable) sort e = absurd (cc)
 
 -- outside of all loops
-knows_outside : (m : AtomicTree) → Knows m [] (known_in m)
-knows_outside m = record {
+knows_outside : (m : AtomicTree) (rule : Option RuleSort) → Knows m [] (known_in_rule rule (known_in m))
+knows_outside m rule = record {
   value = λ q e. variable_there m q (value_outside (sort_in m.declarations q) (of_no_loop q m.declarations) e);
   variable = λ q e. and_true (is_variable (scope_of m) q) true (variable_there m q e) refl;
   bag = λ q e. bag_there m q e;
+  readable = λ q e. readable_as m q rule (sort_in m.declarations q) refl e;
   output = λ q e. output_declared q m.declarations [] e;
   phase = λ q e. among_declared q (phases_in m.phases) e;
 }
@@ -284,22 +326,20 @@ variable_if : (b : Bool) (o : Option NameSort) (around declared : Bool) → is_v
 variable_if true o around declared e later = absurd (cc)
 variable_if false o around declared e later = later e
 
-bag_if : (b : Bool) (o : Option NameSort) (declared : Bool) → is_bag_sort (if b then Some ForLoopVariable else o) ≡ true
-    → (is_bag_sort o ≡ true → declared ≡ true) → declared ≡ true
-bag_if true o declared e later = absurd (cc)
-bag_if false o declared e later = later e
-
-output_if : (b : Bool) (o : Option NameSort) (declared : Bool) → is_output (if b then Some ForLoopVariable else o) ≡ true
-    → (is_output o ≡ true → declared ≡ true) → declared ≡ true
-output_if true o declared e later = absurd (cc)
-output_if false o declared e later = later e
+-- what no loop variable is
+unless_loop : (is : Option NameSort → Bool) (b : Bool) (o : Option NameSort) (there : Bool) → is (Some ForLoopVariable) ≡ false
+    → is (if b then Some ForLoopVariable else o) ≡ true → (is o ≡ true → there ≡ true) → there ≡ true
+unless_loop is true o there other e later = absurd (cc)
+unless_loop is false o there other e later = later e
 
 knows_inside : (m : AtomicTree) (loops : List ℕ) (known : Known) (v : Name) → Knows m loops known → Knows m (v.number ∷ loops) (known_in_loop v known)
 knows_inside m loops known v k = record {
   value = λ q e. value_if (v.number == q) (known.sort q) (is_declared q loops) (is_variable (scope_of m) q) e (k.value q);
   variable = λ q e. variable_if (v.number == q) (known.sort q) (is_declared q loops) (is_variable (scope_of m) q) e (k.variable q);
-  bag = λ q e. bag_if (v.number == q) (known.sort q) (is_bag (scope_of m) q) e (k.bag q);
-  output = λ q e. output_if (v.number == q) (known.sort q) (is_declared q (scope_of m).outputs) e (k.output q);
+  bag = λ q e. unless_loop is_state_bag (v.number == q) (known.sort q) (is_bag (scope_of m) q) refl e (k.bag q);
+  readable = λ q e.
+      unless_loop (is_bag_sort known.rule) (v.number == q) (known.sort q) (is_readable (scope_of m) known.rule q) refl e (k.readable q);
+  output = λ q e. unless_loop is_output (v.number == q) (known.sort q) (is_declared q (scope_of m).outputs) refl e (k.output q);
   phase = k.phase;
 }
 
@@ -310,57 +350,75 @@ value_name_known None place e = absurd (cc)
 value_name_known (Some ForVariable) place e = refl
 value_name_known (Some ForFlag) place e = refl
 value_name_known (Some ForBag) place e = absurd (cc)
+value_name_known (Some ForInput) place e = absurd (cc)
 value_name_known (Some ForOutput) place e = absurd (cc)
 value_name_known (Some ForLoopVariable) place e = refl
 
-pub bag_name_known : (o : Option NameSort) (place : ℕ) → bag_name_refusals o place ≡ [] → is_bag_sort o ≡ true
-bag_name_known None place e = absurd (cc)
-bag_name_known (Some ForVariable) place e = absurd (cc)
-bag_name_known (Some ForFlag) place e = absurd (cc)
-bag_name_known (Some ForBag) place e = refl
-bag_name_known (Some ForOutput) place e = absurd (cc)
-bag_name_known (Some ForLoopVariable) place e = absurd (cc)
+pub bag_name_known : (rule : Option RuleSort) (o : Option NameSort) (place : ℕ) → bag_name_refusals rule o place ≡ []
+    → is_bag_sort rule o ≡ true
+bag_name_known rule None place e = absurd (cc)
+bag_name_known rule (Some ForVariable) place e = absurd (cc)
+bag_name_known rule (Some ForFlag) place e = absurd (cc)
+bag_name_known rule (Some ForBag) place e = refl
+bag_name_known rule (Some ForInput) place e = not_false (sees_inputs rule) (not_refused _ _ _ e)
+bag_name_known rule (Some ForOutput) place e = absurd (cc)
+bag_name_known rule (Some ForLoopVariable) place e = absurd (cc)
 
-assigned_known : (sort : RuleSort) (o : Option NameSort) (place : ℕ) → assignment_refusals sort o place ≡ [] → is_variable_sort o ≡ true
-assigned_known sort None place e = absurd (cc)
-assigned_known sort (Some ForVariable) place e = refl
-assigned_known sort (Some ForFlag) place e = refl
-assigned_known sort (Some ForBag) place e = absurd (cc)
-assigned_known sort (Some ForOutput) place e = absurd (cc)
-assigned_known sort (Some ForLoopVariable) place e = absurd (cc)
+changed_known : (o : Option NameSort) (place : ℕ) → changed_bag_refusals o place ≡ [] → is_state_bag o ≡ true
+changed_known None place e = absurd (cc)
+changed_known (Some ForVariable) place e = absurd (cc)
+changed_known (Some ForFlag) place e = absurd (cc)
+changed_known (Some ForBag) place e = refl
+changed_known (Some ForInput) place e = absurd (cc)
+changed_known (Some ForOutput) place e = absurd (cc)
+changed_known (Some ForLoopVariable) place e = absurd (cc)
+
+assigned_known : (rule : Option RuleSort) (o : Option NameSort) (place : ℕ) → assignment_refusals rule o place ≡ []
+    → is_variable_sort o ≡ true
+assigned_known rule None place e = absurd (cc)
+assigned_known rule (Some ForVariable) place e = refl
+assigned_known rule (Some ForFlag) place e = refl
+assigned_known rule (Some ForBag) place e = absurd (cc)
+assigned_known rule (Some ForInput) place e = absurd (cc)
+assigned_known rule (Some ForOutput) place e = absurd (cc)
+assigned_known rule (Some ForLoopVariable) place e = absurd (cc)
 
 sent_known : (o : Option NameSort) (place : ℕ) → sent_port_refusals o place ≡ [] → is_output o ≡ true
 sent_known None place e = absurd (cc)
 sent_known (Some ForVariable) place e = absurd (cc)
 sent_known (Some ForFlag) place e = absurd (cc)
 sent_known (Some ForBag) place e = absurd (cc)
+sent_known (Some ForInput) place e = absurd (cc)
 sent_known (Some ForOutput) place e = refl
 sent_known (Some ForLoopVariable) place e = absurd (cc)
 
 module _ (m : AtomicTree) (loops : List ℕ) (k : Known) (knows : Knows m loops k) where
-  terms_known : (e : Expression) → expression_refusals k.sort e ≡ [] → are_terms_known (scope_of m) loops e ≡ true
+  terms_known : (e : Expression) → expression_refusals k e ≡ [] → are_terms_known (scope_of m) k.rule loops e ≡ true
   terms_known (Literal n) none = refl
   terms_known (TruthValue place value) none = refl
   terms_known (Named name) none = knows.value name.number (value_name_known (k.sort name.number) name.place none)
   terms_known (Parens place e) none = terms_known e none
   terms_known (Prefixed o place e) none =
-      terms_known e (both_nil (expression_refusals k.sort e) (type_refusals (type_of_prefix o) (type_of k.sort e) (first_place e)) none).0
+      terms_known e (both_nil (expression_refusals k e) (type_refusals (type_of_prefix o) (type_of k e) (first_place e)) none).0
   terms_known (Binary o a b) none =
-      let operands = operand_refusals o (type_of k.sort a) (first_place a) (type_of k.sort b) (first_place b) in
-      let left = both_nil (expression_refusals k.sort a) (expression_refusals k.sort b ++ operands) none in
-      let right = both_nil (expression_refusals k.sort b) operands left.1 in
-      and_true (are_terms_known (scope_of m) loops a) (are_terms_known (scope_of m) loops b) (terms_known a left.0) (terms_known b right.0)
-  terms_known (Call c place b) none = knows.bag b.number (bag_name_known (k.sort b.number) b.place none)
+      let operands = operand_refusals o (type_of k a) (first_place a) (type_of k b) (first_place b) in
+      let left = both_nil (expression_refusals k a) (expression_refusals k b ++ operands) none in
+      let right = both_nil (expression_refusals k b) operands left.1 in
+      and_true _ (are_terms_known (scope_of m) k.rule loops b) (terms_known a left.0) (terms_known b right.0)
+  terms_known (Call c place b) none = knows.readable b.number (bag_name_known k.rule (k.sort b.number) b.place none)
+  terms_known (Elapsed place) none = not_false _ (not_refused _ _ _ none)
   terms_known (Times place e b) none =
-      let wanted = type_refusals Number (type_of k.sort e) (first_place e) in
-      let left = both_nil (expression_refusals k.sort e) (wanted ++ bag_name_refusals (k.sort b.number) b.place) none in
-      let right = both_nil wanted (bag_name_refusals (k.sort b.number) b.place) left.1 in
-      and_true (are_terms_known (scope_of m) loops e) (is_bag (scope_of m) b.number) (terms_known e left.0) (knows.bag b.number (bag_name_known (k.sort b.number) b.place right.1))
+      let wanted = type_refusals Number (type_of k e) (first_place e) in
+      let left = both_nil (expression_refusals k e) (wanted ++ bag_name_refusals k.rule (k.sort b.number) b.place) none in
+      let right = both_nil wanted (bag_name_refusals k.rule (k.sort b.number) b.place) left.1 in
+      let readable = knows.readable b.number (bag_name_known k.rule (k.sort b.number) b.place right.1) in
+      and_true _ (is_readable (scope_of m) k.rule b.number) (terms_known e left.0) readable
 
-  place_known : (wanted : ValueType) (e : Expression) → place_refusals wanted k.sort e ≡ [] → are_terms_known (scope_of m) loops e ≡ true
-  place_known wanted e none = terms_known e (both_nil (expression_refusals k.sort e) (type_refusals wanted (type_of k.sort e) (first_place e)) none).0
+  place_known : (wanted : ValueType) (e : Expression) → place_refusals wanted k e ≡ [] → are_terms_known (scope_of m) k.rule loops e ≡ true
+  place_known wanted e none = terms_known e (both_nil (expression_refusals k e) (type_refusals wanted (type_of k e) (first_place e)) none).0
 
-  value_known : (wanted : Option ValueType) (e : Expression) → value_refusals wanted k.sort e ≡ [] → are_terms_known (scope_of m) loops e ≡ true
+  value_known : (wanted : Option ValueType) (e : Expression) → value_refusals wanted k e ≡ []
+      → are_terms_known (scope_of m) k.rule loops e ≡ true
   value_known None e none = terms_known e none
   value_known (Some wanted) e none = place_known wanted e none
 
@@ -368,79 +426,84 @@ module _ (m : AtomicTree) (loops : List ℕ) (k : Known) (knows : Knows m loops 
   named_phase phase none = knows.phase phase.number (not_false _ (not_refused _ _ _ none))
 
   -- one more or one less of a value in a bag, before what follows
-  change_known : (sort : RuleSort) (place : ℕ) (e : Expression) (b : Name) (rest : Bool) → change_refusals k sort place e b ≡ [] → rest ≡ true
-      → (are_terms_known (scope_of m) loops e && (is_bag (scope_of m) b.number && rest)) ≡ true
-  change_known sort place e b rest none follows =
-      let wanted = place_refusals Number k.sort e in
-      let bag = bag_name_refusals (k.sort b.number) b.place in
+  change_known : (place : ℕ) (e : Expression) (b : Name) (rest : Bool) → change_refusals k place e b ≡ [] → rest ≡ true
+      → (are_terms_known (scope_of m) k.rule loops e && (is_bag (scope_of m) b.number && rest)) ≡ true
+  change_known place e b rest none follows =
+      let wanted = place_refusals Number k e in
+      let bag = changed_bag_refusals (k.sort b.number) b.place in
       let both = both_nil wanted bag (both_nil _ (wanted ++ bag) none).1 in
-      and_true _ _ (place_known Number e both.0) (and_true _ _ (knows.bag b.number (bag_name_known (k.sort b.number) b.place both.1)) follows)
+      let there = knows.bag b.number (changed_known (k.sort b.number) b.place both.1) in
+      and_true _ _ (place_known Number e both.0) (and_true _ _ there follows)
 
 module _ (m : AtomicTree) where
-  statements_known : (loops : List ℕ) (k : Known) (knows : Knows m loops k) (sort : RuleSort) (body : Statements) → statements_refusals k sort body ≡ []
-      → are_names_known (scope_of m) loops body ≡ true
-  statements_known loops k knows sort Done none = refl
-  statements_known loops k knows sort (Assign variable e rest) none =
+  statements_known : (loops : List ℕ) (k : Known) (knows : Knows m loops k) (body : Statements) → statements_refusals k body ≡ []
+      → are_names_known (scope_of m) k.rule loops body ≡ true
+  statements_known loops k knows Done none = refl
+  statements_known loops k knows (Assign variable e rest) none =
       let wanted = type_of_name (k.sort variable.number) in
-      let left = both_nil (assignment_refusals sort (k.sort variable.number) variable.place) (value_refusals wanted k.sort e ++ statements_refusals k sort rest) none in
-      let right = both_nil (value_refusals wanted k.sort e) (statements_refusals k sort rest) left.1 in
-      and_true _ _ (knows.variable variable.number (assigned_known sort (k.sort variable.number) variable.place left.0))
-      (and_true _ _ (value_known m loops k knows wanted e right.0) (statements_known loops k knows sort rest right.1))
-  statements_known loops k knows sort (Goto place phase rest) none =
-      let behind = (both_nil _ (phase_refusals k phase ++ statements_refusals k sort rest) none).1 in
-      let both = both_nil (phase_refusals k phase) (statements_refusals k sort rest) behind in
-      and_true _ _ (named_phase m loops k knows phase both.0) (statements_known loops k knows sort rest both.1)
-  statements_known loops k knows sort (Send place port e rest) none =
+      let assigned = assignment_refusals k.rule (k.sort variable.number) variable.place in
+      let left = both_nil assigned (value_refusals wanted k e ++ statements_refusals k rest) none in
+      let right = both_nil (value_refusals wanted k e) (statements_refusals k rest) left.1 in
+      and_true _ _ (knows.variable variable.number (assigned_known k.rule (k.sort variable.number) variable.place left.0))
+      (and_true _ _ (value_known m loops k knows wanted e right.0) (statements_known loops k knows rest right.1))
+  statements_known loops k knows (Goto place phase rest) none =
+      let behind = (both_nil _ (phase_refusals k phase ++ statements_refusals k rest) none).1 in
+      let both = both_nil (phase_refusals k phase) (statements_refusals k rest) behind in
+      and_true _ _ (named_phase m loops k knows phase both.0) (statements_known loops k knows rest both.1)
+  statements_known loops k knows (Send place port e rest) none =
       let port_refusals = sent_port_refusals (k.sort port.number) port.place in
-      let value_refusals = place_refusals Number k.sort e in
-      let rest_refusals = statements_refusals k sort rest in
+      let value_refusals = place_refusals Number k e in
+      let rest_refusals = statements_refusals k rest in
       let behind = (both_nil _ (port_refusals ++ (value_refusals ++ rest_refusals)) none).1 in
       let left = both_nil port_refusals (value_refusals ++ rest_refusals) behind in
       let right = both_nil value_refusals rest_refusals left.1 in
       and_true _ _ (knows.output port.number (sent_known (k.sort port.number) port.place left.0))
-      (and_true _ _ (place_known m loops k knows Number e right.0) (statements_known loops k knows sort rest right.1))
-  statements_known loops k knows sort (If place e block rest) none =
-      let left = both_nil (place_refusals Truth k.sort e) (statements_refusals k sort block ++ statements_refusals k sort rest) none in
-      let right = both_nil (statements_refusals k sort block) (statements_refusals k sort rest) left.1 in
+      (and_true _ _ (place_known m loops k knows Number e right.0) (statements_known loops k knows rest right.1))
+  statements_known loops k knows (If place e block rest) none =
+      let left = both_nil (place_refusals Truth k e) (statements_refusals k block ++ statements_refusals k rest) none in
+      let right = both_nil (statements_refusals k block) (statements_refusals k rest) left.1 in
       and_true _ _ (place_known m loops k knows Truth e left.0)
-      (and_true _ _ (statements_known loops k knows sort block right.0) (statements_known loops k knows sort rest right.1))
-  statements_known loops k knows sort (IfElse place e block other rest) none =
-      let rest_refusals = statements_refusals k sort rest in
-      let other_refusals = statements_refusals k sort other in
-      let left = both_nil (place_refusals Truth k.sort e) (statements_refusals k sort block ++ (other_refusals ++ rest_refusals)) none in
-      let middle = both_nil (statements_refusals k sort block) (other_refusals ++ rest_refusals) left.1 in
+      (and_true _ _ (statements_known loops k knows block right.0) (statements_known loops k knows rest right.1))
+  statements_known loops k knows (IfElse place e block other rest) none =
+      let rest_refusals = statements_refusals k rest in
+      let other_refusals = statements_refusals k other in
+      let left = both_nil (place_refusals Truth k e) (statements_refusals k block ++ (other_refusals ++ rest_refusals)) none in
+      let middle = both_nil (statements_refusals k block) (other_refusals ++ rest_refusals) left.1 in
       let right = both_nil other_refusals rest_refusals middle.1 in
       and_true _ _ (place_known m loops k knows Truth e left.0)
-      (and_true _ _ (statements_known loops k knows sort block middle.0)
-      (and_true _ _ (statements_known loops k knows sort other right.0) (statements_known loops k knows sort rest right.1)))
-  statements_known loops k knows sort (For place v b block rest) none =
-      let bag = bag_name_refusals (k.sort b.number) b.place in
+      (and_true _ _ (statements_known loops k knows block middle.0)
+      (and_true _ _ (statements_known loops k knows other right.0) (statements_known loops k knows rest right.1)))
+  statements_known loops k knows (For place v b block rest) none =
+      let bag = bag_name_refusals k.rule (k.sort b.number) b.place in
       let inner = known_in_loop v k in
-      let block_refusals = statements_refusals inner sort block in
-      let rest_refusals = statements_refusals k sort rest in
+      let block_refusals = statements_refusals inner block in
+      let rest_refusals = statements_refusals k rest in
       let behind = (both_nil (loop_variable_refusals (k.place v.number) v.place) (bag ++ (block_refusals ++ rest_refusals)) none).1 in
       let left = both_nil bag (block_refusals ++ rest_refusals) behind in
       let right = both_nil block_refusals rest_refusals left.1 in
-      and_true _ _ (knows.bag b.number (bag_name_known (k.sort b.number) b.place left.0))
-      (and_true _ _ (statements_known (v.number ∷ loops) inner (knows_inside m loops k v knows) sort block right.0) (statements_known loops k knows sort rest right.1))
-  statements_known loops k knows sort (Add place e b rest) none =
-      let both = both_nil (change_refusals k sort place e b) (statements_refusals k sort rest) none in
-      change_known m loops k knows sort place e b _ both.0 (statements_known loops k knows sort rest both.1)
-  statements_known loops k knows sort (Drop place e b rest) none =
-      let both = both_nil (change_refusals k sort place e b) (statements_refusals k sort rest) none in
-      change_known m loops k knows sort place e b _ both.0 (statements_known loops k knows sort rest both.1)
+      and_true _ _ (knows.readable b.number (bag_name_known k.rule (k.sort b.number) b.place left.0))
+      (and_true _ _ (statements_known (v.number ∷ loops) inner (knows_inside m loops k v knows) block right.0)
+      (statements_known loops k knows rest right.1))
+  statements_known loops k knows (Add place e b rest) none =
+      let both = both_nil (change_refusals k place e b) (statements_refusals k rest) none in
+      change_known m loops k knows place e b _ both.0 (statements_known loops k knows rest both.1)
+  statements_known loops k knows (Drop place e b rest) none =
+      let both = both_nil (change_refusals k place e b) (statements_refusals k rest) none in
+      change_known m loops k knows place e b _ both.0 (statements_known loops k knows rest both.1)
 
-  rules_known_from : (rules : List RuleTree) → flat_map (rule_refusals (known_in m)) rules ≡ [] → AllByRecursion (λ (r : RuleTree). are_names_known (scope_of m) [] r.body ≡ true) rules
+  rules_known_from : (rules : List RuleTree) → flat_map (rule_refusals (known_in m)) rules ≡ []
+      → AllByRecursion (λ (r : RuleTree). are_names_known (scope_of m) (Some r.sort) [] r.body ≡ true) rules
   rules_known_from [] none = tt
   rules_known_from (r ∷ rules) none =
       let k = known_in m in
       let both = both_nil (rule_refusals k r) (flat_map (rule_refusals k) rules) none in
-      let here = both_nil (phase_refusals k r.phase) (statements_refusals k r.sort r.body) both.0 in
-      (statements_known [] k (knows_outside m) r.sort r.body here.1, rules_known_from rules both.1)
+      let inside = known_in_rule (Some r.sort) k in
+      let here = both_nil (phase_refusals k r.phase) (statements_refusals inside r.body) both.0 in
+      (statements_known [] inside (knows_outside m (Some r.sort)) r.body here.1, rules_known_from rules both.1)
 
   ticks_of_known : (ticks : Option Expression) → ticks_refusals (known_in m) ticks ≡ [] → are_ticks_known (scope_of m) ticks ≡ true
   ticks_of_known None none = refl
-  ticks_of_known (Some e) none = place_known m [] (known_in m) (knows_outside m) Number e none
+  ticks_of_known (Some e) none = place_known m [] (known_in m) (knows_outside m None) Number e none
 
   ticks_known : (h : HoldTree) → hold_refusals (known_in m) h ≡ [] → are_ticks_known (scope_of m) h.ticks ≡ true
   ticks_known h none = ticks_of_known h.ticks (both_nil (phase_refusals (known_in m) h.phase) (ticks_refusals (known_in m) h.ticks) none).1
@@ -451,7 +514,7 @@ module _ (m : AtomicTree) where
       let both = both_nil (hold_refusals (known_in m) h) (flat_map (hold_refusals (known_in m)) holds) none in
       (ticks_known h both.0, holds_known_from holds both.1)
 
-  pub rules_known : atomic_refusals m ≡ [] → All (λ (r : RuleTree). are_names_known (scope_of m) [] r.body ≡ true) m.rules
+  pub rules_known : atomic_refusals m ≡ [] → All (λ (r : RuleTree). are_names_known (scope_of m) (Some r.sort) [] r.body ≡ true) m.rules
   rules_known e = All-from_recursion _ m.rules (rules_known_from m.rules (parts_of_none m e).rules)
 
   pub holds_known : atomic_refusals m ≡ [] → All (λ (h : HoldTree). are_ticks_known (scope_of m) h.ticks ≡ true) m.holds

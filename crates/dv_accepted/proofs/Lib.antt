@@ -2,4 +2,5 @@ pub mod Fitting
 pub mod Bags
 pub mod Effects
 pub mod Known
+pub mod Inputs
 pub mod Typed

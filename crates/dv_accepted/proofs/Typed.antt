@@ -9,7 +9,8 @@ use Rattle.dv_syntax.specs.declared.tree.Operator.TheVariants.{Or, And, Add, Sub
 use Rattle.dv_syntax.specs.declared.tree.Name.{Name}
 use Rattle.dv_syntax.specs.declared.tree.BagCall.{BagCall}
 use Rattle.dv_syntax.specs.declared.tree.BagCall.TheVariants.{Size, Sum, Least, Most}
-use Rattle.dv_syntax.specs.Trees.{AtomicTree, Expression, Literal, TruthValue, Named, Parens, Prefixed, Binary, Call, Times}
+use Rattle.dv_syntax.specs.declared.tree.RuleSort.{RuleSort}
+use Rattle.dv_syntax.specs.Trees.{AtomicTree, Expression, Literal, TruthValue, Named, Parens, Prefixed, Binary, Call, Elapsed, Times}
 use Rattle.dv_bag.specs.Bag.{Counts, count_of, least, most, sum_or_overflow, total}
 use Rattle.dv_bag.specs.Outcome.{◌>>=◌}
 use Rattle.dv_bag.specs.declared.fault.Fault.{Fault}
@@ -22,16 +23,16 @@ use Rattle.dv_bag.specs.declared.state.State.{State}
 use Rattle.dv_eval.specs.declared.scope.Domain.{Domain}
 use Rattle.dv_eval.specs.declared.scope.Domain.TheVariants as domain
 use Rattle.dv_eval.specs.Scope.{Scope, scope_of}
-use Rattle.dv_eval.specs.Meaning.{bag_of_name, call_result, datum_at, datum_of_name, is_decided, is_kept, loop_value, meaning, moment_in, number_of, number_or_empty, number_or_overflow, operator_result, prefix_result, truth_of, value_in_loop, value_of_datum, value_of_name}
+use Rattle.dv_eval.specs.Meaning.{Arrivals, bag_of_name, call_result, datum_at, datum_of_name, is_decided, is_kept, loop_value, meaning, moment_in, number_of, number_or_empty, number_or_overflow, operator_result, prefix_result, truth_of, value_in_loop, value_of_datum, value_of_name}
 use Rattle.dv_check.specs.declared.declarations.NameSort.{NameSort}
-use Rattle.dv_check.specs.declared.declarations.NameSort.TheVariants.{Variable as ForVariable, Flag as ForFlag, Bag as ForBag, Output as ForOutput, LoopVariable as ForLoopVariable}
+use Rattle.dv_check.specs.declared.declarations.NameSort.TheVariants.{Variable as ForVariable, Flag as ForFlag, Bag as ForBag, Input as ForInput, Output as ForOutput, LoopVariable as ForLoopVariable}
 use Rattle.dv_check.specs.declared.expression.ValueType.{ValueType}
 use Rattle.dv_check.specs.declared.expression.ValueType.TheVariants.{Number, Truth}
 use Rattle.dv_check.specs.Names.{refusal_if}
-use Rattle.dv_check.specs.Types.{alike, bag_name_refusals, both_of, differ, expression_refusals, first_place, is_bag, is_of, operand_refusals, operands_wanted, place_refusals, same_type, type_if, type_of, type_of_name, type_of_operator, type_of_prefix, type_refusals, value_name_refusals}
-use Rattle.dv_check.specs.Rules.{known_in, sort_in}
-use Rattle.dv_accepted.specs.Fitting.{datum_fits, fits_in, HoldsDatum, is_of_type, known_within, values_within}
-use Rattle.dv_check.proofs.Accepted.{both_nil}
+use Rattle.dv_check.specs.Types.{Known, alike, bag_name_refusals, both_of, differ, expression_refusals, first_place, is_bag, is_of, knows_elapsed, operand_refusals, operands_wanted, place_refusals, same_type, type_if, type_of, type_of_name, type_of_operator, type_of_prefix, type_refusals, value_name_refusals}
+use Rattle.dv_check.specs.Rules.{known_in, known_in_rule, sort_in}
+use Rattle.dv_accepted.specs.Fitting.{context_within, datum_fits, fits_in, HoldsDatum, is_of_type, known_within, values_within}
+use Rattle.dv_check.proofs.Accepted.{both_nil, not_false, not_refused}
 use Rattle.dv_accepted.proofs.Fitting.{and_true}
 use Rattle.dv_accepted.proofs.Effects.{gave}
 use Rattle.dv_accepted.proofs.Known.{bag_name_known, datum_held, is_of_loop, is_stored, of_no_loop, sort_named, sort_of_domain}
@@ -87,6 +88,7 @@ value_name_typed None place e = absurd (cc)
 value_name_typed (Some ForVariable) place e = (Number, refl)
 value_name_typed (Some ForFlag) place e = (Truth, refl)
 value_name_typed (Some ForBag) place e = absurd (cc)
+value_name_typed (Some ForInput) place e = absurd (cc)
 value_name_typed (Some ForOutput) place e = absurd (cc)
 value_name_typed (Some ForLoopVariable) place e = (Number, refl)
 
@@ -104,34 +106,39 @@ same_if : (t : ValueType) → type_if (same_type t t) t ≡ Some t
 same_if Number = refl
 same_if Truth = refl
 
-module _ (sort : ℕ → Option NameSort) where
-  expression_typed : (e : Expression) → expression_refusals sort e ≡ [] → Typed (type_of sort e)
+module _ (known : Known) where
+  expression_typed : (e : Expression) → expression_refusals known e ≡ [] → Typed (type_of known e)
   expression_typed (Literal n) none = (Number, refl)
   expression_typed (TruthValue place value) none = (Truth, refl)
-  expression_typed (Named name) none = value_name_typed (sort name.number) name.place none
+  expression_typed (Named name) none = value_name_typed (known.sort name.number) name.place none
   expression_typed (Parens place e) none = expression_typed e none
   expression_typed (Prefixed operator place e) none =
       let wanted = type_of_prefix operator in
-      let both = both_nil (expression_refusals sort e) (type_refusals wanted (type_of sort e) (first_place e)) none in
-      let of_wanted = type_wanted wanted (type_of sort e) (first_place e) (expression_typed e both.0) both.1 in
+      let both = both_nil (expression_refusals known e) (type_refusals wanted (type_of known e) (first_place e)) none in
+      let of_wanted = type_wanted wanted (type_of known e) (first_place e) (expression_typed e both.0) both.1 in
       (wanted, ap (λ o. type_if (is_of wanted o) wanted) of_wanted ∙ same_if wanted)
   expression_typed (Binary o a b) none =
-      let operands = operand_refusals o (type_of sort a) (first_place a) (type_of sort b) (first_place b) in
-      let left = both_nil (expression_refusals sort a) (expression_refusals sort b ++ operands) none in
-      let right = both_nil (expression_refusals sort b) operands left.1 in
-      operands_typed o (type_of sort a) (type_of sort b) (first_place a) (first_place b) (expression_typed a left.0) (expression_typed b right.0) right.1
-  expression_typed (Call c place bag) none = some_if (is_bag (sort bag.number)) Number (bag_name_known (sort bag.number) bag.place none)
+      let operands = operand_refusals o (type_of known a) (first_place a) (type_of known b) (first_place b) in
+      let left = both_nil (expression_refusals known a) (expression_refusals known b ++ operands) none in
+      let right = both_nil (expression_refusals known b) operands left.1 in
+      operands_typed o (type_of known a) (type_of known b) (first_place a) (first_place b) (expression_typed a left.0)
+      (expression_typed b right.0) right.1
+  expression_typed (Call c place bag) none =
+      some_if (is_bag known.rule (known.sort bag.number)) Number (bag_name_known known.rule (known.sort bag.number) bag.place none)
+  expression_typed (Elapsed place) none = some_if (knows_elapsed known.rule) Number (not_false _ (not_refused _ _ _ none))
   expression_typed (Times place e bag) none =
-      let wanted = type_refusals Number (type_of sort e) (first_place e) in
-      let left = both_nil (expression_refusals sort e) (wanted ++ bag_name_refusals (sort bag.number) bag.place) none in
-      let right = both_nil wanted (bag_name_refusals (sort bag.number) bag.place) left.1 in
-      let of_wanted = type_wanted Number (type_of sort e) (first_place e) (expression_typed e left.0) right.0 in
-      some_if _ Number (and_true (is_of Number (type_of sort e)) (is_bag (sort bag.number)) (ap (is_of Number) of_wanted) (bag_name_known (sort bag.number) bag.place right.1))
+      let wanted = type_refusals Number (type_of known e) (first_place e) in
+      let left = both_nil (expression_refusals known e) (wanted ++ bag_name_refusals known.rule (known.sort bag.number) bag.place) none in
+      let right = both_nil wanted (bag_name_refusals known.rule (known.sort bag.number) bag.place) left.1 in
+      let of_wanted = type_wanted Number (type_of known e) (first_place e) (expression_typed e left.0) right.0 in
+      let readable = bag_name_known known.rule (known.sort bag.number) bag.place right.1 in
+      let is_number = ap (is_of Number) of_wanted in
+      some_if _ Number (and_true (is_of Number (type_of known e)) (is_bag known.rule (known.sort bag.number)) is_number readable)
 
-  pub place_typed : (wanted : ValueType) (e : Expression) → place_refusals wanted sort e ≡ [] → type_of sort e ≡ Some wanted
+  pub place_typed : (wanted : ValueType) (e : Expression) → place_refusals wanted known e ≡ [] → type_of known e ≡ Some wanted
   place_typed wanted e none =
-      let both = both_nil (expression_refusals sort e) (type_refusals wanted (type_of sort e) (first_place e)) none in
-      type_wanted wanted (type_of sort e) (first_place e) (expression_typed e both.0) both.1
+      let both = both_nil (expression_refusals known e) (type_refusals wanted (type_of known e) (first_place e)) none in
+      type_wanted wanted (type_of known e) (first_place e) (expression_typed e both.0) both.1
 
 -- ---- Its values are of this type
 
@@ -225,6 +232,7 @@ name_stored None t outside e = absurd (cc)
 name_stored (Some ForVariable) t outside e = refl
 name_stored (Some ForFlag) t outside e = refl
 name_stored (Some ForBag) t outside e = refl
+name_stored (Some ForInput) t outside e = absurd (cc)
 name_stored (Some ForOutput) t outside e = absurd (cc)
 name_stored (Some ForLoopVariable) t outside e = absurd (cc)
 
@@ -261,22 +269,25 @@ module _ (m : AtomicTree) (s : State) (fit : fits_in (scope_of m) s ≡ true) wh
       ap (is_of_type t) (value_held (scope_of m) s q named.0 holds)
       ∙ datum_typed named.0 holds.datum t holds.fitting (ap type_of_name named.2 ∙ typed)
 
-  name_typed : (bound : List (Name × ℤ)) (q : ℕ) (t : ValueType) → type_of_name ((known_within bound (known_in m)).sort q) ≡ Some t
-      → is_of_type t (value_of_name (scope_of m) (moment_in (values_within bound) s) q) ≡ true
-  name_typed [] q t typed = stored_typed q t typed
-  name_typed (l ∷ bound) q t typed =
+  name_typed : (rule : Option RuleSort) (arrivals : Arrivals) (bound : List (Name × ℤ)) (q : ℕ) (t : ValueType)
+      → type_of_name ((known_within bound (known_in_rule rule (known_in m))).sort q) ≡ Some t
+      → is_of_type t (value_of_name (scope_of m) (moment_in (context_within arrivals bound) s) q) ≡ true
+  name_typed rule arrivals [] q t typed = stored_typed q t typed
+  name_typed rule arrivals (l ∷ bound) q t typed =
       let outer = loop_value q (values_within bound) in
       let stored = value_of_datum (datum_of_name (scope_of m) s q) in
-      typed_if (l.0.number == q) ((known_within bound (known_in m)).sort q) t l.1 outer stored typed (name_typed bound q t)
+      let around = (known_within bound (known_in_rule rule (known_in m))).sort q in
+      typed_if (l.0.number == q) around t l.1 outer stored typed (name_typed rule arrivals bound q t)
 
-module _ (m : AtomicTree) (bound : List (Name × ℤ)) (s : State) (fit : fits_in (scope_of m) s ≡ true) where
-  abbrev sort : ℕ → Option NameSort
-  sort = (known_within bound (known_in m)).sort
+module _ (m : AtomicTree) (rule : Option RuleSort) (arrivals : Arrivals) (bound : List (Name × ℤ)) (s : State)
+    (fit : fits_in (scope_of m) s ≡ true) where
+  abbrev known : Known
+  known = known_within bound (known_in_rule rule (known_in m))
 
   abbrev given : Expression → Result Value Fault
-  given e = meaning (scope_of m) (moment_in (values_within bound) s) e
+  given e = meaning (scope_of m) (moment_in (context_within arrivals bound) s) e
 
-  pub value_typed : (e : Expression) (t : ValueType) (v : Value) → type_of sort e ≡ Some t → given e ≡ Ok v → is_of_type t v ≡ true
+  pub value_typed : (e : Expression) (t : ValueType) (v : Value) → type_of known e ≡ Some t → given e ≡ Ok v → is_of_type t v ≡ true
   value_typed (Literal n) t v typed is =
       let same : Number ≡ t = cc in
       let number : value.Number (pos n.value) ≡ v = cc in
@@ -286,8 +297,8 @@ module _ (m : AtomicTree) (bound : List (Name × ℤ)) (s : State) (fit : fits_i
       let truth_value : value.Truth b ≡ v = cc in
       rw (← same, ← truth_value) refl
   value_typed (Named name) t v typed is =
-      let same : value_of_name (scope_of m) (moment_in (values_within bound) s) name.number ≡ v = cc in
-      ap (is_of_type t) (sym same) ∙ name_typed m s fit bound name.number t typed
+      let same : value_of_name (scope_of m) (moment_in (context_within arrivals bound) s) name.number ≡ v = cc in
+      ap (is_of_type t) (sym same) ∙ name_typed m s fit rule arrivals bound name.number t typed
   value_typed (Parens place e) t v typed is = value_typed e t v typed is
   value_typed (Prefixed o place e) t v typed is =
       let first = gave (given e) (λ x. prefix_result o x) v is in
@@ -295,10 +306,11 @@ module _ (m : AtomicTree) (bound : List (Name × ℤ)) (s : State) (fit : fits_i
   value_typed (Binary o a b) t v typed is =
       let rest = λ (x : Value). if is_decided o x then ok_truth (truth_of x) else (given b >>= λ y. operator_result o x y) in
       let first = gave (given a) rest v is in
-      asked_typed (is_decided o first.value) o (type_of sort a) (type_of sort b) t first.value v (given b) refl typed first.then_
+      asked_typed (is_decided o first.value) o (type_of known a) (type_of known b) t first.value v (given b) refl typed first.then_
   value_typed (Call c place b) t v typed is =
-      of_type_if _ Number t v typed (call_typed c (bag_of_name (scope_of m) (moment_in (values_within bound) s) b.number) v is)
+      of_type_if _ Number t v typed (call_typed c (bag_of_name (scope_of m) (moment_in (context_within arrivals bound) s) b.number) v is)
+  value_typed (Elapsed place) t v typed is = of_type_if _ Number t v typed (kept_number (pos arrivals.elapsed) v is)
   value_typed (Times place e b) t v typed is =
-      let counted = bag_of_name (scope_of m) (moment_in (values_within bound) s) b.number in
+      let counted = bag_of_name (scope_of m) (moment_in (context_within arrivals bound) s) b.number in
       let first = gave (given e) (λ x. ok_number (pos (count_of (number_of x) counted))) v is in
       of_type_if _ Number t v typed (number (pos (count_of (number_of first.value) counted)) v first.then_)

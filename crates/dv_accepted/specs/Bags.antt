@@ -45,7 +45,13 @@ heap capacity ticks value = record {
 
 -- coupled Top { part a: Heap; }
 abbrev pub top : CoupledTree
-top = record { name = named 7 360; outputs = []; parts = record { name = named 8 371; model = named 0 374 } ∷ []; links = [] }
+top = record {
+  name = named 7 360;
+  inputs = [];
+  outputs = [];
+  parts = record { name = named 8 371; model = named 0 374 } ∷ [];
+  links = [];
+}
 
 -- both, and root Top;
 abbrev pub with_bag : ℕ → Expression → Expression → FileTree

@@ -7,7 +7,7 @@ use Rattle.dv_syntax.specs.declared.tree.Declaration.TheVariants.{Out, Var}
 use Rattle.dv_syntax.specs.declared.tree.Link.{Link}
 use Rattle.dv_syntax.specs.declared.tree.Operator.TheVariants as operator
 use Rattle.dv_syntax.specs.declared.tree.RuleSort.TheVariants as rule
-use Rattle.dv_syntax.specs.Trees.{Expression, Literal, Named, Binary, Statements, Done, Assign, Goto, Send, IfElse, AtomicTree, AtomicModel, CoupledModel, FileTree}
+use Rattle.dv_syntax.specs.Trees.{Expression, Literal, Named, Binary, Statements, Done, Assign, Goto, Send, IfElse, AtomicTree, AtomicModel, CoupledModel, CoupledTree, FileTree}
 
 -- a name, a bound and a number at a place
 abbrev pub named : ℕ → ℕ → Name
@@ -47,12 +47,19 @@ tick = record {
 abbrev pub link_at : ℕ → Link
 link_at place = record { place = place; from = record { part = Some (named 7 (place + 5)); port = named 1 (place + 7) }; to = record { part = None; port = named 6 (place + 20) } }
 
+-- coupled Top { out o; part t: Tick; LINKS }
+abbrev pub top : List Link → CoupledTree
+top links = record {
+  name = named 5 310;
+  inputs = [];
+  outputs = named 6 320 ∷ [];
+  parts = record { name = named 7 330; model = named 0 333 } ∷ [];
+  links = links;
+}
+
 -- the file of the clock, with these links
 abbrev pub clock : List Link → FileTree
 clock links = record {
-  models =
-      AtomicModel tick
-      ∷ (CoupledModel (record { name = named 5 310; outputs = named 6 320 ∷ []; parts = record { name = named 7 330; model = named 0 333 } ∷ []; links = links })
-      ∷ []);
+  models = AtomicModel tick ∷ (CoupledModel (top links) ∷ []);
   root = named 5 500;
 }

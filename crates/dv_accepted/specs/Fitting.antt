@@ -2,8 +2,9 @@
 -- unknown, nor a truth value for a number.
 use Rattle.std.specs.Prelude.{◌≡◌, ℕ, ℤ, ◌<◌, Bool, true, false, not, ◌&&◌, ◌||◌, nat_lt, nat_le, slice_get, List, [], ◌∷◌, length, option_map, Option, Some, None}
 use Rattle.dv_syntax.specs.declared.tree.Name.{Name}
-use Rattle.dv_syntax.specs.Trees.{AtomicTree, Expression, Literal, TruthValue, Named, Parens, Prefixed, Binary, Call, Times, Statements, Done, Assign, Goto, Send, If, IfElse, For, Add, Drop}
-use Rattle.dv_bag.specs.Bag.{total}
+use Rattle.dv_syntax.specs.Trees.{AtomicTree, Expression, Literal, TruthValue, Named, Parens, Prefixed, Binary, Call, Elapsed, Times, Statements, Done, Assign, Goto, Send, If, IfElse, For, Add, Drop}
+use Rattle.dv_syntax.specs.declared.tree.RuleSort.{RuleSort}
+use Rattle.dv_bag.specs.Bag.{bag_at, total}
 use Rattle.dv_bag.specs.declared.TheConstants.{GREATEST_COUNT}
 use Rattle.dv_bag.specs.declared.value.Value.{Value}
 use Rattle.dv_bag.specs.declared.value.Value.TheVariants as value
@@ -13,10 +14,11 @@ use Rattle.dv_bag.specs.declared.state.State.{State}
 use Rattle.dv_eval.specs.declared.scope.Domain.{Domain}
 use Rattle.dv_eval.specs.declared.scope.Domain.TheVariants as domain
 use Rattle.dv_eval.specs.Scope.{Scope, is_declared, names_of, place_of, scope_of}
-use Rattle.dv_eval.specs.Meaning.{is_within}
+use Rattle.dv_eval.specs.Meaning.{Arrivals, Context, Moment, bag_of_name, is_within}
 use Rattle.dv_check.specs.declared.expression.ValueType.{ValueType}
 use Rattle.dv_check.specs.declared.expression.ValueType.TheVariants.{Number, Truth}
-use Rattle.dv_check.specs.Rules.{Known, known_in_loop}
+use Rattle.dv_check.specs.Types.{Known, knows_elapsed, sees_inputs}
+use Rattle.dv_check.specs.Rules.{known_in_loop}
 
 -- a number within the range of its variable, a truth value for a flag, and for a bag no more values than its capacity, which is a
 -- capacity that a bag may have
@@ -79,9 +81,13 @@ has_values (Some (domain.Bag capacity)) = true
 abbrev pub is_variable : Scope → ℕ → Bool
 is_variable scope name = has_value (domain_named scope name)
 
--- a bag
+-- a state bag
 abbrev pub is_bag : Scope → ℕ → Bool
 is_bag scope name = has_values (domain_named scope name)
+
+-- a bag that can be read: a state bag, and in external and confluent rules an input port
+abbrev pub is_readable : Scope → Option RuleSort → ℕ → Bool
+is_readable scope rule name = is_bag scope name || (sees_inputs rule && is_declared name scope.inputs)
 
 -- a loop around that has this variable, or else a variable or a flag of the model
 abbrev pub is_value : Scope → List ℕ → ℕ → Bool
@@ -91,39 +97,44 @@ is_value scope loops name = is_declared name loops || is_variable scope name
 abbrev pub is_assignable : Scope → List ℕ → ℕ → Bool
 is_assignable scope loops name = is_variable scope name && not (is_declared name loops)
 
--- all names of an expression are known: where a value is wanted of values, and else of bags
-abbrev pub are_terms_known : Scope → List ℕ → Expression → Bool
-are_terms_known scope loops (Literal n) = true
-are_terms_known scope loops (TruthValue place value) = true
-are_terms_known scope loops (Named name) = is_value scope loops name.number
-are_terms_known scope loops (Parens place e) = are_terms_known scope loops e
-are_terms_known scope loops (Prefixed operator place e) = are_terms_known scope loops e
-are_terms_known scope loops (Binary operator a b) = are_terms_known scope loops a && are_terms_known scope loops b
-are_terms_known scope loops (Call call place b) = is_bag scope b.number
-are_terms_known scope loops (Times place e b) = are_terms_known scope loops e && is_bag scope b.number
+-- all names of an expression in a rule of a sort, or outside of all rules, are known: where a value is wanted of values, and else of
+-- bags that can be read; `elapsed` is known in external rules alone
+abbrev pub are_terms_known : Scope → Option RuleSort → List ℕ → Expression → Bool
+are_terms_known scope rule loops (Literal n) = true
+are_terms_known scope rule loops (TruthValue place value) = true
+are_terms_known scope rule loops (Named name) = is_value scope loops name.number
+are_terms_known scope rule loops (Parens place e) = are_terms_known scope rule loops e
+are_terms_known scope rule loops (Prefixed operator place e) = are_terms_known scope rule loops e
+are_terms_known scope rule loops (Binary operator a b) = are_terms_known scope rule loops a && are_terms_known scope rule loops b
+are_terms_known scope rule loops (Call call place b) = is_readable scope rule b.number
+are_terms_known scope rule loops (Elapsed place) = knows_elapsed rule
+are_terms_known scope rule loops (Times place e b) = are_terms_known scope rule loops e && is_readable scope rule b.number
 
--- those of a hold
+-- those of a hold, which stands in no rule
 abbrev pub are_ticks_known : Scope → Option Expression → Bool
 are_ticks_known scope None = true
-are_ticks_known scope (Some e) = are_terms_known scope [] e
+are_ticks_known scope (Some e) = are_terms_known scope None [] e
 
 -- all names of statements in loops of these variables are known: variables and flags, bags, phases and ports; no loop variable is
--- assigned
-abbrev pub are_names_known : Scope → List ℕ → Statements → Bool
-are_names_known scope loops Done = true
-are_names_known scope loops (Assign variable e rest) =
-    is_assignable scope loops variable.number && (are_terms_known scope loops e && are_names_known scope loops rest)
-are_names_known scope loops (Goto place phase rest) = is_declared phase.number scope.phases && are_names_known scope loops rest
-are_names_known scope loops (Send place port e rest) =
-    is_declared port.number scope.outputs && (are_terms_known scope loops e && are_names_known scope loops rest)
-are_names_known scope loops (If place e block rest) =
-    are_terms_known scope loops e && (are_names_known scope loops block && are_names_known scope loops rest)
-are_names_known scope loops (IfElse place e block other rest) =
-    are_terms_known scope loops e && (are_names_known scope loops block && (are_names_known scope loops other && are_names_known scope loops rest))
-are_names_known scope loops (For place v b block rest) =
-    is_bag scope b.number && (are_names_known scope (v.number ∷ loops) block && are_names_known scope loops rest)
-are_names_known scope loops (Add place e b rest) = are_terms_known scope loops e && (is_bag scope b.number && are_names_known scope loops rest)
-are_names_known scope loops (Drop place e b rest) = are_terms_known scope loops e && (is_bag scope b.number && are_names_known scope loops rest)
+-- assigned, and no input port is changed
+abbrev pub are_names_known : Scope → Option RuleSort → List ℕ → Statements → Bool
+are_names_known scope rule loops Done = true
+are_names_known scope rule loops (Assign variable e rest) =
+    is_assignable scope loops variable.number && (are_terms_known scope rule loops e && are_names_known scope rule loops rest)
+are_names_known scope rule loops (Goto place phase rest) = is_declared phase.number scope.phases && are_names_known scope rule loops rest
+are_names_known scope rule loops (Send place port e rest) =
+    is_declared port.number scope.outputs && (are_terms_known scope rule loops e && are_names_known scope rule loops rest)
+are_names_known scope rule loops (If place e block rest) =
+    are_terms_known scope rule loops e && (are_names_known scope rule loops block && are_names_known scope rule loops rest)
+are_names_known scope rule loops (IfElse place e block other rest) =
+    are_terms_known scope rule loops e
+    && (are_names_known scope rule loops block && (are_names_known scope rule loops other && are_names_known scope rule loops rest))
+are_names_known scope rule loops (For place v b block rest) =
+    is_readable scope rule b.number && (are_names_known scope rule (v.number ∷ loops) block && are_names_known scope rule loops rest)
+are_names_known scope rule loops (Add place e b rest) =
+    are_terms_known scope rule loops e && (is_bag scope b.number && are_names_known scope rule loops rest)
+are_names_known scope rule loops (Drop place e b rest) =
+    are_terms_known scope rule loops e && (is_bag scope b.number && are_names_known scope rule loops rest)
 
 -- a value of a type
 abbrev pub is_of_type : ValueType → Value → Bool
@@ -142,6 +153,10 @@ abbrev pub values_within : List (Name × ℤ) → List (ℕ × ℤ)
 values_within [] = []
 values_within (v ∷ bound) = (v.0.number, v.1) ∷ values_within bound
 
+-- what is known beside the state in the blocks of these loops
+abbrev pub context_within : Arrivals → List (Name × ℤ) → Context
+context_within arrivals bound = record { arrivals = arrivals; loops = values_within bound }
+
 -- the state has a datum of this domain at the place of the name
 pub record HoldsDatum (scope : Scope) (s : State) (name : ℕ) (d : Domain) : Type 0 where
   pub place : ℕ
@@ -149,3 +164,10 @@ pub record HoldsDatum (scope : Scope) (s : State) (name : ℕ) (d : Domain) : Ty
   pub datum : Datum
   pub there : slice_get s.variables place ≡ Some datum
   pub fitting : datum_fits d datum ≡ true
+
+-- the name is that of an input port, and stands for the bag that has arrived there
+pub record ReadsPort (scope : Scope) (name : ℕ) : Type 0 where
+  pub port : ℕ
+  pub found : place_of name scope.inputs ≡ Some port
+  pub within : port < length scope.inputs
+  pub read : (m : Moment) → bag_of_name scope m name ≡ bag_at m.context.arrivals.received port

@@ -19,7 +19,13 @@ lamp value = record {
 
 -- coupled Top { part a: Lamp; }
 abbrev pub top : CoupledTree
-top = record { name = named 3 105; outputs = []; parts = record { name = named 4 116; model = named 0 119 } ∷ []; links = [] }
+top = record {
+  name = named 3 105;
+  inputs = [];
+  outputs = [];
+  parts = record { name = named 4 116; model = named 0 119 } ∷ [];
+  links = [];
+}
 
 -- both, and root Top;
 abbrev pub with_flag : Expression → FileTree

@@ -1,9 +1,11 @@
--- What a reader believes: values, bags, what a rule does, and the entries of a trace.
+-- What a reader believes: values, bags, inputs, what a rule does, and the entries of a trace.
 pub mod Bag
+pub mod Inputs
 pub mod Outcome
 pub mod Part
 pub mod Reading
 pub mod Words
 -- What serves proofs.
+pub mod InputSteps
 pub mod Same
 pub mod Sent

@@ -1,4 +1,4 @@
-//! What a trace is made of: values, bags, states, faults, and entries.
+//! What a run takes and gives: inputs; values, bags, states, faults, and the entries of a trace.
 #![tactic(auto)]
 
 /// Bags of values.
@@ -7,6 +7,8 @@ pub mod bag;
 pub mod entry;
 /// Faults.
 pub mod fault;
+/// Inputs from outside.
+pub mod inputs;
 /// Laws of bags and of parts.
 pub mod laws;
 /// Parts of a trace.
@@ -21,6 +23,7 @@ pub mod value;
 pub use bag::{Bag, Bags};
 pub use entry::{Entry, Kind, Outer, What};
 pub use fault::{Fault, RuleError};
+pub use inputs::{Input, Inputs};
 pub use part::{Part, Trace};
 pub use sent::Sent;
 pub use state::{Datum, DatumView, Effect, HeldBag, State, Variables};

@@ -9,6 +9,8 @@ mod checks;
 #[cfg(test)]
 mod compare;
 #[cfg(test)]
+mod inputs;
+#[cfg(test)]
 mod meanings;
 #[cfg(test)]
 mod times;

@@ -2,7 +2,7 @@
 
 use crate::compare::{Call, error_text, rows};
 use dv_bag::{Effect, Fault, RuleError, State, Value};
-use dv_eval::{Loops, Moment, Scope, eval, hold, rule_body, run_rule, start_state};
+use dv_eval::{Arrivals, Context, Moment, Scope, eval, hold, rule_body, run_rule, start_state};
 use dv_lex::{LoadError, tokens};
 use dv_parser::parse;
 use dv_syntax::{Atomic, File, Model, RuleSort, Ticks};
@@ -70,9 +70,11 @@ fn value_text(
     state: &State,
     scope: &Scope,
 ) -> Result<String, AllocError> {
+    let arrivals = Arrivals::nothing();
+    let context = Context::Outermost(&arrivals);
     let moment = Moment {
         state,
-        loops: &Loops::Outermost,
+        context: &context,
     };
     match ticks {
         Ticks::After(expression) => text_of_value(alloc, eval(expression, &moment, scope)),
@@ -101,7 +103,7 @@ fn rule_text(
     scope: &Scope,
 ) -> Result<String, AllocError> {
     let statements = rule_body(model, RuleSort::Internal, START);
-    match run_rule(alloc, statements, state, scope) {
+    match run_rule(alloc, statements, state, &Arrivals::nothing(), scope) {
         Ok(effect) => effect_text(alloc, &effect),
         Err(error) => text_of_error(alloc, error),
     }

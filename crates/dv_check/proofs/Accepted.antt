@@ -1,12 +1,12 @@
 -- What the refusals that a file does not have say of it.
-use Rattle.std.proofs.Common.{subst, ⊎_elim, ◌≡◌, ℕ, ◌<◌, ◌≤◌, ◌==◌, Bool, true, false, not, if◌then◌else◌, List, [], ◌∷◌, ◌++◌, length, map, refl, sym, ap, ◌∙◌, Option, Some, None, option_map, Contains, arith}
+use Rattle.std.proofs.Common.{subst, ⊎_elim, ◌≡◌, ℕ, ◌+◌, ◌<◌, ◌≤◌, ◌==◌, Bool, true, false, not, ◌&&◌, if◌then◌else◌, List, [], ◌∷◌, ◌++◌, length, map, refl, sym, ap, ◌∙◌, Option, Some, None, option_map, Contains, arith}
 use Rattle.std.specs.List.{AllByRecursion, flat_map, slice_get}
 use Rattle.std.specs.Option.{option_or}
 use Rattle.std.proofs.lemmas.Option.{slice_get_cases}
 use Rattle.std.proofs.lemmas.List.{length-map}
 use Rattle.std.proofs.lemmas.List.Elements.{All-contains, All-from_recursion}
 use Rattle.dv_lex.specs.declared.error.RefusalNumber.{RefusalNumber}
-use Rattle.dv_lex.specs.declared.error.RefusalNumber.TheVariants.{E6}
+use Rattle.dv_lex.specs.declared.error.RefusalNumber.TheVariants.{E6, E13}
 use Rattle.dv_check.specs.LinkSets.{no_link}
 use Rattle.dv_lex.specs.Order.{first_refusal}
 use Rattle.dv_syntax.specs.declared.tree.Name.{Name}
@@ -15,13 +15,15 @@ use Rattle.dv_syntax.specs.declared.tree.Link.{Link}
 use Rattle.dv_syntax.specs.Trees.{ModelTree, AtomicModel, CoupledModel, CoupledTree, FileTree}
 use Rattle.dv_eval.specs.Scope.{is_declared, scope_of}
 use Rattle.dv_check.specs.declared.limits.TheConstants.{GREATEST_NAMES}
-use Rattle.dv_check.specs.Names.{excess, excess_of, excess_past, model_named, name_of_model, part_named, refusal, repeats, refusal_if}
+use Rattle.dv_check.specs.Names.{excess, excess_of, excess_past, model_named, name_of_model, part_named, repeats, refusal_if}
+use Rattle.dv_check.specs.declared.declarations.NameSort.{NameSort}
 use Rattle.dv_check.specs.Models.{Simple, face_of, faces_in}
-use Rattle.dv_check.specs.Rules.{is_none_left, sort_in}
-use Rattle.dv_check.specs.Couplings.{interior_of, coupled_refusals, link_refusals, name_of_part, part_model_refusals, part_refusals, part_source_refusals, part_target_refusals, parts_in, repeated_links_after, source_refusals, source_at_part, target_refusals, target_at_part}
+use Rattle.dv_check.specs.Rules.{is_none_left, name_of_declaration, sort_in}
+use Rattle.dv_check.specs.Couplings.{interior_of, coupled_refusals, has_ends, is_input, is_input_of_part, is_input_shown, is_output, is_output_of_part, is_output_shown, is_source, is_target, kind_refusals, leads_back, link_refusals, name_of_part, output_refusals, input_refusals, part_model_refusals, part_refusals, part_source_refusals, part_target_refusals, parts_in, port_refusals, ports_of, repeated_links_after, same_part, source_refusals, source_at_part, target_refusals, target_at_part}
 use Rattle.dv_check.specs.Refusals.{limit_refusals, model_refusals, refusal_of, refusals, root_limit_refusals, root_refusals}
-use Rattle.dv_check.specs.Accepted.{IsAtomicPart, IsOutputOfPart, IsOwnOutput, LeadsOut, IsAcceptedCoupled, IsAcceptedModel, IsAcceptedFile, IsThrough}
-use Rattle.dv_check.proofs.Declared.{output_declared}
+use Rattle.dv_check.specs.Accepted.{IsAtomicPart, IsOutputOfPart, IsInputOfPart, IsSource, IsTarget, LeadsOn, IsAcceptedCoupled, IsAcceptedModel, IsAcceptedFile, IsThrough}
+use Rattle.dv_check.proofs.Declared.{input_declared, output_declared}
+use Rattle.dv_check.proofs.Merged.{input_among, output_among, ports_counted}
 use Rattle.dv_check.proofs.Order.{none_first}
 
 -- ---- Lists without refusals
@@ -101,77 +103,185 @@ face_atomic : (models : List ModelTree) (p : Part) (h : IsAtomicPart models p) �
 unfolding faces_in
 face_atomic models p h = ap (option_map face_of) h.named
 
+-- a port of the direction that is wanted
+port_fine : (wanted other : Bool) (place : ℕ) → port_refusals wanted other place ≡ [] → wanted ≡ true
+port_fine true other place e = refl
+port_fine false true place e = absurd (cc)
+port_fine false false place e = absurd (cc)
+
+output_fine : (sort : Option NameSort) (place : ℕ) → output_refusals sort place ≡ [] → is_output sort ≡ true
+output_fine sort place e = port_fine (is_output sort) (is_input sort) place e
+
+input_fine : (sort : Option NameSort) (place : ℕ) → input_refusals sort place ≡ [] → is_input sort ≡ true
+input_fine sort place e = port_fine (is_input sort) (is_output sort) place e
+
+-- ---- Links of all files
+
+face_source : (models : List ModelTree) (p : Part) (h : IsAtomicPart models p) (port : Name)
+    → part_source_refusals (faces_in models p.model.number) port ≡ [] → is_declared port.number (scope_of h.model).outputs ≡ true
+face_source models p h port e =
+    let tested : part_source_refusals (Some (Simple (sort_in h.model.declarations))) port ≡ [] = sym (ap (λ o. part_source_refusals o port) (face_atomic models p h)) ∙ e in
+    output_declared port.number h.model.declarations [] (output_fine (sort_in h.model.declarations port.number) port.place tested)
+
+face_target : (models : List ModelTree) (p : Part) (h : IsAtomicPart models p) (port : Name)
+    → part_target_refusals (faces_in models p.model.number) port ≡ [] → is_input (sort_in h.model.declarations port.number) ≡ true
+face_target models p h port e =
+    let tested : part_target_refusals (Some (Simple (sort_in h.model.declarations))) port ≡ [] = sym (ap (λ o. part_target_refusals o port) (face_atomic models p h)) ∙ e in
+    input_fine (sort_in h.model.declarations port.number) port.place tested
+
+face_shows_output : (models : List ModelTree) (p : Part) (h : IsAtomicPart models p) (port : Name)
+    → part_source_refusals (faces_in models p.model.number) port ≡ []
+    → is_output_shown (faces_in models p.model.number) port.number ≡ true
+face_shows_output models p h port e =
+    let face = face_atomic models p h in
+    let tested : part_source_refusals (Some (Simple (sort_in h.model.declarations))) port ≡ [] = sym (ap (λ o. part_source_refusals o port) face) ∙ e in
+    ap (λ o. is_output_shown o port.number) face ∙ output_fine (sort_in h.model.declarations port.number) port.place tested
+
+face_shows_input : (models : List ModelTree) (p : Part) (h : IsAtomicPart models p) (port : Name)
+    → part_target_refusals (faces_in models p.model.number) port ≡ []
+    → is_input_shown (faces_in models p.model.number) port.number ≡ true
+face_shows_input models p h port e = ap (λ o. is_input_shown o port.number) (face_atomic models p h) ∙ face_target models p h port e
+
+true_false : (b : Bool) → b ≡ true → b ≡ false → ⊥
+true_false b is not_so = let e : true ≡ false = sym is ∙ not_so in cc
+
+both_true : (a b : Bool) → a ≡ true → b ≡ true → (a && b) ≡ true
+both_true true b first second = second
+both_true false b first second = absurd (cc)
+
+not_back : (back ends : Bool) → ends ≡ true → (back && ends) ≡ false → back ≡ false
+not_back true ends e tested = absurd (true_false ends e tested)
+not_back false ends e tested = refl
+
 module _ (models : List ModelTree) (m : CoupledTree) (atomic : AllByRecursion (IsAtomicPart models) m.parts) where
-  own_source : (b : Bool) (number other : RefusalNumber) (place : ℕ) → (if b then refusal number place ∷ [] else refusal other place ∷ []) ≡ [] → ⊥
-  own_source true number other place e = cc
-  own_source false number other place e = cc
-
-  output_of_atomic : (p : Part) (h : IsAtomicPart models p) (port : Name) → part_source_refusals (faces_in models p.model.number) port ≡ [] → is_declared port.number (scope_of h.model).outputs ≡ true
-  output_of_atomic p h port e =
-      let tested : part_source_refusals (Some (Simple (sort_in h.model.declarations))) port ≡ [] = sym (ap (λ o. part_source_refusals o port) (face_atomic models p h)) ∙ e in
-      output_declared port.number h.model.declarations [] (not_false _ (not_refused _ _ _ tested))
-
   source_at : (o : Option Part) (part_name : Option Name) (name port : Name) → part_name ≡ Some name → part_named name.number m.parts ≡ o → source_at_part (interior_of models m) o name port ≡ [] → IsOutputOfPart models m.parts part_name port
   source_at None part_name name port at is e = absurd (cc)
   source_at (Some p) part_name name port at is e =
       let h = part_with (IsAtomicPart models) m.parts name.number p atomic is in
-      record { name = name; at_part = at; part = p; known = is; atomic = h; output = output_of_atomic p h port e }
+      record { name = name; at_part = at; part = p; known = is; atomic = h; output = face_source models p h port e }
 
-  source_found : (part_name : Option Name) (port : Name) → source_refusals (interior_of models m) part_name port ≡ [] → IsOutputOfPart models m.parts part_name port
+  target_at : (o : Option Part) (part_name : Option Name) (name port : Name) → part_name ≡ Some name
+      → part_named name.number m.parts ≡ o → target_at_part (interior_of models m) o name port ≡ []
+      → IsInputOfPart models m.parts part_name port
+  target_at None part_name name port at is e = absurd (cc)
+  target_at (Some p) part_name name port at is e =
+      let h = part_with (IsAtomicPart models) m.parts name.number p atomic is in
+      record { name = name; at_part = at; part = p; known = is; atomic = h; input = input_declared port.number h.model.declarations [] (face_target models p h port e) }
+
+  source_linked : (part_name : Option Name) (port : Name) → source_refusals (interior_of models m) part_name port ≡ []
+      → IsSource models m part_name port
   unfolding parts_in
-  source_found None port e = absurd (own_source _ _ _ _ e)
-  source_found (Some name) port e = source_at (part_named name.number m.parts) (Some name) name port refl refl e
+  source_linked None port e = input_among port.number m.inputs m.outputs (input_fine (sort_in (ports_of m) port.number) port.place e)
+  source_linked (Some name) port e = source_at (part_named name.number m.parts) (Some name) name port refl refl e
 
-  no_target_of_atomic : (p : Part) (h : IsAtomicPart models p) (port : Name) → part_target_refusals (faces_in models p.model.number) port ≡ [] → ⊥
-  no_target_of_atomic p h port e =
-      let tested : part_target_refusals (Some (Simple (sort_in h.model.declarations))) port ≡ [] = sym (ap (λ o. part_target_refusals o port) (face_atomic models p h)) ∙ e in
-      own_source _ _ _ _ tested
-
-  no_target_at : (o : Option Part) (name port : Name) → part_named name.number m.parts ≡ o → target_at_part (interior_of models m) o name port ≡ [] → ⊥
-  no_target_at None name port is e = cc
-  no_target_at (Some p) name port is e = no_target_of_atomic p (part_with (IsAtomicPart models) m.parts name.number p atomic is) port e
-
-  target_found : (part_name : Option Name) (port : Name) → target_refusals (interior_of models m) part_name port ≡ [] → IsOwnOutput m part_name port
+  target_linked : (part_name : Option Name) (port : Name) → target_refusals (interior_of models m) part_name port ≡ []
+      → IsTarget models m part_name port
   unfolding parts_in
-  target_found None port e = record { at_itself = refl; output = not_false _ (not_refused _ _ _ e) }
-  target_found (Some name) port e = absurd (no_target_at (part_named name.number m.parts) name port refl e)
+  target_linked None port e = output_among port.number m.inputs m.outputs (output_fine (sort_in (ports_of m) port.number) port.place e)
+  target_linked (Some name) port e = target_at (part_named name.number m.parts) (Some name) name port refl refl e
 
-  links_lead_out : (links : List Link) → flat_map (link_refusals (interior_of models m)) links ≡ [] → AllByRecursion (LeadsOut models m) links
-  links_lead_out [] e = tt
-  links_lead_out (l ∷ links) e =
+  source_shown_at : (o : Option Part) (name port : Name) → part_named name.number m.parts ≡ o
+      → source_at_part (interior_of models m) o name port ≡ [] → is_output_of_part (interior_of models m) o port.number ≡ true
+  source_shown_at None name port is e = absurd (cc)
+  source_shown_at (Some p) name port is e =
+      face_shows_output models p (part_with (IsAtomicPart models) m.parts name.number p atomic is) port e
+
+  target_shown_at : (o : Option Part) (name port : Name) → part_named name.number m.parts ≡ o
+      → target_at_part (interior_of models m) o name port ≡ [] → is_input_of_part (interior_of models m) o port.number ≡ true
+  target_shown_at None name port is e = absurd (cc)
+  target_shown_at (Some p) name port is e =
+      face_shows_input models p (part_with (IsAtomicPart models) m.parts name.number p atomic is) port e
+
+  source_shown : (part_name : Option Name) (port : Name) → source_refusals (interior_of models m) part_name port ≡ []
+      → is_source (interior_of models m) part_name port.number ≡ true
+  unfolding parts_in
+  source_shown None port e = input_fine (sort_in (ports_of m) port.number) port.place e
+  source_shown (Some name) port e = source_shown_at (part_named name.number m.parts) name port refl e
+
+  target_shown : (part_name : Option Name) (port : Name) → target_refusals (interior_of models m) part_name port ≡ []
+      → is_target (interior_of models m) part_name port.number ≡ true
+  unfolding parts_in
+  target_shown None port e = output_fine (sort_in (ports_of m) port.number) port.place e
+  target_shown (Some name) port e = target_shown_at (part_named name.number m.parts) name port refl e
+
+  link_leads_on : (l : Link) → link_refusals (interior_of models m) l ≡ [] → LeadsOn models m l
+  link_leads_on l e =
       let w = interior_of models m in
-      let both = both_nil (link_refusals w l) (flat_map (link_refusals w) links) e in
-      let ends = both_nil (source_refusals w l.from.part l.from.port) (target_refusals w l.to.part l.to.port) both.0 in
-      (record { source = source_found l.from.part l.from.port ends.0; target = target_found l.to.part l.to.port ends.1 }, links_lead_out links both.1)
+      let back = refusal_if (leads_back l && has_ends w l) E13 l.place in
+      let target = target_refusals w l.to.part l.to.port in
+      let ends = both_nil (source_refusals w l.from.part l.from.port) (target ++ back) e in
+      let behind = both_nil target back ends.1 in
+      let known = both_true (is_source w l.from.part l.from.port.number) (is_target w l.to.part l.to.port.number) (source_shown l.from.part l.from.port ends.0) (target_shown l.to.part l.to.port behind.0) in
+      record {
+        source = source_linked l.from.part l.from.port ends.0;
+        target = target_linked l.to.part l.to.port behind.0;
+        onward = not_back (leads_back l) (has_ends w l) known (not_refused _ _ _ behind.1);
+      }
+
+  links_lead_on : (links : List Link) → flat_map (link_refusals (interior_of models m)) links ≡ [] → AllByRecursion (LeadsOn models m) links
+  links_lead_on [] e = tt
+  links_lead_on (l ∷ links) e =
+      let both = both_nil (link_refusals (interior_of models m) l) (flat_map (link_refusals (interior_of models m)) links) e in
+      (link_leads_on l both.0, links_lead_on links both.1)
 
 -- ---- Coupled models, and the file
 
 few_named : (parts : List Part) (n : ℕ) → length (map name_of_part parts) ≤ n → length parts ≤ n
 few_named parts n e = omega (arith, e, length-map parts name_of_part)
 
-pub coupled_accepted : (models : List ModelTree) (m : CoupledTree) → coupled_refusals models m ≡ [] → IsAcceptedCoupled models m
-coupled_accepted models m e =
+few_of_kind : (names : List Name) → kind_refusals names ≡ [] → length names ≤ GREATEST_NAMES
+few_of_kind names e = few GREATEST_NAMES names (both_nil (repeats E6 names) (excess names) e).1
+
+few_own_ports : (m : CoupledTree) → kind_refusals (map name_of_declaration (ports_of m)) ≡ []
+    → length m.inputs + length m.outputs ≤ GREATEST_NAMES
+few_own_ports m e = omega (arith, few_of_kind (map name_of_declaration (ports_of m)) e, length-map (ports_of m) name_of_declaration, ports_counted m.inputs m.outputs)
+
+-- what stands in the list of all refusals of a coupled model
+record Nothing (models : List ModelTree) (m : CoupledTree) : Type 0 where
+  ports : kind_refusals (map name_of_declaration (ports_of m)) ≡ []
+  names : kind_refusals (map name_of_part m.parts) ≡ []
+  sorts : flat_map (part_refusals (interior_of models m)) m.parts ≡ []
+  ends : flat_map (link_refusals (interior_of models m)) m.links ≡ []
+
+nothing_of : (models : List ModelTree) (m : CoupledTree) → coupled_refusals models m ≡ [] → Nothing models m
+nothing_of models m e =
     let w = interior_of models m in
-    let names = map name_of_part m.parts in
-    let many = excess m.outputs ++ excess names in
     let twice = repeated_links_after w no_link m.links in
     let ends = flat_map (link_refusals w) m.links in
     let sorts = flat_map (part_refusals w) m.parts in
-    let behind_outputs = (both_nil (repeats E6 m.outputs) (repeats E6 names ++ (sorts ++ (ends ++ (twice ++ many)))) e).1 in
-    let parts = both_nil sorts (ends ++ (twice ++ many)) (both_nil (repeats E6 names) (sorts ++ (ends ++ (twice ++ many))) behind_outputs).1 in
-    let links = both_nil ends (twice ++ many) parts.1 in
-    let few_both = both_nil (excess m.outputs) (excess names) (both_nil twice many links.1).1 in
-    let atomic = parts_atomic models m m.parts parts.0 in
+    let names = kind_refusals (map name_of_part m.parts) in
+    let ports = kind_refusals (map name_of_declaration (ports_of m)) in
+    let first = both_nil ports (names ++ (sorts ++ (ends ++ twice))) e in
+    let second = both_nil names (sorts ++ (ends ++ twice)) first.1 in
+    let third = both_nil sorts (ends ++ twice) second.1 in
+    record { ports = first.0; names = second.0; sorts = third.0; ends = (both_nil ends twice third.1).0 }
+
+pub coupled_accepted : (models : List ModelTree) (m : CoupledTree) → coupled_refusals models m ≡ [] → IsAcceptedCoupled models m
+coupled_accepted models m e =
+    let nothing = nothing_of models m e in
+    let atomic = parts_atomic models m m.parts nothing.sorts in
     record {
       parts = atomic;
-      links = links_lead_out models m atomic m.links links.0;
-      few_parts = few_named m.parts GREATEST_NAMES (few GREATEST_NAMES names few_both.1);
-      few_outputs = few GREATEST_NAMES m.outputs few_both.0;
+      links = links_lead_on models m atomic m.links nothing.ends;
+      few_parts = few_named m.parts GREATEST_NAMES (few_of_kind (map name_of_part m.parts) nothing.names);
+      few_ports = few_own_ports m nothing.ports;
     }
 
 not_empty : (parts : List Part) → is_none_left parts ≡ false → 0 < length parts
 not_empty [] e = absurd (cc)
 not_empty (p ∷ parts) e = omega arith
+
+models_fine : (f : FileTree) → refusals f ≡ [] → flat_map (model_refusals f.models) f.models ≡ []
+models_fine f e =
+    let models = flat_map (model_refusals f.models) f.models in
+    let root = root_refusals (model_named f.root.number f.models) f.root.place in
+    (both_nil models root (both_nil (repeats E6 (map name_of_model f.models)) (models ++ root) e).1).0
+
+root_fine : (f : FileTree) → refusals f ≡ [] → root_refusals (model_named f.root.number f.models) f.root.place ≡ []
+root_fine f e =
+    let models = flat_map (model_refusals f.models) f.models in
+    let root = root_refusals (model_named f.root.number f.models) f.root.place in
+    (both_nil models root (both_nil (repeats E6 (map name_of_model f.models)) (models ++ root) e).1).1
 
 model_accepted_as : (models : List ModelTree) (m : ModelTree) → model_refusals models m ≡ [] → IsAcceptedModel models m
 model_accepted_as models (AtomicModel m) e = e
@@ -183,7 +293,8 @@ models_accepted all (m ∷ models) e =
     let both = both_nil (model_refusals all m) (flat_map (model_refusals all) models) e in
     (model_accepted_as all m both.0, models_accepted all models both.1)
 
-root_accepted : (f : FileTree) (o : Option ModelTree) → model_named f.root.number f.models ≡ o → root_refusals o f.root.place ≡ [] → root_limit_refusals o f.root.place ≡ [] → flat_map (model_refusals f.models) f.models ≡ [] → IsAcceptedFile f
+root_accepted : (f : FileTree) (o : Option ModelTree) → model_named f.root.number f.models ≡ o → root_refusals o f.root.place ≡ []
+    → root_limit_refusals o f.root.place ≡ [] → flat_map (model_refusals f.models) f.models ≡ [] → IsAcceptedFile f
 root_accepted f None is e limit none = absurd (cc)
 root_accepted f (Some (AtomicModel m)) is e limit none = absurd (cc)
 root_accepted f (Some (CoupledModel m)) is e limit none = record {
@@ -197,15 +308,19 @@ root_accepted f (Some (CoupledModel m)) is e limit none = record {
 pub file_accepted : (f : FileTree) → refusal_of f ≡ None → IsAcceptedFile f
 file_accepted f e =
     let nothing = nothing_refused f e in
-    let models = flat_map (model_refusals f.models) f.models in
-    let root = root_refusals (model_named f.root.number f.models) f.root.place in
-    let both = both_nil models root (both_nil (repeats E6 (map name_of_model f.models)) (models ++ root) nothing.0).1 in
-    root_accepted f (model_named f.root.number f.models) refl both.1 nothing.1 both.0
+    root_accepted f (model_named f.root.number f.models) refl (root_fine f nothing.0) nothing.1 (models_fine f nothing.0)
 
-no_through : (models : List ModelTree) (m : CoupledTree) (l : Link) → LeadsOut models m l → IsThrough l → ⊥
-no_through models m l leads through = let e : Some leads.source.name ≡ None = sym leads.source.at_part ∙ through.0 in cc
+-- ---- No link leads through
+
+both_none : (source target : Option Name) → source ≡ None → target ≡ None → same_part source target ≡ true
+both_none None None by_source by_target = refl
+both_none None (Some b) by_source by_target = absurd (cc)
+both_none (Some a) target by_source by_target = absurd (cc)
+
+no_through : (models : List ModelTree) (m : CoupledTree) (l : Link) → LeadsOn models m l → IsThrough l → ⊥
+no_through models m l leads through = true_false (leads_back l) (both_none l.from.part l.to.part through.0 through.1) leads.onward
 
 pub none_through : (f : FileTree) (m : CoupledTree) (l : Link) → refusal_of f ≡ None → Contains f.models (CoupledModel m) → Contains m.links l → IsThrough l → ⊥
 none_through f m l e has has_link =
-    let accepted : IsAcceptedModel f.models (CoupledModel m) = All-contains (IsAcceptedModel f.models) f.models (CoupledModel m) (All-from_recursion (IsAcceptedModel f.models) f.models (file_accepted f e).models) has in
-    no_through f.models m l (All-contains (LeadsOut f.models m) m.links l (All-from_recursion (LeadsOut f.models m) m.links accepted.links) has_link)
+    let linked : IsAcceptedModel f.models (CoupledModel m) = All-contains (IsAcceptedModel f.models) f.models (CoupledModel m) (All-from_recursion (IsAcceptedModel f.models) f.models (file_accepted f e).models) has in
+    no_through f.models m l (All-contains (LeadsOn f.models m) m.links l (All-from_recursion (LeadsOn f.models m) m.links linked.links) has_link)

@@ -3,15 +3,14 @@ use Rattle.std.proofs.Common.{◌≡◌, ℕ, List, ◌++◌, sym, ap, ◌∙◌
 use Rattle.std.proofs.lemmas.List.Sums.{fold-append}
 use Rattle.dv_lex.specs.declared.error.Refusal.{Refusal}
 use Rattle.dv_syntax.specs.declared.tree.Name.{Name}
-use Rattle.dv_syntax.specs.declared.tree.RuleSort.{RuleSort}
 use Rattle.dv_syntax.specs.declared.tree.Stmt.{Stmt}
 use Rattle.dv_syntax.specs.Trees.{Expression, Statements, If, IfElse, For, statement_before}
 use Rattle.dv_check.specs.declared.environment.Environment.{Environment, Loop, the_lemmas}
 use Rattle.dv_check.specs.declared.findings.Findings.{Findings}
 use Rattle.dv_check.specs.declared.expression.ValueType.TheVariants.{Truth}
 use Rattle.dv_check.specs.Findings.{with_refusal, with_refusals}
-use Rattle.dv_check.specs.Types.{bag_name_refusals, place_refusals}
-use Rattle.dv_check.specs.Rules.{Known, known_at, known_in_loop, loop_variable_refusals, statements_refusals}
+use Rattle.dv_check.specs.Types.{Known, bag_name_refusals, place_refusals}
+use Rattle.dv_check.specs.Rules.{known_at, known_in_loop, loop_variable_refusals, statements_refusals}
 
 -- one list of refusals behind another
 with_refusals-append : (found : Findings) (xs ys : List Refusal) → with_refusals found (xs ++ ys) ≡ with_refusals (with_refusals found xs) ys
@@ -33,24 +32,29 @@ with_refusals_thrice found found1 found2 found3 ws xs ys zs first second third =
 pub known_at-Loop : (variable : Name) (outer : Bor Environment) → known_at (Loop variable outer) ≡ known_in_loop variable (known_at outer.now)
 known_at-Loop variable outer = search (rules, the_lemmas)
 
-module _ (known : Known) (sort : RuleSort) (found found1 found2 : Findings) (s : Stmt) (place : ℕ) (e : Expression) (block rest : Statements) where
-  pub with_refusals-If : statement_before s rest ≡ If place e block rest → found1 ≡ with_refusals found (place_refusals Truth known.sort e) → found2 ≡ with_refusals found1 (statements_refusals known sort block) → with_refusals found2 (statements_refusals known sort rest) ≡ with_refusals found (statements_refusals known sort (statement_before s rest))
+module _ (known : Known) (found found1 found2 : Findings) (s : Stmt) (place : ℕ) (e : Expression) (block rest : Statements) where
+  pub with_refusals-If : statement_before s rest ≡ If place e block rest → found1 ≡ with_refusals found (place_refusals Truth known e)
+      → found2 ≡ with_refusals found1 (statements_refusals known block)
+      → with_refusals found2 (statements_refusals known rest) ≡ with_refusals found (statements_refusals known (statement_before s rest))
   with_refusals-If tree first second =
-      with_refusals_twice found found1 found2 (place_refusals Truth known.sort e) (statements_refusals known sort block) (statements_refusals known sort rest) first second
-      ∙ ap (λ x. with_refusals found (statements_refusals known sort x)) (sym tree)
+      with_refusals_twice found found1 found2 (place_refusals Truth known e) (statements_refusals known block) (statements_refusals known rest) first second
+      ∙ ap (λ x. with_refusals found (statements_refusals known x)) (sym tree)
 
-  pub with_refusals-IfElse : (other : Statements) (found3 : Findings) → statement_before s rest ≡ IfElse place e block other rest → found1 ≡ with_refusals found (place_refusals Truth known.sort e) → found2 ≡ with_refusals found1 (statements_refusals known sort block) → found3 ≡ with_refusals found2 (statements_refusals known sort other) → with_refusals found3 (statements_refusals known sort rest) ≡ with_refusals found (statements_refusals known sort (statement_before s rest))
+  pub with_refusals-IfElse : (other : Statements) (found3 : Findings) → statement_before s rest ≡ IfElse place e block other rest
+      → found1 ≡ with_refusals found (place_refusals Truth known e) → found2 ≡ with_refusals found1 (statements_refusals known block)
+      → found3 ≡ with_refusals found2 (statements_refusals known other)
+      → with_refusals found3 (statements_refusals known rest) ≡ with_refusals found (statements_refusals known (statement_before s rest))
   with_refusals-IfElse other found3 tree first second third =
-      with_refusals_thrice found found1 found2 found3 (place_refusals Truth known.sort e) (statements_refusals known sort block) (statements_refusals known sort other) (statements_refusals known sort rest) first second third
-      ∙ ap (λ x. with_refusals found (statements_refusals known sort x)) (sym tree)
+      with_refusals_thrice found found1 found2 found3 (place_refusals Truth known e) (statements_refusals known block) (statements_refusals known other) (statements_refusals known rest) first second third
+      ∙ ap (λ x. with_refusals found (statements_refusals known x)) (sym tree)
 
-module _ (known : Known) (sort : RuleSort) (found found1 found2 found3 : Findings) (s : Stmt) (place : ℕ) (variable bag : Name) (block rest : Statements) where
+module _ (known : Known) (found found1 found2 found3 : Findings) (s : Stmt) (place : ℕ) (variable bag : Name) (block rest : Statements) where
   pub with_refusals-For : statement_before s rest ≡ For place variable bag block rest
       → found1 ≡ with_refusals found (loop_variable_refusals (known.place variable.number) variable.place)
-      → found2 ≡ with_refusals found1 (bag_name_refusals (known.sort bag.number) bag.place)
-      → found3 ≡ with_refusals found2 (statements_refusals (known_in_loop variable known) sort block)
-      → with_refusals found3 (statements_refusals known sort rest) ≡ with_refusals found (statements_refusals known sort (statement_before s rest))
+      → found2 ≡ with_refusals found1 (bag_name_refusals known.rule (known.sort bag.number) bag.place)
+      → found3 ≡ with_refusals found2 (statements_refusals (known_in_loop variable known) block)
+      → with_refusals found3 (statements_refusals known rest) ≡ with_refusals found (statements_refusals known (statement_before s rest))
   with_refusals-For tree first second third =
-      with_refusals_thrice found found1 found2 found3 (loop_variable_refusals (known.place variable.number) variable.place) (bag_name_refusals (known.sort bag.number) bag.place)
-      (statements_refusals (known_in_loop variable known) sort block) (statements_refusals known sort rest) first second third
-      ∙ ap (λ x. with_refusals found (statements_refusals known sort x)) (sym tree)
+      with_refusals_thrice found found1 found2 found3 (loop_variable_refusals (known.place variable.number) variable.place) (bag_name_refusals known.rule (known.sort bag.number) bag.place)
+      (statements_refusals (known_in_loop variable known) block) (statements_refusals known rest) first second third
+      ∙ ap (λ x. with_refusals found (statements_refusals known x)) (sym tree)

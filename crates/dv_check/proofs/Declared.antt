@@ -3,11 +3,11 @@ use Rattle.std.proofs.Common.{◌≡◌, ℕ, ◌==◌, Bool, true, false, arith
 use Rattle.std.proofs.lemmas.List.Folds.{list_any-append}
 use Rattle.dv_syntax.specs.declared.tree.Name.{Name}
 use Rattle.dv_syntax.specs.declared.tree.Declaration.{Declaration}
-use Rattle.dv_syntax.specs.declared.tree.Declaration.TheVariants.{Out, Var, Flag, Bag}
-use Rattle.dv_eval.specs.Scope.{is_declared, outputs_in, with_name, with_names}
+use Rattle.dv_syntax.specs.declared.tree.Declaration.TheVariants.{In, Out, Var, Flag, Bag}
+use Rattle.dv_eval.specs.Scope.{inputs_in, is_declared, outputs_in, with_name, with_names}
 use Rattle.dv_check.specs.declared.declarations.NameSort.{NameSort}
-use Rattle.dv_check.specs.declared.declarations.NameSort.TheVariants.{Variable as ForVariable, Flag as ForFlag, Bag as ForBag, Output as ForOutput}
-use Rattle.dv_check.specs.Couplings.{is_output}
+use Rattle.dv_check.specs.declared.declarations.NameSort.TheVariants.{Variable as ForVariable, Flag as ForFlag, Bag as ForBag, Input as ForInput, Output as ForOutput}
+use Rattle.dv_check.specs.Couplings.{is_input, is_output}
 use Rattle.dv_check.specs.Rules.{sort_in}
 use Rattle.dv_check.specs.Tables.{first_of}
 
@@ -57,7 +57,32 @@ module _ (q : ℕ) where
   pub output_declared : (ds : List Declaration) (names : List ℕ) → is_output (sort_in ds q) ≡ true → is_declared q (with_names names (outputs_in ds)) ≡ true
   unfolding first_of
   output_declared [] names e = absurd (cc)
+  output_declared (In port ∷ ds) names e = output_declared ds names (output_if (port.number == q) ForInput (sort_in ds q) refl e)
   output_declared (Out port ∷ ds) names e = output_first (port.number == q) port ds names refl e (output_declared ds (with_name names port))
   output_declared (Var v ∷ ds) names e = output_declared ds names (output_if (v.name.number == q) ForVariable (sort_in ds q) refl e)
   output_declared (Flag f ∷ ds) names e = output_declared ds names (output_if (f.name.number == q) ForFlag (sort_in ds q) refl e)
   output_declared (Bag b ∷ ds) names e = output_declared ds names (output_if (b.name.number == q) ForBag (sort_in ds q) refl e)
+
+-- a name that stands for an input
+input_if : (b : Bool) (sort : NameSort) (o : Option NameSort) → is_input (Some sort) ≡ false
+    → is_input (if b then Some sort else o) ≡ true → is_input o ≡ true
+input_if true sort o other e = absurd (cc)
+input_if false sort o other e = e
+
+module _ (q : ℕ) where
+  input_first : (b : Bool) (port : Name) (ds : List Declaration) (names : List ℕ) → (port.number == q) ≡ b
+      → is_input (if b then Some ForInput else sort_in ds q) ≡ true
+      → (is_input (sort_in ds q) ≡ true → is_declared q (with_names (with_name names port) (inputs_in ds)) ≡ true)
+      → is_declared q (with_names (with_name names port) (inputs_in ds)) ≡ true
+  input_first true port ds names same e later = stays_declared q (with_name names port) (inputs_in ds) (new_declared q names port same)
+  input_first false port ds names other e later = later e
+
+  pub input_declared : (ds : List Declaration) (names : List ℕ) → is_input (sort_in ds q) ≡ true
+      → is_declared q (with_names names (inputs_in ds)) ≡ true
+  unfolding first_of
+  input_declared [] names e = absurd (cc)
+  input_declared (In port ∷ ds) names e = input_first (port.number == q) port ds names refl e (input_declared ds (with_name names port))
+  input_declared (Out port ∷ ds) names e = input_declared ds names (input_if (port.number == q) ForOutput (sort_in ds q) refl e)
+  input_declared (Var v ∷ ds) names e = input_declared ds names (input_if (v.name.number == q) ForVariable (sort_in ds q) refl e)
+  input_declared (Flag f ∷ ds) names e = input_declared ds names (input_if (f.name.number == q) ForFlag (sort_in ds q) refl e)
+  input_declared (Bag b ∷ ds) names e = input_declared ds names (input_if (b.name.number == q) ForBag (sort_in ds q) refl e)

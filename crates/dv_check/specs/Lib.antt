@@ -9,6 +9,7 @@ pub mod Refusals
 -- What the laws speak of.
 pub mod Accepted
 pub mod Loops
+pub mod Relays
 -- What serves proofs.
 pub mod Findings
 pub mod Tables

@@ -3,7 +3,7 @@ use Rattle.std.specs.Prelude.{ℕ, ◌+◌, List, [], ◌∷◌, false, None}
 use Rattle.dv_lex.specs.declared.error.Refusal.{Refusal}
 use Rattle.dv_syntax.specs.declared.tree.Name.{Name}
 use Rattle.dv_syntax.specs.declared.tree.Declaration.{Declaration}
-use Rattle.dv_syntax.specs.declared.tree.Declaration.TheVariants.{Flag, Bag}
+use Rattle.dv_syntax.specs.declared.tree.Declaration.TheVariants.{In, Flag, Bag}
 use Rattle.dv_syntax.specs.declared.tree.RuleSort.{RuleSort}
 use Rattle.dv_syntax.specs.declared.tree.RuleSort.TheVariants as rule
 use Rattle.dv_syntax.specs.Trees.{Expression, Literal, Statements, For, AtomicTree}
@@ -19,6 +19,10 @@ bag_at number place capacity = Bag (record { name = name_at number place; capaci
 
 abbrev pub flag_at : ℕ → ℕ → Declaration
 flag_at number place = Flag (record { name = name_at number place; start = false })
+
+-- in NAME;
+abbrev pub input_at : ℕ → ℕ → Declaration
+input_at number place = In (name_at number place)
 
 abbrev pub one_at : ℕ → Expression
 one_at place = Literal (record { value = 1; place = place })
@@ -38,10 +42,13 @@ heap declarations sort body = record {
   rules = record { sort = sort; phase = name_at 3 89; body = body } ∷ [];
 }
 
--- what is wrong where bag b 8; stands in front, with these declarations and this internal rule
-abbrev pub wrong_inside : List Declaration → Statements → List Refusal
-wrong_inside declarations body = atomic_refusals (heap (bag_at 2 15 8 ∷ declarations) rule.Internal body)
+-- what is wrong where bag b 8; stands in front, with these declarations and this rule
+abbrev pub wrong_under : RuleSort → List Declaration → Statements → List Refusal
+wrong_under sort declarations body = atomic_refusals (heap (bag_at 2 15 8 ∷ declarations) sort body)
 
--- and with this output rule
+-- with an internal rule, and with an output rule
+abbrev pub wrong_inside : List Declaration → Statements → List Refusal
+wrong_inside declarations body = wrong_under rule.Internal declarations body
+
 abbrev pub wrong_outside : List Declaration → Statements → List Refusal
-wrong_outside declarations body = atomic_refusals (heap (bag_at 2 15 8 ∷ declarations) rule.Output body)
+wrong_outside declarations body = wrong_under rule.Output declarations body

@@ -3,12 +3,12 @@ use Rattle.std.specs.Prelude.{ℕ, ◌==◌, Bool, true, false, not, ◌&&◌, �
 use Rattle.std.specs.List.{flat_map, list_any}
 use Rattle.dv_lex.specs.declared.error.Refusal.{Refusal}
 use Rattle.dv_lex.specs.declared.error.RefusalNumber.TheVariants.{E6, E7, E8, E9, E10, E11, E17}
-use Rattle.dv_syntax.specs.Trees.{Expression, Literal, TruthValue, Named, Parens, Prefixed, Binary, Call, Times, Statements, Done, Assign, Goto, Send, If, IfElse, For, Add, Drop, PhasesTree, HoldTree, RuleTree, AtomicTree}
+use Rattle.dv_syntax.specs.Trees.{Expression, Literal, TruthValue, Named, Parens, Prefixed, Binary, Call, Elapsed, Times, Statements, Done, Assign, Goto, Send, If, IfElse, For, Add, Drop, PhasesTree, HoldTree, RuleTree, AtomicTree}
 use Rattle.dv_syntax.specs.declared.tree.Name.{Name}
 use Rattle.dv_syntax.specs.declared.tree.Variable.{Variable}
 use Rattle.dv_syntax.specs.declared.tree.StateBag.{StateBag}
 use Rattle.dv_syntax.specs.declared.tree.Declaration.{Declaration}
-use Rattle.dv_syntax.specs.declared.tree.Declaration.TheVariants.{Out, Var, Flag, Bag}
+use Rattle.dv_syntax.specs.declared.tree.Declaration.TheVariants.{In, Out, Var, Flag, Bag}
 use Rattle.dv_syntax.specs.declared.tree.Start.{Start}
 use Rattle.dv_syntax.specs.declared.tree.RuleSort.{RuleSort}
 use Rattle.dv_syntax.specs.declared.tree.RuleSort.TheVariants as rule
@@ -16,11 +16,11 @@ use Rattle.dv_bag.specs.declared.TheConstants.{GREATEST_COUNT}
 use Rattle.dv_eval.specs.declared.scope.VariableRange.{VariableRange}
 use Rattle.dv_eval.specs.declared.scope.Domain.{Domain}
 use Rattle.dv_eval.specs.declared.scope.Domain.TheVariants as domain
-use Rattle.dv_eval.specs.Scope.{scope_of, range_of, same_sort, start_state, hold_ticks, outputs_in, state_variables_in, phases_in}
+use Rattle.dv_eval.specs.Scope.{scope_of, range_of, same_sort, start_state, hold_ticks, state_variables_in, phases_in}
 use Rattle.dv_eval.specs.Meaning.{hold_of}
 use Rattle.dv_check.specs.declared.limits.TheConstants.{GREATEST_NAMES}
 use Rattle.dv_check.specs.declared.declarations.NameSort.{NameSort}
-use Rattle.dv_check.specs.declared.declarations.NameSort.TheVariants.{Variable as ForVariable, Flag as ForFlag, Bag as ForBag, Output as ForOutput, LoopVariable as ForLoopVariable}
+use Rattle.dv_check.specs.declared.declarations.NameSort.TheVariants.{Variable as ForVariable, Flag as ForFlag, Bag as ForBag, Input as ForInput, Output as ForOutput, LoopVariable as ForLoopVariable}
 use Rattle.dv_check.specs.declared.expression.ValueType.TheVariants.{Number, Truth}
 use Rattle.dv_check.specs.declared.declarations.Declarations.{Declarations}
 use Rattle.dv_check.specs.declared.environment.Environment.{Environment, fold-Environment}
@@ -28,11 +28,12 @@ use Rattle.dv_check.specs.declared.environment.Environment.TheOpen.{Environment-
 use Rattle.dv_check.specs.declared.starts.Starts.{Starts}
 use Rattle.dv_check.specs.Names.{refusal, refusal_if, among, within_limit, repeats, excess}
 use Rattle.dv_check.specs.Tables.{first_of, value_for, has}
-use Rattle.dv_check.specs.Types.{type_of_name, bag_name_refusals, place_refusals, value_refusals}
+use Rattle.dv_check.specs.Types.{Known, type_of_name, bag_name_refusals, place_refusals, value_refusals}
 
 -- ---- Names
 
 abbrev pub name_of_declaration : Declaration → Name
+name_of_declaration (In port) = port
 name_of_declaration (Out port) = port
 name_of_declaration (Var v) = v.name
 name_of_declaration (Flag f) = f.name
@@ -45,6 +46,7 @@ abbrev pub place_of_declaration : Declaration → ℕ
 place_of_declaration d = (name_of_declaration d).place
 
 abbrev pub sort_of : Declaration → NameSort
+sort_of (In port) = ForInput
 sort_of (Out port) = ForOutput
 sort_of (Var v) = ForVariable
 sort_of (Flag f) = ForFlag
@@ -58,16 +60,18 @@ sort_in declarations = first_of number_of_declaration sort_of declarations
 abbrev pub place_in : List Declaration → ℕ → Option ℕ
 place_in declarations = first_of number_of_declaration place_of_declaration declarations
 
--- what is known of names at a place of an atomic model: what ports, variables, flags, bags and loop variables stand for, where
--- they are declared, and the phases
-pub record Known : Type 0 where
-  pub sort : ℕ → Option NameSort
-  pub place : ℕ → Option ℕ
-  pub has_phase : ℕ → Bool
-
--- outside of all loops; the phases of all items of phases are known
+-- what is known outside of all rules; the phases of all items of phases are known
 abbrev pub known_in : AtomicTree → Known
-known_in m = record { sort = sort_in m.declarations; place = place_in m.declarations; has_phase = among (phases_in m.phases) }
+known_in m = record {
+  sort = sort_in m.declarations;
+  place = place_in m.declarations;
+  has_phase = among (phases_in m.phases);
+  rule = None;
+}
+
+-- in a rule of a sort, or outside of all rules
+abbrev pub known_in_rule : Option RuleSort → Known → Known
+known_in_rule rule known = record { sort = known.sort; place = known.place; has_phase = known.has_phase; rule = rule }
 
 -- in the block of a loop its variable is known, and hides what else has its name
 abbrev pub known_in_loop : Name → Known → Known
@@ -75,15 +79,16 @@ known_in_loop v known = record {
   sort = λ q. if v.number == q then Some ForLoopVariable else known.sort q;
   place = λ q. if v.number == q then Some v.place else known.place q;
   has_phase = known.has_phase;
+  rule = known.rule;
 }
 
 -- what tables know
 abbrev pub known_by : Declarations → Known
-known_by d = record { sort = value_for d.sorts; place = value_for d.places; has_phase = has d.phases }
+known_by d = record { sort = value_for d.sorts; place = value_for d.places; has_phase = has d.phases; rule = None }
 
--- what an environment knows: its model's tables, and the variables of the loops around
+-- what an environment knows: its model's tables, the rule around, and the variables of the loops around
 abbrev pub environment_step : Environment-F Known → Known
-environment_step (Environment-F.Model declarations) = known_by declarations.now
+environment_step (Environment-F.Model declarations rule) = known_in_rule rule (known_by declarations.now)
 environment_step (Environment-F.Loop variable outer) = known_in_loop variable outer.now
 
 abbrev pub known_at : Environment → Known
@@ -104,6 +109,18 @@ held_phase h = record { number = h.phase.number; place = h.place }
 abbrev pub held_phases : List HoldTree → List Name
 held_phases holds = map held_phase holds
 
+-- the port that a declaration declares
+abbrev pub port_of : Declaration → Option Name
+port_of (In port) = Some port
+port_of (Out port) = Some port
+port_of (Var v) = None
+port_of (Flag f) = None
+port_of (Bag b) = None
+
+-- input and output ports together
+abbrev pub ports_in : List Declaration → List Name
+ports_in declarations = filter_map port_of declarations
+
 abbrev pub name_of_state_variable : Name × Domain → Name
 name_of_state_variable v = v.0
 
@@ -114,9 +131,11 @@ names_refusals m =
     ++ (repeats E6 (phases_in m.phases)
     ++ (repeats E6 (ruled_phases rule.Output m.rules)
     ++ (repeats E6 (ruled_phases rule.Internal m.rules)
-    ++ (excess (outputs_in m.declarations)
+    ++ (repeats E6 (ruled_phases rule.External m.rules)
+    ++ (repeats E6 (ruled_phases rule.Confluent m.rules)
+    ++ (excess (ports_in m.declarations)
     ++ (excess (map name_of_state_variable (state_variables_in m.declarations))
-    ++ excess (phases_in m.phases))))))
+    ++ excess (phases_in m.phases))))))))
 
 -- ---- What has to stand once
 
@@ -158,14 +177,20 @@ standing_refusals m =
 
 -- ---- Statements, holds and ranges
 
+-- an output rule changes nothing and goes nowhere
+abbrev pub is_output_rule : Option RuleSort → Bool
+is_output_rule None = false
+is_output_rule (Some sort) = same_sort sort rule.Output
+
 -- the variable of an assignment: known, a variable or a flag, and not in an output rule; a loop variable is never assigned
-abbrev pub assignment_refusals : RuleSort → Option NameSort → ℕ → List Refusal
-assignment_refusals sort None place = refusal E7 place ∷ []
-assignment_refusals sort (Some ForOutput) place = refusal E8 place ∷ []
-assignment_refusals sort (Some ForVariable) place = refusal_if (same_sort sort rule.Output) E9 place
-assignment_refusals sort (Some ForFlag) place = refusal_if (same_sort sort rule.Output) E9 place
-assignment_refusals sort (Some ForBag) place = refusal E8 place ∷ []
-assignment_refusals sort (Some ForLoopVariable) place = refusal E9 place ∷ []
+abbrev pub assignment_refusals : Option RuleSort → Option NameSort → ℕ → List Refusal
+assignment_refusals rule None place = refusal E7 place ∷ []
+assignment_refusals rule (Some ForInput) place = refusal E8 place ∷ []
+assignment_refusals rule (Some ForOutput) place = refusal E8 place ∷ []
+assignment_refusals rule (Some ForVariable) place = refusal_if (is_output_rule rule) E9 place
+assignment_refusals rule (Some ForFlag) place = refusal_if (is_output_rule rule) E9 place
+assignment_refusals rule (Some ForBag) place = refusal E8 place ∷ []
+assignment_refusals rule (Some ForLoopVariable) place = refusal E9 place ∷ []
 
 -- the port of a send: known, and an output
 abbrev pub sent_port_refusals : Option NameSort → ℕ → List Refusal
@@ -173,8 +198,19 @@ sent_port_refusals None place = refusal E7 place ∷ []
 sent_port_refusals (Some ForVariable) place = refusal E8 place ∷ []
 sent_port_refusals (Some ForFlag) place = refusal E8 place ∷ []
 sent_port_refusals (Some ForBag) place = refusal E8 place ∷ []
+sent_port_refusals (Some ForInput) place = refusal E8 place ∷ []
 sent_port_refusals (Some ForOutput) place = []
 sent_port_refusals (Some ForLoopVariable) place = refusal E8 place ∷ []
+
+-- the bag that is changed: known, and a state bag
+abbrev pub changed_bag_refusals : Option NameSort → ℕ → List Refusal
+changed_bag_refusals None place = refusal E7 place ∷ []
+changed_bag_refusals (Some ForVariable) place = refusal E8 place ∷ []
+changed_bag_refusals (Some ForFlag) place = refusal E8 place ∷ []
+changed_bag_refusals (Some ForBag) place = []
+changed_bag_refusals (Some ForInput) place = refusal E8 place ∷ []
+changed_bag_refusals (Some ForOutput) place = refusal E8 place ∷ []
+changed_bag_refusals (Some ForLoopVariable) place = refusal E8 place ∷ []
 
 abbrev pub phase_refusals : Known → Name → List Refusal
 phase_refusals known phase = refusal_if (not (known.has_phase phase.number)) E7 phase.place
@@ -185,30 +221,33 @@ loop_variable_refusals None place = []
 loop_variable_refusals (Some declared) place = refusal E6 (max declared place) ∷ []
 
 -- one more or one less of a value in a bag: not in an output rule
-abbrev pub change_refusals : Known → RuleSort → ℕ → Expression → Name → List Refusal
-change_refusals known sort place value bag =
-    refusal_if (same_sort sort rule.Output) E9 place
-    ++ (place_refusals Number known.sort value ++ bag_name_refusals (known.sort bag.number) bag.place)
+abbrev pub change_refusals : Known → ℕ → Expression → Name → List Refusal
+change_refusals known place value bag =
+    refusal_if (is_output_rule known.rule) E9 place
+    ++ (place_refusals Number known value ++ changed_bag_refusals (known.sort bag.number) bag.place)
 
-abbrev pub statements_refusals : Known → RuleSort → Statements → List Refusal
-statements_refusals known sort Done = []
-statements_refusals known sort (Assign variable value rest) =
-    assignment_refusals sort (known.sort variable.number) variable.place
-    ++ (value_refusals (type_of_name (known.sort variable.number)) known.sort value ++ statements_refusals known sort rest)
-statements_refusals known sort (Goto place phase rest) =
-    refusal_if (same_sort sort rule.Output) E9 place ++ (phase_refusals known phase ++ statements_refusals known sort rest)
-statements_refusals known sort (Send place port value rest) =
-    refusal_if (not (same_sort sort rule.Output)) E9 place ++ (sent_port_refusals (known.sort port.number) port.place ++ (place_refusals Number known.sort value ++ statements_refusals known sort rest))
-statements_refusals known sort (If place condition block rest) =
-    place_refusals Truth known.sort condition ++ (statements_refusals known sort block ++ statements_refusals known sort rest)
-statements_refusals known sort (IfElse place condition block other rest) =
-    place_refusals Truth known.sort condition ++ (statements_refusals known sort block ++ (statements_refusals known sort other ++ statements_refusals known sort rest))
-statements_refusals known sort (For place variable bag block rest) =
+abbrev pub statements_refusals : Known → Statements → List Refusal
+statements_refusals known Done = []
+statements_refusals known (Assign variable value rest) =
+    assignment_refusals known.rule (known.sort variable.number) variable.place
+    ++ (value_refusals (type_of_name (known.sort variable.number)) known value ++ statements_refusals known rest)
+statements_refusals known (Goto place phase rest) =
+    refusal_if (is_output_rule known.rule) E9 place ++ (phase_refusals known phase ++ statements_refusals known rest)
+statements_refusals known (Send place port value rest) =
+    refusal_if (not (is_output_rule known.rule)) E9 place
+    ++ (sent_port_refusals (known.sort port.number) port.place
+    ++ (place_refusals Number known value ++ statements_refusals known rest))
+statements_refusals known (If place condition block rest) =
+    place_refusals Truth known condition ++ (statements_refusals known block ++ statements_refusals known rest)
+statements_refusals known (IfElse place condition block other rest) =
+    place_refusals Truth known condition
+    ++ (statements_refusals known block ++ (statements_refusals known other ++ statements_refusals known rest))
+statements_refusals known (For place variable bag block rest) =
     loop_variable_refusals (known.place variable.number) variable.place
-    ++ (bag_name_refusals (known.sort bag.number) bag.place
-    ++ (statements_refusals (known_in_loop variable known) sort block ++ statements_refusals known sort rest))
-statements_refusals known sort (Add place value bag rest) = change_refusals known sort place value bag ++ statements_refusals known sort rest
-statements_refusals known sort (Drop place value bag rest) = change_refusals known sort place value bag ++ statements_refusals known sort rest
+    ++ (bag_name_refusals known.rule (known.sort bag.number) bag.place
+    ++ (statements_refusals (known_in_loop variable known) block ++ statements_refusals known rest))
+statements_refusals known (Add place value bag rest) = change_refusals known place value bag ++ statements_refusals known rest
+statements_refusals known (Drop place value bag rest) = change_refusals known place value bag ++ statements_refusals known rest
 
 -- an empty range, or a start value outside of it
 abbrev pub is_out_of_range : VariableRange → Bool
@@ -226,6 +265,7 @@ bag_refusals b = refusal_if (not (is_capacity b.capacity.value)) E17 b.capacity.
 
 -- what a declaration says wrong of its name
 abbrev pub declaration_refusals : Declaration → List Refusal
+declaration_refusals (In port) = []
 declaration_refusals (Out port) = []
 declaration_refusals (Var v) = variable_refusals v
 declaration_refusals (Flag f) = []
@@ -236,13 +276,13 @@ start_refusals known s = phase_refusals known s.phase
 
 abbrev pub ticks_refusals : Known → Option Expression → List Refusal
 ticks_refusals known None = []
-ticks_refusals known (Some e) = place_refusals Number known.sort e
+ticks_refusals known (Some e) = place_refusals Number known e
 
 abbrev pub hold_refusals : Known → HoldTree → List Refusal
 hold_refusals known h = phase_refusals known h.phase ++ ticks_refusals known h.ticks
 
 abbrev pub rule_refusals : Known → RuleTree → List Refusal
-rule_refusals known r = phase_refusals known r.phase ++ statements_refusals known r.sort r.body
+rule_refusals known r = phase_refusals known r.phase ++ statements_refusals (known_in_rule (Some r.sort) known) r.body
 
 -- what the items do wrong, each by itself
 abbrev pub items_refusals : Known → AtomicTree → List Refusal
@@ -294,6 +334,7 @@ names_only known (Parens place e) = names_only known e
 names_only known (Prefixed operator place e) = names_only known e
 names_only known (Binary operator a b) = names_only known a && names_only known b
 names_only known (Call call place bag) = known bag.number
+names_only known (Elapsed place) = true
 names_only known (Times place e bag) = names_only known e && known bag.number
 
 abbrev pub ticks_names_only : (ℕ → Bool) → Option Expression → Bool

@@ -1,17 +1,43 @@
 -- The types of expressions, and what is wrong with an expression.
 use Rattle.std.specs.Prelude.{ℕ, Bool, true, false, not, ◌&&◌, List, [], ◌∷◌, ◌++◌, Option, Some, None}
 use Rattle.dv_lex.specs.declared.error.Refusal.{Refusal}
-use Rattle.dv_lex.specs.declared.error.RefusalNumber.TheVariants.{E7, E8}
-use Rattle.dv_syntax.specs.Trees.{Expression, Literal, TruthValue, Named, Parens, Prefixed, Binary, Call, Times}
+use Rattle.dv_lex.specs.declared.error.RefusalNumber.TheVariants.{E7, E8, E9}
+use Rattle.dv_syntax.specs.Trees.{Expression, Literal, TruthValue, Named, Parens, Prefixed, Binary, Call, Elapsed, Times}
 use Rattle.dv_syntax.specs.declared.tree.Prefix.{Prefix}
 use Rattle.dv_syntax.specs.declared.tree.Prefix.TheVariants.{Minus, Not}
 use Rattle.dv_syntax.specs.declared.tree.Operator.{Operator}
 use Rattle.dv_syntax.specs.declared.tree.Operator.TheVariants.{Or, And, Add, Subtract, Multiply, Divide, Remainder, Equal, Unequal, Less, AtMost, Greater, AtLeast}
+use Rattle.dv_syntax.specs.declared.tree.RuleSort.{RuleSort}
+use Rattle.dv_syntax.specs.declared.tree.RuleSort.TheVariants as rule
 use Rattle.dv_check.specs.declared.declarations.NameSort.{NameSort}
-use Rattle.dv_check.specs.declared.declarations.NameSort.TheVariants.{Variable, Flag, Bag, Output, LoopVariable}
+use Rattle.dv_check.specs.declared.declarations.NameSort.TheVariants.{Variable, Flag, Bag, Input, Output, LoopVariable}
 use Rattle.dv_check.specs.declared.expression.ValueType.{ValueType}
 use Rattle.dv_check.specs.declared.expression.ValueType.TheVariants.{Number, Truth}
 use Rattle.dv_check.specs.Names.{refusal, refusal_if}
+
+-- what is known at a place of an atomic model: what ports, variables, flags, bags and loop variables stand for, where they are
+-- declared, the phases, and the sort of the rule around; a hold stands in no rule
+pub record Known : Type 0 where
+  pub sort : ℕ → Option NameSort
+  pub place : ℕ → Option ℕ
+  pub has_phase : ℕ → Bool
+  pub rule : Option RuleSort
+
+-- `elapsed` is known in external rules alone
+abbrev pub knows_elapsed : Option RuleSort → Bool
+knows_elapsed None = false
+knows_elapsed (Some rule.Output) = false
+knows_elapsed (Some rule.Internal) = false
+knows_elapsed (Some rule.External) = true
+knows_elapsed (Some rule.Confluent) = false
+
+-- and what came to input ports in external and confluent ones
+abbrev pub sees_inputs : Option RuleSort → Bool
+sees_inputs None = false
+sees_inputs (Some rule.Output) = false
+sees_inputs (Some rule.Internal) = false
+sees_inputs (Some rule.External) = true
+sees_inputs (Some rule.Confluent) = true
 
 abbrev pub same_type : ValueType → ValueType → Bool
 same_type Number Number = true
@@ -28,6 +54,7 @@ first_place (Parens place e) = place
 first_place (Prefixed operator place e) = place
 first_place (Binary operator a b) = first_place a
 first_place (Call call place bag) = place
+first_place (Elapsed place) = place
 first_place (Times place e bag) = place
 
 abbrev pub type_of_name : Option NameSort → Option ValueType
@@ -35,16 +62,19 @@ type_of_name None = None
 type_of_name (Some Variable) = Some Number
 type_of_name (Some Flag) = Some Truth
 type_of_name (Some Bag) = None
+type_of_name (Some Input) = None
 type_of_name (Some Output) = None
 type_of_name (Some LoopVariable) = Some Number
 
-abbrev pub is_bag : Option NameSort → Bool
-is_bag None = false
-is_bag (Some Variable) = false
-is_bag (Some Flag) = false
-is_bag (Some Bag) = true
-is_bag (Some Output) = false
-is_bag (Some LoopVariable) = false
+-- a name of a bag that can be read: a state bag, and where inputs are seen an input port
+abbrev pub is_bag : Option RuleSort → Option NameSort → Bool
+is_bag rule None = false
+is_bag rule (Some Variable) = false
+is_bag rule (Some Flag) = false
+is_bag rule (Some Bag) = true
+is_bag rule (Some Input) = sees_inputs rule
+is_bag rule (Some Output) = false
+is_bag rule (Some LoopVariable) = false
 
 -- a known type, and this one
 abbrev pub is_of : ValueType → Option ValueType → Bool
@@ -86,15 +116,16 @@ type_of_operator Greater a b = type_if (both_of Number a b) Truth
 type_of_operator AtLeast a b = type_if (both_of Number a b) Truth
 
 -- the type of an expression; what is refused, or has a refused part, has none
-abbrev pub type_of : (ℕ → Option NameSort) → Expression → Option ValueType
-type_of sort (Literal n) = Some Number
-type_of sort (TruthValue place value) = Some Truth
-type_of sort (Named name) = type_of_name (sort name.number)
-type_of sort (Parens place e) = type_of sort e
-type_of sort (Prefixed operator place e) = type_if (is_of (type_of_prefix operator) (type_of sort e)) (type_of_prefix operator)
-type_of sort (Binary operator a b) = type_of_operator operator (type_of sort a) (type_of sort b)
-type_of sort (Call call place bag) = type_if (is_bag (sort bag.number)) Number
-type_of sort (Times place e bag) = type_if (is_of Number (type_of sort e) && is_bag (sort bag.number)) Number
+abbrev pub type_of : Known → Expression → Option ValueType
+type_of known (Literal n) = Some Number
+type_of known (TruthValue place value) = Some Truth
+type_of known (Named name) = type_of_name (known.sort name.number)
+type_of known (Parens place e) = type_of known e
+type_of known (Prefixed operator place e) = type_if (is_of (type_of_prefix operator) (type_of known e)) (type_of_prefix operator)
+type_of known (Binary operator a b) = type_of_operator operator (type_of known a) (type_of known b)
+type_of known (Call call place bag) = type_if (is_bag known.rule (known.sort bag.number)) Number
+type_of known (Elapsed place) = type_if (knows_elapsed known.rule) Number
+type_of known (Times place e bag) = type_if (is_of Number (type_of known e) && is_bag known.rule (known.sort bag.number)) Number
 
 -- an expression of another type than its place wants
 abbrev pub type_refusals : ValueType → Option ValueType → ℕ → List Refusal
@@ -132,36 +163,43 @@ value_name_refusals None place = refusal E7 place ∷ []
 value_name_refusals (Some Variable) place = []
 value_name_refusals (Some Flag) place = []
 value_name_refusals (Some Bag) place = refusal E8 place ∷ []
+value_name_refusals (Some Input) place = refusal E8 place ∷ []
 value_name_refusals (Some Output) place = refusal E8 place ∷ []
 value_name_refusals (Some LoopVariable) place = []
 
--- a name where a bag is wanted
-abbrev pub bag_name_refusals : Option NameSort → ℕ → List Refusal
-bag_name_refusals None place = refusal E7 place ∷ []
-bag_name_refusals (Some Variable) place = refusal E8 place ∷ []
-bag_name_refusals (Some Flag) place = refusal E8 place ∷ []
-bag_name_refusals (Some Bag) place = []
-bag_name_refusals (Some Output) place = refusal E8 place ∷ []
-bag_name_refusals (Some LoopVariable) place = refusal E8 place ∷ []
+-- a name where a bag is wanted that can be read: an input port is one in external and confluent rules alone
+abbrev pub bag_name_refusals : Option RuleSort → Option NameSort → ℕ → List Refusal
+bag_name_refusals rule None place = refusal E7 place ∷ []
+bag_name_refusals rule (Some Variable) place = refusal E8 place ∷ []
+bag_name_refusals rule (Some Flag) place = refusal E8 place ∷ []
+bag_name_refusals rule (Some Bag) place = []
+bag_name_refusals rule (Some Input) place = refusal_if (not (sees_inputs rule)) E9 place
+bag_name_refusals rule (Some Output) place = refusal E8 place ∷ []
+bag_name_refusals rule (Some LoopVariable) place = refusal E8 place ∷ []
 
-abbrev pub expression_refusals : (ℕ → Option NameSort) → Expression → List Refusal
-expression_refusals sort (Literal n) = []
-expression_refusals sort (TruthValue place value) = []
-expression_refusals sort (Named name) = value_name_refusals (sort name.number) name.place
-expression_refusals sort (Parens place e) = expression_refusals sort e
-expression_refusals sort (Prefixed operator place e) =
-    expression_refusals sort e ++ type_refusals (type_of_prefix operator) (type_of sort e) (first_place e)
-expression_refusals sort (Binary operator a b) =
-    expression_refusals sort a ++ (expression_refusals sort b ++ operand_refusals operator (type_of sort a) (first_place a) (type_of sort b) (first_place b))
-expression_refusals sort (Call call place bag) = bag_name_refusals (sort bag.number) bag.place
-expression_refusals sort (Times place e bag) =
-    expression_refusals sort e ++ (type_refusals Number (type_of sort e) (first_place e) ++ bag_name_refusals (sort bag.number) bag.place)
+abbrev pub expression_refusals : Known → Expression → List Refusal
+expression_refusals known (Literal n) = []
+expression_refusals known (TruthValue place value) = []
+expression_refusals known (Named name) = value_name_refusals (known.sort name.number) name.place
+expression_refusals known (Parens place e) = expression_refusals known e
+expression_refusals known (Prefixed operator place e) =
+    expression_refusals known e ++ type_refusals (type_of_prefix operator) (type_of known e) (first_place e)
+expression_refusals known (Binary operator a b) =
+    expression_refusals known a
+    ++ (expression_refusals known b
+    ++ operand_refusals operator (type_of known a) (first_place a) (type_of known b) (first_place b))
+expression_refusals known (Call call place bag) = bag_name_refusals known.rule (known.sort bag.number) bag.place
+expression_refusals known (Elapsed place) = refusal_if (not (knows_elapsed known.rule)) E9 place
+expression_refusals known (Times place e bag) =
+    expression_refusals known e
+    ++ (type_refusals Number (type_of known e) (first_place e)
+    ++ bag_name_refusals known.rule (known.sort bag.number) bag.place)
 
 -- an expression in a place that wants a type
-abbrev pub place_refusals : ValueType → (ℕ → Option NameSort) → Expression → List Refusal
-place_refusals wanted sort e = expression_refusals sort e ++ type_refusals wanted (type_of sort e) (first_place e)
+abbrev pub place_refusals : ValueType → Known → Expression → List Refusal
+place_refusals wanted known e = expression_refusals known e ++ type_refusals wanted (type_of known e) (first_place e)
 
 -- an expression whose value goes where this type is wanted, or where nothing is wanted of it
-abbrev pub value_refusals : Option ValueType → (ℕ → Option NameSort) → Expression → List Refusal
-value_refusals None sort e = expression_refusals sort e
-value_refusals (Some wanted) sort e = place_refusals wanted sort e
+abbrev pub value_refusals : Option ValueType → Known → Expression → List Refusal
+value_refusals None known e = expression_refusals known e
+value_refusals (Some wanted) known e = place_refusals wanted known e

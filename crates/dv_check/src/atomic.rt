@@ -3,13 +3,13 @@
 ghost use Rattle.std.specs.Prelude.{◌≡◌, map, Some, None, IfOk, OnOk};
 ghost use Rattle.dv_syntax.specs.Trees.{atomic_of, phases_of, rule_of, ticks_of};
 ghost use Rattle.std.specs.Option.{option_copied};
-ghost use Rattle.dv_eval.specs.Scope.{hold_ticks, outputs_in, scope_of, start_state, state_variables_in, ticks_found};
+ghost use Rattle.dv_eval.specs.Scope.{hold_ticks, scope_of, start_state, state_variables_in, ticks_found};
 ghost use Rattle.dv_eval.specs.Meaning.{hold_of};
 ghost use Rattle.dv_lex.specs.declared.error.RefusalNumber.TheVariants.{E6, E10};
 ghost use Rattle.dv_check.specs.Findings.{with_refusals};
 ghost use Rattle.dv_check.specs.Names.{excess, refusal_if, repeats};
 ghost use Rattle.dv_check.specs.Tables.{has};
-ghost use Rattle.dv_check.specs.Rules.{atomic_refusals, can_ask_hold, holds_once_refusals, is_fault, is_hold_fine, is_hold_missing, is_start_fault, known_by, name_of_declaration, name_of_state_variable, names_refusals, once_refusals, phases_places, ruled_phases, standing_refusals, start_hold_refusals, start_places, ticks_refusals};
+ghost use Rattle.dv_check.specs.Rules.{atomic_refusals, can_ask_hold, holds_once_refusals, is_fault, is_hold_fine, is_hold_missing, is_start_fault, known_by, name_of_declaration, name_of_state_variable, names_refusals, once_refusals, phases_places, ports_in, ruled_phases, standing_refusals, start_hold_refusals, start_places, ticks_refusals};
 
 use crate::declarations::Declarations;
 use crate::findings::Findings;
@@ -46,7 +46,9 @@ fn check_names(alloc: Global, model: &Atomic, found: &mut Findings) -> Result<()
     find_repeats(alloc, RefusalNumber::E6, &phases, found)?;
     check_ruled(alloc, RuleSort::Output, &model.rules, found)?;
     check_ruled(alloc, RuleSort::Internal, &model.rules, found)?;
-    check_outputs(alloc, &model.declarations, found)?;
+    check_ruled(alloc, RuleSort::External, &model.rules, found)?;
+    check_ruled(alloc, RuleSort::Confluent, &model.rules, found)?;
+    check_ports(alloc, &model.declarations, found)?;
     check_state_variables(alloc, &model.declarations, found)?;
     find_excess(&phases, found);
     Ok(())
@@ -69,16 +71,16 @@ fn check_declared(
     )
 }
 
-// Too many output ports.
-fn check_outputs(
+// Too many ports.
+fn check_ports(
     alloc: Global,
     declarations: &[Declaration],
     found: &mut Findings,
 ) -> Result<(), AllocError>
     ensures { OnOk result (found.new ≡ with_refusals found.old
-        (excess (outputs_in declarations.now))) }
+        (excess (ports_in declarations.now))) }
 {
-    find_excess(&names::outputs(alloc, declarations)?, found);
+    find_excess(&names::ports(alloc, declarations)?, found);
     Ok(())
 }
 

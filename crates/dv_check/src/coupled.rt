@@ -1,21 +1,24 @@
 //! The checks of a coupled model.
 
-ghost use Rattle.std.specs.Prelude.{◌≡◌, List, OnOk};
+ghost use Rattle.std.specs.Prelude.{◌≡◌, List, map, OnOk};
 ghost use Rattle.std.specs.List.{flat_map};
 ghost use Rattle.dv_syntax.specs.Trees.{coupled_of, ModelTree};
 ghost use Rattle.dv_check.specs.Findings.{with_refusals};
 ghost use Rattle.dv_check.specs.LinkSets.{no_link};
 ghost use Rattle.dv_check.specs.Models.{faces_by, faces_in};
-ghost use Rattle.dv_check.specs.Couplings.{coupled_refusals, coupled_refusals_by, link_refusals, part_refusals, repeated_links_after, interior_by};
+ghost use Rattle.dv_check.specs.Couplings.{coupled_refusals, coupled_refusals_by, interior_by, kind_refusals, link_refusals, name_of_part, part_refusals, ports_of, repeated_links_after};
+ghost use Rattle.dv_check.specs.Rules.{name_of_declaration};
 
 use crate::directory::Directory;
 use crate::findings::Findings;
 use crate::link_set::LinkSet;
 use crate::models::ModelKind;
-use crate::parts::{Interior, check_link, check_part_model, is_exit, part_names};
+use crate::names;
+use crate::parts::{Interior, check_link, check_part_model, has_ends, part_names};
+use crate::ports::ports_of;
 use crate::repeats::{find_excess, find_repeats};
 use dv_lex::RefusalNumber;
-use dv_syntax::{Coupled, Link, Part};
+use dv_syntax::{Coupled, Link, Name, Part};
 use std::alloc::{AllocError, Global};
 
 /// Tests a coupled model of a text with models of these kinds.
@@ -41,14 +44,38 @@ fn check_within(
     ensures { OnOk result (found.new ≡ with_refusals found.old
         (coupled_refusals_by (interior_by interior.now) (coupled_of model.now))) }
 {
-    let parts = part_names(alloc, &model.parts)?;
-    find_repeats(alloc, RefusalNumber::E6, &model.outputs, found)?;
-    find_repeats(alloc, RefusalNumber::E6, &parts, found)?;
+    check_ports(alloc, model, found)?;
+    check_part_names(alloc, &model.parts, found)?;
     check_parts(interior, &model.parts, found);
     check_links(interior, &model.links, found);
     find_repeated_links(alloc, interior, &model.links, found)?;
-    find_excess(&model.outputs, found);
-    find_excess(&parts, found);
+    Ok(())
+}
+
+// Ports that are declared twice or too often.
+fn check_ports(alloc: Global, model: &Coupled, found: &mut Findings) -> Result<(), AllocError>
+    ensures { OnOk result (found.new ≡ with_refusals found.old
+        (kind_refusals (map name_of_declaration (ports_of (coupled_of model.now))))) }
+{
+    let ports = ports_of(alloc, model)?;
+    let names = names::declared(alloc, &ports)?;
+    check_kind(alloc, &names, found)
+}
+
+// Parts that are declared twice or too often.
+fn check_part_names(alloc: Global, parts: &[Part], found: &mut Findings) -> Result<(), AllocError>
+    ensures { OnOk result (found.new ≡ with_refusals found.old
+        (kind_refusals (map name_of_part parts.now))) }
+{
+    let names = part_names(alloc, parts)?;
+    check_kind(alloc, &names, found)
+}
+
+fn check_kind(alloc: Global, names: &[Name], found: &mut Findings) -> Result<(), AllocError>
+    ensures { OnOk result (found.new ≡ with_refusals found.old (kind_refusals names.now)) }
+{
+    find_repeats(alloc, RefusalNumber::E6, names, found)?;
+    find_excess(names, found);
     Ok(())
 }
 
@@ -81,7 +108,7 @@ fn find_repeated_links(
 {
     let mut seen = LinkSet::new(alloc);
     for link in links {
-        if !seen.insert(link)? && is_exit(interior, link) {
+        if !seen.insert(link)? && has_ends(interior, link) {
             found.note(RefusalNumber::E14, link.place);
         }
     }

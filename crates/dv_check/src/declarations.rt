@@ -26,6 +26,7 @@ pub enum NameSort {
     Variable,
     Flag,
     Bag,
+    Input,
     Output,
     LoopVariable,
 }
@@ -43,6 +44,7 @@ fn sort_of(declaration: &Declaration) -> NameSort
     ensures { result ≡ sort_of declaration.now }
 {
     match declaration {
+        Declaration::In(_) => NameSort::Input,
         Declaration::Out(_) => NameSort::Output,
         Declaration::Var(_) => NameSort::Variable,
         Declaration::Flag(_) => NameSort::Flag,
@@ -128,12 +130,11 @@ impl Declarations {
     {
         for rule in rules {
             self.check_phase(&rule.phase, found);
-            check_statements(
-                &Environment::Model(self),
-                rule.sort,
-                &rule.body.statements,
-                found,
-            );
+            let environment = Environment::Model {
+                declarations: self,
+                rule: Some(rule.sort),
+            };
+            check_statements(&environment, &rule.body.statements, found);
         }
     }
 
@@ -145,7 +146,10 @@ impl Declarations {
         match ticks {
             Ticks::Forever => {}
             Ticks::After(expression) => {
-                let environment = Environment::Model(self);
+                let environment = Environment::Model {
+                    declarations: self,
+                    rule: None,
+                };
                 check_place(ValueType::Number, &environment, expression, found);
             }
         }
@@ -190,7 +194,7 @@ fn check_declaration(declaration: &Declaration, found: &mut Findings)
     ensures { found.new ≡ with_refusals found.old (declaration_refusals declaration.now) }
 {
     match declaration {
-        Declaration::Out(_) | Declaration::Flag(_) => {}
+        Declaration::In(_) | Declaration::Out(_) | Declaration::Flag(_) => {}
         Declaration::Var(variable) => check_variable(variable, found),
         Declaration::Bag(bag) => check_capacity(bag, found),
     }

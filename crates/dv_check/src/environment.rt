@@ -4,13 +4,16 @@ ghost use Rattle.std.specs.Prelude.{◌≡◌};
 ghost use Rattle.dv_check.specs.Rules.{known_at};
 
 use crate::declarations::{Declarations, NameSort};
-use dv_syntax::Name;
+use dv_syntax::{Name, RuleSort};
 
 /// What names stand for at a place of an atomic model.
 #[derive(Clone, Copy)]
 pub enum Environment<'a> {
-    /// Outside of all loops: what the model declares.
-    Model(&'a Declarations),
+    /// Outside of all loops: what the model declares, in a rule of this sort; in a hold there is none.
+    Model {
+        declarations: &'a Declarations,
+        rule: Option<RuleSort>,
+    },
     /// In the block of a loop, whose variable hides what else has its name.
     Loop {
         variable: Name,
@@ -24,7 +27,7 @@ impl<'a> Environment<'a> {
         ensures { result ≡ (known_at self.now).sort name }
     {
         match self {
-            Environment::Model(declarations) => declarations.sorts.get(name).copied(),
+            Environment::Model { declarations, .. } => declarations.sorts.get(name).copied(),
             Environment::Loop { variable, outer } => {
                 if variable.number == name {
                     Some(NameSort::LoopVariable)
@@ -40,7 +43,7 @@ impl<'a> Environment<'a> {
         ensures { result ≡ (known_at self.now).place name }
     {
         match self {
-            Environment::Model(declarations) => declarations.places.get(name).copied(),
+            Environment::Model { declarations, .. } => declarations.places.get(name).copied(),
             Environment::Loop { variable, outer } => {
                 if variable.number == name {
                     Some(variable.place)
@@ -56,8 +59,18 @@ impl<'a> Environment<'a> {
         ensures { result ≡ (known_at self.now).has_phase phase }
     {
         match self {
-            Environment::Model(declarations) => declarations.phases.contains(phase),
+            Environment::Model { declarations, .. } => declarations.phases.contains(phase),
             Environment::Loop { outer, .. } => outer.has_phase(phase),
+        }
+    }
+
+    /// The sort of the rule around; a hold stands in none.
+    pub fn rule(&self) -> Option<RuleSort>
+        ensures { result ≡ (known_at self.now).rule }
+    {
+        match self {
+            Environment::Model { rule, .. } => *rule,
+            Environment::Loop { outer, .. } => outer.rule(),
         }
     }
 }

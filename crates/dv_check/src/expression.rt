@@ -1,16 +1,18 @@
 //! The types of expressions.
 
-ghost use Rattle.std.specs.Prelude.{◌≡◌};
+ghost use Rattle.std.specs.Prelude.{◌≡◌, not};
+ghost use Rattle.dv_lex.specs.declared.error.RefusalNumber.TheVariants.{E9};
 ghost use Rattle.dv_syntax.specs.Trees.{expression_of};
 ghost use Rattle.dv_check.specs.Findings.{with_refusals};
 ghost use Rattle.dv_check.specs.Rules.{known_at};
-ghost use Rattle.dv_check.specs.Types.{alike, bag_name_refusals, both_of, differ, is_bag, is_of, operands_wanted, type_if, expression_refusals, first_place, operand_refusals, place_refusals, type_of, type_of_operator, type_of_name, type_of_prefix, value_name_refusals, type_refusals, value_refusals};
+ghost use Rattle.dv_check.specs.Names.{refusal_if};
+ghost use Rattle.dv_check.specs.Types.{alike, bag_name_refusals, both_of, differ, is_bag, is_of, knows_elapsed, operands_wanted, sees_inputs, type_if, expression_refusals, first_place, operand_refusals, place_refusals, type_of, type_of_operator, type_of_name, type_of_prefix, value_name_refusals, type_refusals, value_refusals};
 
 use crate::declarations::NameSort;
 use crate::environment::Environment;
 use crate::findings::Findings;
 use dv_lex::RefusalNumber;
-use dv_syntax::{Expr, Name, Operator, Prefix};
+use dv_syntax::{Expr, Name, Operator, Prefix, RuleSort};
 
 /// The type of a value.
 #[derive(Clone, Copy, Debug, PartialEq, Eq)]
@@ -34,7 +36,7 @@ pub fn check_place(
     found: &mut Findings,
 )
     ensures { found.new ≡ with_refusals found.old (place_refusals wanted
-        (known_at environment.now).sort (expression_of expression.now)) }
+        (known_at environment.now) (expression_of expression.now)) }
 {
     let given = check_expression(environment, expression, found);
     want(wanted, given, found);
@@ -48,7 +50,7 @@ pub fn check_value(
     found: &mut Findings,
 )
     ensures { found.new ≡ with_refusals found.old (value_refusals wanted
-        (known_at environment.now).sort (expression_of expression.now)) }
+        (known_at environment.now) (expression_of expression.now)) }
 {
     match wanted {
         Some(wanted) => check_place(wanted, environment, expression, found),
@@ -59,11 +61,11 @@ pub fn check_value(
 }
 
 fn check_expression(environment: &Environment, expression: &Expr, found: &mut Findings) -> Typed
-    ensures value_type { result.value_type ≡ type_of (known_at environment.now).sort
+    ensures value_type { result.value_type ≡ type_of (known_at environment.now)
         (expression_of expression.now) }
     ensures place { result.place ≡ first_place (expression_of expression.now) }
     ensures found { found.new ≡ with_refusals found.old (expression_refusals
-        (known_at environment.now).sort (expression_of expression.now)) }
+        (known_at environment.now) (expression_of expression.now)) }
 {
     match expression {
         Expr::Literal(number) => Typed {
@@ -114,6 +116,10 @@ fn check_expression(environment: &Environment, expression: &Expr, found: &mut Fi
             value_type: type_if(check_bag(environment, bag, found), ValueType::Number),
             place: *place,
         },
+        Expr::Elapsed { place } => Typed {
+            value_type: type_if(check_elapsed(environment, *place, found), ValueType::Number),
+            place: *place,
+        },
         Expr::Times { place, value, bag } => {
             let given = check_expression(environment, value, found);
             want(ValueType::Number, given, found);
@@ -134,7 +140,7 @@ pub fn type_of_name(sort: Option<NameSort>) -> Option<ValueType>
     match sort {
         Some(NameSort::Variable | NameSort::LoopVariable) => Some(ValueType::Number),
         Some(NameSort::Flag) => Some(ValueType::Truth),
-        Some(NameSort::Bag | NameSort::Output) | None => None,
+        Some(NameSort::Bag | NameSort::Input | NameSort::Output) | None => None,
     }
 }
 
@@ -161,17 +167,58 @@ fn check_value_name(
     let sort = environment.sort(name.number);
     match sort {
         Some(NameSort::Variable | NameSort::Flag | NameSort::LoopVariable) => {}
-        Some(NameSort::Bag | NameSort::Output) => found.note(RefusalNumber::E8, name.place),
+        Some(NameSort::Bag | NameSort::Input | NameSort::Output) => {
+            found.note(RefusalNumber::E8, name.place);
+        }
         None => found.note(RefusalNumber::E7, name.place),
     }
     type_of_name(sort)
 }
 
-/// Tests a name where a bag is wanted, and answers whether it is that of one.
-pub fn check_bag(environment: &Environment, name: &Name, found: &mut Findings) -> bool
-    ensures is_bag { result ≡ is_bag ((known_at environment.now).sort name.now.number) }
+// Tests that `elapsed` is known, and answers whether it is.
+fn check_elapsed(environment: &Environment, place: u32, found: &mut Findings) -> bool
+    ensures known { result ≡ knows_elapsed (known_at environment.now).rule }
     ensures found { found.new ≡ with_refusals found.old
-        (bag_name_refusals ((known_at environment.now).sort name.now.number) name.now.place) }
+        (refusal_if (not (knows_elapsed (known_at environment.now).rule)) E9 place) }
+{
+    let knows_elapsed = environment.rule() == Some(RuleSort::External);
+    if !knows_elapsed {
+        found.note(RefusalNumber::E9, place);
+    }
+    knows_elapsed
+}
+
+// Tests that what came to an input port can be read, and answers whether it can.
+fn check_input(environment: &Environment, port: &Name, found: &mut Findings) -> bool
+    ensures seen { result ≡ sees_inputs (known_at environment.now).rule }
+    ensures found { found.new ≡ with_refusals found.old
+        (refusal_if (not (sees_inputs (known_at environment.now).rule)) E9 port.now.place) }
+{
+    let sees_inputs = sees_inputs(environment.rule());
+    if !sees_inputs {
+        found.note(RefusalNumber::E9, port.place);
+    }
+    sees_inputs
+}
+
+// Whether what came to input ports can be read.
+fn sees_inputs(rule: Option<RuleSort>) -> bool
+    ensures { result ≡ sees_inputs rule }
+{
+    match rule {
+        Some(RuleSort::External | RuleSort::Confluent) => true,
+        Some(RuleSort::Internal) => false,
+        Some(RuleSort::Output) | None => false,
+    }
+}
+
+/// Tests a name where a bag is wanted that can be read, and answers whether it is that of one.
+pub fn check_bag(environment: &Environment, name: &Name, found: &mut Findings) -> bool
+    ensures is_bag { result ≡ is_bag (known_at environment.now).rule
+        ((known_at environment.now).sort name.now.number) }
+    ensures found { found.new ≡ with_refusals found.old
+        (bag_name_refusals (known_at environment.now).rule
+        ((known_at environment.now).sort name.now.number) name.now.place) }
 {
     match environment.sort(name.number) {
         None => {
@@ -179,6 +226,7 @@ pub fn check_bag(environment: &Environment, name: &Name, found: &mut Findings) -
             false
         }
         Some(NameSort::Bag) => true,
+        Some(NameSort::Input) => check_input(environment, name, found),
         Some(NameSort::Variable | NameSort::Flag | NameSort::Output | NameSort::LoopVariable) => {
             found.note(RefusalNumber::E8, name.place);
             false

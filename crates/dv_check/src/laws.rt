@@ -5,15 +5,20 @@ ghost use Rattle.std.specs.List.{All};
 ghost use Rattle.dv_lex.specs.Order.{first_refusal, precedes};
 ghost use Rattle.dv_lex.specs.declared.error.Refusal.{Refusal};
 ghost use Rattle.dv_lex.specs.declared.error.RefusalNumber.TheVariants as number;
-ghost use Rattle.dv_syntax.specs.Trees.{Add, Assign, CoupledModel, CoupledTree, Done, Drop, FileTree, Named};
+ghost use Rattle.dv_syntax.specs.Trees.{Add, Assign, Binary, Call, CoupledModel, CoupledTree, Done, Drop, Elapsed, FileTree, If, Named, TruthValue};
+ghost use Rattle.dv_syntax.specs.declared.tree.BagCall.TheVariants.{Size};
+ghost use Rattle.dv_syntax.specs.declared.tree.Operator.TheVariants.{And};
+ghost use Rattle.dv_syntax.specs.declared.tree.RuleSort.TheVariants as rule;
 ghost use Rattle.dv_syntax.specs.declared.tree.Link.{Link};
 ghost use Rattle.dv_check.specs.Accepted.{IsAcceptedFile, IsThrough};
-ghost use Rattle.dv_check.specs.Loops.{bag_at, flag_at, loop_at, name_at, one_at, wrong_inside, wrong_outside};
+ghost use Rattle.dv_check.specs.Loops.{bag_at, flag_at, input_at, loop_at, name_at, one_at, wrong_inside, wrong_outside, wrong_under};
 ghost use Rattle.dv_check.specs.Names.{refusal};
 ghost use Rattle.dv_check.specs.Refusals.{refusal_of};
+ghost use Rattle.dv_check.specs.Relays.{link_at, wrong_links};
 
-/// An accepted file has a coupled root with at least one part and at most 4,096 parts and outputs. The model of each
-/// part is known and atomic, and each link leads from an output of a part to an output of the root.
+/// An accepted file has a coupled root with at least one part, and at most 4,096 parts and as many ports. The model of
+/// each part is known and atomic, and each link leads between two parts, or between a part and the model itself: from
+/// an output of a part or an input of the model to an input of a part or an output of the model.
 pub fn accepted_files()
     ensures { (f : FileTree) → refusal_of f ≡ None → IsAcceptedFile f }
 {}
@@ -86,4 +91,54 @@ pub fn capacities_have_bounds()
     ensures one { wrong_inside (bag_at 1 30 1 ∷ []) Done ≡ [] }
     ensures greatest { wrong_inside (bag_at 1 30 4096 ∷ []) Done ≡ [] }
     ensures too_great { wrong_inside (bag_at 1 30 4097 ∷ []) Done ≡ refusal number.E17 32 ∷ [] }
+{}
+
+/// `elapsed` is known in external rules alone, and so is a number there; elsewhere it is refused and has no type.
+pub fn elapsed_is_known_in_external_rules()
+    ensures external { wrong_under rule.External [] (Add 100 (Elapsed 104) (name_at 2 115) Done)
+        ≡ [] }
+    ensures internal { wrong_under rule.Internal [] (Add 100 (Elapsed 104) (name_at 2 115) Done)
+        ≡ refusal number.E9 104 ∷ [] }
+    ensures confluent { wrong_under rule.Confluent [] (Add 100 (Elapsed 104) (name_at 2 115) Done)
+        ≡ refusal number.E9 104 ∷ [] }
+    ensures number { wrong_under rule.External [] (If 100 (Binary And (Elapsed 103)
+        (TruthValue 115 true)) Done Done) ≡ refusal number.E8 103 ∷ [] }
+    ensures no_type { wrong_under rule.Internal [] (If 100 (Binary And (Elapsed 103)
+        (TruthValue 115 true)) Done Done) ≡ refusal number.E9 103 ∷ [] }
+{}
+
+/// What came to an input port can be read in external and confluent rules, and is changed by none.
+pub fn inputs_are_read_where_they_come()
+    ensures external { wrong_under rule.External (input_at 1 30 ∷ []) (Add 100
+        (Call Size 104 (name_at 1 109)) (name_at 2 115) Done) ≡ [] }
+    ensures confluent { wrong_under rule.Confluent (input_at 1 30 ∷ []) (Add 100
+        (Call Size 104 (name_at 1 109)) (name_at 2 115) Done) ≡ [] }
+    ensures internal { wrong_under rule.Internal (input_at 1 30 ∷ []) (Add 100
+        (Call Size 104 (name_at 1 109)) (name_at 2 115) Done) ≡ refusal number.E9 109 ∷ [] }
+    ensures changed { wrong_under rule.External (input_at 1 30 ∷ []) (Add 100 (one_at 104)
+        (name_at 1 109) Done) ≡ refusal number.E8 109 ∷ [] }
+{}
+
+/// A link leads from an input of the model itself or an output of a part to an output of the model itself or an input
+/// of a part. A link between two ends of one part is refused, and so is one between two of the model itself.
+pub fn links_lead_on()
+    ensures between { wrong_links (link_at 200 (Some 4) 3 (Some 5) 2 ∷ []) ≡ [] }
+    ensures entry { wrong_links (link_at 200 None 6 (Some 4) 2 ∷ []) ≡ [] }
+    ensures exit { wrong_links (link_at 200 (Some 4) 3 None 7 ∷ []) ≡ [] }
+    ensures part_to_itself { wrong_links (link_at 200 (Some 4) 3 (Some 4) 2 ∷ [])
+        ≡ refusal number.E13 200 ∷ [] }
+    ensures through { wrong_links (link_at 200 None 6 None 7 ∷ [])
+        ≡ refusal number.E13 200 ∷ [] }
+{}
+
+/// An end of the wrong direction is refused at its port, and the link is not tested further.
+pub fn ends_have_directions()
+    ensures from_own_output { wrong_links (link_at 200 None 7 (Some 4) 2 ∷ [])
+        ≡ refusal number.E12 210 ∷ [] }
+    ensures to_own_input { wrong_links (link_at 200 (Some 4) 3 None 6 ∷ [])
+        ≡ refusal number.E12 225 ∷ [] }
+    ensures from_input_of_part { wrong_links (link_at 200 (Some 4) 2 (Some 5) 2 ∷ [])
+        ≡ refusal number.E12 210 ∷ [] }
+    ensures to_output_of_part { wrong_links (link_at 200 (Some 4) 3 (Some 4) 3 ∷ [])
+        ≡ refusal number.E12 225 ∷ [] }
 {}

@@ -38,6 +38,9 @@ mod expression;
 /// What has been found wrong so far.
 mod findings;
 
+/// Whether a file declares input ports.
+mod inputs;
+
 /// Sets of links.
 mod link_set;
 
@@ -53,6 +56,9 @@ mod number_set;
 /// The parts and links of a coupled model.
 mod parts;
 
+/// The ports of a coupled model in the order of the text.
+mod ports;
+
 /// Names that are declared twice or too often.
 mod repeats;
 
@@ -64,4 +70,5 @@ mod statements;
 
 pub use checked::Checked;
 pub use checker::check;
+pub use inputs::has_inputs;
 pub use limits::GREATEST_NAMES;

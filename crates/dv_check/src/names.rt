@@ -2,8 +2,8 @@
 
 ghost use Rattle.std.specs.Prelude.{◌≡◌, map, filter_map, IfOk};
 ghost use Rattle.dv_syntax.specs.Trees.{hold_of, phases_of, rule_of};
-ghost use Rattle.dv_eval.specs.Scope.{output_of, outputs_in, phases_in, state_variables_in};
-ghost use Rattle.dv_check.specs.Rules.{first_phases, held_phase, held_phases, name_of_declaration, name_of_state_variable, ruled_phase, ruled_phases};
+ghost use Rattle.dv_eval.specs.Scope.{phases_in, state_variables_in};
+ghost use Rattle.dv_check.specs.Rules.{first_phases, held_phase, held_phases, name_of_declaration, name_of_state_variable, port_of, ports_in, ruled_phase, ruled_phases};
 
 use dv_eval::{Domain, state_variable_of};
 use dv_syntax::{Declaration, Hold, Name, Phases, Rule, RuleSort};
@@ -14,7 +14,7 @@ pub fn name_of_declaration(declaration: &Declaration) -> Name
     ensures { result ≡ name_of_declaration declaration.now }
 {
     match declaration {
-        Declaration::Out(port) => *port,
+        Declaration::In(port) | Declaration::Out(port) => *port,
         Declaration::Var(variable) => variable.name,
         Declaration::Flag(flag) => flag.name,
         Declaration::Bag(bag) => bag.name,
@@ -31,22 +31,22 @@ pub fn declared(alloc: Global, declarations: &[Declaration]) -> Result<Vec<Name>
         .collect(alloc)
 }
 
-fn output_of(declaration: &Declaration) -> Option<Name>
-    ensures { result ≡ output_of declaration.now }
+fn port_of(declaration: &Declaration) -> Option<Name>
+    ensures { result ≡ port_of declaration.now }
 {
     match declaration {
-        Declaration::Out(port) => Some(*port),
+        Declaration::In(port) | Declaration::Out(port) => Some(*port),
         Declaration::Var(_) | Declaration::Flag(_) | Declaration::Bag(_) => None,
     }
 }
 
-/// The output ports.
-pub fn outputs(alloc: Global, declarations: &[Declaration]) -> Result<Vec<Name>, AllocError>
-    ensures { IfOk result (λ names. names.items ≡ outputs_in declarations.now) }
+/// The input and output ports together.
+pub fn ports(alloc: Global, declarations: &[Declaration]) -> Result<Vec<Name>, AllocError>
+    ensures { IfOk result (λ names. names.items ≡ ports_in declarations.now) }
 {
     declarations
         .iter()
-        .filter_map(|declaration| output_of(declaration))
+        .filter_map(|declaration| port_of(declaration))
         .collect(alloc)
 }
 

@@ -1,19 +1,21 @@
 //! The parts and links of a coupled model.
 
-ghost use Rattle.std.specs.Prelude.{◌≡◌, map, IfOk};
+ghost use Rattle.std.specs.Prelude.{◌≡◌, ◌&&◌, map, IfOk};
 ghost use Rattle.std.specs.Option.{option_copied};
 ghost use Rattle.dv_syntax.specs.Trees.{coupled_of};
 ghost use Rattle.dv_check.specs.Findings.{with_refusals};
-ghost use Rattle.dv_check.specs.Names.{among};
-ghost use Rattle.dv_check.specs.Tables.{has, value_for};
+ghost use Rattle.dv_lex.specs.declared.error.RefusalNumber.TheVariants.{E13};
+ghost use Rattle.dv_check.specs.Names.{refusal_if};
+ghost use Rattle.dv_check.specs.Tables.{value_for};
+ghost use Rattle.dv_check.specs.Rules.{sort_in};
 ghost use Rattle.dv_check.specs.Models.{face_of_kind, faces_by};
-ghost use Rattle.dv_check.specs.Couplings.{is_exit, is_output, is_output_shown, is_source, is_target, link_refusals, name_of_part, part_model_refusals, part_refusals, part_source_refusals, part_target_refusals, parts_in, source_refusals, target_refusals, interior_by};
+ghost use Rattle.dv_check.specs.Couplings.{has_ends, input_refusals, interior_by, is_input, is_input_shown, is_output, is_output_shown, is_source, is_target, leads_back, link_refusals, name_of_part, output_refusals, part_model_refusals, part_refusals, part_source_refusals, part_target_refusals, parts_in, ports_of, same_part, source_refusals, target_refusals};
 
-use crate::declarations::NameSort;
+use crate::declarations::{NameSort, sorts_of};
 use crate::directory::Directory;
 use crate::findings::Findings;
 use crate::models::ModelKind;
-use crate::number_set::NumberSet;
+use crate::ports::ports_of;
 use dv_lex::RefusalNumber;
 use dv_syntax::{Coupled, End, Link, Name, Part};
 use std::alloc::{AllocError, Global};
@@ -21,7 +23,7 @@ use std::alloc::{AllocError, Global};
 /// What a link of a coupled model can name: the model's own ports, its parts, and the models of the text.
 #[derive(Drop)]
 pub struct Interior<'a> {
-    pub ports: NumberSet,
+    pub ports: Directory<NameSort>,
     pub parts: Directory<Part>,
     pub kinds: &'a Directory<ModelKind>,
 }
@@ -57,13 +59,14 @@ impl<'a> Interior<'a> {
         kinds: &'a Directory<ModelKind>,
     ) -> Result<Self, AllocError>
         ensures ports { IfOk result
-            (λ interior. has interior.ports ≡ among (coupled_of model.now).outputs) }
+            (λ interior. value_for interior.ports ≡ sort_in (ports_of (coupled_of model.now))) }
         ensures parts { IfOk result
             (λ interior. value_for interior.parts ≡ parts_in (coupled_of model.now).parts) }
         ensures kinds { IfOk result (λ interior. interior.kinds.now ≡ kinds.now) }
     {
+        let ports = ports_of(alloc, model)?;
         Ok(Interior {
-            ports: NumberSet::of(alloc, &model.outputs)?,
+            ports: sorts_of(alloc, &ports)?,
             parts: directory_of(alloc, &model.parts)?,
             kinds,
         })
@@ -92,13 +95,40 @@ fn check_is_atomic(kind: &ModelKind, part: &Part, found: &mut Findings)
     }
 }
 
-/// Tests the ends of a link.
+/// Tests the ends of a link, and where they are known that it does not lead back.
 pub fn check_link(interior: &Interior, link: &Link, found: &mut Findings)
     ensures { found.new ≡ with_refusals found.old
         (link_refusals (interior_by interior.now) link.now) }
 {
     check_source(interior, &link.from, found);
     check_target(interior, &link.to, found);
+    check_way(interior, link, found);
+}
+
+fn check_way(interior: &Interior, link: &Link, found: &mut Findings)
+    ensures { found.new ≡ with_refusals found.old (refusal_if
+        (leads_back link.now && has_ends (interior_by interior.now) link.now) E13 link.now.place) }
+{
+    if leads_back(link) && has_ends(interior, link) {
+        found.note(RefusalNumber::E13, link.place);
+    }
+}
+
+// Whether both ends are at one part, or both at the model itself.
+fn leads_back(link: &Link) -> bool
+    ensures { result ≡ leads_back link.now }
+{
+    same_part(link.from.part, link.to.part)
+}
+
+fn same_part(one: Option<Name>, other: Option<Name>) -> bool
+    ensures { result ≡ same_part one other }
+{
+    match (one, other) {
+        (None, None) => true,
+        (Some(one), Some(other)) => one.number == other.number,
+        (None, Some(_)) | (Some(_), None) => false,
+    }
 }
 
 fn check_source(interior: &Interior, end: &End, found: &mut Findings)
@@ -106,13 +136,7 @@ fn check_source(interior: &Interior, end: &End, found: &mut Findings)
         (source_refusals (interior_by interior.now) end.now.part end.now.port) }
 {
     match end.part {
-        None => {
-            if interior.ports.contains(end.port.number) {
-                found.note(RefusalNumber::E12, end.port.place);
-            } else {
-                found.note(RefusalNumber::E7, end.port.place);
-            }
-        }
+        None => check_input(interior.ports.get(end.port.number), &end.port, found),
         Some(name) => match interior.parts.get(name.number) {
             None => found.note(RefusalNumber::E7, name.place),
             Some(part) => check_part_source(interior, part, &end.port, found),
@@ -137,11 +161,7 @@ fn check_source_port(kind: &ModelKind, port: &Name, found: &mut Findings)
 {
     match kind {
         ModelKind::Coupled => {}
-        ModelKind::Atomic(sorts) => {
-            if !is_output(sorts.get(port.number)) {
-                found.note(RefusalNumber::E7, port.place);
-            }
-        }
+        ModelKind::Atomic(sorts) => check_output(sorts.get(port.number), port, found),
     }
 }
 
@@ -150,11 +170,7 @@ fn check_target(interior: &Interior, end: &End, found: &mut Findings)
         (target_refusals (interior_by interior.now) end.now.part end.now.port) }
 {
     match end.part {
-        None => {
-            if !interior.ports.contains(end.port.number) {
-                found.note(RefusalNumber::E7, end.port.place);
-            }
-        }
+        None => check_output(interior.ports.get(end.port.number), &end.port, found),
         Some(name) => match interior.parts.get(name.number) {
             None => found.note(RefusalNumber::E7, name.place),
             Some(part) => check_part_target(interior, part, &end.port, found),
@@ -179,13 +195,40 @@ fn check_target_port(kind: &ModelKind, port: &Name, found: &mut Findings)
 {
     match kind {
         ModelKind::Coupled => {}
-        ModelKind::Atomic(sorts) => {
-            if is_output(sorts.get(port.number)) {
-                found.note(RefusalNumber::E12, port.place);
-            } else {
-                found.note(RefusalNumber::E7, port.place);
-            }
-        }
+        ModelKind::Atomic(sorts) => check_input(sorts.get(port.number), port, found),
+    }
+}
+
+// A port where an input is wanted.
+fn check_input(sort: Option<&NameSort>, port: &Name, found: &mut Findings)
+    ensures { found.new ≡ with_refusals found.old
+        (input_refusals (option_copied sort.entry) port.now.place) }
+{
+    match sort {
+        Some(NameSort::Input) => {}
+        Some(NameSort::Output) => found.note(RefusalNumber::E12, port.place),
+        _ => found.note(RefusalNumber::E7, port.place),
+    }
+}
+
+// A port where an output is wanted.
+fn check_output(sort: Option<&NameSort>, port: &Name, found: &mut Findings)
+    ensures { found.new ≡ with_refusals found.old
+        (output_refusals (option_copied sort.entry) port.now.place) }
+{
+    match sort {
+        Some(NameSort::Output) => {}
+        Some(NameSort::Input) => found.note(RefusalNumber::E12, port.place),
+        _ => found.note(RefusalNumber::E7, port.place),
+    }
+}
+
+fn is_input(sort: Option<&NameSort>) -> bool
+    ensures { result ≡ is_input (option_copied sort.entry) }
+{
+    match sort {
+        Some(NameSort::Input) => true,
+        _ => false,
     }
 }
 
@@ -194,14 +237,13 @@ fn is_output(sort: Option<&NameSort>) -> bool
 {
     match sort {
         Some(NameSort::Output) => true,
-        Some(NameSort::Variable | NameSort::Flag) => false,
-        Some(NameSort::Bag | NameSort::LoopVariable) | None => false,
+        _ => false,
     }
 }
 
-/// Whether both ends of a link are known: it leads from an output of a part to an output of the model itself.
-pub fn is_exit(interior: &Interior, link: &Link) -> bool
-    ensures { result ≡ is_exit (interior_by interior.now) link.now }
+/// Whether both ends of a link are known and of the right direction.
+pub fn has_ends(interior: &Interior, link: &Link) -> bool
+    ensures { result ≡ has_ends (interior_by interior.now) link.now }
 {
     is_source(interior, &link.from) && is_target(interior, &link.to)
 }
@@ -210,7 +252,7 @@ fn is_source(interior: &Interior, end: &End) -> bool
     ensures { result ≡ is_source (interior_by interior.now) end.now.part end.now.port.number }
 {
     match end.part {
-        None => false,
+        None => is_input(interior.ports.get(end.port.number)),
         Some(name) => match interior.parts.get(name.number) {
             None => false,
             Some(part) => is_output_of_part(interior, part, end.port.number),
@@ -242,7 +284,30 @@ fn is_target(interior: &Interior, end: &End) -> bool
     ensures { result ≡ is_target (interior_by interior.now) end.now.part end.now.port.number }
 {
     match end.part {
-        None => interior.ports.contains(end.port.number),
-        Some(_) => false,
+        None => is_output(interior.ports.get(end.port.number)),
+        Some(name) => match interior.parts.get(name.number) {
+            None => false,
+            Some(part) => is_input_of_part(interior, part, end.port.number),
+        },
+    }
+}
+
+#[tactic(auto, unfolding(crate::specs::Models::faces_by))]
+fn is_input_of_part(interior: &Interior, part: &Part, port: u32) -> bool
+    ensures { result ≡ is_input_shown
+        (faces_by interior.now.kinds.now part.now.model.number) port }
+{
+    match interior.kinds.get(part.model.number) {
+        None => false,
+        Some(kind) => is_input_shown(kind, port),
+    }
+}
+
+fn is_input_shown(kind: &ModelKind, port: u32) -> bool
+    ensures { result ≡ is_input_shown (Some (face_of_kind kind.now)) port }
+{
+    match kind {
+        ModelKind::Coupled => false,
+        ModelKind::Atomic(sorts) => is_input(sorts.get(port)),
     }
 }

@@ -66,7 +66,7 @@ impl Starts {
         ensures { result ≡ names_only (is_start_known_by self.now) (expression_of expression.now) }
     {
         match expression {
-            Expr::Literal(_) | Expr::TruthValue { .. } => true,
+            Expr::Literal(_) | Expr::TruthValue { .. } | Expr::Elapsed { .. } => true,
             Expr::Named(name) => self.know(name.number),
             Expr::Parens { inner, .. } => self.know_names(inner),
             Expr::Prefixed { operand, .. } => self.know_names(operand),

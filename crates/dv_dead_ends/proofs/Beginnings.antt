@@ -13,10 +13,10 @@ use Rattle.dv_syntax.specs.declared.tree.Prefix.{Prefix}
 use Rattle.dv_syntax.specs.declared.tree.Prefix.TheVariants as prefix
 use Rattle.dv_syntax.specs.declared.tree.RuleSort.{RuleSort}
 use Rattle.dv_syntax.specs.declared.tree.RuleSort.TheVariants as sort
-use Rattle.dv_syntax.specs.Trees.{Expression, Literal, TruthValue, Named, Parens, Prefixed, Binary, Call, Times}
-use Rattle.dv_syntax.specs.Written.{Declares, Lists, Starts, Holds, Rules, Outputs, Contains, Couples, WrittenModel, WrittenAtomic, WrittenCoupled, WrittenFile, sorted}
+use Rattle.dv_syntax.specs.Trees.{Expression, Literal, TruthValue, Named, Parens, Prefixed, Binary, Call, Elapsed, Times}
+use Rattle.dv_syntax.specs.Written.{Declares, Lists, Starts, Holds, Rules, Inputs, Outputs, Contains, Couples, WrittenModel, WrittenAtomic, WrittenCoupled, WrittenFile, sorted}
 use Rattle.dv_syntax.specs.Grammar.{Limits, prefix_kind, prefix_rank, operator_rank, depth, sort_word}
-use Rattle.dv_parser.specs.Reading.{SingleAssign, SingleGoto, SingleSend, SingleIf, SingleIfElse, SingleFor, SingleAdd, SingleDrop, joined, Unexpected, TooDeep, read_then, within, choose, maybe, same_kind, begins_name, begins_truth, begins_call, begins_prefix, truth_at, call_word_at, name_at, number_at, place_at, obstacle_at, operator_of, goes_on, operator_at, call_at, leaf_at, parens_at, prefixed_at, times_at, primary_at, turns, expression_at, many_at, braces_at, assign_at, goto_at, send_at, add_at, drop_at, else_at, if_at, for_at, statement_at, block_at, bound_at, variable_at, flag_at, bag_at, further_name_at, phases_at, start_at, ticks_at, hold_at, rule_at, out_at, item_at, atomic_at, end_at, part_at, link_at, coupled_item_at, coupled_at, model_at, file_at}
+use Rattle.dv_parser.specs.Reading.{SingleAssign, SingleGoto, SingleSend, SingleIf, SingleIfElse, SingleFor, SingleAdd, SingleDrop, joined, Unexpected, TooDeep, read_then, within, choose, maybe, same_kind, begins_name, begins_truth, begins_call, begins_prefix, truth_at, call_word_at, name_at, number_at, place_at, obstacle_at, operator_of, goes_on, operator_at, call_at, elapsed_at, leaf_at, parens_at, prefixed_at, times_at, primary_at, turns, expression_at, many_at, braces_at, assign_at, goto_at, send_at, add_at, drop_at, else_at, if_at, for_at, statement_at, block_at, bound_at, variable_at, flag_at, bag_at, further_name_at, phases_at, start_at, ticks_at, hold_at, rule_at, any_rule_at, port_at, item_at, atomic_at, end_at, part_at, link_at, coupled_item_at, coupled_at, model_at, file_at}
 use Rattle.dv_dead_ends.specs.Refusals.{BeginsFileWithin}
 use Rattle.dv_parser.proofs.Tokens.{then_is}
 use Rattle.dv_parser.proofs.Expressions.{positive_depth}
@@ -24,7 +24,7 @@ use Rattle.dv_parser.proofs.Statements.{NoElse, statement_shortens}
 use Rattle.dv_parser.proofs.Models.{item_shortens, further_name_shortens, coupled_item_shortens, model_shortens, file_sound}
 use Rattle.dv_dead_ends.proofs.Steady.{Reader, begins_name_of_first, begins_truth_of_first, begins_call_of_first, truth_steady, call_word_steady, many_steady, braces_steady, name_steady, number_steady}
 use Rattle.dv_dead_ends.proofs.Completions.{of_kind, Unfinished, CompletesAt, Completes, Always, Begins, each, ReadsOn, Leaves, StopsThere, on_first, leaves_complete, then_completes, choose_completes, choose_completes_by, after_completes, deep_completes, name_completes, number_completes, truth_completes, call_word_completes, many_completes, braces_complete}
-use Rattle.dv_dead_ends.proofs.SteadyReaders.{cases_option, begins_prefix_of_first, primary_steady, expression_steady, statement_steady, block_steady, bound_steady, further_name_steady, ticks_steady, out_steady, variable_steady, flag_steady, bag_steady, item_steady, end_steady, part_steady, link_steady, coupled_item_steady, atomic_steady, coupled_steady, model_steady, last_at, root_at, whole_at, file_whole, as_file}
+use Rattle.dv_dead_ends.proofs.SteadyReaders.{cases_option, begins_prefix_of_first, primary_steady, expression_steady, statement_steady, block_steady, bound_steady, further_name_steady, ticks_steady, port_steady, variable_steady, flag_steady, bag_steady, item_steady, end_steady, part_steady, link_steady, coupled_item_steady, atomic_steady, coupled_steady, model_steady, last_at, root_at, whole_at, file_whole, as_file}
 
 -- ---- Expressions
 
@@ -53,6 +53,10 @@ call_completes =
     then_completes name_at _ name_steady name_completes (λ rest h. tt) (λ _ b.
     after_completes (kind.Symbol symbol.CloseParen) _ (λ _. leaves_complete (Call c place b) EndsExpression))))
 
+elapsed_completes : Completes elapsed_at EndsExpression (a_word keyword.Elapsed ∷ [])
+unfolding elapsed_at
+elapsed_completes = after_completes (kind.Keyword keyword.Elapsed) _ (λ place. leaves_complete (Elapsed place) EndsExpression)
+
 leaf_completes : Completes leaf_at EndsExpression (a_number ∷ [])
 unfolding leaf_at
 leaf_completes =
@@ -63,7 +67,8 @@ leaf_completes =
     (then_completes truth_at _ truth_steady truth_completes (λ rest h. tt) (λ place v. leaves_complete (TruthValue place v) EndsExpression)).behind
     (λ rest h. refl)
     (choose_completes_by begins_call _ _ begins_call_of_first call_completes.behind (λ rest h. refl)
-    (then_completes number_at _ number_steady number_completes (λ rest h. tt) (λ _ n. leaves_complete (Literal n) EndsExpression))))
+    (choose_completes (kind.Keyword keyword.Elapsed) _ _ elapsed_completes.behind (λ rest h. refl)
+    (then_completes number_at _ number_steady number_completes (λ rest h. tt) (λ _ n. leaves_complete (Literal n) EndsExpression)))))
 
 -- a reader of operands completes them where the limit leaves room for one
 abbrev WhereRoom : (ℕ → Reader Expression) → ℕ → Type 0
@@ -379,17 +384,32 @@ rule_completes limits room sort =
     (some_block limits room limits.block limits.loop room.block) (λ rest h. tt) (λ _ body.
     leaves_complete (Rules (record { sort = sort; phase = n; body = body })) Always)))
 
-out_completes : Completes out_at Always (of_kind (kind.Keyword keyword.Out) ∷ a_name ∷ a_sign symbol.Semicolon ∷ [])
-unfolding out_at
-out_completes =
-    after_completes (kind.Keyword keyword.Out) _ (λ _.
+any_rule_completes : (limits : Limits) → HaveRoom limits
+    → Completes (any_rule_at limits) Always (of_kind (kind.Keyword keyword.Confluent) ∷ a_name ∷ empty_braces)
+unfolding any_rule_at
+any_rule_completes limits room =
+    choose_completes (kind.Keyword keyword.Output) _ _ (rule_completes limits room sort.Output).behind (λ rest h. refl)
+    (choose_completes (kind.Keyword keyword.Internal) _ _ (rule_completes limits room sort.Internal).behind (λ rest h. refl)
+    (choose_completes (kind.Keyword keyword.External) _ _ (rule_completes limits room sort.External).behind (λ rest h. refl)
+    (rule_completes limits room sort.Confluent)))
+
+port_completes : (k : Keyword) → Completes (port_at k) Always (of_kind (kind.Keyword k) ∷ a_name ∷ a_sign symbol.Semicolon ∷ [])
+unfolding port_at
+port_completes k =
+    after_completes (kind.Keyword k) _ (λ _.
     then_completes name_at _ name_steady name_completes (λ rest h. tt) (λ _ n.
     after_completes (kind.Symbol symbol.Semicolon) _ (λ _. leaves_complete n Always)))
 
-item_completes : (limits : Limits) → HaveRoom limits → Completes (item_at limits) Always (of_kind (kind.Keyword keyword.Internal) ∷ a_name ∷ empty_braces)
+item_completes : (limits : Limits) → HaveRoom limits
+    → Completes (item_at limits) Always (of_kind (kind.Keyword keyword.Confluent) ∷ a_name ∷ empty_braces)
 unfolding item_at
 item_completes limits room =
-    choose_completes (kind.Keyword keyword.Out) _ _ (then_completes out_at _ out_steady out_completes (λ rest h. tt) (λ _ n. leaves_complete (Declares (declaration.Out n)) Always)).behind (λ rest h. refl)
+    choose_completes (kind.Keyword keyword.In) _ _
+    (then_completes (port_at keyword.In) _ (port_steady keyword.In) (port_completes keyword.In) (λ rest h. tt) (λ _ n.
+    leaves_complete (Declares (declaration.In n)) Always)).behind (λ rest h. refl)
+    (choose_completes (kind.Keyword keyword.Out) _ _
+    (then_completes (port_at keyword.Out) _ (port_steady keyword.Out) (port_completes keyword.Out) (λ rest h. tt) (λ _ n.
+    leaves_complete (Declares (declaration.Out n)) Always)).behind (λ rest h. refl)
     (choose_completes (kind.Keyword keyword.Var) _ _ (then_completes variable_at _ variable_steady variable_completes (λ rest h. tt) (λ _ v. leaves_complete (Declares (declaration.Var v)) Always)).behind (λ rest h. refl)
     (choose_completes (kind.Keyword keyword.Flag) _ _ (then_completes flag_at _ flag_steady flag_completes (λ rest h. tt) (λ _ f. leaves_complete (Declares (declaration.Flag f)) Always)).behind (λ rest h. refl)
     (choose_completes (kind.Keyword keyword.Bag) _ _
@@ -398,8 +418,7 @@ item_completes limits room =
     (choose_completes (kind.Keyword keyword.Phases) _ _ phases_complete.behind (λ rest h. refl)
     (choose_completes (kind.Keyword keyword.Start) _ _ start_completes.behind (λ rest h. refl)
     (choose_completes (kind.Keyword keyword.Hold) _ _ (hold_completes limits room).behind (λ rest h. refl)
-    (choose_completes (kind.Keyword keyword.Output) _ _ (rule_completes limits room sort.Output).behind (λ rest h. refl)
-    (rule_completes limits room sort.Internal))))))))
+    (any_rule_completes limits room))))))))
 
 atomic_completes : (limits : Limits) → HaveRoom limits → Completes (atomic_at limits) Always (of_kind (kind.Keyword keyword.Atomic) ∷ a_name ∷ empty_braces)
 unfolding atomic_at
@@ -439,9 +458,14 @@ link_completes =
 coupled_item_completes : Completes coupled_item_at Always (of_kind (kind.Keyword keyword.Link) ∷ a_name ∷ a_sign symbol.Dot ∷ a_name ∷ a_sign symbol.Arrow ∷ a_name ∷ a_sign symbol.Dot ∷ a_name ∷ a_sign symbol.Semicolon ∷ [])
 unfolding coupled_item_at
 coupled_item_completes =
-    choose_completes (kind.Keyword keyword.Out) _ _ (then_completes out_at _ out_steady out_completes (λ rest h. tt) (λ _ n. leaves_complete (Outputs n) Always)).behind (λ rest h. refl)
+    choose_completes (kind.Keyword keyword.In) _ _
+    (then_completes (port_at keyword.In) _ (port_steady keyword.In) (port_completes keyword.In) (λ rest h. tt) (λ _ n.
+    leaves_complete (Inputs n) Always)).behind (λ rest h. refl)
+    (choose_completes (kind.Keyword keyword.Out) _ _
+    (then_completes (port_at keyword.Out) _ (port_steady keyword.Out) (port_completes keyword.Out) (λ rest h. tt) (λ _ n.
+    leaves_complete (Outputs n) Always)).behind (λ rest h. refl)
     (choose_completes (kind.Keyword keyword.Part) _ _ (then_completes part_at _ part_steady part_completes (λ rest h. tt) (λ _ p. leaves_complete (Contains p) Always)).behind (λ rest h. refl)
-    (then_completes link_at _ link_steady link_completes (λ rest h. tt) (λ _ l. leaves_complete (Couples l) Always)))
+    (then_completes link_at _ link_steady link_completes (λ rest h. tt) (λ _ l. leaves_complete (Couples l) Always))))
 
 coupled_completes : Completes coupled_at Always (of_kind (kind.Keyword keyword.Coupled) ∷ a_name ∷ empty_braces)
 unfolding coupled_at

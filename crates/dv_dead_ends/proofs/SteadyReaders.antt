@@ -3,6 +3,7 @@ use Rattle.std.proofs.Common.{◌≡◌, ℕ, zero, suc, ◌+◌, ◌-◌, ltb, 
 use Rattle.std.proofs.lemmas.Bool.{cases_Bool}
 use Rattle.dv_lex.specs.declared.token.Token.{Token}
 use Rattle.dv_lex.specs.declared.token.TokenKind.TheVariants as kind
+use Rattle.dv_lex.specs.declared.token.Keyword.{Keyword}
 use Rattle.dv_lex.specs.declared.token.Keyword.TheVariants as keyword
 use Rattle.dv_lex.specs.declared.token.Symbol.TheVariants as symbol
 use Rattle.dv_syntax.specs.declared.tree.Declaration.TheVariants as declaration
@@ -10,10 +11,10 @@ use Rattle.dv_syntax.specs.declared.tree.Prefix.{Prefix}
 use Rattle.dv_syntax.specs.declared.tree.Prefix.TheVariants as prefix
 use Rattle.dv_syntax.specs.declared.tree.RuleSort.{RuleSort}
 use Rattle.dv_syntax.specs.declared.tree.RuleSort.TheVariants as sort
-use Rattle.dv_syntax.specs.Trees.{Expression, Literal, TruthValue, Named, Parens, Prefixed, Binary, Call, Times, Statements}
-use Rattle.dv_syntax.specs.Written.{Declares, Lists, Starts, Holds, Rules, Outputs, Contains, Couples, WrittenModel, WrittenAtomic, WrittenCoupled, WrittenFile}
+use Rattle.dv_syntax.specs.Trees.{Expression, Literal, TruthValue, Named, Parens, Prefixed, Binary, Call, Elapsed, Times, Statements}
+use Rattle.dv_syntax.specs.Written.{Declares, Lists, Starts, Holds, Rules, Inputs, Outputs, Contains, Couples, WrittenModel, WrittenAtomic, WrittenCoupled, WrittenFile}
 use Rattle.dv_syntax.specs.Grammar.{Limits, prefix_kind, prefix_rank, operator_rank, depth, sort_word}
-use Rattle.dv_parser.specs.Reading.{SingleAssign, SingleGoto, SingleSend, SingleIf, SingleIfElse, SingleFor, SingleAdd, SingleDrop, joined, Obstacle, Unexpected, TooDeep, Read, read_then, within, choose, maybe, begins_name, begins_truth, begins_call, begins_prefix, truth_at, call_word_at, after, name_at, number_at, place_at, obstacle_at, operator_of, goes_on, operator_at, call_at, leaf_at, parens_at, prefixed_at, times_at, primary_at, turns, expression_at, many_at, braces_at, assign_at, goto_at, send_at, add_at, drop_at, else_at, if_at, for_at, statement_at, block_at, bound_at, variable_at, flag_at, bag_at, further_name_at, phases_at, start_at, ticks_at, hold_at, rule_at, out_at, item_at, atomic_at, end_at, part_at, link_at, coupled_item_at, coupled_at, model_at, is_end, file_at}
+use Rattle.dv_parser.specs.Reading.{SingleAssign, SingleGoto, SingleSend, SingleIf, SingleIfElse, SingleFor, SingleAdd, SingleDrop, joined, Obstacle, Unexpected, TooDeep, Read, read_then, within, choose, maybe, begins_name, begins_truth, begins_call, begins_prefix, truth_at, call_word_at, after, name_at, number_at, place_at, obstacle_at, operator_of, goes_on, operator_at, call_at, elapsed_at, leaf_at, parens_at, prefixed_at, times_at, primary_at, turns, expression_at, many_at, braces_at, assign_at, goto_at, send_at, add_at, drop_at, else_at, if_at, for_at, statement_at, block_at, bound_at, variable_at, flag_at, bag_at, further_name_at, phases_at, start_at, ticks_at, hold_at, rule_at, any_rule_at, port_at, item_at, atomic_at, end_at, part_at, link_at, coupled_item_at, coupled_at, model_at, is_end, file_at}
 use Rattle.dv_parser.proofs.Statements.{statement_shortens}
 use Rattle.dv_parser.proofs.Models.{item_shortens, further_name_shortens, coupled_item_shortens, model_shortens}
 use Rattle.dv_parser.proofs.Sorting.{later, same_chosen, err_kept}
@@ -33,6 +34,10 @@ call_steady =
     then_steady name_at _ name_steady (λ _ b.
     after_steady (kind.Symbol symbol.CloseParen) _ (λ _. leaves_steady (Call c place b)))))
 
+elapsed_steady : IsSteady elapsed_at
+unfolding elapsed_at
+elapsed_steady = after_steady (kind.Keyword keyword.Elapsed) _ (λ place. leaves_steady (Elapsed place))
+
 leaf_steady : IsSteady leaf_at
 unfolding leaf_at
 leaf_steady ts =
@@ -41,7 +46,8 @@ leaf_steady ts =
     (choose_at begins_truth _ _ ts begins_truth_of_first
     (then_steady truth_at _ truth_steady (λ place v. leaves_steady (TruthValue place v)) ts)
     (choose_at begins_call _ _ ts begins_call_of_first (call_steady ts)
-    (then_steady number_at _ number_steady (λ _ n. leaves_steady (Literal n)) ts)))
+    (choose_steady (kind.Keyword keyword.Elapsed) _ _ elapsed_steady
+    (then_steady number_at _ number_steady (λ _ n. leaves_steady (Literal n))) ts)))
 
 parens_steady : (operand : ℕ → Reader Expression) → ((level : ℕ) → IsSteady (operand level)) → (limit : ℕ) → IsSteady (parens_at operand limit)
 unfolding parens_at within read_then
@@ -285,24 +291,33 @@ rule_steady limits sort =
     then_steady (block_at limits limits.block limits.loop) _ (block_steady limits limits.block limits.loop) (λ _ body.
     leaves_steady (Rules (record { sort = sort; phase = n; body = body })))))
 
-pub out_steady : IsSteady out_at
-unfolding out_at
-out_steady =
-    after_steady (kind.Keyword keyword.Out) _ (λ _.
+any_rule_steady : (limits : Limits) → IsSteady (any_rule_at limits)
+unfolding any_rule_at
+any_rule_steady limits =
+    choose_steady (kind.Keyword keyword.Output) _ _ (rule_steady limits sort.Output)
+    (choose_steady (kind.Keyword keyword.Internal) _ _ (rule_steady limits sort.Internal)
+    (choose_steady (kind.Keyword keyword.External) _ _ (rule_steady limits sort.External) (rule_steady limits sort.Confluent)))
+
+pub port_steady : (k : Keyword) → IsSteady (port_at k)
+unfolding port_at
+port_steady k =
+    after_steady (kind.Keyword k) _ (λ _.
     then_steady name_at _ name_steady (λ _ n.
     after_steady (kind.Symbol symbol.Semicolon) _ (λ _. leaves_steady n)))
 
 pub item_steady : (limits : Limits) → IsSteady (item_at limits)
 unfolding item_at
 item_steady limits =
-    choose_steady (kind.Keyword keyword.Out) _ _ (then_steady out_at _ out_steady (λ _ n. leaves_steady (Declares (declaration.Out n))))
+    choose_steady (kind.Keyword keyword.In) _ _
+    (then_steady (port_at keyword.In) _ (port_steady keyword.In) (λ _ n. leaves_steady (Declares (declaration.In n))))
+    (choose_steady (kind.Keyword keyword.Out) _ _
+    (then_steady (port_at keyword.Out) _ (port_steady keyword.Out) (λ _ n. leaves_steady (Declares (declaration.Out n))))
     (choose_steady (kind.Keyword keyword.Var) _ _ (then_steady variable_at _ variable_steady (λ _ v. leaves_steady (Declares (declaration.Var v))))
     (choose_steady (kind.Keyword keyword.Flag) _ _ (then_steady flag_at _ flag_steady (λ _ f. leaves_steady (Declares (declaration.Flag f))))
     (choose_steady (kind.Keyword keyword.Bag) _ _ (then_steady bag_at _ bag_steady (λ _ b. leaves_steady (Declares (declaration.Bag b))))
     (choose_steady (kind.Keyword keyword.Phases) _ _ phases_steady
     (choose_steady (kind.Keyword keyword.Start) _ _ start_steady
-    (choose_steady (kind.Keyword keyword.Hold) _ _ (hold_steady limits)
-    (choose_steady (kind.Keyword keyword.Output) _ _ (rule_steady limits sort.Output) (rule_steady limits sort.Internal))))))))
+    (choose_steady (kind.Keyword keyword.Hold) _ _ (hold_steady limits) (any_rule_steady limits))))))))
 
 pub atomic_steady : (limits : Limits) → IsSteady (atomic_at limits)
 unfolding atomic_at
@@ -341,9 +356,12 @@ link_steady =
 pub coupled_item_steady : IsSteady coupled_item_at
 unfolding coupled_item_at
 coupled_item_steady =
-    choose_steady (kind.Keyword keyword.Out) _ _ (then_steady out_at _ out_steady (λ _ n. leaves_steady (Outputs n)))
+    choose_steady (kind.Keyword keyword.In) _ _
+    (then_steady (port_at keyword.In) _ (port_steady keyword.In) (λ _ n. leaves_steady (Inputs n)))
+    (choose_steady (kind.Keyword keyword.Out) _ _
+    (then_steady (port_at keyword.Out) _ (port_steady keyword.Out) (λ _ n. leaves_steady (Outputs n)))
     (choose_steady (kind.Keyword keyword.Part) _ _ (then_steady part_at _ part_steady (λ _ p. leaves_steady (Contains p)))
-    (then_steady link_at _ link_steady (λ _ l. leaves_steady (Couples l))))
+    (then_steady link_at _ link_steady (λ _ l. leaves_steady (Couples l)))))
 
 pub coupled_steady : IsSteady coupled_at
 unfolding coupled_at

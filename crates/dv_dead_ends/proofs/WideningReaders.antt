@@ -3,6 +3,7 @@ use Rattle.std.proofs.Common.{◌≡◌, ℕ, zero, suc, ◌+◌, ◌-◌, ◌<�
 use Rattle.std.proofs.lemmas.Bool.{cases_Bool, ltb-true, lt-ltb}
 use Rattle.dv_lex.specs.declared.token.Token.{Token}
 use Rattle.dv_lex.specs.declared.token.TokenKind.TheVariants as kind
+use Rattle.dv_lex.specs.declared.token.Keyword.{Keyword}
 use Rattle.dv_lex.specs.declared.token.Keyword.TheVariants as keyword
 use Rattle.dv_lex.specs.declared.token.Symbol.TheVariants as symbol
 use Rattle.dv_syntax.specs.declared.tree.Declaration.TheVariants as declaration
@@ -10,10 +11,10 @@ use Rattle.dv_syntax.specs.declared.tree.Prefix.{Prefix}
 use Rattle.dv_syntax.specs.declared.tree.Prefix.TheVariants as prefix
 use Rattle.dv_syntax.specs.declared.tree.RuleSort.{RuleSort}
 use Rattle.dv_syntax.specs.declared.tree.RuleSort.TheVariants as sort
-use Rattle.dv_syntax.specs.Trees.{Expression, Literal, TruthValue, Named, Parens, Prefixed, Binary, Call, Times}
-use Rattle.dv_syntax.specs.Written.{Declares, Lists, Starts, Holds, Rules, Outputs, Contains, Couples, WrittenModel, WrittenAtomic, WrittenCoupled, WrittenFile}
+use Rattle.dv_syntax.specs.Trees.{Expression, Literal, TruthValue, Named, Parens, Prefixed, Binary, Call, Elapsed, Times}
+use Rattle.dv_syntax.specs.Written.{Declares, Lists, Starts, Holds, Rules, Inputs, Outputs, Contains, Couples, WrittenModel, WrittenAtomic, WrittenCoupled, WrittenFile}
 use Rattle.dv_syntax.specs.Grammar.{Limits, prefix_kind, prefix_rank, operator_rank, depth, sort_word}
-use Rattle.dv_parser.specs.Reading.{SingleAssign, SingleGoto, SingleSend, SingleIf, SingleIfElse, SingleFor, SingleAdd, SingleDrop, joined, TooShort, read_then, within, choose, maybe, begins_name, begins_truth, begins_call, after, name_at, number_at, place_at, obstacle_at, operator_of, goes_on, operator_at, call_at, leaf_at, parens_at, prefixed_at, times_at, primary_at, turns, expression_at, assign_at, goto_at, send_at, add_at, drop_at, else_at, if_at, for_at, statement_at, block_at, bound_at, variable_at, flag_at, bag_at, further_name_at, phases_at, start_at, ticks_at, hold_at, rule_at, out_at, item_at, atomic_at, end_at, part_at, link_at, coupled_item_at, coupled_at, model_at}
+use Rattle.dv_parser.specs.Reading.{SingleAssign, SingleGoto, SingleSend, SingleIf, SingleIfElse, SingleFor, SingleAdd, SingleDrop, joined, TooShort, read_then, within, choose, maybe, begins_name, begins_truth, begins_call, after, name_at, number_at, place_at, obstacle_at, operator_of, goes_on, operator_at, call_at, elapsed_at, leaf_at, parens_at, prefixed_at, times_at, primary_at, turns, expression_at, assign_at, goto_at, send_at, add_at, drop_at, else_at, if_at, for_at, statement_at, block_at, bound_at, variable_at, flag_at, bag_at, further_name_at, phases_at, start_at, ticks_at, hold_at, rule_at, any_rule_at, port_at, item_at, atomic_at, end_at, part_at, link_at, coupled_item_at, coupled_at, model_at}
 use Rattle.dv_parser.proofs.Expressions.{expression_read, primary_depth, positive_depth, operator_rank-le}
 use Rattle.dv_parser.proofs.Statements.{statement_shortens}
 use Rattle.dv_parser.proofs.Models.{item_shortens, further_name_shortens, coupled_item_shortens, model_shortens}
@@ -33,6 +34,10 @@ call_widens =
     then_widens _ _ name_widens (λ _ b.
     after_widens (kind.Symbol symbol.CloseParen) _ _ (λ _. leaves_widens (Call c place b)))))
 
+elapsed_widens : Widens elapsed_at elapsed_at
+unfolding elapsed_at
+elapsed_widens = after_widens (kind.Keyword keyword.Elapsed) _ _ (λ place. leaves_widens (Elapsed place))
+
 leaf_widens : Widens leaf_at leaf_at
 unfolding leaf_at
 leaf_widens =
@@ -41,7 +46,8 @@ leaf_widens =
     (choose_widens_by begins_truth begins_truth_of_first
     (then_widens _ _ truth_widens (λ place v. leaves_widens (TruthValue place v)))
     (choose_widens_by begins_call begins_call_of_first call_widens
-    (then_widens _ _ number_widens (λ _ n. leaves_widens (Literal n)))))
+    (choose_widens (kind.Keyword keyword.Elapsed) elapsed_widens
+    (then_widens _ _ number_widens (λ _ n. leaves_widens (Literal n))))))
 
 -- what reads operands widens where the limit leaves room for one
 abbrev WidenWhereRoom : ℕ → ℕ → Type 0
@@ -396,24 +402,33 @@ rule_widens n w g sort =
     then_widens _ _ (some_block n w g n.block w.block n.loop w.loop g.room.block g.greater.block g.greater.loop) (λ _ body.
     leaves_widens (Rules (record { sort = sort; phase = p; body = body })))))
 
-out_widens : Widens out_at out_at
-unfolding out_at
-out_widens =
-    after_widens (kind.Keyword keyword.Out) _ _ (λ _.
+any_rule_widens : (n w : Limits) → AreWidened n w → Widens (any_rule_at n) (any_rule_at w)
+unfolding any_rule_at
+any_rule_widens n w g =
+    choose_widens (kind.Keyword keyword.Output) (rule_widens n w g sort.Output)
+    (choose_widens (kind.Keyword keyword.Internal) (rule_widens n w g sort.Internal)
+    (choose_widens (kind.Keyword keyword.External) (rule_widens n w g sort.External) (rule_widens n w g sort.Confluent)))
+
+port_widens : (k : Keyword) → Widens (port_at k) (port_at k)
+unfolding port_at
+port_widens k =
+    after_widens (kind.Keyword k) _ _ (λ _.
     then_widens _ _ name_widens (λ _ p.
     after_widens (kind.Symbol symbol.Semicolon) _ _ (λ _. leaves_widens p)))
 
 item_widens : (n w : Limits) → AreWidened n w → Widens (item_at n) (item_at w)
 unfolding item_at
 item_widens n w g =
-    choose_widens (kind.Keyword keyword.Out) (then_widens _ _ out_widens (λ _ p. leaves_widens (Declares (declaration.Out p))))
+    choose_widens (kind.Keyword keyword.In)
+    (then_widens _ _ (port_widens keyword.In) (λ _ p. leaves_widens (Declares (declaration.In p))))
+    (choose_widens (kind.Keyword keyword.Out)
+    (then_widens _ _ (port_widens keyword.Out) (λ _ p. leaves_widens (Declares (declaration.Out p))))
     (choose_widens (kind.Keyword keyword.Var) (then_widens _ _ variable_widens (λ _ v. leaves_widens (Declares (declaration.Var v))))
     (choose_widens (kind.Keyword keyword.Flag) (then_widens _ _ flag_widens (λ _ f. leaves_widens (Declares (declaration.Flag f))))
     (choose_widens (kind.Keyword keyword.Bag) (then_widens _ _ bag_widens (λ _ b. leaves_widens (Declares (declaration.Bag b))))
     (choose_widens (kind.Keyword keyword.Phases) phases_widen
     (choose_widens (kind.Keyword keyword.Start) start_widens
-    (choose_widens (kind.Keyword keyword.Hold) (hold_widens n w g)
-    (choose_widens (kind.Keyword keyword.Output) (rule_widens n w g sort.Output) (rule_widens n w g sort.Internal))))))))
+    (choose_widens (kind.Keyword keyword.Hold) (hold_widens n w g) (any_rule_widens n w g))))))))
 
 atomic_widens : (n w : Limits) → AreWidened n w → Widens (atomic_at n) (atomic_at w)
 unfolding atomic_at
@@ -454,9 +469,10 @@ link_widens =
 coupled_item_widens : Widens coupled_item_at coupled_item_at
 unfolding coupled_item_at
 coupled_item_widens =
-    choose_widens (kind.Keyword keyword.Out) (then_widens _ _ out_widens (λ _ p. leaves_widens (Outputs p)))
+    choose_widens (kind.Keyword keyword.In) (then_widens _ _ (port_widens keyword.In) (λ _ p. leaves_widens (Inputs p)))
+    (choose_widens (kind.Keyword keyword.Out) (then_widens _ _ (port_widens keyword.Out) (λ _ p. leaves_widens (Outputs p)))
     (choose_widens (kind.Keyword keyword.Part) (then_widens _ _ part_widens (λ _ p. leaves_widens (Contains p)))
-    (then_widens _ _ link_widens (λ _ l. leaves_widens (Couples l))))
+    (then_widens _ _ link_widens (λ _ l. leaves_widens (Couples l)))))
 
 coupled_widens : Widens coupled_at coupled_at
 unfolding coupled_at

@@ -18,7 +18,7 @@ use Rattle.dv_bag.specs.declared.value.Value.{Value}
 use Rattle.std.proofs.lemmas.Bool.{lt-leb}
 use Rattle.dv_eval.specs.Scope.{Scope, place_of}
 use Rattle.dv_eval.specs.Copies.{repeated}
-use Rattle.dv_eval.specs.Meaning.{addition, assignment, bag_of_name, moment_in, number_of, removal, repetition, run, sending, truth_of, value_within, with_value_at}
+use Rattle.dv_eval.specs.Meaning.{Context, addition, assignment, bag_of_name, in_loop, moment_in, number_of, removal, repetition, run, sending, truth_of, value_within, with_value_at}
 
 -- to go on with a value is to keep it and then go on
 bind_kept : {A B : Type 0} (m : Result A Fault) (k : A → Result B Fault) → (m >>= k) ≡ ((m >>= λ x. Ok x) >>= k)
@@ -58,38 +58,38 @@ bind_fails m k whole (error.Fault f) known step = sym known ∙ ap (λ y. y >>= 
 bind_fails m k whole error.Memory known step = tt
 
 -- what a loop does, as its statement says it
-abbrev walk : Scope → List (ℕ × ℤ) → Name → Name → Statements → Effect → Result Effect Fault
-walk scope loops v b block e =
-    repetition (λ n. run scope ((v.number, n) ∷ loops) block) (values_of (bag_of_name scope (moment_in loops e.state) b.number)) e
+abbrev walk : Scope → Context → Name → Name → Statements → Effect → Result Effect Fault
+walk scope context v b block e =
+    repetition (λ n. run scope (in_loop (v.number, n) context) block) (values_of (bag_of_name scope (moment_in context e.state) b.number)) e
 
-module _ (scope : Scope) (loops : List (ℕ × ℤ)) where
+module _ (scope : Scope) (context : Context) where
   abbrev value_of : Effect → Expr → Result Value Fault
-  value_of e value = value_within scope loops e (expression_of value)
+  value_of e value = value_within scope context e (expression_of value)
 
   -- what one statement does, and what a list of statements does
   abbrev one : Stmt → Effect → Result Effect Fault
-  one s = run scope loops (statement_before s Done)
+  one s = run scope context (statement_before s Done)
 
   abbrev all : List Stmt → Effect → Result Effect Fault
-  all ss = run scope loops (statements_of ss)
+  all ss = run scope context (statements_of ss)
 
   abbrev block_of : {n : _} → Row_of-Stmt n → Effect → Result Effect Fault
-  block_of block = run scope loops (row_statements block)
+  block_of block = run scope context (row_statements block)
 
   -- a statement before a rest: first the statement alone, and then the rest
-  run-statement_before : (s : Stmt) (rest : Statements) (e : Effect) → run scope loops (statement_before s rest) e ≡ (one s e >>= run scope loops rest)
-  run-statement_before (stmt.Assign name value) rest e = bind_twice (value_of e value) (λ v. assignment scope name.number v e) (run scope loops rest)
+  run-statement_before : (s : Stmt) (rest : Statements) (e : Effect) → run scope context (statement_before s rest) e ≡ (one s e >>= run scope context rest)
+  run-statement_before (stmt.Assign name value) rest e = bind_twice (value_of e value) (λ v. assignment scope name.number v e) (run scope context rest)
   run-statement_before (stmt.Goto place phase) rest e = refl
-  run-statement_before (stmt.Send place port value) rest e = bind_twice (value_of e value) (λ v. sending scope port.number v e) (run scope loops rest)
+  run-statement_before (stmt.Send place port value) rest e = bind_twice (value_of e value) (λ v. sending scope port.number v e) (run scope context rest)
   run-statement_before (stmt.If' place c shape block) rest e =
-      bind_twice (value_of e c) (λ v. if truth_of v then block_of block e else Ok e) (run scope loops rest)
+      bind_twice (value_of e c) (λ v. if truth_of v then block_of block e else Ok e) (run scope context rest)
   run-statement_before (stmt.IfElse' place c shape block other_shape other) rest e =
-      bind_twice (value_of e c) (λ v. if truth_of v then block_of block e else block_of other e) (run scope loops rest)
-  run-statement_before (stmt.For' place v b shape block) rest e = bind_kept (walk scope loops v b (row_statements block) e) (run scope loops rest)
+      bind_twice (value_of e c) (λ v. if truth_of v then block_of block e else block_of other e) (run scope context rest)
+  run-statement_before (stmt.For' place v b shape block) rest e = bind_kept (walk scope context v b (row_statements block) e) (run scope context rest)
   run-statement_before (stmt.Add place value b) rest e =
-      bind_twice (value_of e value) (λ v. addition scope b.number (number_of v) e) (run scope loops rest)
+      bind_twice (value_of e value) (λ v. addition scope b.number (number_of v) e) (run scope context rest)
   run-statement_before (stmt.Drop place value b) rest e =
-      bind_mapped (value_of e value) (λ v. removal scope b.number (number_of v) e) (run scope loops rest)
+      bind_mapped (value_of e value) (λ v. removal scope b.number (number_of v) e) (run scope context rest)
 
   -- the statements from a place on: the one there, and then those behind it
   run-drop :
@@ -97,7 +97,7 @@ module _ (scope : Scope) (loops : List (ℕ × ℤ)) where
       → all (drop i ss) e ≡ (one s e >>= all (drop (i + 1) ss))
   run-drop ss i s e within is =
       at_drop_more (λ rest. all rest e) ss i s within
-      ∙ ap (λ x. run scope loops (statement_before x (statements_of (drop (i + 1) ss))) e) (sym is)
+      ∙ ap (λ x. run scope context (statement_before x (statements_of (drop (i + 1) ss))) e) (sym is)
       ∙ run-statement_before s (statements_of (drop (i + 1) ss)) e
 
   pub run-drop_ok :
@@ -190,45 +190,45 @@ bind_ok (Ok x) = refl
 bind_ok (Err f) = refl
 
 pub run-Assign :
-    (scope : Scope) (loops : List (ℕ × ℤ)) (s : Stmt) (e : Effect) (variable : Name) (value : Expr) (v : Value)
-    → s ≡ stmt.Assign variable value → value_within scope loops e (expression_of value) ≡ Ok v
-    → run scope loops (statement_before s Done) e ≡ assignment scope variable.number v e
-run-Assign scope loops s e variable value v is known =
-    ap (λ x. run scope loops (statement_before x Done) e) is
+    (scope : Scope) (context : Context) (s : Stmt) (e : Effect) (variable : Name) (value : Expr) (v : Value)
+    → s ≡ stmt.Assign variable value → value_within scope context e (expression_of value) ≡ Ok v
+    → run scope context (statement_before s Done) e ≡ assignment scope variable.number v e
+run-Assign scope context s e variable value v is known =
+    ap (λ x. run scope context (statement_before x Done) e) is
     ∙ ap (λ m. m >>= λ x. assignment scope variable.number x e >>= λ y. Ok y) known
     ∙ bind_ok (assignment scope variable.number v e)
 
-module _ (scope : Scope) (loops : List (ℕ × ℤ)) (s : Stmt) (place : ℕ) (e : Effect) where
+module _ (scope : Scope) (context : Context) (s : Stmt) (place : ℕ) (e : Effect) where
   pub run-If :
       (condition : Expression) (block : Statements) (v : Value) → statement_before s Done ≡ If place condition block Done
-      → value_within scope loops e condition ≡ Ok v → truth_of v ≡ true
-      → run scope loops (statement_before s Done) e ≡ run scope loops block e
+      → value_within scope context e condition ≡ Ok v → truth_of v ≡ true
+      → run scope context (statement_before s Done) e ≡ run scope context block e
   run-If condition block v tree value holds =
-      ap (λ x. run scope loops x e) tree
-      ∙ ap (λ m. m >>= λ x. (if truth_of x then run scope loops block e else Ok e) >>= λ y. Ok y) value
-      ∙ ap (λ b. (if b then run scope loops block e else Ok e) >>= λ y. Ok y) holds
-      ∙ bind_ok (run scope loops block e)
+      ap (λ x. run scope context x e) tree
+      ∙ ap (λ m. m >>= λ x. (if truth_of x then run scope context block e else Ok e) >>= λ y. Ok y) value
+      ∙ ap (λ b. (if b then run scope context block e else Ok e) >>= λ y. Ok y) holds
+      ∙ bind_ok (run scope context block e)
 
   pub run-IfElse :
       (condition : Expression) (block other : Statements) (v : Value) (holds : Bool)
       → statement_before s Done ≡ IfElse place condition block other Done
-      → value_within scope loops e condition ≡ Ok v → truth_of v ≡ holds
-      → run scope loops (statement_before s Done) e ≡ (if holds then run scope loops block e else run scope loops other e)
+      → value_within scope context e condition ≡ Ok v → truth_of v ≡ holds
+      → run scope context (statement_before s Done) e ≡ (if holds then run scope context block e else run scope context other e)
   run-IfElse condition block other v holds tree value is =
-      ap (λ x. run scope loops x e) tree
-      ∙ ap (λ m. m >>= λ x. (if truth_of x then run scope loops block e else run scope loops other e) >>= λ y. Ok y) value
-      ∙ ap (λ b. (if b then run scope loops block e else run scope loops other e) >>= λ y. Ok y) is
-      ∙ bind_ok (if holds then run scope loops block e else run scope loops other e)
+      ap (λ x. run scope context x e) tree
+      ∙ ap (λ m. m >>= λ x. (if truth_of x then run scope context block e else run scope context other e) >>= λ y. Ok y) value
+      ∙ ap (λ b. (if b then run scope context block e else run scope context other e) >>= λ y. Ok y) is
+      ∙ bind_ok (if holds then run scope context block e else run scope context other e)
 
   pub run-For :
       (v b : Name) (block : Statements) → statement_before s Done ≡ For place v b block Done
-      → run scope loops (statement_before s Done) e ≡ walk scope loops v b block e
-  run-For v b block tree = ap (λ x. run scope loops x e) tree ∙ bind_ok (walk scope loops v b block e)
+      → run scope context (statement_before s Done) e ≡ walk scope context v b block e
+  run-For v b block tree = ap (λ x. run scope context x e) tree ∙ bind_ok (walk scope context v b block e)
 
   pub run-Add :
-      (value : Expr) (b : Name) (v : Value) → s ≡ stmt.Add place value b → value_within scope loops e (expression_of value) ≡ Ok v
-      → run scope loops (statement_before s Done) e ≡ addition scope b.number (number_of v) e
+      (value : Expr) (b : Name) (v : Value) → s ≡ stmt.Add place value b → value_within scope context e (expression_of value) ≡ Ok v
+      → run scope context (statement_before s Done) e ≡ addition scope b.number (number_of v) e
   run-Add value b v is known =
-      ap (λ x. run scope loops (statement_before x Done) e) is
+      ap (λ x. run scope context (statement_before x Done) e) is
       ∙ ap (λ m. m >>= λ x. addition scope b.number (number_of x) e >>= λ y. Ok y) known
       ∙ bind_ok (addition scope b.number (number_of v) e)

@@ -5,7 +5,7 @@ use Rattle.dv_syntax.specs.declared.tree.Operator.TheVariants.{Add, Subtract, Di
 use Rattle.dv_bag.specs.declared.fault.Fault.{Fault}
 use Rattle.dv_bag.specs.declared.value.Value.{Value}
 use Rattle.dv_eval.specs.Scope.{nothing_declared}
-use Rattle.dv_eval.specs.Meaning.{meaning, moment_in}
+use Rattle.dv_eval.specs.Meaning.{meaning, moment_in, nothing_arrived, outermost}
 
 abbrev pub number : ℕ → Expression
 number n = Literal (record { value = n; place = 1 })
@@ -42,4 +42,4 @@ faulty = Binary Equal (Binary Divide (number 1) (number 0)) (number 1)
 
 -- the value where nothing is declared
 abbrev pub value : Expression → Result Value Fault
-value e = meaning nothing_declared (moment_in [] (record { phase = 0; variables = [] })) e
+value e = meaning nothing_declared (moment_in (outermost nothing_arrived) (record { phase = 0; variables = [] })) e

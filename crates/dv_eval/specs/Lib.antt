@@ -1,7 +1,7 @@
 -- What a reader believes: what names stand for, and what expressions, rules and holds do.
 pub mod Scope
 pub mod Meaning
-pub mod Loops
+pub mod Contexts
 -- What serves proofs and worked rows.
 pub mod Copies
 pub mod Edges

@@ -1,9 +1,9 @@
 -- The meaning of expressions, rules and holds, by recursion on the tree: a value or an effect, or the first fault from the left.
 -- A checked model knows its names and gives every operator what it wants; for all others a name that is not known counts
 -- as 0 or as an empty bag, and a truth value as 0 or 1.
-use Rattle.std.specs.Prelude.{ℕ, ℤ, pos, negsuc, neg_ℤ, ◌+ℤ◌, ◌-ℤ◌, ◌*ℤ◌, ◌^◌, Bool, true, false, not, ◌&&◌, ◌||◌, if◌then◌else◌, ◌==◌, nat_le, int_lt, int_div, int_rem, List, [], ◌∷◌, length, replicate, slice_get, slice_set, Option, Some, None, Result, Ok, Err}
+use Rattle.std.specs.Prelude.{ℕ, ℤ, ◌≤◌, pos, negsuc, neg_ℤ, ◌+ℤ◌, ◌-ℤ◌, ◌*ℤ◌, ◌^◌, Bool, true, false, not, ◌&&◌, ◌||◌, if◌then◌else◌, ◌==◌, nat_le, int_lt, int_div, int_rem, List, [], ◌∷◌, length, replicate, slice_get, slice_set, Option, Some, None, Result, Ok, Err}
 use Rattle.std.specs.Ordering.{int_eq}
-use Rattle.dv_syntax.specs.Trees.{Expression, Literal, TruthValue, Named, Parens, Prefixed, Binary, Call, Times, Statements, Done, Assign, Goto, Send, If, IfElse, For, Drop}
+use Rattle.dv_syntax.specs.Trees.{Expression, Literal, TruthValue, Named, Parens, Prefixed, Binary, Call, Elapsed, Times, Statements, Done, Assign, Goto, Send, If, IfElse, For, Drop}
 use Rattle.dv_syntax.specs.Trees.{Add as AddTo}
 use Rattle.dv_syntax.specs.declared.tree.Prefix.{Prefix}
 use Rattle.dv_syntax.specs.declared.tree.Prefix.TheVariants.{Minus, Not}
@@ -12,7 +12,7 @@ use Rattle.dv_syntax.specs.declared.tree.Operator.TheVariants.{Or, And, Add, Sub
 use Rattle.dv_syntax.specs.declared.tree.BagCall.{BagCall}
 use Rattle.dv_syntax.specs.declared.tree.BagCall.TheVariants.{Size, Sum, Least, Most}
 use Rattle.dv_bag.specs.Bag.{Counts, bag_at, count_of, least, most, sum_or_overflow, total, total_of_all, values_of, with_copies, without_one}
-use Rattle.dv_bag.specs.Reading.{bag_of_datum}
+use Rattle.dv_bag.specs.Reading.{bag_held_at}
 use Rattle.dv_bag.specs.Outcome.{◌>>=◌}
 use Rattle.dv_bag.specs.declared.value.Value.{Value}
 use Rattle.dv_bag.specs.declared.value.Value.TheVariants.{Number, Truth}
@@ -96,14 +96,39 @@ abbrev pub datum_at : List Datum → Option ℕ → Option Datum
 datum_at contents None = None
 datum_at contents (Some place) = slice_get contents place
 
--- what is known where an expression stands: the state, and the values of the enclosing loops' variables by name, the
--- innermost first
-pub record Moment : Type 0 where
-  pub state : State
+-- what an instant brings to a rule: the values that have arrived, by input port, and the ticks since the last transition
+pub record Arrivals : Type 0 where
+  pub received : List Counts
+  pub elapsed : ℕ
+
+-- at every port at most the greatest count of values
+abbrev pub AreFew : List Counts → Type 0
+AreFew bags = (port : ℕ) → total (bag_at bags port) ≤ GREATEST_COUNT
+
+abbrev pub nothing_arrived : Arrivals
+nothing_arrived = record { received = []; elapsed = 0 }
+
+-- what is known beside the state where a statement stands: what has arrived, and the values of the enclosing loops'
+-- variables by name, the innermost first
+pub record Context : Type 0 where
+  pub arrivals : Arrivals
   pub loops : List (ℕ × ℤ)
 
-abbrev pub moment_in : List (ℕ × ℤ) → State → Moment
-moment_in loops s = record { state = s; loops = loops }
+-- outside of all loops
+abbrev pub outermost : Arrivals → Context
+outermost arrivals = record { arrivals = arrivals; loops = [] }
+
+-- within one loop more
+abbrev pub in_loop : ℕ × ℤ → Context → Context
+in_loop l context = record { arrivals = context.arrivals; loops = l ∷ context.loops }
+
+-- what is known where an expression stands
+pub record Moment : Type 0 where
+  pub state : State
+  pub context : Context
+
+abbrev pub moment_in : Context → State → Moment
+moment_in context s = record { state = s; context = context }
 
 -- the value of the innermost loop variable of a name, if there is one
 abbrev pub loop_value : ℕ → List (ℕ × ℤ) → Option ℤ
@@ -120,11 +145,21 @@ value_in_loop (Some n) v = Number n
 
 -- what a name stands for: the innermost loop variable of that name, else the state variable
 abbrev pub value_of_name : Scope → Moment → ℕ → Value
-value_of_name scope m name = value_in_loop (loop_value name m.loops) (value_of_datum (datum_of_name scope m.state name))
+value_of_name scope m name = value_in_loop (loop_value name m.context.loops) (value_of_datum (datum_of_name scope m.state name))
 
--- the bag that a name stands for; a name that is no bag stands for the empty one
+-- the bag that arrived at an input port; where there is no port, the empty one
+abbrev pub bag_received : Arrivals → Option ℕ → Counts
+bag_received arrivals None = []
+bag_received arrivals (Some port) = bag_at arrivals.received port
+
+-- the bag of the state variable at a place; where there is no variable, the bag that arrived at a port
+abbrev pub bag_between : Moment → Option ℕ → Option ℕ → Counts
+bag_between m (Some place) port = bag_held_at m.state.variables place
+bag_between m None port = bag_received m.context.arrivals port
+
+-- the bag that a name stands for: a state variable's, else an input port's; a name that is no bag stands for the empty one
 abbrev pub bag_of_name : Scope → Moment → ℕ → Counts
-bag_of_name scope m name = bag_of_datum (datum_of_name scope m.state name)
+bag_of_name scope m name = bag_between m (place_of name (names_of scope.variables)) (place_of name scope.inputs)
 
 abbrev pub number_or_empty : Option ℤ → Result Value Fault
 number_or_empty None = Err Empty
@@ -147,6 +182,7 @@ meaning scope m (Prefixed operator place e) = meaning scope m e >>= λ v. prefix
 meaning scope m (Binary operator a b) =
     meaning scope m a >>= λ x. if is_decided operator x then Ok (Truth (truth_of x)) else (meaning scope m b >>= λ y. operator_result operator x y)
 meaning scope m (Call call place b) = call_result call (bag_of_name scope m b.number)
+meaning scope m (Elapsed place) = number_or_overflow (pos m.context.arrivals.elapsed)
 meaning scope m (Times place e b) = meaning scope m e >>= λ v. Ok (Number (pos (count_of (number_of v) (bag_of_name scope m b.number))))
 
 -- a number within a range
@@ -244,35 +280,36 @@ abbrev pub repetition : (ℤ → Effect → Result Effect Fault) → List ℤ �
 repetition step [] e = Ok e
 repetition step (n ∷ ns) e = step n e >>= repetition step ns
 
--- the value of an expression within loops, in the state that an effect has left
-abbrev pub value_within : Scope → List (ℕ × ℤ) → Effect → Expression → Result Value Fault
-value_within scope loops e value = meaning scope (moment_in loops e.state) value
+-- the value of an expression in the state that an effect has left
+abbrev pub value_within : Scope → Context → Effect → Expression → Result Value Fault
+value_within scope context e value = meaning scope (moment_in context e.state) value
 
--- What a list of statements within loops does, one after the other; the last goto that ran counts. A loop walks the values
--- of its bag as it stood at the loop's entry, in ascending order, each copy once.
-abbrev pub run : Scope → List (ℕ × ℤ) → Statements → Effect → Result Effect Fault
-run scope loops Done e = Ok e
-run scope loops (Assign variable value rest) e =
-    value_within scope loops e value >>= λ v. assignment scope variable.number v e >>= run scope loops rest
-run scope loops (Goto place phase rest) e = run scope loops rest (with_goto (place_of phase.number scope.phases) e)
-run scope loops (Send place port value rest) e =
-    value_within scope loops e value >>= λ v. sending scope port.number v e >>= run scope loops rest
-run scope loops (If place condition block rest) e =
-    value_within scope loops e condition >>= λ v. (if truth_of v then run scope loops block e else Ok e) >>= run scope loops rest
-run scope loops (IfElse place condition block other rest) e =
-    value_within scope loops e condition
-    >>= λ v. (if truth_of v then run scope loops block e else run scope loops other e) >>= run scope loops rest
-run scope loops (For place v b block rest) e =
-    repetition (λ n. run scope ((v.number, n) ∷ loops) block) (values_of (bag_of_name scope (moment_in loops e.state) b.number)) e
-    >>= run scope loops rest
-run scope loops (AddTo place value b rest) e =
-    value_within scope loops e value >>= λ v. addition scope b.number (number_of v) e >>= run scope loops rest
-run scope loops (Drop place value b rest) e =
-    value_within scope loops e value >>= λ v. run scope loops rest (removal scope b.number (number_of v) e)
+-- What a list of statements does, one after the other; the last goto that ran counts. A loop walks the values of its bag as
+-- it stood at the loop's entry, in ascending order, each copy once.
+abbrev pub run : Scope → Context → Statements → Effect → Result Effect Fault
+run scope context Done e = Ok e
+run scope context (Assign variable value rest) e =
+    value_within scope context e value >>= λ v. assignment scope variable.number v e >>= run scope context rest
+run scope context (Goto place phase rest) e = run scope context rest (with_goto (place_of phase.number scope.phases) e)
+run scope context (Send place port value rest) e =
+    value_within scope context e value >>= λ v. sending scope port.number v e >>= run scope context rest
+run scope context (If place condition block rest) e =
+    value_within scope context e condition >>= λ v. (if truth_of v then run scope context block e else Ok e) >>= run scope context rest
+run scope context (IfElse place condition block other rest) e =
+    value_within scope context e condition
+    >>= λ v. (if truth_of v then run scope context block e else run scope context other e) >>= run scope context rest
+run scope context (For place v b block rest) e =
+    repetition (λ n. run scope (in_loop (v.number, n) context) block) (values_of (bag_of_name scope (moment_in context e.state) b.number)) e
+    >>= run scope context rest
+run scope context (AddTo place value b rest) e =
+    value_within scope context e value >>= λ v. addition scope b.number (number_of v) e >>= run scope context rest
+run scope context (Drop place value b rest) e =
+    value_within scope context e value >>= λ v. run scope context rest (removal scope b.number (number_of v) e)
 
--- the effect of a rule on a state
-abbrev pub effect_of : Scope → Statements → State → Result Effect Fault
-effect_of scope body s = run scope [] body (record { state = s; sent = replicate (length scope.outputs) []; goto = None })
+-- the effect of a rule on a state, with what has arrived
+abbrev pub effect_of : Scope → Statements → Arrivals → State → Result Effect Fault
+effect_of scope body arrivals s =
+    run scope (outermost arrivals) body (record { state = s; sent = replicate (length scope.outputs) []; goto = None })
 
 -- ticks, unless they are below 0
 abbrev pub ticks_from : ℤ → Result (Option ℕ) Fault
@@ -282,4 +319,4 @@ ticks_from (negsuc n) = Err BelowZero
 -- the ticks of a hold, or forever
 abbrev pub hold_of : Scope → Option Expression → State → Result (Option ℕ) Fault
 hold_of scope None s = Ok None
-hold_of scope (Some e) s = meaning scope (moment_in [] s) e >>= λ v. ticks_from (number_of v)
+hold_of scope (Some e) s = meaning scope (moment_in (outermost nothing_arrived) s) e >>= λ v. ticks_from (number_of v)

@@ -6,11 +6,11 @@ use Rattle.dv_syntax.specs.declared.tree.Name.{Name}
 use Rattle.dv_syntax.specs.declared.tree.Bound.{Bound}
 use Rattle.dv_syntax.specs.declared.tree.Variable.{Variable}
 use Rattle.dv_syntax.specs.declared.tree.Declaration.{Declaration}
-use Rattle.dv_syntax.specs.declared.tree.Declaration.TheVariants.{Out, Var, Flag, Bag}
+use Rattle.dv_syntax.specs.declared.tree.Declaration.TheVariants.{In, Out, Var, Flag, Bag}
 use Rattle.dv_syntax.specs.declared.tree.Start.{Start}
 use Rattle.dv_syntax.specs.declared.tree.Ticks.{Ticks}
 use Rattle.dv_syntax.specs.declared.tree.RuleSort.{RuleSort}
-use Rattle.dv_syntax.specs.declared.tree.RuleSort.TheVariants.{Output, Internal}
+use Rattle.dv_syntax.specs.declared.tree.RuleSort.TheVariants.{Output, Internal, External, Confluent}
 use Rattle.dv_bag.specs.declared.state.State.{State}
 use Rattle.dv_bag.specs.declared.state.Datum.{Datum}
 use Rattle.dv_bag.specs.declared.state.Datum.TheVariants as datum
@@ -18,31 +18,34 @@ use Rattle.dv_eval.specs.declared.scope.VariableRange.{VariableRange}
 use Rattle.dv_eval.specs.declared.scope.Domain.{Domain}
 use Rattle.dv_eval.specs.declared.scope.Domain.TheVariants as domain
 
--- variables, flags and bags with what they may hold, phases and output ports, each in the order of declaration
+-- variables, flags and bags with what they may hold, phases and ports, each in the order of declaration
 pub record Scope : Type 0 where
   pub variables : List (ℕ × Domain)
   pub phases : List ℕ
+  pub inputs : List ℕ
   pub outputs : List ℕ
 
--- the output port that a declaration declares
+-- the input port that a declaration declares
+abbrev pub input_of : Declaration → Option Name
+input_of (In port) = Some port
+input_of (Out port) = None
+input_of (Var v) = None
+input_of (Flag f) = None
+input_of (Bag b) = None
+
+-- the output port that it declares
 abbrev pub output_of : Declaration → Option Name
+output_of (In port) = None
 output_of (Out port) = Some port
 output_of (Var v) = None
 output_of (Flag f) = None
 output_of (Bag b) = None
 
--- the variable with a range that it declares
-abbrev pub variable_of : Declaration → Option Variable
-variable_of (Out port) = None
-variable_of (Var v) = Some v
-variable_of (Flag f) = None
-variable_of (Bag b) = None
+abbrev pub inputs_in : List Declaration → List Name
+inputs_in declarations = filter_map input_of declarations
 
 abbrev pub outputs_in : List Declaration → List Name
 outputs_in declarations = filter_map output_of declarations
-
-abbrev pub variables_in : List Declaration → List Variable
-variables_in declarations = filter_map variable_of declarations
 
 -- the phases of all items of phases
 abbrev pub phases_in : List PhasesTree → List Name
@@ -83,6 +86,7 @@ range_of v = record { low = bound_value v.low; high = bound_value v.high; start 
 
 -- the state variable that a declaration declares, a variable, a flag or a bag: its name, and what it may hold
 abbrev pub state_variable_of : Declaration → Option (Name × Domain)
+state_variable_of (In port) = None
 state_variable_of (Out port) = None
 state_variable_of (Var v) = Some (v.name, domain.Number (range_of v))
 state_variable_of (Flag f) = Some (f.name, domain.Flag f.start)
@@ -103,15 +107,18 @@ abbrev pub scope_of : AtomicTree → Scope
 scope_of m = record {
   variables = with_variables [] (state_variables_in m.declarations);
   phases = with_names [] (phases_in m.phases);
+  inputs = with_names [] (inputs_in m.declarations);
   outputs = with_names [] (outputs_in m.declarations);
 }
 
 abbrev pub nothing_declared : Scope
-nothing_declared = record { variables = []; phases = []; outputs = [] }
+nothing_declared = record { variables = []; phases = []; inputs = []; outputs = [] }
 
 abbrev pub same_sort : RuleSort → RuleSort → Bool
 same_sort Output Output = true
 same_sort Internal Internal = true
+same_sort External External = true
+same_sort Confluent Confluent = true
 same_sort a b = false
 
 -- what a state variable holds at the start; a bag is empty
@@ -132,10 +139,14 @@ start_phase scope (s ∷ starts) = unwrap_or (place_of s.phase.number scope.phas
 abbrev pub start_state : AtomicTree → State
 start_state m = record { phase = start_phase (scope_of m) m.starts; variables = start_data (scope_of m).variables }
 
+-- the statements of the first rule of a sort for a phase, if there is one
+abbrev pub rule_of : RuleSort → ℕ → List RuleTree → Option Statements
+rule_of sort phase [] = None
+rule_of sort phase (r ∷ rules) = if same_sort r.sort sort && (r.phase.number == phase) then Some r.body else rule_of sort phase rules
+
 -- the statements of the first rule of a sort for a phase; a missing rule is empty
 abbrev pub rule_body : RuleSort → ℕ → List RuleTree → Statements
-rule_body sort phase [] = Done
-rule_body sort phase (r ∷ rules) = if same_sort r.sort sort && (r.phase.number == phase) then r.body else rule_body sort phase rules
+rule_body sort phase rules = unwrap_or (rule_of sort phase rules) Done
 
 -- the first hold of a phase; a missing one is forever
 abbrev pub hold_ticks : ℕ → List HoldTree → Option Expression

@@ -3,12 +3,12 @@
 ghost use Rattle.std.specs.Prelude.{◌≡◌, ◌≤◌, ◌+ℤ◌, ◌-ℤ◌, ◌*ℤ◌, neg_ℤ, pos, [], option_map, unwrap_or, IfSome};
 ghost use Rattle.std.specs.Option.{option_copied};
 ghost use Rattle.dv_bag.specs.Bag.{count_of, total};
-ghost use Rattle.dv_bag.specs.Reading.{HoldsFew, datum_of};
+ghost use Rattle.dv_bag.specs.Reading.{HoldsFew, bag_held_at, datum_of};
 ghost use Rattle.dv_syntax.specs.Trees.{expression_of};
-ghost use Rattle.dv_eval.specs.Loops.{moment_of};
-ghost use Rattle.dv_eval.specs.Meaning.{bag_of_name, call_result, datum_of_name, is_decided, meaning, number_or_empty, number_or_overflow, number_of, operator_result, prefix_result, quotient, remainder, same, truth_of, value_of_name};
+ghost use Rattle.dv_eval.specs.Contexts.{context_of, moment_of};
+ghost use Rattle.dv_eval.specs.Meaning.{bag_of_name, bag_received, call_result, datum_of_name, is_decided, meaning, number_or_empty, number_or_overflow, number_of, operator_result, prefix_result, quotient, remainder, same, truth_of, value_of_name};
 
-use crate::moment::Moment;
+use crate::moment::{Context, Moment};
 use crate::scope::Scope;
 use dv_bag::{Bag, DatumView, Fault, GREATEST_COUNT, State, Value};
 use dv_syntax::{BagCall, Expr, Operator, Prefix};
@@ -47,6 +47,7 @@ pub fn eval(expression: &Expr, moment: &Moment, scope: &Scope) -> Result<Value, 
         Expr::Call { call, bag, .. } => {
             call_result(*call, bag_of_name(bag.number, moment, scope))
         }
+        Expr::Elapsed { .. } => ticks_or_overflow(moment.context.arrivals().elapsed()),
         Expr::Times { value, bag, .. } => {
             let value = eval(value, moment, scope)?;
             let copies = copies_of(number_of(value), bag_of_name(bag.number, moment, scope));
@@ -59,7 +60,7 @@ pub fn eval(expression: &Expr, moment: &Moment, scope: &Scope) -> Result<Value, 
 fn value_of_name(name: u32, moment: &Moment, scope: &Scope) -> Value
     ensures { result ≡ value_of_name scope.now (moment_of moment.now) name }
 {
-    if let Some(number) = moment.loops.value(name) {
+    if let Some(number) = moment.context.value(name) {
         return Value::Number(number);
     }
     match datum_of_name(name, moment.state, scope) {
@@ -84,9 +85,32 @@ pub(crate) fn bag_of_name<'a>(name: u32, moment: &'a Moment, scope: &Scope) -> O
         ≡ bag_of_name scope.now (moment_of moment.now) name }
     ensures few { IfSome result (λ bag. total bag.now ≤ GREATEST_COUNT) }
 {
-    match datum_of_name(name, moment.state, scope) {
+    match scope.variable(name) {
+        Some(place) => bag_held_at(place, moment.state),
+        None => bag_received(scope.input(name), moment.context),
+    }
+}
+
+// The bag of the state variable at a place, if it is one.
+fn bag_held_at(place: usize, state: &State) -> Option<&Bag>
+    ensures bag { unwrap_or (option_copied result) [] ≡ bag_held_at state.now.variables place }
+    ensures few { IfSome result (λ bag. total bag.now ≤ GREATEST_COUNT) }
+{
+    match state.variables.get(place) {
         Some(DatumView::Bag(bag)) => Some(bag),
         _ => None,
+    }
+}
+
+// The bag that arrived at an input port.
+fn bag_received<'a>(port: Option<usize>, context: &'a Context) -> Option<&'a Bag>
+    ensures bag { unwrap_or (option_copied result) []
+        ≡ bag_received (context_of context.now).arrivals port }
+    ensures few { IfSome result (λ bag. total bag.now ≤ GREATEST_COUNT) }
+{
+    match port {
+        Some(port) => context.arrivals().bag(port),
+        None => None,
     }
 }
 
@@ -126,6 +150,16 @@ fn copies_of(number: i64, bag: Option<&Bag>) -> i64
     match bag {
         Some(bag) => bag.times(number) as i64,
         None => 0,
+    }
+}
+
+// Ticks as a number.
+fn ticks_or_overflow(ticks: u64) -> Result<Value, Fault>
+    ensures { result ≡ number_or_overflow (pos ticks) }
+{
+    match i64::try_from(ticks) {
+        Ok(number) => Ok(Value::Number(number)),
+        Err(_) => Err(Fault::Overflow),
     }
 }
 

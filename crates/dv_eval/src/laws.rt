@@ -1,7 +1,7 @@
 //! Laws of the language. Each function stands for the law in its contract; its body does nothing.
 
 ghost use Rattle.std.specs.Prelude.{◌≡◌, true, false, pos, negsuc, [], ◌∷◌, Ok, Err};
-ghost use Rattle.dv_syntax.specs.Trees.{Binary, Call, Done, Drop, Prefixed, Times};
+ghost use Rattle.dv_syntax.specs.Trees.{Binary, Call, Done, Drop, Elapsed, Prefixed, Times};
 ghost use Rattle.dv_syntax.specs.Trees.{Add as AddTo};
 ghost use Rattle.dv_syntax.specs.declared.tree.BagCall.TheVariants as call;
 ghost use Rattle.dv_syntax.specs.declared.tree.Prefix.TheVariants as prefix;
@@ -9,7 +9,7 @@ ghost use Rattle.dv_syntax.specs.declared.tree.Operator.TheVariants as operator;
 ghost use Rattle.dv_bag.specs.declared.fault.Fault.TheVariants as fault;
 ghost use Rattle.dv_bag.specs.declared.value.Value.TheVariants as outcome;
 ghost use Rattle.dv_eval.specs.Edges.{by_nothing, failing, faulty, greatest, holding, least, minus, number, too_great, value};
-ghost use Rattle.dv_eval.specs.Rows.{add_it, bag, effect_with, for_each, great, least_is_one, left, nested, next_digit, send_it, some_there, two_threes, value_with};
+ghost use Rattle.dv_eval.specs.Rows.{add_it, bag, effect_when, effect_with, elapsed_when, for_each, for_each_request, great, least_is_one, left, nested, next_digit, requests, send_it, some_there, two_threes, value_when, value_with};
 
 /// Numbers have 64 bits and a sign. A quotient is rounded towards 0, and a remainder is what the exact quotient
 /// leaves. Of two operands with faults the left one's fault is the expression's.
@@ -94,4 +94,30 @@ pub fn loops_walk_bags()
     ensures nothing { effect_with [] (for_each next_digit) ≡ Ok (left (pos 0) [] []) }
     ensures inner { effect_with ((pos 1, 1) ∷ (pos 2, 1) ∷ []) nested
         ≡ Ok (left (pos 1212) ((pos 1, 1) ∷ (pos 2, 1) ∷ []) []) }
+{}
+
+/// A rule sees the bags that have arrived and the ticks since the last transition, and changes neither. What arrived is
+/// not in a bag of the state.
+pub fn rules_see_what_arrived()
+    ensures elapsed { elapsed_when 7 ≡ Ok (outcome.Number (pos 7)) }
+    ensures last_number { elapsed_when 9223372036854775807
+        ≡ Ok (outcome.Number (pos 9223372036854775807)) }
+    ensures past_the_last { elapsed_when 9223372036854775808 ≡ Err fault.Overflow }
+    ensures no_tick { value_with two_threes (Elapsed 1) ≡ Ok (outcome.Number (pos 0)) }
+    ensures size { value_when [] two_threes (Call call.Size 1 requests)
+        ≡ Ok (outcome.Number (pos 3)) }
+    ensures sum { value_when [] two_threes (Call call.Sum 1 requests)
+        ≡ Ok (outcome.Number (pos 8)) }
+    ensures times { value_when [] two_threes (Times 1 (number 3) requests)
+        ≡ Ok (outcome.Number (pos 2)) }
+    ensures nothing { value_with two_threes (Call call.Size 1 requests)
+        ≡ Ok (outcome.Number (pos 0)) }
+    ensures state_alone { value_when [] two_threes (Call call.Size 1 bag)
+        ≡ Ok (outcome.Number (pos 0)) }
+    ensures sends { effect_when [] two_threes (for_each_request send_it)
+        ≡ Ok (left (pos 0) [] two_threes) }
+    ensures keeps { effect_when [] two_threes (for_each_request add_it)
+        ≡ Ok (left (pos 0) two_threes []) }
+    ensures not_to_a_port { effect_when [] two_threes (AddTo 1 (number 2) requests Done)
+        ≡ Ok (left (pos 0) [] []) }
 {}

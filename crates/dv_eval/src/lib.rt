@@ -15,7 +15,7 @@ pub mod rule;
 pub mod scope;
 
 pub use expression::eval;
-pub use model::{hold, phase_hold, phase_ticks, rule_body, start_state};
-pub use moment::{Loops, Moment};
+pub use model::{hold, phase_hold, phase_ticks, rule_body, rule_of, start_state};
+pub use moment::{Arrivals, Context, Moment};
 pub use rule::run_rule;
 pub use scope::{Domain, Scope, VariableRange, state_variable_of};

@@ -1,13 +1,13 @@
 //! What an atomic model says of its start, its rules and its holds.
 
-ghost use Rattle.std.specs.Prelude.{◌≡◌, ◌<◌, ◌^◌, IfOk, IfSome};
+ghost use Rattle.std.specs.Prelude.{◌≡◌, ◌<◌, ◌^◌, IfOk, IfSome, option_map};
 ghost use Rattle.std.specs.Option.{option_copied};
 ghost use Rattle.dv_syntax.specs.Trees.{atomic_of, statements_of, ticks_of};
-ghost use Rattle.dv_eval.specs.Scope.{hold_ticks, rule_body, same_sort, scope_of, start_data, start_datum, start_phase, start_state, ticks_found};
+ghost use Rattle.dv_eval.specs.Scope.{hold_ticks, rule_body, rule_of, same_sort, scope_of, start_data, start_datum, start_phase, start_state, ticks_found};
 ghost use Rattle.dv_eval.specs.Meaning.{hold_of};
 
 use crate::expression::{eval, number_of};
-use crate::moment::{Loops, Moment};
+use crate::moment::{Arrivals, Context, Moment};
 use crate::scope::{Domain, Scope};
 use dv_bag::{Bag, Datum, Fault, HeldBag, State, Variables};
 use dv_syntax::{Atomic, RuleSort, Stmt, Ticks};
@@ -57,16 +57,24 @@ fn start_datum(alloc: Global, domain: Domain) -> Result<Datum, AllocError>
     }
 }
 
+/// The statements of the first rule of a sort for a phase, if there is such a rule.
+pub fn rule_of(model: &Atomic, sort: RuleSort, phase: u32) -> Option<&[Stmt]>
+    ensures { option_map statements_of (option_copied result)
+        ≡ rule_of sort phase (atomic_of model.now).rules }
+{
+    for rule in &model.rules {
+        if rule.sort == sort && rule.phase.number == phase {
+            return Some(&rule.body.statements);
+        }
+    }
+    None
+}
+
 /// The statements of the first rule of a sort for a phase, and none where there is no such rule.
 pub fn rule_body(model: &Atomic, sort: RuleSort, phase: u32) -> &[Stmt]
     ensures { statements_of result.now ≡ rule_body sort phase (atomic_of model.now).rules }
 {
-    for rule in &model.rules {
-        if rule.sort == sort && rule.phase.number == phase {
-            return &rule.body.statements;
-        }
-    }
-    &[]
+    rule_of(model, sort, phase).unwrap_or(&[])
 }
 
 /// The ticks of a hold in a state. `None` is forever.
@@ -83,7 +91,7 @@ pub fn hold(ticks: &Ticks, state: &State, scope: &Scope) -> Result<Option<u64>, 
         Ticks::After(expression) => {
             let moment = Moment {
                 state,
-                loops: &Loops::Outermost,
+                context: &Context::Outermost(&Arrivals::nothing()),
             };
             let ticks = number_of(eval(expression, &moment, scope)?);
             if ticks < 0 {

@@ -6,18 +6,18 @@ ghost use Rattle.dv_bag.specs.Bag.{values_of};
 ghost use Rattle.dv_bag.specs.Outcome.{Gives};
 ghost use Rattle.dv_bag.specs.declared.state.Datum.TheVariants as datum;
 ghost use Rattle.dv_eval.specs.Copies.{repeated};
-ghost use Rattle.dv_eval.specs.Loops.{loops_of};
-ghost use Rattle.dv_eval.specs.Meaning.{addition, addition_to, assignment, assignment_in_range, bag_of_name, effect_of, meaning, moment_in, removal, repetition, run, sending, with_datum, with_goto, with_state};
+ghost use Rattle.dv_eval.specs.Contexts.{context_of};
+ghost use Rattle.dv_eval.specs.Meaning.{addition, addition_to, assignment, assignment_in_range, bag_of_name, effect_of, in_loop, meaning, moment_in, removal, repetition, run, sending, with_datum, with_goto, with_state};
 
 use crate::expression::{bag_of_name, eval, number_of, truth_of};
-use crate::moment::{Loops, Moment};
+use crate::moment::{Arrivals, Context, Moment};
 use crate::scope::{Domain, Scope, VariableRange};
 use dv_bag::{Bag, DatumView, Effect, Fault, GREATEST_COUNT, RuleError, Sent, State, Value};
 use dv_syntax::laws::trees_keep_blocks;
 use dv_syntax::{Expr, Stmt};
 use std::alloc::{AllocError, Global};
 
-/// The effect of a rule's statements on a state.
+/// The effect of a rule's statements on a state, with what has arrived.
 ///
 /// # Errors
 ///
@@ -27,31 +27,33 @@ pub fn run_rule(
     alloc: Global,
     statements: &[Stmt],
     state: &State,
+    arrivals: &Arrivals,
     scope: &Scope,
 ) -> Result<Effect, RuleError>
-    ensures { Gives result (effect_of scope.now (statements_of statements.now) state.now) }
+    ensures { Gives result
+        (effect_of scope.now (statements_of statements.now) arrivals.now state.now) }
 {
     let effect = Effect {
         state: state.clone()?,
         sent: Sent::empty(alloc, scope.output_count()),
         goto: None,
     };
-    run(statements, &Loops::Outermost, scope, effect)
+    run(statements, &Context::Outermost(arrivals), scope, effect)
 }
 
 // What statements do, one after the other.
 #[cycle(run)]
 fn run(
     statements: &[Stmt],
-    loops: &Loops,
+    context: &Context,
     scope: &Scope,
     mut effect: Effect,
 ) -> Result<Effect, RuleError>
     ensures { Gives result
-        (run scope.now (loops_of loops.now) (statements_of statements.now) effect) }
+        (run scope.now (context_of context.now) (statements_of statements.now) effect) }
 {
     for statement in statements {
-        effect = run_statement(statement, loops, scope, effect)?;
+        effect = run_statement(statement, context, scope, effect)?;
     }
     Ok(effect)
 }
@@ -59,22 +61,22 @@ fn run(
 #[cycle(run)]
 fn run_statement(
     statement: &Stmt,
-    loops: &Loops,
+    context: &Context,
     scope: &Scope,
     effect: Effect,
 ) -> Result<Effect, RuleError>
     ensures { Gives result
-        (run scope.now (loops_of loops.now) (statement_before statement.now Done) effect) }
+        (run scope.now (context_of context.now) (statement_before statement.now Done) effect) }
 {
     trees_keep_blocks();
     match statement {
         Stmt::Assign { variable, value } => {
-            let value = value_of(value, &effect.state, loops, scope)?;
+            let value = value_of(value, &effect.state, context, scope)?;
             assign(variable.number, value, scope, effect)
         }
         Stmt::Goto { phase, .. } => Ok(with_goto(scope.phase(phase.number), effect)),
         Stmt::Send { port, value, .. } => {
-            let value = value_of(value, &effect.state, loops, scope)?;
+            let value = value_of(value, &effect.state, context, scope)?;
             send(port.number, value, scope, effect)
         }
         Stmt::If {
@@ -82,9 +84,9 @@ fn run_statement(
             then_block,
             ..
         } => {
-            let condition = value_of(condition, &effect.state, loops, scope)?;
+            let condition = value_of(condition, &effect.state, context, scope)?;
             if truth_of(condition) {
-                run(&then_block.statements, loops, scope, effect)
+                run(&then_block.statements, context, scope, effect)
             } else {
                 Ok(effect)
             }
@@ -95,11 +97,11 @@ fn run_statement(
             else_block,
             ..
         } => {
-            let condition = value_of(condition, &effect.state, loops, scope)?;
+            let condition = value_of(condition, &effect.state, context, scope)?;
             if truth_of(condition) {
-                run(&then_block.statements, loops, scope, effect)
+                run(&then_block.statements, context, scope, effect)
             } else {
-                run(&else_block.statements, loops, scope, effect)
+                run(&else_block.statements, context, scope, effect)
             }
         }
         Stmt::For {
@@ -107,23 +109,23 @@ fn run_statement(
             bag,
             block,
             ..
-        } => match bag_at_entry(bag.number, &effect.state, loops, scope)? {
+        } => match bag_at_entry(bag.number, &effect.state, context, scope)? {
             Some(values) => run_loop(
                 values.pairs(),
                 variable.number,
                 &block.statements,
-                loops,
+                context,
                 scope,
                 effect,
             ),
             None => Ok(effect),
         },
         Stmt::Add { value, bag, .. } => {
-            let value = value_of(value, &effect.state, loops, scope)?;
+            let value = value_of(value, &effect.state, context, scope)?;
             add(bag.number, number_of(value), scope, effect)
         }
         Stmt::Drop { value, bag, .. } => {
-            let value = value_of(value, &effect.state, loops, scope)?;
+            let value = value_of(value, &effect.state, context, scope)?;
             Ok(drop_one(bag.number, number_of(value), scope, effect))
         }
     }
@@ -135,19 +137,19 @@ fn run_loop(
     pairs: &[(i64, u64)],
     variable: u32,
     block: &[Stmt],
-    loops: &Loops,
+    context: &Context,
     scope: &Scope,
     mut effect: Effect,
 ) -> Result<Effect, RuleError>
     ensures { Gives result (repetition
-        (λ n. run scope.now ((variable, n) ∷ loops_of loops.now) (statements_of block.now))
+        (λ n. run scope.now (in_loop (variable, n) (context_of context.now)) (statements_of block.now))
         (values_of pairs.now) effect) }
 {
     for pair in pairs {
-        let within = Loops::Within {
+        let within = Context::Within {
             variable,
             value: pair.0,
-            outer: &*loops,
+            outer: &*context,
         };
         effect = run_copies(pair.1, block, &within, scope, effect)?;
     }
@@ -159,15 +161,15 @@ fn run_loop(
 fn run_copies(
     copies: u64,
     block: &[Stmt],
-    loops: &Loops,
+    context: &Context,
     scope: &Scope,
     mut effect: Effect,
 ) -> Result<Effect, RuleError>
     ensures { Gives result
-        (repeated (run scope.now (loops_of loops.now) (statements_of block.now)) copies effect) }
+        (repeated (run scope.now (context_of context.now) (statements_of block.now)) copies effect) }
 {
     for _ in 0..copies {
-        effect = run(block, loops, scope, effect)?;
+        effect = run(block, context, scope, effect)?;
     }
     Ok(effect)
 }
@@ -176,13 +178,13 @@ fn run_copies(
 fn bag_at_entry(
     name: u32,
     state: &State,
-    loops: &Loops,
+    context: &Context,
     scope: &Scope,
 ) -> Result<Option<Bag>, AllocError>
     ensures { IfOk result (λ bag. unwrap_or bag []
-        ≡ bag_of_name scope.now (moment_in (loops_of loops.now) state.now) name) }
+        ≡ bag_of_name scope.now (moment_in (context_of context.now) state.now) name) }
 {
-    match bag_of_name(name, &Moment { state, loops }, scope) {
+    match bag_of_name(name, &Moment { state, context }, scope) {
         Some(bag) => Ok(Some(bag.clone()?)),
         None => Ok(None),
     }
@@ -191,13 +193,13 @@ fn bag_at_entry(
 fn value_of(
     expression: &Expr,
     state: &State,
-    loops: &Loops,
+    context: &Context,
     scope: &Scope,
 ) -> Result<Value, RuleError>
-    ensures { Gives result (meaning scope.now (moment_in (loops_of loops.now) state.now)
+    ensures { Gives result (meaning scope.now (moment_in (context_of context.now) state.now)
         (expression_of expression.now)) }
 {
-    eval(expression, &Moment { state, loops }, scope).map_err(RuleError::Fault)
+    eval(expression, &Moment { state, context }, scope).map_err(RuleError::Fault)
 }
 
 // A value assigned to a variable or a flag.

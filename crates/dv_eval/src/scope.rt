@@ -3,7 +3,7 @@
 ghost use Rattle.std.specs.Prelude.{◌≡◌, ◌<◌, ℕ, [], length, slice_get, nat_eq, map, option_map, IfOk, OnOk};
 ghost use Rattle.std.specs.List.{IsDistinct};
 ghost use Rattle.dv_syntax.specs.Trees.{atomic_of, phases_of};
-ghost use Rattle.dv_eval.specs.Scope.{bound_value, names_of, nothing_declared, outputs_in, phases_in, place_of, range_of, scope_of, state_variable_of, state_variables_in, with_name, with_names, with_variable, with_variables};
+ghost use Rattle.dv_eval.specs.Scope.{bound_value, inputs_in, names_of, nothing_declared, outputs_in, phases_in, place_of, range_of, scope_of, state_variable_of, state_variables_in, with_name, with_names, with_variable, with_variables};
 
 use dv_syntax::{Atomic, Bound, Declaration, Name, Phases, Variable};
 use indexmap::{IndexMap, IndexSet};
@@ -57,7 +57,7 @@ pub fn state_variable_of(declaration: &Declaration) -> Option<(Name, Domain)>
     ensures { result ≡ state_variable_of declaration.now }
 {
     match declaration {
-        Declaration::Out(_) => None,
+        Declaration::In(_) | Declaration::Out(_) => None,
         Declaration::Var(variable) => {
             Some((variable.name, Domain::Number(VariableRange::of(variable))))
         }
@@ -75,6 +75,7 @@ pub fn state_variable_of(declaration: &Declaration) -> Option<(Name, Domain)>
 pub struct Scope {
     variables: IndexMap<u32, Domain>,
     phases: IndexSet<u32>,
+    inputs: IndexSet<u32>,
     outputs: IndexSet<u32>,
 }
 
@@ -83,7 +84,7 @@ impl Model for Scope {
 
     ghost Value = { scope.Scope };
 
-    ghost view = { λ e. record { variables = e.variables.entries; phases = e.phases.keys; outputs = e.outputs.keys } };
+    ghost view = { λ e. record { variables = e.variables.entries; phases = e.phases.keys; inputs = e.inputs.keys; outputs = e.outputs.keys } };
 }
 
 impl Scope {
@@ -94,6 +95,7 @@ impl Scope {
         Scope {
             variables: IndexMap::new(alloc),
             phases: IndexSet::new(alloc),
+            inputs: IndexSet::new(alloc),
             outputs: IndexSet::new(alloc),
         }
     }
@@ -109,6 +111,7 @@ impl Scope {
         Ok(Scope {
             variables: variables_of(alloc, &model.declarations)?,
             phases: phase_names(alloc, &model.phases)?,
+            inputs: input_names(alloc, &model.declarations)?,
             outputs: output_names(alloc, &model.declarations)?,
         })
     }
@@ -126,6 +129,13 @@ impl Scope {
     {
         let place = self.phases.get_index_of(&name)?;
         Some(place_number(self.phases.as_slice(), place))
+    }
+
+    /// The place of an input port.
+    pub fn input(&self, name: u32) -> Option<usize>
+        ensures { result ≡ place_of name self.now.inputs }
+    {
+        self.inputs.get_index_of(&name)
     }
 
     /// The place of an output port.
@@ -171,6 +181,13 @@ impl Scope {
         self.phases.as_slice()
     }
 
+    /// The names of the input ports by place.
+    pub fn inputs(&self) -> &[u32]
+        ensures { result.now ≡ self.now.inputs }
+    {
+        self.inputs.as_slice()
+    }
+
     /// The names of the output ports by place.
     pub fn outputs(&self) -> &[u32]
         ensures { result.now ≡ self.now.outputs }
@@ -200,6 +217,18 @@ fn variables_of(
         }
     }
     Ok(variables)
+}
+
+fn input_names(alloc: Global, declarations: &[Declaration]) -> Result<IndexSet<u32>, AllocError>
+    ensures { IfOk result (λ names. names.keys ≡ with_names [] (inputs_in declarations.now)) }
+{
+    let mut names = IndexSet::new(alloc);
+    for declaration in declarations {
+        if let Declaration::In(port) = declaration {
+            declare_name(&mut names, port)?;
+        }
+    }
+    Ok(names)
 }
 
 fn output_names(alloc: Global, declarations: &[Declaration]) -> Result<IndexSet<u32>, AllocError>

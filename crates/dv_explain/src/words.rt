@@ -82,7 +82,7 @@ pub const REFUSALS: &[Explanation] = &[
     },
     Explanation {
         code: "E9",
-        words: "This is not allowed in a rule of this sort. The first token of the statement is named. Send in an output rule; assign, `goto`, `add` and `drop` in an internal one. Nothing is assigned to the variable of a loop: declare a variable for what has to stay.",
+        words: "This is not allowed in a rule of this sort. The first token of the statement is named. Send in an output rule; assign, `goto`, `add` and `drop` in the others. `elapsed` is known in external rules, and what came to an input port in external and confluent ones; there the word or the port is named. Nothing is assigned to the variable of a loop: declare a variable for what has to stay.",
         example: Some(Example {
             model: "atomic A { out y; phases z; start z; hold z: 1; internal z { send y 1; } }\nroot A;\n",
             horizon: 0,
@@ -112,12 +112,22 @@ pub const REFUSALS: &[Explanation] = &[
     },
     Explanation {
         code: "E12",
-        words: "A link leads the wrong way. The port is named. A link leads from an output of a part, today to an output of `self`.",
+        words: "A link leads the wrong way. The port is named. A link begins at an output of a part or at an input of `self`, and ends at an input of a part or at an output of `self`.",
         example: Some(Example {
             model: "atomic A { out y; phases z; start z; hold z: 1; }\ncoupled T { part a: A; part b: A; link a.y -> b.y; }\nroot T;\n",
             horizon: 0,
             limit: 20,
             answer: "E12 line 2",
+        }),
+    },
+    Explanation {
+        code: "E13",
+        words: "A part is coupled to itself, or an input of a model to its own output. The word `link` is named. Put a component between the two.",
+        example: Some(Example {
+            model: "atomic A { in x; out y; phases z; start z; hold z: forever; }\ncoupled T { part a: A;\nlink a.y -> a.x; }\nroot T;\n",
+            horizon: 0,
+            limit: 20,
+            answer: "E13 line 3",
         }),
     },
     Explanation {

@@ -1,5 +1,5 @@
 -- From what the crates below say to what a run of bytes leaves.
-use Rattle.std.proofs.Common.{◌≡◌, ℕ, List, ◌++◌, Option, refl, ap, ◌∙◌, sym, subst, inl, inr}
+use Rattle.std.proofs.Common.{◌≡◌, ℕ, false, List, ◌++◌, Option, refl, ap, ◌∙◌, sym, subst, inl, inr}
 use Rattle.std.specs.Io.KnownBytes.{Appends, Keeps}
 use Rattle.dv_time.specs.Time.{end_of}
 use Rattle.dv_lex.specs.declared.error.LoadError.{LoadError}
@@ -9,6 +9,7 @@ use Rattle.dv_bag.specs.Part.{PartOf}
 use Rattle.dv_devs.specs.Network.{Network, trace_before}
 use Rattle.dv_syntax.specs.declared.tree.File.{File}
 use Rattle.dv_syntax.specs.Trees.{FileTree, file_of}
+use Rattle.dv_check.specs.Accepted.{has_inputs}
 use Rattle.dv_tree.specs.Tables.{Source}
 use Rattle.dv_plain.specs.Source.{network_of, no_input, trace_of}
 use Rattle.dv_text.specs.declared.writing.Ending.TheVariants.{Horizon}
@@ -38,6 +39,9 @@ model_of_tree text names file tree m same =
     subst (λ (n : List (List ℕ)). IsModelOf text n (file_of tree.file)) (sym same.1)
     (subst (λ (f : File). IsModelOf text names (file_of f)) (sym same.0) m)
 
+alone_in_tree : (file : File) (tree : Source) → has_inputs (file_of file) ≡ false → tree.file ≡ file → has_inputs (file_of tree.file) ≡ false
+alone_in_tree file tree alone same = ap (λ (f : File). has_inputs (file_of f)) same ∙ alone
+
 -- what is written of a trace is the text of the run
 text_of_run : (tree : Source) (h l : ℕ) (trace : PartOf) → AreInstants → trace ≡ trace_of (file_of tree.file) h l →
     text_of (tree_names tree) (tree_ports tree) trace (Horizon h) ≡ run_text tree.names (file_of tree.file) h l
@@ -50,13 +54,14 @@ text_of_run tree h l trace are is_trace =
 pub prints :
     (text : List ℕ) (h l : ℕ) (old new : Option (List ℕ)) (names : List (List ℕ)) (file : File) (tree : Source) (trace : PartOf)
     (ended : JobEnded)
-    → AreInstants → IsModelOf text names (file_of file) → (tree.file ≡ file) × (tree.names ≡ names) → trace ≡ trace_of
-    (file_of tree.file) h l → ended ≡ ending_of trace
+    → AreInstants → IsModelOf text names (file_of file) → has_inputs (file_of file) ≡ false
+    → (tree.file ≡ file) × (tree.names ≡ names) → trace ≡ trace_of (file_of tree.file) h l → ended ≡ ending_of trace
     → Appends old new (text_of (tree_names tree) (tree_ports tree) trace (Horizon h)) → PrintsTrace text h l old new ended
-prints text h l old new names file tree trace ended are m same is_trace ending written = record {
+prints text h l old new names file tree trace ended are m alone same is_trace ending written = record {
   names = tree.names;
   file = file_of tree.file;
   model = model_of_tree text names file tree m same;
+  alone = alone_in_tree file tree alone same.0;
   ending = ending ∙ ap ending_of is_trace;
   written = subst (λ (t : List ℕ). Appends old new t) (text_of_run tree h l trace are is_trace) written;
 }
@@ -64,13 +69,14 @@ prints text h l old new names file tree trace ended are m same is_trace ending w
 -- a trace of which a beginning was written
 pub prints_beginning :
     (text : List ℕ) (h l : ℕ) (old new : Option (List ℕ)) (names : List (List ℕ)) (file : File) (tree : Source) (trace : PartOf)
-    → AreInstants → IsModelOf text names (file_of file) → (tree.file ≡ file) × (tree.names ≡ names) → trace ≡ trace_of
-    (file_of tree.file) h l
+    → AreInstants → IsModelOf text names (file_of file) → has_inputs (file_of file) ≡ false
+    → (tree.file ≡ file) × (tree.names ≡ names) → trace ≡ trace_of (file_of tree.file) h l
     → StopsShort old new (text_of (tree_names tree) (tree_ports tree) trace (Horizon h)) → PrintsBeginning text h l old new
-prints_beginning text h l old new names file tree trace are m same is_trace written = record {
+prints_beginning text h l old new names file tree trace are m alone same is_trace written = record {
   names = tree.names;
   file = file_of tree.file;
   model = model_of_tree text names file tree m same;
+  alone = alone_in_tree file tree alone same.0;
   written = subst (λ (t : List ℕ). StopsShort old new t) (text_of_run tree h l trace are is_trace) written;
 }
 

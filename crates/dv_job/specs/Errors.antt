@@ -9,9 +9,10 @@ use Rattle.dv_text.specs.declared.writing.WriteError.TheVariants as write
 use Rattle.dv_job.specs.declared.ended.JobError.{JobError}
 use Rattle.dv_job.specs.declared.ended.JobError.TheVariants as error
 
--- `E7 line 3`, `write`, or `E18`
+-- `E7 line 3`, `not yet`, `write`, or `E18`
 abbrev pub job_error_words : JobError → List ℕ
 job_error_words (error.Text e) = error_words e
+job_error_words error.NotYet = codes "not yet"
 job_error_words error.Write = codes "write"
 job_error_words error.Memory = codes "E18"
 

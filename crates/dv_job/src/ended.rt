@@ -22,6 +22,8 @@ pub enum JobEnded {
 pub enum JobError {
     /// The model text is refused, with this number on this line; nothing was written.
     Text(TextError),
+    /// The model has input ports. Such a model is checked and not run yet; nothing was written.
+    NotYet,
     /// A write failed; the writer holds a beginning of the trace's text, and not all of it.
     Write,
     /// An allocation was refused; the writer holds nothing, or a beginning of the trace's text that is not all of it.
@@ -37,6 +39,7 @@ impl fmt::Display for JobError {
     fn fmt<W: fmt::Write>(&self, f: &mut fmt::Formatter<W>) -> fmt::Result {
         match self {
             JobError::Text(error) => write!(f, "{error}"),
+            JobError::NotYet => f.write_str("not yet"),
             JobError::Write => f.write_str("write"),
             JobError::Memory => f.write_str("E18"),
         }

@@ -9,6 +9,7 @@ use crate::ended::{JobEnded, JobError};
 use crate::load::{load, unloaded};
 use crate::options::Options;
 use dv_bag::{Bags, Entry, Trace, What};
+use dv_check::has_inputs;
 use dv_plain::resultant_run;
 use dv_text::laws::a_trace_is_its_instants;
 use dv_text::{Ending, write_trace};
@@ -20,7 +21,8 @@ use std::io::Write;
 ///
 /// # Errors
 ///
-/// `Text` is the text's answer, and nothing was written; for the others `JobError` says what the writer then holds.
+/// `Text` is the text's answer, and nothing was written; nor is anything where the model has input ports, which is
+/// `NotYet`; for the others `JobError` says what the writer then holds.
 pub fn run_plain<W: Write>(
     alloc: Global,
     model: &[u8],
@@ -38,6 +40,9 @@ pub fn run_plain<W: Write>(
         Ok(checked) => checked,
         Err(error) => return Err(unloaded(model, error)),
     };
+    if has_inputs(&checked.file) {
+        return Err(JobError::NotYet);
+    }
     let tree = Tree::of(alloc, &checked)?;
     let trace = resultant_run(alloc, &tree, options.horizon, options.limit)?;
     write_trace(

@@ -17,9 +17,9 @@ use Rattle.dv_syntax.specs.declared.tree.Operator.{Operator}
 use Rattle.dv_syntax.specs.declared.tree.Operator.TheVariants as operator
 use Rattle.dv_syntax.specs.declared.tree.BagCall.{BagCall}
 use Rattle.dv_syntax.specs.declared.tree.BagCall.TheVariants as call
-use Rattle.dv_syntax.specs.Trees.{Expression, Literal, TruthValue, Named, Parens, Prefixed, Binary, Call, Times}
+use Rattle.dv_syntax.specs.Trees.{Expression, Literal, TruthValue, Named, Parens, Prefixed, Binary, Call, Elapsed, Times}
 use Rattle.dv_syntax.specs.Grammar.{Spelled, At, Anywhere, Spells, sign, word_at, name, number, Limits, truth_word, call_word, prefix_kind, prefix_rank, operator_kind, operator_rank, left_rank, rank, depth, IsWellFormed, IsExpression, expression_spelling}
-use Rattle.dv_parser.specs.Reading.{Obstacle, TooDeep, Read, read_then, within, place_at, choose, maybe, begins, keyword_operator, symbol_operator, operator_of, goes_on, operator_at, call_at, leaf_at, parens_at, prefixed_at, times_at, primary_at, turns, expression_at}
+use Rattle.dv_parser.specs.Reading.{Obstacle, TooDeep, Read, read_then, within, place_at, choose, maybe, begins, keyword_operator, symbol_operator, operator_of, goes_on, operator_at, call_at, elapsed_at, leaf_at, parens_at, prefixed_at, times_at, primary_at, turns, expression_at}
 use Rattle.dv_parser.proofs.Tokens.{then_ok, then_is, chosen, maybe_is, ok_is, err_ok, some_is, none_some, Spells-then, Spells-split, front, name_front, number_front, truth_front, call_front, unplaced, after_spells, after_spells_at, name_spells, number_spells, truth_spells, call_spells}
 
 abbrev pub Reader : Type 0
@@ -59,6 +59,19 @@ call_read limit level low ts x e =
       ranked = omega (arith, low);
     })
 
+elapsed_read : (limit level : ℕ) → level ≤ 7 → (ts : List Token) (x : Expression × List Token) → elapsed_at ts ≡ Ok x
+    → IsRead (suc limit) level x.0 ts x.1
+unfolding elapsed_at
+elapsed_read limit level low ts x e =
+    let a = then_ok _ _ _ e in
+    subst (λ (y : Expression × List Token). IsRead (suc limit) level y.0 ts y.1) (ok_is _ _ a.2)
+    (record {
+      spelled = after_spells_at (kind.Keyword keyword.Elapsed) [] ts a.0 a.0 a.1 refl;
+      formed = tt;
+      within = omega arith;
+      ranked = omega (arith, low);
+    })
+
 leaf_read : (limit level : ℕ) → level ≤ 7 → (ts : List Token) (x : Expression × List Token) → leaf_at ts ≡ Ok x → IsRead (suc limit) level x.0 ts x.1
 unfolding leaf_at
 leaf_read limit level low ts x e =
@@ -74,10 +87,18 @@ leaf_read limit level low ts x e =
             (record { spelled = truth_spells [] ts a.0.1 a.0 a.1 refl; formed = tt; within = omega arith; ranked = omega (arith, low) })
         | inr q ↦ elim (chosen _ _ _ _ q.1) [
           | inl r ↦ call_read limit level low ts x r.1
-          | inr r ↦
-              let a = then_ok _ _ _ r.1 in
-              subst (λ (y : Expression × List Token). IsRead (suc limit) level y.0 ts y.1) (ok_is _ _ a.2)
-              (record { spelled = number_spells [] ts a.0.1 a.0 a.1 refl; formed = tt; within = omega arith; ranked = omega (arith, low) })
+          | inr r ↦ elim (chosen _ _ _ _ r.1) [
+            | inl u ↦ elapsed_read limit level low ts x u.1
+            | inr u ↦
+                let a = then_ok _ _ _ u.1 in
+                subst (λ (y : Expression × List Token). IsRead (suc limit) level y.0 ts y.1) (ok_is _ _ a.2)
+                (record {
+                  spelled = number_spells [] ts a.0.1 a.0 a.1 refl;
+                  formed = tt;
+                  within = omega arith;
+                  ranked = omega (arith, low);
+                })
+          ]
         ]
       ]
     ]
@@ -449,6 +470,7 @@ positive_depth (Parens place e) = omega arith
 positive_depth (Prefixed o place e) = omega arith
 positive_depth (Binary o a b) = omega arith
 positive_depth (Call c place b) = omega arith
+positive_depth (Elapsed place) = omega arith
 positive_depth (Times place e b) = omega arith
 
 primary_leaf : (operand : Reader) (limit level : ℕ) (ts : List Token) → begins (kind.Symbol symbol.OpenParen) ts ≡ false
@@ -468,7 +490,38 @@ number_again operand limit level n ts rest h =
     let least = f.begins (kind.Keyword keyword.Least) in
     let most = f.begins (kind.Keyword keyword.Most) in
     primary_leaf operand limit level ts (f.begins _) (f.begins _) (f.begins _) (f.begins _)
-    ∙ rw (f.begins_name, f.begins (kind.Keyword keyword.True), f.begins (kind.Keyword keyword.False), size, sum, least, most, g.1, g.2) refl
+    ∙ rw (
+      f.begins_name,
+      f.begins (kind.Keyword keyword.True),
+      f.begins (kind.Keyword keyword.False),
+      size,
+      sum,
+      least,
+      most,
+      f.begins (kind.Keyword keyword.Elapsed),
+      g.1,
+      g.2,
+    ) refl
+
+elapsed_again : (operand : Reader) (limit level place : ℕ) (ts rest : List Token) → Spells (word_at keyword.Elapsed place ∷ []) ts rest
+    → primary_at operand limit level ts ≡ Ok (Elapsed place, rest)
+unfolding leaf_at elapsed_at choose read_then
+elapsed_again operand limit level place ts rest h =
+    let f = front (word_at keyword.Elapsed place) [] ts rest h in
+    primary_leaf operand limit level ts (f.begins _) (f.begins _) (f.begins _) (f.begins _)
+    ∙ rw (
+      f.begins_name,
+      f.begins (kind.Keyword keyword.True),
+      f.begins (kind.Keyword keyword.False),
+      f.begins (kind.Keyword keyword.Size),
+      f.begins (kind.Keyword keyword.Sum),
+      f.begins (kind.Keyword keyword.Least),
+      f.begins (kind.Keyword keyword.Most),
+      f.begins (kind.Keyword keyword.Elapsed),
+      f.after,
+      f.place,
+      f.spelled,
+    ) refl
 
 truth_again : (operand : Reader) (limit level place : ℕ) (value : Bool) (ts rest : List Token) → Spells (word_at (truth_word value) place ∷ []) ts rest → primary_at operand limit level ts ≡ Ok (TruthValue place value, rest)
 unfolding leaf_at choose read_then
@@ -670,6 +723,8 @@ expression_again (Binary o a b) (suc limit) level ts rest formed within ranked l
     left ∙ step ∙ then_is (expression_at k (operator_rank o + 1) next.0) (λ right. turns (expression_at k) (suc k) (suc k) level (Binary o a right.0) right.1) (b, rest) right
 expression_again (Call c place b) limit level ts rest formed within ranked low loose h =
     then_turns limit level (Call c place b) ts rest (call_again (expression_at limit) limit level c place b ts rest h)
+expression_again (Elapsed place) limit level ts rest formed within ranked low loose h =
+    then_turns limit level (Elapsed place) ts rest (elapsed_again (expression_at limit) limit level place ts rest h)
 expression_again (Times place e b) zero level ts rest formed within ranked low loose h = absurd (omega (arith, within, positive_depth e))
 expression_again (Times place e b) (suc limit) level ts rest formed within ranked low loose h =
     then_turns (suc limit) level (Times place e b) ts rest

@@ -3,6 +3,7 @@ use Rattle.std.proofs.Common.{◌≡◌, ℕ, ◌<◌, true, false, List, [], �
 use Rattle.std.specs.List.{flat_map, AllByRecursion}
 use Rattle.dv_lex.specs.declared.token.Token.{Token}
 use Rattle.dv_lex.specs.declared.token.TokenKind.TheVariants as kind
+use Rattle.dv_lex.specs.declared.token.Keyword.{Keyword}
 use Rattle.dv_lex.specs.declared.token.Keyword.TheVariants as keyword
 use Rattle.dv_lex.specs.declared.token.Symbol.{Symbol}
 use Rattle.dv_lex.specs.declared.token.Symbol.TheVariants as symbol
@@ -20,10 +21,10 @@ use Rattle.dv_syntax.specs.declared.tree.RuleSort.TheVariants as sort
 use Rattle.dv_syntax.specs.declared.tree.End.{End}
 use Rattle.dv_syntax.specs.declared.tree.Part.{Part}
 use Rattle.dv_syntax.specs.declared.tree.Link.{Link}
-use Rattle.dv_syntax.specs.Trees.{Expression, Statements, Literal, TruthValue, Named, Parens, Prefixed, Binary, Call, Times, FileTree}
-use Rattle.dv_syntax.specs.Written.{AtomicItem, Declares, Lists, Starts, Holds, Rules, CoupledItem, Outputs, Contains, Couples, WrittenModel, WrittenAtomic, WrittenCoupled, WrittenFile, sorted}
+use Rattle.dv_syntax.specs.Trees.{Expression, Statements, Literal, TruthValue, Named, Parens, Prefixed, Binary, Call, Elapsed, Times, FileTree}
+use Rattle.dv_syntax.specs.Written.{AtomicItem, Declares, Lists, Starts, Holds, Rules, CoupledItem, Inputs, Outputs, Contains, Couples, WrittenModel, WrittenAtomic, WrittenCoupled, WrittenFile, sorted}
 use Rattle.dv_syntax.specs.Grammar.{Spelled, Anywhere, Limits, the_limits, name, number, sign, word, braces, operator_kind, expression_spelling, minus_spelling, bound_spelling, variable_spelling, flag_spelling, bag_spelling, ticks_spelling, phases_spelling, rule_spelling, item_spelling, AreTicks, IsItem, part_name_spelling, end_spelling, coupled_item_spelling, model_spelling, IsModel, file_spelling, IsWritten, IsFileWithin, IsFileOf}
-use Rattle.dv_parser.specs.Reading.{Obstacle, read_then, choose, begins, operator_of, many_at, braces_at, bound_at, variable_at, flag_at, bag_at, further_name_at, phases_at, start_at, ticks_at, hold_at, rule_at, out_at, item_at, atomic_at, end_at, part_at, link_at, coupled_item_at, coupled_at, model_at, is_end, file_at}
+use Rattle.dv_parser.specs.Reading.{Obstacle, read_then, choose, begins, operator_of, many_at, braces_at, bound_at, variable_at, flag_at, bag_at, further_name_at, phases_at, start_at, ticks_at, hold_at, rule_at, any_rule_at, port_at, item_at, atomic_at, end_at, part_at, link_at, coupled_item_at, coupled_at, model_at, is_end, file_at}
 use Rattle.dv_parser.proofs.Tokens.{then_ok, chosen, ok_is, err_ok}
 use Rattle.dv_parser.proofs.Readers.{Spans, nothing, after_spans, after_spans_at, name_spans, number_spans, truth_spans, then_spans, split, first, first_name, first_number, first_truth, span_end, IsReader, IsListed, many_reader, braces_reader, shortens, Shortens}
 use Rattle.dv_parser.proofs.Expressions.{IsClosed-front}
@@ -220,15 +221,30 @@ rule_sound limits sort ts x e =
     let s = (block_reader limits limits.block limits.loop).sound b.0.1 c.0 c.1 in
     subst (ReadsItem limits ts) (ok_is _ _ c.2) (after_spans a.1 (name_spans b.1 s.0), s.1)
 
--- `out port;`
-out_reader : IsReader out_at (λ n. word keyword.Out ∷ name n ∷ semicolon) (λ n. Unit {0}) Always
-unfolding out_at read_then
-out_reader = record {
+any_rule_sound : (limits : Limits) (ts : List Token) (x : AtomicItem × List Token) → any_rule_at limits ts ≡ Ok x → ReadsItem limits ts x
+unfolding any_rule_at
+any_rule_sound limits ts x e =
+    elim (chosen _ _ _ _ e) [
+      | inl p ↦ rule_sound limits sort.Output ts x p.1
+      | inr p ↦ elim (chosen _ _ _ _ p.1) [
+        | inl q ↦ rule_sound limits sort.Internal ts x q.1
+        | inr q ↦ elim (chosen _ _ _ _ q.1) [
+          | inl r ↦ rule_sound limits sort.External ts x r.1
+          | inr r ↦ rule_sound limits sort.Confluent ts x r.1
+        ]
+      ]
+    ]
+
+-- a port behind a word
+port_reader : (k : Keyword) → IsReader (port_at k) (λ n. word k ∷ name n ∷ semicolon) (λ n. Unit {0}) Always
+unfolding port_at read_then
+port_reader k = record {
   sound = λ ts x e.
       let a = then_ok _ _ _ e in
       let b = then_ok _ _ _ a.2 in
       let c = then_ok _ _ _ b.2 in
-      subst (λ (y : Name × List Token). Spans (word keyword.Out ∷ name y.0 ∷ semicolon) ts y.1 × Unit {0}) (ok_is _ _ c.2) (after_spans a.1 (name_spans b.1 (after_spans c.1 nothing)), tt);
+      subst (λ (y : Name × List Token). Spans (word k ∷ name y.0 ∷ semicolon) ts y.1 × Unit {0}) (ok_is _ _ c.2)
+      (after_spans a.1 (name_spans b.1 (after_spans c.1 nothing)), tt);
   complete = λ x ts rest is h ends.
       let a = first h in
       let b = first_name x a.spelled in
@@ -240,22 +256,28 @@ item_sound : (limits : Limits) (ts : List Token) (x : AtomicItem × List Token) 
 unfolding item_at
 item_sound limits ts x e =
     elim (chosen _ _ _ _ e) [
-      | inl p ↦ let a = then_ok _ _ _ p.1 in let s = out_reader.sound ts a.0 a.1 in subst (ReadsItem limits ts) (ok_is _ _ a.2) (s.0, tt)
-      | inr p ↦ elim (chosen _ _ _ _ p.1) [
-        | inl q ↦ let a = then_ok _ _ _ q.1 in let s = variable_sound ts a.0 a.1 in subst (ReadsItem limits ts) (ok_is _ _ a.2) (s, tt)
-        | inr q ↦ elim (chosen _ _ _ _ q.1) [
-          | inl f ↦ let a = then_ok _ _ _ f.1 in let s = flag_sound ts a.0 a.1 in subst (ReadsItem limits ts) (ok_is _ _ a.2) (s, tt)
-          | inr f ↦ elim (chosen _ _ _ _ f.1) [
-            | inl b ↦ let a = then_ok _ _ _ b.1 in let s = bag_sound ts a.0 a.1 in subst (ReadsItem limits ts) (ok_is _ _ a.2) (s, tt)
-            | inr b ↦ elim (chosen _ _ _ _ b.1) [
-              | inl w ↦ phases_sound limits ts x w.1
-              | inr w ↦ elim (chosen _ _ _ _ w.1) [
-                | inl u ↦ start_sound limits ts x u.1
-                | inr u ↦ elim (chosen _ _ _ _ u.1) [
-                  | inl v ↦ hold_sound limits ts x v.1
-                  | inr v ↦ elim (chosen _ _ _ _ v.1) [
-                    | inl z ↦ rule_sound limits sort.Output ts x z.1
-                    | inr z ↦ rule_sound limits sort.Internal ts x z.1
+      | inl o ↦
+          let a = then_ok _ _ _ o.1 in
+          let s = (port_reader keyword.In).sound ts a.0 a.1 in
+          subst (ReadsItem limits ts) (ok_is _ _ a.2) (s.0, tt)
+      | inr o ↦ elim (chosen _ _ _ _ o.1) [
+        | inl p ↦
+            let a = then_ok _ _ _ p.1 in
+            let s = (port_reader keyword.Out).sound ts a.0 a.1 in
+            subst (ReadsItem limits ts) (ok_is _ _ a.2) (s.0, tt)
+        | inr p ↦ elim (chosen _ _ _ _ p.1) [
+          | inl q ↦ let a = then_ok _ _ _ q.1 in let s = variable_sound ts a.0 a.1 in subst (ReadsItem limits ts) (ok_is _ _ a.2) (s, tt)
+          | inr q ↦ elim (chosen _ _ _ _ q.1) [
+            | inl f ↦ let a = then_ok _ _ _ f.1 in let s = flag_sound ts a.0 a.1 in subst (ReadsItem limits ts) (ok_is _ _ a.2) (s, tt)
+            | inr f ↦ elim (chosen _ _ _ _ f.1) [
+              | inl b ↦ let a = then_ok _ _ _ b.1 in let s = bag_sound ts a.0 a.1 in subst (ReadsItem limits ts) (ok_is _ _ a.2) (s, tt)
+              | inr b ↦ elim (chosen _ _ _ _ b.1) [
+                | inl w ↦ phases_sound limits ts x w.1
+                | inr w ↦ elim (chosen _ _ _ _ w.1) [
+                  | inl u ↦ start_sound limits ts x u.1
+                  | inr u ↦ elim (chosen _ _ _ _ u.1) [
+                    | inl v ↦ hold_sound limits ts x v.1
+                    | inr v ↦ any_rule_sound limits ts x v.1
                   ]
                 ]
               ]
@@ -288,6 +310,7 @@ expression_no_word (Call call.Size place b) ts rest h = (first h).begins _
 expression_no_word (Call call.Sum place b) ts rest h = (first h).begins _
 expression_no_word (Call call.Least place b) ts rest h = (first h).begins _
 expression_no_word (Call call.Most place b) ts rest h = (first h).begins _
+expression_no_word (Elapsed place) ts rest h = (first h).begins _
 expression_no_word (Times place e b) ts rest h = (first h).begins _
 expression_no_word (Binary o a b) ts rest h = expression_no_word a ts _ (split (expression_spelling a) (Anywhere (operator_kind o) ∷ expression_spelling b) h).1
 
@@ -306,38 +329,39 @@ ticks_complete limits (Some e) ts rest is h =
     let v = (expression_reader limits).complete e ts s.0 is s.1 (IsClosed-front (kind.Symbol symbol.Semicolon) [] s.0 rest refl s.2.spells) in
     (s.0, rw (expression_no_word e ts s.0 s.1, v) refl, s.2)
 
+-- what begins with no word of another item is read as a rule
+item_rule : (limits : Limits) (ts : List Token) → begins (kind.Keyword keyword.In) ts ≡ false
+    → begins (kind.Keyword keyword.Out) ts ≡ false
+    → begins (kind.Keyword keyword.Var) ts ≡ false → begins (kind.Keyword keyword.Flag) ts ≡ false
+    → begins (kind.Keyword keyword.Bag) ts ≡ false → begins (kind.Keyword keyword.Phases) ts ≡ false
+    → begins (kind.Keyword keyword.Start) ts ≡ false → begins (kind.Keyword keyword.Hold) ts ≡ false
+    → item_at limits ts ≡ any_rule_at limits ts
+unfolding item_at choose
+item_rule limits ts a b c d e f g h = rw (a, b, c, d, e, f, g, h) refl
+
 rule_item_complete : (limits : Limits) (sort : RuleSort) (p : Name) (body : Statements) (ts rest : List Token)
     → IsBlock limits limits.block limits.loop body → Spans (rule_spelling (record { sort = sort; phase = p; body = body })) ts rest
     → item_at limits ts ≡ Ok (Rules (record { sort = sort; phase = p; body = body }), rest)
-unfolding item_at choose
+unfolding any_rule_at choose
 rule_item_complete limits sort.Output p body ts rest is h =
-    let a = first h in
+    let b = (first h).begins in
     let r = rule_complete limits sort.Output p body ts rest is h in
-    rw (
-      a.begins (kind.Keyword keyword.Out),
-      a.begins (kind.Keyword keyword.Var),
-      a.begins (kind.Keyword keyword.Flag),
-      a.begins (kind.Keyword keyword.Bag),
-      a.begins (kind.Keyword keyword.Phases),
-      a.begins (kind.Keyword keyword.Start),
-      a.begins (kind.Keyword keyword.Hold),
-      a.begins (kind.Keyword keyword.Output),
-      r,
-    ) refl
+    item_rule limits ts (b _) (b _) (b _) (b _) (b _) (b _) (b _) (b _) ∙ rw (b (kind.Keyword keyword.Output), r) refl
 rule_item_complete limits sort.Internal p body ts rest is h =
-    let a = first h in
+    let b = (first h).begins in
     let r = rule_complete limits sort.Internal p body ts rest is h in
-    rw (
-      a.begins (kind.Keyword keyword.Out),
-      a.begins (kind.Keyword keyword.Var),
-      a.begins (kind.Keyword keyword.Flag),
-      a.begins (kind.Keyword keyword.Bag),
-      a.begins (kind.Keyword keyword.Phases),
-      a.begins (kind.Keyword keyword.Start),
-      a.begins (kind.Keyword keyword.Hold),
-      a.begins (kind.Keyword keyword.Output),
-      r,
-    ) refl
+    item_rule limits ts (b _) (b _) (b _) (b _) (b _) (b _) (b _) (b _)
+    ∙ rw (b (kind.Keyword keyword.Output), b (kind.Keyword keyword.Internal), r) refl
+rule_item_complete limits sort.External p body ts rest is h =
+    let b = (first h).begins in
+    let r = rule_complete limits sort.External p body ts rest is h in
+    item_rule limits ts (b _) (b _) (b _) (b _) (b _) (b _) (b _) (b _)
+    ∙ rw (b (kind.Keyword keyword.Output), b (kind.Keyword keyword.Internal), b (kind.Keyword keyword.External), r) refl
+rule_item_complete limits sort.Confluent p body ts rest is h =
+    let b = (first h).begins in
+    let r = rule_complete limits sort.Confluent p body ts rest is h in
+    item_rule limits ts (b _) (b _) (b _) (b _) (b _) (b _) (b _) (b _)
+    ∙ rw (b (kind.Keyword keyword.Output), b (kind.Keyword keyword.Internal), b (kind.Keyword keyword.External), r) refl
 
 phases_complete : (place : ℕ) (names : List Name) (ts rest : List Token) → 0 < length names → Spans (phases_spelling (record { place = place; names = names })) ts rest → phases_at ts ≡ Ok (Lists (record { place = place; names = names }), rest)
 unfolding phases_at read_then
@@ -353,22 +377,33 @@ phases_complete place (n ∷ ns) ts rest is h =
 
 item_complete : (limits : Limits) (x : AtomicItem) (ts rest : List Token) → IsItem limits x → Spans (item_spelling x) ts rest → item_at limits ts ≡ Ok (x, rest)
 unfolding item_at start_at hold_at choose read_then
+item_complete limits (Declares (declaration.In n)) ts rest is h =
+    let a = first h in
+    let o = (port_reader keyword.In).complete n ts rest tt h tt in
+    rw (a.begins (kind.Keyword keyword.In), o) refl
 item_complete limits (Declares (declaration.Out n)) ts rest is h =
     let a = first h in
-    let o = out_reader.complete n ts rest tt h tt in
-    rw (a.begins (kind.Keyword keyword.Out), o) refl
+    let o = (port_reader keyword.Out).complete n ts rest tt h tt in
+    rw (a.begins (kind.Keyword keyword.In), a.begins (kind.Keyword keyword.Out), o) refl
 item_complete limits (Declares (declaration.Var v)) ts rest is h =
     let a = first h in
     let o = variable_complete v ts rest h in
-    rw (a.begins (kind.Keyword keyword.Out), a.begins (kind.Keyword keyword.Var), o) refl
+    rw (a.begins (kind.Keyword keyword.In), a.begins (kind.Keyword keyword.Out), a.begins (kind.Keyword keyword.Var), o) refl
 item_complete limits (Declares (declaration.Flag f)) ts rest is h =
     let a = first h in
     let o = flag_complete f ts rest h in
-    rw (a.begins (kind.Keyword keyword.Out), a.begins (kind.Keyword keyword.Var), a.begins (kind.Keyword keyword.Flag), o) refl
+    rw (
+      a.begins (kind.Keyword keyword.In),
+      a.begins (kind.Keyword keyword.Out),
+      a.begins (kind.Keyword keyword.Var),
+      a.begins (kind.Keyword keyword.Flag),
+      o,
+    ) refl
 item_complete limits (Declares (declaration.Bag b)) ts rest is h =
     let a = first h in
     let o = bag_complete b ts rest h in
     rw (
+      a.begins (kind.Keyword keyword.In),
       a.begins (kind.Keyword keyword.Out),
       a.begins (kind.Keyword keyword.Var),
       a.begins (kind.Keyword keyword.Flag),
@@ -379,6 +414,7 @@ item_complete limits (Lists p) ts rest is h =
     let a = first h in
     let o = phases_complete p.place p.names ts rest is h in
     rw (
+      a.begins (kind.Keyword keyword.In),
       a.begins (kind.Keyword keyword.Out),
       a.begins (kind.Keyword keyword.Var),
       a.begins (kind.Keyword keyword.Flag),
@@ -391,6 +427,7 @@ item_complete limits (Starts s) ts rest is h =
     let b = first_name s.phase a.spelled in
     let c = first b.spelled in
     rw (
+      a.begins (kind.Keyword keyword.In),
       a.begins (kind.Keyword keyword.Out),
       a.begins (kind.Keyword keyword.Var),
       a.begins (kind.Keyword keyword.Flag),
@@ -410,6 +447,7 @@ item_complete limits (Holds d) ts rest is h =
     let t = ticks_complete limits d.ticks c.behind rest is c.spelled in
     let e = first t.2 in
     rw (
+      a.begins (kind.Keyword keyword.In),
       a.begins (kind.Keyword keyword.Out),
       a.begins (kind.Keyword keyword.Var),
       a.begins (kind.Keyword keyword.Flag),
@@ -428,6 +466,7 @@ item_complete limits (Holds d) ts rest is h =
 item_complete limits (Rules r) ts rest is h = rule_item_complete limits r.sort r.phase r.body ts rest is h
 
 item_opens : (k : Symbol) (x : AtomicItem) (ts rest : List Token) → Spans (item_spelling x) ts rest → begins (kind.Symbol k) ts ≡ false
+item_opens k (Declares (declaration.In n)) ts rest h = (first h).begins _
 item_opens k (Declares (declaration.Out n)) ts rest h = (first h).begins _
 item_opens k (Declares (declaration.Var v)) ts rest h = (first h).begins _
 item_opens k (Declares (declaration.Flag f)) ts rest h = (first h).begins _
@@ -438,6 +477,7 @@ item_opens k (Holds d) ts rest h = (first h).begins _
 item_opens k (Rules r) ts rest h = (first h).begins _
 
 item_some : (x : AtomicItem) → 0 < length (item_spelling x)
+item_some (Declares (declaration.In n)) = omega arith
 item_some (Declares (declaration.Out n)) = omega arith
 item_some (Declares (declaration.Var v)) = omega arith
 item_some (Declares (declaration.Flag f)) = omega arith
@@ -541,26 +581,49 @@ coupled_item_sound : (ts : List Token) (x : CoupledItem × List Token) → coupl
 unfolding coupled_item_at
 coupled_item_sound ts x e =
     elim (chosen _ _ _ _ e) [
-      | inl p ↦ let a = then_ok _ _ _ p.1 in let s = out_reader.sound ts a.0 a.1 in subst (ReadsCoupled ts) (ok_is _ _ a.2) (s.0, tt)
-      | inr p ↦ elim (chosen _ _ _ _ p.1) [
-        | inl q ↦ let a = then_ok _ _ _ q.1 in subst (ReadsCoupled ts) (ok_is _ _ a.2) (part_sound ts a.0 a.1)
-        | inr q ↦ let a = then_ok _ _ _ q.1 in subst (ReadsCoupled ts) (ok_is _ _ a.2) (link_sound ts a.0 a.1)
+      | inl o ↦
+          let a = then_ok _ _ _ o.1 in
+          let s = (port_reader keyword.In).sound ts a.0 a.1 in
+          subst (ReadsCoupled ts) (ok_is _ _ a.2) (s.0, tt)
+      | inr o ↦ elim (chosen _ _ _ _ o.1) [
+        | inl p ↦
+            let a = then_ok _ _ _ p.1 in
+            let s = (port_reader keyword.Out).sound ts a.0 a.1 in
+            subst (ReadsCoupled ts) (ok_is _ _ a.2) (s.0, tt)
+        | inr p ↦ elim (chosen _ _ _ _ p.1) [
+          | inl q ↦ let a = then_ok _ _ _ q.1 in subst (ReadsCoupled ts) (ok_is _ _ a.2) (part_sound ts a.0 a.1)
+          | inr q ↦ let a = then_ok _ _ _ q.1 in subst (ReadsCoupled ts) (ok_is _ _ a.2) (link_sound ts a.0 a.1)
+        ]
       ]
     ]
 
 coupled_item_complete : (x : CoupledItem) (ts rest : List Token) → Spans (coupled_item_spelling x) ts rest → coupled_item_at ts ≡ Ok (x, rest)
 unfolding coupled_item_at part_at link_at choose read_then
+coupled_item_complete (Inputs n) ts rest h =
+    let a = first h in
+    let o = (port_reader keyword.In).complete n ts rest tt h tt in
+    rw (a.begins (kind.Keyword keyword.In), o) refl
 coupled_item_complete (Outputs n) ts rest h =
     let a = first h in
-    let o = out_reader.complete n ts rest tt h tt in
-    rw (a.begins (kind.Keyword keyword.Out), o) refl
+    let o = (port_reader keyword.Out).complete n ts rest tt h tt in
+    rw (a.begins (kind.Keyword keyword.In), a.begins (kind.Keyword keyword.Out), o) refl
 coupled_item_complete (Contains p) ts rest h =
     let a = first h in
     let b = first_name p.name a.spelled in
     let c = first b.spelled in
     let d = first_name p.model c.spelled in
     let f = first d.spelled in
-    rw (a.begins (kind.Keyword keyword.Out), a.begins (kind.Keyword keyword.Part), a.after, b.read, c.after, d.read, f.after, span_end f.spelled) refl
+    rw (
+      a.begins (kind.Keyword keyword.In),
+      a.begins (kind.Keyword keyword.Out),
+      a.begins (kind.Keyword keyword.Part),
+      a.after,
+      b.read,
+      c.after,
+      d.read,
+      f.after,
+      span_end f.spelled,
+    ) refl
 coupled_item_complete (Couples l) ts rest h =
     let a = first h in
     let s = split (end_spelling l.from) (sign symbol.Arrow ∷ (end_spelling l.to ++ semicolon)) a.spelled in
@@ -569,14 +632,27 @@ coupled_item_complete (Couples l) ts rest h =
     let t = split (end_spelling l.to) semicolon b.spelled in
     let target = end_complete l.to.part l.to.port b.behind t.0 t.1 in
     let c = first t.2 in
-    rw (a.begins (kind.Keyword keyword.Out), a.begins (kind.Keyword keyword.Part), a.after, source, b.after, target, c.after, a.place, span_end c.spelled) refl
+    rw (
+      a.begins (kind.Keyword keyword.In),
+      a.begins (kind.Keyword keyword.Out),
+      a.begins (kind.Keyword keyword.Part),
+      a.after,
+      source,
+      b.after,
+      target,
+      c.after,
+      a.place,
+      span_end c.spelled,
+    ) refl
 
 coupled_item_opens : (x : CoupledItem) (ts rest : List Token) → Spans (coupled_item_spelling x) ts rest → begins (kind.Symbol symbol.CloseBrace) ts ≡ false
+coupled_item_opens (Inputs n) ts rest h = (first h).begins _
 coupled_item_opens (Outputs n) ts rest h = (first h).begins _
 coupled_item_opens (Contains p) ts rest h = (first h).begins _
 coupled_item_opens (Couples l) ts rest h = (first h).begins _
 
 coupled_item_some : (x : CoupledItem) → 0 < length (coupled_item_spelling x)
+coupled_item_some (Inputs n) = omega arith
 coupled_item_some (Outputs n) = omega arith
 coupled_item_some (Contains p) = omega arith
 coupled_item_some (Couples l) = omega arith

@@ -9,7 +9,7 @@ use Rattle.dv_lex.specs.declared.token.Keyword.TheVariants as keyword
 use Rattle.dv_lex.specs.declared.token.Symbol.TheVariants as symbol
 use Rattle.dv_syntax.specs.declared.tree.Name.{Name}
 use Rattle.dv_syntax.specs.Trees.{AtomicTree, CoupledTree, ModelTree, AtomicModel, CoupledModel, FileTree}
-use Rattle.dv_syntax.specs.Written.{AtomicItem, Declares, Lists, Starts, Holds, Rules, CoupledItem, Outputs, Contains, Couples, WrittenModel, WrittenFile, sorted_items, sorted_coupled_items, sorted_model, sorted}
+use Rattle.dv_syntax.specs.Written.{AtomicItem, Declares, Lists, Starts, Holds, Rules, CoupledItem, Inputs, Outputs, Contains, Couples, WrittenModel, WrittenFile, sorted_items, sorted_coupled_items, sorted_model, sorted}
 use Rattle.dv_syntax.specs.Grammar.{the_limits, IsFileOf}
 use Rattle.dv_parser.specs.Reading.{Obstacle, Read, read_then, choose, begins, after, name_at, is_end, many, many_at, becoming, braces_at, item_at, coupled_item_at, atomic_at, coupled_at, model_at, file_at, with_items, with_item, with_coupled_items, with_coupled_item, empty_atomic, empty_coupled, atomic_tree_at, coupled_tree_at, tree_at, file_tree_at, refusal_of, refusal_in, IsRefused}
 use Rattle.dv_parser.proofs.Tokens.{then_ok, ok_is}
@@ -26,6 +26,7 @@ items_more m (Holds h) items = simp append_assoc
 items_more m (Rules r) items = simp append_assoc
 
 pub coupled_items_more : (m : CoupledTree) (i : CoupledItem) (items : List CoupledItem) → with_coupled_items m (i ∷ items) ≡ with_coupled_items (with_coupled_item m i) items
+coupled_items_more m (Inputs port) items = simp append_assoc
 coupled_items_more m (Outputs port) items = simp append_assoc
 coupled_items_more m (Contains part) items = simp append_assoc
 coupled_items_more m (Couples link) items = simp append_assoc
@@ -43,6 +44,7 @@ items_none m = λ i. record {
 pub coupled_items_none : (m : CoupledTree) → with_coupled_items m [] ≡ m
 coupled_items_none m = λ i. record {
   name = m.name;
+  inputs = append-nil m.inputs i;
   outputs = append-nil m.outputs i;
   parts = append-nil m.parts i;
   links = append-nil m.links i;
@@ -61,6 +63,7 @@ all_sorted n items = λ i. record (sorted_items n items) { name = name_kept n it
 
 coupled_name_kept : (n : Name) (items : List CoupledItem) → n ≡ (sorted_coupled_items n items).name
 coupled_name_kept n [] = refl
+coupled_name_kept n (Inputs port ∷ items) = coupled_name_kept n items
 coupled_name_kept n (Outputs port ∷ items) = coupled_name_kept n items
 coupled_name_kept n (Contains part ∷ items) = coupled_name_kept n items
 coupled_name_kept n (Couples link ∷ items) = coupled_name_kept n items

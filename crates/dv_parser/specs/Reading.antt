@@ -38,8 +38,8 @@ use Rattle.dv_lex.specs.declared.error.LoadError.{LoadError}
 use Rattle.dv_lex.specs.declared.error.LoadError.TheVariants as error
 use Rattle.dv_lex.specs.declared.error.Refusal.{Refusal}
 use Rattle.dv_lex.specs.declared.error.RefusalNumber.TheVariants.{E4, E5}
-use Rattle.dv_syntax.specs.Trees.{expression_of, row_statements, phases_of, hold_of, rule_of, Expression, Literal, TruthValue, Named, Parens, Prefixed, Binary, Call, Times, Statements, Done, Assign, Goto, Send, If, IfElse, For, Add, Drop, AtomicTree, CoupledTree, ModelTree, AtomicModel, CoupledModel, FileTree}
-use Rattle.dv_syntax.specs.Written.{AtomicItem, Declares, Lists, Starts, Holds, Rules, CoupledItem, Outputs, Contains, Couples, WrittenModel, WrittenAtomic, WrittenCoupled, WrittenFile, sorted_items, sorted_coupled_items}
+use Rattle.dv_syntax.specs.Trees.{expression_of, row_statements, phases_of, hold_of, rule_of, Expression, Literal, TruthValue, Named, Parens, Prefixed, Binary, Call, Elapsed, Times, Statements, Done, Assign, Goto, Send, If, IfElse, For, Add, Drop, AtomicTree, CoupledTree, ModelTree, AtomicModel, CoupledModel, FileTree}
+use Rattle.dv_syntax.specs.Written.{AtomicItem, Declares, Lists, Starts, Holds, Rules, CoupledItem, Inputs, Outputs, Contains, Couples, WrittenModel, WrittenAtomic, WrittenCoupled, WrittenFile, sorted_items, sorted_coupled_items}
 use Rattle.dv_syntax.specs.Grammar.{Limits, the_limits, prefix_kind, prefix_rank, operator_rank, left_rank, rank, depth, call_word, sort_word}
 
 -- What stops a reader: the token at a place can't stand there, or what begins with it, or what it joins, lies too deep; or
@@ -276,12 +276,17 @@ call_at ts = do
   rest ← after (kind.Symbol symbol.CloseParen) bag.1
   Ok (Call c.0 (place_at ts) bag.0, rest)
 
--- a name, a truth value, a call or a number
+-- `elapsed`
+unfoldable pub elapsed_at : List Token → Read (Expression × List Token)
+elapsed_at ts = after (kind.Keyword keyword.Elapsed) ts >>= λ rest. Ok (Elapsed (place_at ts), rest)
+
+-- a name, a truth value, a call, `elapsed` or a number
 unfoldable pub leaf_at : List Token → Read (Expression × List Token)
 leaf_at ts = choose (begins_name ts) (name_at ts >>= λ n. Ok (Named n.0, n.1))
     (choose (begins_truth ts) (truth_at ts >>= λ v. Ok (TruthValue (place_at ts) v.0, v.1))
     (choose (begins_call ts) (call_at ts)
-    (number_at ts >>= λ n. Ok (Literal n.0, n.1))))
+    (choose (begins (kind.Keyword keyword.Elapsed) ts) (elapsed_at ts)
+    (number_at ts >>= λ n. Ok (Literal n.0, n.1)))))
 
 -- what a reader reads where there is room for it, and else an obstacle at the place of what owes it
 unfoldable pub within : {A : Type 0} → (limit place : ℕ) → Read A → Read A
@@ -564,25 +569,37 @@ rule_at limits sort ts = do
   body ← block_at limits limits.block limits.loop n.1
   Ok (Rules (record { sort = sort; phase = n.0; body = body.0 }), body.1)
 
--- `out port;`
-unfoldable pub out_at : List Token → Read (Name × List Token)
-out_at ts = do
-  behind ← after (kind.Keyword keyword.Out) ts
+-- the word of a rule of this sort comes first
+abbrev pub begins_rule : RuleSort → List Token → Bool
+begins_rule sort ts = begins (kind.Keyword (sort_word sort)) ts
+
+-- a rule, by its word
+unfoldable pub any_rule_at : Limits → List Token → Read (AtomicItem × List Token)
+any_rule_at limits ts =
+    choose (begins_rule sort.Output ts) (rule_at limits sort.Output ts)
+    (choose (begins_rule sort.Internal ts) (rule_at limits sort.Internal ts)
+    (choose (begins_rule sort.External ts) (rule_at limits sort.External ts)
+    (rule_at limits sort.Confluent ts)))
+
+-- a port behind a word: `in port;` or `out port;`
+unfoldable pub port_at : Keyword → List Token → Read (Name × List Token)
+port_at word ts = do
+  behind ← after (kind.Keyword word) ts
   n ← name_at behind
   rest ← after (kind.Symbol symbol.Semicolon) n.1
   Ok (n.0, rest)
 
 unfoldable pub item_at : Limits → List Token → Read (AtomicItem × List Token)
 item_at limits ts =
-    choose (begins (kind.Keyword keyword.Out) ts) (out_at ts >>= λ n. Ok (Declares (declaration.Out n.0), n.1))
+    choose (begins (kind.Keyword keyword.In) ts) (port_at keyword.In ts >>= λ n. Ok (Declares (declaration.In n.0), n.1))
+    (choose (begins (kind.Keyword keyword.Out) ts) (port_at keyword.Out ts >>= λ n. Ok (Declares (declaration.Out n.0), n.1))
     (choose (begins (kind.Keyword keyword.Var) ts) (variable_at ts >>= λ v. Ok (Declares (declaration.Var v.0), v.1))
     (choose (begins (kind.Keyword keyword.Flag) ts) (flag_at ts >>= λ f. Ok (Declares (declaration.Flag f.0), f.1))
     (choose (begins (kind.Keyword keyword.Bag) ts) (bag_at ts >>= λ b. Ok (Declares (declaration.Bag b.0), b.1))
     (choose (begins (kind.Keyword keyword.Phases) ts) (phases_at ts)
     (choose (begins (kind.Keyword keyword.Start) ts) (start_at ts)
     (choose (begins (kind.Keyword keyword.Hold) ts) (hold_at limits ts)
-    (choose (begins (kind.Keyword keyword.Output) ts) (rule_at limits sort.Output ts)
-    (rule_at limits sort.Internal ts))))))))
+    (any_rule_at limits ts))))))))
 
 unfoldable pub atomic_at : Limits → List Token → Read ((Name × List AtomicItem) × List Token)
 atomic_at limits ts = do
@@ -618,9 +635,10 @@ link_at ts = do
 
 unfoldable pub coupled_item_at : List Token → Read (CoupledItem × List Token)
 coupled_item_at ts =
-    choose (begins (kind.Keyword keyword.Out) ts) (out_at ts >>= λ n. Ok (Outputs n.0, n.1))
+    choose (begins (kind.Keyword keyword.In) ts) (port_at keyword.In ts >>= λ n. Ok (Inputs n.0, n.1))
+    (choose (begins (kind.Keyword keyword.Out) ts) (port_at keyword.Out ts >>= λ n. Ok (Outputs n.0, n.1))
     (choose (begins (kind.Keyword keyword.Part) ts) (part_at ts >>= λ p. Ok (Contains p.0, p.1))
-    (link_at ts >>= λ l. Ok (Couples l.0, l.1)))
+    (link_at ts >>= λ l. Ok (Couples l.0, l.1))))
 
 unfoldable pub coupled_at : List Token → Read ((Name × List CoupledItem) × List Token)
 coupled_at ts = do
@@ -678,6 +696,7 @@ item_of (item.Holds h) = Holds (hold_of h)
 item_of (item.Rules r) = Rules (rule_of r)
 
 abbrev pub coupled_item_of : CodeCoupledItem → CoupledItem
+coupled_item_of (coupled_item.Inputs port) = Inputs port
 coupled_item_of (coupled_item.Outputs port) = Outputs port
 coupled_item_of (coupled_item.Contains part) = Contains part
 coupled_item_of (coupled_item.Couples link) = Couples link
@@ -702,6 +721,7 @@ empty_atomic name = sorted_items name []
 abbrev pub with_coupled_items : CoupledTree → List CoupledItem → CoupledTree
 with_coupled_items m items = record {
   name = m.name;
+  inputs = m.inputs ++ (sorted_coupled_items m.name items).inputs;
   outputs = m.outputs ++ (sorted_coupled_items m.name items).outputs;
   parts = m.parts ++ (sorted_coupled_items m.name items).parts;
   links = m.links ++ (sorted_coupled_items m.name items).links;

@@ -3,7 +3,7 @@
 ghost use Rattle.std.specs.Prelude.{◌≡◌, [], OnOk, IfErr};
 ghost use Rattle.dv_syntax.specs.Trees.{ticks_of, atomic_of};
 ghost use Rattle.dv_syntax.specs.Grammar.{the_limits, sort_word};
-ghost use Rattle.dv_parser.specs.Reading.{Gives, with_front, many_at, braces_at, bound_at, variable_at, flag_at, bag_at, further_name_at, phases_at, start_at, ticks_at, hold_at, rule_at, out_at, item_at, item_of, with_item, with_items, empty_atomic, becoming, atomic_tree_at};
+ghost use Rattle.dv_parser.specs.Reading.{Gives, with_front, many_at, braces_at, bound_at, variable_at, flag_at, bag_at, further_name_at, phases_at, start_at, ticks_at, hold_at, rule_at, begins_rule, any_rule_at, port_at, item_at, item_of, with_item, with_items, empty_atomic, becoming, atomic_tree_at};
 
 use crate::expression::expression;
 use crate::parse_error::ParseError;
@@ -225,10 +225,12 @@ fn word_of(sort: RuleSort) -> Keyword
     match sort {
         RuleSort::Output => Keyword::Output,
         RuleSort::Internal => Keyword::Internal,
+        RuleSort::External => Keyword::External,
+        RuleSort::Confluent => Keyword::Confluent,
     }
 }
 
-/// `output phase { .. }` or `internal phase { .. }`
+/// `output phase { .. }`, or `internal`, `external` or `confluent` alike.
 #[tactic(auto, unfolding(crate::specs::Reading::rule_at, crate::specs::Reading::read_then))]
 fn rule(
     alloc: Global,
@@ -243,12 +245,35 @@ fn rule(
     Ok((AtomicItem::Rules(Rule { sort, phase, body }), rest))
 }
 
-/// `out port;`
-#[tactic(auto, unfolding(crate::specs::Reading::out_at, crate::specs::Reading::read_then))]
-pub fn out(tokens: &[Token]) -> Result<(Name, &[Token]), ParseError>
-    ensures { Gives (λ x. (x.0, x.1.now)) result (out_at tokens.now) }
+/// Whether the word of a rule of this sort comes first.
+fn begins_with_rule(tokens: &[Token], sort: RuleSort) -> bool
+    ensures { result ≡ begins_rule sort tokens.now }
 {
-    let rest = after_keyword(tokens, Keyword::Out)?;
+    begins_with_keyword(tokens, word_of(sort))
+}
+
+/// A rule, by its word.
+#[tactic(auto, unfolding(crate::specs::Reading::any_rule_at, crate::specs::Reading::choose))]
+fn any_rule(alloc: Global, tokens: &[Token]) -> Result<(AtomicItem, &[Token]), ParseError>
+    ensures { Gives (λ x. (item_of x.0, x.1.now)) result (any_rule_at the_limits tokens.now) }
+{
+    if begins_with_rule(tokens, RuleSort::Output) {
+        rule(alloc, tokens, RuleSort::Output)
+    } else if begins_with_rule(tokens, RuleSort::Internal) {
+        rule(alloc, tokens, RuleSort::Internal)
+    } else if begins_with_rule(tokens, RuleSort::External) {
+        rule(alloc, tokens, RuleSort::External)
+    } else {
+        rule(alloc, tokens, RuleSort::Confluent)
+    }
+}
+
+/// A port behind a word: `in port;` or `out port;`
+#[tactic(auto, unfolding(crate::specs::Reading::port_at, crate::specs::Reading::read_then))]
+pub fn port(tokens: &[Token], word: Keyword) -> Result<(Name, &[Token]), ParseError>
+    ensures { Gives (λ x. (x.0, x.1.now)) result (port_at word tokens.now) }
+{
+    let rest = after_keyword(tokens, word)?;
     let (port, rest) = name(rest)?;
     let rest = after_symbol(rest, Symbol::Semicolon)?;
     Ok((port, rest))
@@ -259,8 +284,11 @@ pub fn out(tokens: &[Token]) -> Result<(Name, &[Token]), ParseError>
 fn item(alloc: Global, tokens: &[Token]) -> Result<(AtomicItem, &[Token]), ParseError>
     ensures { Gives (λ x. (item_of x.0, x.1.now)) result (item_at the_limits tokens.now) }
 {
-    if begins_with_keyword(tokens, Keyword::Out) {
-        let (port, rest) = out(tokens)?;
+    if begins_with_keyword(tokens, Keyword::In) {
+        let (port, rest) = port(tokens, Keyword::In)?;
+        Ok((AtomicItem::Declares(Declaration::In(port)), rest))
+    } else if begins_with_keyword(tokens, Keyword::Out) {
+        let (port, rest) = port(tokens, Keyword::Out)?;
         Ok((AtomicItem::Declares(Declaration::Out(port)), rest))
     } else if begins_with_keyword(tokens, Keyword::Var) {
         let (variable, rest) = match variable(tokens) {
@@ -283,10 +311,8 @@ fn item(alloc: Global, tokens: &[Token]) -> Result<(AtomicItem, &[Token]), Parse
         start(tokens)
     } else if begins_with_keyword(tokens, Keyword::Hold) {
         hold(alloc, tokens)
-    } else if begins_with_keyword(tokens, Keyword::Output) {
-        rule(alloc, tokens, RuleSort::Output)
     } else {
-        rule(alloc, tokens, RuleSort::Internal)
+        any_rule(alloc, tokens)
     }
 }
 

@@ -4,7 +4,7 @@ ghost use Rattle.std.specs.Prelude.{◌≡◌, OnOk, IfErr};
 ghost use Rattle.dv_syntax.specs.Trees.{coupled_of};
 ghost use Rattle.dv_parser.specs.Reading.{Gives, many_at, braces_at, end_at, part_at, link_at, coupled_item_at, coupled_item_of, with_coupled_item, with_coupled_items, empty_coupled, becoming, coupled_tree_at};
 
-use crate::atomic::out;
+use crate::atomic::port;
 use crate::parse_error::ParseError;
 use crate::token::{
     after_keyword, after_symbol, begins_with_keyword, begins_with_symbol, first_place, name,
@@ -16,6 +16,7 @@ use std::alloc::Global;
 /// An item of a coupled model.
 #[derive(Clone, Copy, Debug, PartialEq, Eq)]
 pub enum CoupledItem {
+    Inputs(Name),
     Outputs(Name),
     Contains(Part),
     Couples(Link),
@@ -77,8 +78,11 @@ fn link(tokens: &[Token]) -> Result<(Link, &[Token]), ParseError>
 fn item(tokens: &[Token]) -> Result<(CoupledItem, &[Token]), ParseError>
     ensures { Gives (λ x. (coupled_item_of x.0, x.1.now)) result (coupled_item_at tokens.now) }
 {
-    if begins_with_keyword(tokens, Keyword::Out) {
-        let (port, rest) = out(tokens)?;
+    if begins_with_keyword(tokens, Keyword::In) {
+        let (port, rest) = port(tokens, Keyword::In)?;
+        Ok((CoupledItem::Inputs(port), rest))
+    } else if begins_with_keyword(tokens, Keyword::Out) {
+        let (port, rest) = port(tokens, Keyword::Out)?;
         Ok((CoupledItem::Outputs(port), rest))
     } else if begins_with_keyword(tokens, Keyword::Part) {
         let (part, rest) = part(tokens)?;
@@ -96,6 +100,7 @@ fn add(coupled: &mut Coupled, item: CoupledItem) -> Result<(), ParseError>
     ensures memory { IfErr result (λ e. e ≡ ParseError.Memory) }
 {
     match item {
+        CoupledItem::Inputs(port) => coupled.inputs.push(port)?,
         CoupledItem::Outputs(port) => coupled.outputs.push(port)?,
         CoupledItem::Contains(part) => coupled.parts.push(part)?,
         CoupledItem::Couples(link) => coupled.links.push(link)?,
@@ -124,6 +129,7 @@ fn empty(alloc: Global, name: Name) -> Coupled
 {
     Coupled {
         name,
+        inputs: Vec::new(alloc),
         outputs: Vec::new(alloc),
         parts: Vec::new(alloc),
         links: Vec::new(alloc),

@@ -3,7 +3,7 @@
 ghost use Rattle.std.specs.Prelude.{◌≡◌, ◌+◌, ◌-◌, ◌<◌, ◌≤◌, IfOk, MatchOption, None, Some};
 ghost use Rattle.dv_syntax.specs.Trees.{expression_of};
 ghost use Rattle.dv_syntax.specs.Grammar.{prefix_kind, prefix_rank, operator_rank, left_rank, rank, depth};
-ghost use Rattle.dv_parser.specs.Reading.{Gives, operator_of, keyword_operator, symbol_operator, goes_on, operator_at, place_at, call_at, leaf_at, parens_at, prefixed_at, times_at, begins_prefix, primary_at, expression_at};
+ghost use Rattle.dv_parser.specs.Reading.{Gives, operator_of, keyword_operator, symbol_operator, goes_on, operator_at, place_at, call_at, elapsed_at, leaf_at, parens_at, prefixed_at, times_at, begins_prefix, primary_at, expression_at};
 
 use crate::parse_error::ParseError;
 use crate::token::{
@@ -126,6 +126,7 @@ fn rank_of(expression: &Expr) -> u32
         | Expr::Named(_)
         | Expr::Parens { .. }
         | Expr::Call { .. }
+        | Expr::Elapsed { .. }
         | Expr::Times { .. } => SINGLE,
     }
 }
@@ -167,7 +168,18 @@ fn call(tokens: &[Token]) -> Result<(Expr, &[Token]), ParseError>
     Ok((Expr::Call { call, place, bag }, rest))
 }
 
-/// A name, a truth value, a call or a number, and what follows it.
+/// `elapsed`, and what follows it.
+#[tactic(auto, unfolding(crate::specs::Reading::elapsed_at, crate::specs::Reading::read_then))]
+fn elapsed(tokens: &[Token]) -> Result<(Expr, &[Token]), ParseError>
+    ensures gives { Gives (λ x. (expression_of x.0, x.1.now)) result (elapsed_at tokens.now) }
+    ensures depth { IfOk result (λ x. depth (expression_of x.0) ≡ 1) }
+{
+    let place = first_place(tokens);
+    let rest = after_keyword(tokens, Keyword::Elapsed)?;
+    Ok((Expr::Elapsed { place }, rest))
+}
+
+/// A name, a truth value, a call, `elapsed` or a number, and what follows it.
 #[tactic(auto, unfolding(crate::specs::Reading::leaf_at, crate::specs::Reading::read_then, crate::specs::Reading::choose))]
 fn leaf(tokens: &[Token]) -> Result<(Expr, &[Token]), ParseError>
     ensures gives { Gives (λ x. (expression_of x.0, x.1.now)) result (leaf_at tokens.now) }
@@ -182,6 +194,8 @@ fn leaf(tokens: &[Token]) -> Result<(Expr, &[Token]), ParseError>
         Ok((Expr::TruthValue { place, value }, rest))
     } else if begins_with_call(tokens) {
         call(tokens)
+    } else if begins_with_keyword(tokens, Keyword::Elapsed) {
+        elapsed(tokens)
     } else {
         let (number, rest) = match number(tokens) {
             Ok(read) => read,

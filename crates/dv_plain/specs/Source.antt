@@ -1,10 +1,10 @@
 -- The resultant of a text: the network of its components, whose behaviours are the meanings of their rules.
-use Rattle.std.specs.Prelude.{ℕ, true, false, List, [], length, map, Option, Some, None, Result, Ok, Err}
+use Rattle.std.specs.Prelude.{ℕ, true, false, List, [], length, map, option_map, Option, Some, None, Result, Ok, Err}
 use Rattle.std.specs.List.{range_with_len}
 use Rattle.dv_time.specs.Time.{end_of}
-use Rattle.dv_syntax.specs.Trees.{AtomicTree, FileTree}
+use Rattle.dv_syntax.specs.Trees.{AtomicTree, FileTree, Statements}
 use Rattle.dv_syntax.specs.declared.tree.RuleSort.{RuleSort}
-use Rattle.dv_syntax.specs.declared.tree.RuleSort.TheVariants.{Output, Internal}
+use Rattle.dv_syntax.specs.declared.tree.RuleSort.TheVariants.{Output, Internal, External, Confluent}
 use Rattle.dv_bag.specs.Bag.{Counts}
 use Rattle.dv_devs.specs.Behaviour.{Behaviour, Change, Component, end_of_hold}
 use Rattle.dv_bag.specs.Outcome.{◌>>=◌}
@@ -13,8 +13,8 @@ use Rattle.dv_bag.specs.Part.{PartOf}
 use Rattle.dv_bag.specs.declared.fault.Fault.{Fault}
 use Rattle.dv_bag.specs.declared.state.State.{State}
 use Rattle.dv_bag.specs.declared.state.Effect.{Effect}
-use Rattle.dv_eval.specs.Scope.{scope_of, start_state, rule_body, hold_ticks, phase_name}
-use Rattle.dv_eval.specs.Meaning.{effect_of, hold_of}
+use Rattle.dv_eval.specs.Scope.{scope_of, start_state, rule_body, rule_of, hold_ticks, phase_name}
+use Rattle.dv_eval.specs.Meaning.{Arrivals, nothing_arrived, effect_of, hold_of}
 use Rattle.dv_tree.specs.Instances.{Instance, instances}
 use Rattle.dv_tree.specs.Routing.{arrives, leaves}
 
@@ -24,17 +24,24 @@ state_by_goto s None = record { state = s; goes = false }
 state_by_goto s (Some phase) = record { state = record { phase = phase; variables = s.variables }; goes = true }
 
 -- the effect of a model's rule for the phase of a state
-abbrev pub rule_effect : AtomicTree → RuleSort → State → Result Effect Fault
-rule_effect m sort s = effect_of (scope_of m) (rule_body sort (phase_name (scope_of m) s.phase) m.rules) s
+abbrev pub rule_effect : AtomicTree → RuleSort → Arrivals → State → Result Effect Fault
+rule_effect m sort arrivals s = effect_of (scope_of m) (rule_body sort (phase_name (scope_of m) s.phase) m.rules) arrivals s
 
--- The behaviour of an atomic model of the text. A text has no external and no confluent rules, and a missing external rule is
--- an empty one.
+-- what a rule that changes the state leaves
+abbrev pub change_by : AtomicTree → Statements → Arrivals → State → Result Change Fault
+change_by m body arrivals s = effect_of (scope_of m) body arrivals s >>= λ e. Ok (state_by_goto e.state e.goto)
+
+-- The behaviour of an atomic model of the text. A missing output, internal or external rule is an empty one; a phase without a
+-- confluent rule has the default confluent transition.
 abbrev pub behaviour_of : AtomicTree → Behaviour
 behaviour_of m = record {
-  output = λ s. rule_effect m Output s >>= λ e. Ok e.sent;
-  internal = λ s. rule_effect m Internal s >>= λ e. Ok (state_by_goto e.state e.goto);
-  external = λ elapsed bags s. Ok (record { state = s; goes = false });
-  confluent = λ bags s. None;
+  output = λ s. rule_effect m Output nothing_arrived s >>= λ e. Ok e.sent;
+  internal = λ s. rule_effect m Internal nothing_arrived s >>= λ e. Ok (state_by_goto e.state e.goto);
+  external = λ elapsed bags s.
+      rule_effect m External (record { received = bags; elapsed = elapsed }) s >>= λ e. Ok (state_by_goto e.state e.goto);
+  confluent = λ bags s.
+      option_map (λ body. change_by m body (record { received = bags; elapsed = 0 }) s)
+      (rule_of Confluent (phase_name (scope_of m) s.phase) m.rules);
   hold = λ s. hold_of (scope_of m) (hold_ticks (phase_name (scope_of m) s.phase) m.holds) s;
 }
 
@@ -51,7 +58,7 @@ first_component s (Err f) = record { state = s; last = 0; next = None; quiet = t
 abbrev pub start_of : ℕ → AtomicTree → Component
 start_of limit m = first_component (start_state m) (hold_end limit (behaviour_of m) 0 (start_state m))
 
--- the network of a text
+-- the network of a text without input ports
 abbrev pub network_of : ℕ → FileTree → Network (List Counts)
 network_of limit f = record {
   numbers = range_with_len 0 (length (instances f));
@@ -65,6 +72,6 @@ network_of limit f = record {
 abbrev pub no_input : ℕ → List Counts
 no_input n = []
 
--- the trace of a text's resultant to a horizon, under a microstep limit
+-- the trace of the resultant of a text without input ports, to a horizon, under a microstep limit
 abbrev pub trace_of : FileTree → (horizon limit : ℕ) → PartOf
 trace_of f horizon limit = trace_before limit (network_of limit f) no_input (end_of limit horizon)

@@ -9,7 +9,7 @@ ghost use Rattle.dv_plain.specs.Source.{behaviour_of, state_by_goto};
 ghost use Rattle.dv_plain.specs.Transitions.{internal_state};
 
 use dv_bag::{Fault, RuleError, Sent, State};
-use dv_eval::{Scope, phase_hold, rule_body, run_rule};
+use dv_eval::{Arrivals, Scope, phase_hold, rule_body, run_rule};
 use dv_syntax::{Atomic, RuleSort};
 use dv_tree::Tree;
 use std::alloc::Global;
@@ -40,7 +40,7 @@ impl<'m> Atom<'m> {
         ensures { Gives result ((behaviour_of (atomic_of self.now.model.now)).output state.now) }
     {
         let statements = rule_body(self.model, RuleSort::Output, self.phase_name(state));
-        Ok(run_rule(alloc, statements, state, self.scope)?.sent)
+        Ok(run_rule(alloc, statements, state, &Arrivals::nothing(), self.scope)?.sent)
     }
 
     /// The state after the internal rule.
@@ -49,7 +49,7 @@ impl<'m> Atom<'m> {
             (internal_state (behaviour_of (atomic_of self.now.model.now)) state.now) }
     {
         let statements = rule_body(self.model, RuleSort::Internal, self.phase_name(state));
-        let effect = run_rule(alloc, statements, state, self.scope)?;
+        let effect = run_rule(alloc, statements, state, &Arrivals::nothing(), self.scope)?;
         Ok(state_by_goto(effect.state, effect.goto))
     }
 

@@ -26,7 +26,7 @@ fn same_examples<R: Abort + AllocGlobal>(
 
 #[test]
 fn refusals_are_as_explained(rt: HostRuntime) {
-    same_examples(&rt, REFUSALS, "", 14);
+    same_examples(&rt, REFUSALS, "", 15);
 }
 
 #[test]

@@ -13,6 +13,8 @@ mod models;
 #[cfg(test)]
 mod order;
 #[cfg(test)]
+mod ports;
+#[cfg(test)]
 mod rows;
 #[cfg(test)]
 mod runs;

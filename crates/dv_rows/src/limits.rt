@@ -8,6 +8,9 @@ use std::process::Abort;
 /// What comes of a text of this page that is taken, to the horizon 0.
 const FINE: &str = "whole 0\nstatus 0";
 
+/// What comes of a text with input ports that is taken.
+const NOT_YET: &str = "not yet";
+
 /// A text in which two pieces stand so many times around a third.
 struct Nest {
     before: &'static str,
@@ -141,6 +144,14 @@ const OUTPUTS: Numbered = Numbered {
     after: "phases z; start z; hold z: 9; } coupled Top { part a: A; } root Top;",
 };
 
+/// A model with an output port and these.
+const INPUTS: Numbered = Numbered {
+    before: "atomic A { out y; ",
+    left: "in i",
+    right: ";",
+    after: "phases z; start z; hold z: 9; } coupled Top { part a: A; } root Top;",
+};
+
 const VARIABLES: Numbered = Numbered {
     before: "atomic A { ",
     left: "var v",
@@ -169,6 +180,14 @@ const PARTS: Numbered = Numbered {
     left: "part p",
     right: ": A;",
     after: "} root Top;",
+};
+
+/// A root with an output port and these.
+const INPUTS_OF_THE_ROOT: Numbered = Numbered {
+    before: "atomic A { phases z; start z; hold z: 9; } coupled Top { ",
+    left: "in i",
+    right: ";",
+    after: "out o; part a: A; } root Top;",
 };
 
 const OUTPUTS_OF_THE_ROOT: Numbered = Numbered {
@@ -229,6 +248,9 @@ fn same_phases<R: Abort + AllocGlobal>(rt: &R, count: u32, wanted: &str) {
 fn names_of_one_kind(rt: HostRuntime) {
     same_numbered(&rt, &OUTPUTS, 4_096, FINE);
     same_numbered(&rt, &OUTPUTS, 4_097, "E17 line 1");
+    // With the output port these are 4,096 and 4,097.
+    same_numbered(&rt, &INPUTS, 4_095, NOT_YET);
+    same_numbered(&rt, &INPUTS, 4_096, "E17 line 1");
     same_numbered(&rt, &VARIABLES, 4_096, FINE);
     same_numbered(&rt, &VARIABLES, 4_097, "E17 line 1");
     // With the variable these are 4,096 and 4,097.
@@ -240,6 +262,8 @@ fn names_of_one_kind(rt: HostRuntime) {
     same_numbered(&rt, &PARTS, 4_097, "E17 line 1");
     same_numbered(&rt, &OUTPUTS_OF_THE_ROOT, 4_096, FINE);
     same_numbered(&rt, &OUTPUTS_OF_THE_ROOT, 4_097, "E17 line 1");
+    same_numbered(&rt, &INPUTS_OF_THE_ROOT, 4_095, NOT_YET);
+    same_numbered(&rt, &INPUTS_OF_THE_ROOT, 4_096, "E17 line 1");
     // With z these are 4,096 and 4,097.
     same_phases(&rt, 4_095, FINE);
     same_phases(&rt, 4_096, "E17 line 1");

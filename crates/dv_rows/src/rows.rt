@@ -97,7 +97,7 @@ fn atomic_models_are_refused(rt: HostRuntime) {
         &ATOMIC_MODELS,
         &[
             (
-                "atomic A { phases z; start z; hold z: 1; in x; }",
+                "atomic A { phases z; start z; hold z: 1; in x, y; }",
                 "E4 line 1",
             ),
             (

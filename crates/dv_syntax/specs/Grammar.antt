@@ -28,8 +28,8 @@ use Rattle.dv_syntax.specs.declared.tree.Start.{Start}
 use Rattle.dv_syntax.specs.declared.tree.RuleSort.{RuleSort}
 use Rattle.dv_syntax.specs.declared.tree.RuleSort.TheVariants as sort
 use Rattle.dv_syntax.specs.declared.tree.End.{End}
-use Rattle.dv_syntax.specs.Trees.{Expression, Literal, TruthValue, Named, Parens, Prefixed, Binary, Call, Times, Statements, Done, Assign, Goto, Send, If, IfElse, For, Add, Drop, PhasesTree, HoldTree, RuleTree, FileTree}
-use Rattle.dv_syntax.specs.Written.{AtomicItem, Declares, Lists, Starts, Holds, Rules, CoupledItem, Outputs, Contains, Couples, WrittenModel, WrittenAtomic, WrittenCoupled, WrittenFile, sorted}
+use Rattle.dv_syntax.specs.Trees.{Expression, Literal, TruthValue, Named, Parens, Prefixed, Binary, Call, Elapsed, Times, Statements, Done, Assign, Goto, Send, If, IfElse, For, Add, Drop, PhasesTree, HoldTree, RuleTree, FileTree}
+use Rattle.dv_syntax.specs.Written.{AtomicItem, Declares, Lists, Starts, Holds, Rules, CoupledItem, Inputs, Outputs, Contains, Couples, WrittenModel, WrittenAtomic, WrittenCoupled, WrittenFile, sorted}
 
 -- ---- Spellings
 
@@ -117,6 +117,7 @@ expression_spelling (Named n) = name n ∷ []
 expression_spelling (Parens place e) = At (kind.Symbol symbol.OpenParen) place ∷ (expression_spelling e ++ sign symbol.CloseParen ∷ [])
 expression_spelling (Prefixed o place e) = At (prefix_kind o) place ∷ expression_spelling e
 expression_spelling (Binary o a b) = expression_spelling a ++ Anywhere (operator_kind o) ∷ expression_spelling b
+expression_spelling (Elapsed place) = word_at keyword.Elapsed place ∷ []
 expression_spelling (Call c place b) = word_at (call_word c) place ∷ sign symbol.OpenParen ∷ name b ∷ sign symbol.CloseParen ∷ []
 expression_spelling (Times place e b) = word_at keyword.Times place ∷ sign symbol.OpenParen ∷ (expression_spelling e ++ sign symbol.Comma ∷ name b ∷ sign symbol.CloseParen ∷ [])
 
@@ -166,6 +167,7 @@ rank (Parens place e) = 8
 rank (Prefixed o place e) = prefix_rank o
 rank (Binary o a b) = operator_rank o
 rank (Call c place b) = 8
+rank (Elapsed place) = 8
 rank (Times place e b) = 8
 
 -- each operand has a rank that the grammar allows there
@@ -177,6 +179,7 @@ IsWellFormed (Parens place e) = IsWellFormed e
 IsWellFormed (Prefixed o place e) = IsWellFormed e × (prefix_rank o ≤ rank e)
 IsWellFormed (Binary o a b) = IsWellFormed a × IsWellFormed b × (left_rank o ≤ rank a) × (operator_rank o < rank b)
 IsWellFormed (Call c place b) = Unit {0}
+IsWellFormed (Elapsed place) = Unit {0}
 IsWellFormed (Times place e b) = IsWellFormed e
 
 abbrev pub depth : Expression → ℕ
@@ -187,6 +190,7 @@ depth (Parens place e) = depth e + 1
 depth (Prefixed o place e) = depth e + 1
 depth (Binary o a b) = max (depth a) (depth b) + 1
 depth (Call c place b) = 1
+depth (Elapsed place) = 1
 depth (Times place e b) = depth e + 1
 
 pub record IsExpression (limits : Limits) (e : Expression) : Type 0 where
@@ -259,10 +263,14 @@ flag_spelling f = word keyword.Flag ∷ name f.name ∷ sign symbol.Equal ∷ wo
 abbrev pub bag_spelling : StateBag → List Spelled
 bag_spelling b = word keyword.Bag ∷ name b.name ∷ number b.capacity ∷ sign symbol.Semicolon ∷ []
 
+abbrev pub input_spelling : Name → List Spelled
+input_spelling n = word keyword.In ∷ name n ∷ sign symbol.Semicolon ∷ []
+
 abbrev pub output_spelling : Name → List Spelled
 output_spelling n = word keyword.Out ∷ name n ∷ sign symbol.Semicolon ∷ []
 
 abbrev pub declaration_spelling : Declaration → List Spelled
+declaration_spelling (declaration.In n) = input_spelling n
 declaration_spelling (declaration.Out n) = output_spelling n
 declaration_spelling (declaration.Var v) = variable_spelling v
 declaration_spelling (declaration.Flag f) = flag_spelling f
@@ -289,6 +297,8 @@ hold_spelling h = word_at keyword.Hold h.place ∷ name h.phase ∷ sign symbol.
 abbrev pub sort_word : RuleSort → Keyword
 sort_word sort.Output = keyword.Output
 sort_word sort.Internal = keyword.Internal
+sort_word sort.External = keyword.External
+sort_word sort.Confluent = keyword.Confluent
 
 abbrev pub rule_spelling : RuleTree → List Spelled
 rule_spelling r = word (sort_word r.sort) ∷ name r.phase ∷ braces (statements_spelling r.body)
@@ -327,6 +337,7 @@ abbrev pub link_spelling : Link → List Spelled
 link_spelling l = word_at keyword.Link l.place ∷ (end_spelling l.from ++ (sign symbol.Arrow ∷ (end_spelling l.to ++ sign symbol.Semicolon ∷ [])))
 
 abbrev pub coupled_item_spelling : CoupledItem → List Spelled
+coupled_item_spelling (Inputs n) = input_spelling n
 coupled_item_spelling (Outputs n) = output_spelling n
 coupled_item_spelling (Contains p) = part_spelling p
 coupled_item_spelling (Couples l) = link_spelling l

@@ -36,6 +36,7 @@ pub data Expression : Type 0 where
   Prefixed : (operator : Prefix) → (place : ℕ) → (operand : Expression) → Expression
   Binary : (operator : Operator) → (left right : Expression) → Expression
   Call : (call : BagCall) → (place : ℕ) → (bag : Name) → Expression
+  Elapsed : (place : ℕ) → Expression
   Times : (place : ℕ) → (value : Expression) → (bag : Name) → Expression
 
 -- a list of statements: none, or one and the rest
@@ -75,9 +76,10 @@ pub record AtomicTree : Type 0 where
   pub holds : List HoldTree
   pub rules : List RuleTree
 
--- a coupled model: its output ports, its parts, its links
+-- a coupled model: its input and output ports, its parts, its links
 pub record CoupledTree : Type 0 where
   pub name : Name
+  pub inputs : List Name
   pub outputs : List Name
   pub parts : List Part
   pub links : List Link
@@ -98,6 +100,7 @@ expression_of (expr.Parens' place p e) = Parens place (expression_of e)
 expression_of (expr.Prefixed' o place p e) = Prefixed o place (expression_of e)
 expression_of (expr.Binary' o p a q b) = Binary o (expression_of a) (expression_of b)
 expression_of (expr.Call c place b) = Call c place b
+expression_of (expr.Elapsed place) = Elapsed place
 expression_of (expr.Times' place p e b) = Times place (expression_of e) b
 
 abbrev mutual
@@ -149,7 +152,13 @@ atomic_of m = record {
 }
 
 abbrev pub coupled_of : Coupled → CoupledTree
-coupled_of m = record { name = m.name; outputs = m.outputs.items; parts = m.parts.items; links = m.links.items }
+coupled_of m = record {
+  name = m.name;
+  inputs = m.inputs.items;
+  outputs = m.outputs.items;
+  parts = m.parts.items;
+  links = m.links.items;
+}
 
 abbrev pub model_of : Model → ModelTree
 model_of (model.Atomic m) = AtomicModel (atomic_of m)

@@ -17,6 +17,7 @@ pub data AtomicItem : Type 0 where
 
 -- an item of a coupled model
 pub data CoupledItem : Type 0 where
+  Inputs : (port : Name) → CoupledItem
   Outputs : (port : Name) → CoupledItem
   Contains : (part : Part) → CoupledItem
   Couples : (link : Link) → CoupledItem
@@ -42,12 +43,13 @@ sorted_items name [] = record { name = name; declarations = []; phases = []; sta
 sorted_items name (i ∷ items) = before_items i (sorted_items name items)
 
 abbrev pub before_coupled_items : CoupledItem → CoupledTree → CoupledTree
+before_coupled_items (Inputs port) m = record m { inputs = port ∷ m.inputs }
 before_coupled_items (Outputs port) m = record m { outputs = port ∷ m.outputs }
 before_coupled_items (Contains part) m = record m { parts = part ∷ m.parts }
 before_coupled_items (Couples link) m = record m { links = link ∷ m.links }
 
 abbrev pub sorted_coupled_items : Name → List CoupledItem → CoupledTree
-sorted_coupled_items name [] = record { name = name; outputs = []; parts = []; links = [] }
+sorted_coupled_items name [] = record { name = name; inputs = []; outputs = []; parts = []; links = [] }
 sorted_coupled_items name (i ∷ items) = before_coupled_items i (sorted_coupled_items name items)
 
 abbrev pub sorted_model : WrittenModel → ModelTree

@@ -85,6 +85,10 @@ pub enum Expr {
         place: u32,
         bag: Name,
     },
+    /// `elapsed`: the ticks since the last transition
+    Elapsed {
+        place: u32,
+    },
     /// `times(value, bag)`: how often the value is in the bag
     Times {
         place: u32,
@@ -187,6 +191,8 @@ pub struct StateBag {
 /// What declares a name that ports, variables, flags and bags share.
 #[derive(Clone, Copy, Debug, PartialEq, Eq)]
 pub enum Declaration {
+    /// `in port;`
+    In(Name),
     /// `out port;`
     Out(Name),
     /// `var name: low..high = start;`
@@ -231,9 +237,11 @@ pub struct Hold {
 pub enum RuleSort {
     Output,
     Internal,
+    External,
+    Confluent,
 }
 
-/// `output phase { .. }` or `internal phase { .. }`
+/// `output phase { .. }`, and `internal`, `external` and `confluent` alike
 #[derive(Debug, Drop)]
 pub struct Rule {
     pub sort: RuleSort,
@@ -278,6 +286,7 @@ pub struct Link {
 #[derive(Debug, Drop)]
 pub struct Coupled {
     pub name: Name,
+    pub inputs: Vec<Name>,
     pub outputs: Vec<Name>,
     pub parts: Vec<Part>,
     pub links: Vec<Link>,

@@ -20,7 +20,7 @@ few_parts f h =
 few_ports : (f : FileTree) → IsAcceptedFile f → length (root_ports f) ≤ GREATEST_NAMES
 few_ports f h =
     let Few : Option ModelTree → Type 0 = λ o. length (outputs_in (coupled_model o)) ≤ GREATEST_NAMES in subst Few
-    (sym h.named) h.coupled.few_outputs
+    (sym h.named) (omega (arith, h.coupled.few_ports))
 
 pub few_components : (f : FileTree) → IsAcceptedFile f → length (instances f) ≤ GREATEST_NAMES
 few_components f h = omega (arith, length-instances f.models (root_parts f) (parts_accepted f h), few_parts f h)

@@ -1,4 +1,5 @@
 use Rattle.dv_eval.specs.Scope.{scope_of}
+use Rattle.dv_accepted.proofs.Inputs.{port_read}
 use Rattle.dv_accepted.proofs.Known.{datum_held, holds_known, rules_known}
 use Rattle.dv_accepted.proofs.laws.accepted_names_are_known.Goals as goal
 
@@ -10,3 +11,6 @@ returns-clause-holds c = holds_known
 
 pub returns-clause-values : goal.returns-clause-values
 returns-clause-values c = λ m s name d fit known. datum_held (scope_of m) s name d fit known
+
+pub returns-clause-inputs : goal.returns-clause-inputs
+returns-clause-inputs c = port_read

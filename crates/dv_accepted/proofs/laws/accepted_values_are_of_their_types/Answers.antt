@@ -6,7 +6,7 @@ pub returns-clause-typed : goal.returns-clause-typed
 returns-clause-typed c = place_typed
 
 pub returns-clause-value : goal.returns-clause-value
-returns-clause-value c = λ m s e t v fit typed is. value_typed m [] s fit e t v typed is
+returns-clause-value c = λ m rule arrivals s e t v fit typed is. value_typed m rule arrivals [] s fit e t v typed is
 
 pub returns-clause-in_loops : goal.returns-clause-in_loops
-returns-clause-in_loops c = λ m bound s e t v fit typed is. value_typed m bound s fit e t v typed is
+returns-clause-in_loops c = λ m rule arrivals bound s e t v fit typed is. value_typed m rule arrivals bound s fit e t v typed is

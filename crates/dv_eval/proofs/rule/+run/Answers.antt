@@ -1,12 +1,12 @@
-use Rattle.std.proofs.Common.{◌≡◌, [], ◌∷◌, ℤ, Option, unwrap_or, pos, Ok, ap, sym, ◌∙◌, get_or, subst, true, false, rules, w64}
+use Rattle.std.proofs.Common.{◌≡◌, [], ℤ, Option, unwrap_or, pos, Ok, ap, sym, ◌∙◌, get_or, subst, true, false, rules, w64}
 use Rattle.std.proofs.lemmas.Int.{to_z-of_z}
 use Rattle.std.proofs.lemmas.Result.{err_from_is_err_and}
 use Rattle.dv_syntax.specs.Trees.{Done, For, If, IfElse, expression_of, statement_before, statements_of}
 use Rattle.dv_bag.specs.Bag.{Counts, values_of}
 use Rattle.dv_bag.specs.Outcome.{Fails, Gives}
 use Rattle.dv_eval.specs.Copies.{repeated}
-use Rattle.dv_eval.specs.Loops.{loops_of}
-use Rattle.dv_eval.specs.Meaning.{addition, bag_of_name, moment_in, repetition, run}
+use Rattle.dv_eval.specs.Contexts.{context_of}
+use Rattle.dv_eval.specs.Meaning.{addition, bag_of_name, in_loop, moment_in, repetition, run}
 use Rattle.dv_eval.proofs.Rules.{run-drop_ok, run-drop_err, run-If, run-IfElse, run-For, run-Assign, run-Add, repeated_fails, repeated_next, repetition_fails, repetition_next}
 use Rattle.dv_eval.proofs.rule.+run.Goals as goal
 
@@ -14,14 +14,14 @@ pub run-returns-in_err-effect : goal.run-returns-in_err-effect
 run-returns-in_err-effect t c =
     let p = err_from_is_err_and c.from_residual.result c.from_residual.ensures.1 in
     let at = c.loop-statement in
-    let fails = run-drop_err c.args.scope.now (loops_of c.args.loops.now) c.args.statements.now at.statement-index c.statement-item.result
+    let fails = run-drop_err c.args.scope.now (context_of c.args.context.now) c.args.statements.now at.statement-index c.statement-item.result
     at.effect _ c.in_err-effect.field-0.0 c.loop-statement-test.true c.statement-item.is at.invariant c.in_err-effect.ensures in
     rw (p.1, p.2) fails
 
 pub run-loop-statement-preserved : goal.run-loop-statement-preserved
 run-loop-statement-preserved t c =
     let at = c.loop-statement in
-    run-drop_ok c.args.scope.now (loops_of c.args.loops.now) c.args.statements.now at.statement-index c.statement-item.result
+    run-drop_ok c.args.scope.now (context_of c.args.context.now) c.args.statements.now at.statement-index c.statement-item.result
     at.effect c.in_ok-effect.effect _ c.loop-statement-test.true c.statement-item.is at.invariant c.in_ok-effect.ensures
 
 pub run_statement-returns-then-truth_of : goal.run_statement-returns-then-truth_of
@@ -35,7 +35,7 @@ run_statement-returns-then-truth_of t c =
     ∙ ap (λ items. If place (expression_of e) (statements_of items) Done) (sym c.deref.ensures.value) in
     let holds = sym c.truth_of.ensures ∙ c.if-truth_of.true in
     let value = c.in_ok-condition-in-If in
-    let taken = run-If c.args.scope.now (loops_of c.args.loops.now) c.args.statement.now place c.args.effect (expression_of e) block
+    let taken = run-If c.args.scope.now (context_of c.args.context.now) c.args.statement.now place c.args.effect (expression_of e) block
     value.condition tree value.ensures holds in
     subst (Gives c.run.result) (sym taken) c.run.ensures
 
@@ -51,7 +51,7 @@ run_statement-returns-then-truth_of-2 t c =
     ∙ ap (λ items. IfElse place (expression_of e) (statements_of items) other Done) (sym c.deref-then-truth_of-2.ensures.value) in
     let holds = sym c.truth_of-in-IfElse.ensures ∙ c.if-truth_of-2.true in
     let value = c.in_ok-condition-in-IfElse in
-    let taken = run-IfElse c.args.scope.now (loops_of c.args.loops.now) c.args.statement.now place c.args.effect (expression_of e) block
+    let taken = run-IfElse c.args.scope.now (context_of c.args.context.now) c.args.statement.now place c.args.effect (expression_of e) block
     other value.condition true tree value.ensures holds in
     subst (Gives c.run-then-truth_of-2.result) (sym taken) c.run-then-truth_of-2.ensures
 
@@ -67,27 +67,27 @@ run_statement-returns-else-truth_of-2 t c =
     ∙ ap (λ items. IfElse place (expression_of e) block (statements_of items) Done) (sym c.deref-else-truth_of-2.ensures.value) in
     let fails = sym c.truth_of-in-IfElse.ensures ∙ c.if-truth_of-2.false in
     let value = c.in_ok-condition-in-IfElse in
-    let taken = run-IfElse c.args.scope.now (loops_of c.args.loops.now) c.args.statement.now place c.args.effect (expression_of e) block
+    let taken = run-IfElse c.args.scope.now (context_of c.args.context.now) c.args.statement.now place c.args.effect (expression_of e) block
     other value.condition false tree value.ensures fails in
     subst (Gives c.run-else-truth_of-2.result) (sym taken) c.run-else-truth_of-2.ensures
 
 pub run_copies-returns-in_err-effect : goal.run_copies-returns-in_err-effect
 run_copies-returns-in_err-effect t c =
     let p = err_from_is_err_and c.from_residual.result c.from_residual.ensures.1 in
-    let step = run c.args.scope.now (loops_of c.args.loops.now) (statements_of c.args.block.now) in
+    let step = run c.args.scope.now (context_of c.args.context.now) (statements_of c.args.block.now) in
     let fails = repeated_fails step c.args.copies c.loop.counter c.loop.effect _ c.loop-test.true c.loop.invariant
     c.in_err-effect.field-0.0 c.in_err-effect.ensures in
     rw (p.1, p.2) fails
 
 pub run_copies-loop-preserved : goal.run_copies-loop-preserved
 run_copies-loop-preserved t c =
-    let step = run c.args.scope.now (loops_of c.args.loops.now) (statements_of c.args.block.now) in
+    let step = run c.args.scope.now (context_of c.args.context.now) (statements_of c.args.block.now) in
     repeated_next step c.args.copies c.loop.counter c.loop.effect _ c.loop-test.true c.loop.invariant c.in_ok-effect.effect c.in_ok-effect.ensures
 
 pub run_loop-returns-in_err-effect : goal.run_loop-returns-in_err-effect
 run_loop-returns-in_err-effect t c =
     let p = err_from_is_err_and c.from_residual.result c.from_residual.ensures.1 in
-    let step = λ (n : ℤ). run c.args.scope.now ((c.args.variable, n) ∷ loops_of c.args.loops.now) (statements_of c.args.block.now) in
+    let step = λ (n : ℤ). run c.args.scope.now (in_loop (c.args.variable, n) (context_of c.args.context.now)) (statements_of c.args.block.now) in
     let at = c.loop-pair in
     let pair = get_or c.args.pairs.now at.pair-index (pos 0, 0) in
     let error = c.in_err-effect.field-0.0 in
@@ -98,7 +98,7 @@ run_loop-returns-in_err-effect t c =
 
 pub run_loop-loop-pair-preserved : goal.run_loop-loop-pair-preserved
 run_loop-loop-pair-preserved t c =
-    let step = λ (n : ℤ). run c.args.scope.now ((c.args.variable, n) ∷ loops_of c.args.loops.now) (statements_of c.args.block.now) in
+    let step = λ (n : ℤ). run c.args.scope.now (in_loop (c.args.variable, n) (context_of c.args.context.now)) (statements_of c.args.block.now) in
     let at = c.loop-pair in
     let pair = get_or c.args.pairs.now at.pair-index (pos 0, 0) in
     let next = c.in_ok-effect.effect in
@@ -113,16 +113,16 @@ run_statement-returns-in-Some t c =
     let b = c.in-For.bag in
     let block = statements_of c.deref-in-Some.result.now in
     let scope = c.args.scope.now in
-    let loops = loops_of c.args.loops.now in
+    let context = context_of c.args.context.now in
     let tree =
     ap (λ s. statement_before s Done) c.in-For.is
     ∙ c.trees_keep_blocks.ensures.repeated place v b c.in-For.block Done
     ∙ ap (λ items. For place v b (statements_of items) Done) (sym c.deref-in-Some.ensures.value) in
-    let walked : c.pairs.result.now ≡ bag_of_name scope (moment_in loops c.args.effect.state) b.number =
+    let walked : c.pairs.result.now ≡ bag_of_name scope (moment_in context c.args.effect.state) b.number =
     c.pairs.ensures.walk ∙ ap (λ (bag : Option Counts). unwrap_or bag []) (sym c.in-Some.is) ∙ c.in_ok-values-in-For.ensures in
     let whole =
-    ap (λ values. repetition (λ n. run scope ((v.number, n) ∷ loops) block) (values_of values) c.args.effect) walked
-    ∙ sym (run-For scope loops c.args.statement.now place c.args.effect v b block tree) in
+    ap (λ values. repetition (λ n. run scope (in_loop (v.number, n) context) block) (values_of values) c.args.effect) walked
+    ∙ sym (run-For scope context c.args.statement.now place c.args.effect v b block tree) in
     subst (Gives c.run_loop.result) whole c.run_loop.ensures
 
 pub run_statement-returns-in_ok-value-in-Add : goal.run_statement-returns-in_ok-value-in-Add
@@ -131,13 +131,13 @@ run_statement-returns-in_ok-value-in-Add t c =
     let value = c.in_ok-value-in-Add in
     let number = to_z-of_z w64 c.number_of.result (search rules) ∙ c.number_of.ensures in
     let added = ap (λ (n : ℤ). addition c.args.scope.now b.number n c.args.effect) number in
-    let whole = run-Add c.args.scope.now (loops_of c.args.loops.now) c.args.statement.now c.in-Add.place c.args.effect c.in-Add.value b
+    let whole = run-Add c.args.scope.now (context_of c.args.context.now) c.args.statement.now c.in-Add.place c.args.effect c.in-Add.value b
     value.value c.in-Add.is value.ensures in
     subst (Gives c.add.result) (added ∙ sym whole) c.add.ensures
 
 pub run_statement-returns-in_ok-value-in-Assign : goal.run_statement-returns-in_ok-value-in-Assign
 run_statement-returns-in_ok-value-in-Assign t c =
     let value = c.in_ok-value-in-Assign in
-    let whole = run-Assign c.args.scope.now (loops_of c.args.loops.now) c.args.statement.now c.args.effect c.in-Assign.variable
+    let whole = run-Assign c.args.scope.now (context_of c.args.context.now) c.args.statement.now c.args.effect c.in-Assign.variable
     c.in-Assign.value value.value c.in-Assign.is value.ensures in
     subst (Gives c.assign.result) (sym whole) c.assign.ensures

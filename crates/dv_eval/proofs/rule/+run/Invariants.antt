@@ -1,9 +1,9 @@
-use Rattle.std.proofs.Common.{◌≡◌, ◌+◌, ◌-◌, ◌*◌, ◌∷◌, ℤ, drop}
+use Rattle.std.proofs.Common.{◌≡◌, ◌+◌, ◌-◌, ◌*◌, ℤ, drop}
 use Rattle.dv_syntax.specs.Trees.{statements_of}
 use Rattle.dv_bag.specs.Bag.{values_of}
 use Rattle.dv_eval.specs.Copies.{repeated}
-use Rattle.dv_eval.specs.Loops.{loops_of}
-use Rattle.dv_eval.specs.Meaning.{repetition, run}
+use Rattle.dv_eval.specs.Contexts.{context_of}
+use Rattle.dv_eval.specs.Meaning.{in_loop, repetition, run}
 use Rattle.dv_eval.proofs.rule.+run.Given as goal
 
 abbrev pub decreases-run_statement : goal.decreases-run_statement
@@ -20,15 +20,15 @@ decreases-run l = 4 * goal.size-run l + 1
 
 abbrev pub invariant-run-loop-statement : goal.invariant-run-loop-statement
 invariant-run-loop-statement l =
-    run l.scope (loops_of l.loops) (statements_of (drop l.statement-index l.statements)) l.effect
-    ≡ run l.scope (loops_of l.loops) (statements_of l.statements) l.fn.effect
+    run l.scope (context_of l.context) (statements_of (drop l.statement-index l.statements)) l.effect
+    ≡ run l.scope (context_of l.context) (statements_of l.statements) l.fn.effect
 
 abbrev pub invariant-run_loop-loop-pair : goal.invariant-run_loop-loop-pair
 invariant-run_loop-loop-pair l =
-    let step = λ (n : ℤ). run l.scope ((l.variable, n) ∷ loops_of l.loops) (statements_of l.block) in
+    let step = λ (n : ℤ). run l.scope (in_loop (l.variable, n) (context_of l.context)) (statements_of l.block) in
     repetition step (values_of (drop l.pair-index l.pairs)) l.effect ≡ repetition step (values_of l.pairs) l.fn.effect
 
 abbrev pub invariant-run_copies-loop : goal.invariant-run_copies-loop
 invariant-run_copies-loop l =
-    let step = run l.scope (loops_of l.loops) (statements_of l.block) in
+    let step = run l.scope (context_of l.context) (statements_of l.block) in
     repeated step (l.copies - l.counter) l.effect ≡ repeated step l.copies l.fn.effect

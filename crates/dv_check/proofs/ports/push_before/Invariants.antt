@@ -1,0 +1,9 @@
+use Rattle.std.proofs.Common.{◌≡◌, ◌++◌, map, drop}
+use Rattle.dv_syntax.specs.declared.tree.Declaration.TheVariants.{Out}
+use Rattle.dv_check.specs.Couplings.{names_before, names_from}
+use Rattle.dv_check.proofs.ports.push_before.Given as goal
+
+abbrev pub invariant-loop-index : goal.invariant-loop-index
+invariant-loop-index l =
+    (l.ports.items ++ map Out (names_before l.place (drop l.index l.outputs)) ≡ l.initial.ports.items ++ map Out (names_before l.place l.outputs))
+    × (names_from l.place (drop l.index l.outputs) ≡ names_from l.place l.outputs)

@@ -1,0 +1,13 @@
+-- What stands around a statement, and the moment, that values of the code stand for.
+use Rattle.dv_eval.specs.declared.moment.Context.{Context as DeclaredContext}
+use Rattle.dv_eval.specs.declared.moment.Moment as declared
+use Rattle.dv_eval.specs.Meaning.{Context, Moment, in_loop, moment_in, outermost}
+use Rattle.dv_eval.specs.declared.moment.Context.TheVariants as at
+
+-- what has arrived, and the loops around with their variables' values
+abbrev pub context_of : DeclaredContext → Context
+context_of (at.Outermost arrivals) = outermost arrivals.now
+context_of (at.Within' variable value p outer) = in_loop (variable, value) (context_of outer)
+
+abbrev pub moment_of : declared.Moment → Moment
+moment_of m = moment_in (context_of m.context.now) m.state.now

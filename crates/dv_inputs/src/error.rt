@@ -1,0 +1,72 @@
+//! Why the text of inputs is refused.
+
+ghost use Rattle.std.specs.Prelude.{◌≡◌};
+
+use std::alloc::AllocError;
+use std::fmt;
+
+/// The number of a refusal. Of those that a line has, the least is answered.
+#[derive(Clone, Copy, Debug, PartialEq, Eq)]
+pub enum InputRefusalNumber {
+    /// The line is not UTF-8, or has not three fields, or its tick is not decimal digits up to the greatest tick.
+    I1,
+    /// The root has no input port of this name.
+    I2,
+    /// The tick is below that of the input before.
+    I3,
+    /// The value is not decimal digits, with `-` before them or not, from -2^63 to 2^63 - 1.
+    I4,
+}
+
+impl fmt::Display for InputRefusalNumber {
+    ghost use Rattle.std.specs.Prelude.{Some};
+    ghost use Rattle.dv_inputs.specs.Words.{number_word};
+
+    ghost output = { λ number. Some (number_word number) };
+
+    fn fmt<W: fmt::Write>(&self, f: &mut fmt::Formatter<W>) -> fmt::Result {
+        f.write_str(match self {
+            InputRefusalNumber::I1 => "I1",
+            InputRefusalNumber::I2 => "I2",
+            InputRefusalNumber::I3 => "I3",
+            InputRefusalNumber::I4 => "I4",
+        })
+    }
+}
+
+/// A refused text as it is answered: which refusal, and the line, counted from 1.
+#[derive(Clone, Copy, Debug, PartialEq, Eq)]
+pub struct InputRefusal {
+    pub number: InputRefusalNumber,
+    pub line: u64,
+}
+
+impl fmt::Display for InputRefusal {
+    ghost use Rattle.std.specs.Prelude.{Some};
+    ghost use Rattle.dv_inputs.specs.Words.{refusal_words};
+
+    ghost output = { λ r. Some (refusal_words r) };
+
+    fn fmt<W: fmt::Write>(&self, f: &mut fmt::Formatter<W>) -> fmt::Result {
+        write!(f, "{} line {}", self.number, self.line)
+    }
+}
+
+/// Why there are no inputs.
+#[derive(Clone, Copy, Debug, PartialEq, Eq)]
+pub enum InputsError {
+    /// The text is refused.
+    Refused(InputRefusal),
+    /// An allocation was refused.
+    Memory,
+}
+
+impl From<AllocError> for InputsError {
+    ghost use Rattle.dv_inputs.specs.declared.error.InputsError.TheVariants.{Memory};
+
+    ghost from_gives = { λ _ e. e ≡ Memory };
+
+    fn from(_error: AllocError) -> Self {
+        InputsError::Memory
+    }
+}

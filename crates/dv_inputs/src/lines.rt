@@ -1,0 +1,66 @@
+//! The lines of a text.
+
+ghost use Rattle.std.specs.Prelude.{◌≡◌, ◌∷◌, ◌<◌, ◌≤◌, ◌==◌, length, drop, position};
+ghost use Rattle.std.specs.List.{list_all};
+ghost use Rattle.dv_inputs.specs.Lines.{is_blank, is_passed_over, lines_of, without_return};
+
+/// Whether the byte is a blank.
+pub(crate) fn is_blank(byte: u8) -> bool
+    ensures { result ≡ is_blank byte }
+{
+    byte == b' ' || byte == b'\t'
+}
+
+// The place of the first line feed, if there is one.
+fn line_feed(text: &[u8]) -> Option<usize>
+    ensures { result ≡ position (λ b. b == 10) text.now }
+{
+    text.iter().position(|byte| *byte == b'\n')
+}
+
+// Whether every byte is a blank.
+fn is_blank_line(line: &[u8]) -> bool
+    ensures { result ≡ list_all is_blank line.now }
+{
+    line.iter().all(|byte| is_blank(*byte))
+}
+
+// The bytes from a place on.
+pub(crate) fn bytes_from(bytes: &[u8], place: usize) -> &[u8]
+    requires { place ≤ length bytes.now }
+    ensures { result.now ≡ drop place bytes.now }
+{
+    &bytes[place..]
+}
+
+/// The first line of a text that is not empty, and what follows its line feed.
+pub(crate) fn split_line(text: &[u8]) -> (&[u8], &[u8])
+    requires { 0 < length text.now }
+    ensures lines { lines_of text.now ≡ result.0.now ∷ lines_of result.1.now }
+    ensures shorter { length result.1.now < length text.now }
+{
+    match line_feed(text) {
+        Some(end) => (&text[..end], bytes_from(text, end + 1)),
+        None => (text, &[]),
+    }
+}
+
+/// The line without one carriage return at its end, where it has one.
+pub(crate) fn without_return(line: &[u8]) -> &[u8]
+    ensures { result.now ≡ without_return line.now }
+{
+    match line {
+        [] => line,
+        [front @ .., last] => { if *last == b'\r' { front } else { line } }
+    }
+}
+
+/// Whether the line is empty, has a `#` in front, or is of blanks alone.
+pub(crate) fn is_passed_over(line: &[u8]) -> bool
+    ensures { result ≡ is_passed_over line.now }
+{
+    match line {
+        [] => true,
+        [first, ..] => *first == b'#' || is_blank_line(line),
+    }
+}

@@ -1,0 +1,71 @@
+//! The numbers of a line.
+
+ghost use Rattle.std.specs.Prelude.{◌≡◌, ◌+◌, ◌^◌, ◌≤◌, option_map, pos, neg_ℤ};
+ghost use Rattle.std.specs.Char.{is_ascii_digit};
+ghost use Rattle.std.specs.List.{list_all};
+ghost use Rattle.dv_inputs.specs.Numbers.{is_numeral, number_below, tick_in, value_in};
+
+use dv_time::GREATEST_TICK;
+
+// Whether every byte is a decimal digit.
+fn all_digits(bytes: &[u8]) -> bool
+    ensures { result ≡ list_all is_ascii_digit bytes.now }
+{
+    bytes.iter().all(|byte| byte.is_ascii_digit())
+}
+
+// Whether the bytes are decimal digits, and some.
+fn is_numeral(bytes: &[u8]) -> bool
+    ensures { result ≡ is_numeral bytes.now }
+{
+    !bytes.is_empty() && all_digits(bytes)
+}
+
+// The number that decimal digits write, where it is below a bound.
+fn number_below(bound: u64, bytes: &[u8]) -> Option<u64>
+    ensures { result ≡ number_below bound bytes.now }
+{
+    if !is_numeral(bytes) {
+        return None;
+    }
+    let Ok(digits) = str::from_utf8(bytes) else {
+        return None;
+    };
+    let Ok(number) = digits.parse::<u64>() else {
+        return None;
+    };
+    if number < bound { Some(number) } else { None }
+}
+
+// The number of decimal digits with its sign turned, where it is from -2^63 on.
+fn negative(bytes: &[u8]) -> Option<i64>
+    ensures { result ≡ option_map (λ n. neg_ℤ (pos n)) (number_below (2 ^ 63 + 1) bytes.now) }
+{
+    let number = number_below((1 << 63) + 1, bytes)?;
+    Some(-i128::from(number) as i64)
+}
+
+// The number of decimal digits, where it is at most 2^63 - 1.
+fn positive(bytes: &[u8]) -> Option<i64>
+    ensures { result ≡ option_map pos (number_below (2 ^ 63) bytes.now) }
+{
+    let number = number_below(1 << 63, bytes)?;
+    Some(number as i64)
+}
+
+/// The tick that a field says.
+pub(crate) fn tick_in(field: &[u8]) -> Option<u64>
+    ensures { result ≡ tick_in field.now }
+{
+    number_below(GREATEST_TICK + 1, field)
+}
+
+/// The value that a field says.
+pub(crate) fn value_in(field: &[u8]) -> Option<i64>
+    ensures { result ≡ value_in field.now }
+{
+    match field {
+        [b'-', digits @ ..] => negative(digits),
+        _ => positive(field),
+    }
+}
