@@ -20,8 +20,8 @@ use dv_time::{GREATEST_TICK, Next, Time};
 use dv_tree::Tree;
 use std::alloc::{AllocError, Global};
 
-/// The trace of a text's resultant to a horizon, under a microstep limit. It goes from event to event, and looks
-/// at every component at each.
+/// The trace of the resultant of a text without input ports, to a horizon, under a microstep limit. It goes from event
+/// to event, and looks at every component at each.
 ///
 /// # Errors
 ///

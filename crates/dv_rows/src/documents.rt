@@ -1,6 +1,6 @@
-//! The examples of the explanations: each has the answer that stands beside it.
+//! The models of the documents: each has the answer that stands beside it.
 
-use crate::runs::{expect_same, run};
+use crate::runs::{expect_same, run, same_run};
 use dv_explain::{Explanation, FAULTS, REFUSALS};
 use std::process::Abort;
 
@@ -32,4 +32,15 @@ fn refusals_are_as_explained(rt: HostRuntime) {
 #[test]
 fn faults_are_as_explained(rt: HostRuntime) {
     same_examples(&rt, FAULTS, "status 3", 7);
+}
+
+#[test]
+fn a_text_goes_its_way(rt: HostRuntime) {
+    same_run(
+        &rt,
+        "atomic A { out y; phases z; start z; hold z: 2; output z { send y 7; } }\ncoupled T { out o; part a: A; link a.y -> self.o; }\nroot T;\n",
+        3,
+        20,
+        "2.0 a i z > y:7\n2.0 out o:7\nwhole 3\nstatus 0",
+    );
 }
