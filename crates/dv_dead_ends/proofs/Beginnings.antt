@@ -64,7 +64,8 @@ leaf_completes =
     (then_completes name_at _ name_steady name_completes (λ rest h. tt) (λ _ n. leaves_complete (Named n) EndsExpression)).behind
     (λ rest h. refl)
     (choose_completes_by begins_truth _ _ begins_truth_of_first
-    (then_completes truth_at _ truth_steady truth_completes (λ rest h. tt) (λ place v. leaves_complete (TruthValue place v) EndsExpression)).behind
+    (then_completes truth_at _ truth_steady truth_completes (λ rest h. tt)
+    (λ place v. leaves_complete (TruthValue place v) EndsExpression)).behind
     (λ rest h. refl)
     (choose_completes_by begins_call _ _ begins_call_of_first call_completes.behind (λ rest h. refl)
     (choose_completes (kind.Keyword keyword.Elapsed) _ _ elapsed_completes.behind (λ rest h. refl)
@@ -75,7 +76,8 @@ abbrev WhereRoom : (ℕ → Reader Expression) → ℕ → Type 0
 WhereRoom operand zero = Unit {0}
 WhereRoom operand (suc limit) = (level : ℕ) → Completes (operand level) EndsExpression (a_number ∷ [])
 
-parens_complete : (limit : ℕ) → WhereRoom (expression_at limit) limit → (t : Token) (us : List Token) → CompletesAt (parens_at (expression_at limit) limit) EndsExpression (t ∷ us)
+parens_complete : (limit : ℕ) → WhereRoom (expression_at limit) limit → (t : Token) (us : List Token) → CompletesAt
+    (parens_at (expression_at limit) limit) EndsExpression (t ∷ us)
 unfolding parens_at within read_then operator_of
 parens_complete zero c = deep_completes (kind.Symbol symbol.OpenParen) EndsExpression
 parens_complete (suc limit) c =
@@ -83,12 +85,14 @@ parens_complete (suc limit) c =
     then_completes (expression_at (suc limit) 0) _ (expression_steady (suc limit) 0) (c 0) (λ rest h. refl) (λ _ e.
     after_completes (kind.Symbol symbol.CloseParen) _ (λ _. leaves_complete (Parens place e) EndsExpression)))).behind
 
-prefixed_completes : (o : Prefix) (limit : ℕ) → WhereRoom (expression_at limit) limit → (t : Token) (us : List Token) → CompletesAt (prefixed_at o (expression_at limit) limit) EndsExpression (t ∷ us)
+prefixed_completes : (o : Prefix) (limit : ℕ) → WhereRoom (expression_at limit) limit → (t : Token) (us : List Token) → CompletesAt
+    (prefixed_at o (expression_at limit) limit) EndsExpression (t ∷ us)
 unfolding prefixed_at within read_then
 prefixed_completes o zero c = deep_completes (prefix_kind o) EndsExpression
 prefixed_completes o (suc limit) c =
     (after_completes (prefix_kind o) _ (λ place.
-    then_completes (expression_at (suc limit) (prefix_rank o)) _ (expression_steady (suc limit) (prefix_rank o)) (c (prefix_rank o)) (λ rest h. h) (λ _ e. leaves_complete (Prefixed o place e) EndsExpression))).behind
+    then_completes (expression_at (suc limit) (prefix_rank o)) _ (expression_steady (suc limit) (prefix_rank o)) (c (prefix_rank o))
+    (λ rest h. h) (λ _ e. leaves_complete (Prefixed o place e) EndsExpression))).behind
 
 times_complete : (limit : ℕ) → WhereRoom (expression_at limit) limit → (t : Token) (us : List Token)
     → CompletesAt (times_at (expression_at limit) limit) EndsExpression (t ∷ us)
@@ -102,17 +106,20 @@ times_complete (suc limit) c =
     then_completes name_at _ name_steady name_completes (λ rest h. tt) (λ _ b.
     after_completes (kind.Symbol symbol.CloseParen) _ (λ _. leaves_complete (Times place e b) EndsExpression))))))).behind
 
-primary_completes : (limit level : ℕ) → WhereRoom (expression_at limit) limit → Completes (primary_at (expression_at limit) limit level) EndsExpression (a_number ∷ [])
+primary_completes : (limit level : ℕ) → WhereRoom (expression_at limit) limit → Completes
+    (primary_at (expression_at limit) limit level) EndsExpression (a_number ∷ [])
 unfolding primary_at
 primary_completes limit level c =
     choose_completes (kind.Symbol symbol.OpenParen) _ _ (parens_complete limit c) (λ rest h. refl)
     (choose_completes (kind.Keyword keyword.Times) _ _ (times_complete limit c) (λ rest h. refl)
-    (choose_completes_by (begins_prefix prefix.Minus level) _ _ (begins_prefix_of_first prefix.Minus level) (prefixed_completes prefix.Minus limit c) (λ rest h. refl)
+    (choose_completes_by (begins_prefix prefix.Minus level) _ _ (begins_prefix_of_first prefix.Minus level)
+    (prefixed_completes prefix.Minus limit c) (λ rest h. refl)
     (choose_completes_by (begins_prefix prefix.Not level) _ _ (begins_prefix_of_first prefix.Not level)
     (prefixed_completes prefix.Not limit c) (λ rest h. refl) leaf_completes)))
 
 -- where a left operand lies less deep than the limit, there is room for a right one
-room : (limit : ℕ) (operand : ℕ → Reader Expression) → WhereRoom operand limit → (left : Expression) → ltb (depth left) (suc limit) ≡ true → (level : ℕ) → Completes (operand level) EndsExpression (a_number ∷ [])
+room : (limit : ℕ) (operand : ℕ → Reader Expression) → WhereRoom operand limit → (left : Expression) → ltb (depth left) (suc limit) ≡ true →
+    (level : ℕ) → Completes (operand level) EndsExpression (a_number ∷ [])
 room zero operand c left d level = let lt : depth left < 1 = ltb-true _ _ d in absurd (omega (arith, lt, positive_depth left))
 room (suc limit) operand c left d level = c level
 
@@ -121,12 +128,14 @@ unfolding operator_at maybe
 no_operator level left [] h = refl
 no_operator level left (t ∷ ts) h = rw h refl
 
-turns_filled : (operand : ℕ → Reader Expression) (limit more level : ℕ) (left : Expression) (rest : List Token) → EndsExpression rest → turns operand limit more level left rest ≡ Ok (left, rest)
+turns_filled : (operand : ℕ → Reader Expression) (limit more level : ℕ) (left : Expression) (rest : List Token) → EndsExpression rest →
+    turns operand limit more level left rest ≡ Ok (left, rest)
 unfolding maybe
 turns_filled operand limit zero level left rest h = rw (no_operator level left rest h) refl
 turns_filled operand limit (suc more) level left rest h = rw (no_operator level left rest h) refl
 
-turns_complete : (limit : ℕ) → WhereRoom (expression_at limit) limit → (more level : ℕ) (left : Expression) → Completes (turns (expression_at limit) (suc limit) more level left) EndsExpression []
+turns_complete : (limit : ℕ) → WhereRoom (expression_at limit) limit → (more level : ℕ) (left : Expression) → Completes
+    (turns (expression_at limit) (suc limit) more level left) EndsExpression []
 unfolding operator_at maybe choose place_at
 turns_complete limit c zero level left = record {
   filled = λ rest h. (left, turns_filled (expression_at limit) (suc limit) zero level left rest h);
@@ -145,8 +154,11 @@ turns_complete limit c (suc more) level left = record {
     | inr o ↦ elim (cases_Bool (goes_on level left o.0)) [
       | inl e ↦ elim (cases_Bool (ltb (depth left) (suc limit))) [
         | inl d ↦
-            ReadsOn (λ ts. read_then (expression_at limit (operator_rank o.0 + 1) ts) (λ right. turns (expression_at limit) (suc limit) more level (Binary o.0 left right.0) right.1))
-            (each (then_completes (expression_at limit (operator_rank o.0 + 1)) _ (expression_steady limit (operator_rank o.0 + 1)) (room limit (expression_at limit) c left d (operator_rank o.0 + 1)) (λ rest h. h) (λ _ right. turns_complete limit c more level (Binary o.0 left right))))
+            ReadsOn (λ ts. read_then (expression_at limit (operator_rank o.0 + 1) ts)
+            (λ right. turns (expression_at limit) (suc limit) more level (Binary o.0 left right.0) right.1))
+            (each (then_completes (expression_at limit (operator_rank o.0 + 1)) _ (expression_steady limit (operator_rank o.0 + 1))
+            (room limit (expression_at limit) c left d (operator_rank o.0 + 1)) (λ rest h. h)
+            (λ _ right. turns_complete limit c more level (Binary o.0 left right))))
             (λ ts. rw (o.1, e, d) refl)
         | inr d ↦ StopsThere (TooDeep t.place) refl (λ ts. rw (o.1, e, d) refl)
       ]
@@ -159,7 +171,9 @@ operands_complete : (limit : ℕ) → WhereRoom (expression_at limit) limit
 unfolding expression_at
 operands_complete zero = tt
 operands_complete (suc limit) = λ level.
-    then_completes (primary_at (expression_at limit) limit level) _ (primary_steady (expression_at limit) (expression_steady limit) limit level) (primary_completes limit level (operands_complete limit)) (λ rest h. h)
+    then_completes (primary_at (expression_at limit) limit level) _
+    (primary_steady (expression_at limit) (expression_steady limit) limit level)
+    (primary_completes limit level (operands_complete limit)) (λ rest h. h)
     (λ _ e. turns_complete limit (operands_complete limit) (suc limit) level e)
 
 -- an expression and a block can be within the limits, with no loop
@@ -176,12 +190,14 @@ expression_completes limits room = some_operand limits.expression room.expressio
 
 -- ---- Statements
 
-assign_completes : (limits : Limits) → HaveRoom limits → Completes (assign_at limits) NoElse (a_name ∷ a_sign symbol.Assign ∷ a_number ∷ a_sign symbol.Semicolon ∷ [])
+assign_completes : (limits : Limits) → HaveRoom limits → Completes (assign_at limits) NoElse
+    (a_name ∷ a_sign symbol.Assign ∷ a_number ∷ a_sign symbol.Semicolon ∷ [])
 unfolding assign_at operator_of
 assign_completes limits room =
     then_completes name_at _ name_steady name_completes (λ rest h. tt) (λ _ n.
     after_completes (kind.Symbol symbol.Assign) _ (λ _.
-    then_completes (expression_at limits.expression 0) _ (expression_steady limits.expression 0) (expression_completes limits room) (λ rest h. refl) (λ _ e.
+    then_completes (expression_at limits.expression 0) _ (expression_steady limits.expression 0) (expression_completes limits room)
+    (λ rest h. refl) (λ _ e.
     after_completes (kind.Symbol symbol.Semicolon) _ (λ _. leaves_complete (SingleAssign n e) NoElse))))
 
 goto_completes : Completes goto_at NoElse (of_kind (kind.Keyword keyword.Goto) ∷ a_name ∷ a_sign symbol.Semicolon ∷ [])
@@ -191,12 +207,14 @@ goto_completes =
     then_completes name_at _ name_steady name_completes (λ rest h. tt) (λ _ n.
     after_completes (kind.Symbol symbol.Semicolon) _ (λ _. leaves_complete (SingleGoto place n) NoElse)))
 
-send_completes : (limits : Limits) → HaveRoom limits → Completes (send_at limits) NoElse (of_kind (kind.Keyword keyword.Send) ∷ a_name ∷ a_number ∷ a_sign symbol.Semicolon ∷ [])
+send_completes : (limits : Limits) → HaveRoom limits → Completes (send_at limits) NoElse
+    (of_kind (kind.Keyword keyword.Send) ∷ a_name ∷ a_number ∷ a_sign symbol.Semicolon ∷ [])
 unfolding send_at operator_of
 send_completes limits room =
     after_completes (kind.Keyword keyword.Send) _ (λ place.
     then_completes name_at _ name_steady name_completes (λ rest h. tt) (λ _ n.
-    then_completes (expression_at limits.expression 0) _ (expression_steady limits.expression 0) (expression_completes limits room) (λ rest h. refl) (λ _ e.
+    then_completes (expression_at limits.expression 0) _ (expression_steady limits.expression 0) (expression_completes limits room)
+    (λ rest h. refl) (λ _ e.
     after_completes (kind.Symbol symbol.Semicolon) _ (λ _. leaves_complete (SingleSend place n e) NoElse))))
 
 add_completes : (limits : Limits) → HaveRoom limits
@@ -236,7 +254,8 @@ if_completes limits room zero loops c = deep_completes (kind.Keyword keyword.If)
 if_completes limits room (suc limit) loops c =
     let steady = block_steady limits (suc limit) loops in
     (after_completes (kind.Keyword keyword.If) _ (λ place.
-    then_completes (expression_at limits.expression 0) _ (expression_steady limits.expression 0) (expression_completes limits room) (λ rest h. refl) (λ _ e.
+    then_completes (expression_at limits.expression 0) _ (expression_steady limits.expression 0) (expression_completes limits room)
+    (λ rest h. refl) (λ _ e.
     then_completes (block_at limits (suc limit) loops) _ steady c (λ rest h. tt) (λ _ b.
     choose_completes (kind.Keyword keyword.Else) _ _
     (after_completes (kind.Keyword keyword.Else) _ (λ _.
@@ -304,11 +323,15 @@ bound_completes : Completes bound_at Always (a_number ∷ [])
 unfolding bound_at
 bound_completes =
     choose_completes (kind.Symbol symbol.Minus) _ _
-    (after_completes (kind.Symbol symbol.Minus) _ (λ place. then_completes number_at _ number_steady number_completes (λ rest h. tt) (λ _ n. leaves_complete (record { minus = Some place; magnitude = n }) Always))).behind
+    (after_completes (kind.Symbol symbol.Minus) _
+    (λ place. then_completes number_at _ number_steady number_completes (λ rest h. tt)
+    (λ _ n. leaves_complete (record { minus = Some place; magnitude = n }) Always))).behind
     (λ rest h. refl)
-    (then_completes number_at _ number_steady number_completes (λ rest h. tt) (λ _ n. leaves_complete (record { minus = None; magnitude = n }) Always))
+    (then_completes number_at _ number_steady number_completes (λ rest h. tt)
+    (λ _ n. leaves_complete (record { minus = None; magnitude = n }) Always))
 
-variable_completes : Completes variable_at Always (of_kind (kind.Keyword keyword.Var) ∷ a_name ∷ a_sign symbol.Colon ∷ a_number ∷ a_sign symbol.Range ∷ a_number ∷ a_sign symbol.Equal ∷ a_number ∷ a_sign symbol.Semicolon ∷ [])
+variable_completes : Completes variable_at Always
+    (of_kind (kind.Keyword keyword.Var) ∷ a_name ∷ a_sign symbol.Colon ∷ a_number ∷ a_sign symbol.Range ∷ a_number ∷ a_sign symbol.Equal ∷ a_number ∷ a_sign symbol.Semicolon ∷ [])
 unfolding variable_at
 variable_completes =
     after_completes (kind.Keyword keyword.Var) _ (λ _.
@@ -319,9 +342,12 @@ variable_completes =
     then_completes bound_at _ bound_steady bound_completes (λ rest h. tt) (λ _ high.
     after_completes (kind.Symbol symbol.Equal) _ (λ _.
     then_completes bound_at _ bound_steady bound_completes (λ rest h. tt) (λ _ start.
-    after_completes (kind.Symbol symbol.Semicolon) _ (λ _. leaves_complete (record { name = n; low = low; high = high; start = start }) Always)))))))))
+    after_completes (kind.Symbol symbol.Semicolon) _
+    (λ _. leaves_complete (record { name = n; low = low; high = high; start = start }) Always)))))))))
 
-flag_completes : Completes flag_at Always (of_kind (kind.Keyword keyword.Flag) ∷ a_name ∷ a_sign symbol.Equal ∷ of_kind (kind.Keyword keyword.False) ∷ a_sign symbol.Semicolon ∷ [])
+flag_completes : Completes flag_at Always
+    (of_kind (kind.Keyword keyword.Flag) ∷ a_name ∷ a_sign symbol.Equal ∷ of_kind
+    (kind.Keyword keyword.False) ∷ a_sign symbol.Semicolon ∷ [])
 unfolding flag_at
 flag_completes =
     after_completes (kind.Keyword keyword.Flag) _ (λ _.
@@ -347,8 +373,10 @@ unfolding phases_at
 phases_complete =
     after_completes (kind.Keyword keyword.Phases) _ (λ place.
     then_completes name_at _ name_steady name_completes (λ rest h. tt) (λ _ n.
-    then_completes (many_at further_name_at (kind.Symbol symbol.Semicolon)) _ (many_steady further_name_at (kind.Symbol symbol.Semicolon) further_name_shortens further_name_steady)
-    (many_completes further_name_at (kind.Symbol symbol.Semicolon) further_name_shortens further_name_steady further_name_completes (λ rest h. tt)) (λ rest h. refl) (λ _ ns.
+    then_completes (many_at further_name_at (kind.Symbol symbol.Semicolon)) _
+    (many_steady further_name_at (kind.Symbol symbol.Semicolon) further_name_shortens further_name_steady)
+    (many_completes further_name_at (kind.Symbol symbol.Semicolon) further_name_shortens further_name_steady further_name_completes
+    (λ rest h. tt)) (λ rest h. refl) (λ _ ns.
     after_completes (kind.Symbol symbol.Semicolon) _ (λ _. leaves_complete (Lists (record { place = place; names = n ∷ ns })) Always))))
 
 start_completes : Completes start_at Always (of_kind (kind.Keyword keyword.Start) ∷ a_name ∷ a_sign symbol.Semicolon ∷ [])
@@ -364,18 +392,22 @@ ticks_complete limits room =
     choose_completes (kind.Keyword keyword.Forever) _ _
     (after_completes (kind.Keyword keyword.Forever) _ (λ _. leaves_complete None EndsExpression)).behind
     (λ rest h. refl)
-    (then_completes (expression_at limits.expression 0) _ (expression_steady limits.expression 0) (expression_completes limits room) (λ rest h. h) (λ _ e. leaves_complete (Some e) EndsExpression))
+    (then_completes (expression_at limits.expression 0) _ (expression_steady limits.expression 0) (expression_completes limits room)
+    (λ rest h. h) (λ _ e. leaves_complete (Some e) EndsExpression))
 
-hold_completes : (limits : Limits) → HaveRoom limits → Completes (hold_at limits) Always (of_kind (kind.Keyword keyword.Hold) ∷ a_name ∷ a_sign symbol.Colon ∷ a_number ∷ a_sign symbol.Semicolon ∷ [])
+hold_completes : (limits : Limits) → HaveRoom limits → Completes (hold_at limits) Always
+    (of_kind (kind.Keyword keyword.Hold) ∷ a_name ∷ a_sign symbol.Colon ∷ a_number ∷ a_sign symbol.Semicolon ∷ [])
 unfolding hold_at operator_of
 hold_completes limits room =
     after_completes (kind.Keyword keyword.Hold) _ (λ place.
     then_completes name_at _ name_steady name_completes (λ rest h. tt) (λ _ n.
     after_completes (kind.Symbol symbol.Colon) _ (λ _.
     then_completes (ticks_at limits) _ (ticks_steady limits) (ticks_complete limits room) (λ rest h. refl) (λ _ ticks.
-    after_completes (kind.Symbol symbol.Semicolon) _ (λ _. leaves_complete (Holds (record { place = place; phase = n; ticks = ticks })) Always)))))
+    after_completes (kind.Symbol symbol.Semicolon) _
+    (λ _. leaves_complete (Holds (record { place = place; phase = n; ticks = ticks })) Always)))))
 
-rule_completes : (limits : Limits) → HaveRoom limits → (sort : RuleSort) → Completes (rule_at limits sort) Always (of_kind (kind.Keyword (sort_word sort)) ∷ a_name ∷ empty_braces)
+rule_completes : (limits : Limits) → HaveRoom limits → (sort : RuleSort) → Completes (rule_at limits sort) Always
+    (of_kind (kind.Keyword (sort_word sort)) ∷ a_name ∷ empty_braces)
 unfolding rule_at
 rule_completes limits room sort =
     after_completes (kind.Keyword (sort_word sort)) _ (λ _.
@@ -410,8 +442,12 @@ item_completes limits room =
     (choose_completes (kind.Keyword keyword.Out) _ _
     (then_completes (port_at keyword.Out) _ (port_steady keyword.Out) (port_completes keyword.Out) (λ rest h. tt) (λ _ n.
     leaves_complete (Declares (declaration.Out n)) Always)).behind (λ rest h. refl)
-    (choose_completes (kind.Keyword keyword.Var) _ _ (then_completes variable_at _ variable_steady variable_completes (λ rest h. tt) (λ _ v. leaves_complete (Declares (declaration.Var v)) Always)).behind (λ rest h. refl)
-    (choose_completes (kind.Keyword keyword.Flag) _ _ (then_completes flag_at _ flag_steady flag_completes (λ rest h. tt) (λ _ f. leaves_complete (Declares (declaration.Flag f)) Always)).behind (λ rest h. refl)
+    (choose_completes (kind.Keyword keyword.Var) _ _
+    (then_completes variable_at _ variable_steady variable_completes (λ rest h. tt)
+    (λ _ v. leaves_complete (Declares (declaration.Var v)) Always)).behind (λ rest h. refl)
+    (choose_completes (kind.Keyword keyword.Flag) _ _
+    (then_completes flag_at _ flag_steady flag_completes (λ rest h. tt)
+    (λ _ f. leaves_complete (Declares (declaration.Flag f)) Always)).behind (λ rest h. refl)
     (choose_completes (kind.Keyword keyword.Bag) _ _
     (then_completes bag_at _ bag_steady bag_completes (λ rest h. tt) (λ _ b. leaves_complete (Declares (declaration.Bag b)) Always)).behind
     (λ rest h. refl)
@@ -420,12 +456,15 @@ item_completes limits room =
     (choose_completes (kind.Keyword keyword.Hold) _ _ (hold_completes limits room).behind (λ rest h. refl)
     (any_rule_completes limits room))))))))
 
-atomic_completes : (limits : Limits) → HaveRoom limits → Completes (atomic_at limits) Always (of_kind (kind.Keyword keyword.Atomic) ∷ a_name ∷ empty_braces)
+atomic_completes : (limits : Limits) → HaveRoom limits → Completes (atomic_at limits) Always
+    (of_kind (kind.Keyword keyword.Atomic) ∷ a_name ∷ empty_braces)
 unfolding atomic_at
 atomic_completes limits room =
     after_completes (kind.Keyword keyword.Atomic) _ (λ _.
     then_completes name_at _ name_steady name_completes (λ rest h. tt) (λ _ n.
-    then_completes (braces_at (item_at limits)) _ (braces_steady (item_at limits) (item_shortens limits) (item_steady limits)) (braces_complete (item_at limits) Always (item_shortens limits) (item_steady limits) (item_completes limits room) (λ rest h. tt)) (λ rest h. tt) (λ _ items. leaves_complete (n, items) Always)))
+    then_completes (braces_at (item_at limits)) _ (braces_steady (item_at limits) (item_shortens limits) (item_steady limits))
+    (braces_complete (item_at limits) Always (item_shortens limits) (item_steady limits) (item_completes limits room) (λ rest h. tt))
+    (λ rest h. tt) (λ _ items. leaves_complete (n, items) Always)))
 
 -- ---- Coupled models
 
@@ -433,11 +472,18 @@ end_completes : Completes end_at Always (a_name ∷ a_sign symbol.Dot ∷ a_name
 unfolding end_at
 end_completes =
     choose_completes (kind.Keyword keyword.Itself) _ _
-    (after_completes (kind.Keyword keyword.Itself) _ (λ _. after_completes (kind.Symbol symbol.Dot) _ (λ _. then_completes name_at _ name_steady name_completes (λ rest h. tt) (λ _ port. leaves_complete (record { part = None; port = port }) Always)))).behind
+    (after_completes (kind.Keyword keyword.Itself) _
+    (λ _. after_completes (kind.Symbol symbol.Dot) _
+    (λ _. then_completes name_at _ name_steady name_completes (λ rest h. tt)
+    (λ _ port. leaves_complete (record { part = None; port = port }) Always)))).behind
     (λ rest h. refl)
-    (then_completes name_at _ name_steady name_completes (λ rest h. tt) (λ _ part. after_completes (kind.Symbol symbol.Dot) _ (λ _. then_completes name_at _ name_steady name_completes (λ rest h. tt) (λ _ port. leaves_complete (record { part = Some part; port = port }) Always))))
+    (then_completes name_at _ name_steady name_completes (λ rest h. tt)
+    (λ _ part. after_completes (kind.Symbol symbol.Dot) _
+    (λ _. then_completes name_at _ name_steady name_completes (λ rest h. tt)
+    (λ _ port. leaves_complete (record { part = Some part; port = port }) Always))))
 
-part_completes : Completes part_at Always (of_kind (kind.Keyword keyword.Part) ∷ a_name ∷ a_sign symbol.Colon ∷ a_name ∷ a_sign symbol.Semicolon ∷ [])
+part_completes : Completes part_at Always
+    (of_kind (kind.Keyword keyword.Part) ∷ a_name ∷ a_sign symbol.Colon ∷ a_name ∷ a_sign symbol.Semicolon ∷ [])
 unfolding part_at
 part_completes =
     after_completes (kind.Keyword keyword.Part) _ (λ _.
@@ -446,16 +492,19 @@ part_completes =
     then_completes name_at _ name_steady name_completes (λ rest h. tt) (λ _ model.
     after_completes (kind.Symbol symbol.Semicolon) _ (λ _. leaves_complete (record { name = n; model = model }) Always)))))
 
-link_completes : Completes link_at Always (of_kind (kind.Keyword keyword.Link) ∷ a_name ∷ a_sign symbol.Dot ∷ a_name ∷ a_sign symbol.Arrow ∷ a_name ∷ a_sign symbol.Dot ∷ a_name ∷ a_sign symbol.Semicolon ∷ [])
+link_completes : Completes link_at Always
+    (of_kind (kind.Keyword keyword.Link) ∷ a_name ∷ a_sign symbol.Dot ∷ a_name ∷ a_sign symbol.Arrow ∷ a_name ∷ a_sign symbol.Dot ∷ a_name ∷ a_sign symbol.Semicolon ∷ [])
 unfolding link_at
 link_completes =
     after_completes (kind.Keyword keyword.Link) _ (λ place.
     then_completes end_at _ end_steady end_completes (λ rest h. tt) (λ _ source.
     after_completes (kind.Symbol symbol.Arrow) _ (λ _.
     then_completes end_at _ end_steady end_completes (λ rest h. tt) (λ _ target.
-    after_completes (kind.Symbol symbol.Semicolon) _ (λ _. leaves_complete (record { place = place; from = source; to = target }) Always)))))
+    after_completes (kind.Symbol symbol.Semicolon) _
+    (λ _. leaves_complete (record { place = place; from = source; to = target }) Always)))))
 
-coupled_item_completes : Completes coupled_item_at Always (of_kind (kind.Keyword keyword.Link) ∷ a_name ∷ a_sign symbol.Dot ∷ a_name ∷ a_sign symbol.Arrow ∷ a_name ∷ a_sign symbol.Dot ∷ a_name ∷ a_sign symbol.Semicolon ∷ [])
+coupled_item_completes : Completes coupled_item_at Always
+    (of_kind (kind.Keyword keyword.Link) ∷ a_name ∷ a_sign symbol.Dot ∷ a_name ∷ a_sign symbol.Arrow ∷ a_name ∷ a_sign symbol.Dot ∷ a_name ∷ a_sign symbol.Semicolon ∷ [])
 unfolding coupled_item_at
 coupled_item_completes =
     choose_completes (kind.Keyword keyword.In) _ _
@@ -464,7 +513,9 @@ coupled_item_completes =
     (choose_completes (kind.Keyword keyword.Out) _ _
     (then_completes (port_at keyword.Out) _ (port_steady keyword.Out) (port_completes keyword.Out) (λ rest h. tt) (λ _ n.
     leaves_complete (Outputs n) Always)).behind (λ rest h. refl)
-    (choose_completes (kind.Keyword keyword.Part) _ _ (then_completes part_at _ part_steady part_completes (λ rest h. tt) (λ _ p. leaves_complete (Contains p) Always)).behind (λ rest h. refl)
+    (choose_completes (kind.Keyword keyword.Part) _ _
+    (then_completes part_at _ part_steady part_completes (λ rest h. tt) (λ _ p. leaves_complete (Contains p) Always)).behind
+    (λ rest h. refl)
     (then_completes link_at _ link_steady link_completes (λ rest h. tt) (λ _ l. leaves_complete (Couples l) Always))))
 
 coupled_completes : Completes coupled_at Always (of_kind (kind.Keyword keyword.Coupled) ∷ a_name ∷ empty_braces)
@@ -472,17 +523,22 @@ unfolding coupled_at
 coupled_completes =
     after_completes (kind.Keyword keyword.Coupled) _ (λ _.
     then_completes name_at _ name_steady name_completes (λ rest h. tt) (λ _ n.
-    then_completes (braces_at coupled_item_at) _ (braces_steady coupled_item_at coupled_item_shortens coupled_item_steady) (braces_complete coupled_item_at Always coupled_item_shortens coupled_item_steady coupled_item_completes (λ rest h. tt)) (λ rest h. tt) (λ _ items. leaves_complete (n, items) Always)))
+    then_completes (braces_at coupled_item_at) _ (braces_steady coupled_item_at coupled_item_shortens coupled_item_steady)
+    (braces_complete coupled_item_at Always coupled_item_shortens coupled_item_steady coupled_item_completes (λ rest h. tt))
+    (λ rest h. tt) (λ _ items. leaves_complete (n, items) Always)))
 
 -- ---- Files
 
-model_completes : (limits : Limits) → HaveRoom limits → Completes (model_at limits) Always (of_kind (kind.Keyword keyword.Atomic) ∷ a_name ∷ empty_braces)
+model_completes : (limits : Limits) → HaveRoom limits → Completes (model_at limits) Always
+    (of_kind (kind.Keyword keyword.Atomic) ∷ a_name ∷ empty_braces)
 unfolding model_at
 model_completes limits room =
     choose_completes (kind.Keyword keyword.Coupled) _ _
-    (then_completes coupled_at _ coupled_steady coupled_completes (λ rest h. tt) (λ _ m. leaves_complete (WrittenCoupled m.0 m.1) Always)).behind
+    (then_completes coupled_at _ coupled_steady coupled_completes (λ rest h. tt)
+    (λ _ m. leaves_complete (WrittenCoupled m.0 m.1) Always)).behind
     (λ rest h. refl)
-    (then_completes (atomic_at limits) _ (atomic_steady limits) (atomic_completes limits room) (λ rest h. tt) (λ _ m. leaves_complete (WrittenAtomic m.0 m.1) Always))
+    (then_completes (atomic_at limits) _ (atomic_steady limits) (atomic_completes limits room) (λ rest h. tt)
+    (λ _ m. leaves_complete (WrittenAtomic m.0 m.1) Always))
 
 -- nothing follows
 abbrev Nothing : List Token → Type 0
@@ -495,18 +551,22 @@ last_completes f = record {
   behind = λ t. on_first (last_at f) Nothing t (StopsThere (Unexpected t.place) refl (λ ts. refl));
 }
 
-root_completes : (models : List WrittenModel) → Completes (root_at models) Nothing (of_kind (kind.Keyword keyword.Root) ∷ a_name ∷ a_sign symbol.Semicolon ∷ [])
+root_completes : (models : List WrittenModel) → Completes (root_at models) Nothing
+    (of_kind (kind.Keyword keyword.Root) ∷ a_name ∷ a_sign symbol.Semicolon ∷ [])
 unfolding root_at
 root_completes models =
     after_completes (kind.Keyword keyword.Root) _ (λ _.
     then_completes name_at _ name_steady name_completes (λ rest h. tt) (λ _ n.
     after_completes (kind.Symbol symbol.Semicolon) _ (λ _. last_completes (record { models = models; root = n }))))
 
-whole_completes : (limits : Limits) → HaveRoom limits → Completes (whole_at limits) Nothing (of_kind (kind.Keyword keyword.Root) ∷ a_name ∷ a_sign symbol.Semicolon ∷ [])
+whole_completes : (limits : Limits) → HaveRoom limits → Completes (whole_at limits) Nothing
+    (of_kind (kind.Keyword keyword.Root) ∷ a_name ∷ a_sign symbol.Semicolon ∷ [])
 unfolding whole_at
 whole_completes limits room =
-    then_completes (many_at (model_at limits) (kind.Keyword keyword.Root)) (λ _ models. root_at models) (many_steady (model_at limits) (kind.Keyword keyword.Root) (model_shortens limits) (model_steady limits))
-    (many_completes (model_at limits) (kind.Keyword keyword.Root) (model_shortens limits) (model_steady limits) (model_completes limits room) (λ rest h. tt)) (λ rest h. refl) (λ _ models. root_completes models)
+    then_completes (many_at (model_at limits) (kind.Keyword keyword.Root)) (λ _ models. root_at models)
+    (many_steady (model_at limits) (kind.Keyword keyword.Root) (model_shortens limits) (model_steady limits))
+    (many_completes (model_at limits) (kind.Keyword keyword.Root) (model_shortens limits) (model_steady limits)
+    (model_completes limits room) (λ rest h. tt)) (λ rest h. refl) (λ _ models. root_completes models)
 
 pub begins_file : (limits : Limits) → HaveRoom limits → (ts : List Token) → Unfinished (whole_at limits ts) → BeginsFileWithin limits ts
 unfolding read_then

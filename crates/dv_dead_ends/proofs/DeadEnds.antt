@@ -17,9 +17,11 @@ use Rattle.dv_dead_ends.proofs.Widening.{WidensAt, AnswersSame, GoesPast, unexpe
 use Rattle.dv_dead_ends.proofs.WideningReaders.{AreWidened, whole_widens}
 
 -- where a reader of files stops at a token, no file goes on
-none_begins : (limits : Limits) (ts : List Token) (o : Obstacle) (g : Stops (whole_at limits) ts o) → ¬ BeginsFileWithin limits (g.front ++ g.token ∷ [])
+none_begins : (limits : Limits) (ts : List Token) (o : Obstacle) (g : Stops (whole_at limits) ts o) → ¬ BeginsFileWithin limits
+    (g.front ++ g.token ∷ [])
 none_begins limits ts o g b =
-    let is : IsFileWithin limits (g.front ++ g.token ∷ b.0) b.1 = subst (λ (us : List Token). IsFileWithin limits us b.1) (append_assoc g.front (g.token ∷ []) b.0) b.2 in
+    let is : IsFileWithin limits (g.front ++ g.token ∷ b.0) b.1 =
+    subst (λ (us : List Token). IsFileWithin limits us b.1) (append_assoc g.front (g.token ∷ []) b.0) b.2 in
     file_refused limits (g.front ++ g.token ∷ b.0) o (file_err limits _ o (g.steady b.0)) b.1 is
 
 place_is : (o : Obstacle) (n end : ℕ) → IsAt o n → n ≡ (refusal_of o end).place
@@ -32,30 +34,36 @@ record StopsFirst (limits : Limits) (ts : List Token) (o : Obstacle) : Type 0 wh
   stops : Stops (whole_at limits) ts o
   begun : BeginsFileWithin limits stops.front
 
-same_stop : (limits : Limits) (ts : List Token) (o p : Obstacle) (g : Stops (whole_at limits) ts o) → Stops (whole_at limits) g.front p → p ≡ o
+same_stop : (limits : Limits) (ts : List Token) (o p : Obstacle) (g : Stops (whole_at limits) ts o) → Stops (whole_at limits) g.front p → p
+    ≡ o
 same_stop limits ts o p g h =
-    let whole : g.front ++ g.token ∷ g.behind ≡ h.front ++ h.token ∷ (h.behind ++ g.token ∷ g.behind) = ap (λ (us : List Token). us ++ g.token ∷ g.behind) h.whole ∙ append_assoc h.front (h.token ∷ h.behind) (g.token ∷ g.behind) in
+    let whole : g.front ++ g.token ∷ g.behind ≡ h.front ++ h.token ∷ (h.behind ++ g.token ∷ g.behind) =
+    ap (λ (us : List Token). us ++ g.token ∷ g.behind) h.whole ∙ append_assoc h.front (h.token ∷ h.behind) (g.token ∷ g.behind) in
     err_is _ _ (sym (h.steady (h.behind ++ g.token ∷ g.behind)) ∙ ap (whole_at limits) (sym whole) ∙ g.steady g.behind)
 
 -- a stop among the tokens before a stop
-earlier : (limits : Limits) (ts : List Token) (o p : Obstacle) (g : Stops (whole_at limits) ts o) → Stops (whole_at limits) g.front p → Stops (whole_at limits) ts o
+earlier : (limits : Limits) (ts : List Token) (o p : Obstacle) (g : Stops (whole_at limits) ts o) → Stops (whole_at limits) g.front p →
+    Stops (whole_at limits) ts o
 earlier limits ts o p g h =
     let same : p ≡ o = same_stop limits ts o p g h in
     record {
       front = h.front;
       token = h.token;
       behind = h.behind ++ g.token ∷ g.behind;
-      whole = g.whole ∙ ap (λ (us : List Token). us ++ g.token ∷ g.behind) h.whole ∙ append_assoc h.front (h.token ∷ h.behind) (g.token ∷ g.behind);
+      whole = g.whole ∙ ap (λ (us : List Token). us ++ g.token ∷ g.behind) h.whole ∙ append_assoc h.front (h.token ∷ h.behind)
+          (g.token ∷ g.behind);
       at = subst (λ (q : Obstacle). IsAt q h.token.place) same h.at;
       steady = λ other. h.steady other ∙ ap Err same;
     }
 
 -- what is read of the tokens before a stop leaves none of them
-read_before : (limits : Limits) (ts : List Token) (o : Obstacle) (g : Stops (whole_at limits) ts o) (x : WrittenFile) (rest : List Token) → whole_at limits g.front ≡ Ok (x, rest) → Unfinished (whole_at limits g.front)
+read_before : (limits : Limits) (ts : List Token) (o : Obstacle) (g : Stops (whole_at limits) ts o) (x : WrittenFile) (rest : List Token) →
+    whole_at limits g.front ≡ Ok (x, rest) → Unfinished (whole_at limits g.front)
 read_before limits ts o g x [] e = inr (x, e)
 read_before limits ts o g x (u ∷ us) e =
     let h = (whole_steady limits g.front).goes_on x u us e in
-    let whole : g.front ++ g.token ∷ g.behind ≡ h.front ++ u ∷ (us ++ g.token ∷ g.behind) = ap (λ (v : List Token). v ++ g.token ∷ g.behind) h.whole ∙ append_assoc h.front (u ∷ us) (g.token ∷ g.behind) in
+    let whole : g.front ++ g.token ∷ g.behind ≡ h.front ++ u ∷ (us ++ g.token ∷ g.behind) =
+    ap (λ (v : List Token). v ++ g.token ∷ g.behind) h.whole ∙ append_assoc h.front (u ∷ us) (g.token ∷ g.behind) in
     absurd (ok_err _ _ (sym (h.steady (us ++ g.token ∷ g.behind)) ∙ ap (whole_at limits) (sym whole) ∙ g.steady g.behind))
 
 shorter_front : (front : List Token) (t : Token) (behind : List Token) → length front < length (front ++ t ∷ behind)
@@ -63,18 +71,24 @@ shorter_front [] t behind = omega arith
 shorter_front (u ∷ front) t behind = omega (arith, shorter_front front t behind)
 
 -- by what is read of the tokens before a stop, where a stop among those leads to the first
-stop_by : (limits : Limits) → HaveRoom limits → (ts : List Token) (o : Obstacle) (g : Stops (whole_at limits) ts o) → ((h : Stops (whole_at limits) ts o) → length h.front < length g.front → StopsFirst limits ts o) → (a : Read (WrittenFile × List Token)) → whole_at limits g.front ≡ a → StopsFirst limits ts o
+stop_by : (limits : Limits) → HaveRoom limits → (ts : List Token) (o : Obstacle) (g : Stops (whole_at limits) ts o) →
+    ((h : Stops (whole_at limits) ts o) → length h.front < length g.front → StopsFirst limits ts o) →
+    (a : Read (WrittenFile × List Token)) → whole_at limits g.front ≡ a → StopsFirst limits ts o
 unfolding earlier
-stop_by limits room ts o g again (Ok x) e = record { stops = g; begun = begins_file limits room g.front (read_before limits ts o g x.0 x.1 e) }
+stop_by limits room ts o g again (Ok x) e =
+    record { stops = g; begun = begins_file limits room g.front (read_before limits ts o g x.0 x.1 e) }
 stop_by limits room ts o g again (Err p) e =
     elim ((whole_steady limits g.front).stops p e) [
       | inl short ↦ record { stops = g; begun = begins_file limits room g.front (inl (e ∙ ap Err short)) }
-      | inr h ↦ again (earlier limits ts o p g h) (subst (λ (us : List Token). length h.front < length us) (sym h.whole) (shorter_front h.front h.token h.behind))
+      | inr h ↦ again (earlier limits ts o p g h)
+          (subst (λ (us : List Token). length h.front < length us) (sym h.whole) (shorter_front h.front h.token h.behind))
     ]
 
-first_stop : (limits : Limits) → HaveRoom limits → (n : ℕ) (ts : List Token) (o : Obstacle) (g : Stops (whole_at limits) ts o) → length g.front < n → StopsFirst limits ts o
+first_stop : (limits : Limits) → HaveRoom limits → (n : ℕ) (ts : List Token) (o : Obstacle) (g : Stops (whole_at limits) ts o) →
+    length g.front < n → StopsFirst limits ts o
 first_stop limits room zero ts o g lt = absurd (omega (arith, lt))
-first_stop limits room (suc n) ts o g lt = stop_by limits room ts o g (λ h less. first_stop limits room n ts o h (omega (arith, less, lt))) (whole_at limits g.front) refl
+first_stop limits room (suc n) ts o g lt =
+    stop_by limits room ts o g (λ h less. first_stop limits room n ts o h (omega (arith, less, lt))) (whole_at limits g.front) refl
 
 -- ---- Fronts of one list
 
@@ -100,7 +114,8 @@ fronts (x ∷ a) t c (y ∷ b) u d e = let p = tail_is _ _ _ _ e in with_head x 
 
 -- the front of what begins a file begins it
 begins_front : (limits : Limits) (front more : List Token) → BeginsFileWithin limits (front ++ more) → BeginsFileWithin limits front
-begins_front limits front more b = (more ++ b.0, b.1, subst (λ (us : List Token). IsFileWithin limits us b.1) (append_assoc front more b.0) b.2)
+begins_front limits front more b =
+    (more ++ b.0, b.1, subst (λ (us : List Token). IsFileWithin limits us b.1) (append_assoc front more b.0) b.2)
 
 head_is : (front : List Token) (t u : Token) (c d : List Token) → front ++ t ∷ c ≡ front ++ u ∷ d → t ≡ u
 head_is [] t u c d e = (tail_is _ _ _ _ e).0
@@ -139,7 +154,8 @@ still_stops wide g ts place s = record {
   behind = s.behind;
   whole = s.whole;
   at = s.at;
-  steady = λ other. let us : List Token = s.front ++ s.token ∷ other in by_answer us ((whole_widens the_limits wide g).each us) (s.steady other);
+  steady = λ other. let us : List Token =
+      s.front ++ s.token ∷ other in by_answer us ((whole_widens the_limits wide g).each us) (s.steady other);
 }
   where
     by_answer : (us : List Token) → WidensAt (whole_at the_limits) (whole_at wide) us → whole_at the_limits us ≡ Err (Unexpected place)
@@ -148,15 +164,18 @@ still_stops wide g ts place s = record {
     by_answer us (GoesPast n d u) stop =
         absurd (unexpected_deep place n (err_is _ _ (sym stop ∙ ap (whole_at the_limits) d.whole ∙ d.steady d.behind)))
 
-none_deeper : (ts : List Token) (place : ℕ) (s : Stops (whole_at the_limits) ts (Unexpected place)) → ¬ BeginsFileAtAnyDepth (s.front ++ s.token ∷ [])
+none_deeper : (ts : List Token) (place : ℕ) (s : Stops (whole_at the_limits) ts (Unexpected place)) → ¬ BeginsFileAtAnyDepth
+    (s.front ++ s.token ∷ [])
 unfolding still_stops
 none_deeper ts place s b =
     let wide : Limits = above b.0 in
     let us : List Token = (s.front ++ s.token ∷ []) ++ b.1.0 in
-    none_begins wide ts (Unexpected place) (still_stops wide (above_ours b.0) ts place s) (b.1.0, b.1.1, file_within b.0 wide (above_theirs b.0) us b.1.1 b.1.2)
+    none_begins wide ts (Unexpected place) (still_stops wide (above_ours b.0) ts place s)
+    (b.1.0, b.1.1, file_within b.0 wide (above_theirs b.0) us b.1.1 b.1.2)
 
 -- a file that is nested deeper begins with the tokens up to one that is too deep
-begins_deeper : (wide : Limits) → AreWidened the_limits wide → (ts : List Token) (place : ℕ) (s : Stops (whole_at the_limits) ts (TooDeep place))
+begins_deeper : (wide : Limits) → AreWidened the_limits wide → (ts : List Token) (place : ℕ)
+    (s : Stops (whole_at the_limits) ts (TooDeep place))
     → BeginsFile s.front → BeginsFileWithin wide (s.front ++ s.token ∷ [])
 begins_deeper wide g ts place s begun = by_answer ((whole_widens the_limits wide g).each ts)
   where
@@ -164,7 +183,8 @@ begins_deeper wide g ts place s begun = by_answer ((whole_widens the_limits wide
     past : (n : ℕ) (d : Stops (whole_at the_limits) ts (TooDeep n)) → BeginsFileWithin wide (d.front ++ d.token ∷ [])
         → Fronts d.front d.token s.front s.token → BeginsFileWithin wide (s.front ++ s.token ∷ [])
     past n d b (Same e) =
-        let whole : s.front ++ d.token ∷ d.behind ≡ s.front ++ s.token ∷ s.behind = ap (λ (us : List Token). us ++ d.token ∷ d.behind) (sym e) ∙ sym d.whole ∙ s.whole in
+        let whole : s.front ++ d.token ∷ d.behind ≡ s.front ++ s.token ∷ s.behind =
+        ap (λ (us : List Token). us ++ d.token ∷ d.behind) (sym e) ∙ sym d.whole ∙ s.whole in
         let token : d.token ≡ s.token = head_is s.front d.token s.token d.behind s.behind whole in
         subst (BeginsFileWithin wide) (ap (λ (us : List Token). us ++ d.token ∷ []) e ∙ ap (λ (t : Token). s.front ++ t ∷ []) token) b
     past n d b (Longer more e) =
@@ -177,7 +197,8 @@ begins_deeper wide g ts place s begun = by_answer ((whole_widens the_limits wide
     by_answer : WidensAt (whole_at the_limits) (whole_at wide) ts → BeginsFileWithin wide (s.front ++ s.token ∷ [])
     by_answer (AnswersSame e shallow) = absurd (shallow.never place (ap (whole_at the_limits) s.whole ∙ s.steady s.behind))
     by_answer (GoesPast n d u) =
-        past n d (begins_file wide (greater_room the_limits wide g.greater) (d.front ++ d.token ∷ []) u) (fronts d.front d.token d.behind s.front s.token s.behind (sym d.whole ∙ s.whole))
+        past n d (begins_file wide (greater_room the_limits wide g.greater) (d.front ++ d.token ∷ []) u)
+        (fronts d.front d.token d.behind s.front s.token s.behind (sym d.whole ∙ s.whole))
 
 number_is : (ts : List Token) (o : Obstacle) (end : ℕ) (s : Stops (whole_at the_limits) ts o) → BeginsFile s.front
     → IsNumberOf (refusal_of o end).number (s.front ++ s.token ∷ [])
@@ -190,7 +211,15 @@ number_is ts TooShort end s begun = absurd s.at
 stopped : (ts : List Token) (end : ℕ) (o : Obstacle) → file_at the_limits ts ≡ Err o → IsDeadEnd ts end (refusal_of o end)
 stopped ts end o e =
     elim ((whole_steady the_limits ts).stops o (whole_err the_limits ts o e)) [
-      | inl short ↦ inr (ap (λ (p : Obstacle). refusal_of p end) short, record { begun = begins_file the_limits room ts (inl (whole_err the_limits ts o e ∙ ap Err short)); none = λ f is. file_refused the_limits ts o e f is })
+      | inl short ↦ inr (
+        ap
+            (λ (p : Obstacle). refusal_of p end) short,
+        record {
+          begun = begins_file the_limits room ts
+              (inl (whole_err the_limits ts o e ∙ ap Err short));
+          none = λ f is. file_refused the_limits ts o e f is;
+        },
+      )
       | inr s ↦
           let first = first_stop the_limits room (suc (length s.front)) ts o s (omega arith) in
           let g = first.stops in
@@ -220,12 +249,14 @@ token_among : (P : Token → Type 0) (before : List Token) (t : Token) (behind :
 token_among P [] t behind h = h 0 t (omega arith)
 token_among P (u ∷ before) t behind h = token_among P before t behind (λ k d lt. h (suc k) d (omega (arith, lt)))
 
-pub within_text : (ts : List Token) (end : ℕ) (r : Refusal) → All (λ (t : Token). t.place < end) ts → refusal_of_tokens ts end ≡ Some r → r.place ≤ end
+pub within_text : (ts : List Token) (end : ℕ) (r : Refusal) → All (λ (t : Token). t.place < end) ts → refusal_of_tokens ts end ≡ Some r →
+    r.place ≤ end
 within_text ts end r all h =
     elim (dead_end ts end r h) [
       | inl w ↦
           let d = w.first in
-          let here : All (λ (t : Token). t.place < end) (d.before ++ d.token ∷ d.behind) = subst (All (λ (t : Token). t.place < end)) d.whole all in
+          let here : All (λ (t : Token). t.place < end) (d.before ++ d.token ∷ d.behind) =
+          subst (All (λ (t : Token). t.place < end)) d.whole all in
           omega (arith, token_among (λ (t : Token). t.place < end) d.before d.token d.behind here, d.at)
       | inr d ↦ omega (arith, ap (λ (q : Refusal). q.place) d.0)
     ]
@@ -242,8 +273,11 @@ one_first ts m n a b = by (fronts a.before a.token a.behind b.before b.token b.b
 
 pub one_place : (ts : List Token) (m n : ℕ) → NoneBeginsAt ts m → NoneBeginsAt ts n → m ≡ n
 one_place ts m n a b =
-    let whole : a.before ++ a.token ∷ a.behind ≡ a.before ++ b.token ∷ b.behind = sym a.whole ∙ b.whole ∙ ap (λ (us : List Token). us ++ b.token ∷ b.behind) (sym (one_first ts m n a b)) in
+    let whole : a.before ++ a.token ∷ a.behind ≡ a.before ++ b.token ∷ b.behind =
+    sym a.whole ∙ b.whole ∙ ap (λ (us : List Token). us ++ b.token ∷ b.behind) (sym (one_first ts m n a b)) in
     sym a.at ∙ ap (λ (t : Token). t.place) (head_is a.before a.token b.token a.behind b.behind whole) ∙ b.at
 
 pub none_at_end : (ts : List Token) (n : ℕ) → NoneBeginsAt ts n → ¬ BeginsFile ts
-none_at_end ts n a b = a.none (begins_front the_limits (a.before ++ a.token ∷ []) a.behind (subst BeginsFile (a.whole ∙ sym (append_assoc a.before (a.token ∷ []) a.behind)) b))
+none_at_end ts n a b = a.none
+    (begins_front the_limits (a.before ++ a.token ∷ []) a.behind
+    (subst BeginsFile (a.whole ∙ sym (append_assoc a.before (a.token ∷ []) a.behind)) b))

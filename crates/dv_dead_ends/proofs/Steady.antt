@@ -62,28 +62,56 @@ pub data ByFirst {A : Type 0} (read : Reader A) (t : Token) : Type 0 where
   Leaves : (x : A) → ((ts : List Token) → read (t ∷ ts) ≡ Ok (x, t ∷ ts)) → ByFirst read t
   StopsThere : (o : Obstacle) → IsAt o t.place → ((ts : List Token) → read (t ∷ ts) ≡ Err o) → ByFirst read t
 
-first_goes_on : {A : Type 0} (read : Reader A) (u : Token) (us : List Token) (x : A) (t : Token) (more : List Token) → ByFirst read u → read (u ∷ us) ≡ Ok (x, t ∷ more) → GoesOn read (u ∷ us) x t more
+first_goes_on : {A : Type 0} (read : Reader A) (u : Token) (us : List Token) (x : A) (t : Token) (more : List Token) → ByFirst read u → read
+    (u ∷ us) ≡ Ok (x, t ∷ more) → GoesOn read (u ∷ us) x t more
 first_goes_on read u us x t more (ReadsOn next s h) e =
     let g = (s us).goes_on x t more (sym (h us) ∙ e) in
-    record { front = u ∷ g.front; whole = ap (λ (ts : List Token). u ∷ ts) g.whole; steady = λ other. h (g.front ++ t ∷ other) ∙ g.steady other }
+    record {
+      front = u ∷ g.front;
+      whole = ap (λ (ts : List Token). u ∷ ts) g.whole;
+      steady = λ other. h (g.front ++ t ∷ other)
+          ∙ g.steady other;
+    }
 first_goes_on {A = A} read u us x t more (Leaves y h) e =
     let p : ◌≡◌ {A = A × List Token} (y, u ∷ us) (x, t ∷ more) = ok_is _ _ (sym (h us) ∙ e) in
     let value : y ≡ x = ap (λ (z : A × List Token). z.0) p in
     let whole : u ∷ us ≡ t ∷ more = ap (λ (z : A × List Token). z.1) p in
     let token : u ≡ t = cc in
-    record { front = []; whole = whole; steady = λ other. subst (λ (v : Token). read (v ∷ other) ≡ Ok (x, v ∷ other)) token (h other ∙ ap (λ (z : A). Ok (z, u ∷ other)) value) }
+    record {
+      front = [];
+      whole = whole;
+      steady = λ other. subst (λ (v : Token). read (v ∷ other) ≡ Ok (x, v ∷ other)) token
+          (h other ∙ ap (λ (z : A). Ok (z, u ∷ other)) value);
+    }
 first_goes_on read u us x t more (StopsThere o at h) e = absurd (err_ok _ _ (sym (h us) ∙ e))
 
-first_stops : {A : Type 0} (read : Reader A) (u : Token) (us : List Token) (o : Obstacle) → ByFirst read u → read (u ∷ us) ≡ Err o → (o ≡ TooShort) ⊎ Stops read (u ∷ us) o
+first_stops : {A : Type 0} (read : Reader A) (u : Token) (us : List Token) (o : Obstacle) → ByFirst read u → read (u ∷ us) ≡ Err o →
+    (o ≡ TooShort) ⊎ Stops read (u ∷ us) o
 first_stops read u us o (ReadsOn next s h) e =
     elim ((s us).stops o (sym (h us) ∙ e)) [
       | inl short ↦ inl short
-      | inr g ↦ inr (record { front = u ∷ g.front; token = g.token; behind = g.behind; whole = ap (λ (ts : List Token). u ∷ ts) g.whole; at = g.at; steady = λ other. h (g.front ++ g.token ∷ other) ∙ g.steady other })
+      | inr g ↦ inr (record {
+        front = u ∷ g.front;
+        token = g.token;
+        behind = g.behind;
+        whole = ap
+            (λ (ts : List Token). u ∷ ts) g.whole;
+        at = g.at;
+        steady = λ other. h (g.front ++ g.token ∷ other) ∙ g.steady other;
+      })
     ]
 first_stops read u us o (Leaves y h) e = absurd (ok_err _ _ (sym (h us) ∙ e))
 first_stops read u us o (StopsThere p at h) e =
     let same : p ≡ o = err_is _ _ (sym (h us) ∙ e) in
-    inr (record { front = []; token = u; behind = us; whole = refl; at = subst (λ (q : Obstacle). IsAt q u.place) same at; steady = λ other. h other ∙ ap Err same })
+    inr (record {
+      front = [];
+      token = u;
+      behind = us;
+      whole = refl;
+      at = subst
+          (λ (q : Obstacle). IsAt q u.place) same at;
+      steady = λ other. h other ∙ ap Err same;
+    })
 
 -- at the end, a reader stops or has read
 abbrev pub AtEnd : {A : Type 0} → Reader A → Type 0
@@ -125,21 +153,26 @@ same_place [] t more other = refl
 same_place (u ∷ front) t more other = refl
 
 -- what is read stays, also where more is kept behind it
-pub wider : {A : Type 0} (read : Reader A) (ts : List Token) (x : A) (kept : List Token) (t : Token) (more : List Token) → SteadyAt read ts → read ts ≡ Ok (x, kept ++ t ∷ more)
-    → (front : List Token) × (ts ≡ front ++ (kept ++ t ∷ more)) × ((other : List Token) → read (front ++ (kept ++ t ∷ other)) ≡ Ok (x, kept ++ t ∷ other))
+pub wider : {A : Type 0} (read : Reader A) (ts : List Token) (x : A) (kept : List Token) (t : Token) (more : List Token) →
+    SteadyAt read ts → read ts ≡ Ok (x, kept ++ t ∷ more)
+    → (front : List Token) × (ts ≡ front ++ (kept ++ t ∷ more)) ×
+    ((other : List Token) → read (front ++ (kept ++ t ∷ other)) ≡ Ok (x, kept ++ t ∷ other))
 wider read ts x [] t more s e = let g = s.goes_on x t more e in (g.front, g.whole, g.steady)
 wider read ts x (u ∷ kept) t more s e =
     let g = s.goes_on x u (kept ++ t ∷ more) e in
     (g.front, g.whole, λ other. g.steady (kept ++ t ∷ other))
 
-pub after_both : {A B : Type 0} (first : Reader A) (second : ℕ → A → Reader B) (front kept : List Token) (t : Token) (other : List Token) (place : ℕ) (x : A) (answer : Read (B × List Token)) → first (front ++ (kept ++ t ∷ other)) ≡ Ok (x, kept ++ t ∷ other) → place_at ((front ++ kept) ++ t ∷ other) ≡ place → second place x (kept ++ t ∷ other) ≡ answer
+pub after_both : {A B : Type 0} (first : Reader A) (second : ℕ → A → Reader B) (front kept : List Token) (t : Token) (other : List Token)
+    (place : ℕ) (x : A) (answer : Read (B × List Token)) → first (front ++ (kept ++ t ∷ other)) ≡ Ok (x, kept ++ t ∷ other) → place_at
+    ((front ++ kept) ++ t ∷ other) ≡ place → second place x (kept ++ t ∷ other) ≡ answer
     → read_then (first ((front ++ kept) ++ t ∷ other)) (λ y. second (place_at ((front ++ kept) ++ t ∷ other)) y.0 y.1) ≡ answer
 unfolding read_then
 after_both {A = A} first second front kept t other place x answer f p s =
     let here : first ((front ++ kept) ++ t ∷ other) ≡ Ok (x, kept ++ t ∷ other) = ap first (append_assoc front kept (t ∷ other)) ∙ f in
     rw (here, p) s
 
-parted : {A B : Type 0} (r : Read A) (f : A → Read B) (o : Obstacle) → read_then r f ≡ Err o → (r ≡ Err o) ⊎ ((x : A) × (r ≡ Ok x) × (f x ≡ Err o))
+parted : {A B : Type 0} (r : Read A) (f : A → Read B) (o : Obstacle) → read_then r f ≡ Err o → (r ≡ Err o) ⊎
+    ((x : A) × (r ≡ Ok x) × (f x ≡ Err o))
 unfolding read_then
 parted (Ok x) f o e = inr (x, refl, e)
 parted (Err p) f o e = inl (ap Err (err_is p o e))
@@ -148,7 +181,8 @@ pub then_err : {A B : Type 0} (r : Read A) (f : A → Read B) (o : Obstacle) →
 unfolding read_then
 then_err r f o e = rw e refl
 
-pub then_at : {A B : Type 0} (first : Reader A) (second : ℕ → A → Reader B) (ts : List Token) → SteadyAt first ts → ((x : A) (rest : List Token) → first ts ≡ Ok (x, rest) → SteadyAt (second (place_at ts) x) rest)
+pub then_at : {A B : Type 0} (first : Reader A) (second : ℕ → A → Reader B) (ts : List Token) → SteadyAt first ts →
+    ((x : A) (rest : List Token) → first ts ≡ Ok (x, rest) → SteadyAt (second (place_at ts) x) rest)
     → SteadyAt (λ us. read_then (first us) (λ x. second (place_at us) x.0 x.1)) ts
 unfolding read_then
 then_at {A = A} {B = B} first second ts s h = record {
@@ -160,7 +194,8 @@ then_at {A = A} {B = B} first second ts s h = record {
       record {
         front = w.0 ++ g.front;
         whole = whole;
-        steady = λ other. after_both first second w.0 g.front t other (place_at ts) a.0.0 (Ok (y, t ∷ other)) (w.2 other) (same_place (w.0 ++ g.front) t other more ∙ ap place_at (sym whole)) (g.steady other);
+        steady = λ other. after_both first second w.0 g.front t other (place_at ts) a.0.0 (Ok (y, t ∷ other)) (w.2 other)
+            (same_place (w.0 ++ g.front) t other more ∙ ap place_at (sym whole)) (g.steady other);
       };
   stops = λ o e.
       elim (parted (first ts) (λ x. second (place_at ts) x.0 x.1) o e) [
@@ -179,13 +214,15 @@ then_at {A = A} {B = B} first second ts s h = record {
                 behind = g.behind;
                 whole = whole;
                 at = g.at;
-                steady = λ other. after_both first second w.0 g.front g.token other (place_at ts) a.0.0 (Err o) (w.2 other) (same_place (w.0 ++ g.front) g.token other g.behind ∙ ap place_at (sym whole)) (g.steady other);
+                steady = λ other. after_both first second w.0 g.front g.token other (place_at ts) a.0.0 (Err o) (w.2 other)
+                    (same_place (w.0 ++ g.front) g.token other g.behind ∙ ap place_at (sym whole)) (g.steady other);
               })
         ]
       ];
 }
 
-pub then_steady : {A B : Type 0} (first : Reader A) (second : ℕ → A → Reader B) → IsSteady first → ((place : ℕ) (x : A) → IsSteady (second place x)) → IsSteady (λ us. read_then (first us) (λ x. second (place_at us) x.0 x.1))
+pub then_steady : {A B : Type 0} (first : Reader A) (second : ℕ → A → Reader B) → IsSteady first →
+    ((place : ℕ) (x : A) → IsSteady (second place x)) → IsSteady (λ us. read_then (first us) (λ x. second (place_at us) x.0 x.1))
 then_steady first second s h ts = then_at first second ts (s ts) (λ x rest e. h (place_at ts) x rest)
 
 -- ---- A choice by the first token
@@ -209,7 +246,8 @@ pub begins_call_of_first : IsOfFirst begins_call
 begins_call_of_first [] t more other = refl
 begins_call_of_first (u ∷ front) t more other = refl
 
-pub choose_at : {A : Type 0} (test : List Token → Bool) (one two : Reader A) (ts : List Token) → IsOfFirst test → SteadyAt one ts → SteadyAt two ts → SteadyAt (λ us. choose (test us) (one us) (two us)) ts
+pub choose_at : {A : Type 0} (test : List Token → Bool) (one two : Reader A) (ts : List Token) → IsOfFirst test → SteadyAt one ts →
+    SteadyAt two ts → SteadyAt (λ us. choose (test us) (one us) (two us)) ts
 unfolding choose
 choose_at {A = A} test one two ts of_first y n =
     elim (cases_Bool (test ts)) [
@@ -217,24 +255,41 @@ choose_at {A = A} test one two ts of_first y n =
       | inr e ↦ branch false e two (λ us h. rw h refl) n
     ]
   where
-    branch : (b : Bool) → test ts ≡ b → (read : Reader A) → ((us : List Token) → test us ≡ b → choose (test us) (one us) (two us) ≡ read us) → SteadyAt read ts → SteadyAt (λ us. choose (test us) (one us) (two us)) ts
+    branch : (b : Bool) → test ts ≡ b → (read : Reader A) →
+        ((us : List Token) → test us ≡ b → choose (test us) (one us) (two us) ≡ read us) → SteadyAt read ts → SteadyAt
+        (λ us. choose (test us) (one us) (two us)) ts
     branch b e read h s = record {
       goes_on = λ x t more f.
           let g = s.goes_on x t more (sym (h ts e) ∙ f) in
-          record { front = g.front; whole = g.whole; steady = λ other. h (g.front ++ t ∷ other) (of_first g.front t other more ∙ ap test (sym g.whole) ∙ e) ∙ g.steady other };
+          record {
+            front = g.front;
+            whole = g.whole;
+            steady = λ other. h (g.front ++ t ∷ other)
+                (of_first g.front t other more ∙ ap test (sym g.whole) ∙ e) ∙ g.steady other;
+          };
       stops = λ o f.
           elim (s.stops o (sym (h ts e) ∙ f)) [
             | inl short ↦ inl short
-            | inr g ↦ inr (record { front = g.front; token = g.token; behind = g.behind; whole = g.whole; at = g.at; steady = λ other. h (g.front ++ g.token ∷ other) (of_first g.front g.token other g.behind ∙ ap test (sym g.whole) ∙ e) ∙ g.steady other })
+            | inr g ↦ inr (record {
+              front = g.front;
+              token = g.token;
+              behind = g.behind;
+              whole = g.whole;
+              at = g.at;
+              steady = λ other. h
+                  (g.front ++ g.token ∷ other) (of_first g.front g.token other g.behind ∙ ap test (sym g.whole) ∙ e) ∙ g.steady other;
+            })
           ];
     }
 
-pub choose_steady : {A : Type 0} (k : TokenKind) (one two : Reader A) → IsSteady one → IsSteady two → IsSteady (λ us. choose (begins k us) (one us) (two us))
+pub choose_steady : {A : Type 0} (k : TokenKind) (one two : Reader A) → IsSteady one → IsSteady two → IsSteady
+    (λ us. choose (begins k us) (one us) (two us))
 choose_steady k one two y n ts = choose_at (begins k) one two ts (begins_of_first k) (y ts) (n ts)
 
 -- ---- Single tokens
 
-pub after_steady : {B : Type 0} (k : TokenKind) (second : ℕ → Reader B) → ((place : ℕ) → IsSteady (second place)) → IsSteady (λ us. read_then (after k us) (λ rest. second (place_at us) rest))
+pub after_steady : {B : Type 0} (k : TokenKind) (second : ℕ → Reader B) → ((place : ℕ) → IsSteady (second place)) → IsSteady
+    (λ us. read_then (after k us) (λ rest. second (place_at us) rest))
 unfolding after place_at choose read_then
 after_steady k second s =
     by_first _ (inl refl) (λ t.
@@ -257,16 +312,20 @@ pub name_steady : IsSteady name_at
 unfolding name_at
 name_steady = by_first name_at (inl refl) (λ t. one t.kind t.place t (λ ts. refl) refl)
   where
-    one : (k : TokenKind) (place : ℕ) (t : Token) → ((ts : List Token) → name_at (t ∷ ts) ≡ name_of k place ts) → t.place ≡ place → ByFirst name_at t
-    one (kind.Name n) place t h at = ReadsOn (λ ts. Ok (record { number = n; place = place }, ts)) (leaves_steady (record { number = n; place = place })) h
+    one : (k : TokenKind) (place : ℕ) (t : Token) → ((ts : List Token) → name_at (t ∷ ts) ≡ name_of k place ts) → t.place ≡ place →
+        ByFirst name_at t
+    one (kind.Name n) place t h at =
+        ReadsOn (λ ts. Ok (record { number = n; place = place }, ts)) (leaves_steady (record { number = n; place = place })) h
     one _ place t h at = StopsThere (Unexpected place) at h
 
 pub number_steady : IsSteady number_at
 unfolding number_at
 number_steady = by_first number_at (inl refl) (λ t. one t.kind t.place t (λ ts. refl) refl)
   where
-    one : (k : TokenKind) (place : ℕ) (t : Token) → ((ts : List Token) → number_at (t ∷ ts) ≡ number_of k place ts) → t.place ≡ place → ByFirst number_at t
-    one (kind.Number n) place t h at = ReadsOn (λ ts. Ok (record { value = n; place = place }, ts)) (leaves_steady (record { value = n; place = place })) h
+    one : (k : TokenKind) (place : ℕ) (t : Token) → ((ts : List Token) → number_at (t ∷ ts) ≡ number_of k place ts) → t.place ≡ place →
+        ByFirst number_at t
+    one (kind.Number n) place t h at =
+        ReadsOn (λ ts. Ok (record { value = n; place = place }, ts)) (leaves_steady (record { value = n; place = place })) h
     one _ place t h at = StopsThere (Unexpected place) at h
 
 pub truth_steady : IsSteady truth_at
@@ -289,20 +348,25 @@ call_word_steady =
 
 -- ---- Lists
 
-pub many_step : {A : Type 0} (one : Reader A) (stop : TokenKind) → Shortens one → (ts : List Token) → many_at one stop ts ≡ choose (begins stop ts) (Ok ([], ts)) (read_then (one ts) (λ x. read_then (many_at one stop x.1) (λ xs. Ok (x.0 ∷ xs.0, xs.1))))
+pub many_step : {A : Type 0} (one : Reader A) (stop : TokenKind) → Shortens one → (ts : List Token) → many_at one stop ts ≡ choose
+    (begins stop ts) (Ok ([], ts)) (read_then (one ts) (λ x. read_then (many_at one stop x.1) (λ xs. Ok (x.0 ∷ xs.0, xs.1))))
 unfolding many_at
 many_step {A = A} one stop s ts =
     ap (λ (rest : Read (List A × List Token)). choose (begins stop ts) (Ok ([], ts)) rest)
-    (same_after (one ts) (λ x. read_then (many one stop (length ts) x.1) (λ xs. Ok (x.0 ∷ xs.0, xs.1))) (λ x. read_then (many one stop (suc (length x.1)) x.1) (λ xs. Ok (x.0 ∷ xs.0, xs.1)))
-    (λ x e. ap (λ (r : Read (List A × List Token)). read_then r (λ xs. Ok (x.0 ∷ xs.0, xs.1))) (same_many one stop s (length ts) (suc (length x.1)) x.1 (omega (arith, s ts x e)) (omega arith))))
+    (same_after (one ts) (λ x. read_then (many one stop (length ts) x.1) (λ xs. Ok (x.0 ∷ xs.0, xs.1)))
+    (λ x. read_then (many one stop (suc (length x.1)) x.1) (λ xs. Ok (x.0 ∷ xs.0, xs.1)))
+    (λ x e. ap (λ (r : Read (List A × List Token)). read_then r (λ xs. Ok (x.0 ∷ xs.0, xs.1)))
+    (same_many one stop s (length ts) (suc (length x.1)) x.1 (omega (arith, s ts x e)) (omega arith))))
 
-many_within : {A : Type 0} (one : Reader A) (stop : TokenKind) → Shortens one → IsSteady one → (n : ℕ) (ts : List Token) → length ts < n → SteadyAt (many_at one stop) ts
+many_within : {A : Type 0} (one : Reader A) (stop : TokenKind) → Shortens one → IsSteady one → (n : ℕ) (ts : List Token) → length ts < n →
+    SteadyAt (many_at one stop) ts
 many_within one stop short s zero ts lt = absurd (omega (arith, lt))
 many_within {A = A} one stop short s (suc n) ts lt =
     same_steady (many_at one stop) _ (many_step one stop short) ts
     (choose_at (begins stop) (λ us. Ok ([], us)) _ ts (begins_of_first stop) (leaves_steady [] ts)
     (then_at one (λ place x us. read_then (many_at one stop us) (λ xs. Ok (x ∷ xs.0, xs.1))) ts (s ts) (λ x rest e.
-    then_at (many_at one stop) (λ place xs us. Ok (x ∷ xs, us)) rest (many_within one stop short s n rest (omega (arith, short ts (x, rest) e, lt))) (λ xs last f. leaves_steady (x ∷ xs) last))))
+    then_at (many_at one stop) (λ place xs us. Ok (x ∷ xs, us)) rest
+    (many_within one stop short s n rest (omega (arith, short ts (x, rest) e, lt))) (λ xs last f. leaves_steady (x ∷ xs) last))))
 
 pub many_steady : {A : Type 0} (one : Reader A) (stop : TokenKind) → Shortens one → IsSteady one → IsSteady (many_at one stop)
 many_steady one stop short s ts = many_within one stop short s (suc (length ts)) ts (omega arith)

@@ -49,7 +49,8 @@ leaf_steady ts =
     (choose_steady (kind.Keyword keyword.Elapsed) _ _ elapsed_steady
     (then_steady number_at _ number_steady (λ _ n. leaves_steady (Literal n))) ts)))
 
-parens_steady : (operand : ℕ → Reader Expression) → ((level : ℕ) → IsSteady (operand level)) → (limit : ℕ) → IsSteady (parens_at operand limit)
+parens_steady : (operand : ℕ → Reader Expression) → ((level : ℕ) → IsSteady (operand level)) → (limit : ℕ) → IsSteady
+    (parens_at operand limit)
 unfolding parens_at within read_then
 parens_steady operand s zero = deep_steady (kind.Symbol symbol.OpenParen)
 parens_steady operand s (suc limit) =
@@ -57,7 +58,8 @@ parens_steady operand s (suc limit) =
     then_steady (operand 0) _ (s 0) (λ _ e.
     after_steady (kind.Symbol symbol.CloseParen) _ (λ _. leaves_steady (Parens place e))))
 
-prefixed_steady : (o : Prefix) (operand : ℕ → Reader Expression) → ((level : ℕ) → IsSteady (operand level)) → (limit : ℕ) → IsSteady (prefixed_at o operand limit)
+prefixed_steady : (o : Prefix) (operand : ℕ → Reader Expression) → ((level : ℕ) → IsSteady (operand level)) → (limit : ℕ) → IsSteady
+    (prefixed_at o operand limit)
 unfolding prefixed_at within read_then
 prefixed_steady o operand s zero = deep_steady (prefix_kind o)
 prefixed_steady o operand s (suc limit) =
@@ -80,16 +82,19 @@ pub begins_prefix_of_first : (o : Prefix) (level : ℕ) → IsOfFirst (begins_pr
 begins_prefix_of_first o level [] t more other = refl
 begins_prefix_of_first o level (u ∷ front) t more other = refl
 
-pub primary_steady : (operand : ℕ → Reader Expression) → ((level : ℕ) → IsSteady (operand level)) → (limit level : ℕ) → IsSteady (primary_at operand limit level)
+pub primary_steady : (operand : ℕ → Reader Expression) → ((level : ℕ) → IsSteady (operand level)) → (limit level : ℕ) → IsSteady
+    (primary_at operand limit level)
 unfolding primary_at
 primary_steady operand s limit level =
     choose_steady (kind.Symbol symbol.OpenParen) _ _ (parens_steady operand s limit)
     (choose_steady (kind.Keyword keyword.Times) _ _ (times_steady operand s limit)
-    (λ ts. choose_at (begins_prefix prefix.Minus level) _ _ ts (begins_prefix_of_first prefix.Minus level) (prefixed_steady prefix.Minus operand s limit ts)
+    (λ ts. choose_at (begins_prefix prefix.Minus level) _ _ ts (begins_prefix_of_first prefix.Minus level)
+    (prefixed_steady prefix.Minus operand s limit ts)
     (choose_at (begins_prefix prefix.Not level) _ _ ts (begins_prefix_of_first prefix.Not level)
     (prefixed_steady prefix.Not operand s limit ts) (leaf_steady ts))))
 
-turns_steady : (operand : ℕ → Reader Expression) → ((level : ℕ) → IsSteady (operand level)) → (limit more level : ℕ) (left : Expression) → IsSteady (turns operand limit more level left)
+turns_steady : (operand : ℕ → Reader Expression) → ((level : ℕ) → IsSteady (operand level)) → (limit more level : ℕ) (left : Expression) →
+    IsSteady (turns operand limit more level left)
 unfolding operator_at maybe choose place_at
 turns_steady operand s limit zero level left =
     by_first _ (inr (left, refl)) (λ t.
@@ -107,8 +112,10 @@ turns_steady operand s limit (suc more) level left =
       | inr o ↦ elim (cases_Bool (goes_on level left o.0)) [
         | inl e ↦ elim (cases_Bool (ltb (depth left) limit)) [
           | inl d ↦
-              ReadsOn (λ ts. read_then (operand (operator_rank o.0 + 1) ts) (λ right. turns operand limit more level (Binary o.0 left right.0) right.1))
-              (then_steady (operand (operator_rank o.0 + 1)) _ (s (operator_rank o.0 + 1)) (λ _ right. turns_steady operand s limit more level (Binary o.0 left right)))
+              ReadsOn (λ ts. read_then (operand (operator_rank o.0 + 1) ts)
+              (λ right. turns operand limit more level (Binary o.0 left right.0) right.1))
+              (then_steady (operand (operator_rank o.0 + 1)) _ (s (operator_rank o.0 + 1))
+              (λ _ right. turns_steady operand s limit more level (Binary o.0 left right)))
               (λ ts. rw (o.1, e, d) refl)
           | inr d ↦ StopsThere (TooDeep t.place) refl (λ ts. rw (o.1, e, d) refl)
         ]
@@ -120,7 +127,8 @@ pub expression_steady : (limit level : ℕ) → IsSteady (expression_at limit le
 unfolding expression_at
 expression_steady zero level = short_steady
 expression_steady (suc limit) level =
-    then_steady (primary_at (expression_at limit) limit level) _ (primary_steady (expression_at limit) (expression_steady limit) limit level)
+    then_steady (primary_at (expression_at limit) limit level) _
+    (primary_steady (expression_at limit) (expression_steady limit) limit level)
     (λ _ e. turns_steady (expression_at limit) (expression_steady limit) (suc limit) (suc limit) level e)
 
 -- ---- Statements
@@ -215,7 +223,8 @@ pub bound_steady : IsSteady bound_at
 unfolding bound_at
 bound_steady =
     choose_steady (kind.Symbol symbol.Minus) _ _
-    (after_steady (kind.Symbol symbol.Minus) _ (λ place. then_steady number_at _ number_steady (λ _ n. leaves_steady (record { minus = Some place; magnitude = n }))))
+    (after_steady (kind.Symbol symbol.Minus) _
+    (λ place. then_steady number_at _ number_steady (λ _ n. leaves_steady (record { minus = Some place; magnitude = n }))))
     (then_steady number_at _ number_steady (λ _ n. leaves_steady (record { minus = None; magnitude = n })))
 
 pub variable_steady : IsSteady variable_at
@@ -257,7 +266,8 @@ unfolding phases_at
 phases_steady =
     after_steady (kind.Keyword keyword.Phases) _ (λ place.
     then_steady name_at _ name_steady (λ _ n.
-    then_steady (many_at further_name_at (kind.Symbol symbol.Semicolon)) _ (many_steady further_name_at (kind.Symbol symbol.Semicolon) further_name_shortens further_name_steady) (λ _ ns.
+    then_steady (many_at further_name_at (kind.Symbol symbol.Semicolon)) _
+    (many_steady further_name_at (kind.Symbol symbol.Semicolon) further_name_shortens further_name_steady) (λ _ ns.
     after_steady (kind.Symbol symbol.Semicolon) _ (λ _. leaves_steady (Lists (record { place = place; names = n ∷ ns }))))))
 
 start_steady : IsSteady start_at
@@ -312,8 +322,10 @@ item_steady limits =
     (then_steady (port_at keyword.In) _ (port_steady keyword.In) (λ _ n. leaves_steady (Declares (declaration.In n))))
     (choose_steady (kind.Keyword keyword.Out) _ _
     (then_steady (port_at keyword.Out) _ (port_steady keyword.Out) (λ _ n. leaves_steady (Declares (declaration.Out n))))
-    (choose_steady (kind.Keyword keyword.Var) _ _ (then_steady variable_at _ variable_steady (λ _ v. leaves_steady (Declares (declaration.Var v))))
-    (choose_steady (kind.Keyword keyword.Flag) _ _ (then_steady flag_at _ flag_steady (λ _ f. leaves_steady (Declares (declaration.Flag f))))
+    (choose_steady (kind.Keyword keyword.Var) _ _
+    (then_steady variable_at _ variable_steady (λ _ v. leaves_steady (Declares (declaration.Var v))))
+    (choose_steady (kind.Keyword keyword.Flag) _ _
+    (then_steady flag_at _ flag_steady (λ _ f. leaves_steady (Declares (declaration.Flag f))))
     (choose_steady (kind.Keyword keyword.Bag) _ _ (then_steady bag_at _ bag_steady (λ _ b. leaves_steady (Declares (declaration.Bag b))))
     (choose_steady (kind.Keyword keyword.Phases) _ _ phases_steady
     (choose_steady (kind.Keyword keyword.Start) _ _ start_steady
@@ -324,7 +336,8 @@ unfolding atomic_at
 atomic_steady limits =
     after_steady (kind.Keyword keyword.Atomic) _ (λ _.
     then_steady name_at _ name_steady (λ _ n.
-    then_steady (braces_at (item_at limits)) _ (braces_steady (item_at limits) (item_shortens limits) (item_steady limits)) (λ _ items. leaves_steady (n, items))))
+    then_steady (braces_at (item_at limits)) _ (braces_steady (item_at limits) (item_shortens limits) (item_steady limits))
+    (λ _ items. leaves_steady (n, items))))
 
 -- ---- Coupled models
 
@@ -332,8 +345,12 @@ pub end_steady : IsSteady end_at
 unfolding end_at
 end_steady =
     choose_steady (kind.Keyword keyword.Itself) _ _
-    (after_steady (kind.Keyword keyword.Itself) _ (λ _. after_steady (kind.Symbol symbol.Dot) _ (λ _. then_steady name_at _ name_steady (λ _ port. leaves_steady (record { part = None; port = port })))))
-    (then_steady name_at _ name_steady (λ _ part. after_steady (kind.Symbol symbol.Dot) _ (λ _. then_steady name_at _ name_steady (λ _ port. leaves_steady (record { part = Some part; port = port })))))
+    (after_steady (kind.Keyword keyword.Itself) _
+    (λ _. after_steady (kind.Symbol symbol.Dot) _
+    (λ _. then_steady name_at _ name_steady (λ _ port. leaves_steady (record { part = None; port = port })))))
+    (then_steady name_at _ name_steady
+    (λ _ part. after_steady (kind.Symbol symbol.Dot) _
+    (λ _. then_steady name_at _ name_steady (λ _ port. leaves_steady (record { part = Some part; port = port })))))
 
 pub part_steady : IsSteady part_at
 unfolding part_at
@@ -368,7 +385,8 @@ unfolding coupled_at
 coupled_steady =
     after_steady (kind.Keyword keyword.Coupled) _ (λ _.
     then_steady name_at _ name_steady (λ _ n.
-    then_steady (braces_at coupled_item_at) _ (braces_steady coupled_item_at coupled_item_shortens coupled_item_steady) (λ _ items. leaves_steady (n, items))))
+    then_steady (braces_at coupled_item_at) _ (braces_steady coupled_item_at coupled_item_shortens coupled_item_steady)
+    (λ _ items. leaves_steady (n, items))))
 
 -- ---- Files
 
@@ -388,7 +406,9 @@ unfolding last_at choose obstacle_at
 last_steady f = by_first (last_at f) (inr (f, refl)) (λ t. StopsThere (Unexpected t.place) refl (λ ts. refl))
 
 unfoldable pub root_at : List WrittenModel → Reader WrittenFile
-root_at models ts = read_then (after (kind.Keyword keyword.Root) ts) (λ behind. read_then (name_at behind) (λ n. read_then (after (kind.Symbol symbol.Semicolon) n.1) (λ rest. last_at (record { models = models; root = n.0 }) rest)))
+root_at models ts = read_then (after (kind.Keyword keyword.Root) ts)
+    (λ behind. read_then (name_at behind)
+    (λ n. read_then (after (kind.Symbol symbol.Semicolon) n.1) (λ rest. last_at (record { models = models; root = n.0 }) rest)))
 
 root_steady : (models : List WrittenModel) → IsSteady (root_at models)
 unfolding root_at
@@ -402,7 +422,9 @@ whole_at limits ts = read_then (many_at (model_at limits) (kind.Keyword keyword.
 
 pub whole_steady : (limits : Limits) → IsSteady (whole_at limits)
 unfolding whole_at
-whole_steady limits = then_steady (many_at (model_at limits) (kind.Keyword keyword.Root)) (λ _ models. root_at models) (many_steady (model_at limits) (kind.Keyword keyword.Root) (model_shortens limits) (model_steady limits)) (λ _ models. root_steady models)
+whole_steady limits = then_steady (many_at (model_at limits) (kind.Keyword keyword.Root)) (λ _ models. root_at models)
+    (many_steady (model_at limits) (kind.Keyword keyword.Root) (model_shortens limits) (model_steady limits))
+    (λ _ models. root_steady models)
 
 abbrev pub as_file : WrittenFile × List Token → Read WrittenFile
 as_file x = Ok x.0

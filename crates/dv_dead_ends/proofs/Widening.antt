@@ -109,7 +109,8 @@ both_short narrow wide n w = alike narrow wide [] (Err TooShort) (λ place e. sh
 
 -- ---- What reads nothing
 
-pub leaves_at : {A : Type 0} (narrow wide : Reader A) (ts : List Token) (x : A) → narrow ts ≡ Ok (x, ts) → wide ts ≡ Ok (x, ts) → WidensAt narrow wide ts
+pub leaves_at : {A : Type 0} (narrow wide : Reader A) (ts : List Token) (x : A) → narrow ts ≡ Ok (x, ts) → wide ts ≡ Ok (x, ts) →
+    WidensAt narrow wide ts
 leaves_at narrow wide ts x n w = alike narrow wide ts (Ok (x, ts)) (λ place. ok_err _ _) n w
 
 pub leaves_widens : {A : Type 0} (x : A) → Widens (λ ts. Ok (x, ts)) (λ ts. Ok (x, ts))
@@ -180,7 +181,8 @@ then_at {A = A} {B = B} narrow wide n w ts ns ws ends (AnswersSame e s) h = by_a
               let place_is : (other : List Token) → place_at ((a.0 ++ g.front) ++ g.token ∷ other) ≡ place_at ts =
               λ other. same_place (a.0 ++ g.front) g.token other g.behind ∙ ap place_at (sym whole) in
               let last : List Token = g.front ++ g.token ∷ [] in
-              let there_too : wide (a.0 ++ last) ≡ Ok (x.0, last) = subst (λ (v : List Token). wide (v ++ last) ≡ Ok (x.0, last)) front (b.2 []) in
+              let there_too : wide (a.0 ++ last) ≡ Ok (x.0, last) =
+              subst (λ (v : List Token). wide (v ++ last) ≡ Ok (x.0, last)) front (b.2 []) in
               let answer : Read (B × List Token) = w (place_at ts) x.0 last in
               GoesPast place (record {
                 front = a.0 ++ g.front;
@@ -189,7 +191,8 @@ then_at {A = A} {B = B} narrow wide n w ts ns ws ends (AnswersSame e s) h = by_a
                 whole = whole;
                 at = g.at;
                 steady = λ other.
-                    after_both narrow n a.0 g.front g.token other (place_at ts) x.0 (Err (TooDeep place)) (a.2 other) (place_is other) (g.steady other);
+                    after_both narrow n a.0 g.front g.token other (place_at ts) x.0 (Err (TooDeep place)) (a.2 other) (place_is other)
+                    (g.steady other);
               })
               (subst Unfinished (sym (after_both wide w a.0 g.front g.token [] (place_at ts) x.0 answer there_too (place_is []) refl)) u)
         ]
@@ -211,7 +214,8 @@ then_widens {narrow = narrow} {wide = wide} n w a h = record {
 
 -- ---- A choice by the first token
 
-pub choose_at : {A : Type 0} (test : List Token → Bool) (n w m v : Reader A) (ts : List Token) → IsOfFirst test → WidensAt n w ts → WidensAt m v ts
+pub choose_at : {A : Type 0} (test : List Token → Bool) (n w m v : Reader A) (ts : List Token) → IsOfFirst test → WidensAt n w ts →
+    WidensAt m v ts
     → WidensAt (either test n m) (either test w v) ts
 unfolding choose
 choose_at {A = A} test n w m v ts of_first y z =
@@ -246,7 +250,8 @@ choose_widens_by {n = n} {w = w} {m = m} {v = v} test of_first a b = record {
   each = λ ts. choose_at test n w m v ts of_first (a.each ts) (b.each ts);
 }
 
-pub choose_widens : {A : Type 0} {n w m v : Reader A} (k : TokenKind) → Widens n w → Widens m v → Widens (either (begins k) n m) (either (begins k) w v)
+pub choose_widens : {A : Type 0} {n w m v : Reader A} (k : TokenKind) → Widens n w → Widens m v → Widens (either (begins k) n m)
+    (either (begins k) w v)
 choose_widens k a b = choose_widens_by (begins k) (begins_of_first k) a b
 
 -- ---- Single tokens
@@ -261,7 +266,8 @@ after_each k n w h =
       | inr e ↦ Refuse t.place (λ ts. rw e refl) (λ ts. rw e refl)
     ])
 
-pub after_widens : {B : Type 0} (k : TokenKind) (n w : ℕ → Reader B) → ((place : ℕ) → Widens (n place) (w place)) → Widens (token_then k n) (token_then k w)
+pub after_widens : {B : Type 0} (k : TokenKind) (n w : ℕ → Reader B) → ((place : ℕ) → Widens (n place) (w place)) → Widens (token_then k n)
+    (token_then k w)
 after_widens k n w h = record {
   narrow_steady = after_steady k n (λ place. (h place).narrow_steady);
   wide_steady = after_steady k w (λ place. (h place).wide_steady);
@@ -304,7 +310,8 @@ number_widens = record {
   each = by_first number_at number_at (both_short _ _ refl refl) (λ t. one t.kind t.place t (λ ts. refl));
 }
   where
-    one : (k : TokenKind) (place : ℕ) (t : Token) → ((ts : List Token) → number_at (t ∷ ts) ≡ number_of k place ts) → WidensBy number_at number_at t
+    one : (k : TokenKind) (place : ℕ) (t : Token) → ((ts : List Token) → number_at (t ∷ ts) ≡ number_of k place ts) →
+        WidensBy number_at number_at t
     one (kind.Number n) place t h =
         let x : Number = record { value = n; place = place } in
         ReadOn (λ ts. Ok (x, ts)) (λ ts. Ok (x, ts)) (leaves_widens x).each h h
@@ -338,11 +345,14 @@ many_within {A = A} narrow wide stop ns ws a (suc n) ts lt =
     same_widens (many_at narrow stop) (many_at wide stop) _ _ (many_step narrow stop ns) (many_step wide stop ws) ts
     (choose_at (begins stop) (λ us. Ok ([], us)) (λ us. Ok ([], us)) _ _ ts (begins_of_first stop) (leaves_at _ _ ts [] refl refl)
     (then_at narrow wide
-    (λ _ x us. read_then (many_at narrow stop us) (λ xs. Ok (x ∷ xs.0, xs.1))) (λ _ x us. read_then (many_at wide stop us) (λ xs. Ok (x ∷ xs.0, xs.1))) ts
-    (a.narrow_steady ts) (a.wide_steady ts) (λ _ x. unfinished_then (many_at wide stop []) _ ends (λ xs. inr (x ∷ xs, refl))) (a.each ts) (λ x rest e.
+    (λ _ x us. read_then (many_at narrow stop us) (λ xs. Ok (x ∷ xs.0, xs.1)))
+    (λ _ x us. read_then (many_at wide stop us) (λ xs. Ok (x ∷ xs.0, xs.1))) ts
+    (a.narrow_steady ts) (a.wide_steady ts) (λ _ x. unfinished_then (many_at wide stop []) _ ends (λ xs. inr (x ∷ xs, refl))) (a.each ts)
+    (λ x rest e.
     then_at (many_at narrow stop) (many_at wide stop) (λ _ xs us. Ok (x ∷ xs, us)) (λ _ xs us. Ok (x ∷ xs, us)) rest
     (many_steady narrow stop ns a.narrow_steady rest) (many_steady wide stop ws a.wide_steady rest) (λ _ xs. inr (x ∷ xs, refl))
-    (many_within narrow wide stop ns ws a n rest (omega (arith, ns ts (x, rest) e, lt))) (λ xs last f. leaves_at _ _ last (x ∷ xs) refl refl))))
+    (many_within narrow wide stop ns ws a n rest (omega (arith, ns ts (x, rest) e, lt)))
+    (λ xs last f. leaves_at _ _ last (x ∷ xs) refl refl))))
 
 pub many_widens : {A : Type 0} {narrow wide : Reader A} (stop : TokenKind) → Shortens narrow → Shortens wide → Widens narrow wide
     → Widens (many_at narrow stop) (many_at wide stop)
@@ -352,7 +362,8 @@ many_widens {narrow = narrow} {wide = wide} stop ns ws a = record {
   each = λ ts. many_within narrow wide stop ns ws a (suc (length ts)) ts (omega arith);
 }
 
-pub braces_widens : {A : Type 0} {narrow wide : Reader A} → Shortens narrow → Shortens wide → Widens narrow wide → Widens (braces_at narrow) (braces_at wide)
+pub braces_widens : {A : Type 0} {narrow wide : Reader A} → Shortens narrow → Shortens wide → Widens narrow wide → Widens (braces_at narrow)
+    (braces_at wide)
 unfolding braces_at
 braces_widens ns ws a =
     after_widens (kind.Symbol symbol.OpenBrace) _ _ (λ _.

@@ -146,17 +146,21 @@ turns_widen n w lt c (suc more) (suc over) level left deep a b =
             elim (cases_Bool (ltb (depth left) (suc n))) [
               | inl d ↦
                   let room : depth left < suc n = ltb-true _ _ d in
-                  let joined_narrow : Expression → Reader Expression = λ right. turns (expression_at n) (suc n) more level (Binary o.0 left right) in
-                  let joined_wide : Expression → Reader Expression = λ right. turns (expression_at w) (suc w) over level (Binary o.0 left right) in
+                  let joined_narrow : Expression → Reader Expression =
+                  λ right. turns (expression_at n) (suc n) more level (Binary o.0 left right) in
+                  let joined_wide : Expression → Reader Expression =
+                  λ right. turns (expression_at w) (suc w) over level (Binary o.0 left right) in
                   ReadOn
                   (λ ts. read_then (expression_at n right_level ts) (λ right. joined_narrow right.0 right.1))
                   (λ ts. read_then (expression_at w right_level ts) (λ right. joined_wide right.0 right.1))
-                  (λ ts. then_at (expression_at n right_level) (expression_at w right_level) (λ _ right. joined_narrow right) (λ _ right. joined_wide right) ts
+                  (λ ts. then_at (expression_at n right_level) (expression_at w right_level) (λ _ right. joined_narrow right)
+                  (λ _ right. joined_wide right) ts
                   (expression_steady n right_level ts) (expression_steady w right_level ts)
                   (λ _ right. inr (Binary o.0 left right, turns_end (expression_at w) (suc w) over level (Binary o.0 left right)))
                   (right_at n w c left room right_level ts) (λ right rest f.
                   let r = expression_read n right_level ts (right, rest) (omega (arith, operator_rank-le o.0)) f in
-                  turns_widen n w lt c more over level (Binary o.0 left right) (omega (arith, room, r.within)) (omega (arith, a)) (omega (arith, b)) rest))
+                  turns_widen n w lt c more over level (Binary o.0 left right) (omega (arith, room, r.within)) (omega (arith, a))
+                  (omega (arith, b)) rest))
                   (λ ts. rw (o.1, e, d) refl) (λ ts. rw (o.1, e, wide) refl)
               | inr d ↦ Deep (λ ts. rw (o.1, e, d) refl) (rw (o.1, e, wide, no_expression w right_level) refl)
             ]
@@ -177,9 +181,11 @@ operands_widen (suc n) (suc w) lt = λ level.
       each = λ ts.
           then_at (primary_at (expression_at n) n level) (primary_at (expression_at w) w level)
           (λ _. turns (expression_at n) (suc n) (suc n) level) (λ _. turns (expression_at w) (suc w) (suc w) level) ts
-          (primary_steady (expression_at n) (expression_steady n) n level ts) (primary_steady (expression_at w) (expression_steady w) w level ts)
+          (primary_steady (expression_at n) (expression_steady n) n level ts)
+          (primary_steady (expression_at w) (expression_steady w) w level ts)
           (λ _ e. inr (e, turns_end (expression_at w) (suc w) (suc w) level e)) (primary_widens n w level less c ts)
-          (λ e rest f. turns_widen n w less c (suc n) (suc w) level e (primary_depth n level ts (e, rest) f) (omega arith) (omega arith) rest);
+          (λ e rest f. turns_widen n w less c (suc n) (suc w) level e (primary_depth n level ts (e, rest) f) (omega arith)
+          (omega arith) rest);
     }
 
 -- limits that leave room, and greater ones
@@ -326,7 +332,8 @@ bound_widens : Widens bound_at bound_at
 unfolding bound_at
 bound_widens =
     choose_widens (kind.Symbol symbol.Minus)
-    (after_widens (kind.Symbol symbol.Minus) _ _ (λ place. then_widens _ _ number_widens (λ _ m. leaves_widens (record { minus = Some place; magnitude = m }))))
+    (after_widens (kind.Symbol symbol.Minus) _ _
+    (λ place. then_widens _ _ number_widens (λ _ m. leaves_widens (record { minus = Some place; magnitude = m }))))
     (then_widens _ _ number_widens (λ _ m. leaves_widens (record { minus = None; magnitude = m })))
 
 variable_widens : Widens variable_at variable_at
@@ -340,7 +347,8 @@ variable_widens =
     then_widens _ _ bound_widens (λ _ high.
     after_widens (kind.Symbol symbol.Equal) _ _ (λ _.
     then_widens _ _ bound_widens (λ _ start.
-    after_widens (kind.Symbol symbol.Semicolon) _ _ (λ _. leaves_widens (record { name = v; low = low; high = high; start = start }))))))))))
+    after_widens (kind.Symbol symbol.Semicolon) _ _
+    (λ _. leaves_widens (record { name = v; low = low; high = high; start = start }))))))))))
 
 flag_widens : Widens flag_at flag_at
 unfolding flag_at
@@ -479,7 +487,8 @@ unfolding coupled_at
 coupled_widens =
     after_widens (kind.Keyword keyword.Coupled) _ _ (λ _.
     then_widens _ _ name_widens (λ _ name.
-    then_widens _ _ (braces_widens coupled_item_shortens coupled_item_shortens coupled_item_widens) (λ _ items. leaves_widens (name, items))))
+    then_widens _ _ (braces_widens coupled_item_shortens coupled_item_shortens coupled_item_widens)
+    (λ _ items. leaves_widens (name, items))))
 
 -- ---- Files
 

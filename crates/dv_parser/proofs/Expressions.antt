@@ -33,7 +33,8 @@ pub record IsRead (limit level : ℕ) (e : Expression) (ts rest : List Token) : 
   pub ranked : level ≤ rank e
 
 abbrev IsSound : Reader → ℕ → Type 0
-IsSound operand limit = (level : ℕ) (ts : List Token) (x : Expression × List Token) → level ≤ 7 → operand level ts ≡ Ok x → IsRead limit level x.0 ts x.1
+IsSound operand limit =
+    (level : ℕ) (ts : List Token) (x : Expression × List Token) → level ≤ 7 → operand level ts ≡ Ok x → IsRead limit level x.0 ts x.1
 
 prefix_rank-le : (o : Prefix) → prefix_rank o ≤ 7
 prefix_rank-le prefix.Minus = omega arith
@@ -72,7 +73,8 @@ elapsed_read limit level low ts x e =
       ranked = omega (arith, low);
     })
 
-leaf_read : (limit level : ℕ) → level ≤ 7 → (ts : List Token) (x : Expression × List Token) → leaf_at ts ≡ Ok x → IsRead (suc limit) level x.0 ts x.1
+leaf_read : (limit level : ℕ) → level ≤ 7 → (ts : List Token) (x : Expression × List Token) → leaf_at ts ≡ Ok x → IsRead
+    (suc limit) level x.0 ts x.1
 unfolding leaf_at
 leaf_read limit level low ts x e =
     elim (chosen _ _ _ _ e) [
@@ -118,7 +120,8 @@ unfolding within
 within_positive zero place read lt = absurd (omega (arith, lt))
 within_positive (suc limit) place read lt = refl
 
-parens_read : (operand : Reader) (limit level : ℕ) → IsSound operand limit → level ≤ 7 → (ts : List Token) (x : Expression × List Token) → parens_at operand limit ts ≡ Ok x → IsRead (suc limit) level x.0 ts x.1
+parens_read : (operand : Reader) (limit level : ℕ) → IsSound operand limit → level ≤ 7 → (ts : List Token) (x : Expression × List Token) →
+    parens_at operand limit ts ≡ Ok x → IsRead (suc limit) level x.0 ts x.1
 unfolding parens_at
 parens_read operand limit level sound low ts x e =
     let a = then_ok _ _ _ e in
@@ -128,16 +131,30 @@ parens_read operand limit level sound low ts x e =
     let close = after_spells (kind.Symbol symbol.CloseParen) [] b.0.1 c.0 c.0 c.1 refl in
     let inside = Spells-then (expression_spelling b.0.0) (sign symbol.CloseParen ∷ []) a.0 b.0.1 c.0 r.spelled close in
     subst (λ (y : Expression × List Token). IsRead (suc limit) level y.0 ts y.1) (ok_is _ _ c.2)
-    (record { spelled = after_spells_at (kind.Symbol symbol.OpenParen) (expression_spelling b.0.0 ++ sign symbol.CloseParen ∷ []) ts a.0 c.0 a.1 inside; formed = r.formed; within = omega (arith, r.within); ranked = omega (arith, low) })
+    (record {
+      spelled = after_spells_at (kind.Symbol symbol.OpenParen)
+          (expression_spelling b.0.0 ++ sign symbol.CloseParen ∷ []) ts a.0 c.0 a.1 inside;
+      formed =
+          r.formed;
+      within = omega (arith, r.within);
+      ranked = omega (arith, low);
+    })
 
-prefixed_read : (o : Prefix) (operand : Reader) (limit level : ℕ) → IsSound operand limit → level ≤ prefix_rank o → (ts : List Token) (x : Expression × List Token) → prefixed_at o operand limit ts ≡ Ok x → IsRead (suc limit) level x.0 ts x.1
+prefixed_read : (o : Prefix) (operand : Reader) (limit level : ℕ) → IsSound operand limit → level ≤ prefix_rank o → (ts : List Token)
+    (x : Expression × List Token) → prefixed_at o operand limit ts ≡ Ok x → IsRead (suc limit) level x.0 ts x.1
 unfolding prefixed_at
 prefixed_read o operand limit level sound low ts x e =
     let a = then_ok _ _ _ e in
     let b = then_ok _ _ _ a.2 in
     let r = sound (prefix_rank o) a.0 b.0 (prefix_rank-le o) (within_ok _ _ _ _ b.1) in
     subst (λ (y : Expression × List Token). IsRead (suc limit) level y.0 ts y.1) (ok_is _ _ b.2)
-    (record { spelled = after_spells_at (prefix_kind o) (expression_spelling b.0.0) ts a.0 b.0.1 a.1 r.spelled; formed = (r.formed, r.ranked); within = omega (arith, r.within); ranked = low })
+    (record {
+      spelled = after_spells_at (prefix_kind o) (expression_spelling b.0.0) ts a.0 b.0.1 a.1 r.spelled;
+      formed =
+          (r.formed, r.ranked);
+      within = omega (arith, r.within);
+      ranked = low;
+    })
 
 times_read : (operand : Reader) (limit level : ℕ) → IsSound operand limit → level ≤ 7 → (ts : List Token) (x : Expression × List Token)
     → times_at operand limit ts ≡ Ok x → IsRead (suc limit) level x.0 ts x.1
@@ -170,7 +187,8 @@ pub and_true : (a b : Bool) → (a && b) ≡ true → (a ≡ true) × (b ≡ tru
 and_true true b e = (refl, e)
 and_true false b e = absurd cc
 
-primary_read : (operand : Reader) (limit level : ℕ) → IsSound operand limit → level ≤ 7 → (ts : List Token) (x : Expression × List Token) → primary_at operand limit level ts ≡ Ok x → IsRead (suc limit) level x.0 ts x.1
+primary_read : (operand : Reader) (limit level : ℕ) → IsSound operand limit → level ≤ 7 → (ts : List Token) (x : Expression × List Token) →
+    primary_at operand limit level ts ≡ Ok x → IsRead (suc limit) level x.0 ts x.1
 unfolding primary_at
 primary_read operand limit level sound low ts x e =
     elim (chosen _ _ _ _ e) [
@@ -218,7 +236,8 @@ record IsNext (level : ℕ) (left : Expression) (ts : List Token) (o : Operator)
   pub above : level ≤ operator_rank o
   pub fits : left_rank o ≤ rank left
 
-operator_at-next : (level : ℕ) (left : Expression) (ts : List Token) (x : Operator × List Token) → operator_at level left ts ≡ Some x → IsNext level left ts x.0 x.1
+operator_at-next : (level : ℕ) (left : Expression) (ts : List Token) (x : Operator × List Token) → operator_at level left ts ≡ Some x →
+    IsNext level left ts x.0 x.1
 unfolding operator_at goes_on
 operator_at-next level left [] x e = absurd (none_some _ e)
 operator_at-next level left (t ∷ ts) x e =
@@ -263,7 +282,8 @@ operator_rank-left operator.AtMost = omega arith
 operator_rank-left operator.Greater = omega arith
 operator_rank-left operator.AtLeast = omega arith
 
-turns_read : (operand : Reader) (limit : ℕ) → IsSound operand limit → (more level : ℕ) (left : Expression) (ts mid : List Token) (x : Expression × List Token)
+turns_read : (operand : Reader) (limit : ℕ) → IsSound operand limit → (more level : ℕ) (left : Expression) (ts mid : List Token)
+    (x : Expression × List Token)
     → IsRead (suc limit) level left ts mid → turns operand (suc limit) more level left mid ≡ Ok x → IsRead (suc limit) level x.0 ts x.1
 turns_read operand limit sound zero level left ts mid x so_far e =
     elim (maybe_is _ _ _ _ e) [
@@ -282,10 +302,12 @@ turns_read operand limit sound (suc more) level left ts mid x so_far e =
                 let a = then_ok _ _ _ q.1 in
                 let right = a.0 in
                 let r = sound (operator_rank o.0 + 1) o.1 right (omega (arith, operator_rank-le o.0)) a.1 in
-                let operator_first = Spells-then (Anywhere (operator_kind o.0) ∷ []) (expression_spelling right.0) mid o.1 right.1 next.spelled r.spelled in
+                let operator_first = Spells-then (Anywhere (operator_kind o.0) ∷ [])
+                (expression_spelling right.0) mid o.1 right.1 next.spelled r.spelled in
                 turns_read operand limit sound more level (Binary o.0 left right.0) ts right.1 x
                 (record {
-                  spelled = Spells-then (expression_spelling left) (Anywhere (operator_kind o.0) ∷ expression_spelling right.0) ts mid right.1 so_far.spelled operator_first;
+                  spelled = Spells-then (expression_spelling left)
+                      (Anywhere (operator_kind o.0) ∷ expression_spelling right.0) ts mid right.1 so_far.spelled operator_first;
                   formed = (so_far.formed, r.formed, next.fits, omega (arith, r.ranked));
                   within = omega (arith, r.within, shallow);
                   ranked = next.above;
@@ -294,16 +316,19 @@ turns_read operand limit sound (suc more) level left ts mid x so_far e =
           ]
     ]
 
-pub expression_read : (limit level : ℕ) (ts : List Token) (x : Expression × List Token) → level ≤ 7 → expression_at limit level ts ≡ Ok x → IsRead limit level x.0 ts x.1
+pub expression_read : (limit level : ℕ) (ts : List Token) (x : Expression × List Token) → level ≤ 7 → expression_at limit level ts ≡ Ok x →
+    IsRead limit level x.0 ts x.1
 unfolding expression_at
 expression_read zero level ts x low e = absurd (err_ok _ _ e)
 expression_read (suc limit) level ts x low e =
     let a = then_ok _ _ _ e in
     let sound : IsSound (expression_at limit) limit = λ l us y h f. expression_read limit l us y h f in
-    turns_read (expression_at limit) limit sound (suc limit) level a.0.0 ts a.0.1 x (primary_read (expression_at limit) limit level sound low ts a.0 a.1) a.2
+    turns_read (expression_at limit) limit sound (suc limit) level a.0.0 ts a.0.1 x
+    (primary_read (expression_at limit) limit level sound low ts a.0 a.1) a.2
 
 -- at any level
-primary_within : (operand : Reader) (limit level : ℕ) → IsSound operand limit → (ts : List Token) (x : Expression × List Token) → primary_at operand limit level ts ≡ Ok x → depth x.0 ≤ suc limit
+primary_within : (operand : Reader) (limit level : ℕ) → IsSound operand limit → (ts : List Token) (x : Expression × List Token) →
+    primary_at operand limit level ts ≡ Ok x → depth x.0 ≤ suc limit
 unfolding primary_at
 primary_within operand limit level sound ts x e =
     elim (chosen _ _ _ _ e) [
@@ -320,7 +345,8 @@ primary_within operand limit level sound ts x e =
       ]
     ]
 
-pub primary_depth : (limit level : ℕ) (ts : List Token) (x : Expression × List Token) → primary_at (expression_at limit) limit level ts ≡ Ok x → depth x.0 ≤ suc limit
+pub primary_depth : (limit level : ℕ) (ts : List Token) (x : Expression × List Token) → primary_at (expression_at limit) limit level ts
+    ≡ Ok x → depth x.0 ≤ suc limit
 primary_depth limit level ts x e = primary_within (expression_at limit) limit level (λ l us y h f. expression_read limit l us y h f) ts x e
 
 -- ---- What is spelled so is read
@@ -347,7 +373,8 @@ operator_of-kind operator.Greater = refl
 operator_of-kind operator.AtLeast = refl
 
 -- above what comes first no operator goes on
-stops_below : (level : ℕ) (left : Expression) (o : Option Operator) (r : ℕ) (ts : List Token) → IfSome o (λ o. operator_rank o ≤ r) → r < level → maybe {B = Option (Operator × List Token)} o None (λ o. choose (goes_on level left o) (Some (o, ts)) None) ≡ None
+stops_below : (level : ℕ) (left : Expression) (o : Option Operator) (r : ℕ) (ts : List Token) → IfSome o (λ o. operator_rank o ≤ r) →
+    r < level → maybe {B = Option (Operator × List Token)} o None (λ o. choose (goes_on level left o) (Some (o, ts)) None) ≡ None
 unfolding maybe goes_on choose
 stops_below level left None r ts h lt = refl
 stops_below level left (Some o) r ts h lt =
@@ -359,7 +386,8 @@ unfolding operator_at
 operator_at-none level left r [] h lt = refl
 operator_at-none level left r (t ∷ ts) h lt = stops_below level left (operator_of t.kind) r ts h lt
 
-operator_at-some : (level : ℕ) (left : Expression) (o : Operator) (t : Token) (ts : List Token) → t.kind ≡ operator_kind o → level ≤ operator_rank o → left_rank o ≤ rank left → operator_at level left (t ∷ ts) ≡ Some (o, ts)
+operator_at-some : (level : ℕ) (left : Expression) (o : Operator) (t : Token) (ts : List Token) → t.kind ≡ operator_kind o →
+    level ≤ operator_rank o → left_rank o ≤ rank left → operator_at level left (t ∷ ts) ≡ Some (o, ts)
 unfolding operator_at goes_on choose maybe
 operator_at-some level left o t ts k above fits =
     let is : operator_of t.kind ≡ Some o = ap operator_of k ∙ operator_of-kind o in
@@ -367,7 +395,8 @@ operator_at-some level left o t ts k above fits =
     let f : leb (left_rank o) (rank left) ≡ true = le-leb _ _ fits in
     rw (is, a, f) refl
 
-same_choice : {A B : Type 0} (r : Read A) (b : Bool) (o : Obstacle) (f g : A → Read B) → ((x : A) → f x ≡ g x) → choose b (read_then r f) (Err o) ≡ choose b (read_then r g) (Err o)
+same_choice : {A B : Type 0} (r : Read A) (b : Bool) (o : Obstacle) (f g : A → Read B) → ((x : A) → f x ≡ g x) → choose b (read_then r f)
+    (Err o) ≡ choose b (read_then r g) (Err o)
 unfolding choose read_then
 same_choice (Ok x) true o f g h = h x
 same_choice (Err p) true o f g h = refl
@@ -388,7 +417,8 @@ weaker None r s le h = tt
 weaker (Some o) r s le h = omega (arith, h)
 
 -- turns beyond what the limit allows change nothing
-same_turns : (operand : Reader) (limit a b level : ℕ) (left : Expression) (ts : List Token) → limit ≤ a + depth left → limit ≤ b + depth left → turns operand limit a level left ts ≡ turns operand limit b level left ts
+same_turns : (operand : Reader) (limit a b level : ℕ) (left : Expression) (ts : List Token) → limit ≤ a + depth left →
+    limit ≤ b + depth left → turns operand limit a level left ts ≡ turns operand limit b level left ts
 unfolding maybe choose read_then
 same_turns operand limit zero zero level left ts ha hb = refl
 same_turns operand limit zero (suc b) level left ts ha hb =
@@ -398,25 +428,36 @@ same_turns operand limit (suc a) zero level left ts ha hb =
     let deep : ltb (depth left) limit ≡ false = le-ltb _ _ (omega arith) in
     rw deep refl
 same_turns operand limit (suc a) (suc b) level left ts ha hb =
-    let each : (o : Operator × List Token) → (choose (ltb (depth left) limit) (read_then (operand (operator_rank o.0 + 1) o.1) (λ right. turns operand limit a level (Binary o.0 left right.0) right.1)) (Err (TooDeep (place_at ts))))
-    ≡ (choose (ltb (depth left) limit) (read_then (operand (operator_rank o.0 + 1) o.1) (λ right. turns operand limit b level (Binary o.0 left right.0) right.1)) (Err (TooDeep (place_at ts)))) =
-    λ o. same_choice (operand (operator_rank o.0 + 1) o.1) (ltb (depth left) limit) (TooDeep (place_at ts)) _ _ (λ right. same_turns operand limit a b level (Binary o.0 left right.0) right.1 (omega arith) (omega arith)) in
+    let each : (o : Operator × List Token) →
+    (choose (ltb (depth left) limit)
+    (read_then (operand (operator_rank o.0 + 1) o.1) (λ right. turns operand limit a level (Binary o.0 left right.0) right.1))
+    (Err (TooDeep (place_at ts))))
+    ≡ (choose (ltb (depth left) limit)
+    (read_then (operand (operator_rank o.0 + 1) o.1) (λ right. turns operand limit b level (Binary o.0 left right.0) right.1))
+    (Err (TooDeep (place_at ts)))) =
+    λ o. same_choice (operand (operator_rank o.0 + 1) o.1) (ltb (depth left) limit) (TooDeep (place_at ts)) _ _
+    (λ right. same_turns operand limit a b level (Binary o.0 left right.0) right.1 (omega arith) (omega arith)) in
     same_maybe (operator_at level left ts) _ _ _ each
 
-pub turns_stop : (operand : Reader) (limit more level : ℕ) (left : Expression) (ts : List Token) → operator_at level left ts ≡ None → turns operand limit more level left ts ≡ Ok (left, ts)
+pub turns_stop : (operand : Reader) (limit more level : ℕ) (left : Expression) (ts : List Token) → operator_at level left ts ≡ None →
+    turns operand limit more level left ts ≡ Ok (left, ts)
 unfolding maybe
 turns_stop operand limit zero level left ts e = rw e refl
 turns_stop operand limit (suc more) level left ts e = rw e refl
 
-pub turns_step : (operand : Reader) (limit level : ℕ) (left : Expression) (ts : List Token) (o : Operator × List Token) → operator_at level left ts ≡ Some o → depth left < limit
-    → turns operand limit limit level left ts ≡ read_then (operand (operator_rank o.0 + 1) o.1) (λ right. turns operand limit limit level (Binary o.0 left right.0) right.1)
+pub turns_step : (operand : Reader) (limit level : ℕ) (left : Expression) (ts : List Token) (o : Operator × List Token) →
+    operator_at level left ts ≡ Some o → depth left < limit
+    → turns operand limit limit level left ts ≡ read_then (operand (operator_rank o.0 + 1) o.1)
+    (λ right. turns operand limit limit level (Binary o.0 left right.0) right.1)
 unfolding maybe choose read_then
 turns_step operand zero level left ts o e lt = absurd (omega (arith, lt))
 turns_step operand (suc m) level left ts o e lt =
     let shallow : ltb (depth left) (suc m) ≡ true = lt-ltb _ _ lt in
-    rw (e, shallow) (same_then (operand (operator_rank o.0 + 1) o.1) _ _ (λ right. same_turns operand (suc m) m (suc m) level (Binary o.0 left right.0) right.1 (omega arith) (omega arith)))
+    rw (e, shallow) (same_then (operand (operator_rank o.0 + 1) o.1) _ _
+    (λ right. same_turns operand (suc m) m (suc m) level (Binary o.0 left right.0) right.1 (omega arith) (omega arith)))
 
-pub turns_deep : (operand : Reader) (limit more level : ℕ) (left : Expression) (ts : List Token) (o : Operator × List Token) → operator_at level left ts ≡ Some o → limit ≤ depth left → turns operand limit more level left ts ≡ Err (TooDeep (place_at ts))
+pub turns_deep : (operand : Reader) (limit more level : ℕ) (left : Expression) (ts : List Token) (o : Operator × List Token) →
+    operator_at level left ts ≡ Some o → limit ≤ depth left → turns operand limit more level left ts ≡ Err (TooDeep (place_at ts))
 unfolding maybe choose
 turns_deep operand limit zero level left ts o e le = rw e refl
 turns_deep operand limit (suc more) level left ts o e le =
@@ -428,7 +469,8 @@ abbrev pub IsClosed : List Token → Type 0
 IsClosed [] = Unit {0}
 IsClosed (t ∷ ts) = operator_of t.kind ≡ None
 
-pub IsClosed-front : (k : TokenKind) (ss : List Spelled) (ts rest : List Token) → operator_of k ≡ None → Spells (Anywhere k ∷ ss) ts rest → IsClosed ts
+pub IsClosed-front : (k : TokenKind) (ss : List Spelled) (ts rest : List Token) → operator_of k ≡ None → Spells (Anywhere k ∷ ss) ts rest →
+    IsClosed ts
 IsClosed-front k ss [] rest e h = absurd h
 IsClosed-front k ss (t ∷ ts) rest e h = ap operator_of h.0 ∙ e
 
@@ -436,7 +478,8 @@ IsLoose-closed : (r : ℕ) (ts : List Token) → IsClosed ts → IsLoose r ts
 IsLoose-closed r [] h = tt
 IsLoose-closed r (t ∷ ts) h = rw h tt
 
-IsLoose-front : (r : ℕ) (o : Operator) (ss : List Spelled) (ts rest : List Token) → operator_rank o ≤ r → Spells (Anywhere (operator_kind o) ∷ ss) ts rest → IsLoose r ts
+IsLoose-front : (r : ℕ) (o : Operator) (ss : List Spelled) (ts rest : List Token) → operator_rank o ≤ r → Spells
+    (Anywhere (operator_kind o) ∷ ss) ts rest → IsLoose r ts
 IsLoose-front r o ss [] rest le h = absurd h
 IsLoose-front r o ss (t ∷ ts) rest le h = let e : operator_of t.kind ≡ Some o = ap operator_of h.0 ∙ operator_of-kind o in rw e le
 
@@ -457,7 +500,8 @@ unfolding operator_at maybe
 operator_at-closed level left [] h = refl
 operator_at-closed level left (t ∷ ts) h = rw h refl
 
-operator_at-front : (level : ℕ) (left : Expression) (o : Operator) (ss : List Spelled) (ts rest : List Token) → level ≤ operator_rank o → left_rank o ≤ rank left → Spells (Anywhere (operator_kind o) ∷ ss) ts rest
+operator_at-front : (level : ℕ) (left : Expression) (o : Operator) (ss : List Spelled) (ts rest : List Token) → level ≤ operator_rank o →
+    left_rank o ≤ rank left → Spells (Anywhere (operator_kind o) ∷ ss) ts rest
     → (behind : List Token) × (operator_at level left ts ≡ Some (o, behind)) × Spells ss behind rest
 operator_at-front level left o ss [] rest above fits h = absurd h
 operator_at-front level left o ss (t ∷ ts) rest above fits h = (ts, operator_at-some level left o t ts h.0 above fits, h.1)
@@ -480,7 +524,8 @@ primary_leaf : (operand : Reader) (limit level : ℕ) (ts : List Token) → begi
 unfolding primary_at choose
 primary_leaf operand limit level ts a b c d = rw (a, b, c, d) refl
 
-number_again : (operand : Reader) (limit level : ℕ) (n : Number) (ts rest : List Token) → Spells (number n ∷ []) ts rest → primary_at operand limit level ts ≡ Ok (Literal n, rest)
+number_again : (operand : Reader) (limit level : ℕ) (n : Number) (ts rest : List Token) → Spells (number n ∷ []) ts rest →
+    primary_at operand limit level ts ≡ Ok (Literal n, rest)
 unfolding leaf_at choose read_then
 number_again operand limit level n ts rest h =
     let f = front (number n) [] ts rest h in
@@ -523,7 +568,8 @@ elapsed_again operand limit level place ts rest h =
       f.spelled,
     ) refl
 
-truth_again : (operand : Reader) (limit level place : ℕ) (value : Bool) (ts rest : List Token) → Spells (word_at (truth_word value) place ∷ []) ts rest → primary_at operand limit level ts ≡ Ok (TruthValue place value, rest)
+truth_again : (operand : Reader) (limit level place : ℕ) (value : Bool) (ts rest : List Token) → Spells
+    (word_at (truth_word value) place ∷ []) ts rest → primary_at operand limit level ts ≡ Ok (TruthValue place value, rest)
 unfolding leaf_at choose read_then
 truth_again operand limit level place true ts rest h =
     let f = front (word_at keyword.True place) [] ts rest h in
@@ -536,7 +582,8 @@ truth_again operand limit level place false ts rest h =
     primary_leaf operand limit level ts (f.begins _) (f.begins _) (f.begins _) (f.begins _)
     ∙ rw (f.begins_name, f.begins (kind.Keyword keyword.True), f.begins (kind.Keyword keyword.False), g.1, g.2, f.place) refl
 
-name_again : (operand : Reader) (limit level : ℕ) (n : Name) (ts rest : List Token) → Spells (name n ∷ []) ts rest → primary_at operand limit level ts ≡ Ok (Named n, rest)
+name_again : (operand : Reader) (limit level : ℕ) (n : Name) (ts rest : List Token) → Spells (name n ∷ []) ts rest →
+    primary_at operand limit level ts ≡ Ok (Named n, rest)
 unfolding leaf_at choose read_then
 name_again operand limit level n ts rest h =
     let f = front (name n) [] ts rest h in
@@ -625,8 +672,10 @@ times_again operand limit level place e b ts rest h inner =
       close.spelled,
     ) refl
 
-parens_again : (operand : Reader) (limit level place : ℕ) (e : Expression) (ts rest : List Token) → Spells (expression_spelling (Parens place e)) ts rest
-    → ((us vs : List Token) → Spells (expression_spelling e) us vs → IsClosed vs → operand 0 us ≡ Ok (e, vs)) → primary_at operand (suc limit) level ts ≡ Ok (Parens place e, rest)
+parens_again : (operand : Reader) (limit level place : ℕ) (e : Expression) (ts rest : List Token) → Spells
+    (expression_spelling (Parens place e)) ts rest
+    → ((us vs : List Token) → Spells (expression_spelling e) us vs → IsClosed vs → operand 0 us ≡ Ok (e, vs)) → primary_at operand
+    (suc limit) level ts ≡ Ok (Parens place e, rest)
 unfolding primary_at parens_at within choose read_then operator_of
 parens_again operand limit level place e ts rest h inner =
     let f = front (At (kind.Symbol symbol.OpenParen) place) (expression_spelling e ++ sign symbol.CloseParen ∷ []) ts rest h in
@@ -635,8 +684,10 @@ parens_again operand limit level place e ts rest h inner =
     let i = inner f.behind s.0 s.1 (IsClosed-front (kind.Symbol symbol.CloseParen) [] s.0 rest refl s.2) in
     rw (f.begins (kind.Symbol symbol.OpenParen), f.after, i, c.after, f.place, c.spelled) refl
 
-prefixed_again : (o : Prefix) (operand : Reader) (limit level place : ℕ) (e : Expression) (ts rest : List Token) → level ≤ prefix_rank o → Spells (expression_spelling (Prefixed o place e)) ts rest
-    → ((us : List Token) → Spells (expression_spelling e) us rest → operand (prefix_rank o) us ≡ Ok (e, rest)) → primary_at operand (suc limit) level ts ≡ Ok (Prefixed o place e, rest)
+prefixed_again : (o : Prefix) (operand : Reader) (limit level place : ℕ) (e : Expression) (ts rest : List Token) → level ≤ prefix_rank o →
+    Spells (expression_spelling (Prefixed o place e)) ts rest
+    → ((us : List Token) → Spells (expression_spelling e) us rest → operand (prefix_rank o) us ≡ Ok (e, rest)) → primary_at operand
+    (suc limit) level ts ≡ Ok (Prefixed o place e, rest)
 unfolding primary_at prefixed_at within choose read_then
 prefixed_again prefix.Minus operand limit level place e ts rest low h inner =
     let f = front (At (kind.Symbol symbol.Minus) place) (expression_spelling e) ts rest h in
@@ -677,7 +728,8 @@ apart prefix.Not operator.AtMost le = omega (arith, le)
 apart prefix.Not operator.Greater le = omega (arith, le)
 apart prefix.Not operator.AtLeast le = omega (arith, le)
 
-below_prefix : (p : Prefix) (o : Option Operator) → IfSome o (λ o. operator_rank o ≤ prefix_rank p) → IfSome o (λ o. operator_rank o ≤ prefix_rank p - 1)
+below_prefix : (p : Prefix) (o : Option Operator) → IfSome o (λ o. operator_rank o ≤ prefix_rank p) → IfSome o
+    (λ o. operator_rank o ≤ prefix_rank p - 1)
 below_prefix p None h = tt
 below_prefix p (Some o) h = omega (arith, apart p o h)
 
@@ -688,39 +740,52 @@ positive_rank prefix.Not = omega arith
 -- behind the operand of a prefix no operator goes on with the operand
 prefixed_stops : (p : Prefix) (e : Expression) (ts : List Token) → IsLoose (prefix_rank p) ts → operator_at (prefix_rank p) e ts ≡ None
 prefixed_stops p e [] h = operator_at-none (prefix_rank p) e (prefix_rank p - 1) [] tt (positive_rank p)
-prefixed_stops p e (t ∷ ts) h = operator_at-none (prefix_rank p) e (prefix_rank p - 1) (t ∷ ts) (below_prefix p (operator_of t.kind) h) (positive_rank p)
+prefixed_stops p e (t ∷ ts) h =
+    operator_at-none (prefix_rank p) e (prefix_rank p - 1) (t ∷ ts) (below_prefix p (operator_of t.kind) h) (positive_rank p)
 
-then_turns : (limit level : ℕ) (e : Expression) (ts rest : List Token) → primary_at (expression_at limit) limit level ts ≡ Ok (e, rest) → expression_at (suc limit) level ts ≡ turns (expression_at limit) (suc limit) (suc limit) level e rest
+then_turns : (limit level : ℕ) (e : Expression) (ts rest : List Token) → primary_at (expression_at limit) limit level ts ≡ Ok (e, rest) →
+    expression_at (suc limit) level ts ≡ turns (expression_at limit) (suc limit) (suc limit) level e rest
 unfolding expression_at read_then
 then_turns limit level e ts rest h = rw h refl
 
-expression_again : (e : Expression) (limit level : ℕ) (ts rest : List Token) → IsWellFormed e → depth e ≤ suc limit → level ≤ rank e → level ≤ 7 → IsLoose (rank e) rest → Spells (expression_spelling e) ts rest
+expression_again : (e : Expression) (limit level : ℕ) (ts rest : List Token) → IsWellFormed e → depth e ≤ suc limit → level ≤ rank e →
+    level ≤ 7 → IsLoose (rank e) rest → Spells (expression_spelling e) ts rest
     → expression_at (suc limit) level ts ≡ turns (expression_at limit) (suc limit) (suc limit) level e rest
-expression_again (Literal n) limit level ts rest formed within ranked low loose h = then_turns limit level (Literal n) ts rest (number_again (expression_at limit) limit level n ts rest h)
-expression_again (TruthValue place value) limit level ts rest formed within ranked low loose h = then_turns limit level (TruthValue place value) ts rest (truth_again (expression_at limit) limit level place value ts rest h)
-expression_again (Named n) limit level ts rest formed within ranked low loose h = then_turns limit level (Named n) ts rest (name_again (expression_at limit) limit level n ts rest h)
+expression_again (Literal n) limit level ts rest formed within ranked low loose h =
+    then_turns limit level (Literal n) ts rest (number_again (expression_at limit) limit level n ts rest h)
+expression_again (TruthValue place value) limit level ts rest formed within ranked low loose h =
+    then_turns limit level (TruthValue place value) ts rest (truth_again (expression_at limit) limit level place value ts rest h)
+expression_again (Named n) limit level ts rest formed within ranked low loose h =
+    then_turns limit level (Named n) ts rest (name_again (expression_at limit) limit level n ts rest h)
 expression_again (Parens place e) zero level ts rest formed within ranked low loose h = absurd (omega (arith, within, positive_depth e))
 expression_again (Parens place e) (suc limit) level ts rest formed within ranked low loose h =
-    then_turns (suc limit) level (Parens place e) ts rest (parens_again (expression_at (suc limit)) limit level place e ts rest h (λ us vs k closed.
+    then_turns (suc limit) level (Parens place e) ts rest
+    (parens_again (expression_at (suc limit)) limit level place e ts rest h (λ us vs k closed.
     expression_again e limit 0 us vs formed (omega (arith, within)) (omega arith) (omega arith) (IsLoose-closed (rank e) vs closed) k
     ∙ turns_stop (expression_at limit) (suc limit) (suc limit) 0 e vs (operator_at-closed 0 e vs closed)))
 expression_again (Prefixed o place e) zero level ts rest formed within ranked low loose h = absurd (omega (arith, within, positive_depth e))
 expression_again (Prefixed o place e) (suc limit) level ts rest formed within ranked low loose h =
-    then_turns (suc limit) level (Prefixed o place e) ts rest (prefixed_again o (expression_at (suc limit)) limit level place e ts rest ranked h (λ us k.
-    expression_again e limit (prefix_rank o) us rest formed.0 (omega (arith, within)) formed.1 (prefix_rank-le o) (IsLoose-weaker (prefix_rank o) (rank e) rest formed.1 loose) k
+    then_turns (suc limit) level (Prefixed o place e) ts rest
+    (prefixed_again o (expression_at (suc limit)) limit level place e ts rest ranked h (λ us k.
+    expression_again e limit (prefix_rank o) us rest formed.0 (omega (arith, within)) formed.1 (prefix_rank-le o)
+    (IsLoose-weaker (prefix_rank o) (rank e) rest formed.1 loose) k
     ∙ turns_stop (expression_at limit) (suc limit) (suc limit) (prefix_rank o) e rest (prefixed_stops o e rest loose)))
 expression_again (Binary o a b) zero level ts rest formed within ranked low loose h = absurd (omega (arith, within, positive_depth a))
 expression_again (Binary o a b) (suc limit) level ts rest formed within ranked low loose h =
     let k : ℕ = suc limit in
     let s = Spells-split (expression_spelling a) (Anywhere (operator_kind o) ∷ expression_spelling b) ts rest h in
     let tight : operator_rank o ≤ rank a = omega (arith, operator_rank-left o, formed.2) in
-    let left = expression_again a k level ts s.0 formed.0 (omega (arith, within)) (omega (arith, ranked, tight)) low (IsLoose-front (rank a) o (expression_spelling b) s.0 rest tight s.2) s.1 in
+    let left = expression_again a k level ts s.0 formed.0 (omega (arith, within)) (omega (arith, ranked, tight)) low
+    (IsLoose-front (rank a) o (expression_spelling b) s.0 rest tight s.2) s.1 in
     let next = operator_at-front level a o (expression_spelling b) s.0 rest ranked formed.2 s.2 in
     let step = turns_step (expression_at k) (suc k) level a s.0 (o, next.0) next.1 (omega (arith, within)) in
     let right : expression_at k (operator_rank o + 1) next.0 ≡ Ok (b, rest) =
-    expression_again b limit (operator_rank o + 1) next.0 rest formed.1 (omega (arith, within)) (omega (arith, formed.3)) (omega (arith, operator_rank-le o)) (IsLoose-weaker (operator_rank o) (rank b) rest (omega (arith, formed.3)) loose) next.2
-    ∙ turns_stop (expression_at limit) k k (operator_rank o + 1) b rest (operator_at-none (operator_rank o + 1) b (operator_rank o) rest loose (omega arith)) in
-    left ∙ step ∙ then_is (expression_at k (operator_rank o + 1) next.0) (λ right. turns (expression_at k) (suc k) (suc k) level (Binary o a right.0) right.1) (b, rest) right
+    expression_again b limit (operator_rank o + 1) next.0 rest formed.1 (omega (arith, within)) (omega (arith, formed.3))
+    (omega (arith, operator_rank-le o)) (IsLoose-weaker (operator_rank o) (rank b) rest (omega (arith, formed.3)) loose) next.2
+    ∙ turns_stop (expression_at limit) k k (operator_rank o + 1) b rest
+    (operator_at-none (operator_rank o + 1) b (operator_rank o) rest loose (omega arith)) in
+    left ∙ step ∙ then_is (expression_at k (operator_rank o + 1) next.0)
+    (λ right. turns (expression_at k) (suc k) (suc k) level (Binary o a right.0) right.1) (b, rest) right
 expression_again (Call c place b) limit level ts rest formed within ranked low loose h =
     then_turns limit level (Call c place b) ts rest (call_again (expression_at limit) limit level c place b ts rest h)
 expression_again (Elapsed place) limit level ts rest formed within ranked low loose h =
@@ -732,14 +797,18 @@ expression_again (Times place e b) (suc limit) level ts rest formed within ranke
     expression_again e limit 0 us vs formed (omega (arith, within)) (omega arith) (omega arith) (IsLoose-closed (rank e) vs closed) k
     ∙ turns_stop (expression_at limit) (suc limit) (suc limit) 0 e vs (operator_at-closed 0 e vs closed)))
 
-all_read : (limit : ℕ) (e : Expression) (ts rest : List Token) → IsWellFormed e → depth e ≤ limit → Spells (expression_spelling e) ts rest → IsClosed rest → expression_at limit 0 ts ≡ Ok (e, rest)
+all_read : (limit : ℕ) (e : Expression) (ts rest : List Token) → IsWellFormed e → depth e ≤ limit → Spells (expression_spelling e) ts rest →
+    IsClosed rest → expression_at limit 0 ts ≡ Ok (e, rest)
 all_read zero e ts rest formed within h closed = absurd (omega (arith, within, positive_depth e))
 all_read (suc limit) e ts rest formed within h closed =
     expression_again e limit 0 ts rest formed within (omega arith) (omega arith) (IsLoose-closed (rank e) rest closed) h
     ∙ turns_stop (expression_at limit) (suc limit) (suc limit) 0 e rest (operator_at-closed 0 e rest closed)
 
-pub expression_complete : (limits : Limits) (e : Expression) (ts rest : List Token) → IsExpression limits e → Spells (expression_spelling e) ts rest → IsClosed rest → expression_at limits.expression 0 ts ≡ Ok (e, rest)
+pub expression_complete : (limits : Limits) (e : Expression) (ts rest : List Token) → IsExpression limits e → Spells
+    (expression_spelling e) ts rest → IsClosed rest → expression_at limits.expression 0 ts ≡ Ok (e, rest)
 expression_complete limits e ts rest is h closed = all_read limits.expression e ts rest is.formed is.within h closed
 
-pub expression_sound : (limits : Limits) (ts : List Token) (x : Expression × List Token) → expression_at limits.expression 0 ts ≡ Ok x → Spells (expression_spelling x.0) ts x.1 × IsExpression limits x.0
-expression_sound limits ts x e = let r = expression_read limits.expression 0 ts x (omega arith) e in (r.spelled, record { formed = r.formed; within = r.within })
+pub expression_sound : (limits : Limits) (ts : List Token) (x : Expression × List Token) → expression_at limits.expression 0 ts ≡ Ok x →
+    Spells (expression_spelling x.0) ts x.1 × IsExpression limits x.0
+expression_sound limits ts x e =
+    let r = expression_read limits.expression 0 ts x (omega arith) e in (r.spelled, record { formed = r.formed; within = r.within })

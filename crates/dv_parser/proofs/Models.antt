@@ -38,7 +38,8 @@ semicolon = sign symbol.Semicolon ∷ []
 
 -- ---- Bounds and variables
 
-bound_complete : (minus : Option ℕ) (n : Number) (ts rest : List Token) → Spans (minus_spelling minus ++ number n ∷ []) ts rest → bound_at ts ≡ Ok (record { minus = minus; magnitude = n }, rest)
+bound_complete : (minus : Option ℕ) (n : Number) (ts rest : List Token) → Spans (minus_spelling minus ++ number n ∷ []) ts rest →
+    bound_at ts ≡ Ok (record { minus = minus; magnitude = n }, rest)
 unfolding bound_at choose read_then
 bound_complete None n ts rest h =
     let f = first h in
@@ -56,7 +57,8 @@ bound_sound ts x e =
       | inl p ↦
           let a = then_ok _ _ _ p.1 in
           let b = then_ok _ _ _ a.2 in
-          subst (λ (y : Bound × List Token). Spans (bound_spelling y.0) ts y.1) (ok_is _ _ b.2) (after_spans_at a.1 (number_spans b.1 nothing))
+          subst (λ (y : Bound × List Token). Spans (bound_spelling y.0) ts y.1) (ok_is _ _ b.2)
+          (after_spans_at a.1 (number_spans b.1 nothing))
       | inr p ↦
           let a = then_ok _ _ _ p.1 in
           subst (λ (y : Bound × List Token). Spans (bound_spelling y.0) ts y.1) (ok_is _ _ a.2) (number_spans a.1 nothing)
@@ -84,7 +86,8 @@ variable_sound ts x e =
     let h = bound_reader.sound d.0 high.0 high.1 in
     let s = bound_reader.sound f.0 start.0 start.1 in
     subst (λ (y : Variable × List Token). Spans (variable_spelling y.0) ts y.1) (ok_is _ _ g.2)
-    (after_spans a.1 (name_spans b.1 (after_spans c.1 (then_spans l.0 (after_spans d.1 (then_spans h.0 (after_spans f.1 (then_spans s.0 (after_spans g.1 nothing)))))))))
+    (after_spans a.1 (name_spans b.1
+    (after_spans c.1 (then_spans l.0 (after_spans d.1 (then_spans h.0 (after_spans f.1 (then_spans s.0 (after_spans g.1 nothing)))))))))
 
 variable_complete : (v : Variable) (ts rest : List Token) → Spans (variable_spelling v) ts rest → variable_at ts ≡ Ok (v, rest)
 unfolding variable_at read_then
@@ -178,7 +181,8 @@ phases_sound limits ts x e =
     let c = then_ok _ _ _ b.2 in
     let d = then_ok _ _ _ c.2 in
     let s = r.sound b.0.1 c.0 c.1 in
-    subst (ReadsItem limits ts) (ok_is _ _ d.2) (after_spans_at a.1 (name_spans b.1 (then_spans s.0 (after_spans d.1 nothing))), omega arith)
+    subst (ReadsItem limits ts) (ok_is _ _ d.2)
+    (after_spans_at a.1 (name_spans b.1 (then_spans s.0 (after_spans d.1 nothing))), omega arith)
 
 start_sound : (limits : Limits) (ts : List Token) (x : AtomicItem × List Token) → start_at ts ≡ Ok x → ReadsItem limits ts x
 unfolding start_at
@@ -188,13 +192,15 @@ start_sound limits ts x e =
     let c = then_ok _ _ _ b.2 in
     subst (ReadsItem limits ts) (ok_is _ _ c.2) (after_spans_at a.1 (name_spans b.1 (after_spans c.1 nothing)), tt)
 
-ticks_sound : (limits : Limits) (ts : List Token) (x : Option Expression × List Token) → ticks_at limits ts ≡ Ok x → Spans (ticks_spelling x.0) ts x.1 × AreTicks limits x.0
+ticks_sound : (limits : Limits) (ts : List Token) (x : Option Expression × List Token) → ticks_at limits ts ≡ Ok x → Spans
+    (ticks_spelling x.0) ts x.1 × AreTicks limits x.0
 unfolding ticks_at
 ticks_sound limits ts x e =
     elim (chosen _ _ _ _ e) [
       | inl p ↦
           let a = then_ok _ _ _ p.1 in
-          subst (λ (y : Option Expression × List Token). Spans (ticks_spelling y.0) ts y.1 × AreTicks limits y.0) (ok_is _ _ a.2) (after_spans a.1 nothing, tt)
+          subst (λ (y : Option Expression × List Token). Spans (ticks_spelling y.0) ts y.1 × AreTicks limits y.0) (ok_is _ _ a.2)
+          (after_spans a.1 nothing, tt)
       | inr p ↦
           let a = then_ok _ _ _ p.1 in
           let s = (expression_reader limits).sound ts a.0 a.1 in
@@ -210,9 +216,11 @@ hold_sound limits ts x e =
     let d = then_ok _ _ _ c.2 in
     let f = then_ok _ _ _ d.2 in
     let s = ticks_sound limits c.0 d.0 d.1 in
-    subst (ReadsItem limits ts) (ok_is _ _ f.2) (after_spans_at a.1 (name_spans b.1 (after_spans c.1 (then_spans s.0 (after_spans f.1 nothing)))), s.1)
+    subst (ReadsItem limits ts) (ok_is _ _ f.2)
+    (after_spans_at a.1 (name_spans b.1 (after_spans c.1 (then_spans s.0 (after_spans f.1 nothing)))), s.1)
 
-rule_sound : (limits : Limits) (sort : RuleSort) (ts : List Token) (x : AtomicItem × List Token) → rule_at limits sort ts ≡ Ok x → ReadsItem limits ts x
+rule_sound : (limits : Limits) (sort : RuleSort) (ts : List Token) (x : AtomicItem × List Token) → rule_at limits sort ts ≡ Ok x →
+    ReadsItem limits ts x
 unfolding rule_at
 rule_sound limits sort ts x e =
     let a = then_ok _ _ _ e in
@@ -298,7 +306,8 @@ rule_complete limits sort p body ts rest is h =
     rw (a.after, b.read, c) refl
 
 -- no expression begins with `forever`
-expression_no_word : (e : Expression) (ts rest : List Token) → Spans (expression_spelling e) ts rest → begins (kind.Keyword keyword.Forever) ts ≡ false
+expression_no_word : (e : Expression) (ts rest : List Token) → Spans (expression_spelling e) ts rest → begins
+    (kind.Keyword keyword.Forever) ts ≡ false
 expression_no_word (Literal n) ts rest h = (first h).begins _
 expression_no_word (TruthValue place true) ts rest h = (first h).begins _
 expression_no_word (TruthValue place false) ts rest h = (first h).begins _
@@ -312,13 +321,15 @@ expression_no_word (Call call.Least place b) ts rest h = (first h).begins _
 expression_no_word (Call call.Most place b) ts rest h = (first h).begins _
 expression_no_word (Elapsed place) ts rest h = (first h).begins _
 expression_no_word (Times place e b) ts rest h = (first h).begins _
-expression_no_word (Binary o a b) ts rest h = expression_no_word a ts _ (split (expression_spelling a) (Anywhere (operator_kind o) ∷ expression_spelling b) h).1
+expression_no_word (Binary o a b) ts rest h =
+    expression_no_word a ts _ (split (expression_spelling a) (Anywhere (operator_kind o) ∷ expression_spelling b) h).1
 
 all_names : (ns : List Name) → AllByRecursion (λ n. Unit {0}) ns
 all_names [] = tt
 all_names (n ∷ ns) = (tt, all_names ns)
 
-ticks_complete : (limits : Limits) (ticks : Option Expression) (ts rest : List Token) → AreTicks limits ticks → Spans (ticks_spelling ticks ++ semicolon) ts rest
+ticks_complete : (limits : Limits) (ticks : Option Expression) (ts rest : List Token) → AreTicks limits ticks → Spans
+    (ticks_spelling ticks ++ semicolon) ts rest
     → (mid : List Token) × (ticks_at limits ts ≡ Ok (ticks, mid)) × Spans semicolon mid rest
 unfolding ticks_at choose read_then operator_of
 ticks_complete limits None ts rest is h =
@@ -326,7 +337,8 @@ ticks_complete limits None ts rest is h =
     (a.behind, rw (a.begins (kind.Keyword keyword.Forever), a.after) refl, a.spelled)
 ticks_complete limits (Some e) ts rest is h =
     let s = split (expression_spelling e) semicolon h in
-    let v = (expression_reader limits).complete e ts s.0 is s.1 (IsClosed-front (kind.Symbol symbol.Semicolon) [] s.0 rest refl s.2.spells) in
+    let v = (expression_reader limits).complete e ts s.0 is s.1
+    (IsClosed-front (kind.Symbol symbol.Semicolon) [] s.0 rest refl s.2.spells) in
     (s.0, rw (expression_no_word e ts s.0 s.1, v) refl, s.2)
 
 -- what begins with no word of another item is read as a rule
@@ -363,7 +375,9 @@ rule_item_complete limits sort.Confluent p body ts rest is h =
     item_rule limits ts (b _) (b _) (b _) (b _) (b _) (b _) (b _) (b _)
     ∙ rw (b (kind.Keyword keyword.Output), b (kind.Keyword keyword.Internal), b (kind.Keyword keyword.External), r) refl
 
-phases_complete : (place : ℕ) (names : List Name) (ts rest : List Token) → 0 < length names → Spans (phases_spelling (record { place = place; names = names })) ts rest → phases_at ts ≡ Ok (Lists (record { place = place; names = names }), rest)
+phases_complete : (place : ℕ) (names : List Name) (ts rest : List Token) → 0 < length names → Spans
+    (phases_spelling (record { place = place; names = names })) ts rest → phases_at ts ≡ Ok
+    (Lists (record { place = place; names = names }), rest)
 unfolding phases_at read_then
 phases_complete place [] ts rest is h = absurd (omega (arith, is))
 phases_complete place (n ∷ ns) ts rest is h =
@@ -375,7 +389,8 @@ phases_complete place (n ∷ ns) ts rest is h =
     let m = r.complete ns b.behind s.0 (all_names ns) s.1 (c.begins (kind.Symbol symbol.Semicolon)) in
     rw (a.after, b.read, m, c.after, a.place, span_end c.spelled) refl
 
-item_complete : (limits : Limits) (x : AtomicItem) (ts rest : List Token) → IsItem limits x → Spans (item_spelling x) ts rest → item_at limits ts ≡ Ok (x, rest)
+item_complete : (limits : Limits) (x : AtomicItem) (ts rest : List Token) → IsItem limits x → Spans (item_spelling x) ts rest →
+    item_at limits ts ≡ Ok (x, rest)
 unfolding item_at start_at hold_at choose read_then
 item_complete limits (Declares (declaration.In n)) ts rest is h =
     let a = first h in
@@ -494,26 +509,31 @@ item_listed : IsListed item_spelling Always (kind.Symbol symbol.CloseBrace)
 item_listed = record { opens = item_opens symbol.CloseBrace; before = λ x ts rest h. tt; at_stop = λ ts e. tt; some = item_some }
 
 pub item_shortens : (limits : Limits) → Shortens (item_at limits)
-item_shortens limits = shortens (item_at limits) item_spelling (IsItem limits) Always (kind.Symbol symbol.CloseBrace) (item_reader limits) item_listed
+item_shortens limits = shortens (item_at limits) item_spelling (IsItem limits) Always (kind.Symbol symbol.CloseBrace)
+    (item_reader limits) item_listed
 
 pub further_name_shortens : Shortens further_name_at
 further_name_shortens = shortens further_name_at _ _ Always (kind.Symbol symbol.Semicolon) further_reader further_listed
 
 -- ---- Atomic models
 
-items_reader : (limits : Limits) → IsReader (braces_at (item_at limits)) (λ items. braces (flat_map item_spelling items)) (AllByRecursion (IsItem limits)) Always
+items_reader : (limits : Limits) → IsReader (braces_at (item_at limits)) (λ items. braces (flat_map item_spelling items))
+    (AllByRecursion (IsItem limits)) Always
 items_reader limits = braces_reader (item_at limits) item_spelling (IsItem limits) Always (item_reader limits) item_listed
 
-atomic_sound : (limits : Limits) (ts : List Token) (x : (Name × List AtomicItem) × List Token) → atomic_at limits ts ≡ Ok x → Spans (model_spelling (WrittenAtomic x.0.0 x.0.1)) ts x.1 × AllByRecursion (IsItem limits) x.0.1
+atomic_sound : (limits : Limits) (ts : List Token) (x : (Name × List AtomicItem) × List Token) → atomic_at limits ts ≡ Ok x → Spans
+    (model_spelling (WrittenAtomic x.0.0 x.0.1)) ts x.1 × AllByRecursion (IsItem limits) x.0.1
 unfolding atomic_at
 atomic_sound limits ts x e =
     let a = then_ok _ _ _ e in
     let b = then_ok _ _ _ a.2 in
     let c = then_ok _ _ _ b.2 in
     let s = (items_reader limits).sound b.0.1 c.0 c.1 in
-    subst (λ (y : (Name × List AtomicItem) × List Token). Spans (model_spelling (WrittenAtomic y.0.0 y.0.1)) ts y.1 × AllByRecursion (IsItem limits) y.0.1) (ok_is _ _ c.2) (after_spans a.1 (name_spans b.1 s.0), s.1)
+    subst (λ (y : (Name × List AtomicItem) × List Token). Spans (model_spelling (WrittenAtomic y.0.0 y.0.1)) ts y.1 × AllByRecursion
+    (IsItem limits) y.0.1) (ok_is _ _ c.2) (after_spans a.1 (name_spans b.1 s.0), s.1)
 
-atomic_complete : (limits : Limits) (n : Name) (items : List AtomicItem) (ts rest : List Token) → AllByRecursion (IsItem limits) items → Spans (model_spelling (WrittenAtomic n items)) ts rest → atomic_at limits ts ≡ Ok ((n, items), rest)
+atomic_complete : (limits : Limits) (n : Name) (items : List AtomicItem) (ts rest : List Token) → AllByRecursion (IsItem limits) items →
+    Spans (model_spelling (WrittenAtomic n items)) ts rest → atomic_at limits ts ≡ Ok ((n, items), rest)
 unfolding atomic_at read_then
 atomic_complete limits n items ts rest is h =
     let a = first h in
@@ -531,15 +551,18 @@ end_sound ts x e =
           let a = then_ok _ _ _ p.1 in
           let b = then_ok _ _ _ a.2 in
           let c = then_ok _ _ _ b.2 in
-          subst (λ (y : End × List Token). Spans (end_spelling y.0) ts y.1) (ok_is _ _ c.2) (after_spans a.1 (after_spans b.1 (name_spans c.1 nothing)))
+          subst (λ (y : End × List Token). Spans (end_spelling y.0) ts y.1) (ok_is _ _ c.2)
+          (after_spans a.1 (after_spans b.1 (name_spans c.1 nothing)))
       | inr p ↦
           let a = then_ok _ _ _ p.1 in
           let b = then_ok _ _ _ a.2 in
           let c = then_ok _ _ _ b.2 in
-          subst (λ (y : End × List Token). Spans (end_spelling y.0) ts y.1) (ok_is _ _ c.2) (name_spans a.1 (after_spans b.1 (name_spans c.1 nothing)))
+          subst (λ (y : End × List Token). Spans (end_spelling y.0) ts y.1) (ok_is _ _ c.2)
+          (name_spans a.1 (after_spans b.1 (name_spans c.1 nothing)))
     ]
 
-end_complete : (part : Option Name) (port : Name) (ts rest : List Token) → Spans (part_name_spelling part ∷ sign symbol.Dot ∷ name port ∷ []) ts rest → end_at ts ≡ Ok (record { part = part; port = port }, rest)
+end_complete : (part : Option Name) (port : Name) (ts rest : List Token) → Spans
+    (part_name_spelling part ∷ sign symbol.Dot ∷ name port ∷ []) ts rest → end_at ts ≡ Ok (record { part = part; port = port }, rest)
 unfolding end_at choose read_then
 end_complete None port ts rest h =
     let a = first h in
@@ -564,7 +587,8 @@ part_sound ts x e =
     let c = then_ok _ _ _ b.2 in
     let d = then_ok _ _ _ c.2 in
     let f = then_ok _ _ _ d.2 in
-    subst (λ (y : Part × List Token). ReadsCoupled ts (Contains y.0, y.1)) (ok_is _ _ f.2) (after_spans a.1 (name_spans b.1 (after_spans c.1 (name_spans d.1 (after_spans f.1 nothing)))), tt)
+    subst (λ (y : Part × List Token). ReadsCoupled ts (Contains y.0, y.1)) (ok_is _ _ f.2)
+    (after_spans a.1 (name_spans b.1 (after_spans c.1 (name_spans d.1 (after_spans f.1 nothing)))), tt)
 
 link_sound : (ts : List Token) (x : Link × List Token) → link_at ts ≡ Ok x → ReadsCoupled ts (Couples x.0, x.1)
 unfolding link_at
@@ -574,8 +598,11 @@ link_sound ts x e =
     let c = then_ok _ _ _ b.2 in
     let d = then_ok _ _ _ c.2 in
     let f = then_ok _ _ _ d.2 in
-    subst (λ (y : Link × List Token). ReadsCoupled ts (Couples y.0, y.1)) (ok_is _ _ f.2)
-    (after_spans_at a.1 (then_spans (end_sound a.0 b.0 b.1) (after_spans c.1 (then_spans (end_sound c.0 d.0 d.1) (after_spans f.1 nothing)))), tt)
+    subst (λ (y : Link × List Token). ReadsCoupled ts (Couples y.0, y.1)) (ok_is _ _ f.2) (
+      after_spans_at a.1 (then_spans (end_sound a.0 b.0 b.1)
+          (after_spans c.1 (then_spans (end_sound c.0 d.0 d.1) (after_spans f.1 nothing)))),
+      tt,
+    )
 
 coupled_item_sound : (ts : List Token) (x : CoupledItem × List Token) → coupled_item_at ts ≡ Ok x → ReadsCoupled ts x
 unfolding coupled_item_at
@@ -597,7 +624,8 @@ coupled_item_sound ts x e =
       ]
     ]
 
-coupled_item_complete : (x : CoupledItem) (ts rest : List Token) → Spans (coupled_item_spelling x) ts rest → coupled_item_at ts ≡ Ok (x, rest)
+coupled_item_complete : (x : CoupledItem) (ts rest : List Token) → Spans (coupled_item_spelling x) ts rest → coupled_item_at ts ≡ Ok
+    (x, rest)
 unfolding coupled_item_at part_at link_at choose read_then
 coupled_item_complete (Inputs n) ts rest h =
     let a = first h in
@@ -645,7 +673,8 @@ coupled_item_complete (Couples l) ts rest h =
       span_end c.spelled,
     ) refl
 
-coupled_item_opens : (x : CoupledItem) (ts rest : List Token) → Spans (coupled_item_spelling x) ts rest → begins (kind.Symbol symbol.CloseBrace) ts ≡ false
+coupled_item_opens : (x : CoupledItem) (ts rest : List Token) → Spans (coupled_item_spelling x) ts rest → begins
+    (kind.Symbol symbol.CloseBrace) ts ≡ false
 coupled_item_opens (Inputs n) ts rest h = (first h).begins _
 coupled_item_opens (Outputs n) ts rest h = (first h).begins _
 coupled_item_opens (Contains p) ts rest h = (first h).begins _
@@ -664,25 +693,31 @@ coupled_item_listed : IsListed coupled_item_spelling Always (kind.Symbol symbol.
 coupled_item_listed = record { opens = coupled_item_opens; before = λ x ts rest h. tt; at_stop = λ ts e. tt; some = coupled_item_some }
 
 pub coupled_item_shortens : Shortens coupled_item_at
-coupled_item_shortens = shortens coupled_item_at coupled_item_spelling (λ x. Unit {0}) Always (kind.Symbol symbol.CloseBrace) coupled_item_reader coupled_item_listed
+coupled_item_shortens =
+    shortens coupled_item_at coupled_item_spelling (λ x. Unit {0}) Always
+    (kind.Symbol symbol.CloseBrace) coupled_item_reader coupled_item_listed
 
-coupled_items_reader : IsReader (braces_at coupled_item_at) (λ items. braces (flat_map coupled_item_spelling items)) (AllByRecursion (λ x. Unit {0})) Always
+coupled_items_reader : IsReader (braces_at coupled_item_at) (λ items. braces (flat_map coupled_item_spelling items))
+    (AllByRecursion (λ x. Unit {0})) Always
 coupled_items_reader = braces_reader coupled_item_at coupled_item_spelling (λ x. Unit {0}) Always coupled_item_reader coupled_item_listed
 
 all_coupled : (items : List CoupledItem) → AllByRecursion (λ x. Unit {0}) items
 all_coupled [] = tt
 all_coupled (x ∷ items) = (tt, all_coupled items)
 
-coupled_sound : (ts : List Token) (x : (Name × List CoupledItem) × List Token) → coupled_at ts ≡ Ok x → Spans (model_spelling (WrittenCoupled x.0.0 x.0.1)) ts x.1
+coupled_sound : (ts : List Token) (x : (Name × List CoupledItem) × List Token) → coupled_at ts ≡ Ok x → Spans
+    (model_spelling (WrittenCoupled x.0.0 x.0.1)) ts x.1
 unfolding coupled_at
 coupled_sound ts x e =
     let a = then_ok _ _ _ e in
     let b = then_ok _ _ _ a.2 in
     let c = then_ok _ _ _ b.2 in
     let s = coupled_items_reader.sound b.0.1 c.0 c.1 in
-    subst (λ (y : (Name × List CoupledItem) × List Token). Spans (model_spelling (WrittenCoupled y.0.0 y.0.1)) ts y.1) (ok_is _ _ c.2) (after_spans a.1 (name_spans b.1 s.0))
+    subst (λ (y : (Name × List CoupledItem) × List Token). Spans (model_spelling (WrittenCoupled y.0.0 y.0.1)) ts y.1) (ok_is _ _ c.2)
+    (after_spans a.1 (name_spans b.1 s.0))
 
-coupled_complete : (n : Name) (items : List CoupledItem) (ts rest : List Token) → Spans (model_spelling (WrittenCoupled n items)) ts rest → coupled_at ts ≡ Ok ((n, items), rest)
+coupled_complete : (n : Name) (items : List CoupledItem) (ts rest : List Token) → Spans (model_spelling (WrittenCoupled n items)) ts rest →
+    coupled_at ts ≡ Ok ((n, items), rest)
 unfolding coupled_at read_then
 coupled_complete n items ts rest h =
     let a = first h in
@@ -692,22 +727,28 @@ coupled_complete n items ts rest h =
 
 -- ---- Files
 
-model_sound : (limits : Limits) (ts : List Token) (x : WrittenModel × List Token) → model_at limits ts ≡ Ok x → Spans (model_spelling x.0) ts x.1 × IsModel limits x.0
+model_sound : (limits : Limits) (ts : List Token) (x : WrittenModel × List Token) → model_at limits ts ≡ Ok x → Spans
+    (model_spelling x.0) ts x.1 × IsModel limits x.0
 unfolding model_at
 model_sound limits ts x e =
     elim (chosen _ _ _ _ e) [
       | inl p ↦
           let a = then_ok _ _ _ p.1 in
-          subst (λ (y : WrittenModel × List Token). Spans (model_spelling y.0) ts y.1 × IsModel limits y.0) (ok_is _ _ a.2) (coupled_sound ts a.0 a.1, tt)
+          subst (λ (y : WrittenModel × List Token). Spans (model_spelling y.0) ts y.1 × IsModel limits y.0) (ok_is _ _ a.2)
+          (coupled_sound ts a.0 a.1, tt)
       | inr p ↦
           let a = then_ok _ _ _ p.1 in
-          subst (λ (y : WrittenModel × List Token). Spans (model_spelling y.0) ts y.1 × IsModel limits y.0) (ok_is _ _ a.2) (atomic_sound limits ts a.0 a.1)
+          subst (λ (y : WrittenModel × List Token). Spans (model_spelling y.0) ts y.1 × IsModel limits y.0) (ok_is _ _ a.2)
+          (atomic_sound limits ts a.0 a.1)
     ]
 
-model_complete : (limits : Limits) (x : WrittenModel) (ts rest : List Token) → IsModel limits x → Spans (model_spelling x) ts rest → model_at limits ts ≡ Ok (x, rest)
+model_complete : (limits : Limits) (x : WrittenModel) (ts rest : List Token) → IsModel limits x → Spans (model_spelling x) ts rest →
+    model_at limits ts ≡ Ok (x, rest)
 unfolding model_at choose read_then
-model_complete limits (WrittenAtomic n items) ts rest is h = rw ((first h).begins (kind.Keyword keyword.Coupled), atomic_complete limits n items ts rest is h) refl
-model_complete limits (WrittenCoupled n items) ts rest is h = rw ((first h).begins (kind.Keyword keyword.Coupled), coupled_complete n items ts rest h) refl
+model_complete limits (WrittenAtomic n items) ts rest is h =
+    rw ((first h).begins (kind.Keyword keyword.Coupled), atomic_complete limits n items ts rest is h) refl
+model_complete limits (WrittenCoupled n items) ts rest is h =
+    rw ((first h).begins (kind.Keyword keyword.Coupled), coupled_complete n items ts rest h) refl
 
 model_opens : (x : WrittenModel) (ts rest : List Token) → Spans (model_spelling x) ts rest → begins (kind.Keyword keyword.Root) ts ≡ false
 model_opens (WrittenAtomic n items) ts rest h = (first h).begins _
@@ -724,10 +765,13 @@ model_listed : IsListed model_spelling Always (kind.Keyword keyword.Root)
 model_listed = record { opens = model_opens; before = λ x ts rest h. tt; at_stop = λ ts e. tt; some = model_some }
 
 pub model_shortens : (limits : Limits) → Shortens (model_at limits)
-model_shortens limits = shortens (model_at limits) model_spelling (IsModel limits) Always (kind.Keyword keyword.Root) (model_reader limits) model_listed
+model_shortens limits =
+    shortens (model_at limits) model_spelling (IsModel limits) Always (kind.Keyword keyword.Root) (model_reader limits) model_listed
 
-models_reader : (limits : Limits) → IsReader (many_at (model_at limits) (kind.Keyword keyword.Root)) (flat_map model_spelling) (AllByRecursion (IsModel limits)) (λ rest. begins (kind.Keyword keyword.Root) rest ≡ true)
-models_reader limits = many_reader (model_at limits) model_spelling (IsModel limits) Always (model_reader limits) (kind.Keyword keyword.Root) model_listed
+models_reader : (limits : Limits) → IsReader (many_at (model_at limits) (kind.Keyword keyword.Root)) (flat_map model_spelling)
+    (AllByRecursion (IsModel limits)) (λ rest. begins (kind.Keyword keyword.Root) rest ≡ true)
+models_reader limits = many_reader (model_at limits) model_spelling (IsModel limits) Always (model_reader limits)
+    (kind.Keyword keyword.Root) model_listed
 
 end_of : (ts : List Token) → is_end ts ≡ true → ts ≡ []
 end_of [] e = refl
@@ -762,8 +806,10 @@ file_complete limits ts f is =
 
 pub file_unique : (ts : List Token) (f g : FileTree) → IsFileOf ts f → IsFileOf ts g → f ≡ g
 file_unique ts f g p q =
-    let same : p.written ≡ q.written = ok_is _ _ (sym (file_complete the_limits ts p.written p.read) ∙ file_complete the_limits ts q.written q.read) in
+    let same : p.written ≡ q.written =
+    ok_is _ _ (sym (file_complete the_limits ts p.written p.read) ∙ file_complete the_limits ts q.written q.read) in
     p.tree ∙ ap sorted same ∙ sym q.tree
 
-pub file_refused : (limits : Limits) (ts : List Token) (o : Obstacle) → file_at limits ts ≡ Err o → (f : FileTree) → IsFileWithin limits ts f → ⊥
+pub file_refused : (limits : Limits) (ts : List Token) (o : Obstacle) → file_at limits ts ≡ Err o → (f : FileTree) →
+    IsFileWithin limits ts f → ⊥
 file_refused limits ts o e f is = err_ok o is.written (sym e ∙ file_complete limits ts is.written is.read)

@@ -11,7 +11,8 @@ use Rattle.dv_parser.proofs.Models.{file_sound, file_complete}
 pub one_answer : (ts : List Token) (end : ℕ) → ((f : FileTree) × IsFileOf ts f) ⊎ ((r : Refusal) × (refusal_of_tokens ts end ≡ Some r))
 one_answer ts end = by_answer (file_at the_limits ts) refl
   where
-    by_answer : (a : Read WrittenFile) → file_at the_limits ts ≡ a → ((f : FileTree) × IsFileOf ts f) ⊎ ((r : Refusal) × (refusal_of_tokens ts end ≡ Some r))
+    by_answer : (a : Read WrittenFile) → file_at the_limits ts ≡ a → ((f : FileTree) × IsFileOf ts f) ⊎
+        ((r : Refusal) × (refusal_of_tokens ts end ≡ Some r))
     by_answer (Ok f) e = inl (sorted f, record { written = f; read = file_sound the_limits ts f e; tree = refl })
     by_answer (Err o) e = inr (refusal_of o end, ap (λ (a : Read WrittenFile). refusal_in a end) e)
 

@@ -21,20 +21,26 @@ pub record Spans (ss : List Spelled) (ts rest : List Token) : Type 0 where
 pub nothing : {ts : List Token} → Spans [] ts ts
 nothing = record { spells = refl }
 
-pub after_spans : {k : TokenKind} {ss : List Spelled} {ts mid rest : List Token} → after k ts ≡ Ok mid → Spans ss mid rest → Spans (Anywhere k ∷ ss) ts rest
+pub after_spans : {k : TokenKind} {ss : List Spelled} {ts mid rest : List Token} → after k ts ≡ Ok mid → Spans ss mid rest → Spans
+    (Anywhere k ∷ ss) ts rest
 after_spans {k = k} {ss = ss} {ts = ts} {mid = mid} {rest = rest} e h = record { spells = after_spells k ss ts mid rest e h.spells }
 
-pub after_spans_at : {k : TokenKind} {ss : List Spelled} {ts mid rest : List Token} → after k ts ≡ Ok mid → Spans ss mid rest → Spans (At k (place_at ts) ∷ ss) ts rest
+pub after_spans_at : {k : TokenKind} {ss : List Spelled} {ts mid rest : List Token} → after k ts ≡ Ok mid → Spans ss mid rest → Spans
+    (At k (place_at ts) ∷ ss) ts rest
 after_spans_at {k = k} {ss = ss} {ts = ts} {mid = mid} {rest = rest} e h = record { spells = after_spells_at k ss ts mid rest e h.spells }
 
-pub name_spans : {ss : List Spelled} {ts rest : List Token} {x : Name × List Token} → name_at ts ≡ Ok x → Spans ss x.1 rest → Spans (name x.0 ∷ ss) ts rest
+pub name_spans : {ss : List Spelled} {ts rest : List Token} {x : Name × List Token} → name_at ts ≡ Ok x → Spans ss x.1 rest → Spans
+    (name x.0 ∷ ss) ts rest
 name_spans {ss = ss} {ts = ts} {rest = rest} {x = x} e h = record { spells = name_spells ss ts rest x e h.spells }
 
-pub number_spans : {ss : List Spelled} {ts rest : List Token} {x : Number × List Token} → number_at ts ≡ Ok x → Spans ss x.1 rest → Spans (number x.0 ∷ ss) ts rest
+pub number_spans : {ss : List Spelled} {ts rest : List Token} {x : Number × List Token} → number_at ts ≡ Ok x → Spans ss x.1 rest → Spans
+    (number x.0 ∷ ss) ts rest
 number_spans {ss = ss} {ts = ts} {rest = rest} {x = x} e h = record { spells = number_spells ss ts rest x e h.spells }
 
-pub truth_spans : {ss : List Spelled} {ts rest : List Token} {x : Bool × List Token} → truth_at ts ≡ Ok x → Spans ss x.1 rest → Spans (word (truth_word x.0) ∷ ss) ts rest
-truth_spans {ss = ss} {ts = ts} {rest = rest} {x = x} e h = record { spells = unplaced _ (place_at ts) ss ts rest (truth_spells ss ts rest x e h.spells) }
+pub truth_spans : {ss : List Spelled} {ts rest : List Token} {x : Bool × List Token} → truth_at ts ≡ Ok x → Spans ss x.1 rest → Spans
+    (word (truth_word x.0) ∷ ss) ts rest
+truth_spans {ss = ss} {ts = ts} {rest = rest} {x = x} e h =
+    record { spells = unplaced _ (place_at ts) ss ts rest (truth_spells ss ts rest x e h.spells) }
 
 pub then_spans : {a b : List Spelled} {ts mid rest : List Token} → Spans a ts mid → Spans b mid rest → Spans (a ++ b) ts rest
 then_spans {a = a} {b = b} {ts = ts} {mid = mid} {rest = rest} h k = record { spells = Spells-then a b ts mid rest h.spells k.spells }
@@ -62,7 +68,8 @@ pub record FirstName (n : Name) (ss : List Spelled) (ts rest : List Token) : Typ
   pub spelled : Spans ss behind rest
 
 pub first_name : (n : Name) {ss : List Spelled} {ts rest : List Token} → Spans (name n ∷ ss) ts rest → FirstName n ss ts rest
-first_name n {ss = ss} {ts = ts} {rest = rest} h = let f = name_front n ss ts rest h.spells in record { behind = f.0; read = f.1; spelled = record { spells = f.2 } }
+first_name n {ss = ss} {ts = ts} {rest = rest} h =
+    let f = name_front n ss ts rest h.spells in record { behind = f.0; read = f.1; spelled = record { spells = f.2 } }
 
 pub record FirstNumber (n : Number) (ss : List Spelled) (ts rest : List Token) : Type 0 where
   pub behind : List Token
@@ -70,7 +77,8 @@ pub record FirstNumber (n : Number) (ss : List Spelled) (ts rest : List Token) :
   pub spelled : Spans ss behind rest
 
 pub first_number : (n : Number) {ss : List Spelled} {ts rest : List Token} → Spans (number n ∷ ss) ts rest → FirstNumber n ss ts rest
-first_number n {ss = ss} {ts = ts} {rest = rest} h = let f = number_front n ss ts rest h.spells in record { behind = f.0; read = f.1; spelled = record { spells = f.2 } }
+first_number n {ss = ss} {ts = ts} {rest = rest} h =
+    let f = number_front n ss ts rest h.spells in record { behind = f.0; read = f.1; spelled = record { spells = f.2 } }
 
 pub record FirstTruth (b : Bool) (ss : List Spelled) (ts rest : List Token) : Type 0 where
   pub behind : List Token
@@ -78,7 +86,8 @@ pub record FirstTruth (b : Bool) (ss : List Spelled) (ts rest : List Token) : Ty
   pub spelled : Spans ss behind rest
 
 pub first_truth : (b : Bool) {ss : List Spelled} {ts rest : List Token} → Spans (word (truth_word b) ∷ ss) ts rest → FirstTruth b ss ts rest
-first_truth b {ss = ss} {ts = ts} {rest = rest} h = let f = truth_front b ss ts rest h.spells in record { behind = f.0; read = f.1; spelled = record { spells = f.2 } }
+first_truth b {ss = ss} {ts = ts} {rest = rest} h =
+    let f = truth_front b ss ts rest h.spells in record { behind = f.0; read = f.1; spelled = record { spells = f.2 } }
 
 pub span_end : {ts rest : List Token} → Spans [] ts rest → ts ≡ rest
 span_end h = h.spells
@@ -86,7 +95,8 @@ span_end h = h.spells
 -- ---- Readers
 
 -- What is read is spelled so and is one of those. What is spelled so is read, where what follows can.
-pub record IsReader {A : Type 0} (read : List Token → Read (A × List Token)) (spelling : A → List Spelled) (Is : A → Type 0) (Ends : List Token → Type 0) : Type 0 where
+pub record IsReader {A : Type 0} (read : List Token → Read (A × List Token)) (spelling : A → List Spelled) (Is : A → Type 0)
+    (Ends : List Token → Type 0) : Type 0 where
   pub sound : (ts : List Token) (x : A × List Token) → read ts ≡ Ok x → Spans (spelling x.0) ts x.1 × Is x.0
   pub complete : (x : A) (ts rest : List Token) → Is x → Spans (spelling x) ts rest → Ends rest → read ts ≡ Ok (x, rest)
 
@@ -100,23 +110,28 @@ pub record IsListed {A : Type 0} (spelling : A → List Spelled) (Ends : List To
 abbrev pub Shortens : {A : Type 0} → (List Token → Read (A × List Token)) → Type 0
 Shortens {A = A} read = (ts : List Token) (x : A × List Token) → read ts ≡ Ok x → length x.1 < length ts
 
-pub shortens : {A : Type 0} (read : List Token → Read (A × List Token)) (spelling : A → List Spelled) (Is : A → Type 0) (Ends : List Token → Type 0) (stop : TokenKind) → IsReader read spelling Is Ends → IsListed spelling Ends stop → Shortens read
+pub shortens : {A : Type 0} (read : List Token → Read (A × List Token)) (spelling : A → List Spelled) (Is : A → Type 0)
+    (Ends : List Token → Type 0) (stop : TokenKind) → IsReader read spelling Is Ends → IsListed spelling Ends stop → Shortens read
 shortens read spelling Is Ends stop r l ts x e =
     let s = r.sound ts x e in
     omega (arith, Spells-length (spelling x.0) ts x.1 s.0.spells, l.some x.0)
 
-many_sound : {A : Type 0} (one : List Token → Read (A × List Token)) (spelling : A → List Spelled) (Is : A → Type 0) (Ends : List Token → Type 0) → IsReader one spelling Is Ends
-    → (stop : TokenKind) (more : ℕ) (ts : List Token) (x : List A × List Token) → many one stop more ts ≡ Ok x → Spans (flat_map spelling x.0) ts x.1 × AllByRecursion Is x.0
+many_sound : {A : Type 0} (one : List Token → Read (A × List Token)) (spelling : A → List Spelled) (Is : A → Type 0)
+    (Ends : List Token → Type 0) → IsReader one spelling Is Ends
+    → (stop : TokenKind) (more : ℕ) (ts : List Token) (x : List A × List Token) → many one stop more ts ≡ Ok x → Spans
+    (flat_map spelling x.0) ts x.1 × AllByRecursion Is x.0
 many_sound one spelling Is Ends r stop zero ts x e = absurd (err_ok _ _ e)
 many_sound {A = A} one spelling Is Ends r stop (suc more) ts x e =
     elim (chosen _ _ _ _ e) [
-      | inl p ↦ subst (λ (y : List A × List Token). Spans (flat_map spelling y.0) ts y.1 × AllByRecursion Is y.0) (ok_is _ _ p.1) (nothing, tt)
+      | inl p ↦ subst (λ (y : List A × List Token). Spans (flat_map spelling y.0) ts y.1 × AllByRecursion Is y.0) (ok_is _ _ p.1)
+          (nothing, tt)
       | inr p ↦
           let a = then_ok _ _ _ p.1 in
           let b = then_ok _ _ _ a.2 in
           let s = r.sound ts a.0 a.1 in
           let t = many_sound one spelling Is Ends r stop more a.0.1 b.0 b.1 in
-          subst (λ (y : List A × List Token). Spans (flat_map spelling y.0) ts y.1 × AllByRecursion Is y.0) (ok_is _ _ b.2) (then_spans s.0 t.0, (s.1, t.1))
+          subst (λ (y : List A × List Token). Spans (flat_map spelling y.0) ts y.1 × AllByRecursion Is y.0) (ok_is _ _ b.2)
+          (then_spans s.0 t.0, (s.1, t.1))
     ]
 
 -- the list ends where its stop comes
@@ -125,8 +140,10 @@ ends_list : {A : Type 0} (spelling : A → List Spelled) (Ends : List Token → 
 ends_list spelling Ends stop l [] ts rest h e = l.at_stop ts (ap (begins stop) h.spells ∙ e)
 ends_list spelling Ends stop l (x ∷ xs) ts rest h e = let s = split (spelling x) (flat_map spelling xs) h in l.before x ts s.0 s.1
 
-many_complete : {A : Type 0} (one : List Token → Read (A × List Token)) (spelling : A → List Spelled) (Is : A → Type 0) (Ends : List Token → Type 0) → IsReader one spelling Is Ends
-    → (stop : TokenKind) → IsListed spelling Ends stop → (more : ℕ) (xs : List A) (ts rest : List Token) → AllByRecursion Is xs → Spans (flat_map spelling xs) ts rest → begins stop rest ≡ true → length ts < more
+many_complete : {A : Type 0} (one : List Token → Read (A × List Token)) (spelling : A → List Spelled) (Is : A → Type 0)
+    (Ends : List Token → Type 0) → IsReader one spelling Is Ends
+    → (stop : TokenKind) → IsListed spelling Ends stop → (more : ℕ) (xs : List A) (ts rest : List Token) → AllByRecursion Is xs → Spans
+    (flat_map spelling xs) ts rest → begins stop rest ≡ true → length ts < more
     → many one stop more ts ≡ Ok (xs, rest)
 unfolding choose read_then
 many_complete one spelling Is Ends r stop l zero xs ts rest all h e lt = absurd (omega (arith, lt))
@@ -141,8 +158,10 @@ many_complete {A = A} one spelling Is Ends r stop l (suc more) (x ∷ xs) ts res
     let t = many_complete one spelling Is Ends r stop l more xs s.0 rest all.1 s.2 e (omega (arith, len, lt, l.some x)) in
     rw (b, a, t) refl
 
-pub many_reader : {A : Type 0} (one : List Token → Read (A × List Token)) (spelling : A → List Spelled) (Is : A → Type 0) (Ends : List Token → Type 0) → IsReader one spelling Is Ends
-    → (stop : TokenKind) → IsListed spelling Ends stop → IsReader (many_at one stop) (flat_map spelling) (AllByRecursion Is) (λ rest. begins stop rest ≡ true)
+pub many_reader : {A : Type 0} (one : List Token → Read (A × List Token)) (spelling : A → List Spelled) (Is : A → Type 0)
+    (Ends : List Token → Type 0) → IsReader one spelling Is Ends
+    → (stop : TokenKind) → IsListed spelling Ends stop → IsReader (many_at one stop) (flat_map spelling) (AllByRecursion Is)
+    (λ rest. begins stop rest ≡ true)
 unfolding many_at
 many_reader one spelling Is Ends r stop l = record {
   sound = λ ts x e. many_sound one spelling Is Ends r stop (suc (length ts)) ts x e;
@@ -152,8 +171,10 @@ many_reader one spelling Is Ends r stop l = record {
 abbrev close : Spelled
 close = sign symbol.CloseBrace
 
-pub braces_reader : {A : Type 0} (one : List Token → Read (A × List Token)) (spelling : A → List Spelled) (Is : A → Type 0) (Ends : List Token → Type 0) → IsReader one spelling Is Ends
-    → IsListed spelling Ends (kind.Symbol symbol.CloseBrace) → IsReader (braces_at one) (λ xs. braces (flat_map spelling xs)) (AllByRecursion Is) (λ rest. Unit {0})
+pub braces_reader : {A : Type 0} (one : List Token → Read (A × List Token)) (spelling : A → List Spelled) (Is : A → Type 0)
+    (Ends : List Token → Type 0) → IsReader one spelling Is Ends
+    → IsListed spelling Ends (kind.Symbol symbol.CloseBrace) → IsReader (braces_at one) (λ xs. braces (flat_map spelling xs))
+    (AllByRecursion Is) (λ rest. Unit {0})
 unfolding braces_at read_then
 braces_reader {A = A} one spelling Is Ends r l =
     let all = many_reader one spelling Is Ends r (kind.Symbol symbol.CloseBrace) l in
@@ -163,7 +184,8 @@ braces_reader {A = A} one spelling Is Ends r l =
           let b = then_ok _ _ _ a.2 in
           let c = then_ok _ _ _ b.2 in
           let s = all.sound a.0 b.0 b.1 in
-          subst (λ (y : List A × List Token). Spans (braces (flat_map spelling y.0)) ts y.1 × AllByRecursion Is y.0) (ok_is _ _ c.2) (after_spans a.1 (then_spans s.0 (after_spans c.1 nothing)), s.1);
+          subst (λ (y : List A × List Token). Spans (braces (flat_map spelling y.0)) ts y.1 × AllByRecursion Is y.0) (ok_is _ _ c.2)
+          (after_spans a.1 (then_spans s.0 (after_spans c.1 nothing)), s.1);
       complete = λ xs ts rest is h ends.
           let f = first h in
           let s = split (flat_map spelling xs) (close ∷ []) f.spelled in
@@ -179,45 +201,56 @@ unfolding read_then
 same_after (Ok x) f g h = h x refl
 same_after (Err o) f g h = refl
 
-pub same_many : {A : Type 0} (one : List Token → Read (A × List Token)) (stop : TokenKind) → Shortens one → (a b : ℕ) (ts : List Token) → length ts < a → length ts < b → many one stop a ts ≡ many one stop b ts
+pub same_many : {A : Type 0} (one : List Token → Read (A × List Token)) (stop : TokenKind) → Shortens one → (a b : ℕ) (ts : List Token) →
+    length ts < a → length ts < b → many one stop a ts ≡ many one stop b ts
 same_many one stop s zero b ts la lb = absurd (omega (arith, la))
 same_many one stop s (suc a) zero ts la lb = absurd (omega (arith, lb))
 same_many {A = A} one stop s (suc a) (suc b) ts la lb =
     ap (λ (rest : Read (List A × List Token)). choose (begins stop ts) (Ok ([], ts)) rest)
-    (same_after (one ts) (λ x. read_then (many one stop a x.1) (λ xs. Ok (x.0 ∷ xs.0, xs.1))) (λ x. read_then (many one stop b x.1) (λ xs. Ok (x.0 ∷ xs.0, xs.1)))
-    (λ x e. ap (λ (r : Read (List A × List Token)). read_then r (λ xs. Ok (x.0 ∷ xs.0, xs.1))) (same_many one stop s a b x.1 (omega (arith, s ts x e, la)) (omega (arith, s ts x e, lb)))))
+    (same_after (one ts) (λ x. read_then (many one stop a x.1) (λ xs. Ok (x.0 ∷ xs.0, xs.1)))
+    (λ x. read_then (many one stop b x.1) (λ xs. Ok (x.0 ∷ xs.0, xs.1)))
+    (λ x e. ap (λ (r : Read (List A × List Token)). read_then r (λ xs. Ok (x.0 ∷ xs.0, xs.1)))
+    (same_many one stop s a b x.1 (omega (arith, s ts x e, la)) (omega (arith, s ts x e, lb)))))
 
 pub front_nothing : {A : Type 0} (read : Read (List A × List Token)) → with_front [] read ≡ read
 unfolding read_then
 front_nothing (Ok x) = refl
 front_nothing (Err o) = refl
 
-becoming_more : {A B : Type 0} (f g : List A → B) (x : A) (read : Read (List A × List Token)) → ((xs : List A) → f (x ∷ xs) ≡ g xs) → becoming f (read_then read (λ xs. Ok (x ∷ xs.0, xs.1))) ≡ becoming g read
+becoming_more : {A B : Type 0} (f g : List A → B) (x : A) (read : Read (List A × List Token)) → ((xs : List A) → f (x ∷ xs) ≡ g xs) →
+    becoming f (read_then read (λ xs. Ok (x ∷ xs.0, xs.1))) ≡ becoming g read
 unfolding read_then
 becoming_more f g x (Err o) h = refl
 becoming_more {B = B} f g x (Ok y) h = ap (λ (b : B). Ok (b, y.1)) (h y.0)
 
 -- one more is read
-pub turn_some : {A B : Type 0} (one : List Token → Read (A × List Token)) (stop : TokenKind) (f g : List A → B) (ts : List Token) (x : A) (rest : List Token) → Shortens one → ((xs : List A) → f (x ∷ xs) ≡ g xs) → begins stop ts ≡ false → one ts ≡ Ok (x, rest)
+pub turn_some : {A B : Type 0} (one : List Token → Read (A × List Token)) (stop : TokenKind) (f g : List A → B) (ts : List Token) (x : A)
+    (rest : List Token) → Shortens one → ((xs : List A) → f (x ∷ xs) ≡ g xs) → begins stop ts ≡ false → one ts ≡ Ok (x, rest)
     → becoming g (many_at one stop rest) ≡ becoming f (many_at one stop ts)
 unfolding many_at choose read_then
 turn_some {A = A} one stop f g ts x rest s h b e =
     let short = s ts (x, rest) e in
-    let here : many one stop (suc (length ts)) ts ≡ read_then (many one stop (length ts) rest) (λ xs. Ok (x ∷ xs.0, xs.1)) = rw (b, e) refl in
-    sym (ap (becoming f) here ∙ becoming_more f g x (many one stop (length ts) rest) h ∙ ap (becoming g) (same_many one stop s (length ts) (suc (length rest)) rest (omega (arith, short)) (omega arith)))
+    let here : many one stop (suc (length ts)) ts ≡ read_then (many one stop (length ts) rest) (λ xs. Ok (x ∷ xs.0, xs.1)) =
+    rw (b, e) refl in
+    sym (ap (becoming f) here ∙ becoming_more f g x (many one stop (length ts) rest) h ∙ ap (becoming g)
+    (same_many one stop s (length ts) (suc (length rest)) rest (omega (arith, short)) (omega arith)))
 
 pub front_more : {A : Type 0} (front : List A) (x : A) (xs : List A) → front ++ (x ∷ xs) ≡ (front ++ x ∷ []) ++ xs
 front_more front x xs = sym (append_assoc front (x ∷ []) xs)
 
-turn_err : {A B : Type 0} (one : List Token → Read (A × List Token)) (stop : TokenKind) (f : List A → B) (ts : List Token) (o : Obstacle) → begins stop ts ≡ false → one ts ≡ Err o → becoming f (many_at one stop ts) ≡ Err o
+turn_err : {A B : Type 0} (one : List Token → Read (A × List Token)) (stop : TokenKind) (f : List A → B) (ts : List Token) (o : Obstacle) →
+    begins stop ts ≡ false → one ts ≡ Err o → becoming f (many_at one stop ts) ≡ Err o
 unfolding many_at choose read_then
 turn_err one stop f ts o b e = rw (b, e) refl
 
-pub turn_stop : {A B : Type 0} (one : List Token → Read (A × List Token)) (stop : TokenKind) (f : List A → B) (ts : List Token) → begins stop ts ≡ true → becoming f (many_at one stop ts) ≡ Ok (f [], ts)
+pub turn_stop : {A B : Type 0} (one : List Token → Read (A × List Token)) (stop : TokenKind) (f : List A → B) (ts : List Token) →
+    begins stop ts ≡ true → becoming f (many_at one stop ts) ≡ Ok (f [], ts)
 unfolding many_at choose read_then
 turn_stop one stop f ts b = rw b refl
 
-pub turn_fails : {A B : Type 0} (e : ParseError) (one : List Token → Read (A × List Token)) (stop : TokenKind) (f : List A → B) (ts : List Token) (total : Read (B × List Token)) → begins stop ts ≡ false → Fails e (one ts) → becoming f (many_at one stop ts) ≡ total → Fails e total
+pub turn_fails : {A B : Type 0} (e : ParseError) (one : List Token → Read (A × List Token)) (stop : TokenKind) (f : List A → B)
+    (ts : List Token) (total : Read (B × List Token)) → begins stop ts ≡ false → Fails e (one ts) → becoming f (many_at one stop ts)
+    ≡ total → Fails e total
 turn_fails parse_error.Memory one stop f ts total b h so_far = tt
 turn_fails (parse_error.Unexpected place) one stop f ts total b h so_far = sym so_far ∙ turn_err one stop f ts _ b h
 turn_fails (parse_error.TooDeep place) one stop f ts total b h so_far = sym so_far ∙ turn_err one stop f ts _ b h

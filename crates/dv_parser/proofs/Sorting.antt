@@ -25,7 +25,8 @@ items_more m (Starts s) items = simp append_assoc
 items_more m (Holds h) items = simp append_assoc
 items_more m (Rules r) items = simp append_assoc
 
-pub coupled_items_more : (m : CoupledTree) (i : CoupledItem) (items : List CoupledItem) → with_coupled_items m (i ∷ items) ≡ with_coupled_items (with_coupled_item m i) items
+pub coupled_items_more : (m : CoupledTree) (i : CoupledItem) (items : List CoupledItem) → with_coupled_items m (i ∷ items)
+    ≡ with_coupled_items (with_coupled_item m i) items
 coupled_items_more m (Inputs port) items = simp append_assoc
 coupled_items_more m (Outputs port) items = simp append_assoc
 coupled_items_more m (Contains part) items = simp append_assoc
@@ -74,30 +75,38 @@ all_coupled_sorted n items = λ i. record (sorted_coupled_items n items) { name 
 -- ---- Readers one after the other
 
 -- what the second reader gives comes later
-pub later : {A B C : Type 0} (r : Read A) (f : A → Read C) (g : A → Read B) (h : B → Read C) → ((x : A) → f x ≡ read_then (g x) h) → read_then r f ≡ read_then (read_then r g) h
+pub later : {A B C : Type 0} (r : Read A) (f : A → Read C) (g : A → Read B) (h : B → Read C) → ((x : A) → f x ≡ read_then (g x) h) →
+    read_then r f ≡ read_then (read_then r g) h
 unfolding read_then
 later (Ok x) f g h e = e x
 later (Err o) f g h e = refl
 
-later_list : {A B C D : Type 0} (r : Read (List A × List Token)) (k : List A → D) (f : D × List Token → Read C) (g : List A × List Token → Read B) (h : B → Read C) → ((x : List A × List Token) → f (k x.0, x.1) ≡ read_then (g x) h) → read_then (becoming k r) f ≡ read_then (read_then r g) h
+later_list : {A B C D : Type 0} (r : Read (List A × List Token)) (k : List A → D) (f : D × List Token → Read C)
+    (g : List A × List Token → Read B) (h : B → Read C) → ((x : List A × List Token) → f (k x.0, x.1) ≡ read_then (g x) h) → read_then
+    (becoming k r) f ≡ read_then (read_then r g) h
 unfolding read_then
 later_list (Ok x) k f g h e = e x
 later_list (Err o) k f g h e = refl
 
 -- a list in braces that becomes something else as it is read
-braced : {A B : Type 0} (one : List Token → Read (A × List Token)) (k : List A → B) (ts : List Token) → read_then (after (kind.Symbol symbol.OpenBrace) ts) (λ inside. read_then (becoming k (many_at one (kind.Symbol symbol.CloseBrace) inside)) (λ m. read_then (after (kind.Symbol symbol.CloseBrace) m.1) (λ rest. Ok (m.0, rest)))) ≡ becoming k (braces_at one ts)
+braced : {A B : Type 0} (one : List Token → Read (A × List Token)) (k : List A → B) (ts : List Token) → read_then
+    (after (kind.Symbol symbol.OpenBrace) ts)
+    (λ inside. read_then (becoming k (many_at one (kind.Symbol symbol.CloseBrace) inside))
+    (λ m. read_then (after (kind.Symbol symbol.CloseBrace) m.1) (λ rest. Ok (m.0, rest)))) ≡ becoming k (braces_at one ts)
 unfolding braces_at read_then
 braced one k ts =
     later (after (kind.Symbol symbol.OpenBrace) ts) _ _ _ (λ inside.
     later_list (many_at one (kind.Symbol symbol.CloseBrace) inside) k _ _ _ (λ m.
     later (after (kind.Symbol symbol.CloseBrace) m.1) _ _ _ (λ rest. refl)))
 
-pub same_chosen : {A B : Type 0} (b : Bool) (x y : Read A) (f : A → Read B) (u v : Read B) → u ≡ read_then x f → v ≡ read_then y f → choose b u v ≡ read_then (choose b x y) f
+pub same_chosen : {A B : Type 0} (b : Bool) (x y : Read A) (f : A → Read B) (u v : Read B) → u ≡ read_then x f → v ≡ read_then y f →
+    choose b u v ≡ read_then (choose b x y) f
 unfolding choose
 same_chosen true x y f u v p q = p
 same_chosen false x y f u v p q = q
 
-becoming_twice : {A B C : Type 0} (r : Read (List A × List Token)) (k : List A → B) (f : B × List Token → Read C) (g : List A × List Token → Read C) → ((x : List A × List Token) → f (k x.0, x.1) ≡ g x) → read_then (becoming k r) f ≡ read_then r g
+becoming_twice : {A B C : Type 0} (r : Read (List A × List Token)) (k : List A → B) (f : B × List Token → Read C)
+    (g : List A × List Token → Read C) → ((x : List A × List Token) → f (k x.0, x.1) ≡ g x) → read_then (becoming k r) f ≡ read_then r g
 unfolding read_then
 becoming_twice (Ok x) k f g e = e x
 becoming_twice (Err o) k f g e = refl
@@ -116,7 +125,8 @@ atomic_trees ts =
     later (after (kind.Keyword keyword.Atomic) ts) _ _ as_atomic (λ behind.
     later (name_at behind) _ _ as_atomic (λ n.
     braced (item_at the_limits) (with_items (empty_atomic n.0)) n.1
-    ∙ later (braces_at (item_at the_limits) n.1) _ _ as_atomic (λ items. ap (λ (m : AtomicTree). Ok (m, items.1)) (all_sorted n.0 items.0))))
+    ∙ later (braces_at (item_at the_limits) n.1) _ _ as_atomic
+    (λ items. ap (λ (m : AtomicTree). Ok (m, items.1)) (all_sorted n.0 items.0))))
 
 abbrev as_coupled : (Name × List CoupledItem) × List Token → Read (CoupledTree × List Token)
 as_coupled m = Ok (sorted_coupled_items m.0.0 m.0.1, m.1)
@@ -127,7 +137,8 @@ coupled_trees ts =
     later (after (kind.Keyword keyword.Coupled) ts) _ _ as_coupled (λ behind.
     later (name_at behind) _ _ as_coupled (λ n.
     braced coupled_item_at (with_coupled_items (empty_coupled n.0)) n.1
-    ∙ later (braces_at coupled_item_at n.1) _ _ as_coupled (λ items. ap (λ (m : CoupledTree). Ok (m, items.1)) (all_coupled_sorted n.0 items.0))))
+    ∙ later (braces_at coupled_item_at n.1) _ _ as_coupled
+    (λ items. ap (λ (m : CoupledTree). Ok (m, items.1)) (all_coupled_sorted n.0 items.0))))
 
 -- ---- Models
 
@@ -143,8 +154,10 @@ pub trees : (ts : List Token) → tree_at ts ≡ read_then (model_at the_limits 
 unfolding tree_at model_at read_then
 trees ts =
     same_chosen (begins (kind.Keyword keyword.Coupled) ts) _ _ as_tree _ _
-    (ap (λ (r : Read (CoupledTree × List Token)). read_then r (λ m. Ok (CoupledModel m.0, m.1))) (coupled_trees ts) ∙ twice (coupled_at ts) as_coupled _ ∙ later (coupled_at ts) _ _ as_tree (λ m. refl))
-    (ap (λ (r : Read (AtomicTree × List Token)). read_then r (λ m. Ok (AtomicModel m.0, m.1))) (atomic_trees ts) ∙ twice (atomic_at the_limits ts) as_atomic _ ∙ later (atomic_at the_limits ts) _ _ as_tree (λ m. refl))
+    (ap (λ (r : Read (CoupledTree × List Token)). read_then r (λ m. Ok (CoupledModel m.0, m.1))) (coupled_trees ts) ∙ twice
+    (coupled_at ts) as_coupled _ ∙ later (coupled_at ts) _ _ as_tree (λ m. refl))
+    (ap (λ (r : Read (AtomicTree × List Token)). read_then r (λ m. Ok (AtomicModel m.0, m.1))) (atomic_trees ts) ∙ twice
+    (atomic_at the_limits ts) as_atomic _ ∙ later (atomic_at the_limits ts) _ _ as_tree (λ m. refl))
 
 pub tree_shortens : Shortens tree_at
 tree_shortens ts x e =
@@ -153,17 +166,20 @@ tree_shortens ts x e =
 
 -- ---- Files
 
-one_more : {A B : Type 0} (y : B) (x : A) (g : A → B) (m : Read (List A × List Token)) → y ≡ g x → read_then (becoming (map g) m) (λ ys. Ok (y ∷ ys.0, ys.1)) ≡ becoming (map g) (read_then m (λ xs. Ok (x ∷ xs.0, xs.1)))
+one_more : {A B : Type 0} (y : B) (x : A) (g : A → B) (m : Read (List A × List Token)) → y ≡ g x → read_then (becoming (map g) m)
+    (λ ys. Ok (y ∷ ys.0, ys.1)) ≡ becoming (map g) (read_then m (λ xs. Ok (x ∷ xs.0, xs.1)))
 unfolding read_then
 one_more y x g (Err o) e = refl
 one_more {B = B} y x g (Ok xs) e = ap (λ (z : B). Ok (z ∷ map g xs.0, xs.1)) e
 
-many_trees : (more : ℕ) (ts : List Token) → many tree_at (kind.Keyword keyword.Root) more ts ≡ becoming (map sorted_model) (many (model_at the_limits) (kind.Keyword keyword.Root) more ts)
+many_trees : (more : ℕ) (ts : List Token) → many tree_at (kind.Keyword keyword.Root) more ts ≡ becoming (map sorted_model)
+    (many (model_at the_limits) (kind.Keyword keyword.Root) more ts)
 unfolding read_then
 many_trees zero ts = refl
 many_trees (suc more) ts =
     same_chosen (begins (kind.Keyword keyword.Root) ts) _ _ _ _ _ refl
-    (ap (λ (r : Read (ModelTree × List Token)). read_then r (λ x. read_then (many tree_at (kind.Keyword keyword.Root) more x.1) (λ xs. Ok (x.0 ∷ xs.0, xs.1)))) (trees ts)
+    (ap (λ (r : Read (ModelTree × List Token)). read_then r
+    (λ x. read_then (many tree_at (kind.Keyword keyword.Root) more x.1) (λ xs. Ok (x.0 ∷ xs.0, xs.1)))) (trees ts)
     ∙ twice (model_at the_limits ts) as_tree _
     ∙ later (model_at the_limits ts) _ _ _ (λ m.
     ap (λ (r : Read (List ModelTree × List Token)). read_then r (λ xs. Ok (sorted_model m.0 ∷ xs.0, xs.1))) (many_trees more m.1)
@@ -178,7 +194,8 @@ then_read e f = ap (λ r. read_then r f) e
 file_trees : (ts : List Token) → file_tree_at ts ≡ read_then (file_at the_limits ts) as_file
 unfolding file_tree_at file_at many_at read_then
 file_trees ts =
-    then_read (many_trees (suc (length ts)) ts) _ ∙ later_list (many_at (model_at the_limits) (kind.Keyword keyword.Root) ts) (map sorted_model) _ _ as_file (λ models.
+    then_read (many_trees (suc (length ts)) ts) _ ∙ later_list (many_at (model_at the_limits) (kind.Keyword keyword.Root) ts)
+    (map sorted_model) _ _ as_file (λ models.
     later (after (kind.Keyword keyword.Root) models.1) _ _ as_file (λ behind.
     later (name_at behind) _ _ as_file (λ n.
     later (after (kind.Symbol symbol.Semicolon) n.1) _ _ as_file (λ rest.
@@ -200,6 +217,7 @@ err_kept (Err p) f o e = ap Err (err_is p o e)
 pub file_tree_err : (ts : List Token) (o : Obstacle) → file_tree_at ts ≡ Err o → file_at the_limits ts ≡ Err o
 file_tree_err ts o e = err_kept (file_at the_limits ts) sorted o (sym (file_trees ts) ∙ e)
 
-pub refused_as : (e : LoadError) (ts : List Token) (end : ℕ) (o : Obstacle) → e ≡ error.Refused (refusal_of o end) → file_tree_at ts ≡ Err o → IsRefused e ts end
+pub refused_as : (e : LoadError) (ts : List Token) (end : ℕ) (o : Obstacle) → e ≡ error.Refused (refusal_of o end) → file_tree_at ts
+    ≡ Err o → IsRefused e ts end
 refused_as e ts end o is f =
     subst (λ (x : LoadError). IsRefused x ts end) (sym is) (ap (λ (r : Read WrittenFile). refusal_in r end) (file_tree_err ts o f))

@@ -35,7 +35,9 @@ single_spelling (SingleAssign n e) = name n ∷ sign symbol.Assign ∷ (expressi
 single_spelling (SingleGoto place p) = word_at keyword.Goto place ∷ name p ∷ sign symbol.Semicolon ∷ []
 single_spelling (SingleSend place p e) = word_at keyword.Send place ∷ name p ∷ (expression_spelling e ++ sign symbol.Semicolon ∷ [])
 single_spelling (SingleIf place e block) = word_at keyword.If place ∷ (expression_spelling e ++ braces (statements_spelling block))
-single_spelling (SingleIfElse place e block other) = word_at keyword.If place ∷ (expression_spelling e ++ (braces (statements_spelling block) ++ (word keyword.Else ∷ braces (statements_spelling other))))
+single_spelling (SingleIfElse place e block other) =
+    word_at keyword.If place ∷
+    (expression_spelling e ++ (braces (statements_spelling block) ++ (word keyword.Else ∷ braces (statements_spelling other))))
 single_spelling (SingleFor place v b block) =
     word_at keyword.For place ∷ name v ∷ word keyword.In ∷ name b ∷ braces (statements_spelling block)
 single_spelling (SingleAdd place e b) = word_at keyword.Add place ∷ (expression_spelling e ++ bag_behind keyword.To b)
@@ -264,7 +266,17 @@ statement_complete limits limit loops blocks r (SingleSend place p e) ts rest is
     let s = split (expression_spelling e) semicolon n'.spelled in
     let v = (expression_reader limits).complete e n'.behind s.0 is s.1 (semicolon_closed s.0 rest s.2) in
     let c = first s.2 in
-    rw (f.begins (kind.Keyword keyword.Goto), f.begins (kind.Keyword keyword.Send), f.after, n'.read, v, c.after, f.place, span_end c.spelled) refl
+    rw (
+      f.begins (kind.Keyword keyword.Goto),
+      f.begins
+          (kind.Keyword keyword.Send),
+      f.after,
+      n'.read,
+      v,
+      c.after,
+      f.place,
+      span_end c.spelled,
+    ) refl
 statement_complete limits limit loops blocks r (SingleIf place e b) ts rest is h ends =
     let f = first h in
     let s = split (expression_spelling e) (block_spelling b) f.spelled in
@@ -272,7 +284,18 @@ statement_complete limits limit loops blocks r (SingleIf place e b) ts rest is h
     let v = (expression_reader limits).complete e f.behind s.0 is.0 s.1 (braces_closed b [] s.0 rest closed) in
     let c = (r loops).complete b s.0 rest is.1 s.2 tt in
     let room = within_positive limit (place_at ts) (expression_at limits.expression 0 f.behind) (omega (arith, is.1.1, positive_block b)) in
-    rw (f.begins (kind.Keyword keyword.Goto), f.begins (kind.Keyword keyword.Send), f.begins (kind.Keyword keyword.If), f.after, room, v, c, ends, f.place) refl
+    rw (
+      f.begins (kind.Keyword keyword.Goto),
+      f.begins (kind.Keyword keyword.Send),
+      f.begins
+          (kind.Keyword keyword.If),
+      f.after,
+      room,
+      v,
+      c,
+      ends,
+      f.place,
+    ) refl
 statement_complete limits limit loops blocks r (SingleIfElse place e b o) ts rest is h ends =
     let f = first h in
     let tail : List Spelled = word keyword.Else ∷ block_spelling o in
@@ -283,7 +306,20 @@ statement_complete limits limit loops blocks r (SingleIfElse place e b o) ts res
     let w = first t.2 in
     let d = (r loops).complete o w.behind rest is.2 w.spelled tt in
     let room = within_positive limit (place_at ts) (expression_at limits.expression 0 f.behind) (omega (arith, is.1.1, positive_block b)) in
-    rw (f.begins (kind.Keyword keyword.Goto), f.begins (kind.Keyword keyword.Send), f.begins (kind.Keyword keyword.If), f.after, room, v, c, w.begins (kind.Keyword keyword.Else), w.after, d, f.place) refl
+    rw (
+      f.begins (kind.Keyword keyword.Goto),
+      f.begins (kind.Keyword keyword.Send),
+      f.begins
+          (kind.Keyword keyword.If),
+      f.after,
+      room,
+      v,
+      c,
+      w.begins (kind.Keyword keyword.Else),
+      w.after,
+      d,
+      f.place,
+    ) refl
 statement_complete limits limit loops blocks r (SingleFor place v b block) ts rest is h ends =
     let f = first h in
     let n = first_name v f.spelled in
@@ -357,7 +393,8 @@ statement_reader limits limit loops blocks r = record {
   complete = statement_complete limits limit loops blocks r;
 }
 
-single_opens : (x : Single) (ts rest : List Token) → Spans (single_spelling x) ts rest → (begins (kind.Symbol symbol.CloseBrace) ts ≡ false) × (begins (kind.Keyword keyword.Else) ts ≡ false)
+single_opens : (x : Single) (ts rest : List Token) → Spans (single_spelling x) ts rest → (begins (kind.Symbol symbol.CloseBrace) ts ≡ false)
+    × (begins (kind.Keyword keyword.Else) ts ≡ false)
 single_opens (SingleAssign n e) ts rest h = let f = first h in (f.begins _, f.begins _)
 single_opens (SingleGoto place p) ts rest h = let f = first h in (f.begins _, f.begins _)
 single_opens (SingleSend place p e) ts rest h = let f = first h in (f.begins _, f.begins _)
@@ -379,7 +416,8 @@ single_some (SingleDrop place e b) = omega arith
 
 -- ---- Statements as a list of single ones
 
-single_before-spelling : (s : Single) (rest : Statements) → statements_spelling (single_before s rest) ≡ single_spelling s ++ statements_spelling rest
+single_before-spelling : (s : Single) (rest : Statements) → statements_spelling (single_before s rest)
+    ≡ single_spelling s ++ statements_spelling rest
 single_before-spelling (SingleAssign n e) rest = simp append_assoc
 single_before-spelling (SingleGoto place p) rest = refl
 single_before-spelling (SingleSend place p e) rest = simp append_assoc
@@ -458,7 +496,8 @@ are_apart limits limit loops (Drop place e b rest) is = (is.0.0, are_apart limit
 
 brace_no_else : (ts : List Token) → begins (kind.Symbol symbol.CloseBrace) ts ≡ true → begins (kind.Keyword keyword.Else) ts ≡ false
 brace_no_else [] e = refl
-brace_no_else (t ∷ ts) e = ap (λ (k : TokenKind). same_kind k (kind.Keyword keyword.Else)) (same_kind-true t.kind (kind.Symbol symbol.CloseBrace) e)
+brace_no_else (t ∷ ts) e =
+    ap (λ (k : TokenKind). same_kind k (kind.Keyword keyword.Else)) (same_kind-true t.kind (kind.Symbol symbol.CloseBrace) e)
 
 single_listed : IsListed single_spelling NoElse (kind.Symbol symbol.CloseBrace)
 single_listed = record {

@@ -40,7 +40,8 @@ unfolding choose
 chosen true x y z e = inl (refl, e)
 chosen false x y z e = inr (refl, e)
 
-pub maybe_is : {A B : Type 0} (o : Option A) (n : B) (s : A → B) (z : B) → maybe o n s ≡ z → ((o ≡ None) × (n ≡ z)) ⊎ ((x : A) × (o ≡ Some x) × (s x ≡ z))
+pub maybe_is : {A B : Type 0} (o : Option A) (n : B) (s : A → B) (z : B) → maybe o n s ≡ z → ((o ≡ None) × (n ≡ z)) ⊎
+    ((x : A) × (o ≡ Some x) × (s x ≡ z))
 unfolding maybe
 maybe_is None n s z e = inl (refl, e)
 maybe_is (Some x) n s z e = inr (x, refl, e)
@@ -64,7 +65,8 @@ Spells-then [] b ts mid rest h k = subst (λ (x : List Token). Spells b x rest) 
 Spells-then (s ∷ a) b [] mid rest h k = absurd h
 Spells-then (s ∷ a) b (t ∷ ts) mid rest h k = (h.0, Spells-then a b ts mid rest h.1 k)
 
-pub Spells-split : (a b : List Spelled) (ts rest : List Token) → Spells (a ++ b) ts rest → (mid : List Token) × Spells a ts mid × Spells b mid rest
+pub Spells-split : (a b : List Spelled) (ts rest : List Token) → Spells (a ++ b) ts rest → (mid : List Token) × Spells a ts mid
+    × Spells b mid rest
 Spells-split [] b ts rest h = (ts, refl, h)
 Spells-split (s ∷ a) b [] rest h = absurd h
 Spells-split (s ∷ a) b (t ∷ ts) rest h = let r = Spells-split a b ts rest h.1 in (r.0, (h.0, r.1), r.2)
@@ -217,20 +219,25 @@ front (Anywhere k) ss (t ∷ ts) rest h = record {
   spelled = h.1;
 }
 
-pub name_front : (n : Name) (ss : List Spelled) (ts rest : List Token) → Spells (name n ∷ ss) ts rest → (behind : List Token) × (name_at ts ≡ Ok (n, behind)) × Spells ss behind rest
+pub name_front : (n : Name) (ss : List Spelled) (ts rest : List Token) → Spells (name n ∷ ss) ts rest → (behind : List Token) ×
+    (name_at ts ≡ Ok (n, behind)) × Spells ss behind rest
 unfolding name_at
 name_front n ss [] rest h = absurd h
 name_front n ss (t ∷ ts) rest h = (ts, rw (h.0.0, h.0.1) refl, h.1)
 
-pub number_front : (n : Number) (ss : List Spelled) (ts rest : List Token) → Spells (number n ∷ ss) ts rest → (behind : List Token) × (number_at ts ≡ Ok (n, behind)) × Spells ss behind rest
+pub number_front : (n : Number) (ss : List Spelled) (ts rest : List Token) → Spells (number n ∷ ss) ts rest → (behind : List Token) ×
+    (number_at ts ≡ Ok (n, behind)) × Spells ss behind rest
 unfolding number_at
 number_front n ss [] rest h = absurd h
 number_front n ss (t ∷ ts) rest h = (ts, rw (h.0.0, h.0.1) refl, h.1)
 
-pub truth_front : (b : Bool) (ss : List Spelled) (ts rest : List Token) → Spells (word (truth_word b) ∷ ss) ts rest → (behind : List Token) × (truth_at ts ≡ Ok (b, behind)) × Spells ss behind rest
+pub truth_front : (b : Bool) (ss : List Spelled) (ts rest : List Token) → Spells (word (truth_word b) ∷ ss) ts rest → (behind : List Token)
+    × (truth_at ts ≡ Ok (b, behind)) × Spells ss behind rest
 unfolding truth_at choose read_then
-truth_front true ss ts rest h = let f = front (word keyword.True) ss ts rest h in (f.behind, rw (f.begins (kind.Keyword keyword.True), f.after) refl, f.spelled)
-truth_front false ss ts rest h = let f = front (word keyword.False) ss ts rest h in (f.behind, rw (f.begins (kind.Keyword keyword.True), f.after) refl, f.spelled)
+truth_front true ss ts rest h =
+    let f = front (word keyword.True) ss ts rest h in (f.behind, rw (f.begins (kind.Keyword keyword.True), f.after) refl, f.spelled)
+truth_front false ss ts rest h =
+    let f = front (word keyword.False) ss ts rest h in (f.behind, rw (f.begins (kind.Keyword keyword.True), f.after) refl, f.spelled)
 
 pub call_front : (c : BagCall) (ss : List Spelled) (ts rest : List Token) → Spells (word (call_word c) ∷ ss) ts rest
     → (behind : List Token) × (call_word_at ts ≡ Ok (c, behind)) × Spells ss behind rest
@@ -251,12 +258,14 @@ call_front call.Most ss ts rest h =
     (f.behind, rw (f.begins (kind.Keyword keyword.Size), sum, f.begins (kind.Keyword keyword.Least), f.after) refl, f.spelled)
 
 -- a token whose place is kept is one that stands anywhere
-pub unplaced : (k : TokenKind) (place : ℕ) (ss : List Spelled) (ts rest : List Token) → Spells (At k place ∷ ss) ts rest → Spells (Anywhere k ∷ ss) ts rest
+pub unplaced : (k : TokenKind) (place : ℕ) (ss : List Spelled) (ts rest : List Token) → Spells (At k place ∷ ss) ts rest → Spells
+    (Anywhere k ∷ ss) ts rest
 unplaced k place ss [] rest h = absurd h
 unplaced k place ss (t ∷ ts) rest h = (h.0.0, h.1)
 
 -- the other way: a token that was read, before what is spelled
-pub after_spells : (k : TokenKind) (ss : List Spelled) (ts mid rest : List Token) → after k ts ≡ Ok mid → Spells ss mid rest → Spells (Anywhere k ∷ ss) ts rest
+pub after_spells : (k : TokenKind) (ss : List Spelled) (ts mid rest : List Token) → after k ts ≡ Ok mid → Spells ss mid rest → Spells
+    (Anywhere k ∷ ss) ts rest
 unfolding after
 after_spells k ss [] mid rest e h = absurd cc
 after_spells k ss (t ∷ ts) mid rest e h =
@@ -265,39 +274,61 @@ after_spells k ss (t ∷ ts) mid rest e h =
       | inr p ↦ absurd (err_ok _ _ p.1)
     ]
 
-pub after_spells_at : (k : TokenKind) (ss : List Spelled) (ts mid rest : List Token) → after k ts ≡ Ok mid → Spells ss mid rest → Spells (At k (place_at ts) ∷ ss) ts rest
+pub after_spells_at : (k : TokenKind) (ss : List Spelled) (ts mid rest : List Token) → after k ts ≡ Ok mid → Spells ss mid rest → Spells
+    (At k (place_at ts) ∷ ss) ts rest
 unfolding after place_at
 after_spells_at k ss [] mid rest e h = absurd cc
 after_spells_at k ss (t ∷ ts) mid rest e h = let s = after_spells k ss (t ∷ ts) mid rest e h in ((s.0, refl), s.1)
 
-name_of-name : (k : TokenKind) (place : ℕ) (ts : List Token) (x : Name × List Token) → name_of k place ts ≡ Ok x → (k ≡ kind.Name x.0.number) × (place ≡ x.0.place) × (ts ≡ x.1)
-name_of-name (kind.Name n) place ts x e = let p = ok_is _ _ e in (ap (λ (y : Name × List Token). kind.Name y.0.number) p, ap (λ (y : Name × List Token). y.0.place) p, ap (λ (y : Name × List Token). y.1) p)
+name_of-name : (k : TokenKind) (place : ℕ) (ts : List Token) (x : Name × List Token) → name_of k place ts ≡ Ok x →
+    (k ≡ kind.Name x.0.number) × (place ≡ x.0.place) × (ts ≡ x.1)
+name_of-name (kind.Name n) place ts x e =
+    let p = ok_is _ _ e in (
+      ap (λ (y : Name × List Token). kind.Name y.0.number) p,
+      ap (λ (y : Name × List Token). y.0.place) p,
+      ap
+          (λ (y : Name × List Token). y.1) p,
+    )
 name_of-name _ place ts x e = absurd (err_ok _ _ e)
 
-pub name_spells : (ss : List Spelled) (ts rest : List Token) (x : Name × List Token) → name_at ts ≡ Ok x → Spells ss x.1 rest → Spells (name x.0 ∷ ss) ts rest
+pub name_spells : (ss : List Spelled) (ts rest : List Token) (x : Name × List Token) → name_at ts ≡ Ok x → Spells ss x.1 rest → Spells
+    (name x.0 ∷ ss) ts rest
 unfolding name_at
 name_spells ss [] rest x e h = absurd (err_ok _ _ e)
-name_spells ss (t ∷ ts) rest x e h = let p = name_of-name t.kind t.place ts x e in ((p.0, p.1), subst (λ (y : List Token). Spells ss y rest) (sym p.2) h)
+name_spells ss (t ∷ ts) rest x e h =
+    let p = name_of-name t.kind t.place ts x e in ((p.0, p.1), subst (λ (y : List Token). Spells ss y rest) (sym p.2) h)
 
-number_of-number : (k : TokenKind) (place : ℕ) (ts : List Token) (x : Number × List Token) → number_of k place ts ≡ Ok x → (k ≡ kind.Number x.0.value) × (place ≡ x.0.place) × (ts ≡ x.1)
-number_of-number (kind.Number n) place ts x e = let p = ok_is _ _ e in (ap (λ (y : Number × List Token). kind.Number y.0.value) p, ap (λ (y : Number × List Token). y.0.place) p, ap (λ (y : Number × List Token). y.1) p)
+number_of-number : (k : TokenKind) (place : ℕ) (ts : List Token) (x : Number × List Token) → number_of k place ts ≡ Ok x →
+    (k ≡ kind.Number x.0.value) × (place ≡ x.0.place) × (ts ≡ x.1)
+number_of-number (kind.Number n) place ts x e =
+    let p = ok_is _ _ e in (
+      ap (λ (y : Number × List Token). kind.Number y.0.value) p,
+      ap (λ (y : Number × List Token). y.0.place) p,
+      ap
+          (λ (y : Number × List Token). y.1) p,
+    )
 number_of-number _ place ts x e = absurd (err_ok _ _ e)
 
-pub number_spells : (ss : List Spelled) (ts rest : List Token) (x : Number × List Token) → number_at ts ≡ Ok x → Spells ss x.1 rest → Spells (number x.0 ∷ ss) ts rest
+pub number_spells : (ss : List Spelled) (ts rest : List Token) (x : Number × List Token) → number_at ts ≡ Ok x → Spells ss x.1 rest → Spells
+    (number x.0 ∷ ss) ts rest
 unfolding number_at
 number_spells ss [] rest x e h = absurd (err_ok _ _ e)
-number_spells ss (t ∷ ts) rest x e h = let p = number_of-number t.kind t.place ts x e in ((p.0, p.1), subst (λ (y : List Token). Spells ss y rest) (sym p.2) h)
+number_spells ss (t ∷ ts) rest x e h =
+    let p = number_of-number t.kind t.place ts x e in ((p.0, p.1), subst (λ (y : List Token). Spells ss y rest) (sym p.2) h)
 
-pub truth_spells : (ss : List Spelled) (ts rest : List Token) (x : Bool × List Token) → truth_at ts ≡ Ok x → Spells ss x.1 rest → Spells (word_at (truth_word x.0) (place_at ts) ∷ ss) ts rest
+pub truth_spells : (ss : List Spelled) (ts rest : List Token) (x : Bool × List Token) → truth_at ts ≡ Ok x → Spells ss x.1 rest → Spells
+    (word_at (truth_word x.0) (place_at ts) ∷ ss) ts rest
 unfolding truth_at
 truth_spells ss ts rest x e h =
     elim (chosen _ _ _ _ e) [
       | inl p ↦
           let a = then_ok _ _ _ p.1 in
-          subst (λ (y : Bool × List Token). Spells ss y.1 rest → Spells (word_at (truth_word y.0) (place_at ts) ∷ ss) ts rest) (ok_is _ _ a.2) (after_spells_at (kind.Keyword keyword.True) ss ts a.0 rest a.1) h
+          subst (λ (y : Bool × List Token). Spells ss y.1 rest → Spells (word_at (truth_word y.0) (place_at ts) ∷ ss) ts rest)
+          (ok_is _ _ a.2) (after_spells_at (kind.Keyword keyword.True) ss ts a.0 rest a.1) h
       | inr p ↦
           let a = then_ok _ _ _ p.1 in
-          subst (λ (y : Bool × List Token). Spells ss y.1 rest → Spells (word_at (truth_word y.0) (place_at ts) ∷ ss) ts rest) (ok_is _ _ a.2) (after_spells_at (kind.Keyword keyword.False) ss ts a.0 rest a.1) h
+          subst (λ (y : Bool × List Token). Spells ss y.1 rest → Spells (word_at (truth_word y.0) (place_at ts) ∷ ss) ts rest)
+          (ok_is _ _ a.2) (after_spells_at (kind.Keyword keyword.False) ss ts a.0 rest a.1) h
     ]
 
 -- what is known of the word of a call that was read, before what is spelled

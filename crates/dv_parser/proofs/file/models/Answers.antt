@@ -15,15 +15,25 @@ loop-alloc-init c = rw c.new-models.ensures.items (front_nothing (many_at tree_a
 pub returns-in_err-model : goal.returns-in_err-model
 returns-in_err-model c =
     let p = err_from_is_err_and c.from_residual.result c.from_residual.ensures.1 in
-    rw (p.1, p.2) (turn_fails c.in_err-model.field-0.0 tree_at (kind.Keyword keyword.Root) (λ (xs : List ModelTree). map model_of c.loop-alloc.models.items ++ xs) c.loop-alloc.rest.now _ (search rules) c.in_err-model.ensures c.loop-alloc.invariant)
+    rw (p.1, p.2) (turn_fails c.in_err-model.field-0.0 tree_at (kind.Keyword keyword.Root)
+    (λ (xs : List ModelTree). map model_of c.loop-alloc.models.items ++ xs) c.loop-alloc.rest.now _
+    (search rules) c.in_err-model.ensures c.loop-alloc.invariant)
 
 pub loop-alloc-smaller : goal.loop-alloc-smaller
 loop-alloc-smaller c = tree_shortens c.loop-alloc.rest.now ((model_of c.in_ok-model.model), c.in_ok-model.after.now) c.in_ok-model.ensures
 
 pub loop-alloc-preserved : goal.loop-alloc-preserved
 loop-alloc-preserved c =
-    let e : map model_of c.push.new.self.items ≡ map model_of c.loop-alloc.models.items ++ model_of c.in_ok-model.model ∷ [] = rw c.in_ok-push.ensures.items (map_push model_of c.loop-alloc.models.items c.in_ok-model.model) in
-    rw e (turn_some tree_at (kind.Keyword keyword.Root) (λ (xs : List ModelTree). map model_of c.loop-alloc.models.items ++ xs) (λ (xs : List ModelTree). (map model_of c.loop-alloc.models.items ++ model_of c.in_ok-model.model ∷ []) ++ xs) c.loop-alloc.rest.now (model_of c.in_ok-model.model) c.in_ok-model.after.now tree_shortens (front_more (map model_of c.loop-alloc.models.items) (model_of c.in_ok-model.model)) (search rules) c.in_ok-model.ensures ∙ c.loop-alloc.invariant)
+    let e : map model_of c.push.new.self.items ≡ map model_of c.loop-alloc.models.items ++ model_of c.in_ok-model.model ∷ [] =
+    rw c.in_ok-push.ensures.items (map_push model_of c.loop-alloc.models.items c.in_ok-model.model) in
+    rw e (turn_some tree_at (kind.Keyword keyword.Root) (λ (xs : List ModelTree). map model_of c.loop-alloc.models.items ++ xs)
+    (λ (xs : List ModelTree). (map model_of c.loop-alloc.models.items ++ model_of c.in_ok-model.model ∷ []) ++ xs) c.loop-alloc.rest.now
+    (model_of c.in_ok-model.model) c.in_ok-model.after.now tree_shortens
+    (front_more (map model_of c.loop-alloc.models.items) (model_of c.in_ok-model.model)) (search rules) c.in_ok-model.ensures
+    ∙ c.loop-alloc.invariant)
 
 pub returns : goal.returns
-returns c = rw (← c.loop-alloc.invariant) (turn_stop tree_at (kind.Keyword keyword.Root) (λ (xs : List ModelTree). map model_of c.loop-alloc.models.items ++ xs) c.loop-alloc.rest.now (search rules) ∙ ap (λ (xs : List ModelTree). Ok (xs, c.loop-alloc.rest.now)) (append-nil (map model_of c.loop-alloc.models.items)))
+returns c = rw (← c.loop-alloc.invariant)
+    (turn_stop tree_at (kind.Keyword keyword.Root)
+    (λ (xs : List ModelTree). map model_of c.loop-alloc.models.items ++ xs) c.loop-alloc.rest.now (search rules) ∙ ap
+    (λ (xs : List ModelTree). Ok (xs, c.loop-alloc.rest.now)) (append-nil (map model_of c.loop-alloc.models.items)))

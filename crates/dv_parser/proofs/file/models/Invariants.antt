@@ -6,7 +6,9 @@ use Rattle.dv_parser.specs.Reading.{with_front, many_at, tree_at}
 use Rattle.dv_parser.proofs.file.models.Given as goal
 
 abbrev pub invariant-loop-alloc : goal.invariant-loop-alloc
-invariant-loop-alloc l = with_front (map model_of l.models.items) (many_at tree_at (kind.Keyword keyword.Root) l.rest) ≡ many_at tree_at (kind.Keyword keyword.Root) l.tokens
+invariant-loop-alloc l =
+    with_front (map model_of l.models.items) (many_at tree_at (kind.Keyword keyword.Root) l.rest) ≡ many_at tree_at
+    (kind.Keyword keyword.Root) l.tokens
 
 abbrev pub decreases-loop-alloc : goal.decreases-loop-alloc
 decreases-loop-alloc l = length l.rest
