@@ -1,27 +1,32 @@
 -- What the refusals that a file does not have say of it.
-use Rattle.std.proofs.Common.{subst, ⊎_elim, ◌≡◌, ℕ, ◌+◌, ◌<◌, ◌≤◌, ◌==◌, Bool, true, false, not, ◌&&◌, if◌then◌else◌, List, [], ◌∷◌, ◌++◌, length, map, refl, sym, ap, ◌∙◌, Option, Some, None, option_map, Contains, arith}
+use Rattle.std.proofs.Common.{subst, ⊎_elim, ◌≡◌, ℕ, ◌+◌, ◌<◌, ◌≤◌, ◌==◌, Bool, true, false, not, ◌&&◌, ◌||◌, nat_lt, suc, if◌then◌else◌, List, [], ◌∷◌, ◌++◌, length, map, refl, sym, ap, ◌∙◌, Option, Some, None, option_map, Contains, arith}
 use Rattle.std.specs.List.{AllByRecursion, flat_map, slice_get}
 use Rattle.std.specs.Option.{option_or}
 use Rattle.std.proofs.lemmas.Option.{slice_get_cases}
+use Rattle.std.proofs.lemmas.Bool.{eqb-false, ltb-false, or_parts}
 use Rattle.std.proofs.lemmas.List.{length-map}
 use Rattle.std.proofs.lemmas.List.Elements.{All-contains, All-from_recursion}
 use Rattle.dv_lex.specs.declared.error.RefusalNumber.{RefusalNumber}
 use Rattle.dv_lex.specs.declared.error.RefusalNumber.TheVariants.{E6, E13}
 use Rattle.dv_check.specs.LinkSets.{no_link}
 use Rattle.dv_lex.specs.Order.{first_refusal}
+use Rattle.dv_lex.proofs.TableLemmas.{list_any-map}
 use Rattle.dv_syntax.specs.declared.tree.Name.{Name}
 use Rattle.dv_syntax.specs.declared.tree.Part.{Part}
 use Rattle.dv_syntax.specs.declared.tree.Link.{Link}
 use Rattle.dv_syntax.specs.Trees.{ModelTree, AtomicModel, CoupledModel, CoupledTree, FileTree}
-use Rattle.dv_eval.specs.Scope.{is_declared, scope_of}
-use Rattle.dv_check.specs.declared.limits.TheConstants.{GREATEST_NAMES}
-use Rattle.dv_check.specs.Names.{excess, excess_of, excess_past, model_named, name_of_model, part_named, repeats, refusal_if}
+use Rattle.dv_eval.specs.Scope.{is_declared}
+use Rattle.dv_check.specs.declared.limits.TheConstants.{GREATEST_COMPONENTS, GREATEST_DEPTH, GREATEST_INSTANCES, GREATEST_NAMES}
+use Rattle.dv_check.specs.Names.{among, excess, excess_of, excess_past, model_named, name_of_model, part_named, repeats, refusal_if}
 use Rattle.dv_check.specs.declared.declarations.NameSort.{NameSort}
-use Rattle.dv_check.specs.Models.{Simple, face_of, faces_in}
-use Rattle.dv_check.specs.Rules.{is_none_left, name_of_declaration, sort_in}
-use Rattle.dv_check.specs.Couplings.{interior_of, coupled_refusals, has_ends, is_input, is_input_of_part, is_input_shown, is_output, is_output_of_part, is_output_shown, is_source, is_target, kind_refusals, leads_back, link_refusals, name_of_part, output_refusals, input_refusals, part_model_refusals, part_refusals, part_source_refusals, part_target_refusals, parts_in, port_refusals, ports_of, repeated_links_after, same_part, source_refusals, source_at_part, target_refusals, target_at_part}
-use Rattle.dv_check.specs.Refusals.{limit_refusals, model_refusals, refusal_of, refusals, root_limit_refusals, root_refusals}
-use Rattle.dv_check.specs.Accepted.{IsAtomicPart, IsOutputOfPart, IsInputOfPart, IsSource, IsTarget, LeadsOn, IsAcceptedCoupled, IsAcceptedModel, IsAcceptedFile, IsThrough}
+use Rattle.dv_check.specs.Models.{face_of, faces_in}
+use Rattle.dv_check.specs.Ports.{ports_of}
+use Rattle.dv_check.specs.Rules.{name_of_declaration, sort_in}
+use Rattle.dv_check.specs.Tree.{PartTree, component_count, depth_of, instance_count, tree_of}
+use Rattle.dv_check.specs.Cycles.{cycle_refusals}
+use Rattle.dv_check.specs.Couplings.{interior_of, coupled_refusals, has_ends, is_input, is_input_of_part, is_input_shown, is_output, is_output_of_part, is_output_shown, is_source, is_target, kind_refusals, leads_back, link_refusals, name_of_part, output_refusals, input_refusals, part_model_refusals, part_refusals, part_source_refusals, part_target_refusals, parts_in, port_refusals, repeated_links_after, same_part, source_refusals, source_at_part, target_refusals, target_at_part}
+use Rattle.dv_check.specs.Refusals.{limit_refusals, model_refusals, passes_limit, refusal_of, refusals, root_limit_refusals, root_refusals}
+use Rattle.dv_check.specs.Accepted.{IsKnownPart, numbers_of, shown_inputs, shown_outputs, IsOutputOfPart, IsInputOfPart, IsSource, IsTarget, LeadsOn, IsAcceptedCoupled, IsAcceptedModel, IsAcceptedFile, IsThrough}
 use Rattle.dv_check.proofs.Declared.{input_declared, output_declared}
 use Rattle.dv_check.proofs.Merged.{input_among, output_among, ports_counted}
 use Rattle.dv_check.proofs.Order.{none_first}
@@ -74,20 +79,22 @@ model_accepted all (x ∷ models) number m none e =
     let both = both_nil (model_refusals all x) (flat_map (model_refusals all) models) none in
     model_accepted_if all ((name_of_model x).number == number) x m (model_named number models) both.0 (model_accepted all models number m both.1) e
 
-part_atomic_of : (models : List ModelTree) (p : Part) (o : Option ModelTree) → model_named p.model.number models ≡ o → part_model_refusals (option_map face_of o) p.model.place ≡ [] → IsAtomicPart models p
-part_atomic_of models p None is e = absurd (cc)
-part_atomic_of models p (Some (AtomicModel m)) is e = record { model = m; named = is }
-part_atomic_of models p (Some (CoupledModel m)) is e = absurd (cc)
+part_known_of : (models : List ModelTree) (p : Part) (o : Option ModelTree) → model_named p.model.number models ≡ o
+    → part_model_refusals (option_map face_of o) p.model.place ≡ [] → IsKnownPart models p
+part_known_of models p None is e = absurd (cc)
+part_known_of models p (Some m) is e = record { model = m; named = is }
 
-part_atomic : (models : List ModelTree) (p : Part) → part_model_refusals (faces_in models p.model.number) p.model.place ≡ [] → IsAtomicPart models p
+part_known : (models : List ModelTree) (p : Part) → part_model_refusals (faces_in models p.model.number) p.model.place ≡ []
+    → IsKnownPart models p
 unfolding faces_in
-part_atomic models p e = part_atomic_of models p (model_named p.model.number models) refl e
+part_known models p e = part_known_of models p (model_named p.model.number models) refl e
 
-parts_atomic : (models : List ModelTree) (m : CoupledTree) (parts : List Part) → flat_map (part_refusals (interior_of models m)) parts ≡ [] → AllByRecursion (IsAtomicPart models) parts
-parts_atomic models m [] e = tt
-parts_atomic models m (p ∷ parts) e =
+parts_known : (models : List ModelTree) (m : CoupledTree) (parts : List Part)
+    → flat_map (part_refusals (interior_of models m)) parts ≡ [] → AllByRecursion (IsKnownPart models) parts
+parts_known models m [] e = tt
+parts_known models m (p ∷ parts) e =
     let both = both_nil (part_refusals (interior_of models m) p) (flat_map (part_refusals (interior_of models m)) parts) e in
-    (part_atomic models p both.0, parts_atomic models m parts both.1)
+    (part_known models p both.0, parts_known models m parts both.1)
 
 part_with_if : (P : Part → Type 0) (b : Bool) (x p : Part) (o : Option Part) → P x → (o ≡ Some p → P p) → (if b then Some x else o) ≡ Some p → P p
 part_with_if P true x p o here later e = let same : x ≡ p = cc in subst P same here
@@ -99,9 +106,9 @@ part_with P (x ∷ parts) number p all e = part_with_if P (x.name.number == numb
 
 -- ---- Links
 
-face_atomic : (models : List ModelTree) (p : Part) (h : IsAtomicPart models p) → faces_in models p.model.number ≡ Some (Simple (sort_in h.model.declarations))
+face_known : (models : List ModelTree) (p : Part) (h : IsKnownPart models p) → faces_in models p.model.number ≡ Some (face_of h.model)
 unfolding faces_in
-face_atomic models p h = ap (option_map face_of) h.named
+face_known models p h = ap (option_map face_of) h.named
 
 -- a port of the direction that is wanted
 port_fine : (wanted other : Bool) (place : ℕ) → port_refusals wanted other place ≡ [] → wanted ≡ true
@@ -117,30 +124,42 @@ input_fine sort place e = port_fine (is_input sort) (is_output sort) place e
 
 -- ---- Links of all files
 
-face_source : (models : List ModelTree) (p : Part) (h : IsAtomicPart models p) (port : Name)
-    → part_source_refusals (faces_in models p.model.number) port ≡ [] → is_declared port.number (scope_of h.model).outputs ≡ true
+-- a port that a face shows is one of the model
+among_numbers : (q : ℕ) (names : List Name) → among names q ≡ true → is_declared q (numbers_of names) ≡ true
+unfolding among
+among_numbers q names e = list_any-map (λ n. n == q) (λ (n : Name). n.number) names ∙ e
+
+output_shown : (m : ModelTree) (q : ℕ) → is_output (face_of m q) ≡ true → is_declared q (shown_outputs m) ≡ true
+output_shown (AtomicModel m) q e = output_declared q m.declarations [] e
+output_shown (CoupledModel m) q e = among_numbers q m.outputs (output_among q m.inputs m.outputs e)
+
+input_shown : (m : ModelTree) (q : ℕ) → is_input (face_of m q) ≡ true → is_declared q (shown_inputs m) ≡ true
+input_shown (AtomicModel m) q e = input_declared q m.declarations [] e
+input_shown (CoupledModel m) q e = among_numbers q m.inputs (input_among q m.inputs m.outputs e)
+
+face_source : (models : List ModelTree) (p : Part) (h : IsKnownPart models p) (port : Name)
+    → part_source_refusals (faces_in models p.model.number) port ≡ [] → is_output (face_of h.model port.number) ≡ true
 face_source models p h port e =
-    let tested : part_source_refusals (Some (Simple (sort_in h.model.declarations))) port ≡ [] = sym (ap (λ o. part_source_refusals o port) (face_atomic models p h)) ∙ e in
-    output_declared port.number h.model.declarations [] (output_fine (sort_in h.model.declarations port.number) port.place tested)
+    let tested : part_source_refusals (Some (face_of h.model)) port ≡ [] =
+    sym (ap (λ o. part_source_refusals o port) (face_known models p h)) ∙ e in
+    output_fine (face_of h.model port.number) port.place tested
 
-face_target : (models : List ModelTree) (p : Part) (h : IsAtomicPart models p) (port : Name)
-    → part_target_refusals (faces_in models p.model.number) port ≡ [] → is_input (sort_in h.model.declarations port.number) ≡ true
+face_target : (models : List ModelTree) (p : Part) (h : IsKnownPart models p) (port : Name)
+    → part_target_refusals (faces_in models p.model.number) port ≡ [] → is_input (face_of h.model port.number) ≡ true
 face_target models p h port e =
-    let tested : part_target_refusals (Some (Simple (sort_in h.model.declarations))) port ≡ [] = sym (ap (λ o. part_target_refusals o port) (face_atomic models p h)) ∙ e in
-    input_fine (sort_in h.model.declarations port.number) port.place tested
+    let tested : part_target_refusals (Some (face_of h.model)) port ≡ [] =
+    sym (ap (λ o. part_target_refusals o port) (face_known models p h)) ∙ e in
+    input_fine (face_of h.model port.number) port.place tested
 
-face_shows_output : (models : List ModelTree) (p : Part) (h : IsAtomicPart models p) (port : Name)
+face_shows_output : (models : List ModelTree) (p : Part) (h : IsKnownPart models p) (port : Name)
     → part_source_refusals (faces_in models p.model.number) port ≡ []
     → is_output_shown (faces_in models p.model.number) port.number ≡ true
-face_shows_output models p h port e =
-    let face = face_atomic models p h in
-    let tested : part_source_refusals (Some (Simple (sort_in h.model.declarations))) port ≡ [] = sym (ap (λ o. part_source_refusals o port) face) ∙ e in
-    ap (λ o. is_output_shown o port.number) face ∙ output_fine (sort_in h.model.declarations port.number) port.place tested
+face_shows_output models p h port e = ap (λ o. is_output_shown o port.number) (face_known models p h) ∙ face_source models p h port e
 
-face_shows_input : (models : List ModelTree) (p : Part) (h : IsAtomicPart models p) (port : Name)
+face_shows_input : (models : List ModelTree) (p : Part) (h : IsKnownPart models p) (port : Name)
     → part_target_refusals (faces_in models p.model.number) port ≡ []
     → is_input_shown (faces_in models p.model.number) port.number ≡ true
-face_shows_input models p h port e = ap (λ o. is_input_shown o port.number) (face_atomic models p h) ∙ face_target models p h port e
+face_shows_input models p h port e = ap (λ o. is_input_shown o port.number) (face_known models p h) ∙ face_target models p h port e
 
 true_false : (b : Bool) → b ≡ true → b ≡ false → ⊥
 true_false b is not_so = let e : true ≡ false = sym is ∙ not_so in cc
@@ -153,20 +172,22 @@ not_back : (back ends : Bool) → ends ≡ true → (back && ends) ≡ false →
 not_back true ends e tested = absurd (true_false ends e tested)
 not_back false ends e tested = refl
 
-module _ (models : List ModelTree) (m : CoupledTree) (atomic : AllByRecursion (IsAtomicPart models) m.parts) where
+module _ (models : List ModelTree) (m : CoupledTree) (known : AllByRecursion (IsKnownPart models) m.parts) where
   source_at : (o : Option Part) (part_name : Option Name) (name port : Name) → part_name ≡ Some name → part_named name.number m.parts ≡ o → source_at_part (interior_of models m) o name port ≡ [] → IsOutputOfPart models m.parts part_name port
   source_at None part_name name port at is e = absurd (cc)
   source_at (Some p) part_name name port at is e =
-      let h = part_with (IsAtomicPart models) m.parts name.number p atomic is in
-      record { name = name; at_part = at; part = p; known = is; atomic = h; output = face_source models p h port e }
+      let h = part_with (IsKnownPart models) m.parts name.number p known is in
+      let shown = output_shown h.model port.number (face_source models p h port e) in
+      record { name = name; at_part = at; part = p; named = is; known = h; output = shown }
 
   target_at : (o : Option Part) (part_name : Option Name) (name port : Name) → part_name ≡ Some name
       → part_named name.number m.parts ≡ o → target_at_part (interior_of models m) o name port ≡ []
       → IsInputOfPart models m.parts part_name port
   target_at None part_name name port at is e = absurd (cc)
   target_at (Some p) part_name name port at is e =
-      let h = part_with (IsAtomicPart models) m.parts name.number p atomic is in
-      record { name = name; at_part = at; part = p; known = is; atomic = h; input = input_declared port.number h.model.declarations [] (face_target models p h port e) }
+      let h = part_with (IsKnownPart models) m.parts name.number p known is in
+      let shown = input_shown h.model port.number (face_target models p h port e) in
+      record { name = name; at_part = at; part = p; named = is; known = h; input = shown }
 
   source_linked : (part_name : Option Name) (port : Name) → source_refusals (interior_of models m) part_name port ≡ []
       → IsSource models m part_name port
@@ -184,13 +205,13 @@ module _ (models : List ModelTree) (m : CoupledTree) (atomic : AllByRecursion (I
       → source_at_part (interior_of models m) o name port ≡ [] → is_output_of_part (interior_of models m) o port.number ≡ true
   source_shown_at None name port is e = absurd (cc)
   source_shown_at (Some p) name port is e =
-      face_shows_output models p (part_with (IsAtomicPart models) m.parts name.number p atomic is) port e
+      face_shows_output models p (part_with (IsKnownPart models) m.parts name.number p known is) port e
 
   target_shown_at : (o : Option Part) (name port : Name) → part_named name.number m.parts ≡ o
       → target_at_part (interior_of models m) o name port ≡ [] → is_input_of_part (interior_of models m) o port.number ≡ true
   target_shown_at None name port is e = absurd (cc)
   target_shown_at (Some p) name port is e =
-      face_shows_input models p (part_with (IsAtomicPart models) m.parts name.number p atomic is) port e
+      face_shows_input models p (part_with (IsKnownPart models) m.parts name.number p known is) port e
 
   source_shown : (part_name : Option Name) (port : Name) → source_refusals (interior_of models m) part_name port ≡ []
       → is_source (interior_of models m) part_name port.number ≡ true
@@ -259,29 +280,52 @@ nothing_of models m e =
 pub coupled_accepted : (models : List ModelTree) (m : CoupledTree) → coupled_refusals models m ≡ [] → IsAcceptedCoupled models m
 coupled_accepted models m e =
     let nothing = nothing_of models m e in
-    let atomic = parts_atomic models m m.parts nothing.sorts in
+    let known = parts_known models m m.parts nothing.sorts in
     record {
-      parts = atomic;
-      links = links_lead_on models m atomic m.links nothing.ends;
+      parts = known;
+      links = links_lead_on models m known m.links nothing.ends;
       few_parts = few_named m.parts GREATEST_NAMES (few_of_kind (map name_of_part m.parts) nothing.names);
       few_ports = few_own_ports m nothing.ports;
     }
 
-not_empty : (parts : List Part) → is_none_left parts ≡ false → 0 < length parts
-not_empty [] e = absurd (cc)
-not_empty (p ∷ parts) e = omega arith
+-- the lists of a file's refusals
+record NoRule (f : FileTree) : Type 0 where
+  models : flat_map (model_refusals f.models) f.models ≡ []
+  root : root_refusals (model_named f.root.number f.models) f.root.place ≡ []
 
-models_fine : (f : FileTree) → refusals f ≡ [] → flat_map (model_refusals f.models) f.models ≡ []
-models_fine f e =
+no_rule : (f : FileTree) → refusals f ≡ [] → NoRule f
+no_rule f e =
     let models = flat_map (model_refusals f.models) f.models in
+    let cycles = cycle_refusals f.models in
     let root = root_refusals (model_named f.root.number f.models) f.root.place in
-    (both_nil models root (both_nil (repeats E6 (map name_of_model f.models)) (models ++ root) e).1).0
+    let first = both_nil (repeats E6 (map name_of_model f.models)) (models ++ (cycles ++ root)) e in
+    let second = both_nil models (cycles ++ root) first.1 in
+    record { models = second.0; root = (both_nil cycles root second.1).1 }
 
-root_fine : (f : FileTree) → refusals f ≡ [] → root_refusals (model_named f.root.number f.models) f.root.place ≡ []
-root_fine f e =
-    let models = flat_map (model_refusals f.models) f.models in
-    let root = root_refusals (model_named f.root.number f.models) f.root.place in
-    (both_nil models root (both_nil (repeats E6 (map name_of_model f.models)) (models ++ root) e).1).1
+-- the limits that a tree keeps
+record KeepsLimits (t : PartTree) : Type 0 where
+  some : 0 < component_count t
+  few_components : component_count t ≤ GREATEST_COMPONENTS
+  few_instances : suc (instance_count t) ≤ GREATEST_INSTANCES
+  flat : depth_of t ≤ GREATEST_DEPTH
+
+some_of : (n : ℕ) → (n == 0) ≡ false → 0 < n
+some_of n e = let not_none = eqb-false n 0 e in omega (arith, not_none)
+
+keeps_limits : (t : PartTree) → passes_limit t ≡ false → KeepsLimits t
+keeps_limits t e =
+    let deep = nat_lt GREATEST_DEPTH (depth_of t) in
+    let instances = nat_lt GREATEST_INSTANCES (suc (instance_count t)) in
+    let components = nat_lt GREATEST_COMPONENTS (component_count t) in
+    let first = or_parts (component_count t == 0) (components || (instances || deep)) e in
+    let second = or_parts components (instances || deep) first.1 in
+    let third = or_parts instances deep second.1 in
+    record {
+      some = some_of (component_count t) first.0;
+      few_components = ltb-false GREATEST_COMPONENTS (component_count t) second.0;
+      few_instances = ltb-false GREATEST_INSTANCES (suc (instance_count t)) third.0;
+      flat = ltb-false GREATEST_DEPTH (depth_of t) third.1;
+    }
 
 model_accepted_as : (models : List ModelTree) (m : ModelTree) → model_refusals models m ≡ [] → IsAcceptedModel models m
 model_accepted_as models (AtomicModel m) e = e
@@ -294,21 +338,27 @@ models_accepted all (m ∷ models) e =
     (model_accepted_as all m both.0, models_accepted all models both.1)
 
 root_accepted : (f : FileTree) (o : Option ModelTree) → model_named f.root.number f.models ≡ o → root_refusals o f.root.place ≡ []
-    → root_limit_refusals o f.root.place ≡ [] → flat_map (model_refusals f.models) f.models ≡ [] → IsAcceptedFile f
+    → root_limit_refusals f.models o f.root.place ≡ [] → flat_map (model_refusals f.models) f.models ≡ [] → IsAcceptedFile f
 root_accepted f None is e limit none = absurd (cc)
 root_accepted f (Some (AtomicModel m)) is e limit none = absurd (cc)
-root_accepted f (Some (CoupledModel m)) is e limit none = record {
-  models = models_accepted f.models f.models none;
-  root = m;
-  named = is;
-  not_empty = not_empty m.parts (not_refused _ _ _ limit);
-  coupled = coupled_accepted f.models m (model_accepted f.models f.models f.root.number (CoupledModel m) none is);
-}
+root_accepted f (Some (CoupledModel m)) is e limit none =
+    let limits = keeps_limits (tree_of f.models m) (not_refused _ _ _ limit) in
+    record {
+      models = models_accepted f.models f.models none;
+      root = m;
+      named = is;
+      coupled = coupled_accepted f.models m (model_accepted f.models f.models f.root.number (CoupledModel m) none is);
+      some = limits.some;
+      few_components = limits.few_components;
+      few_instances = limits.few_instances;
+      flat = limits.flat;
+    }
 
 pub file_accepted : (f : FileTree) → refusal_of f ≡ None → IsAcceptedFile f
 file_accepted f e =
     let nothing = nothing_refused f e in
-    root_accepted f (model_named f.root.number f.models) refl (root_fine f nothing.0) nothing.1 (models_fine f nothing.0)
+    let rules = no_rule f nothing.0 in
+    root_accepted f (model_named f.root.number f.models) refl rules.root nothing.1 rules.models
 
 -- ---- No link leads through
 

@@ -6,9 +6,9 @@ use Rattle.std.proofs.lemmas.List.{take_more, get_or_default, map-append, map-id
 use Rattle.dv_syntax.specs.declared.tree.Part.{Part}
 use Rattle.dv_syntax.specs.Trees.{ModelTree}
 use Rattle.dv_check.specs.declared.directory.Directory.{Directory}
-use Rattle.dv_check.specs.declared.models.ModelKind.{ModelKind}
+use Rattle.dv_check.specs.declared.declarations.NameSort.{NameSort}
 use Rattle.dv_check.specs.Names.{model_named, name_of_model, part_named}
-use Rattle.dv_check.specs.Models.{face_of, face_of_kind, faces_by, faces_in}
+use Rattle.dv_check.specs.Models.{face_of, faces_by, faces_in}
 use Rattle.dv_check.specs.Couplings.{parts_in}
 use Rattle.dv_check.specs.Tables.{first_of, value_for, no_value, with_first}
 
@@ -82,24 +82,29 @@ unfolding faces_in
 faces_first models = fun_ext (λ q. faces_at models q)
 
 -- nothing is known of the models at first
-pub faces_none : (kinds : Directory ModelKind) → value_for kinds ≡ no_value → faces_by kinds ≡ faces_in []
+pub faces_none : (faces : Directory (Directory NameSort)) → value_for faces ≡ no_value → faces_by faces ≡ faces_in []
 unfolding faces_by faces_in no_value
-faces_none kinds e = ap (λ (f : ℕ → Option ModelKind). λ (q : ℕ). option_map face_of_kind (f q)) e
+faces_none faces e = ap (λ (f : ℕ → Option (Directory NameSort)). λ (q : ℕ). option_map value_for (f q)) e
 
 map_or : {A B : Type 0} (f : A → B) (b : Bool) (v : A) (o : Option A) → option_map f (option_or o (if b then Some v else None)) ≡ option_or (option_map f o) (if b then Some (f v) else None)
 map_or f b v (Some x) = refl
 map_or f true v None = refl
 map_or f false v None = refl
 
-faces_more : (kinds more : Directory ModelKind) (number : ℕ) (kind : ModelKind) → value_for more ≡ with_first (value_for kinds) number kind → faces_by more ≡ with_first (faces_by kinds) number (face_of_kind kind)
+faces_more : (faces more : Directory (Directory NameSort)) (number : ℕ) (face : Directory NameSort)
+    → value_for more ≡ with_first (value_for faces) number face → faces_by more ≡ with_first (faces_by faces) number (value_for face)
 unfolding faces_by with_first
-faces_more kinds more number kind e = fun_ext (λ q. ap (λ f. option_map face_of_kind (f q)) e ∙ map_or face_of_kind (number == q) kind (value_for kinds q))
+faces_more faces more number face e =
+    fun_ext (λ q. ap (λ f. option_map value_for (f q)) e ∙ map_or value_for (number == q) face (value_for faces q))
 
 module _ {X : Type 0} (xs : List X) (i : ℕ) (x : X) (within : i < length xs) (is : x ≡ get_or xs i x) where
   -- one model more
-  pub faces_step : (g : X → ModelTree) (kinds more : Directory ModelKind) (number : ℕ) (kind : ModelKind) → number ≡ model_number (g x) → face_of_kind kind ≡ face_of (g x) → faces_by kinds ≡ faces_in (map g (take i xs)) → value_for more ≡ with_first (value_for kinds) number kind → faces_by more ≡ faces_in (map g (take (i + 1) xs))
-  faces_step g kinds more number kind by_number by_face so_far step =
-      first_of_step model_number face_of g xs i x (faces_by kinds) (faces_by more) number (face_of_kind kind) within is by_number by_face (so_far ∙ sym (faces_first (map g (take i xs)))) (faces_more kinds more number kind step)
+  pub faces_step : (g : X → ModelTree) (faces more : Directory (Directory NameSort)) (number : ℕ) (face : Directory NameSort)
+      → number ≡ model_number (g x) → value_for face ≡ face_of (g x) → faces_by faces ≡ faces_in (map g (take i xs))
+      → value_for more ≡ with_first (value_for faces) number face → faces_by more ≡ faces_in (map g (take (i + 1) xs))
+  faces_step g faces more number face by_number by_face so_far step =
+      first_of_step model_number face_of g xs i x (faces_by faces) (faces_by more) number (value_for face) within is by_number by_face
+      (so_far ∙ sym (faces_first (map g (take i xs)))) (faces_more faces more number face step)
       ∙ faces_first (map g (take (i + 1) xs))
 
 -- a step of a loop over the elements themselves

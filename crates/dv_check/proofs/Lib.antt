@@ -4,5 +4,9 @@ pub mod Found
 pub mod Blocks
 pub mod Declared
 pub mod Merged
+pub mod ModelPositions
+pub mod Containment
+pub mod Counting
 pub mod Accepted
+pub mod WholeTrees
 pub mod Order

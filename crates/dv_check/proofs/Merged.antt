@@ -9,7 +9,8 @@ use Rattle.dv_check.specs.declared.declarations.NameSort.TheVariants.{Input, Out
 use Rattle.dv_check.specs.Names.{among}
 use Rattle.dv_check.specs.Tables.{first_of}
 use Rattle.dv_check.specs.Rules.{sort_in}
-use Rattle.dv_check.specs.Couplings.{is_input, is_output, names_before, names_from, ports_by_place}
+use Rattle.dv_check.specs.Couplings.{is_input, is_output}
+use Rattle.dv_check.specs.Ports.{names_before, names_from, ports_by_place}
 
 -- a list is what stands before a place and what stands from there on
 halves_if : (b : Bool) (n : Name) (front back names : List Name) → front ++ back ≡ names

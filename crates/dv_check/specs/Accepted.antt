@@ -1,57 +1,53 @@
--- What acceptance says of a file: its root is a coupled model, whose parts have known atomic models, and whose links lead from
--- an output of a part or an input of the model itself to an input of another part or an output of the model itself.
-use Rattle.std.specs.Prelude.{◌≡◌, ◌+◌, ◌<◌, ◌≤◌, Bool, true, false, not, List, [], length, Option, Some, None}
-use Rattle.std.specs.List.{AllByRecursion, list_any}
+-- What acceptance says of a file: its root is a coupled model, whose tree keeps the limits; the parts of coupled models have known
+-- models, and links lead from an output of a part or an input of the model itself to an input of another part or an output of
+-- the model itself.
+use Rattle.std.specs.Prelude.{◌≡◌, ℕ, suc, ◌+◌, ◌<◌, ◌≤◌, true, false, List, [], length, map, Option, Some, None}
+use Rattle.std.specs.List.{AllByRecursion}
 use Rattle.dv_syntax.specs.declared.tree.Name.{Name}
-use Rattle.dv_syntax.specs.declared.tree.Declaration.{Declaration}
-use Rattle.dv_syntax.specs.declared.tree.Declaration.TheVariants.{In, Out, Var, Flag, Bag}
 use Rattle.dv_syntax.specs.declared.tree.Part.{Part}
 use Rattle.dv_syntax.specs.declared.tree.Link.{Link}
-use Rattle.dv_syntax.specs.Trees.{ModelTree, AtomicModel, CoupledModel, AtomicTree, CoupledTree, FileTree}
+use Rattle.dv_syntax.specs.Trees.{ModelTree, AtomicModel, CoupledModel, CoupledTree, FileTree}
 use Rattle.dv_eval.specs.Scope.{is_declared, scope_of}
-use Rattle.dv_check.specs.declared.limits.TheConstants.{GREATEST_NAMES}
+use Rattle.dv_check.specs.declared.limits.TheConstants.{GREATEST_COMPONENTS, GREATEST_DEPTH, GREATEST_INSTANCES, GREATEST_NAMES}
 use Rattle.dv_check.specs.Names.{among, model_named, part_named}
-use Rattle.dv_check.specs.Rules.{atomic_refusals, is_none_left}
+use Rattle.dv_check.specs.Rules.{atomic_refusals}
 use Rattle.dv_check.specs.Couplings.{leads_back}
+use Rattle.dv_check.specs.Tree.{component_count, depth_of, instance_count, tree_of}
 
--- a declaration of an input port
-abbrev pub is_input_port : Declaration → Bool
-is_input_port (In port) = true
-is_input_port (Out port) = false
-is_input_port (Var v) = false
-is_input_port (Flag f) = false
-is_input_port (Bag b) = false
+-- the model of a part is known
+pub record IsKnownPart (models : List ModelTree) (p : Part) : Type 0 where
+  pub model : ModelTree
+  pub named : model_named p.model.number models ≡ Some model
 
-abbrev pub model_has_inputs : ModelTree → Bool
-model_has_inputs (AtomicModel m) = list_any is_input_port m.declarations
-model_has_inputs (CoupledModel m) = not (is_none_left m.inputs)
+-- the numbers of the names of the ports that a model shows
+abbrev pub numbers_of : List Name → List ℕ
+numbers_of names = map (λ (n : Name). n.number) names
 
--- no model of a file declares an input port
-abbrev pub has_inputs : FileTree → Bool
-has_inputs f = list_any model_has_inputs f.models
+abbrev pub shown_inputs : ModelTree → List ℕ
+shown_inputs (AtomicModel m) = (scope_of m).inputs
+shown_inputs (CoupledModel m) = numbers_of m.inputs
 
--- the model of a part is known, and atomic
-pub record IsAtomicPart (models : List ModelTree) (p : Part) : Type 0 where
-  pub model : AtomicTree
-  pub named : model_named p.model.number models ≡ Some (AtomicModel model)
+abbrev pub shown_outputs : ModelTree → List ℕ
+shown_outputs (AtomicModel m) = (scope_of m).outputs
+shown_outputs (CoupledModel m) = numbers_of m.outputs
 
 -- the end is an output of a part
 pub record IsOutputOfPart (models : List ModelTree) (parts : List Part) (part_name : Option Name) (port : Name) : Type 0 where
   pub name : Name
   pub at_part : part_name ≡ Some name
   pub part : Part
-  pub known : part_named name.number parts ≡ Some part
-  pub atomic : IsAtomicPart models part
-  pub output : is_declared port.number (scope_of atomic.model).outputs ≡ true
+  pub named : part_named name.number parts ≡ Some part
+  pub known : IsKnownPart models part
+  pub output : is_declared port.number (shown_outputs known.model) ≡ true
 
 -- the end is an input of a part
 pub record IsInputOfPart (models : List ModelTree) (parts : List Part) (part_name : Option Name) (port : Name) : Type 0 where
   pub name : Name
   pub at_part : part_name ≡ Some name
   pub part : Part
-  pub known : part_named name.number parts ≡ Some part
-  pub atomic : IsAtomicPart models part
-  pub input : is_declared port.number (scope_of atomic.model).inputs ≡ true
+  pub named : part_named name.number parts ≡ Some part
+  pub known : IsKnownPart models part
+  pub input : is_declared port.number (shown_inputs known.model) ≡ true
 
 -- where a link begins: at an input of the model itself, or at an output of a part
 abbrev pub IsSource : List ModelTree → CoupledTree → Option Name → Name → Type 0
@@ -70,7 +66,7 @@ pub record LeadsOn (models : List ModelTree) (m : CoupledTree) (l : Link) : Type
   pub onward : leads_back l ≡ false
 
 pub record IsAcceptedCoupled (models : List ModelTree) (m : CoupledTree) : Type 0 where
-  pub parts : AllByRecursion (IsAtomicPart models) m.parts
+  pub parts : AllByRecursion (IsKnownPart models) m.parts
   pub links : AllByRecursion (LeadsOn models m) m.links
   pub few_parts : length m.parts ≤ GREATEST_NAMES
   pub few_ports : length m.inputs + length m.outputs ≤ GREATEST_NAMES
@@ -84,8 +80,11 @@ pub record IsAcceptedFile (f : FileTree) : Type 0 where
   pub models : AllByRecursion (IsAcceptedModel f.models) f.models
   pub root : CoupledTree
   pub named : model_named f.root.number f.models ≡ Some (CoupledModel root)
-  pub not_empty : 0 < length root.parts
   pub coupled : IsAcceptedCoupled f.models root
+  pub some : 0 < component_count (tree_of f.models root)
+  pub few_components : component_count (tree_of f.models root) ≤ GREATEST_COMPONENTS
+  pub few_instances : suc (instance_count (tree_of f.models root)) ≤ GREATEST_INSTANCES
+  pub flat : depth_of (tree_of f.models root) ≤ GREATEST_DEPTH
 
 -- no link of a coupled model leads from the model itself to the model itself
 abbrev pub IsThrough : Link → Type 0

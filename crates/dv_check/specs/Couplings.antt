@@ -1,12 +1,10 @@
 -- The refusals of a coupled model: names, parts, the ends of links, links that lead back, and repeated links.
-use Rattle.std.specs.Prelude.{ℕ, ◌==◌, Bool, true, false, ◌&&◌, nat_lt, if◌then◌else◌, List, [], ◌∷◌, ◌++◌, map, Option, Some, None}
+use Rattle.std.specs.Prelude.{ℕ, ◌==◌, Bool, true, false, ◌&&◌, List, [], ◌∷◌, ◌++◌, map, Option, Some, None}
 use Rattle.std.specs.List.{flat_map}
 use Rattle.dv_lex.specs.declared.error.Refusal.{Refusal}
 use Rattle.dv_lex.specs.declared.error.RefusalNumber.TheVariants.{E6, E7, E12, E13, E14}
 use Rattle.dv_syntax.specs.Trees.{ModelTree, CoupledTree}
 use Rattle.dv_syntax.specs.declared.tree.Name.{Name}
-use Rattle.dv_syntax.specs.declared.tree.Declaration.{Declaration}
-use Rattle.dv_syntax.specs.declared.tree.Declaration.TheVariants.{In, Out}
 use Rattle.dv_syntax.specs.declared.tree.Part.{Part}
 use Rattle.dv_syntax.specs.declared.tree.Link.{Link}
 use Rattle.dv_check.specs.declared.declarations.NameSort.{NameSort}
@@ -16,27 +14,10 @@ use Rattle.dv_check.specs.Names.{refusal, refusal_if, repeats, excess, part_name
 use Rattle.dv_check.specs.Tables.{value_for}
 use Rattle.dv_check.specs.LinkSets.{no_link, with_link}
 use Rattle.dv_check.specs.Rules.{name_of_declaration, sort_in}
-use Rattle.dv_check.specs.Models.{Face, Simple, Nested, faces_by, faces_in}
+use Rattle.dv_check.specs.Models.{Face, faces_by, faces_in}
+use Rattle.dv_check.specs.Ports.{ports_of}
 
 -- ---- Names
-
--- the names of a list that stand before a place, up to the first one that does not, and those from there on
-abbrev pub names_before : ℕ → List Name → List Name
-names_before place [] = []
-names_before place (n ∷ names) = if nat_lt n.place place then n ∷ names_before place names else []
-
-abbrev pub names_from : ℕ → List Name → List Name
-names_from place [] = []
-names_from place (n ∷ names) = if nat_lt n.place place then names_from place names else n ∷ names
-
--- the ports of a coupled model in the order of the text, which each of the lists has
-abbrev pub ports_by_place : List Name → List Name → List Declaration
-ports_by_place [] outputs = map Out outputs
-ports_by_place (i ∷ inputs) outputs =
-    map Out (names_before i.place outputs) ++ In i ∷ ports_by_place inputs (names_from i.place outputs)
-
-abbrev pub ports_of : CoupledTree → List Declaration
-ports_of m = ports_by_place m.inputs m.outputs
 
 abbrev pub name_of_part : Part → Name
 name_of_part p = p.name
@@ -56,13 +37,12 @@ interior_of models m = record { port = sort_in (ports_of m); part = parts_in m.p
 
 -- what tables know
 abbrev pub interior_by : tables.Interior → Interior
-interior_by t = record { port = value_for t.ports; part = value_for t.parts; face = faces_by t.kinds.now }
+interior_by t = record { port = value_for t.ports; part = value_for t.parts; face = faces_by t.faces.now }
 
--- the model of a part: known and atomic
+-- the model of a part: known
 abbrev pub part_model_refusals : Option Face → ℕ → List Refusal
 part_model_refusals None place = refusal E7 place ∷ []
-part_model_refusals (Some (Simple sort)) place = []
-part_model_refusals (Some Nested) place = refusal E7 place ∷ []
+part_model_refusals (Some face) place = []
 
 abbrev pub part_refusals : Interior → Part → List Refusal
 part_refusals w p = part_model_refusals (w.face p.model.number) p.model.place
@@ -100,17 +80,15 @@ input_refusals sort place = port_refusals (is_input sort) (is_output sort) place
 abbrev pub output_refusals : Option NameSort → ℕ → List Refusal
 output_refusals sort place = port_refusals (is_output sort) (is_input sort) place
 
--- a port of a part where a link begins; the ports of a part whose model is refused are not tested
+-- a port of a part where a link begins; the ports of a part whose model is unknown are not tested
 abbrev pub part_source_refusals : Option Face → Name → List Refusal
 part_source_refusals None port = []
-part_source_refusals (Some (Simple sort)) port = output_refusals (sort port.number) port.place
-part_source_refusals (Some Nested) port = []
+part_source_refusals (Some face) port = output_refusals (face port.number) port.place
 
 -- and where it ends
 abbrev pub part_target_refusals : Option Face → Name → List Refusal
 part_target_refusals None port = []
-part_target_refusals (Some (Simple sort)) port = input_refusals (sort port.number) port.place
-part_target_refusals (Some Nested) port = []
+part_target_refusals (Some face) port = input_refusals (face port.number) port.place
 
 -- an end at a part
 abbrev pub source_at_part : Interior → Option Part → Name → Name → List Refusal
@@ -133,14 +111,12 @@ target_refusals w (Some name) port = target_at_part w (w.part name.number) name 
 
 -- a port of a part that is known, with its model
 abbrev pub is_output_shown : Option Face → ℕ → Bool
-is_output_shown (Some (Simple sort)) port = is_output (sort port)
-is_output_shown (Some Nested) port = false
 is_output_shown None port = false
+is_output_shown (Some face) port = is_output (face port)
 
 abbrev pub is_input_shown : Option Face → ℕ → Bool
-is_input_shown (Some (Simple sort)) port = is_input (sort port)
-is_input_shown (Some Nested) port = false
 is_input_shown None port = false
+is_input_shown (Some face) port = is_input (face port)
 
 abbrev pub is_output_of_part : Interior → Option Part → ℕ → Bool
 is_output_of_part w None port = false

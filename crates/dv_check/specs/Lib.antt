@@ -2,14 +2,19 @@
 pub mod Names
 pub mod Types
 pub mod Rules
+pub mod Ports
 pub mod Models
 pub mod LinkSets
 pub mod Couplings
+pub mod Cycles
+pub mod Tree
 pub mod Refusals
 -- What the laws speak of.
 pub mod Accepted
 pub mod Loops
 pub mod Relays
+pub mod Nests
 -- What serves proofs.
 pub mod Findings
 pub mod Tables
+pub mod Sizes

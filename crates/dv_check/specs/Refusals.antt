@@ -1,5 +1,5 @@
 -- Why a file is refused: every rule that it breaks, and the one that is answered.
-use Rattle.std.specs.Prelude.{◌≡◌, ℕ, List, [], ◌∷◌, ◌++◌, map, Option, Some, None}
+use Rattle.std.specs.Prelude.{◌≡◌, ℕ, suc, ◌==◌, nat_lt, Bool, ◌||◌, List, [], ◌∷◌, ◌++◌, map, Option, Some, None}
 use Rattle.std.specs.List.{flat_map}
 use Rattle.std.specs.Option.{option_or}
 use Rattle.dv_lex.specs.declared.token.Token.{Token}
@@ -12,8 +12,11 @@ use Rattle.dv_lex.specs.Texts.{IsTokensOf}
 use Rattle.dv_syntax.specs.Trees.{ModelTree, AtomicModel, CoupledModel, FileTree}
 use Rattle.dv_syntax.specs.Grammar.{IsFileOf}
 use Rattle.dv_check.specs.Names.{refusal, refusal_if, repeats, name_of_model, model_named}
-use Rattle.dv_check.specs.Rules.{atomic_refusals, is_none_left}
+use Rattle.dv_check.specs.declared.limits.TheConstants.{GREATEST_COMPONENTS, GREATEST_DEPTH, GREATEST_INSTANCES}
+use Rattle.dv_check.specs.Rules.{atomic_refusals}
 use Rattle.dv_check.specs.Couplings.{coupled_refusals}
+use Rattle.dv_check.specs.Cycles.{cycle_refusals}
+use Rattle.dv_check.specs.Tree.{PartTree, component_count, depth_of, instance_count, tree_of}
 
 abbrev pub model_refusals : List ModelTree → ModelTree → List Refusal
 model_refusals models (AtomicModel m) = atomic_refusals m
@@ -30,16 +33,24 @@ abbrev pub refusals : FileTree → List Refusal
 refusals f =
     repeats E6 (map name_of_model f.models)
     ++ (flat_map (model_refusals f.models) f.models
-    ++ root_refusals (model_named f.root.number f.models) f.root.place)
+    ++ (cycle_refusals f.models
+    ++ root_refusals (model_named f.root.number f.models) f.root.place))
 
-abbrev pub root_limit_refusals : Option ModelTree → ℕ → List Refusal
-root_limit_refusals (Some (CoupledModel m)) place = refusal_if (is_none_left m.parts) E17 place
-root_limit_refusals (Some (AtomicModel m)) place = []
-root_limit_refusals None place = []
+-- is a limit on the whole tree passed: no component or too many, too many instances, the root counted, or coupled too deep
+abbrev pub passes_limit : PartTree → Bool
+passes_limit t =
+    component_count t == 0
+    || (nat_lt GREATEST_COMPONENTS (component_count t)
+    || (nat_lt GREATEST_INSTANCES (suc (instance_count t)) || nat_lt GREATEST_DEPTH (depth_of t)))
 
--- the limits on the whole tree that a file breaks, at the root's name: it has a component
+abbrev pub root_limit_refusals : List ModelTree → Option ModelTree → ℕ → List Refusal
+root_limit_refusals models (Some (CoupledModel m)) place = refusal_if (passes_limit (tree_of models m)) E17 place
+root_limit_refusals models (Some (AtomicModel m)) place = []
+root_limit_refusals models None place = []
+
+-- the limits on the whole tree that a file breaks, at the root's name
 abbrev pub limit_refusals : FileTree → List Refusal
-limit_refusals f = root_limit_refusals (model_named f.root.number f.models) f.root.place
+limit_refusals f = root_limit_refusals f.models (model_named f.root.number f.models) f.root.place
 
 -- The refusal that is answered: the first, or where there is none the first of the limits on the whole tree.
 abbrev pub refusal_of : FileTree → Option Refusal

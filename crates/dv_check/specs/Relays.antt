@@ -1,15 +1,15 @@
--- A coupled model of two relays, by its links.
+-- A coupled model of two relays and a box, by its links.
 use Rattle.std.specs.Prelude.{ℕ, ◌+◌, List, [], ◌∷◌, option_map, Option}
 use Rattle.dv_lex.specs.declared.error.Refusal.{Refusal}
 use Rattle.dv_syntax.specs.declared.tree.Declaration.TheVariants.{In, Out}
 use Rattle.dv_syntax.specs.declared.tree.End.{End}
 use Rattle.dv_syntax.specs.declared.tree.Link.{Link}
 use Rattle.dv_syntax.specs.declared.tree.Part.{Part}
-use Rattle.dv_syntax.specs.Trees.{ModelTree, AtomicModel, CoupledTree}
+use Rattle.dv_syntax.specs.Trees.{ModelTree, AtomicModel, CoupledModel, CoupledTree}
 use Rattle.dv_check.specs.Loops.{name_at}
 use Rattle.dv_check.specs.Couplings.{coupled_refusals}
 
--- the names: 0 Top, 1 Relay, 2 x, 3 y, 4 a, 5 b, 6 i, 7 o; atomic Relay { in x; out y; .. }
+-- the names: 0 Top, 1 Relay, 2 x, 3 y, 4 a, 5 b, 6 i, 7 o, 8 Box, 9 c; atomic Relay { in x; out y; .. }
 abbrev pub relay : ModelTree
 relay = AtomicModel (record {
   name = name_at 1 7;
@@ -19,6 +19,20 @@ relay = AtomicModel (record {
   holds = [];
   rules = [];
 })
+
+-- coupled Box { in x; out y; }
+abbrev pub box : ModelTree
+box = CoupledModel (record {
+  name = name_at 8 50;
+  inputs = name_at 2 60 ∷ [];
+  outputs = name_at 3 70 ∷ [];
+  parts = [];
+  links = [];
+})
+
+-- part c: Box;
+abbrev pub box_at : ℕ → Part
+box_at place = record { name = name_at 9 place; model = name_at 8 (place + 3) }
 
 -- part NAME: Relay;
 abbrev pub relay_at : ℕ → ℕ → Part
@@ -32,15 +46,15 @@ end_at part port place = record { part = option_map (λ n. name_at n place) part
 abbrev pub link_at : ℕ → Option ℕ → ℕ → Option ℕ → ℕ → Link
 link_at place source out target in_ = record { place = place; from = end_at source out (place + 5); to = end_at target in_ (place + 20) }
 
--- coupled Top { in i; out o; part a: Relay; part b: Relay; .. } with these links
-abbrev pub pair : List Link → CoupledTree
-pair links = record {
+-- coupled Top { in i; out o; part a: Relay; part b: Relay; part c: Box; .. } with these links
+abbrev pub top : List Link → CoupledTree
+top links = record {
   name = name_at 0 100;
   inputs = name_at 6 110 ∷ [];
   outputs = name_at 7 120 ∷ [];
-  parts = relay_at 4 130 ∷ (relay_at 5 150 ∷ []);
+  parts = relay_at 4 130 ∷ (relay_at 5 150 ∷ (box_at 170 ∷ []));
   links = links;
 }
 
 abbrev pub wrong_links : List Link → List Refusal
-wrong_links links = coupled_refusals (relay ∷ []) (pair links)
+wrong_links links = coupled_refusals (relay ∷ (box ∷ [])) (top links)

@@ -14,10 +14,13 @@ ghost use Rattle.dv_check.specs.Refusals.{AreOfOneText, IsAnswerTo, limit_refusa
 use crate::atomic::check_atomic;
 use crate::checked::Checked;
 use crate::coupled::check_coupled;
+use crate::cycles::check_cycles;
+use crate::declarations::NameSort;
 use crate::directory::Directory;
 use crate::findings::Findings;
-use crate::models::{ModelKind, kinds_of, name_of};
+use crate::models::{faces_of, name_of};
 use crate::repeats::find_repeats;
+use crate::sizes::passes_limit;
 use dv_lex::{LoadError, Names, Refusal, RefusalNumber};
 use dv_syntax::{File, Model, Name};
 use std::alloc::{AllocError, Global};
@@ -28,7 +31,7 @@ use std::alloc::{AllocError, Global};
 ///
 /// `Refused` has the file's refusal: of all rules that the file breaks the one at the least place, and there the one
 /// of the least number. The limits on the whole tree are asked only where no other rule is broken. `Memory`: no memory
-/// for the tables of names.
+/// for the tables of names and of models.
 pub fn check(alloc: Global, file: File, names: Names) -> Result<Checked, LoadError>
     requires { AreOfOneText names (file_of file) }
     ensures file { IfOk result (λ c. c.file ≡ file) }
@@ -47,7 +50,7 @@ fn refusal_of(alloc: Global, file: &File) -> Result<Option<Refusal>, AllocError>
 {
     match broken_rule(alloc, file)? {
         Some(refusal) => Ok(Some(refusal)),
-        None => Ok(passed_limit(file)),
+        None => passed_limit(alloc, file),
     }
 }
 
@@ -61,14 +64,14 @@ fn broken_rule(alloc: Global, file: &File) -> Result<Option<Refusal>, AllocError
 }
 
 // The first limit on the whole tree that a file passes.
-fn passed_limit(file: &File) -> Option<Refusal>
-    ensures { result ≡ first_refusal (limit_refusals (file_of file.now)) }
+fn passed_limit(alloc: Global, file: &File) -> Result<Option<Refusal>, AllocError>
+    ensures { IfOk result (λ first. first ≡ first_refusal (limit_refusals (file_of file.now))) }
 {
     let mut found = Findings::new();
     if let Some(model) = model_named(&file.models, file.root.number) {
-        check_root_limit(model, file.root.place, &mut found);
+        check_root_limit(alloc, &file.models, model, file.root.place, &mut found)?;
     }
-    found.first
+    Ok(found.first)
 }
 
 fn check_file(alloc: Global, file: &File, found: &mut Findings) -> Result<(), AllocError>
@@ -76,6 +79,7 @@ fn check_file(alloc: Global, file: &File, found: &mut Findings) -> Result<(), Al
 {
     check_model_names(alloc, file, found)?;
     check_models(alloc, file, found)?;
+    check_cycles(alloc, &file.models, found)?;
     check_root(file, found);
     Ok(())
 }
@@ -103,25 +107,25 @@ fn check_models(alloc: Global, file: &File, found: &mut Findings) -> Result<(), 
     ensures { OnOk result (found.new ≡ with_refusals found.old
         (flat_map (model_refusals (file_of file.now).models) (file_of file.now).models)) }
 {
-    let kinds = kinds_of(alloc, &file.models)?;
+    let faces = faces_of(alloc, &file.models)?;
     for model in &file.models {
-        check_model(alloc, &kinds, model, found)?;
+        check_model(alloc, &faces, model, found)?;
     }
     Ok(())
 }
 
 fn check_model(
     alloc: Global,
-    kinds: &Directory<ModelKind>,
+    faces: &Directory<Directory<NameSort>>,
     model: &Model,
     found: &mut Findings,
 ) -> Result<(), AllocError>
-    ensures { OnOk result ((models : List ModelTree) → faces_by kinds.now ≡ faces_in models
+    ensures { OnOk result ((models : List ModelTree) → faces_by faces.now ≡ faces_in models
         → found.new ≡ with_refusals found.old (model_refusals models (model_of model.now))) }
 {
     match model {
         Model::Atomic(atomic) => check_atomic(alloc, atomic, found)?,
-        Model::Coupled(coupled) => check_coupled(alloc, kinds, coupled, found)?,
+        Model::Coupled(coupled) => check_coupled(alloc, faces, coupled, found)?,
     }
     Ok(())
 }
@@ -160,16 +164,23 @@ fn check_root_model(model: &Model, place: u32, found: &mut Findings)
     }
 }
 
-fn check_root_limit(model: &Model, place: u32, found: &mut Findings)
-    ensures { found.new ≡ with_refusals found.old
-        (root_limit_refusals (Some (model_of model.now)) place) }
+fn check_root_limit(
+    alloc: Global,
+    models: &[Model],
+    root: &Model,
+    place: u32,
+    found: &mut Findings,
+) -> Result<(), AllocError>
+    ensures { OnOk result (found.new ≡ with_refusals found.old
+        (root_limit_refusals (map model_of models.now) (Some (model_of root.now)) place)) }
 {
-    match model {
+    match root {
         Model::Atomic(_) => {}
         Model::Coupled(coupled) => {
-            if coupled.parts.is_empty() {
+            if passes_limit(alloc, models, coupled)? {
                 found.note(RefusalNumber::E17, place);
             }
         }
     }
+    Ok(())
 }

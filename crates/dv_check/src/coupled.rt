@@ -6,13 +6,14 @@ ghost use Rattle.dv_syntax.specs.Trees.{coupled_of, ModelTree};
 ghost use Rattle.dv_check.specs.Findings.{with_refusals};
 ghost use Rattle.dv_check.specs.LinkSets.{no_link};
 ghost use Rattle.dv_check.specs.Models.{faces_by, faces_in};
-ghost use Rattle.dv_check.specs.Couplings.{coupled_refusals, coupled_refusals_by, interior_by, kind_refusals, link_refusals, name_of_part, part_refusals, ports_of, repeated_links_after};
+ghost use Rattle.dv_check.specs.Couplings.{coupled_refusals, coupled_refusals_by, interior_by, kind_refusals, link_refusals, name_of_part, part_refusals, repeated_links_after};
+ghost use Rattle.dv_check.specs.Ports.{ports_of};
 ghost use Rattle.dv_check.specs.Rules.{name_of_declaration};
 
+use crate::declarations::NameSort;
 use crate::directory::Directory;
 use crate::findings::Findings;
 use crate::link_set::LinkSet;
-use crate::models::ModelKind;
 use crate::names;
 use crate::parts::{Interior, check_link, check_part_model, has_ends, part_names};
 use crate::ports::ports_of;
@@ -21,17 +22,17 @@ use dv_lex::RefusalNumber;
 use dv_syntax::{Coupled, Link, Name, Part};
 use std::alloc::{AllocError, Global};
 
-/// Tests a coupled model of a text with models of these kinds.
+/// Tests a coupled model of a text whose models' names stand for this.
 pub fn check_coupled(
     alloc: Global,
-    kinds: &Directory<ModelKind>,
+    faces: &Directory<Directory<NameSort>>,
     model: &Coupled,
     found: &mut Findings,
 ) -> Result<(), AllocError>
-    ensures { OnOk result ((models : List ModelTree) → faces_by kinds.now ≡ faces_in models
+    ensures { OnOk result ((models : List ModelTree) → faces_by faces.now ≡ faces_in models
         → found.new ≡ with_refusals found.old (coupled_refusals models (coupled_of model.now))) }
 {
-    let interior = Interior::of(alloc, model, kinds)?;
+    let interior = Interior::of(alloc, model, faces)?;
     check_within(alloc, &interior, model, found)
 }
 

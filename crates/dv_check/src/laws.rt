@@ -1,6 +1,6 @@
 //! Laws of refusals and of what is accepted. Each function stands for the law in its contract; its body does nothing.
 
-ghost use Rattle.std.specs.Prelude.{◌≡◌, true, false, List, Some, None, [], ◌∷◌, Contains};
+ghost use Rattle.std.specs.Prelude.{◌≡◌, ℕ, ◌≤◌, true, false, List, Some, None, [], ◌∷◌, Contains};
 ghost use Rattle.std.specs.List.{All};
 ghost use Rattle.dv_lex.specs.Order.{first_refusal, precedes};
 ghost use Rattle.dv_lex.specs.declared.error.Refusal.{Refusal};
@@ -12,15 +12,28 @@ ghost use Rattle.dv_syntax.specs.declared.tree.RuleSort.TheVariants as rule;
 ghost use Rattle.dv_syntax.specs.declared.tree.Link.{Link};
 ghost use Rattle.dv_check.specs.Accepted.{IsAcceptedFile, IsThrough};
 ghost use Rattle.dv_check.specs.Loops.{bag_at, flag_at, input_at, loop_at, name_at, one_at, wrong_inside, wrong_outside, wrong_under};
-ghost use Rattle.dv_check.specs.Names.{refusal};
-ghost use Rattle.dv_check.specs.Refusals.{refusal_of};
+ghost use Rattle.dv_check.specs.Cycles.{cycle_refusals};
+ghost use Rattle.dv_check.specs.Names.{model_named, refusal};
+ghost use Rattle.dv_check.specs.Nests.{around, rooted, tower};
+ghost use Rattle.dv_check.specs.Refusals.{limit_refusals, refusal_of};
 ghost use Rattle.dv_check.specs.Relays.{link_at, wrong_links};
+ghost use Rattle.dv_check.specs.Tree.{parts_to, tree_of};
 
-/// An accepted file has a coupled root with at least one part, and at most 4,096 parts and as many ports. The model of
-/// each part is known and atomic, and each link leads between two parts, or between a part and the model itself: from
-/// an output of a part or an input of the model to an input of a part or an output of the model.
+use crate::limits::GREATEST_DEPTH;
+
+/// An accepted file has a coupled root. Of each of its coupled models the parts have known models, and each link leads
+/// between two parts, or between a part and the model itself: from an output that the model of a part shows or an input
+/// of the model to an input of a part or an output of the model. The root's whole tree has at least one component and
+/// at most 4,096, at most 8,192 instances with the root, and coupled models lie at most 16 deep, the root counted.
 pub fn accepted_files()
     ensures { (f : FileTree) → refusal_of f ≡ None → IsAcceptedFile f }
+{}
+
+/// The tree of an accepted file is whole: taken down to more levels than there may be, it stays the same.
+pub fn trees_are_whole()
+    ensures { (f : FileTree) (m : CoupledTree) (levels : ℕ) → refusal_of f ≡ None
+        → model_named f.root.number f.models ≡ Some (CoupledModel m)
+        → GREATEST_DEPTH ≤ levels → parts_to levels f.models m ≡ tree_of f.models m }
 {}
 
 /// The first refusal is one of the refusals, and none of them precedes it; where there is none, there are no refusals.
@@ -141,4 +154,36 @@ pub fn ends_have_directions()
         ≡ refusal number.E12 210 ∷ [] }
     ensures to_output_of_part { wrong_links (link_at 200 (Some 4) 3 (Some 4) 3 ∷ [])
         ≡ refusal number.E12 225 ∷ [] }
+{}
+
+/// A coupled part shows its ports as an atomic one does: a link leads to its inputs and from its outputs.
+pub fn coupled_parts_show_their_ports()
+    ensures to_its_input { wrong_links (link_at 200 (Some 4) 3 (Some 9) 2 ∷ []) ≡ [] }
+    ensures from_its_output { wrong_links (link_at 200 (Some 9) 3 (Some 4) 2 ∷ []) ≡ [] }
+    ensures to_its_output { wrong_links (link_at 200 (Some 4) 3 (Some 9) 3 ∷ [])
+        ≡ refusal number.E12 225 ∷ [] }
+    ensures from_its_input { wrong_links (link_at 200 (Some 9) 2 (Some 4) 2 ∷ [])
+        ≡ refusal number.E12 210 ∷ [] }
+{}
+
+/// No model contains itself: a part whose model leads back to the model around it is refused at the name of its model.
+/// A part that leads to such models without lying among them is fine.
+pub fn no_model_contains_itself()
+    ensures itself { refusal_of (rooted (around 1 (name_at 1 30 ∷ []) ∷ []) 1)
+        ≡ Some (refusal number.E15 30) }
+    ensures each_other { cycle_refusals (around 1 (name_at 2 30 ∷ [])
+        ∷ (around 2 (name_at 1 50 ∷ []) ∷ []))
+        ≡ refusal number.E15 30 ∷ (refusal number.E15 50 ∷ []) }
+    ensures leads_to_one { cycle_refusals (around 1 (name_at 2 30 ∷ [])
+        ∷ (around 2 (name_at 2 50 ∷ []) ∷ [])) ≡ refusal number.E15 50 ∷ [] }
+    ensures twice_inside { cycle_refusals (around 1 (name_at 2 30 ∷ (name_at 2 40 ∷ []))
+        ∷ (around 2 [] ∷ [])) ≡ [] }
+{}
+
+/// Coupled models lie at most 16 deep, the root counted, and a root has a component; else its name is refused.
+pub fn trees_have_limits()
+    ensures sixteen_deep { limit_refusals (rooted (tower 16) 16) ≡ [] }
+    ensures seventeen_deep { limit_refusals (rooted (tower 17) 17) ≡ refusal number.E17 90 ∷ [] }
+    ensures no_component { limit_refusals (rooted (around 1 [] ∷ []) 1)
+        ≡ refusal number.E17 90 ∷ [] }
 {}

@@ -1,4 +1,5 @@
-//! The static checks of a model text: names, types, phases and holds, couplings, limits.
+//! The static checks of a model text: names, types, phases and holds, couplings, models that
+//! contain themselves, limits.
 //!
 //! Each test is a function that notes in the findings what it finds wrong, and goes on; the findings keep the first
 //! refusal. What a list of names stands for is looked up in tables, so that a text is tested in a time linear in its
@@ -26,6 +27,9 @@ mod coupled;
 /// The names that an atomic model declares.
 mod declarations;
 
+/// Models that contain themselves.
+mod cycles;
+
 /// What names stand for, where the first declaration counts.
 mod directory;
 
@@ -37,9 +41,6 @@ mod expression;
 
 /// What has been found wrong so far.
 mod findings;
-
-/// Whether a file declares input ports.
-mod inputs;
 
 /// Sets of links.
 mod link_set;
@@ -59,8 +60,14 @@ mod parts;
 /// The ports of a coupled model in the order of the text.
 mod ports;
 
+/// Where the models of a text stand among one another.
+mod positions;
+
 /// Names that are declared twice or too often.
 mod repeats;
+
+/// The size of the whole tree, counted without building it.
+mod sizes;
 
 /// The variables, flags and bags of an atomic model that are known at the start.
 mod starts;
@@ -70,5 +77,4 @@ mod statements;
 
 pub use checked::Checked;
 pub use checker::check;
-pub use inputs::has_inputs;
-pub use limits::GREATEST_NAMES;
+pub use limits::{GREATEST_COMPONENTS, GREATEST_DEPTH, GREATEST_INSTANCES, GREATEST_NAMES};

@@ -3,20 +3,14 @@
 ghost use Rattle.std.specs.Prelude.{◌≡◌, map, IfOk};
 ghost use Rattle.dv_syntax.specs.Trees.{model_of};
 ghost use Rattle.dv_check.specs.Names.{name_of_model};
-ghost use Rattle.dv_check.specs.Models.{face_of, face_of_kind, faces_by, faces_in};
+ghost use Rattle.dv_check.specs.Models.{face_of, faces_by, faces_in};
+ghost use Rattle.dv_check.specs.Tables.{value_for};
 
 use crate::declarations::{NameSort, sorts_of};
 use crate::directory::Directory;
+use crate::ports::ports_of;
 use dv_syntax::{Model, Name};
 use std::alloc::{AllocError, Global};
-
-/// What a model shows outside.
-#[derive(Drop)]
-pub enum ModelKind {
-    /// What its names stand for, of which only ports can be coupled.
-    Atomic(Directory<NameSort>),
-    Coupled,
-}
 
 /// The name of a model.
 pub fn name_of(model: &Model) -> Name
@@ -28,22 +22,29 @@ pub fn name_of(model: &Model) -> Name
     }
 }
 
-fn kind_of(alloc: Global, model: &Model) -> Result<ModelKind, AllocError>
-    ensures { IfOk result (λ kind. face_of_kind kind ≡ face_of (model_of model.now)) }
+// What the names of a model stand for, of which only ports can be coupled.
+fn face_of(alloc: Global, model: &Model) -> Result<Directory<NameSort>, AllocError>
+    ensures { IfOk result (λ face. value_for face ≡ face_of (model_of model.now)) }
 {
     match model {
-        Model::Atomic(atomic) => Ok(ModelKind::Atomic(sorts_of(alloc, &atomic.declarations)?)),
-        Model::Coupled(_) => Ok(ModelKind::Coupled),
+        Model::Atomic(atomic) => sorts_of(alloc, &atomic.declarations),
+        Model::Coupled(coupled) => {
+            let ports = ports_of(alloc, coupled)?;
+            sorts_of(alloc, &ports)
+        }
     }
 }
 
-/// The kinds of the models by their names, where the first model of a name counts.
-pub fn kinds_of(alloc: Global, models: &[Model]) -> Result<Directory<ModelKind>, AllocError>
-    ensures { IfOk result (λ kinds. faces_by kinds ≡ faces_in (map model_of models.now)) }
+/// What the names of each model stand for, by the names of the models, where the first model of a name counts.
+pub fn faces_of(
+    alloc: Global,
+    models: &[Model],
+) -> Result<Directory<Directory<NameSort>>, AllocError>
+    ensures { IfOk result (λ faces. faces_by faces ≡ faces_in (map model_of models.now)) }
 {
-    let mut kinds = Directory::new(alloc);
+    let mut faces = Directory::new(alloc);
     for model in models {
-        kinds.add(name_of(model).number, kind_of(alloc, model)?)?;
+        faces.add(name_of(model).number, face_of(alloc, model)?)?;
     }
-    Ok(kinds)
+    Ok(faces)
 }

@@ -8,24 +8,25 @@ ghost use Rattle.dv_lex.specs.declared.error.RefusalNumber.TheVariants.{E13};
 ghost use Rattle.dv_check.specs.Names.{refusal_if};
 ghost use Rattle.dv_check.specs.Tables.{value_for};
 ghost use Rattle.dv_check.specs.Rules.{sort_in};
-ghost use Rattle.dv_check.specs.Models.{face_of_kind, faces_by};
-ghost use Rattle.dv_check.specs.Couplings.{has_ends, input_refusals, interior_by, is_input, is_input_shown, is_output, is_output_shown, is_source, is_target, leads_back, link_refusals, name_of_part, output_refusals, part_model_refusals, part_refusals, part_source_refusals, part_target_refusals, parts_in, ports_of, same_part, source_refusals, target_refusals};
+ghost use Rattle.dv_check.specs.Models.{faces_by};
+ghost use Rattle.dv_check.specs.Ports.{ports_of};
+ghost use Rattle.dv_check.specs.Couplings.{has_ends, input_refusals, interior_by, is_input, is_input_shown, is_output, is_output_shown, is_source, is_target, leads_back, link_refusals, name_of_part, output_refusals, part_refusals, part_source_refusals, part_target_refusals, parts_in, same_part, source_refusals, target_refusals};
 
 use crate::declarations::{NameSort, sorts_of};
 use crate::directory::Directory;
 use crate::findings::Findings;
-use crate::models::ModelKind;
 use crate::ports::ports_of;
 use dv_lex::RefusalNumber;
 use dv_syntax::{Coupled, End, Link, Name, Part};
 use std::alloc::{AllocError, Global};
 
-/// What a link of a coupled model can name: the model's own ports, its parts, and the models of the text.
+/// What a link of a coupled model can name: the model's own ports, its parts, and what the names of the models of the
+/// text stand for.
 #[derive(Drop)]
 pub struct Interior<'a> {
     pub ports: Directory<NameSort>,
     pub parts: Directory<Part>,
-    pub kinds: &'a Directory<ModelKind>,
+    pub faces: &'a Directory<Directory<NameSort>>,
 }
 
 fn name_of_part(part: &Part) -> Name
@@ -52,46 +53,35 @@ fn directory_of(alloc: Global, parts: &[Part]) -> Result<Directory<Part>, AllocE
 }
 
 impl<'a> Interior<'a> {
-    /// What a model declares, in a text with models of these kinds.
+    /// What a model declares, in a text whose models' names stand for this.
     pub fn of(
         alloc: Global,
         model: &Coupled,
-        kinds: &'a Directory<ModelKind>,
+        faces: &'a Directory<Directory<NameSort>>,
     ) -> Result<Self, AllocError>
         ensures ports { IfOk result
             (λ interior. value_for interior.ports ≡ sort_in (ports_of (coupled_of model.now))) }
         ensures parts { IfOk result
             (λ interior. value_for interior.parts ≡ parts_in (coupled_of model.now).parts) }
-        ensures kinds { IfOk result (λ interior. interior.kinds.now ≡ kinds.now) }
+        ensures faces { IfOk result (λ interior. interior.faces.now ≡ faces.now) }
     {
         let ports = ports_of(alloc, model)?;
         Ok(Interior {
             ports: sorts_of(alloc, &ports)?,
             parts: directory_of(alloc, &model.parts)?,
-            kinds,
+            faces,
         })
     }
 }
 
-/// Tests that the model of a part is known and atomic.
+/// Tests that the model of a part is known.
 #[tactic(auto, unfolding(crate::specs::Models::faces_by))]
 pub fn check_part_model(interior: &Interior, part: &Part, found: &mut Findings)
     ensures { found.new ≡ with_refusals found.old
         (part_refusals (interior_by interior.now) part.now) }
 {
-    match interior.kinds.get(part.model.number) {
-        None => found.note(RefusalNumber::E7, part.model.place),
-        Some(kind) => check_is_atomic(kind, part, found),
-    }
-}
-
-fn check_is_atomic(kind: &ModelKind, part: &Part, found: &mut Findings)
-    ensures { found.new ≡ with_refusals found.old
-        (part_model_refusals (Some (face_of_kind kind.now)) part.now.model.place) }
-{
-    match kind {
-        ModelKind::Atomic(_) => {}
-        ModelKind::Coupled => found.note(RefusalNumber::E7, part.model.place),
+    if interior.faces.get(part.model.number).is_none() {
+        found.note(RefusalNumber::E7, part.model.place);
     }
 }
 
@@ -147,21 +137,11 @@ fn check_source(interior: &Interior, end: &End, found: &mut Findings)
 #[tactic(auto, unfolding(crate::specs::Models::faces_by))]
 fn check_part_source(interior: &Interior, part: &Part, port: &Name, found: &mut Findings)
     ensures { found.new ≡ with_refusals found.old
-        (part_source_refusals (faces_by interior.now.kinds.now part.now.model.number) port.now) }
+        (part_source_refusals (faces_by interior.now.faces.now part.now.model.number) port.now) }
 {
-    match interior.kinds.get(part.model.number) {
+    match interior.faces.get(part.model.number) {
         None => {}
-        Some(kind) => check_source_port(kind, port, found),
-    }
-}
-
-fn check_source_port(kind: &ModelKind, port: &Name, found: &mut Findings)
-    ensures { found.new ≡ with_refusals found.old
-        (part_source_refusals (Some (face_of_kind kind.now)) port.now) }
-{
-    match kind {
-        ModelKind::Coupled => {}
-        ModelKind::Atomic(sorts) => check_output(sorts.get(port.number), port, found),
+        Some(face) => check_output(face.get(port.number), port, found),
     }
 }
 
@@ -181,21 +161,11 @@ fn check_target(interior: &Interior, end: &End, found: &mut Findings)
 #[tactic(auto, unfolding(crate::specs::Models::faces_by))]
 fn check_part_target(interior: &Interior, part: &Part, port: &Name, found: &mut Findings)
     ensures { found.new ≡ with_refusals found.old
-        (part_target_refusals (faces_by interior.now.kinds.now part.now.model.number) port.now) }
+        (part_target_refusals (faces_by interior.now.faces.now part.now.model.number) port.now) }
 {
-    match interior.kinds.get(part.model.number) {
+    match interior.faces.get(part.model.number) {
         None => {}
-        Some(kind) => check_target_port(kind, port, found),
-    }
-}
-
-fn check_target_port(kind: &ModelKind, port: &Name, found: &mut Findings)
-    ensures { found.new ≡ with_refusals found.old
-        (part_target_refusals (Some (face_of_kind kind.now)) port.now) }
-{
-    match kind {
-        ModelKind::Coupled => {}
-        ModelKind::Atomic(sorts) => check_input(sorts.get(port.number), port, found),
+        Some(face) => check_input(face.get(port.number), port, found),
     }
 }
 
@@ -263,20 +233,11 @@ fn is_source(interior: &Interior, end: &End) -> bool
 #[tactic(auto, unfolding(crate::specs::Models::faces_by))]
 fn is_output_of_part(interior: &Interior, part: &Part, port: u32) -> bool
     ensures { result ≡ is_output_shown
-        (faces_by interior.now.kinds.now part.now.model.number) port }
+        (faces_by interior.now.faces.now part.now.model.number) port }
 {
-    match interior.kinds.get(part.model.number) {
+    match interior.faces.get(part.model.number) {
         None => false,
-        Some(kind) => is_output_shown(kind, port),
-    }
-}
-
-fn is_output_shown(kind: &ModelKind, port: u32) -> bool
-    ensures { result ≡ is_output_shown (Some (face_of_kind kind.now)) port }
-{
-    match kind {
-        ModelKind::Coupled => false,
-        ModelKind::Atomic(sorts) => is_output(sorts.get(port)),
+        Some(face) => is_output(face.get(port)),
     }
 }
 
@@ -295,19 +256,10 @@ fn is_target(interior: &Interior, end: &End) -> bool
 #[tactic(auto, unfolding(crate::specs::Models::faces_by))]
 fn is_input_of_part(interior: &Interior, part: &Part, port: u32) -> bool
     ensures { result ≡ is_input_shown
-        (faces_by interior.now.kinds.now part.now.model.number) port }
+        (faces_by interior.now.faces.now part.now.model.number) port }
 {
-    match interior.kinds.get(part.model.number) {
+    match interior.faces.get(part.model.number) {
         None => false,
-        Some(kind) => is_input_shown(kind, port),
-    }
-}
-
-fn is_input_shown(kind: &ModelKind, port: u32) -> bool
-    ensures { result ≡ is_input_shown (Some (face_of_kind kind.now)) port }
-{
-    match kind {
-        ModelKind::Coupled => false,
-        ModelKind::Atomic(sorts) => is_input(sorts.get(port)),
+        Some(face) => is_input(face.get(port)),
     }
 }

@@ -3,7 +3,7 @@
 ghost use Rattle.std.specs.Prelude.{◌≡◌, ◌++◌, map, IfOk, OnOk};
 ghost use Rattle.dv_syntax.specs.Trees.{coupled_of};
 ghost use Rattle.dv_syntax.specs.declared.tree.Declaration.TheVariants.{Out};
-ghost use Rattle.dv_check.specs.Couplings.{names_before, names_from, ports_by_place, ports_of};
+ghost use Rattle.dv_check.specs.Ports.{names_before, names_from, ports_by_place, ports_of};
 
 use dv_syntax::{Coupled, Declaration, Name};
 use std::alloc::{AllocError, Global};

@@ -5,7 +5,7 @@ ghost use Rattle.std.specs.Prelude.{◌≤◌, IfOk, IfSome};
 use crate::request::{Check, Request, RequestError, Run, Usage};
 use clap::error::ErrorKind;
 use clap::{Arg, ArgAction, ArgMatches, Command};
-use dv_explain::{Explanation, FAULTS, REFUSALS, explanation_of};
+use dv_explain::{Explanation, FAULTS, INPUT_REFUSALS, REFUSALS, explanation_of};
 use dv_time::{GREATEST_LIMIT, GREATEST_TICK};
 use std::alloc::{AllocError, Global};
 
@@ -63,7 +63,7 @@ fn explain_command<'a>(alloc: Global) -> Result<Command<'a>, AllocError> {
     let code = Arg::new(alloc, "code")
         .value_name("CODE")
         .required(true)
-        .help("the number of a refusal, as E7, or the name of a fault, as overflow");
+        .help("the number of a refusal, as E7 or I2, or the name of a fault, as overflow");
     Command::new(alloc, "explain")
         .about("Prints what a refusal or a fault means")
         .arg(code)
@@ -81,10 +81,16 @@ fn run_command<'a>(alloc: Global) -> Result<Command<'a>, AllocError> {
         .value_name("L")
         .action(ArgAction::Set)
         .help("the greatest microstep of a tick, 1 to 1000 (20)");
+    let inputs = Arg::new(alloc, "inputs")
+        .long("inputs")
+        .value_name("F")
+        .action(ArgAction::Set)
+        .help("the file of the inputs, with a line TICK PORT VALUE for each");
     Command::new(alloc, "run")
         .about("Runs a model and prints its trace")
         .arg(model_argument(alloc))?
         .arg(horizon)?
+        .arg(inputs)?
         .arg(microsteps)?
         .arg(explain_argument(alloc))
 }
@@ -93,6 +99,14 @@ fn model_of(alloc: Global, matches: &ArgMatches) -> Result<String, RequestError>
     match matches.get_str("model") {
         Some(model) => Ok(String::from_str(alloc, model)?),
         None => Err(refused(alloc, "a model is wanted")),
+    }
+}
+
+/// The file of the inputs, where one is given.
+fn inputs_of(alloc: Global, matches: &ArgMatches) -> Result<Option<String>, RequestError> {
+    match matches.get_str("inputs") {
+        Some(inputs) => Ok(Some(String::from_str(alloc, inputs)?)),
+        None => Ok(None),
     }
 }
 
@@ -118,6 +132,7 @@ fn explanation_for(
 fn unknown_code(alloc: Global) -> Result<RequestError, AllocError> {
     let mut reason = String::from_str(alloc, "there is no such code; the codes are")?;
     push_codes(&mut reason, REFUSALS)?;
+    push_codes(&mut reason, INPUT_REFUSALS)?;
     push_codes(&mut reason, FAULTS)?;
     Ok(refused(alloc, reason.as_str()))
 }
@@ -132,10 +147,12 @@ fn push_codes(text: &mut String, explanations: &[Explanation]) -> Result<(), All
 
 fn run_of(alloc: Global, matches: &ArgMatches) -> Result<Run, RequestError> {
     let model = model_of(alloc, matches)?;
+    let inputs = inputs_of(alloc, matches)?;
     let horizon = horizon_of(alloc, matches)?;
     let microsteps = microsteps_of(alloc, matches)?;
     Ok(Run {
         model,
+        inputs,
         horizon,
         microsteps,
         explained: matches.get_flag("explain"),

@@ -28,6 +28,8 @@ pub struct Check {
 pub struct Run {
     /// The file of the model.
     pub model: String,
+    /// The file of the inputs, where one was given.
+    pub inputs: Option<String>,
     /// The last tick of the run, 0 to 10^12.
     pub horizon: u64,
     /// The greatest microstep of a tick, 1 to 1,000, where it was given.

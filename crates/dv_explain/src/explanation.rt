@@ -2,12 +2,12 @@
 
 ghost use Rattle.std.specs.Prelude.{◌≡◌, IfSome};
 
-use crate::words::{FAULTS, REFUSALS};
+use crate::words::{FAULTS, INPUT_REFUSALS, REFUSALS};
 
 /// What a refusal or a fault means, and its cure.
 #[derive(Clone, Copy, Debug)]
 pub struct Explanation {
-    /// The number of a refusal, as `E7`, or the name of a fault, as `overflow`.
+    /// The number of a refusal, as `E7` or `I2`, or the name of a fault, as `overflow`.
     pub code: &'static str,
     /// What is wrong, which token is named, and what helps.
     pub words: &'static str,
@@ -15,11 +15,13 @@ pub struct Explanation {
     pub example: Option<Example>,
 }
 
-/// A model, and what comes of it.
+/// A model with its inputs, and what comes of it.
 #[derive(Clone, Copy, Debug)]
 pub struct Example {
     /// The text of the model.
     pub model: &'static str,
+    /// The text of its inputs.
+    pub inputs: &'static str,
     /// The last tick of its run.
     pub horizon: u64,
     /// The greatest microstep of a tick in its run.
@@ -32,10 +34,9 @@ pub struct Example {
 pub fn explanation_of(code: &str) -> Option<&'static Explanation>
     ensures { IfSome result (λ explanation. explanation.now.code.now ≡ code.now) }
 {
-    match find(REFUSALS, code) {
-        Some(refusal) => Some(refusal),
-        None => find(FAULTS, code),
-    }
+    find(REFUSALS, code)
+        .or_else(|| find(INPUT_REFUSALS, code))
+        .or_else(|| find(FAULTS, code))
 }
 
 fn find(explanations: &'static [Explanation], code: &str) -> Option<&'static Explanation>

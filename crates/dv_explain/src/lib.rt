@@ -9,5 +9,5 @@ pub mod pointing;
 pub mod words;
 
 pub use explanation::{Example, Explanation, explanation_of};
-pub use pointing::excerpt;
-pub use words::{FAULTS, REFUSALS};
+pub use pointing::{excerpt, excerpt_of_line};
+pub use words::{FAULTS, INPUT_REFUSALS, REFUSALS};

@@ -1,5 +1,5 @@
 -- From what the crates below say to what a run of bytes leaves.
-use Rattle.std.proofs.Common.{◌≡◌, ℕ, false, List, ◌++◌, Option, refl, ap, ◌∙◌, sym, subst, inl, inr}
+use Rattle.std.proofs.Common.{◌≡◌, ℕ, List, Option, Some, None, Result, Ok, Err, refl, ap, ◌∙◌, sym, subst, inl, inr}
 use Rattle.std.specs.Io.KnownBytes.{Appends, Keeps}
 use Rattle.dv_time.specs.Time.{end_of}
 use Rattle.dv_lex.specs.declared.error.LoadError.{LoadError}
@@ -9,9 +9,13 @@ use Rattle.dv_bag.specs.Part.{PartOf}
 use Rattle.dv_devs.specs.Network.{Network, trace_before}
 use Rattle.dv_syntax.specs.declared.tree.File.{File}
 use Rattle.dv_syntax.specs.Trees.{FileTree, file_of}
-use Rattle.dv_check.specs.Accepted.{has_inputs}
+use Rattle.dv_bag.specs.declared.inputs.Input.{Input}
+use Rattle.dv_inputs.specs.Reading.{reading_of}
+use Rattle.dv_inputs.specs.declared.error.InputRefusal.{InputRefusal}
+use Rattle.dv_inputs.specs.declared.error.InputsError.{InputsError}
+use Rattle.dv_inputs.specs.declared.error.InputsError.TheVariants as input
 use Rattle.dv_tree.specs.Tables.{Source}
-use Rattle.dv_plain.specs.Source.{network_of, no_input, trace_of}
+use Rattle.dv_plain.specs.Source.{network_of, outside, trace_of}
 use Rattle.dv_text.specs.declared.writing.Ending.TheVariants.{Horizon}
 use Rattle.dv_text.specs.declared.writing.WriteError.{WriteError}
 use Rattle.dv_text.specs.declared.writing.WriteError.TheVariants as write
@@ -21,9 +25,9 @@ use Rattle.dv_text.specs.Texts.{ComponentNames, whole_text}
 use Rattle.dv_text.specs.Writing.{StopsShort}
 use Rattle.dv_job.specs.declared.ended.JobEnded.{JobEnded}
 use Rattle.dv_job.specs.Job.{IsModelOf, run_text}
-use Rattle.dv_job.specs.Loading.{IsUnloaded}
-use Rattle.dv_job.specs.Errors.{job_error_of_load, job_error_of_write}
-use Rattle.dv_job.specs.Ending.{PrintsTrace, PrintsBeginning, LeftBy, ending_of}
+use Rattle.dv_job.specs.Loading.{IsUnloaded, tree_inputs}
+use Rattle.dv_job.specs.Errors.{job_error_of_inputs, job_error_of_load, job_error_of_write}
+use Rattle.dv_job.specs.Ending.{IsJob, PrintsTrace, PrintsBeginning, LeftBy, ending_of}
 
 -- the text of a trace is that of its instants
 abbrev pub AreInstants : Type 0
@@ -39,55 +43,78 @@ model_of_tree text names file tree m same =
     subst (λ (n : List (List ℕ)). IsModelOf text n (file_of tree.file)) (sym same.1)
     (subst (λ (f : File). IsModelOf text names (file_of f)) (sym same.0) m)
 
-alone_in_tree : (file : File) (tree : Source) → has_inputs (file_of file) ≡ false → tree.file ≡ file → has_inputs (file_of tree.file) ≡ false
-alone_in_tree file tree alone same = ap (λ (f : File). has_inputs (file_of f)) same ∙ alone
+-- a model and its inputs, both read
+pub job_of_tree : (text inputs : List ℕ) (names : List (List ℕ)) (file : File) (tree : Source) (played : List Input)
+    → IsModelOf text names (file_of file) → (tree.file ≡ file) × (tree.names ≡ names)
+    → reading_of inputs (tree_inputs tree) ≡ Ok played → IsJob text inputs tree.names (file_of tree.file) played
+job_of_tree text inputs names file tree played m same read = record {
+  accepted = model_of_tree text names file tree m same;
+  read = read;
+}
 
 -- what is written of a trace is the text of the run
-text_of_run : (tree : Source) (h l : ℕ) (trace : PartOf) → AreInstants → trace ≡ trace_of (file_of tree.file) h l →
-    text_of (tree_names tree) (tree_ports tree) trace (Horizon h) ≡ run_text tree.names (file_of tree.file) h l
-text_of_run tree h l trace are is_trace =
+text_of_run : (tree : Source) (played : List Input) (h l : ℕ) (trace : PartOf) → AreInstants
+    → trace ≡ trace_of (file_of tree.file) played h l
+    → text_of (tree_names tree) (tree_ports tree) trace (Horizon h) ≡ run_text tree.names (file_of tree.file) played h l
+text_of_run tree played h l trace are is_trace =
     let f = file_of tree.file in
     ap (λ (t : PartOf). text_of (tree_names tree) (tree_ports tree) t (Horizon h)) is_trace
-    ∙ are (component_names tree.names f) (root_ports tree.names f) l (network_of l f) no_input h
+    ∙ are (component_names tree.names f) (root_ports tree.names f) l (network_of l f) (outside f l played) h
 
 -- a trace that was written whole
 pub prints :
-    (text : List ℕ) (h l : ℕ) (old new : Option (List ℕ)) (names : List (List ℕ)) (file : File) (tree : Source) (trace : PartOf)
-    (ended : JobEnded)
-    → AreInstants → IsModelOf text names (file_of file) → has_inputs (file_of file) ≡ false
-    → (tree.file ≡ file) × (tree.names ≡ names) → trace ≡ trace_of (file_of tree.file) h l → ended ≡ ending_of trace
-    → Appends old new (text_of (tree_names tree) (tree_ports tree) trace (Horizon h)) → PrintsTrace text h l old new ended
-prints text h l old new names file tree trace ended are m alone same is_trace ending written = record {
+    (text inputs : List ℕ) (h l : ℕ) (old new : Option (List ℕ)) (tree : Source) (played : List Input) (trace : PartOf) (ended : JobEnded)
+    → AreInstants → IsJob text inputs tree.names (file_of tree.file) played → trace ≡ trace_of (file_of tree.file) played h l
+    → ended ≡ ending_of trace → Appends old new (text_of (tree_names tree) (tree_ports tree) trace (Horizon h))
+    → PrintsTrace text inputs h l old new ended
+prints text inputs h l old new tree played trace ended are job is_trace ending written = record {
   names = tree.names;
   file = file_of tree.file;
-  model = model_of_tree text names file tree m same;
-  alone = alone_in_tree file tree alone same.0;
+  played = played;
+  job = job;
   ending = ending ∙ ap ending_of is_trace;
-  written = subst (λ (t : List ℕ). Appends old new t) (text_of_run tree h l trace are is_trace) written;
+  written = subst (λ (t : List ℕ). Appends old new t) (text_of_run tree played h l trace are is_trace) written;
 }
 
 -- a trace of which a beginning was written
 pub prints_beginning :
-    (text : List ℕ) (h l : ℕ) (old new : Option (List ℕ)) (names : List (List ℕ)) (file : File) (tree : Source) (trace : PartOf)
-    → AreInstants → IsModelOf text names (file_of file) → has_inputs (file_of file) ≡ false
-    → (tree.file ≡ file) × (tree.names ≡ names) → trace ≡ trace_of (file_of tree.file) h l
-    → StopsShort old new (text_of (tree_names tree) (tree_ports tree) trace (Horizon h)) → PrintsBeginning text h l old new
-prints_beginning text h l old new names file tree trace are m alone same is_trace written = record {
+    (text inputs : List ℕ) (h l : ℕ) (old new : Option (List ℕ)) (tree : Source) (played : List Input) (trace : PartOf)
+    → AreInstants → IsJob text inputs tree.names (file_of tree.file) played → trace ≡ trace_of (file_of tree.file) played h l
+    → StopsShort old new (text_of (tree_names tree) (tree_ports tree) trace (Horizon h)) → PrintsBeginning text inputs h l old new
+prints_beginning text inputs h l old new tree played trace are job is_trace written = record {
   names = tree.names;
   file = file_of tree.file;
-  model = model_of_tree text names file tree m same;
-  alone = alone_in_tree file tree alone same.0;
-  written = subst (λ (t : List ℕ). StopsShort old new t) (text_of_run tree h l trace are is_trace) written;
+  played = played;
+  job = job;
+  written = subst (λ (t : List ℕ). StopsShort old new t) (text_of_run tree played h l trace are is_trace) written;
 }
 
 -- whichever way the writing failed
-pub left_by_write : (e : WriteError) (text : List ℕ) (h l : ℕ) (old new : Option (List ℕ)) → PrintsBeginning text h l old new →
-    LeftBy (job_error_of_write e) text h l old new
-left_by_write write.Write text h l old new p = p
-left_by_write write.Memory text h l old new p = inr p
+pub left_by_write : (e : WriteError) (text inputs : List ℕ) (h l : ℕ) (old new : Option (List ℕ))
+    → PrintsBeginning text inputs h l old new → LeftBy (job_error_of_write e) text inputs h l old new
+left_by_write write.Write text inputs h l old new p = p
+left_by_write write.Memory text inputs h l old new p = inr p
 
 -- a text that was not loaded
-pub left_by_load : (e : LoadError) (text : List ℕ) (h l : ℕ) (old new : Option (List ℕ)) → IsUnloaded e text → Keeps old new →
-    LeftBy (job_error_of_load text e) text h l old new
-left_by_load (load.Refused r) text h l old new refused kept = (record { refusal = r; refused = refused; answer = refl }, kept)
-left_by_load load.Memory text h l old new refused kept = inl kept
+pub left_by_load : (e : LoadError) (text inputs : List ℕ) (h l : ℕ) (old new : Option (List ℕ)) → IsUnloaded e text → Keeps old new
+    → LeftBy (job_error_of_load text e) text inputs h l old new
+left_by_load (load.Refused r) text inputs h l old new refused kept = (record { refusal = r; refused = refused; answer = refl }, kept)
+left_by_load load.Memory text inputs h l old new refused kept = inl kept
+
+-- what was not touched is kept
+kept : (o : Option (List ℕ)) → Keeps o o
+kept None = tt
+kept (Some bytes) = refl
+
+-- inputs that were not read
+pub left_by_inputs : (e : InputsError) (text inputs : List ℕ) (h l : ℕ) (old : Option (List ℕ)) (names : List (List ℕ)) (file : File)
+    (tree : Source) → IsModelOf text names (file_of file) → (tree.file ≡ file) × (tree.names ≡ names)
+    → ((r : InputRefusal) → ◌≡◌ {A = Result (List Input) InputsError} (Err e) (Err (input.Refused r))
+    → reading_of inputs (tree_inputs tree) ≡ Err r) → LeftBy (job_error_of_inputs e) text inputs h l old old
+left_by_inputs (input.Refused r) text inputs h l old names file tree m same refused = (record {
+  names = tree.names;
+  file = file_of tree.file;
+  accepted = model_of_tree text names file tree m same;
+  refused = refused r refl;
+}, kept old)
+left_by_inputs input.Memory text inputs h l old names file tree m same refused = inl (kept old)

@@ -1,6 +1,9 @@
 -- The errors of a job: the words by which they are told, and which error comes of which error below.
 use Rattle.std.specs.Prelude.{◌≡◌, ℕ, List, codes}
 use Rattle.dv_lex.specs.Words.{error_words}
+use Rattle.dv_inputs.specs.Words.{refusal_words}
+use Rattle.dv_inputs.specs.declared.error.InputsError.{InputsError}
+use Rattle.dv_inputs.specs.declared.error.InputsError.TheVariants as inputs
 use Rattle.dv_lex.specs.Texts.{answer_to}
 use Rattle.dv_lex.specs.declared.error.LoadError.{LoadError}
 use Rattle.dv_lex.specs.declared.error.LoadError.TheVariants as load
@@ -9,10 +12,10 @@ use Rattle.dv_text.specs.declared.writing.WriteError.TheVariants as write
 use Rattle.dv_job.specs.declared.ended.JobError.{JobError}
 use Rattle.dv_job.specs.declared.ended.JobError.TheVariants as error
 
--- `E7 line 3`, `not yet`, `write`, or `E18`
+-- `E7 line 3`, `I2 line 1`, `write`, or `E18`
 abbrev pub job_error_words : JobError → List ℕ
 job_error_words (error.Text e) = error_words e
-job_error_words error.NotYet = codes "not yet"
+job_error_words (error.Inputs r) = refusal_words r
 job_error_words error.Write = codes "write"
 job_error_words error.Memory = codes "E18"
 
@@ -27,3 +30,10 @@ job_error_of_write write.Memory = error.Memory
 
 abbrev pub IsOfWrite : WriteError → JobError → Type 0
 IsOfWrite e j = j ≡ job_error_of_write e
+
+abbrev pub job_error_of_inputs : InputsError → JobError
+job_error_of_inputs (inputs.Refused r) = error.Inputs r
+job_error_of_inputs inputs.Memory = error.Memory
+
+abbrev pub IsOfInputs : InputsError → JobError → Type 0
+IsOfInputs e j = j ≡ job_error_of_inputs e

@@ -8,7 +8,10 @@ use Rattle.dv_syntax.specs.Trees.{FileTree}
 use Rattle.dv_syntax.specs.Grammar.{IsFileOf}
 use Rattle.dv_parser.specs.Reading.{refusal_of_tokens}
 use Rattle.dv_check.specs.Refusals.{refusal_of}
-use Rattle.dv_plain.specs.Source.{network_of, no_input}
+use Rattle.dv_bag.specs.declared.inputs.Input.{Input}
+use Rattle.dv_tree.specs.Paths.{texts_of}
+use Rattle.dv_tree.specs.Instances.{root_inputs}
+use Rattle.dv_plain.specs.Source.{network_of, outside}
 use Rattle.dv_text.specs.Names.{component_names, root_ports}
 use Rattle.dv_text.specs.Texts.{whole_text}
 
@@ -53,6 +56,11 @@ HasModel text = (names : List (List ℕ)) × (f : FileTree) × IsModelOf text na
 abbrev pub HasAnswer : List ℕ → Type 0
 HasAnswer text = (e : TextError) × IsAnswer text e
 
--- the text of the trace of a file's resultant to a horizon
-abbrev pub run_text : List (List ℕ) → FileTree → (horizon limit : ℕ) → List ℕ
-run_text names f horizon limit = whole_text (component_names names f) (root_ports names f) limit (network_of limit f) no_input horizon
+-- the names of the root's input ports, by which inputs name them
+abbrev pub input_ports : List (List ℕ) → FileTree → List (List ℕ)
+input_ports names f = texts_of names (root_inputs f)
+
+-- the text of the trace of a file's resultant with inputs, to a horizon
+abbrev pub run_text : List (List ℕ) → FileTree → List Input → (horizon limit : ℕ) → List ℕ
+run_text names f inputs horizon limit =
+    whole_text (component_names names f) (root_ports names f) limit (network_of limit f) (outside f limit inputs) horizon

@@ -2,9 +2,15 @@
 use Rattle.std.specs.Prelude.{ℕ, List}
 use Rattle.dv_lex.specs.declared.error.LoadError.{LoadError}
 use Rattle.dv_lex.specs.declared.error.LoadError.TheVariants as load
-use Rattle.dv_job.specs.Job.{IsRefusedText}
+use Rattle.dv_syntax.specs.Trees.{file_of}
+use Rattle.dv_tree.specs.Tables.{Source}
+use Rattle.dv_job.specs.Job.{IsRefusedText, input_ports}
 
 -- only want of memory, or a refusal of the text
 abbrev pub IsUnloaded : LoadError → List ℕ → Type 0
 IsUnloaded (load.Refused r) text = IsRefusedText text r
 IsUnloaded load.Memory text = Unit {0}
+
+-- the names of the input ports of a tree's root
+abbrev pub tree_inputs : Source → List (List ℕ)
+tree_inputs s = input_ports s.names (file_of s.file)

@@ -12,7 +12,7 @@ use std::alloc::Global;
 ///
 /// # Errors
 ///
-/// `Text` is the text's answer. It is never `NotYet` or `Write`.
+/// `Text` is the text's answer. It is never `Inputs` or `Write`.
 pub fn check_bytes(alloc: Global, model: &[u8]) -> Result<u32, JobError>
     ensures accepted { IfOk result (HasComponents model.now) }
     ensures error { IfErr result (AnswersWith model.now) }

@@ -2,6 +2,7 @@
 
 ghost use Rattle.std.specs.Prelude.{◌≡◌};
 
+use dv_inputs::{InputRefusal, InputsError};
 use dv_lex::TextError;
 use dv_text::WriteError;
 use std::alloc::AllocError;
@@ -22,8 +23,8 @@ pub enum JobEnded {
 pub enum JobError {
     /// The model text is refused, with this number on this line; nothing was written.
     Text(TextError),
-    /// The model has input ports. Such a model is checked and not run yet; nothing was written.
-    NotYet,
+    /// The text of the inputs is refused, with this number on this line; nothing was written.
+    Inputs(InputRefusal),
     /// A write failed; the writer holds a beginning of the trace's text, and not all of it.
     Write,
     /// An allocation was refused; the writer holds nothing, or a beginning of the trace's text that is not all of it.
@@ -39,7 +40,7 @@ impl fmt::Display for JobError {
     fn fmt<W: fmt::Write>(&self, f: &mut fmt::Formatter<W>) -> fmt::Result {
         match self {
             JobError::Text(error) => write!(f, "{error}"),
-            JobError::NotYet => f.write_str("not yet"),
+            JobError::Inputs(refusal) => write!(f, "{refusal}"),
             JobError::Write => f.write_str("write"),
             JobError::Memory => f.write_str("E18"),
         }
@@ -55,6 +56,19 @@ impl From<WriteError> for JobError {
         match error {
             WriteError::Write => JobError::Write,
             WriteError::Memory => JobError::Memory,
+        }
+    }
+}
+
+impl From<InputsError> for JobError {
+    ghost use Rattle.dv_job.specs.Errors.{IsOfInputs};
+
+    ghost from_gives = { IsOfInputs };
+
+    fn from(error: InputsError) -> Self {
+        match error {
+            InputsError::Refused(refusal) => JobError::Inputs(refusal),
+            InputsError::Memory => JobError::Memory,
         }
     }
 }

@@ -1,15 +1,19 @@
-//! From the bytes of a model to the checked text.
+//! From the bytes of a model to the checked text, and from those of its inputs to the inputs.
 
-ghost use Rattle.std.specs.Prelude.{◌≡◌, IfOk, IfErr};
+ghost use Rattle.std.specs.Prelude.{◌≡◌, IfOk, IfErr, Ok, Err};
 ghost use Rattle.dv_syntax.specs.Trees.{file_of};
 ghost use Rattle.dv_job.specs.Errors.{job_error_of_load};
 ghost use Rattle.dv_job.specs.Job.{IsModelOf};
-ghost use Rattle.dv_job.specs.Loading.{IsUnloaded};
+ghost use Rattle.dv_inputs.specs.Reading.{reading_of};
+ghost use Rattle.dv_job.specs.Loading.{IsUnloaded, tree_inputs};
 
 use crate::ended::JobError;
+use dv_bag::Inputs;
 use dv_check::{Checked, check};
+use dv_inputs::{InputRefusal, InputsError, read_inputs};
 use dv_lex::{LoadError, answer, tokens};
 use dv_parser::parse;
+use dv_tree::Tree;
 use std::alloc::Global;
 
 /// The checked text of these bytes.
@@ -20,6 +24,17 @@ pub fn load(alloc: Global, text: &[u8]) -> Result<Checked, LoadError>
     let lexed = tokens(alloc, text)?;
     let file = parse(alloc, &lexed.tokens, text.len() as u32)?;
     check(alloc, file, lexed.names)
+}
+
+/// The inputs that a text says to the root of a tree.
+pub fn load_inputs(alloc: Global, text: &[u8], tree: &Tree) -> Result<Inputs, InputsError>
+    ensures inputs { IfOk result (λ inputs.
+        reading_of text.now (tree_inputs tree.now) ≡ Ok inputs) }
+    ensures refused { (r : InputRefusal) → result ≡ Err (InputsError.Refused r)
+        → reading_of text.now (tree_inputs tree.now) ≡ Err r }
+{
+    let names = tree.input_names(alloc)?;
+    read_inputs(alloc, text, &names)
 }
 
 /// The error of a text that was not loaded.

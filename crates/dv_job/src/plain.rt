@@ -6,10 +6,9 @@ ghost use Rattle.dv_bag.specs.declared.entry.Entry.{Entry};
 ghost use Rattle.dv_job.specs.Ending.{LeftBy, PrintsTrace, ending_of, is_fault};
 
 use crate::ended::{JobEnded, JobError};
-use crate::load::{load, unloaded};
+use crate::load::{load, load_inputs, unloaded};
 use crate::options::Options;
 use dv_bag::{Bags, Entry, Trace, What};
-use dv_check::has_inputs;
 use dv_plain::resultant_run;
 use dv_text::laws::a_trace_is_its_instants;
 use dv_text::{Ending, write_trace};
@@ -17,22 +16,24 @@ use dv_tree::Tree;
 use std::alloc::Global;
 use std::io::Write;
 
-/// Runs the model of a text as its resultant, on one thread, and writes the trace to the horizon.
+/// Runs the model of a text as its resultant, on one thread, with the inputs that another text says, and writes the
+/// trace to the horizon. Inputs past the horizon are tested and not played; an empty text has none.
 ///
 /// # Errors
 ///
-/// `Text` is the text's answer, and nothing was written; nor is anything where the model has input ports, which is
-/// `NotYet`; for the others `JobError` says what the writer then holds.
+/// `Text` is the answer to the model's text; `Inputs`, where the model is accepted, that to the inputs' text; nothing
+/// was written then. For the others `JobError` says what the writer holds.
 pub fn run_plain<W: Write>(
     alloc: Global,
     model: &[u8],
+    inputs: &[u8],
     options: &Options,
     writer: &mut W,
 ) -> Result<JobEnded, JobError>
-    ensures printed { IfOk result (PrintsTrace model.now options.now.horizon options.now.limit
-        (W.contents writer.old) (W.contents writer.new)) }
-    ensures error { IfErr result (λ e. LeftBy e model.now options.now.horizon options.now.limit
-        (W.contents writer.old) (W.contents writer.new)) }
+    ensures printed { IfOk result (PrintsTrace model.now inputs.now options.now.horizon
+        options.now.limit (W.contents writer.old) (W.contents writer.new)) }
+    ensures error { IfErr result (λ e. LeftBy e model.now inputs.now options.now.horizon
+        options.now.limit (W.contents writer.old) (W.contents writer.new)) }
 {
     // The text of a trace is that of its instants, one after the other.
     a_trace_is_its_instants::<Bags>();
@@ -40,11 +41,9 @@ pub fn run_plain<W: Write>(
         Ok(checked) => checked,
         Err(error) => return Err(unloaded(model, error)),
     };
-    if has_inputs(&checked.file) {
-        return Err(JobError::NotYet);
-    }
     let tree = Tree::of(alloc, &checked)?;
-    let trace = resultant_run(alloc, &tree, options.horizon, options.limit)?;
+    let played = load_inputs(alloc, inputs, &tree)?;
+    let trace = resultant_run(alloc, &tree, &played, options.horizon, options.limit)?;
     write_trace(
         alloc,
         &trace,

@@ -1,7 +1,7 @@
 -- The earlier of two next times, and the least of all.
 use Rattle.std.proofs.Common.{◌≡◌, ℕ, ◌+◌, ◌<◌, ◌≤◌, min, List, map, length, get_or, Option, Some, None, refl, ap, sym, ◌∙◌, arith}
 use Rattle.std.proofs.lemmas.List.{drop_all}
-use Rattle.dv_devs.specs.NextTimes.{earlier, least_next}
+use Rattle.dv_devs.specs.NextTimes.{IsFrom, earlier, least_next}
 use Rattle.dv_plain.specs.declared.component.Running.{Running}
 use Rattle.dv_plain.specs.Components.{next_of_wait, component_of}
 use Rattle.dv_plain.proofs.Steps.{components_from, component-step}
@@ -12,7 +12,7 @@ earlier-first x y h = let e : x ≡ min x y = omega arith in ap Some e
 pub earlier-second : (x y : ℕ) → y ≤ x → Some y ≡ earlier (Some x) (Some y)
 earlier-second x y h = let e : y ≡ min x y = omega arith in ap Some e
 
-earlier-none : (a : Option ℕ) → earlier a None ≡ a
+pub earlier-none : (a : Option ℕ) → earlier a None ≡ a
 earlier-none None = refl
 earlier-none (Some x) = refl
 
@@ -38,3 +38,19 @@ pub least-all : (limit : ℕ) (rs : List Running) (k : ℕ) (next whole : Option
 least-all limit rs k next whole h kept =
     sym (earlier-none next) ∙ ap (λ (xs : List Running). earlier next (least_next (map (component_of limit) xs))) (sym (drop_all k rs h))
     ∙ kept
+
+-- the earlier of two times is from a rank on where both are
+pub earlier-from : (n : ℕ) (a b : Option ℕ) → IsFrom n a → IsFrom n b → IsFrom n (earlier a b)
+earlier-from n None b h g = g
+earlier-from n (Some x) None h g = h
+earlier-from n (Some x) (Some y) h g = let both : n ≤ min x y = omega arith in both
+
+pub IsFrom-first : (n : ℕ) (a b : Option ℕ) → IsFrom n (earlier a b) → IsFrom n a
+IsFrom-first n None b h = tt
+IsFrom-first n (Some x) None h = h
+IsFrom-first n (Some x) (Some y) h = let first : n ≤ x = omega arith in first
+
+pub IsFrom-second : (n : ℕ) (a b : Option ℕ) → IsFrom n (earlier a b) → IsFrom n b
+IsFrom-second n None b h = h
+IsFrom-second n (Some x) None h = tt
+IsFrom-second n (Some x) (Some y) h = let second : n ≤ y = omega arith in second

@@ -1,8 +1,9 @@
-pub mod Reactions
 pub mod Times
+pub mod Reactions
 pub mod Silence
 pub mod Ready
 pub mod Steps
 pub mod Least
 pub mod Lines
+pub mod InputWalk
 pub mod Reached

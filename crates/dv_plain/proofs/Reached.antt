@@ -1,112 +1,167 @@
--- How far a run has come: the components and the trace when every instant before a rank is over.
-use Rattle.std.proofs.Common.{◌≡◌, ℕ, suc, ◌-◌, ◌<◌, ◌≤◌, List, [], map, length, unwrap_or, Option, Some, None, refl, ap, sym, ◌∙◌, subst, arith}
+-- How far a run has come: the components, the trace and the inputs when every instant before a rank is over.
+use Rattle.std.proofs.Common.{◌≡◌, ℕ, suc, ◌+◌, ◌-◌, ◌<◌, ◌≤◌, List, [], map, length, replicate, unwrap_or, Option, Some, None, refl, ap, sym, ◌∙◌, subst, arith}
 use Rattle.std.proofs.lemmas.List.{length-map}
-use Rattle.dv_time.specs.Time.{end_of}
+use Rattle.dv_time.specs.Time.{IsOfRun, end_of, rank}
+use Rattle.dv_time.specs.declared.time.Time.{Time}
 use Rattle.dv_syntax.specs.Trees.{FileTree}
+use Rattle.dv_bag.specs.Inputs.{inputs_before, tick_at}
+use Rattle.dv_bag.specs.declared.inputs.Input.{Input}
+use Rattle.dv_devs.specs.Behaviour.{Component}
+use Rattle.dv_devs.specs.Idle.{AllBringNothing, BringsNothing}
 use Rattle.dv_devs.specs.Network.{components_after, components_at, part_of_instant, trace_before}
-use Rattle.dv_devs.specs.NextTimes.{IsFrom, least_next}
+use Rattle.dv_devs.specs.NextTimes.{IsFrom, earlier, least_next}
 use Rattle.dv_bag.specs.Part.{PartOf, nothing, joined}
 use Rattle.dv_tree.specs.Instances.{Instance, instances}
+use Rattle.dv_tree.specs.Instances.{root_inputs}
 use Rattle.dv_plain.specs.declared.component.Running.{Running}
+use Rattle.dv_plain.specs.InputTimes.{inputs_until, start_of_tick}
 use Rattle.dv_plain.specs.Components.{component_of}
-use Rattle.dv_plain.specs.Source.{behaviour_of, network_of, no_input, trace_of}
+use Rattle.dv_plain.specs.Source.{behaviour_of, network_of, outside, trace_of}
+use Rattle.dv_plain.proofs.InputWalk.{InputLaws, IsPlace, none_between, place-after, place-now, place-rises, place-start}
+use Rattle.dv_plain.proofs.Least.{IsFrom-first, IsFrom-second, earlier-from}
 
-pub record Reached (limit : ℕ) (f : FileTree) (horizon : ℕ) (rs : List Running) (t : PartOf) : Type 0 where
+-- the components and the trace of a text when every instant before a rank is over
+abbrev pub components_to : ℕ → FileTree → List Input → ℕ → List Component
+components_to limit f inputs n = components_at limit (network_of limit f) (outside f limit inputs) n
+
+abbrev pub trace_to : ℕ → FileTree → List Input → ℕ → PartOf
+trace_to limit f inputs n = trace_before limit (network_of limit f) (outside f limit inputs) n
+
+-- Every instant before a rank is over: these are the components and the trace, and this is the place in the inputs.
+pub record Reached (limit : ℕ) (f : FileTree) (inputs : List Input) (horizon : ℕ) (rs : List Running) (t : PartOf) (place : ℕ) :
+    Type 0 where
   pub at : ℕ
   pub within : at ≤ end_of limit horizon
-  pub components : components_at limit (network_of limit f) no_input at ≡ map (component_of limit) rs
-  pub trace : trace_before limit (network_of limit f) no_input at ≡ t
+  pub components : components_to limit f inputs at ≡ map (component_of limit) rs
+  pub trace : trace_to limit f inputs at ≡ t
+  pub walked : IsPlace limit inputs at place
 
--- What the laws of runs say of a text's network: next times are to come, and up to the least of them all stays.
-pub record Laws (limit : ℕ) (f : FileTree) : Type 0 where
-  pub matched : (n : ℕ) → length (network_of limit f).behaviours ≡ length (components_at limit (network_of limit f) no_input n)
-  pub rises : (n : ℕ) → IsFrom n (least_next (components_at limit (network_of limit f) no_input n))
-  pub components : (n m : ℕ) → n ≤ m → IsFrom m (least_next (components_at limit (network_of limit f) no_input n)) →
-      components_at limit (network_of limit f) no_input m ≡ components_at limit (network_of limit f) no_input n
-  pub trace : (n m : ℕ) → n ≤ m → IsFrom m (least_next (components_at limit (network_of limit f) no_input n)) →
-      trace_before limit (network_of limit f) no_input m ≡ trace_before limit (network_of limit f) no_input n
+-- What the laws of runs and of inputs say of a text's network: next times are to come, and up to the least of them and the next
+-- input all stays.
+pub record Laws (limit : ℕ) (f : FileTree) (inputs : List Input) : Type 0 where
+  pub matched : (n : ℕ) →
+      length (network_of limit f).behaviours ≡ length (components_to limit f inputs n)
+  pub rises : (n : ℕ) → IsFrom n (least_next (components_to limit f inputs n))
+  pub components : (n m : ℕ) → n ≤ m →
+      IsFrom m (least_next (components_to limit f inputs n)) → AllBringNothing (network_of limit f) (outside f limit inputs) n m →
+      components_to limit f inputs m ≡ components_to limit f inputs n
+  pub trace : (n m : ℕ) → n ≤ m →
+      IsFrom m (least_next (components_to limit f inputs n)) → AllBringNothing (network_of limit f) (outside f limit inputs) n m →
+      trace_to limit f inputs m ≡ trace_to limit f inputs n
+  pub none : BringsNothing (network_of limit f) (replicate (length (root_inputs f)) [])
+  pub coming : InputLaws limit (length (root_inputs f)) inputs
 
-pub reached-start : (limit : ℕ) (f : FileTree) (horizon : ℕ) (rs : List Running) →
-    map (component_of limit) rs ≡ (network_of limit f).start → Reached limit f horizon rs nothing
-reached-start limit f horizon rs e = record {
+-- the work that is left falls
+work-falls : (e m : ℕ) (next : Option ℕ) → m < e → IsFrom (suc m) next → e - unwrap_or next e < e - m
+work-falls e m None h g = omega arith
+work-falls e m (Some k) h g = omega arith
+
+-- from the next instant to the end
+abbrev pub work : ℕ → List Input → ℕ → List Running → ℕ → ℕ
+work limit inputs horizon rs place = end_of limit horizon - unwrap_or
+    (earlier (least_next (map (component_of limit) rs)) (start_of_tick limit (tick_at inputs place))) (end_of limit horizon)
+
+pub reached-start : (limit : ℕ) (f : FileTree) (inputs : List Input) (horizon : ℕ) (rs : List Running) →
+    map (component_of limit) rs ≡ (network_of limit f).start → inputs_before inputs 0 ≡ 0 → Reached limit f inputs horizon rs nothing 0
+reached-start limit f inputs horizon rs e first = record {
   at = 0;
   within = omega arith;
   components = sym e;
   trace = refl;
+  walked = place-start limit inputs first;
 }
 
--- a component for each of the text's
-pub reached-matched : (limit : ℕ) (f : FileTree) (horizon : ℕ) (rs : List Running) (t : PartOf) → Laws limit f →
-    Reached limit f horizon rs t → length rs ≡ length (instances f)
-reached-matched limit f horizon rs t laws r =
-    sym (length-map rs (component_of limit)) ∙ ap length (sym r.components) ∙ sym (laws.matched r.at) ∙ length-map (instances f)
-    (λ (i : Instance). behaviour_of i.model)
+module _ (limit : ℕ) (f : FileTree) (inputs : List Input) (horizon : ℕ) (laws : Laws limit f inputs) where
+  abbrev next_of : List Running → ℕ → Option ℕ
+  next_of rs place = earlier (least_next (map (component_of limit) rs)) (start_of_tick limit (tick_at inputs place))
 
--- nobody is imminent before the end
-pub reached-end : (limit : ℕ) (f : FileTree) (horizon : ℕ) (rs : List Running) (t : PartOf) → Laws limit f → Reached limit f horizon rs t →
-    IsFrom (end_of limit horizon) (least_next (map (component_of limit) rs)) → t ≡ trace_of f horizon limit
-reached-end limit f horizon rs t laws r last =
-    sym (laws.trace r.at (end_of limit horizon) r.within
-    (subst (λ cs. IsFrom (end_of limit horizon) (least_next cs)) (sym r.components) last) ∙ r.trace)
+  -- the next instant is not past
+  next-rises : (rs : List Running) (t : PartOf) (place : ℕ) (r : Reached limit f inputs horizon rs t place) → IsFrom r.at (next_of rs place)
+  next-rises rs t place r =
+      earlier-from r.at (least_next (map (component_of limit) rs)) (start_of_tick limit (tick_at inputs place))
+      (subst (λ cs. IsFrom r.at (least_next cs)) r.components (laws.rises r.at))
+      (place-rises limit (length (root_inputs f)) inputs r.at place laws.coming r.walked)
 
-least_at : (n m : ℕ) (next : Option ℕ) → IsFrom n next → Some m ≡ next → n ≤ m
-least_at n m next h e = subst (IsFrom n) (sym e) h
+  module _ (rs : List Running) (t : PartOf) (place : ℕ) (r : Reached limit f inputs horizon rs t place) where
+    -- a component for each of the text's
+    pub reached-matched : length rs ≡ length (instances f)
+    reached-matched =
+        sym (length-map rs (component_of limit)) ∙ ap length (sym r.components) ∙ sym (laws.matched r.at) ∙ length-map (instances f)
+        (λ (i : Instance). behaviour_of i.model)
 
--- up to the least of the next times all stays
-resting : (limit : ℕ) (f : FileTree) (horizon : ℕ) (rs : List Running) (t : PartOf) (m : ℕ) → Laws limit f → Reached limit f horizon rs t →
-    Some m ≡ least_next (map (component_of limit) rs) →
-    (components_at limit (network_of limit f) no_input m ≡ map (component_of limit) rs) ×
-    (trace_before limit (network_of limit f) no_input m ≡ t)
-resting limit f horizon rs t m laws r least =
-    let next : Some m ≡ least_next (components_at limit (network_of limit f) no_input r.at) = least ∙ ap least_next (sym r.components) in
-    let before : r.at ≤ m = least_at r.at m (least_next (components_at limit (network_of limit f) no_input r.at)) (laws.rises r.at) next in
-    let from : IsFrom m (least_next (components_at limit (network_of limit f) no_input r.at)) = subst (IsFrom m) next (omega arith) in
-    (laws.components r.at m before from ∙ r.components, laws.trace r.at m before from ∙ r.trace)
+    module _ (m : ℕ) (from : IsFrom m (next_of rs place)) where
+      least-from : IsFrom m (least_next (components_to limit f inputs r.at))
+      least-from =
+          subst (λ cs. IsFrom m (least_next cs)) (sym r.components)
+          (IsFrom-first m (least_next (map (component_of limit) rs)) (start_of_tick limit (tick_at inputs place)) from)
 
--- the components after the instant of the least next time
-step-components : (limit : ℕ) (f : FileTree) (horizon : ℕ) (rs new : List Running) (t : PartOf) (m : ℕ) → Laws limit f →
-    Reached limit f horizon rs t → Some m ≡ least_next (map (component_of limit) rs) →
-    map (component_of limit) new ≡ components_after limit (network_of limit f) m [] (map (component_of limit) rs) → components_at limit
-    (network_of limit f) no_input (suc m) ≡ map (component_of limit) new
-step-components limit f horizon rs new t m laws r least after =
-    ap (components_after limit (network_of limit f) m []) (resting limit f horizon rs t m laws r least).0 ∙ sym after
+      -- before the next instant nothing comes in
+      none-come : AllBringNothing (network_of limit f) (outside f limit inputs) r.at m
+      none-come k low high =
+          subst (BringsNothing (network_of limit f))
+          (sym (none_between limit (length (root_inputs f)) inputs r.at place m k laws.coming r.walked
+          (IsFrom-second m (least_next (map (component_of limit) rs)) (start_of_tick limit (tick_at inputs place)) from) low high))
+          laws.none
 
-pub reached-step : (limit : ℕ) (f : FileTree) (horizon : ℕ) (rs new : List Running) (t more : PartOf) (m : ℕ) → Laws limit f →
-    Reached limit f horizon rs t →
-    Some m ≡ least_next (map (component_of limit) rs) → m < end_of limit horizon →
-    map (component_of limit) new ≡ components_after limit (network_of limit f) m [] (map (component_of limit) rs) →
-    more ≡ joined t (part_of_instant limit (network_of limit f) m [] (map (component_of limit) rs)) →
-    Reached limit f horizon new more
-reached-step limit f horizon rs new t more m laws r least within after part =
-    let rest = resting limit f horizon rs t m laws r least in
-    record {
-      at = suc m;
-      within = within;
-      components = step-components limit f horizon rs new t m laws r least after;
-      trace =
-          ap (λ (p : PartOf). joined p
-          (part_of_instant limit (network_of limit f) m [] (components_at limit (network_of limit f) no_input m))) rest.1
-          ∙ ap (λ ks. joined t (part_of_instant limit (network_of limit f) m [] ks)) rest.0
-          ∙ sym part;
-    }
+      -- and all stays
+      rest-components : r.at ≤ m → components_to limit f inputs m ≡ map (component_of limit) rs
+      rest-components le = laws.components r.at m le least-from none-come ∙ r.components
 
--- the work that is left falls
-pub work-falls : (e m : ℕ) (next : Option ℕ) → m < e → IsFrom (suc m) next → e - unwrap_or next e < e - m
-work-falls e m None h g = omega arith
-work-falls e m (Some k) h g = omega arith
+      rest-trace : r.at ≤ m → trace_to limit f inputs m ≡ t
+      rest-trace le = laws.trace r.at m le least-from none-come ∙ r.trace
 
-abbrev pub work : ℕ → ℕ → List Running → ℕ
-work limit horizon rs = end_of limit horizon - unwrap_or (least_next (map (component_of limit) rs)) (end_of limit horizon)
+    -- nothing happens before the end
+    pub reached-end : IsFrom (end_of limit horizon) (next_of rs place) → t ≡ trace_of f inputs horizon limit
+    reached-end last = sym (rest-trace (end_of limit horizon) last r.within)
 
--- after the instant of the least next time every next time is past it
-pub work-step : (limit : ℕ) (f : FileTree) (horizon : ℕ) (rs new : List Running) (t : PartOf) (m : ℕ) → Laws limit f →
-    Reached limit f horizon rs t →
-    Some m ≡ least_next (map (component_of limit) rs) → m < end_of limit horizon → map (component_of limit) new ≡ components_after limit
-    (network_of limit f) m [] (map (component_of limit) rs) →
-    work limit horizon new < work limit horizon rs
-work-step limit f horizon rs new t m laws r least within after =
-    let e = end_of limit horizon in
-    let there = step-components limit f horizon rs new t m laws r least after in
-    subst (λ (n : Option ℕ). work limit horizon new < e - unwrap_or n e) least
-    (work-falls e m (least_next (map (component_of limit) new)) within
-    (subst (λ cs. IsFrom (suc m) (least_next cs)) there (laws.rises (suc m))))
+    module _ (now : Time) (run : IsOfRun limit now) (least : Some (rank limit now) ≡ next_of rs place) where
+      not-past : r.at ≤ rank limit now
+      not-past = subst (IsFrom r.at) (sym least) (next-rises rs t place r)
+
+      at-next : IsFrom (rank limit now) (next_of rs place)
+      at-next = subst (IsFrom (rank limit now)) least (omega arith)
+
+      -- the place in the inputs is that of the next instant
+      pub reached-place : place ≡ inputs_until inputs now
+      reached-place =
+          place-now limit (length (root_inputs f)) inputs r.at place now laws.coming r.walked run not-past
+          (IsFrom-second (rank limit now) (least_next (map (component_of limit) rs)) (start_of_tick limit (tick_at inputs place)) at-next)
+
+      module _ (new : List Running) (more : PartOf) (after : ℕ) (within : rank limit now < end_of limit horizon)
+          (change : map (component_of limit) new ≡ components_after limit (network_of limit f) (rank limit now)
+          (outside f limit inputs (rank limit now)) (map (component_of limit) rs))
+          (part : more ≡ joined t (part_of_instant limit (network_of limit f) (rank limit now) (outside f limit inputs (rank limit now))
+          (map (component_of limit) rs)))
+          (past : after ≡ inputs_before inputs (now.tick + 1)) where
+        -- the components after the next instant
+        step-components : components_to limit f inputs (suc (rank limit now)) ≡ map (component_of limit) new
+        step-components =
+            ap (components_after limit (network_of limit f) (rank limit now) (outside f limit inputs (rank limit now)))
+            (rest-components (rank limit now) at-next not-past)
+            ∙ sym change
+
+        step-trace : trace_to limit f inputs (suc (rank limit now)) ≡ more
+        step-trace =
+            let net = network_of limit f in
+            let n = rank limit now in
+            let input = outside f limit inputs n in
+            ap (λ (p : PartOf). joined p (part_of_instant limit net n input (components_to limit f inputs n)))
+            (rest-trace n at-next not-past)
+            ∙ ap (λ ks. joined t (part_of_instant limit net n input ks)) (rest-components n at-next not-past)
+            ∙ sym part
+
+        pub reached-step : Reached limit f inputs horizon new more after
+        reached-step = record {
+          at = suc (rank limit now);
+          within = within;
+          components = step-components;
+          trace = step-trace;
+          walked = place-after limit inputs now after run past;
+        }
+
+        pub work-step : work limit inputs horizon new after < work limit inputs horizon rs place
+        unfolding reached-step
+        work-step =
+            let e = end_of limit horizon in
+            subst (λ (n : Option ℕ). work limit inputs horizon new after < e - unwrap_or n e) least
+            (work-falls e (rank limit now) (next_of new after) within (next-rises new more after reached-step))

@@ -1,90 +1,45 @@
--- Where nobody sends anything, nothing arrives and nothing leaves.
-use Rattle.std.proofs.Common.{◌≡◌, ℕ, zero, suc, ◌+◌, nat_eq, IsTrue, List, [], ◌∷◌, map, length, replicate, Option, Some, None, refl, ap, ◌∙◌}
-use Rattle.std.specs.Prelude.{slice_set}
-use Rattle.std.proofs.lemmas.Bool.{and_from, and_parts, cond_both, eqb-true}
+-- Where nobody sends anything and nothing comes from outside, nothing arrives and nothing leaves.
+use Rattle.std.proofs.Common.{◌≡◌, ℕ, List, [], ◌∷◌, map, length, replicate, IsTrue, refl, ap, ◌∙◌}
+use Rattle.std.specs.List.{All}
+use Rattle.std.proofs.lemmas.Bool.{and_from, eq-eqb}
+use Rattle.std.proofs.lemmas.List.Elements.{All-head, All-tail}
 use Rattle.dv_syntax.specs.Trees.{FileTree}
-use Rattle.dv_syntax.specs.declared.tree.Name.{Name}
-use Rattle.dv_syntax.specs.declared.tree.Link.{Link}
-use Rattle.dv_bag.specs.Bag.{Counts, bag_at, capped, size, union}
-use Rattle.dv_devs.specs.Behaviour.{all_empty}
-use Rattle.dv_devs.specs.Idle.{BringsNothing, LeavesOnlyWhatIsSent, nothing_sent}
-use Rattle.dv_devs.specs.Idle.{no_values}
-use Rattle.dv_eval.specs.Scope.{scope_of, place_of}
-use Rattle.dv_tree.specs.Instances.{Instance, instances, root_links}
-use Rattle.dv_tree.specs.Routing.{bag_of_port, is_part, sent_from, carried, exit_of, joined_at, passed_on, root_outputs}
-use Rattle.dv_plain.specs.Source.{network_of, no_input}
-
-none_arrive : {A : Type 0} (xs : List A) → IsTrue (no_values (map (λ x. []) xs))
-none_arrive [] = refl
-none_arrive (x ∷ xs) = none_arrive xs
-
-pub nothing_arrives : (limit n : ℕ) (f : FileTree) → BringsNothing (network_of limit f) (no_input n)
-nothing_arrives limit n f = none_arrive (instances f)
+use Rattle.dv_bag.specs.Bag.{Counts, size}
+use Rattle.dv_devs.specs.Behaviour.{Behaviour, all_empty}
+use Rattle.dv_devs.specs.Idle.{BringsNothing, LeavesOnlyWhatIsSent, no_values}
+use Rattle.dv_tree.specs.Instances.{Instance, instances, root_inputs}
+use Rattle.dv_tree.specs.Routing.{arrives, leaves}
+use Rattle.dv_plain.specs.Source.{behaviour_of, network_of}
 
 abbrev IsEmpty : Counts → Type 0
-IsEmpty b = IsTrue (nat_eq (size b) 0)
+IsEmpty b = b ≡ []
 
--- sizes add, as a law of bags has it
-abbrev pub SizesAdd : Type 0
-SizesAdd = (a b : Counts) → size (union a b) ≡ capped (size a + size b)
+abbrev none : List Counts
+none = []
 
-union-empty : SizesAdd → (a b : Counts) → IsEmpty a → IsEmpty b → IsEmpty (union a b)
-union-empty add a b h g =
-    ap (λ n. nat_eq n 0) (add a b)
-    ∙ ap (λ n. nat_eq (capped (n + size b)) 0) (eqb-true (size a) 0 h)
-    ∙ ap (λ n. nat_eq (capped (0 + n)) 0) (eqb-true (size b) 0 g)
+all_empty-all : (bags : List Counts) → All IsEmpty bags → IsTrue (all_empty bags)
+all_empty-all [] h = refl
+all_empty-all (b ∷ bags) h =
+    and_from _ _ (eq-eqb (size b) 0 (ap size (All-head IsEmpty b bags h))) (all_empty-all bags (All-tail IsEmpty b bags h))
 
-bag-empty : (port : Option ℕ) (bags : List Counts) → IsTrue (all_empty bags) → IsEmpty (bag_of_port port bags)
-bag-empty None bags h = refl
-bag-empty (Some port) [] h = refl
-bag-empty (Some zero) (b ∷ bags) h = (and_parts (nat_eq (size b) 0) (all_empty bags) h).0
-bag-empty (Some (suc port)) (b ∷ bags) h = bag-empty (Some port) bags (and_parts (nat_eq (size b) 0) (all_empty bags) h).1
+no_values-all : (received : List (List Counts)) → All (All IsEmpty) received → IsTrue (no_values received)
+no_values-all [] h = refl
+no_values-all (bags ∷ rest) h =
+    and_from _ _ (all_empty-all bags (All-head (All IsEmpty) bags rest h)) (no_values-all rest (All-tail (All IsEmpty) bags rest h))
 
-sent_from-empty : (part port : ℕ) (parts : List Instance) (sent : List (List Counts)) → IsTrue (no_values sent) →
-    IsEmpty (sent_from part port parts sent)
-sent_from-empty part port [] sent h = refl
-sent_from-empty part port (i ∷ rest) [] h = refl
-sent_from-empty part port (i ∷ rest) (bags ∷ sent) h =
-    let both = and_parts (all_empty bags) (no_values sent) h in
-    cond_both (is_part part i.path) _ _ IsEmpty
-    (λ _. bag-empty (place_of port (scope_of i.model).outputs) bags both.0)
-    (λ _. sent_from-empty part port rest sent both.1)
+none_by_instance : (is : List Instance) →
+    map (λ (b : Behaviour). none) (map (λ (i : Instance). behaviour_of i.model) is) ≡ map (λ (i : Instance). none) is
+none_by_instance [] = refl
+none_by_instance (i ∷ is) = ap (λ rest. none ∷ rest) (none_by_instance is)
 
-carried-empty : (parts : List Instance) (sent : List (List Counts)) (part : Option Name) (port : ℕ) → IsTrue (no_values sent) →
-    IsEmpty (carried parts sent part port)
-carried-empty parts sent None port h = refl
-carried-empty parts sent (Some part) port h = sent_from-empty part.number port parts sent h
+pub nothing_arrives :
+    ((f : FileTree) (ports : ℕ) → All (All IsEmpty) (arrives f (map (λ (i : Instance). none) (instances f)) (replicate ports []))) →
+    (limit : ℕ) (f : FileTree) → BringsNothing (network_of limit f) (replicate (length (root_inputs f)) [])
+nothing_arrives law limit f =
+    ap (λ sent. no_values (arrives f sent (replicate (length (root_inputs f)) []))) (none_by_instance (instances f))
+    ∙ no_values-all _ (law f (length (root_inputs f)))
 
-set-empty : SizesAdd → (bags : List Counts) (port : ℕ) (more : Counts) → IsTrue (all_empty bags) → IsEmpty more →
-    IsTrue (all_empty (slice_set bags port (union (bag_at bags port) more)))
-set-empty add [] port more h g = refl
-set-empty add (b ∷ bags) zero more h g =
-    let both = and_parts (nat_eq (size b) 0) (all_empty bags) h in
-    and_from _ _ (union-empty add b more both.0 g) both.1
-set-empty add (b ∷ bags) (suc port) more h g =
-    let both = and_parts (nat_eq (size b) 0) (all_empty bags) h in
-    and_from _ _ both.0 (set-empty add bags port more both.1 g)
-
-joined-empty : SizesAdd → (port : Option ℕ) (more : Counts) (bags : List Counts) → IsEmpty more → IsTrue (all_empty bags) →
-    IsTrue (all_empty (joined_at port more bags))
-joined-empty add None more bags g h = h
-joined-empty add (Some port) more bags g h = set-empty add bags port more h g
-
-passed_on-empty : SizesAdd →
-    (ports : List ℕ) (parts : List Instance) (sent : List (List Counts)) (links : List Link) (bags : List Counts) →
-    IsTrue (no_values sent) → IsTrue (all_empty bags) → IsTrue (all_empty (passed_on ports parts sent links bags))
-passed_on-empty add ports parts sent [] bags none h = h
-passed_on-empty add ports parts sent (l ∷ links) bags none h =
-    passed_on-empty add ports parts sent links
-    (joined_at (exit_of ports l.to.part l.to.port.number) (carried parts sent l.from.part l.from.port.number) bags) none
-    (joined-empty add (exit_of ports l.to.part l.to.port.number) (carried parts sent l.from.part l.from.port.number) bags
-    (carried-empty parts sent l.from.part l.from.port.number none) h)
-
-no_bags : (n : ℕ) → IsTrue (all_empty (replicate n []))
-no_bags zero = refl
-no_bags (suc n) = no_bags n
-
-pub nothing_leaves : SizesAdd → (limit : ℕ) (f : FileTree) → LeavesOnlyWhatIsSent (network_of limit f)
-nothing_leaves add limit f =
-    passed_on-empty add (root_outputs f) (instances f) (nothing_sent (network_of limit f)) (root_links f)
-    (replicate (length (root_outputs f)) []) (none_arrive (network_of limit f).behaviours) (no_bags (length (root_outputs f)))
+pub nothing_leaves : ((f : FileTree) → All IsEmpty (leaves f (map (λ (i : Instance). none) (instances f)))) →
+    (limit : ℕ) (f : FileTree) → LeavesOnlyWhatIsSent (network_of limit f)
+nothing_leaves law limit f =
+    ap (λ sent. all_empty (leaves f sent)) (none_by_instance (instances f)) ∙ all_empty-all _ (law f)

@@ -77,10 +77,14 @@ pub outputs-step : (now : ℕ) (bs bs' : List Behaviour) (cs cs' : List Componen
     cs ≡ c ∷ cs' → outputs bs now cs ≡ emission b now c ∷ outputs bs' now cs'
 outputs-step now bs bs' cs cs' b c e f = ap (λ xs. outputs xs now cs) e ∙ ap (outputs (b ∷ bs') now) f
 
-pub reactions-step : (limit now : ℕ) (bs bs' : List Behaviour) (cs cs' : List Component) (b : Behaviour) (c : Component) → bs ≡ b ∷ bs' →
-    cs ≡ c ∷ cs' → reactions limit bs now cs [] ≡ reaction limit b now c [] ∷ reactions limit bs' now cs' []
-reactions-step limit now bs bs' cs cs' b c e f =
-    ap (λ xs. reactions limit xs now cs []) e ∙ ap (λ ys. reactions limit (b ∷ bs') now ys []) f
+pub reactions-step :
+    (limit now : ℕ) (bs bs' : List Behaviour) (cs cs' : List Component) (received received' : List (List Counts)) (b : Behaviour)
+    (c : Component) (bags : List Counts) →
+    bs ≡ b ∷ bs' → cs ≡ c ∷ cs' → received ≡ bags ∷ received' →
+    reactions limit bs now cs received ≡ reaction limit b now c bags ∷ reactions limit bs' now cs' received'
+reactions-step limit now bs bs' cs cs' received received' b c bags e f g =
+    ap (λ xs. reactions limit xs now cs received) e ∙ ap (λ ys. reactions limit (b ∷ bs') now ys received) f
+    ∙ ap (reactions limit (b ∷ bs') now (c ∷ cs')) g
 
 -- one more of a list that is made element by element
 pub one_more : {X Y : Type 0} (f : X → Y) (done whole : List Y) (rest rest' : List X) (x : X) → rest ≡ x ∷ rest' →
@@ -109,17 +113,21 @@ outputs_from-step limit is now rs k m r emitted e h f gave =
     ∙ ap (λ x. x ∷ outputs_from limit is now rs (k + 1)) gave
 
 -- what happens to the components from one on
-abbrev pub reactions_from : ℕ → List Instance → ℕ → List Running → ℕ → List Reaction
-reactions_from limit is now rs k = reactions limit (behaviours_from k is) now (components_from limit k rs) []
+abbrev pub reactions_from : ℕ → List Instance → ℕ → List Running → List (List Counts) → ℕ → List Reaction
+reactions_from limit is now rs received k = reactions limit (behaviours_from k is) now (components_from limit k rs) (drop k received)
 
-pub reactions_from-step : (limit : ℕ) (is : List Instance) (now : ℕ) (rs : List Running) (k : ℕ) (m : AtomicTree) (r : Running) →
-    slice_get (map (λ (i : Instance). i.model) is) k ≡ Some m → k < length rs → r ≡ get_or rs k r →
-    reactions_from limit is now rs k ≡ reaction limit (behaviour_of m) now (component_of limit r) [] ∷ reactions_from limit is now rs
-    (k + 1)
-reactions_from-step limit is now rs k m r e h f =
+pub reactions_from-step :
+    (limit : ℕ) (is : List Instance) (now : ℕ) (rs : List Running) (received : List (List Counts)) (k : ℕ) (m : AtomicTree) (r : Running)
+    (bags : List Counts) →
+    slice_get (map (λ (i : Instance). i.model) is) k ≡ Some m → k < length rs → r ≡ get_or rs k r → k < length received → bags ≡ get_or
+    received k bags →
+    reactions_from limit is now rs received k ≡ reaction limit (behaviour_of m) now (component_of limit r) bags ∷ reactions_from limit is
+    now rs received (k + 1)
+reactions_from-step limit is now rs received k m r bags e h f g is-there =
     reactions-step limit now (behaviours_from k is) (behaviours_from (k + 1) is) (components_from limit k rs)
-    (components_from limit (k + 1) rs) (behaviour_of m) (component_of limit r) (behaviour-step is k m e)
-    (component-step limit rs k r h f)
+    (components_from limit (k + 1) rs) (drop k received) (drop (k + 1) received) (behaviour_of m) (component_of limit r) bags
+    (behaviour-step is k m e) (component-step limit rs k r h f)
+    (drop_more received k bags g ∙ ap (λ (b : List Counts). b ∷ drop (k + 1) received) (sym is-there))
 
 -- lists that are the same from a place on are so at it
 pub same_at : {X : Type 0} (xs ys : List X) (k : ℕ) (d : X) → k < length xs → k < length ys → drop k xs ≡ drop k ys →
@@ -191,27 +199,28 @@ pub rest-turn : (xs ys : List Running) (k : ℕ) (new : Running) → drop (k + 1
     drop (k + 1) (set xs k new) ≡ drop (k + 1) ys
 rest-turn xs ys k new same = drop-set-lt (k + 1) xs k new (omega arith) ∙ same
 
-no_reactions : (limit now : ℕ) (is : List Instance) (rs : List Running) (k : ℕ) → length is ≤ k → reactions_from limit is now rs k ≡ []
-no_reactions limit now is rs k h =
-    ap (λ (js : List Instance). reactions limit (map (λ (i : Instance). behaviour_of i.model) js) now (components_from limit k rs) [])
-    (drop_all k is h)
+no_reactions : (limit now : ℕ) (is : List Instance) (rs : List Running) (received : List (List Counts)) (k : ℕ) → length is ≤ k →
+    reactions_from limit is now rs received k ≡ []
+no_reactions limit now is rs received k h =
+    ap (λ (js : List Instance). reactions limit (map (λ (i : Instance). behaviour_of i.model) js) now (components_from limit k rs)
+    (drop k received)) (drop_all k is h)
 
-pub components-end : (limit now : ℕ) (is : List Instance) (rs xs : List Running) (k : ℕ) (whole : List Component) → length xs ≤ k →
+pub components-end : (limit now : ℕ) (is : List Instance) (rs xs : List Running) (received : List (List Counts)) (k : ℕ) (whole : List Component) → length xs ≤ k →
     length is ≤ k →
-    map (component_of limit) (take k xs) ++ map (λ (r : Reaction). r.component) (reactions_from limit is now rs k) ≡ whole → map
+    map (component_of limit) (take k xs) ++ map (λ (r : Reaction). r.component) (reactions_from limit is now rs received k) ≡ whole → map
     (component_of limit) xs ≡ whole
-components-end limit now is rs xs k whole h g kept =
+components-end limit now is rs xs received k whole h g kept =
     sym (append-nil (map (component_of limit) xs))
     ∙ ap (λ (ys : List Running). map (component_of limit) ys ++ []) (sym (take_all k xs h))
     ∙ ap (λ (qs : List Reaction). map (component_of limit) (take k xs) ++ map (λ (r : Reaction). r.component) qs)
-    (sym (no_reactions limit now is rs k g))
+    (sym (no_reactions limit now is rs received k g))
     ∙ kept
 
-pub entries-end : (limit now : ℕ) (is : List Instance) (rs : List Running) (k : ℕ) (entries whole : List Entry) → length is ≤ k →
-    entries ++ entries_from limit now k (reactions_from limit is now rs k) ≡ whole → entries ≡ whole
-entries-end limit now is rs k entries whole g kept =
+pub entries-end : (limit now : ℕ) (is : List Instance) (rs : List Running) (received : List (List Counts)) (k : ℕ) (entries whole : List Entry) → length is ≤ k →
+    entries ++ entries_from limit now k (reactions_from limit is now rs received k) ≡ whole → entries ≡ whole
+entries-end limit now is rs received k entries whole g kept =
     sym (append-nil entries)
-    ∙ ap (λ (qs : List Reaction). entries ++ entries_from limit now k qs) (sym (no_reactions limit now is rs k g))
+    ∙ ap (λ (qs : List Reaction). entries ++ entries_from limit now k qs) (sym (no_reactions limit now is rs received k g))
     ∙ kept
 
 -- an output from its parts

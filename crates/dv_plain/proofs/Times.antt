@@ -10,7 +10,7 @@ use Rattle.dv_devs.specs.Behaviour.{end_of_hold, rank_or_fault}
 pub tick_of-rank : (limit : ℕ) (t : Time) → IsOfRun limit t → tick_of limit (rank limit t) ≡ t.tick
 tick_of-rank limit t h = div-mul-add t.tick (limit + 1) t.micro (omega arith)
 
-micro_of-rank : (limit : ℕ) (t : Time) → IsOfRun limit t → micro_of limit (rank limit t) ≡ t.micro
+pub micro_of-rank : (limit : ℕ) (t : Time) → IsOfRun limit t → micro_of limit (rank limit t) ≡ t.micro
 micro_of-rank limit t h = mod-mul-add t.tick (limit + 1) t.micro (omega arith)
 
 -- a time of a run is the one at its rank

@@ -1,11 +1,13 @@
 -- The resultant of a text: the network of its components, whose behaviours are the meanings of their rules.
-use Rattle.std.specs.Prelude.{ℕ, true, false, List, [], length, map, option_map, Option, Some, None, Result, Ok, Err}
+use Rattle.std.specs.Prelude.{ℕ, true, false, List, length, map, option_map, Option, Some, None, Result, Ok, Err}
 use Rattle.std.specs.List.{range_with_len}
 use Rattle.dv_time.specs.Time.{end_of}
 use Rattle.dv_syntax.specs.Trees.{AtomicTree, FileTree, Statements}
 use Rattle.dv_syntax.specs.declared.tree.RuleSort.{RuleSort}
 use Rattle.dv_syntax.specs.declared.tree.RuleSort.TheVariants.{Output, Internal, External, Confluent}
 use Rattle.dv_bag.specs.Bag.{Counts}
+use Rattle.dv_bag.specs.Inputs.{inputs_at}
+use Rattle.dv_bag.specs.declared.inputs.Input.{Input}
 use Rattle.dv_devs.specs.Behaviour.{Behaviour, Change, Component, end_of_hold}
 use Rattle.dv_bag.specs.Outcome.{◌>>=◌}
 use Rattle.dv_devs.specs.Network.{Network, trace_before}
@@ -15,7 +17,7 @@ use Rattle.dv_bag.specs.declared.state.State.{State}
 use Rattle.dv_bag.specs.declared.state.Effect.{Effect}
 use Rattle.dv_eval.specs.Scope.{scope_of, start_state, rule_body, rule_of, hold_ticks, phase_name}
 use Rattle.dv_eval.specs.Meaning.{Arrivals, nothing_arrived, effect_of, hold_of}
-use Rattle.dv_tree.specs.Instances.{Instance, instances}
+use Rattle.dv_tree.specs.Instances.{Instance, instances, root_inputs}
 use Rattle.dv_tree.specs.Routing.{arrives, leaves}
 
 -- what a rule leaves: the last goto that ran sets the phase
@@ -58,20 +60,20 @@ first_component s (Err f) = record { state = s; last = 0; next = None; quiet = t
 abbrev pub start_of : ℕ → AtomicTree → Component
 start_of limit m = first_component (start_state m) (hold_end limit (behaviour_of m) 0 (start_state m))
 
--- the network of a text without input ports
+-- the network of a text
 abbrev pub network_of : ℕ → FileTree → Network (List Counts)
 network_of limit f = record {
   numbers = range_with_len 0 (length (instances f));
   behaviours = map (λ (i : Instance). behaviour_of i.model) (instances f);
   start = map (λ (i : Instance). start_of limit i.model) (instances f);
-  arrives = λ sent input. arrives f sent;
+  arrives = arrives f;
   leaves = leaves f;
 }
 
--- nothing comes from outside
-abbrev pub no_input : ℕ → List Counts
-no_input n = []
+-- what comes from outside at each rank
+abbrev pub outside : FileTree → ℕ → List Input → ℕ → List Counts
+outside f limit inputs n = inputs_at limit (length (root_inputs f)) inputs n
 
--- the trace of the resultant of a text without input ports, to a horizon, under a microstep limit
-abbrev pub trace_of : FileTree → (horizon limit : ℕ) → PartOf
-trace_of f horizon limit = trace_before limit (network_of limit f) no_input (end_of limit horizon)
+-- the trace of the resultant of a text with these inputs, to a horizon, under a microstep limit
+abbrev pub trace_of : FileTree → List Input → (horizon limit : ℕ) → PartOf
+trace_of f inputs horizon limit = trace_before limit (network_of limit f) (outside f limit inputs) (end_of limit horizon)

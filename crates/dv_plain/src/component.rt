@@ -1,18 +1,20 @@
 //! One component of a run.
 
-ghost use Rattle.std.specs.Prelude.{◌≡◌, [], IfOk, IsTrue, List, Ok, Some};
+ghost use Rattle.std.specs.Prelude.{◌≡◌, false, not, ◌&&◌, ◌||◌, IfOk, List, Ok, Some};
 ghost use Rattle.dv_syntax.specs.Trees.{atomic_of};
 ghost use Rattle.dv_bag.specs.Bag.{Counts};
-ghost use Rattle.dv_devs.specs.Behaviour.{emission, is_imminent, reaction, reaction_after_output};
-ghost use Rattle.dv_plain.specs.Components.{GivesTransition, GivesWait, IsWaitOfRun, component_of, rank_of};
+ghost use Rattle.dv_eval.specs.Meaning.{AreFew};
+ghost use Rattle.dv_devs.specs.Behaviour.{all_empty, emission, is_imminent, kind_of, next_of, reaction, reaction_after_output, transition_of};
+ghost use Rattle.dv_plain.specs.Components.{GivesTransition, GivesWait, IsWaitOfRun, component_of, is_quiet, next_of_wait, rank_of};
 ghost use Rattle.dv_plain.specs.Source.{behaviour_of, hold_end, start_of};
-ghost use Rattle.dv_plain.specs.Transitions.{next_state};
+ghost use Rattle.dv_plain.specs.Transitions.{GivesAs, IsOfTicks, held_of, hold_of, next_state};
 
 use crate::atom::Atom;
 use crate::instant::Instant;
-use crate::wait::{Wait, wait_from};
-use dv_bag::{Fault, Kind, RuleError, Sent, State, What};
-use dv_eval::start_state;
+use crate::received::{are_empty, are_few};
+use crate::wait::{Hold, Wait, wait_from};
+use dv_bag::{Bags, Fault, Kind, RuleError, Sent, State, What};
+use dv_eval::{Arrivals, start_state};
 use dv_time::Time;
 use std::alloc::{AllocError, Global};
 
@@ -87,8 +89,8 @@ impl Running {
         }
     }
 
-    /// What happens to the component at an instant at which it receives nothing, from what its output function
-    /// gave: the event, if there is one, and what was sent with it.
+    /// What happens to the component at an instant, from what it receives and what its output function gave: the event,
+    /// if there is one, and what was sent with it. One that had a fault swallows what it receives.
     ///
     /// # Errors
     ///
@@ -98,6 +100,7 @@ impl Running {
         alloc: Global,
         instant: &Instant,
         atom: &Atom,
+        received: &Bags,
         emitted: Result<Sent, Fault>,
     ) -> Result<Option<(What, Sent)>, AllocError>
         requires wait { IsWaitOfRun instant.now.limit self.old.wait }
@@ -105,11 +108,11 @@ impl Running {
             (rank_of instant.now) (component_of instant.now.limit self.old) ≡ emitted }
         ensures reaction { IfOk result (λ event.
             reaction instant.now.limit (behaviour_of (atomic_of atom.now.model.now))
-            (rank_of instant.now) (component_of instant.now.limit self.old) []
+            (rank_of instant.now) (component_of instant.now.limit self.old) received.now
             ≡ record { event = event; component = component_of instant.now.limit self.new }) }
         ensures wait { IfOk result (λ event. IsWaitOfRun instant.now.limit self.new.wait) }
     {
-        if !self.is_imminent(instant) {
+        if !self.is_moved(instant, received) {
             return Ok(None);
         }
         match emitted {
@@ -117,31 +120,68 @@ impl Running {
                 self.wait = Wait::Quiet;
                 Ok(Some((What::Fault(fault), Sent::empty(alloc, 0))))
             }
-            Ok(sent) => Ok(Some((self.step(alloc, instant, atom)?, sent))),
+            Ok(sent) => Ok(Some((self.step(alloc, instant, atom, received)?, sent))),
         }
     }
 
-    // The transition of a component that is imminent, or the fault that makes it quiet.
-    fn step(&mut self, alloc: Global, instant: &Instant, atom: &Atom) -> Result<What, AllocError>
-        requires { IsTrue (is_imminent (rank_of instant.now)
-            (component_of instant.now.limit self.old)) }
+    // Whether something happens to the component: it is imminent or receives values, and had no fault.
+    fn is_moved(&self, instant: &Instant, received: &Bags) -> bool
+        requires { IsWaitOfRun instant.now.limit self.now.wait }
+        ensures { result ≡ (not (is_quiet self.now.wait)
+            && (is_imminent (rank_of instant.now) (component_of instant.now.limit self.now)
+            || not (all_empty received.now))) }
+    {
+        match self.wait {
+            Wait::Quiet => false,
+            _ => self.is_imminent(instant) || !are_empty(received),
+        }
+    }
+
+    // Which transition takes place.
+    fn kind(&self, instant: &Instant, received: &Bags) -> Kind
+        requires { IsWaitOfRun instant.now.limit self.now.wait }
+        ensures { result ≡ kind_of (rank_of instant.now)
+            (component_of instant.now.limit self.now) received.now }
+    {
+        if !self.is_imminent(instant) {
+            return Kind::External;
+        }
+        if are_empty(received) {
+            Kind::Internal
+        } else {
+            Kind::Confluent
+        }
+    }
+
+    // What happens to a component that had no fault, where its output function gave none: its transition, or the fault
+    // that makes it quiet.
+    fn step(
+        &mut self,
+        alloc: Global,
+        instant: &Instant,
+        atom: &Atom,
+        received: &Bags,
+    ) -> Result<What, AllocError>
+        requires wait { IsWaitOfRun instant.now.limit self.old.wait }
+        requires loud { is_quiet self.old.wait ≡ false }
         ensures reaction { IfOk result (λ what. (sent : List Counts)
             → reaction_after_output instant.now.limit (behaviour_of (atomic_of atom.now.model.now))
-            (rank_of instant.now) (component_of instant.now.limit self.old) [] (Ok sent)
+            (rank_of instant.now) (component_of instant.now.limit self.old) received.now (Ok sent)
             ≡ record {
               event = Some (what, sent);
               component = component_of instant.now.limit self.new;
             }) }
         ensures wait { IfOk result (λ what. IsWaitOfRun instant.now.limit self.new.wait) }
     {
-        match self.transition(alloc, instant, atom) {
+        let kind = self.kind(instant, received);
+        match self.transition(alloc, instant, atom, received) {
             Ok((state, wait)) => {
                 let entered = state.clone()?;
                 self.state = state;
                 self.last = instant.time.tick;
                 self.wait = wait;
                 Ok(What::Transition {
-                    kind: Kind::Internal,
+                    kind,
                     state: entered,
                 })
             }
@@ -153,23 +193,68 @@ impl Running {
         }
     }
 
-    // The state after the transition of a component that is imminent, and what it waits for then.
+    // The state after the transition, and what the component waits for then. A flood is asked about before the rules.
     fn transition(
         &self,
         alloc: Global,
         instant: &Instant,
         atom: &Atom,
+        received: &Bags,
     ) -> Result<(State, Wait), RuleError>
-        requires { IsTrue (is_imminent (rank_of instant.now)
-            (component_of instant.now.limit self.now)) }
+        requires wait { IsWaitOfRun instant.now.limit self.now.wait }
+        requires loud { is_quiet self.now.wait ≡ false }
         ensures { GivesTransition instant.now.limit result
             (next_state instant.now.limit (behaviour_of (atomic_of atom.now.model.now))
-            (rank_of instant.now) (component_of instant.now.limit self.now) []) }
+            (rank_of instant.now) (component_of instant.now.limit self.now) received.now) }
     {
-        let state = atom.internal(alloc, &self.state)?;
-        match hold_end(instant, atom, &state) {
+        if !are_few(received) {
+            return Err(RuleError::Fault(Fault::Flood));
+        }
+        let (state, hold) = self.change(alloc, instant, atom, received)?;
+        match self.next_wait(instant, hold) {
             Ok(wait) => Ok((state, wait)),
             Err(fault) => Err(RuleError::Fault(fault)),
+        }
+    }
+
+    // The state after the transition, and what becomes of the hold.
+    fn change(
+        &self,
+        alloc: Global,
+        instant: &Instant,
+        atom: &Atom,
+        received: &Bags,
+    ) -> Result<(State, Hold), RuleError>
+        requires wait { IsWaitOfRun instant.now.limit self.now.wait }
+        requires few { AreFew received.now }
+        ensures given { GivesAs held_of result
+            (transition_of instant.now.limit (behaviour_of (atomic_of atom.now.model.now))
+            (rank_of instant.now) (component_of instant.now.limit self.now) received.now) }
+        ensures ticks { IfOk result (λ r. IsOfTicks r.1) }
+    {
+        match self.kind(instant, received) {
+            Kind::Internal => atom.internal_transition(alloc, &self.state),
+            Kind::Confluent => atom.confluent_transition(alloc, received, &self.state),
+            Kind::External => {
+                let elapsed = instant.time.tick.saturating_sub(self.last);
+                let arrivals = Arrivals::new(received, elapsed);
+                atom.external_transition(alloc, &arrivals, &self.state, Hold::Continues)
+            }
+        }
+    }
+
+    // What the component waits for after a transition.
+    fn next_wait(&self, instant: &Instant, hold: Hold) -> Result<Wait, Fault>
+        requires wait { IsWaitOfRun instant.now.limit self.now.wait }
+        requires loud { is_quiet self.now.wait ≡ false }
+        requires ticks { IsOfTicks hold }
+        ensures { GivesWait instant.now.limit result
+            (next_of instant.now.limit (rank_of instant.now)
+            (next_of_wait instant.now.limit self.now.wait) (hold_of hold)) }
+    {
+        match hold {
+            Hold::Continues => Ok(self.wait),
+            Hold::Begins(ticks) => wait_from(instant, ticks),
         }
     }
 }

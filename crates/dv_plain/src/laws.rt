@@ -1,21 +1,22 @@
 //! Laws of the networks of texts. Each function stands for the laws in its contract; its body only names those that
 //! it rests on.
 
-ghost use Rattle.std.specs.Prelude.{ℕ};
+ghost use Rattle.std.specs.Prelude.{ℕ, [], length, replicate};
 ghost use Rattle.dv_syntax.specs.Trees.{FileTree};
 ghost use Rattle.dv_devs.specs.Idle.{BringsNothing, LeavesOnlyWhatIsSent};
 ghost use Rattle.dv_devs.specs.NextTimes.{IsReady};
-ghost use Rattle.dv_plain.specs.Source.{network_of, no_input};
+ghost use Rattle.dv_tree.specs.Instances.{root_inputs};
+ghost use Rattle.dv_plain.specs.Source.{network_of};
 
-use dv_bag::laws::bags;
+use dv_tree::laws::nothing_comes_of_nothing;
 
-/// The network of a text is ready for a run, in which nothing comes from outside, and what leaves it was sent by
-/// a component.
+/// The network of a text is ready for a run. Where nobody sends and nothing comes from outside, nothing arrives. What
+/// leaves was sent by a component.
 pub fn networks_of_texts()
     ensures ready { (limit : ℕ) (f : FileTree) → IsReady (network_of limit f) }
-    ensures inputs { (limit n : ℕ) (f : FileTree)
-        → BringsNothing (network_of limit f) (no_input n) }
+    ensures inputs { (limit : ℕ) (f : FileTree)
+        → BringsNothing (network_of limit f) (replicate (length (root_inputs f)) []) }
     ensures outputs { (limit : ℕ) (f : FileTree) → LeavesOnlyWhatIsSent (network_of limit f) }
 {
-    bags::sizes_add();
+    nothing_comes_of_nothing();
 }

@@ -16,8 +16,17 @@ mod component;
 /// An instant of a run.
 mod instant;
 
+/// What comes in from outside.
+mod input;
+
 /// All components at one instant.
 mod network;
+
+/// What a component receives.
+mod received;
+
+/// The transitions of an atomic model.
+mod transition;
 
 /// When holds run out.
 mod wait;

@@ -3,10 +3,10 @@
 ghost use Rattle.std.specs.Prelude.{◌≡◌, ℕ, ◌≤◌, ◌<◌, [], ◌∷◌, ◌++◌, length, map, slice_index_or, slice_set, vec_len, IfOk, OnOk, None};
 ghost use Rattle.dv_syntax.specs.Trees.{file_of};
 ghost use Rattle.dv_bag.specs.Part.{joined};
-ghost use Rattle.dv_devs.specs.Network.{components_after, entries_by, entry_of, instant as events_of, outer_from, part_of_instant};
+ghost use Rattle.dv_devs.specs.Network.{components_after, entries_by, entry_of, outer_from, part_of_instant};
 ghost use Rattle.dv_tree.specs.Instances.{instances};
 ghost use Rattle.dv_plain.specs.Components.{AreWaitsOfRun, components_of, rank_of};
-ghost use Rattle.dv_plain.specs.Outputs.{fault_of, output_from, outputs_at, sent_of};
+ghost use Rattle.dv_plain.specs.Outputs.{fault_of, output_from, outputs_at, reactions_at, sent_of};
 ghost use Rattle.dv_plain.specs.Source.{network_of};
 
 use crate::atom::Atom;
@@ -15,6 +15,7 @@ use crate::instant::Instant;
 use dv_bag::{Bags, Entry, Fault, Outer, Part, Sent, What};
 use dv_check::GREATEST_NAMES;
 use dv_tree::Tree;
+use dv_tree::laws::each_component_receives;
 use std::alloc::{AllocError, Global};
 use std::mem;
 
@@ -121,30 +122,32 @@ fn react_all(
     alloc: Global,
     tree: &Tree,
     instant: &Instant,
+    received: &[Bags],
     emitted: &mut Outputs,
     components: &mut [Running],
     trace: &mut Part,
 ) -> Result<(), AllocError>
     requires matched { length components.old ≡ length (instances (file_of tree.now.file)) }
     requires waits { AreWaitsOfRun instant.now.limit components.old }
+    requires received { length received.now ≡ length (instances (file_of tree.now.file)) }
     requires sent { emitted.old.sent.items ≡ map sent_of
         (outputs_at instant.now (file_of tree.now.file) components.old) }
     requires faults { emitted.old.faults.items ≡ map fault_of
         (outputs_at instant.now (file_of tree.now.file) components.old) }
     ensures components { OnOk result (components_of instant.now.limit components.new
-        ≡ components_after instant.now.limit (network_of instant.now.limit (file_of tree.now.file))
-        (rank_of instant.now) [] (components_of instant.now.limit components.old)) }
+        ≡ map (λ r. r.component)
+        (reactions_at instant.now (file_of tree.now.file) components.old received.now)) }
     ensures entries { OnOk result (trace.new ≡ record trace.old {
       entries = trace.old.entries ++ entries_by instant.now.limit (rank_of instant.now)
           (network_of instant.now.limit (file_of tree.now.file)).numbers
-          (events_of instant.now.limit (network_of instant.now.limit (file_of tree.now.file))
-          (rank_of instant.now) [] (components_of instant.now.limit components.old));
+          (reactions_at instant.now (file_of tree.now.file) components.old received.now);
     }) }
     ensures waits { OnOk result (AreWaitsOfRun instant.now.limit components.new) }
 {
     for k in 0..tree.component_count() {
         let output = emitted.take(alloc, k)?;
-        let event = components[k].react(alloc, instant, &Atom::of(tree, k), output)?;
+        let atom = Atom::of(tree, k);
+        let event = components[k].react(alloc, instant, &atom, &received[k], output)?;
         push_event(instant, k as u32, event, trace)?;
     }
     Ok(())
@@ -169,15 +172,17 @@ fn leave(instant: &Instant, leaving: &Bags, trace: &mut Part) -> Result<(), Allo
     Ok(())
 }
 
-/// One instant: the imminent components send, what they send leaves, and they change.
+/// One instant, at which these values come from outside: the imminent components send, what they send travels, and
+/// each component reacts.
 ///
 /// # Errors
 ///
-/// No memory for the entries. The components and the trace may have changed.
+/// No memory for what travels or the entries. The components and the trace may have changed.
 pub fn run_instant(
     alloc: Global,
     tree: &Tree,
     instant: &Instant,
+    input: &Bags,
     components: &mut [Running],
     trace: &mut Part,
 ) -> Result<(), AllocError>
@@ -185,15 +190,24 @@ pub fn run_instant(
     requires waits { AreWaitsOfRun instant.now.limit components.old }
     ensures components { OnOk result (components_of instant.now.limit components.new
         ≡ components_after instant.now.limit (network_of instant.now.limit (file_of tree.now.file))
-        (rank_of instant.now) [] (components_of instant.now.limit components.old)) }
+        (rank_of instant.now) input.now (components_of instant.now.limit components.old)) }
     ensures trace { OnOk result (trace.new ≡ joined trace.old
         (part_of_instant instant.now.limit (network_of instant.now.limit (file_of tree.now.file))
-        (rank_of instant.now) [] (components_of instant.now.limit components.old))) }
+        (rank_of instant.now) input.now (components_of instant.now.limit components.old))) }
     ensures waits { OnOk result (AreWaitsOfRun instant.now.limit components.new) }
 {
+    each_component_receives();
     let mut emitted = emit_all(alloc, tree, instant, components)?;
-    let leaving = tree.route(alloc, &emitted.sent)?;
-    react_all(alloc, tree, instant, &mut emitted, components, trace)?;
-    leave(instant, &leaving, trace)?;
+    let routed = tree.route(alloc, &emitted.sent, input)?;
+    react_all(
+        alloc,
+        tree,
+        instant,
+        &routed.received,
+        &mut emitted,
+        components,
+        trace,
+    )?;
+    leave(instant, &routed.leaving, trace)?;
     Ok(())
 }

@@ -1,57 +1,112 @@
 //! The run of a resultant.
 
-ghost use Rattle.std.specs.Prelude.{◌≡◌, ℕ, ◌≤◌, IfOk, Some};
+ghost use Rattle.std.specs.Prelude.{◌≡◌, ℕ, ◌+◌, ◌≤◌, IfOk, Some, length};
 ghost use Rattle.dv_time.specs.Time.{IsOfRun, next_rank, rank};
 ghost use Rattle.dv_syntax.specs.Trees.{file_of};
+ghost use Rattle.dv_bag.specs.Inputs.{inputs_before, tick_at};
+ghost use Rattle.dv_bag.specs.Part.{joined};
 ghost use Rattle.dv_devs.specs.NextTimes.{earlier, least_next};
-ghost use Rattle.dv_plain.specs.Components.{AreWaitsOfRun, IsNextOfRun, IsWaitOfRun, components_of, next_of_wait};
-ghost use Rattle.dv_plain.specs.Source.{network_of, trace_of};
+ghost use Rattle.dv_devs.specs.Network.{components_after, part_of_instant};
+ghost use Rattle.dv_tree.specs.Instances.{instances};
+ghost use Rattle.dv_plain.specs.InputTimes.{inputs_until, start_of_tick};
+ghost use Rattle.dv_plain.specs.Components.{AreWaitsOfRun, IsNextOfRun, IsWaitOfRun, components_of, next_of_wait, rank_of};
+ghost use Rattle.dv_plain.specs.Source.{network_of, outside, trace_of};
 
 use crate::atom::Atom;
 use crate::component::Running;
+use crate::input::{input_at, next_input};
 use crate::instant::Instant;
 use crate::laws::networks_of_texts;
 use crate::network::run_instant;
 use crate::wait::Wait;
-use dv_bag::{Bags, Part, Trace};
+use dv_bag::inputs::laws::{nothing_comes_in_between, places_follow_ticks};
+use dv_bag::{Bags, Inputs, Part, Trace};
 use dv_devs::laws::runs;
 use dv_time::laws::the_end_follows_the_horizon;
 use dv_time::{GREATEST_TICK, Next, Time};
 use dv_tree::Tree;
 use std::alloc::{AllocError, Global};
 
-/// The trace of the resultant of a text without input ports, to a horizon, under a microstep limit. It goes from event
-/// to event, and looks at every component at each.
+/// The trace of the resultant of a text with these inputs, to a horizon, under a microstep limit. Inputs past the
+/// horizon are not played. It goes from event to event and from input to input, and looks at every component at each.
 ///
 /// # Errors
 ///
-/// No memory for the components or the trace.
+/// No memory for the components, what travels or the trace.
 pub fn resultant_run(
     alloc: Global,
     tree: &Tree,
+    inputs: &Inputs,
     horizon: u64,
     limit: u32,
 ) -> Result<Trace, AllocError>
     requires horizon { horizon ≤ GREATEST_TICK }
     requires least_limit { 1 ≤ limit }
     requires greatest_limit { limit ≤ 1_000 }
-    ensures { IfOk result (λ trace. trace ≡ trace_of (file_of tree.now.file) horizon limit) }
+    ensures { IfOk result (λ trace.
+        trace ≡ trace_of (file_of tree.now.file) inputs.now horizon limit) }
 {
     the_end_follows_the_horizon();
     // Between two events nothing happens, and none is missed: these are laws of every network.
     networks_of_texts();
     runs::next_times_rise::<Bags>();
     runs::next_instant_is_the_least_next_time::<Bags>();
+    // Nor does an input come in between, nor is one missed, since ticks never fall.
+    places_follow_ticks();
+    nothing_comes_in_between();
+    let _ = inputs.as_slice();
     let mut components = begin(alloc, tree, limit)?;
     let mut trace = Part::new(alloc);
-    'instants: while let Next::At(now) = next_time(&components) {
+    let mut place = 0;
+    'instants: while let Next::At(now) = next_instant(&components, inputs, place) {
         if now.tick > horizon {
             break;
         }
         let instant = Instant { time: now, limit };
-        run_instant(alloc, tree, &instant, &mut components, &mut trace)?;
+        place = play(
+            alloc,
+            tree,
+            &instant,
+            inputs,
+            place,
+            &mut components,
+            &mut trace,
+        )?;
     }
     Ok(trace)
+}
+
+// One instant, with what comes in then. It gives the place of the first input past it.
+fn play(
+    alloc: Global,
+    tree: &Tree,
+    instant: &Instant,
+    inputs: &Inputs,
+    place: usize,
+    components: &mut [Running],
+    trace: &mut Part,
+) -> Result<usize, AllocError>
+    requires matched { length components.old ≡ length (instances (file_of tree.now.file)) }
+    requires waits { AreWaitsOfRun instant.now.limit components.old }
+    requires place { place ≡ inputs_until inputs.now instant.now.time }
+    ensures components { IfOk result (λ after. components_of instant.now.limit components.new
+        ≡ components_after instant.now.limit (network_of instant.now.limit (file_of tree.now.file))
+        (rank_of instant.now)
+        (outside (file_of tree.now.file) instant.now.limit inputs.now (rank_of instant.now))
+        (components_of instant.now.limit components.old)) }
+    ensures trace { IfOk result (λ after. trace.new ≡ joined trace.old
+        (part_of_instant instant.now.limit (network_of instant.now.limit (file_of tree.now.file))
+        (rank_of instant.now)
+        (outside (file_of tree.now.file) instant.now.limit inputs.now (rank_of instant.now))
+        (components_of instant.now.limit components.old))) }
+    ensures waits { IfOk result (λ after. AreWaitsOfRun instant.now.limit components.new) }
+    ensures after { IfOk result (λ after.
+        after ≡ inputs_before inputs.now (instant.now.time.tick + 1)) }
+{
+    let ports = tree.input_count();
+    let (input, after) = input_at(alloc, inputs, ports, instant.time, place)?;
+    run_instant(alloc, tree, instant, &input, components, trace)?;
+    Ok(after)
 }
 
 // The components at 0.0.
@@ -65,6 +120,21 @@ fn begin(alloc: Global, tree: &Tree, limit: u32) -> Result<Vec<Running>, AllocEr
         components.push(Running::start(alloc, limit, &Atom::of(tree, k))?)?;
     }
     Ok(components)
+}
+
+// The next instant at which anything may happen: the least of the components' next times and that of the input at a
+// place.
+fn next_instant(components: &[Running], inputs: &Inputs, place: usize) -> Next
+    ensures least { (limit : ℕ) → AreWaitsOfRun limit components.now → next_rank limit result
+        ≡ earlier (least_next (components_of limit components.now))
+        (start_of_tick limit (tick_at inputs.now place)) }
+    ensures of_run { (limit : ℕ) → AreWaitsOfRun limit components.now → IsNextOfRun limit result }
+{
+    let next = next_time(components);
+    match next_input(inputs, place) {
+        Next::At(time) => Next::At(earlier(next, time)),
+        Next::Never => next,
+    }
 }
 
 // The least of the components' next times.

@@ -16,6 +16,13 @@ pub enum Wait {
     Quiet,
 }
 
+/// What becomes of a hold at a transition: it goes on as it was, or one of so many ticks begins. `None` is forever.
+#[derive(Clone, Copy, Debug, PartialEq, Eq)]
+pub enum Hold {
+    Continues,
+    Begins(Option<u64>),
+}
+
 /// When a hold of so many ticks that begins at an instant runs out.
 ///
 /// # Errors

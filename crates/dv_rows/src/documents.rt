@@ -1,7 +1,7 @@
 //! The models of the documents: each has the answer that stands beside it.
 
-use crate::runs::{expect_same, run, same_run};
-use dv_explain::{Explanation, FAULTS, REFUSALS};
+use crate::runs::{expect_same, run_with, same_run};
+use dv_explain::{Explanation, FAULTS, INPUT_REFUSALS, REFUSALS};
 use std::process::Abort;
 
 /// Runs the examples, of which there are so many, and fails the test where something else comes of one than its
@@ -15,7 +15,13 @@ fn same_examples<R: Abort + AllocGlobal>(
     let mut seen: usize = 0;
     for explanation in explanations {
         if let Some(example) = &explanation.example {
-            let got = run(rt, example.model, example.horizon, example.limit);
+            let got = run_with(
+                rt,
+                example.model,
+                example.inputs,
+                example.horizon,
+                example.limit,
+            );
             let wanted = format!(in rt.alloc(); "{}{ending}", example.answer).expect(rt, "memory");
             assert_eq!(rt; got.as_str(), wanted.as_str(), "{}", explanation.code);
             seen = seen.saturating_add(1);
@@ -26,7 +32,8 @@ fn same_examples<R: Abort + AllocGlobal>(
 
 #[test]
 fn refusals_are_as_explained(rt: HostRuntime) {
-    same_examples(&rt, REFUSALS, "", 15);
+    same_examples(&rt, REFUSALS, "", 16);
+    same_examples(&rt, INPUT_REFUSALS, "", 4);
 }
 
 #[test]

@@ -7,9 +7,13 @@ mod bags;
 #[cfg(test)]
 mod documents;
 #[cfg(test)]
+mod inputs;
+#[cfg(test)]
 mod limits;
 #[cfg(test)]
 mod models;
+#[cfg(test)]
+mod nested;
 #[cfg(test)]
 mod order;
 #[cfg(test)]

@@ -8,9 +8,6 @@ use std::process::Abort;
 /// What comes of a text of this page that is taken, to the horizon 0.
 const FINE: &str = "whole 0\nstatus 0";
 
-/// What comes of a text with input ports that is taken.
-const NOT_YET: &str = "not yet";
-
 /// A text in which two pieces stand so many times around a third.
 struct Nest {
     before: &'static str,
@@ -249,7 +246,7 @@ fn names_of_one_kind(rt: HostRuntime) {
     same_numbered(&rt, &OUTPUTS, 4_096, FINE);
     same_numbered(&rt, &OUTPUTS, 4_097, "E17 line 1");
     // With the output port these are 4,096 and 4,097.
-    same_numbered(&rt, &INPUTS, 4_095, NOT_YET);
+    same_numbered(&rt, &INPUTS, 4_095, FINE);
     same_numbered(&rt, &INPUTS, 4_096, "E17 line 1");
     same_numbered(&rt, &VARIABLES, 4_096, FINE);
     same_numbered(&rt, &VARIABLES, 4_097, "E17 line 1");
@@ -262,7 +259,7 @@ fn names_of_one_kind(rt: HostRuntime) {
     same_numbered(&rt, &PARTS, 4_097, "E17 line 1");
     same_numbered(&rt, &OUTPUTS_OF_THE_ROOT, 4_096, FINE);
     same_numbered(&rt, &OUTPUTS_OF_THE_ROOT, 4_097, "E17 line 1");
-    same_numbered(&rt, &INPUTS_OF_THE_ROOT, 4_095, NOT_YET);
+    same_numbered(&rt, &INPUTS_OF_THE_ROOT, 4_095, FINE);
     same_numbered(&rt, &INPUTS_OF_THE_ROOT, 4_096, "E17 line 1");
     // With z these are 4,096 and 4,097.
     same_phases(&rt, 4_095, FINE);

@@ -55,3 +55,48 @@ pub const BENCH: &str =
 coupled Top { out o; part b: Bench; link b.rod -> self.o; }
 root Top;
 ";
+
+/// A cell that adds what comes to its number, and sends it every five ticks.
+pub const CELL: &str =
+    "atomic Cell { in x; out y; var v: 0..100 = 0; phases w; start w; hold w: 5; output w { send y v; } internal w { v := v + 1; } external w { v := v + sum(x); } }
+coupled Top { in x; part c: Cell; link self.x -> c.x; }
+root Top;
+";
+
+/// Two clocks that drive a cell.
+pub const CLOCKS_AND_CELL: &str =
+    "atomic Tick { out beat; var n: 0..3 = 0; phases run, stop; start run; hold run: 5; hold stop: forever; output run { send beat n; } internal run { if n = 3 { goto stop; } else { n := n + 1; } } }
+atomic Cell { in x; out y; var v: 0..100 = 0; phases w; start w; hold w: 5; output w { send y v; } internal w { v := v + 1; } external w { v := v + sum(x); } }
+coupled Top { part a: Tick; part b: Tick; part c: Cell; link a.beat -> c.x; link b.beat -> c.x; }
+root Top;
+";
+
+/// A clock in a model whose two outputs lead to one port.
+pub const TWO_WAYS: &str =
+    "atomic Tick { out beat; var n: 0..3 = 0; phases run, stop; start run; hold run: 5; hold stop: forever; output run { send beat n; } internal run { if n = 3 { goto stop; } else { n := n + 1; } } }
+atomic Cell { in x; out y; var v: 0..100 = 0; phases w; start w; hold w: 5; output w { send y v; } internal w { v := v + 1; } external w { v := v + sum(x); } }
+coupled Two { out u; out w; part t: Tick; link t.beat -> self.u; link t.beat -> self.w; }
+coupled Top { part d: Two; part c: Cell; link d.u -> c.x; link d.w -> c.x; }
+root Top;
+";
+
+/// Two components that are idle until something comes, and then drive each other at once.
+pub const IDLE_PAIR: &str =
+    "atomic Idle { in x; out y; phases z, g; start z; hold z: forever; hold g: 0; external z { goto g; } output g { send y 1; } internal g { goto z; } }
+coupled Top { in x; part a: Idle; part b: Idle; link self.x -> a.x; link a.y -> b.x; link b.y -> a.x; }
+root Top;
+";
+
+/// One of them, whose output leaves the model.
+pub const RELAYED: &str =
+    "atomic Idle { in x; out y; phases z, g; start z; hold z: forever; hold g: 0; external z { goto g; } output g { send y 1; } internal g { goto z; } }
+coupled Top { in x; out o; part a: Idle; link self.x -> a.x; link a.y -> self.o; }
+root Top;
+";
+
+/// A bag of two that keeps what comes.
+pub const KEEP: &str =
+    "atomic Keep { in x; bag b 2; phases w; start w; hold w: forever; external w { for v in x { add v to b; } } }
+coupled Top { in x; part k: Keep; link self.x -> k.x; }
+root Top;
+";

@@ -162,12 +162,23 @@ fn neighbours_in_two_models(rt: HostRuntime) {
                 "coupled Top { out o; part a: A; link a.y -> self.o; link a.y -> self.o;\nlink a.y -> a.y; } root Top;",
                 "E14 line 1",
             ),
+            // A repeated link, and a model that contains itself.
+            (
+                "coupled Top { out o; part a: A; link a.y -> self.o; link a.y -> self.o;\npart t: Top; } root Top;",
+                "E14 line 1",
+            ),
+            (
+                "coupled Top { out o; part a: A; part t: Top; link a.y -> self.o;\nlink a.y -> self.o; } root Top;",
+                "E15 line 1",
+            ),
+            // That, and a root that is atomic.
+            ("coupled Top { part t: Top; }\nroot A;", "E15 line 1"),
             // A repeated link, and a root that is atomic.
             (
                 "coupled B { out o; part a: A; link a.y -> self.o; link a.y -> self.o; }\nroot A;",
                 "E14 line 1",
             ),
-            // A root without a part is asked for only where nothing else is refused.
+            // The limits on the whole tree are asked for only where nothing else is refused.
             ("coupled Top { }\nroot A;", "E16 line 2"),
             (
                 "coupled Top { } coupled Top { part b: A; }\nroot Top;",

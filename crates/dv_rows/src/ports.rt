@@ -1,11 +1,10 @@
-//! Rows of input ports, external and confluent rules, and links between parts: what is taken, which is not run yet, and
-//! what is refused.
+//! Rows of input ports, external and confluent rules, and links between parts: what is taken, and what is refused.
 
-use crate::runs::{Frame, rows, same, same_run};
+use crate::runs::{Frame, rows, same};
 use dv_job::{JobError, check_bytes};
 
-/// What comes of a text with input ports that is taken.
-const TAKEN: &str = "not yet";
+/// What comes of a text that is taken, to the horizon 0.
+const TAKEN: &str = "whole 0\nstatus 0";
 
 /// Rows of items of an atomic model with an input port, an output port, a bag and a variable.
 const ITEMS: Frame = Frame {
@@ -75,17 +74,6 @@ fn rules_have_four_sorts(rt: HostRuntime) {
             ("in v;", "E6 line 2"),
             ("in w", "E4 line 2"),
         ],
-    );
-}
-
-#[test]
-fn rules_without_ports_never_run(rt: HostRuntime) {
-    same_run(
-        &rt,
-        "atomic A { var v: 0..9 = 0; phases z; start z; hold z: 2; external z { v := 1 / 0; } confluent z { v := 9; } internal z { v := v + 1; } } coupled Top { part a: A; } root Top;",
-        4,
-        20,
-        "2.0 a i z v=1\n4.0 a i z v=2\nwhole 4\nstatus 0",
     );
 }
 

@@ -159,7 +159,7 @@ fn coupled_models_are_refused(rt: HostRuntime) {
             ("link c.o -> self.p; }\nroot Top;", "E7 line 3"),
             ("link a.q -> self.p; }\nroot Top;", "E7 line 3"),
             ("part b: A; }\nroot Top;", "E6 line 3"),
-            ("part c: Top; }\nroot Top;", "E7 line 3"),
+            ("part c: Top; }\nroot Top;", "E15 line 3"),
             ("out p; }\nroot Top;", "E6 line 3"),
             ("}\nroot Top;", "whole 0\nstatus 0"),
             ("}\nroot Top; root Top;", "E4 line 4"),

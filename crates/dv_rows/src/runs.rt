@@ -21,12 +21,18 @@ macro_rules! same {
 pub(crate) use same;
 
 /// What was printed, and then how the run ended.
-fn run_of(alloc: Global, model: &[u8], horizon: u64, limit: u32) -> Result<String, AllocError> {
+fn run_of(
+    alloc: Global,
+    model: &[u8],
+    inputs: &[u8],
+    horizon: u64,
+    limit: u32,
+) -> Result<String, AllocError> {
     let Some(options) = Options::new(horizon, limit, None, None, 16) else {
         return String::from_str(alloc, "no options");
     };
     let mut printed: Vec<u8> = Vec::new(alloc);
-    let ended = run_plain(alloc, model, &options, &mut printed);
+    let ended = run_plain(alloc, model, inputs, &options, &mut printed);
     run_text(alloc, &printed, &ended)
 }
 
@@ -44,14 +50,32 @@ fn run_text(
     }
 }
 
-/// What comes of a text.
+/// What comes of a text without inputs.
 pub fn run<R: Abort + AllocGlobal>(rt: &R, model: &str, horizon: u64, limit: u32) -> String {
-    run_of(rt.alloc(), model.as_bytes(), horizon, limit).expect(rt, "memory")
+    run_with(rt, model, "", horizon, limit)
+}
+
+/// What comes of a text with the text of its inputs.
+pub fn run_with<R: Abort + AllocGlobal>(
+    rt: &R,
+    model: &str,
+    inputs: &str,
+    horizon: u64,
+    limit: u32,
+) -> String {
+    run_of(
+        rt.alloc(),
+        model.as_bytes(),
+        inputs.as_bytes(),
+        horizon,
+        limit,
+    )
+    .expect(rt, "memory")
 }
 
 /// Runs bytes, and fails the test where something else comes of them than is wanted.
 pub fn same_bytes<R: Abort + AllocGlobal>(rt: &R, model: &[u8], wanted: &str) {
-    let got = run_of(rt.alloc(), model, 0, 20).expect(rt, "memory");
+    let got = run_of(rt.alloc(), model, b"", 0, 20).expect(rt, "memory");
     assert_eq!(rt; got.as_str(), wanted, "a text of {} bytes", model.len());
 }
 
@@ -69,6 +93,20 @@ pub fn same_run<R: Abort + AllocGlobal>(
         wanted,
         "horizon {horizon}, limit {limit}, {model}"
     );
+}
+
+/// Runs a text with each text of inputs, and fails the test where something else comes of it than the row wants.
+pub fn same_with_inputs<R: Abort + AllocGlobal>(
+    rt: &R,
+    model: &str,
+    horizon: u64,
+    limit: u32,
+    rows: &[(&str, &str)],
+) {
+    for (inputs, wanted) in rows {
+        let got = run_with(rt, model, inputs, horizon, limit);
+        assert_eq!(rt; got.as_str(), *wanted, "inputs {inputs:?}, {model}");
+    }
 }
 
 /// What stands around the texts of rows, and how far they run.

@@ -64,7 +64,7 @@ const WHOLE: &[u8; 76] =
 // How a run of the clock to 12 ends.
 fn ended<R: Abort + AllocGlobal, W: Write>(rt: &R, writer: &mut W) -> Result<JobEnded, JobError> {
     let options = Options::new(12, 20, None, None, 16).expect(rt, "options");
-    run_plain(rt.alloc(), CLOCK.as_bytes(), &options, writer)
+    run_plain(rt.alloc(), CLOCK.as_bytes(), &[], &options, writer)
 }
 
 #[test]

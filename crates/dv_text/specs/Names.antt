@@ -2,8 +2,7 @@
 use Rattle.std.specs.Prelude.{ℕ, List, map}
 use Rattle.dv_syntax.specs.Trees.{FileTree, file_of}
 use Rattle.dv_eval.specs.Scope.{scope_of, names_of}
-use Rattle.dv_tree.specs.Instances.{Instance, instances}
-use Rattle.dv_tree.specs.Routing.{root_outputs}
+use Rattle.dv_tree.specs.Instances.{Instance, instances, root_outputs}
 use Rattle.dv_tree.specs.Tables.{Source}
 use Rattle.dv_tree.specs.Paths.{texts_of, with_dots}
 use Rattle.dv_text.specs.Texts.{ComponentNames}

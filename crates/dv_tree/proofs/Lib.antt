@@ -1,6 +1,12 @@
-pub mod Accepted
+pub mod Along
+pub mod Below
 pub mod Gathered
-pub mod Made
-pub mod PlaceLemmas
-pub mod Routes
 pub mod Limits
+pub mod Links
+pub mod Mirrors
+pub mod Named
+pub mod PlaceLemmas
+pub mod Placed
+pub mod Quiet
+pub mod Roots
+pub mod Travel

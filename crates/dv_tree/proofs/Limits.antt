@@ -1,49 +1,62 @@
--- A text that breaks no rule has few components and few outputs.
-use Rattle.std.proofs.Common.{◌≡◌, ℕ, ◌≤◌, List, [], ◌∷◌, length, refl, subst, sym, ◌∙◌, arith}
+-- A text that breaks no rule has few components and few ports.
+use Rattle.std.proofs.Common.{◌≡◌, ◌≤◌, List, [], ◌∷◌, length, refl, subst, sym, ◌∙◌, arith}
 use Rattle.std.specs.Prelude.{Option, Some, None}
-use Rattle.std.proofs.lemmas.List.{length-map, length-replicate, length-set}
-use Rattle.dv_syntax.specs.Trees.{ModelTree, FileTree}
+use Rattle.std.proofs.lemmas.List.{length-map, length-set, length-replicate}
+use Rattle.dv_syntax.specs.Trees.{ModelTree, CoupledTree, FileTree}
 use Rattle.dv_syntax.specs.declared.tree.Name.{Name}
-use Rattle.dv_syntax.specs.declared.tree.Link.{Link}
 use Rattle.dv_bag.specs.Bag.{Counts}
 use Rattle.dv_check.specs.Accepted.{IsAcceptedFile}
-use Rattle.dv_check.specs.declared.limits.TheConstants.{GREATEST_NAMES}
-use Rattle.dv_tree.specs.Instances.{Instance, coupled_model, instances, outputs_in, parts_in, root_links, root_parts, root_ports}
-use Rattle.dv_tree.specs.Routing.{joined_at, carried, exit_of, passed_on, root_outputs, leaves}
-use Rattle.dv_tree.proofs.Accepted.{parts_accepted, length-instances}
+use Rattle.dv_check.specs.Tree.{component_count}
+use Rattle.dv_check.specs.declared.limits.TheConstants.{GREATEST_COMPONENTS, GREATEST_NAMES}
+use Rattle.dv_tree.specs.Instances.{coupled_model, instances, inputs_in, outputs_in, root_inputs, root_outputs, root_of, tree_in}
+use Rattle.dv_tree.specs.Routing.{Arrived, with_values, with_coupling, along, along_all, nothing_at, leaving, leaves, leaves_root}
+use Rattle.dv_tree.specs.declared.couplings.Target.{Target}
+use Rattle.dv_tree.specs.declared.couplings.Target.TheVariants.{Own, OfPart}
+use Rattle.dv_tree.specs.declared.couplings.Coupling.{Coupling}
+use Rattle.dv_tree.proofs.Named.{length-instances_in}
 
-few_parts : (f : FileTree) → IsAcceptedFile f → length (root_parts f) ≤ GREATEST_NAMES
-few_parts f h =
-    let Few : Option ModelTree → Type 0 = λ o. length (parts_in (coupled_model o)) ≤ GREATEST_NAMES in subst Few
-    (sym h.named) h.coupled.few_parts
+few_in_tree : (f : FileTree) → IsAcceptedFile f → component_count (tree_in f.models (root_of f)) ≤ GREATEST_COMPONENTS
+few_in_tree f h =
+    let Few : Option ModelTree → Type 0 = λ o. component_count (tree_in f.models (coupled_model o)) ≤ GREATEST_COMPONENTS in
+    subst Few (sym h.named) h.few_components
 
-few_ports : (f : FileTree) → IsAcceptedFile f → length (root_ports f) ≤ GREATEST_NAMES
-few_ports f h =
-    let Few : Option ModelTree → Type 0 = λ o. length (outputs_in (coupled_model o)) ≤ GREATEST_NAMES in subst Few
-    (sym h.named) (omega (arith, h.coupled.few_ports))
+pub few_components : (f : FileTree) → IsAcceptedFile f → length (instances f) ≤ GREATEST_COMPONENTS
+few_components f h = omega (arith, length-instances_in [] (tree_in f.models (root_of f)), few_in_tree f h)
 
-pub few_components : (f : FileTree) → IsAcceptedFile f → length (instances f) ≤ GREATEST_NAMES
-few_components f h = omega (arith, length-instances f.models (root_parts f) (parts_accepted f h), few_parts f h)
+pub few_inputs : (f : FileTree) → IsAcceptedFile f → length (root_inputs f) ≤ GREATEST_NAMES
+few_inputs f h =
+    let Few : Option ModelTree → Type 0 = λ o. length (inputs_in (coupled_model o)) ≤ GREATEST_NAMES in
+    omega (arith, length-map (inputs_in (root_of f)) (λ (n : Name). n.number), subst Few (sym h.named) (omega (arith, h.coupled.few_ports)))
 
 few_outputs : (f : FileTree) → IsAcceptedFile f → length (root_outputs f) ≤ GREATEST_NAMES
-few_outputs f h = omega (arith, length-map (root_ports f) (λ (n : Name). n.number), few_ports f h)
+few_outputs f h =
+    let Few : Option ModelTree → Type 0 = λ o. length (outputs_in (coupled_model o)) ≤ GREATEST_NAMES in
+    omega (arith, length-map (outputs_in (root_of f)) (λ (n : Name). n.number), subst Few (sym h.named) (omega (arith, h.coupled.few_ports)))
 
-length-joined_at : (port : Option ℕ) (more : Counts) (bags : List Counts) → length (joined_at port more bags) ≡ length bags
-length-joined_at None more bags = refl
-length-joined_at (Some port) more bags = length-set bags port _
+length-with_values : (t : Target) (more : Counts) (a : Arrived) → length (with_values t more a).own ≡ length a.own
+length-with_values (Own port) more a = length-set a.own port _
+length-with_values (OfPart part port) more a = refl
 
-length-passed_on : (ports : List ℕ) (parts : List Instance) (sent : List (List Counts)) (links : List Link) (bags : List Counts) →
-    length (passed_on ports parts sent links bags) ≡ length bags
-length-passed_on ports parts sent [] bags = refl
-length-passed_on ports parts sent (l ∷ links) bags =
-    length-passed_on ports parts sent links
-    (joined_at (exit_of ports l.to.part l.to.port.number) (carried parts sent l.from.part l.from.port.number) bags)
-    ∙ length-joined_at (exit_of ports l.to.part l.to.port.number) (carried parts sent l.from.part l.from.port.number) bags
+length-along : (couplings : List Coupling) (bags : List Counts) (a : Arrived) → length (along couplings bags a).own ≡ length a.own
+length-along [] bags a = refl
+length-along (c ∷ couplings) bags a = length-along couplings bags (with_coupling bags a c) ∙ length-with_values c.target _ a
+
+length-along_all : (couplings : List (List Coupling)) (bags : List (List Counts)) (a : Arrived) →
+    length (along_all couplings bags a).own ≡ length a.own
+length-along_all [] bags a = refl
+length-along_all (cs ∷ couplings) [] a = refl
+length-along_all (cs ∷ couplings) (b ∷ bags) a = length-along_all couplings bags (along cs b a) ∙ length-along cs b a
+
+length-leaves_root : (models : List ModelTree) (root : Option CoupledTree) (sent : List (List Counts)) →
+    length (leaves_root models root sent) ≡ length (outputs_in root)
+length-leaves_root models None sent = refl
+length-leaves_root models (Some m) sent =
+    length-along_all _ (leaving models (tree_in models (Some m)) sent) (nothing_at models m) ∙ length-replicate (length m.outputs) []
 
 -- what leaves has a bag for each output
 pub length-leaves : (f : FileTree) (sent : List (List Counts)) → length (leaves f sent) ≡ length (root_outputs f)
 length-leaves f sent =
-    length-passed_on (root_outputs f) (instances f) sent (root_links f) _ ∙ length-replicate (length (root_outputs f)) []
+    length-leaves_root f.models (root_of f) sent ∙ sym (length-map (outputs_in (root_of f)) (λ (n : Name). n.number))
 
 pub few_leave : (f : FileTree) (sent : List (List Counts)) → IsAcceptedFile f → length (leaves f sent) ≤ GREATEST_NAMES
 few_leave f sent h = omega (arith, length-leaves f sent, few_outputs f h)

@@ -1,7 +1,10 @@
 -- What a reader believes: the components of a file, their paths, and how values travel.
 pub mod Instances
 pub mod Paths
+pub mod Couplings
 pub mod Routing
+-- What the laws speak of.
+pub mod Rows
 -- What serves proofs.
-pub mod Exits
 pub mod Tables
+pub mod Nodes

@@ -1,59 +1,98 @@
--- How values travel along the links of the root: each link carries one copy of every value, so a value arrives once for
+-- How values travel along the links of coupled models: each link carries one copy of every value, so a value arrives once for
 -- every path. (Closure under coupling.)
-use Rattle.std.specs.Prelude.{ℕ, ◌==◌, Bool, false, if◌then◌else◌, List, [], ◌∷◌, map, length, replicate, slice_set, Option, Some, None}
-use Rattle.dv_syntax.specs.Trees.{FileTree}
-use Rattle.dv_syntax.specs.declared.tree.Name.{Name}
-use Rattle.dv_syntax.specs.declared.tree.Link.{Link}
+-- Coupled models are taken level by level: what leaves each part goes along the links of the model around it, to the inputs of
+-- other parts and to the model's own outputs. So it goes up to the root; from there what has come to each model goes down into
+-- its parts.
+use Rattle.std.specs.Prelude.{ℕ, List, [], ◌∷◌, ◌++◌, map, length, replicate, take, drop, fold, slice_set, slice_index_or, Option, Some, None}
+use Rattle.dv_syntax.specs.Trees.{ModelTree, CoupledTree, FileTree}
 use Rattle.dv_bag.specs.Bag.{Counts, bag_at, union}
-use Rattle.dv_eval.specs.Scope.{scope_of, place_of}
-use Rattle.dv_tree.specs.Instances.{Instance, instances, root_links, root_ports}
+use Rattle.dv_check.specs.Tree.{PartTree, NoParts, AtomicPart, CoupledPart, component_count, tree_of}
+use Rattle.dv_tree.specs.Instances.{root_of}
+use Rattle.dv_tree.specs.Couplings.{Shown, shown_parts, couplings_of_inputs, couplings_of_parts}
+use Rattle.dv_tree.specs.declared.couplings.Target.{Target}
+use Rattle.dv_tree.specs.declared.couplings.Target.TheVariants.{Own, OfPart}
+use Rattle.dv_tree.specs.declared.couplings.Coupling.{Coupling}
 
-abbrev pub bag_of_port : Option ℕ → List Counts → Counts
-bag_of_port None bags = []
-bag_of_port (Some port) bags = bag_at bags port
+-- what stands at the ports that the links of a coupled model lead to: at its own outputs, and at the inputs of each part
+pub record Arrived : Type 0 where
+  pub own : List Counts
+  pub parts : List (List Counts)
 
--- a path of one part
-abbrev pub is_part : ℕ → List ℕ → Bool
-is_part number [] = false
-is_part number (n ∷ []) = n == number
-is_part number (n ∷ m ∷ rest) = false
+-- more values at a port; past the last port there is no place for them
+abbrev pub joined_at : ℕ → Counts → List Counts → List Counts
+joined_at port more bags = slice_set bags port (union (bag_at bags port) more)
 
--- what the component of a part of the root sends by a port
-abbrev pub sent_from : ℕ → ℕ → List Instance → List (List Counts) → Counts
-sent_from part port [] sent = []
-sent_from part port (i ∷ rest) [] = []
-sent_from part port (i ∷ rest) (bags ∷ sent) =
-    if is_part part i.path then bag_of_port (place_of port (scope_of i.model).outputs) bags else sent_from part port rest sent
+-- more values at a target
+abbrev pub with_values : Target → Counts → Arrived → Arrived
+with_values (Own port) more a = record { own = joined_at port more a.own; parts = a.parts }
+with_values (OfPart part port) more a =
+    record { own = a.own; parts = slice_set a.parts part (joined_at port more (slice_index_or a.parts part [])) }
 
--- what a link carries: what is sent at its left end
-abbrev pub carried : List Instance → List (List Counts) → Option Name → ℕ → Counts
-carried parts sent None port = []
-carried parts sent (Some part) port = sent_from part.number port parts sent
+-- with what a coupling carries, from the bags at its source
+abbrev pub with_coupling : List Counts → Arrived → Coupling → Arrived
+with_coupling bags a c = with_values c.target (bag_at bags c.port) a
 
--- the place of the root's output at a link's right end
-abbrev pub exit_of : List ℕ → Option Name → ℕ → Option ℕ
-exit_of ports None port = place_of port ports
-exit_of ports (Some part) port = None
+-- one copy of what is at a source for each of its couplings
+abbrev pub along : List Coupling → List Counts → Arrived → Arrived
+along couplings bags a = fold (with_coupling bags) a couplings
 
-abbrev pub joined_at : Option ℕ → Counts → List Counts → List Counts
-joined_at None more bags = bags
-joined_at (Some port) more bags = slice_set bags port (union (bag_at bags port) more)
+-- the same for what leaves each part, in the order of the parts
+abbrev pub along_all : List (List Coupling) → List (List Counts) → Arrived → Arrived
+along_all [] leaving a = a
+along_all (cs ∷ couplings) [] a = a
+along_all (cs ∷ couplings) (bags ∷ leaving) a = along_all couplings leaving (along cs bags a)
 
--- every link adds what it carries
-abbrev pub passed_on : List ℕ → List Instance → List (List Counts) → List Link → List Counts → List Counts
-passed_on ports parts sent [] bags = bags
-passed_on ports parts sent (l ∷ links) bags =
-    passed_on ports parts sent links
-    (joined_at (exit_of ports l.to.part l.to.port.number) (carried parts sent l.from.part l.from.port.number) bags)
+-- no values at any port
+abbrev pub nothing_at : List ModelTree → CoupledTree → Arrived
+nothing_at models m = record {
+  own = replicate (length m.outputs) [];
+  parts = map (λ (s : Shown). replicate (length s.inputs) []) (shown_parts models m);
+}
 
--- the names of the root's output ports
-abbrev pub root_outputs : FileTree → List ℕ
-root_outputs f = map (λ (n : Name). n.number) (root_ports f)
+-- what comes from the parts of a model
+abbrev pub from_parts : List ModelTree → CoupledTree → List (List Counts) → Arrived
+from_parts models m leaving = along_all (couplings_of_parts models m) leaving (nothing_at models m)
+
+-- what comes to the parts of a model: from other parts, and from the model's own inputs
+abbrev pub to_parts : List ModelTree → CoupledTree → List Counts → List (List Counts) → List (List Counts)
+to_parts models m input leaving = (along (couplings_of_inputs models m) input (from_parts models m leaving)).parts
+
+-- the bags of the first part or component
+abbrev pub first_bags : List (List Counts) → List Counts
+first_bags [] = []
+first_bags (bags ∷ rest) = bags
+
+-- what leaves each part, by its output ports, from what the components in the parts send, in order of their numbers
+abbrev pub leaving : List ModelTree → PartTree → List (List Counts) → List (List Counts)
+leaving models NoParts sent = []
+leaving models (AtomicPart name m rest) sent = first_bags sent ∷ leaving models rest (drop 1 sent)
+leaving models (CoupledPart name m inside rest) sent =
+    (from_parts models m (leaving models inside (take (component_count inside) sent))).own
+    ∷ leaving models rest (drop (component_count inside) sent)
+
+-- what each component receives, from what comes to the inputs of each part and what the components send
+abbrev pub arriving : List ModelTree → PartTree → List (List Counts) → List (List Counts) → List (List Counts)
+arriving models NoParts comes sent = []
+arriving models (AtomicPart name m rest) comes sent = first_bags comes ∷ arriving models rest (drop 1 comes) (drop 1 sent)
+arriving models (CoupledPart name m inside rest) comes sent =
+    arriving models inside
+    (to_parts models m (first_bags comes) (leaving models inside (take (component_count inside) sent)))
+    (take (component_count inside) sent)
+    ++ arriving models rest (drop 1 comes) (drop (component_count inside) sent)
+
+abbrev pub leaves_root : List ModelTree → Option CoupledTree → List (List Counts) → List Counts
+leaves_root models None sent = []
+leaves_root models (Some m) sent = (from_parts models m (leaving models (tree_of models m) sent)).own
+
+abbrev pub arrives_in_root : List ModelTree → Option CoupledTree → List (List Counts) → List Counts → List (List Counts)
+arrives_in_root models None sent input = []
+arrives_in_root models (Some m) sent input =
+    arriving models (tree_of models m) (to_parts models m input (leaving models (tree_of models m) sent)) sent
 
 -- what leaves by the root's output ports, from what the components send
 abbrev pub leaves : FileTree → List (List Counts) → List Counts
-leaves f sent = passed_on (root_outputs f) (instances f) sent (root_links f) (replicate (length (root_outputs f)) [])
+leaves f sent = leaves_root f.models (root_of f) sent
 
--- what each component receives: the components of this stage have no input ports
-abbrev pub arrives : FileTree → List (List Counts) → List (List Counts)
-arrives f sent = map (λ (i : Instance). []) (instances f)
+-- what each component receives, from what the components send and what comes to the root's inputs from outside
+abbrev pub arrives : FileTree → List (List Counts) → List Counts → List (List Counts)
+arrives f sent input = arrives_in_root f.models (root_of f) sent input

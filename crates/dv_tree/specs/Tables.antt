@@ -1,15 +1,24 @@
 -- What a tree keeps of a checked text, as tables of numbers.
-use Rattle.std.specs.Prelude.{ℕ, List, map, unwrap_or, refl}
+use Rattle.std.specs.Prelude.{ℕ, List, [], ◌∷◌, ◌++◌, map, length, filter_map, slice_index_or, slice_set, Option, Some, None, option_map, refl}
+use Rattle.std.specs.List.{range_with_len}
 use Rattle.std.specs.Coded.{Coded, code_by, coded×, coded_list, coded_ℕ}
 use Rattle.dv_syntax.specs.contracts.tree.File as file
 use Rattle.dv_syntax.specs.declared.tree.File.{File}
-use Rattle.dv_syntax.specs.Trees.{ModelTree, AtomicModel, CoupledModel, FileTree}
 use Rattle.dv_syntax.specs.declared.tree.Name.{Name}
 use Rattle.dv_syntax.specs.declared.tree.Part.{Part}
+use Rattle.dv_syntax.specs.Trees.{ModelTree, AtomicModel, CoupledModel, CoupledTree, FileTree}
 use Rattle.dv_eval.specs.Scope.{Scope, scope_of, nothing_declared, place_of}
 use Rattle.dv_check.specs.Names.{name_of_model}
-use Rattle.dv_tree.specs.Instances.{root_parts}
-use Rattle.dv_tree.specs.declared.tree.Component.{Component}
+use Rattle.dv_syntax.specs.declared.tree.Link.{Link}
+use Rattle.dv_tree.specs.Instances.{numbers, root_of}
+use Rattle.dv_tree.specs.Couplings.{Shown, shown_parts, place_at, placed_between, own_couplings, part_couplings, couplings_of_inputs, couplings_of_parts}
+use Rattle.dv_tree.specs.declared.couplings.PlacedLink.{PlacedLink}
+use Rattle.dv_tree.specs.declared.couplings.Target.{Target}
+use Rattle.dv_tree.specs.declared.couplings.Target.TheVariants.{Own, OfPart}
+use Rattle.dv_tree.specs.contracts.couplings.Coupling as coupling
+use Rattle.dv_tree.specs.contracts.entries.Entry as entry
+use Rattle.dv_tree.specs.declared.couplings.Coupling.{Coupling}
+use Rattle.dv_tree.specs.declared.entries.Entry.{Entry}
 
 -- a checked file and the texts of its names
 pub record Source : Type 0 where
@@ -22,23 +31,9 @@ source_code =
     code_by (File × List (List ℕ)) (coded× file.the_row.coded (coded_list (coded_list coded_ℕ))) (λ s. (s.file, s.names))
     (λ p. record { file = p.0; names = p.1 }) (λ _. refl)
 
-abbrev pub numbers : List Name → List ℕ
-numbers names = map (λ (n : Name). n.number) names
-
 -- the names of the models, in the order of the text
 abbrev pub model_names : List ModelTree → List ℕ
 model_names models = map (λ m. (name_of_model m).number) models
-
--- the component that a part is, where its model's place is that of its name
-abbrev pub component_by : List ℕ → Part → Component
-component_by models p = record { part = p.name.number; model = unwrap_or (place_of p.model.number models) 0 }
-
--- the components: for each part of the root the place of its model
-abbrev pub component_of : List ModelTree → Part → Component
-component_of models p = component_by (model_names models) p
-
-abbrev pub components_of : FileTree → List Component
-components_of f = map (component_of f.models) (root_parts f)
 
 -- what each model declares; a coupled model declares nothing here
 abbrev pub scope_of_model : ModelTree → Scope
@@ -47,3 +42,92 @@ scope_of_model (CoupledModel m) = nothing_declared
 
 abbrev pub scopes_of : FileTree → List Scope
 scopes_of f = map scope_of_model f.models
+
+-- a part with the place of its model, where that is known
+abbrev pub entry_at : Name → ℕ → Entry
+entry_at name place = record { name = name; model = place }
+
+abbrev pub entry_of : List ℕ → Part → Option Entry
+entry_of models p = option_map (entry_at p.name) (place_of p.model.number models)
+
+abbrev pub entries_of : List ModelTree → CoupledTree → List Entry
+entries_of models m = filter_map (entry_of (model_names models)) m.parts
+
+-- the table of a coupled model: its parts, the number of its outputs, the numbers of the inputs of its parts, its couplings
+pub record LevelTable : Type 0 where
+  pub parts : List Entry
+  pub outputs : ℕ
+  pub inputs : List ℕ
+  pub of_inputs : List Coupling
+  pub of_parts : List (List Coupling)
+
+-- a table is stored as the tuple of its fields
+abbrev pub level_code : Coded LevelTable
+level_code =
+    code_by (List Entry × (ℕ × (List ℕ × (List Coupling × List (List Coupling)))))
+    (coded× (coded_list entry.the_row.coded)
+    (coded× coded_ℕ (coded× (coded_list coded_ℕ) (coded× (coded_list coupling.the_row.coded) (coded_list (coded_list coupling.the_row.coded))))))
+    (λ t. (t.parts, (t.outputs, (t.inputs, (t.of_inputs, t.of_parts)))))
+    (λ p. record { parts = p.0; outputs = p.1.0; inputs = p.1.1.0; of_inputs = p.1.1.1.0; of_parts = p.1.1.1.1 }) (λ _. refl)
+
+abbrev pub level_of : List ModelTree → CoupledTree → LevelTable
+level_of models m = record {
+  parts = entries_of models m;
+  outputs = length m.outputs;
+  inputs = map (λ (s : Shown). length s.inputs) (shown_parts models m);
+  of_inputs = couplings_of_inputs models m;
+  of_parts = couplings_of_parts models m;
+}
+
+-- the tables of the coupled models, by the place of the model
+abbrev pub level_of_model : List ModelTree → ModelTree → Option LevelTable
+level_of_model models (AtomicModel m) = None
+level_of_model models (CoupledModel m) = Some (level_of models m)
+
+abbrev pub levels_of : List ModelTree → List (Option LevelTable)
+levels_of models = map (level_of_model models) models
+
+-- the table of the root
+abbrev pub root_table : FileTree → Option LevelTable
+root_table f = option_map (level_of f.models) (root_of f)
+
+-- a table from the names of the models and of their ports
+abbrev pub entry_names : List Entry → List ℕ
+entry_names entries = map (λ (e : Entry). e.name.number) entries
+
+abbrev pub ports_at : List (List ℕ) → List Entry → List (List ℕ)
+ports_at ports entries = map (λ (e : Entry). slice_index_or ports e.model []) entries
+
+abbrev pub placed_by : List ℕ → List ℕ → List ℕ → List (List ℕ) → List (List ℕ) → Link → Option PlacedLink
+placed_by inputs outputs names part_inputs part_outputs l =
+    placed_between (place_at inputs names part_outputs l.from.part l.from.port.number)
+    (place_at outputs names part_inputs l.to.part l.to.port.number)
+
+abbrev pub links_by : List (List ℕ) → List (List ℕ) → List Entry → CoupledTree → List PlacedLink
+links_by inputs outputs entries m =
+    filter_map (placed_by (numbers m.inputs) (numbers m.outputs) (entry_names entries) (ports_at inputs entries) (ports_at outputs entries)) m.links
+
+abbrev pub level_with : List (List ℕ) → List (List ℕ) → List Entry → CoupledTree → LevelTable
+level_with inputs outputs entries m = record {
+  parts = entries;
+  outputs = length m.outputs;
+  inputs = map length (ports_at inputs entries);
+  of_inputs = own_couplings (links_by inputs outputs entries m);
+  of_parts = map (part_couplings (links_by inputs outputs entries m)) (range_with_len 0 (length entries));
+}
+
+abbrev pub level_by : List ℕ → List (List ℕ) → List (List ℕ) → CoupledTree → LevelTable
+level_by models inputs outputs m = level_with inputs outputs (filter_map (entry_of models) m.parts) m
+
+abbrev pub level_by_model : List ℕ → List (List ℕ) → List (List ℕ) → ModelTree → Option LevelTable
+level_by_model models inputs outputs (AtomicModel m) = None
+level_by_model models inputs outputs (CoupledModel m) = Some (level_by models inputs outputs m)
+
+-- with the coupling that a link is, at its part
+abbrev pub with_coupling_at : Target → Target → List (List Coupling) → List (List Coupling)
+with_coupling_at (Own port) to lists = lists
+with_coupling_at (OfPart part port) to lists =
+    slice_set lists part (slice_index_or lists part [] ++ record { port = port; target = to } ∷ [])
+
+abbrev pub with_link : List (List Coupling) → PlacedLink → List (List Coupling)
+with_link lists l = with_coupling_at l.from l.to lists

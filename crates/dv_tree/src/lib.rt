@@ -1,11 +1,26 @@
 //! The components of a checked text, their paths, and how values travel.
 #![tactic(auto)]
 
+/// What stands at the ports that links lead to.
+mod arrived;
+/// The components by number.
+mod components;
+/// The links of a coupled model as places of ports.
+pub mod couplings;
+/// The parts of a coupled model, with the places of their models.
+mod entries;
+/// Laws of routing.
+pub mod laws;
+/// The tables of coupled models.
+mod levels;
 /// The places of names in a list.
 mod places;
-/// The tables of a tree, made from a file.
+/// How values travel.
+mod routing;
+/// The tables of the models of a file.
 mod tables;
 /// The tree of a checked text.
 pub mod tree;
 
-pub use tree::{Component, Exit, Tree};
+pub use couplings::{Coupling, Target};
+pub use tree::{Routed, Tree};

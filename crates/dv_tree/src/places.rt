@@ -1,6 +1,6 @@
 //! The places of names in a list.
 
-ghost use Rattle.std.specs.Prelude.{◌≡◌, ℕ, IfOk, nat_eq};
+ghost use Rattle.std.specs.Prelude.{◌≡◌, ℕ, IfOk, length, nat_eq};
 ghost use Rattle.std.specs.HashMap.{get};
 ghost use Rattle.dv_eval.specs.Scope.{place_of};
 
@@ -47,12 +47,11 @@ impl Places {
         self.firsts.get(&number).copied()
     }
 
-    /// The names alone.
-    pub(crate) fn into_numbers(self) -> Vec<u32>
-        ensures { result.items ≡ self }
+    /// The number of names.
+    pub(crate) fn len(&self) -> usize
+        ensures { result ≡ length self.now }
     {
-        let Places { numbers, firsts: _ } = self;
-        numbers
+        self.numbers.len()
     }
 }
 

@@ -1,58 +1,56 @@
 //! The tree of a checked text.
 
-ghost use Rattle.std.specs.Prelude.{◌≡◌, ◌<◌, ◌≤◌, length, map, slice_get, Some, IfOk, OnOk};
-ghost use Rattle.dv_syntax.specs.Trees.{atomic_of, file_of};
+ghost use Rattle.std.specs.Prelude.{◌≡◌, ◌<◌, ◌≤◌, length, map, slice_get, string_bytes, Some, IfOk};
+ghost use Rattle.std.specs.Option.{option_copied};
+ghost use Rattle.dv_syntax.specs.Trees.{atomic_of, file_of, model_of};
 ghost use Rattle.dv_eval.specs.Scope.{scope_of};
-ghost use Rattle.dv_tree.specs.Instances.{instances};
+ghost use Rattle.dv_tree.specs.Instances.{instances, root_inputs, root_outputs};
+ghost use Rattle.dv_tree.specs.Nodes.{components_of_root, root_leaving, root_level, root_received};
 ghost use Rattle.dv_tree.specs.Paths.{name_at, texts_of, with_dots};
-ghost use Rattle.dv_tree.specs.Routing.{leaves, root_outputs};
-ghost use Rattle.dv_tree.specs.Exits.{with_exit};
+ghost use Rattle.dv_tree.specs.Routing.{arrives, leaves};
+ghost use Rattle.dv_tree.specs.Tables.{levels_of, model_names, scope_of_model};
 
+use crate::components::{Component, add_components, name_at};
+use crate::levels::{Level, level_at, levels};
 use crate::places::Places;
+use crate::routing::{rise, sink};
 use crate::tables::{
-    components, exits, links_of, model_numbers, numbers, outputs_of, part_numbers, parts_of, root,
-    scopes,
+    self, inputs, model_numbers, numbers, outputs, root_inputs, root_outputs, scopes,
 };
 use dv_bag::{Bags, Sent};
 use dv_check::laws::accepted_files;
-use dv_check::{Checked, GREATEST_NAMES};
+use dv_check::{Checked, GREATEST_COMPONENTS, GREATEST_DEPTH, GREATEST_NAMES};
 use dv_eval::Scope;
+use dv_lex::Names;
 use dv_syntax::{Atomic, Model as ModelItem};
 use std::alloc::{AllocError, Global};
 use std::marker::Model;
 
-/// A component: the part of the root that it is, by the number of the part's name, and the place of its model in
-/// the file.
-#[derive(Clone, Copy, Debug, PartialEq, Eq)]
-pub struct Component {
-    pub part: u32,
-    pub model: usize,
+/// What travels at one instant: what each component receives, and what leaves by the root's output ports.
+#[derive(Drop)]
+pub struct Routed {
+    pub received: Vec<Bags>,
+    pub leaving: Bags,
 }
 
-/// A link that leads out: what the component sends by a port leaves by a port of the root.
-#[derive(Clone, Copy, Debug, PartialEq, Eq)]
-pub struct Exit {
-    pub component: usize,
-    pub port: usize,
-    pub root_port: usize,
-}
-
-/// The components of a checked text by number, and its links.
+/// The components of a checked text by number, and the couplings of its models.
 #[derive(Drop)]
 pub struct Tree<'c> {
     checked: &'c Checked,
-    components: Vec<Component>,
+    levels: Vec<Option<Level>>,
+    root: Option<usize>,
     scopes: Vec<Scope>,
+    components: Vec<Component>,
+    inputs: Vec<u32>,
     outputs: Vec<u32>,
-    exits: Vec<Exit>,
 }
 
 impl<'c> Model for Tree<'c> {
     ghost use Rattle.std.specs.Prelude.{◌≡◌};
     ghost use Rattle.dv_syntax.specs.Trees.{file_of};
-    ghost use Rattle.dv_tree.specs.Exits.{exits_of};
-    ghost use Rattle.dv_tree.specs.Routing.{root_outputs};
-    ghost use Rattle.dv_tree.specs.Tables.{Source, components_of, scopes_of, source_code};
+    ghost use Rattle.dv_tree.specs.Instances.{root_inputs, root_outputs};
+    ghost use Rattle.dv_tree.specs.Nodes.{components_of, root_level};
+    ghost use Rattle.dv_tree.specs.Tables.{Source, levels_of, root_table, scopes_of, source_code};
 
     ghost Value = { Source };
 
@@ -60,7 +58,7 @@ impl<'c> Model for Tree<'c> {
 
     ghost view = { λ t. record { file = t.checked.now.file; names = t.checked.now.names } };
 
-    ghost invariant = { λ t. (t.components.items ≡ components_of (file_of t.checked.now.file)) × (t.scopes.items ≡ scopes_of (file_of t.checked.now.file)) × (t.outputs.items ≡ root_outputs (file_of t.checked.now.file)) × (t.exits.items ≡ exits_of (file_of t.checked.now.file)) };
+    ghost invariant = { λ t. (t.levels.items ≡ levels_of (file_of t.checked.now.file).models) × (root_level t.levels.items t.root ≡ root_table (file_of t.checked.now.file)) × (t.scopes.items ≡ scopes_of (file_of t.checked.now.file)) × (t.components.items ≡ components_of t.checked.now.names (file_of t.checked.now.file)) × (t.inputs.items ≡ root_inputs (file_of t.checked.now.file)) × (t.outputs.items ≡ root_outputs (file_of t.checked.now.file)) };
 }
 
 impl<'c> Tree<'c> {
@@ -74,25 +72,28 @@ impl<'c> Tree<'c> {
     {
         let file = &checked.file;
         let models = Places::of(alloc, model_numbers(alloc, &file.models)?)?;
-        let root = root(file);
-        let components = components(alloc, parts_of(root), &models)?;
         let scopes = scopes(alloc, &file.models)?;
-        let ports = Places::of(alloc, numbers(alloc, outputs_of(root))?)?;
-        let parts = Places::of(alloc, part_numbers(alloc, &components)?)?;
-        let exits = exits(alloc, links_of(root), &ports, &parts, &components, &scopes)?;
+        let levels = tables_of(alloc, &file.models, &models, &scopes)?;
+        let root = models.place(file.root.number);
+        let components = components_of(alloc, &levels, root, &checked.names)?;
+        let coupled = tables::root(file);
+        let inputs = numbers(alloc, root_inputs(coupled))?;
+        let outputs = numbers(alloc, root_outputs(coupled))?;
         Ok(Tree {
             checked,
-            components,
+            levels,
+            root,
             scopes,
-            outputs: ports.into_numbers(),
-            exits,
+            components,
+            inputs,
+            outputs,
         })
     }
 
     /// The number of components.
     pub fn component_count(&self) -> usize
         ensures value { result ≡ length (instances (file_of self.now.file)) }
-        ensures at_most { result ≤ GREATEST_NAMES }
+        ensures at_most { result ≤ GREATEST_COMPONENTS }
     {
         accepted_files();
         self.components.len()
@@ -104,8 +105,7 @@ impl<'c> Tree<'c> {
         ensures { slice_get (map (λ i. i.model) (instances (file_of self.now.file))) component
             ≡ Some (atomic_of result.now) }
     {
-        accepted_files();
-        let place = self.components[component].model;
+        let place = self.components[component].model();
         match &self.checked.file.models[place] {
             ModelItem::Atomic(model) => model,
             ModelItem::Coupled(_) => unreachable!(),
@@ -118,8 +118,8 @@ impl<'c> Tree<'c> {
         ensures { slice_get (map (λ i. scope_of i.model)
             (instances (file_of self.now.file))) component ≡ Some result.now }
     {
-        accepted_files();
-        &self.scopes[self.components[component].model]
+        let place = self.components[component].model();
+        &self.scopes[place]
     }
 
     /// The path of a component: the names of the parts that lead to it, joined by dots.
@@ -128,18 +128,35 @@ impl<'c> Tree<'c> {
         ensures { slice_get (map (λ i. with_dots (texts_of self.now.names i.path))
             (instances (file_of self.now.file))) component ≡ Some result.now }
     {
-        accepted_files();
-        self.name(self.components[component].part)
+        self.components[component].path()
     }
 
     /// The name of a number, and the empty text where there is none.
     pub fn name(&self, number: u32) -> &str
         ensures { result.now ≡ name_at self.now.names number }
     {
-        match self.checked.names.text(number) {
-            Some(text) => text,
-            None => "",
-        }
+        name_at(&self.checked.names, number)
+    }
+
+    /// The number of input ports of the root.
+    pub fn input_count(&self) -> usize
+        ensures { result ≡ length (root_inputs (file_of self.now.file)) }
+    {
+        self.inputs.len()
+    }
+
+    /// The names of the root's input ports.
+    ///
+    /// # Errors
+    ///
+    /// No memory for the names.
+    pub fn input_names(&self, alloc: Global) -> Result<Vec<String>, AllocError>
+        ensures names { IfOk result (λ names. map string_bytes names.items
+            ≡ texts_of self.now.names (root_inputs (file_of self.now.file))) }
+        ensures few { IfOk result (λ names. length names.items ≤ GREATEST_NAMES) }
+    {
+        accepted_files();
+        texts_of(alloc, &self.inputs, &self.checked.names)
     }
 
     /// The number of output ports of the root.
@@ -158,34 +175,119 @@ impl<'c> Tree<'c> {
         self.name(self.outputs[port])
     }
 
-    /// What leaves by the root's output ports, from what each component sends.
+    /// What each component receives, and what leaves by the root's output ports, from what each component sends and
+    /// what comes to the root's input ports.
     ///
     /// # Errors
     ///
     /// No memory for the values.
-    pub fn route(&self, alloc: Global, sent: &[Sent]) -> Result<Bags, AllocError>
-        requires { length sent.now ≡ length (instances (file_of self.now.file)) }
-        ensures value { IfOk result (λ bags. bags ≡ leaves (file_of self.now.file) sent.now) }
-        ensures at_most { IfOk result (λ bags. length bags ≤ GREATEST_NAMES) }
+    pub fn route(&self, alloc: Global, sent: &[Sent], input: &Bags) -> Result<Routed, AllocError>
+        ensures received { IfOk result (λ routed. routed.received.items
+            ≡ arrives (file_of self.now.file) sent.now input.now) }
+        ensures leaving { IfOk result (λ routed. routed.leaving
+            ≡ leaves (file_of self.now.file) sent.now) }
+        ensures at_most { IfOk result (λ routed. length routed.leaving ≤ GREATEST_NAMES) }
     {
         accepted_files();
-        let mut bags = Bags::empty(alloc, self.output_count())?;
-        for exit in &self.exits {
-            join(&mut bags, exit, sent)?;
-        }
-        Ok(bags)
+        route(
+            alloc,
+            root_level(&self.levels, self.root),
+            &self.levels,
+            sent,
+            input,
+        )
     }
 }
 
-// What a component sends by a port leaves by a port of the root.
-fn join(bags: &mut Bags, exit: &Exit, sent: &[Sent]) -> Result<(), AllocError>
-    ensures { OnOk result (bags.new ≡ with_exit sent.now bags.old exit.now) }
+/// The tables of the coupled models of a file, from what its models declare.
+fn tables_of(
+    alloc: Global,
+    items: &[ModelItem],
+    models: &Places,
+    scopes: &[Scope],
+) -> Result<Vec<Option<Level>>, AllocError>
+    requires names { models.now ≡ model_names (map model_of items.now) }
+    requires scopes { scopes.now ≡ map scope_of_model (map model_of items.now) }
+    ensures { IfOk result (λ levels. levels.items ≡ levels_of (map model_of items.now)) }
 {
-    let Some(outputs) = sent.get(exit.component) else {
-        return Ok(());
-    };
-    if exit.root_port < bags.len() {
-        bags.union_sent(exit.root_port, outputs, exit.port)?;
+    let inputs = inputs(alloc, items, scopes)?;
+    let outputs = outputs(alloc, items, scopes)?;
+    levels(alloc, items, models, &inputs, &outputs)
+}
+
+// The table of the root, where that is a coupled model.
+fn root_level(levels: &[Option<Level>], root: Option<usize>) -> Option<&Level>
+    ensures { option_copied result ≡ root_level levels.now root }
+{
+    level_at(levels, root?)
+}
+
+// The components inside the root.
+fn components_of(
+    alloc: Global,
+    levels: &[Option<Level>],
+    root: Option<usize>,
+    names: &Names,
+) -> Result<Vec<Component>, AllocError>
+    ensures { IfOk result (λ components. components.items
+        ≡ components_of_root names.now levels.now (root_level levels.now root)) }
+{
+    let mut components = Vec::new(alloc);
+    if let Some(level) = root_level(levels, root) {
+        add_components(
+            alloc,
+            GREATEST_DEPTH,
+            level,
+            levels,
+            names,
+            "",
+            &mut components,
+        )?;
     }
-    Ok(())
+    Ok(components)
+}
+
+// What travels below the root, and what leaves by its output ports.
+fn route(
+    alloc: Global,
+    root: Option<&Level>,
+    levels: &[Option<Level>],
+    sent: &[Sent],
+    input: &Bags,
+) -> Result<Routed, AllocError>
+    ensures received { IfOk result (λ routed. routed.received.items
+        ≡ root_received levels.now (option_copied root.entry) sent.now input.now) }
+    ensures leaving { IfOk result (λ routed. routed.leaving
+        ≡ root_leaving levels.now (option_copied root.entry) sent.now) }
+{
+    let mut received = Vec::new(alloc);
+    let Some(level) = root else {
+        let leaving = Bags::empty(alloc, 0)?;
+        return Ok(Routed { received, leaving });
+    };
+    let mut kept = Vec::new(alloc);
+    rise(alloc, GREATEST_DEPTH, level, levels, sent, &mut kept)?;
+    let leaving = kept[0].own().clone()?;
+    let mut kept = kept.into_iter();
+    sink(
+        alloc,
+        GREATEST_DEPTH,
+        level,
+        levels,
+        input,
+        &mut kept,
+        &mut received,
+    )?;
+    Ok(Routed { received, leaving })
+}
+
+fn texts_of(alloc: Global, numbers: &[u32], names: &Names) -> Result<Vec<String>, AllocError>
+    ensures { IfOk result (λ texts. map string_bytes texts.items
+        ≡ texts_of names.now numbers.now) }
+{
+    let mut texts = Vec::with_capacity(alloc, numbers.len())?;
+    for number in numbers {
+        texts.push(String::from_str(alloc, name_at(names, *number))?)?;
+    }
+    Ok(texts)
 }

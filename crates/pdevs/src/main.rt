@@ -63,12 +63,13 @@ fn bytes_of<R: AllocGlobal + Files + Eprint>(rt: &R, name: &str) -> io::Result<O
 fn tell<R: AllocGlobal + Eprint>(
     rt: &R,
     model: &[u8],
+    inputs: &[u8],
     error: &JobError,
     is_explained: bool,
 ) -> io::Result<()> {
     eprintln!(rt; "{}", line(rt.alloc(), error)?)?;
     if is_explained {
-        eprint!(rt; "{}", explained(rt.alloc(), model, error)?)?;
+        eprint!(rt; "{}", explained(rt.alloc(), model, inputs, error)?)?;
     }
     Ok(())
 }
@@ -84,15 +85,26 @@ fn check_model<R: AllocGlobal + Files + Print + Eprint>(rt: &R, check: &Check) -
             Ok(ACCEPTED)
         }
         Err(error) => {
-            tell(rt, &model, &error, check.explained)?;
+            tell(rt, &model, &[], &error, check.explained)?;
             Ok(REFUSED)
         }
     }
 }
 
-/// Runs what was asked for, and answers the status.
+/// The bytes of the inputs' file; none where no file is given. Where it cannot be read, that is told.
+fn inputs_of<R: AllocGlobal + Files + Eprint>(rt: &R, run: &Run) -> io::Result<Option<Vec<u8>>> {
+    match &run.inputs {
+        Some(name) => bytes_of(rt, name.as_str()),
+        None => Ok(Some(Vec::new(rt.alloc()))),
+    }
+}
+
+/// Runs what was asked for, and answers the status. Files are read in the order model, inputs.
 fn run_model<R: AllocGlobal + Files + Print + Eprint>(rt: &R, run: &Run) -> io::Result<u8> {
     let Some(model) = bytes_of(rt, run.model.as_str())? else {
+        return Ok(REFUSED);
+    };
+    let Some(inputs) = inputs_of(rt, run)? else {
         return Ok(REFUSED);
     };
     let limit = run.microsteps.unwrap_or(USUAL_LIMIT);
@@ -100,12 +112,12 @@ fn run_model<R: AllocGlobal + Files + Print + Eprint>(rt: &R, run: &Run) -> io::
         return Ok(USAGE);
     };
     let mut writer = io::writer(rt);
-    let mut result = run_plain(rt.alloc(), &model, &options, &mut writer);
+    let mut result = run_plain(rt.alloc(), &model, &inputs, &options, &mut writer);
     if writer.flush().is_err() {
         result = Err(JobError::Write);
     }
     if let Err(error) = &result {
-        tell(rt, &model, error, run.explained)?;
+        tell(rt, &model, &inputs, error, run.explained)?;
     }
     Ok(status(&result))
 }

@@ -3,7 +3,7 @@
 ghost use Rattle.std.specs.Prelude.{◌≡◌};
 ghost use Rattle.pdevs.specs.Status.{status_of};
 
-use dv_explain::{Example, Explanation, excerpt, explanation_of};
+use dv_explain::{Example, Explanation, excerpt, excerpt_of_line, explanation_of};
 use dv_job::{JobEnded, JobError};
 use std::alloc::{AllocError, Global};
 
@@ -23,14 +23,32 @@ pub fn line(alloc: Global, error: &JobError) -> Result<String, AllocError> {
     format!(in alloc; "pdevs: {error}")
 }
 
-/// What an error means, with the line of the model at which it was found. Nothing where the model is not at fault.
-pub fn explained(alloc: Global, model: &[u8], error: &JobError) -> Result<String, AllocError> {
-    let JobError::Text(refusal) = error else {
-        return Ok(String::new(alloc));
-    };
-    let shown = excerpt(alloc, model, refusal.line, refusal.place as usize)?;
-    let code = format!(in alloc; "{}", refusal.number)?;
-    match explanation_of(code.as_str()) {
+/// What an error means, with the line of the model or of the inputs at which it was found. Nothing where neither is at
+/// fault.
+pub fn explained(
+    alloc: Global,
+    model: &[u8],
+    inputs: &[u8],
+    error: &JobError,
+) -> Result<String, AllocError> {
+    match error {
+        JobError::Text(refusal) => {
+            let shown = excerpt(alloc, model, refusal.line, refusal.place as usize)?;
+            let code = format!(in alloc; "{}", refusal.number)?;
+            with_words(alloc, shown, code.as_str())
+        }
+        JobError::Inputs(refusal) => {
+            let shown = excerpt_of_line(alloc, inputs, refusal.line)?;
+            let code = format!(in alloc; "{}", refusal.number)?;
+            with_words(alloc, shown, code.as_str())
+        }
+        JobError::Write | JobError::Memory => Ok(String::new(alloc)),
+    }
+}
+
+/// What is shown, and the words of a code behind it.
+fn with_words(alloc: Global, shown: String, code: &str) -> Result<String, AllocError> {
+    match explanation_of(code) {
         Some(explanation) => format!(in alloc; "{shown}{}\n", explanation.words),
         None => Ok(shown),
     }
@@ -45,10 +63,14 @@ pub fn explanation_text(alloc: Global, explanation: &Explanation) -> Result<Stri
     }
 }
 
-/// An example behind other words: the model, and what comes of it.
+/// An example behind other words: the model with its inputs, and what comes of it.
 fn example_text(alloc: Global, words: &str, example: &Example) -> Result<String, AllocError> {
     let mut text = format!(in alloc; "{words}\n")?;
     push_indented(&mut text, example.model)?;
+    if !example.inputs.is_empty() {
+        text.push_str("\nwith the inputs\n\n")?;
+        push_indented(&mut text, example.inputs)?;
+    }
     text.push_str("\nis answered\n\n")?;
     push_indented(&mut text, example.answer)?;
     Ok(text)

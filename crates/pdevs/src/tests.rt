@@ -3,6 +3,7 @@
 use crate::report::{explained, explanation_text, line, status};
 use dv_command::{Request, RequestError, Run, request_of};
 use dv_explain::{Example, Explanation};
+use dv_inputs::{InputRefusal, InputRefusalNumber};
 use dv_job::{JobEnded, JobError, Options, check_bytes, run_plain};
 use std::alloc::{AllocError, Global};
 use std::fmt::Debug;
@@ -23,13 +24,17 @@ fn command_line(alloc: Global, words: &[&str]) -> Result<Vec<String>, AllocError
     Ok(all)
 }
 
-// Model, horizon and microstep limit.
+// Model, horizon, microstep limit and inputs.
 fn run_text(alloc: Global, run: &Run) -> Result<String, AllocError> {
     let way = if run.explained { "explained " } else { "" };
-    match run.microsteps {
-        None => format!(in alloc; "{way}{} {}", run.model, run.horizon),
-        Some(limit) => format!(in alloc; "{way}{} {} {limit}", run.model, run.horizon),
+    let mut text = format!(in alloc; "{way}{} {}", run.model, run.horizon)?;
+    if let Some(limit) = run.microsteps {
+        write!(text, " {limit}")?;
     }
+    if let Some(inputs) = &run.inputs {
+        write!(text, " with {inputs}")?;
+    }
+    Ok(text)
 }
 
 // What is asked for: a check, a run, or usage.
@@ -99,6 +104,14 @@ fn a_run_is_asked_for(rt: HostRuntime) {
                 &["run", "m.pd", "--horizon", "000", "--microsteps", "01"],
                 "m.pd 0 1",
             ),
+            (
+                &["run", "m.pd", "--inputs", "i.txt", "--horizon", "5"],
+                "m.pd 5 with i.txt",
+            ),
+            (
+                &["run", "--inputs=i.txt", "--horizon=5", "m.pd", "--microsteps=3"],
+                "m.pd 5 3 with i.txt",
+            ),
             (&["run", "--horizon", "5", "--", "-m"], "-m 5"),
             (&["run", "-", "--horizon", "5"], "- 5"),
             (
@@ -115,6 +128,7 @@ fn an_explanation_is_asked_for(rt: HostRuntime) {
         &rt,
         &[
             (&["explain", "E7"], "explain E7"),
+            (&["explain", "I2"], "explain I2"),
             (&["explain", "overflow"], "explain overflow"),
             (&["explain", "e7"], "usage"),
             (&["explain", "E19"], "usage"),
@@ -144,6 +158,8 @@ fn other_words_are_usage(rt: HostRuntime) {
             ),
             (&["run", "m.pd", "--horizon", "5", "--speed", "5"], "usage"),
             (&["run", "m.pd", "--hor", "5"], "usage"),
+            (&["run", "m.pd", "--horizon", "5", "--inputs"], "usage"),
+            (&["check", "m.pd", "--inputs", "i.txt"], "usage"),
             (&["run", "m.pd", "--horizon", "1000000000001"], "usage"),
             (&["run", "m.pd", "--horizon", "+5"], "usage"),
             (&["run", "m.pd", "--horizon", "-5"], "usage"),
@@ -180,7 +196,7 @@ fn endings_have_statuses_and_lines(rt: HostRuntime) {
 fn a_refusal_is_reported_with_its_line(rt: HostRuntime) {
     let options = Options::new(5, 20, None, None, 16).expect(&rt, "options");
     let mut written = Vec::new(rt.alloc());
-    let outcome = run_plain(rt.alloc(), b"root Top;\n?", &options, &mut written);
+    let outcome = run_plain(rt.alloc(), b"root Top;\n?", b"", &options, &mut written);
     expect_same(&rt, "what was written", written.as_slice(), [].as_slice());
     expect_same(&rt, "a refusal", status(&outcome), 1);
     match &outcome {
@@ -192,7 +208,7 @@ fn a_refusal_is_reported_with_its_line(rt: HostRuntime) {
 // What is told beside the line of a text's answer.
 fn same_explained<R: Abort + AllocGlobal>(rt: &R, model: &str, wanted: &str) {
     let error = check_bytes(rt.alloc(), model.as_bytes()).expect_err(rt, "the text is taken");
-    let got = explained(rt.alloc(), model.as_bytes(), &error).expect(rt, "memory");
+    let got = explained(rt.alloc(), model.as_bytes(), b"", &error).expect(rt, "memory");
     expect_same(rt, model, got.as_str().starts_with(wanted), true);
 }
 
@@ -211,6 +227,20 @@ fn a_refusal_is_explained_where_it_stands(rt: HostRuntime) {
     );
 }
 
+// What is told beside the line of an answer to inputs.
+#[test]
+fn a_refusal_of_inputs_is_explained(rt: HostRuntime) {
+    let refusal = InputRefusal {
+        number: InputRefusalNumber::I2,
+        line: 2,
+    };
+    let error = JobError::Inputs(refusal);
+    same_line(&rt, &error, "pdevs: I2 line 2");
+    let got = explained(rt.alloc(), b"", b"5 x 1\n6 z 1\n", &error).expect(&rt, "memory");
+    let wanted = "2 | 6 z 1\n  | ^\nThe root has no input port of this name. ";
+    expect_same(&rt, "inputs", got.as_str().starts_with(wanted), true);
+}
+
 #[test]
 fn an_explanation_has_an_example(rt: HostRuntime) {
     let explanation = Explanation {
@@ -218,6 +248,7 @@ fn an_explanation_has_an_example(rt: HostRuntime) {
         words: "Words.",
         example: Some(Example {
             model: "a\nb\n",
+            inputs: "",
             horizon: 0,
             limit: 20,
             answer: "E0 line 1",
@@ -225,5 +256,24 @@ fn an_explanation_has_an_example(rt: HostRuntime) {
     };
     let got = explanation_text(rt.alloc(), &explanation).expect(&rt, "memory");
     let wanted = "E0: Words.\n\n    a\n    b\n\nis answered\n\n    E0 line 1\n";
+    expect_same(&rt, "an explanation", got.as_str(), wanted);
+}
+
+#[test]
+fn an_example_has_inputs(rt: HostRuntime) {
+    let explanation = Explanation {
+        code: "I0",
+        words: "Words.",
+        example: Some(Example {
+            model: "a\n",
+            inputs: "5 x 1\n",
+            horizon: 0,
+            limit: 20,
+            answer: "I0 line 1",
+        }),
+    };
+    let got = explanation_text(rt.alloc(), &explanation).expect(&rt, "memory");
+    let wanted =
+        "I0: Words.\n\n    a\n\nwith the inputs\n\n    5 x 1\n\nis answered\n\n    I0 line 1\n";
     expect_same(&rt, "an explanation", got.as_str(), wanted);
 }

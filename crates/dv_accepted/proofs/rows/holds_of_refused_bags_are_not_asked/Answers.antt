@@ -4,13 +4,14 @@ use Rattle.dv_check.specs.Tables.{first_of}
 use Rattle.dv_check.specs.LinkSets.{no_link, with_link}
 use Rattle.dv_check.specs.Models.{faces_in}
 use Rattle.dv_check.specs.Rules.{is_start_known}
+use Rattle.dv_check.specs.Cycles.{containment, cycle_refusals, position_of}
 use Rattle.dv_check.specs.Couplings.{parts_in}
 use Rattle.dv_accepted.proofs.rows.holds_of_refused_bags_are_not_asked.Goals as goal
 
 pub returns-clause-asked : goal.returns-clause-asked
-unfolding among excess_past within_limit no_number with_number first_of is_start_known no_link with_link faces_in parts_in
+unfolding among excess_past within_limit no_number with_number first_of is_start_known no_link with_link faces_in parts_in containment cycle_refusals position_of
 returns-clause-asked c = refl
 
 pub returns-clause-not_asked : goal.returns-clause-not_asked
-unfolding among excess_past within_limit no_number with_number first_of is_start_known no_link with_link faces_in parts_in
+unfolding among excess_past within_limit no_number with_number first_of is_start_known no_link with_link faces_in parts_in containment cycle_refusals position_of
 returns-clause-not_asked c = refl

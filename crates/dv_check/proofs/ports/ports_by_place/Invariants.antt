@@ -1,5 +1,5 @@
 use Rattle.std.proofs.Common.{◌≡◌, ◌++◌, drop}
-use Rattle.dv_check.specs.Couplings.{ports_by_place}
+use Rattle.dv_check.specs.Ports.{ports_by_place}
 use Rattle.dv_check.proofs.ports.ports_by_place.Given as goal
 
 abbrev pub invariant-loop-input : goal.invariant-loop-input

@@ -1,6 +1,6 @@
 use Rattle.std.proofs.Common.{◌≡◌, ◌++◌, map, drop}
 use Rattle.dv_syntax.specs.declared.tree.Declaration.TheVariants.{Out}
-use Rattle.dv_check.specs.Couplings.{names_before, names_from}
+use Rattle.dv_check.specs.Ports.{names_before, names_from}
 use Rattle.dv_check.proofs.ports.push_before.Given as goal
 
 abbrev pub invariant-loop-index : goal.invariant-loop-index

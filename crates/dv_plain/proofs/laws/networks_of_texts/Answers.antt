@@ -6,7 +6,7 @@ pub returns-clause-ready : goal.returns-clause-ready
 returns-clause-ready c = ready
 
 pub returns-clause-inputs : goal.returns-clause-inputs
-returns-clause-inputs c = nothing_arrives
+returns-clause-inputs c = nothing_arrives c.nothing_comes_of_nothing.ensures.arrives
 
 pub returns-clause-outputs : goal.returns-clause-outputs
-returns-clause-outputs c = nothing_leaves c.sizes_add.ensures.size
+returns-clause-outputs c = nothing_leaves c.nothing_comes_of_nothing.ensures.leaves

@@ -4,14 +4,13 @@ use Rattle.dv_syntax.specs.Trees.{atomic_of, file_of}
 use Rattle.dv_devs.specs.Behaviour.{Reaction, reaction}
 use Rattle.dv_bag.specs.Bag.{Counts}
 use Rattle.dv_bag.specs.declared.fault.Fault.{Fault}
-use Rattle.dv_devs.specs.Network.{emissions, entries_by, entry_of, instant}
+use Rattle.dv_devs.specs.Network.{entries_by, entry_of}
 use Rattle.dv_bag.specs.Part.{PartOf}
 use Rattle.dv_bag.specs.declared.entry.Entry.{Entry}
 use Rattle.dv_tree.specs.Instances.{Instance, instances}
 use Rattle.dv_plain.specs.Outputs.{fault_of, output_from, sent_of}
 use Rattle.dv_plain.specs.Components.{component_of, rank_of}
 use Rattle.dv_plain.specs.Source.{behaviour_of, network_of}
-use Rattle.dv_plain.proofs.Reactions.{instant-alone}
 use Rattle.dv_plain.proofs.Steps.{entries-counted, entries_from, reactions-short, components-end, components-turn, entries-end, entries-turn, length-outputs, reactions_from, reactions_from-step, rest-turn, same_at, same_behind, same_from_drop, output-at, outputs_from, waits-turn}
 use Rattle.dv_plain.proofs.network.react_all.Goals as goal
 
@@ -64,7 +63,7 @@ react-requires-clause-emitted c =
     (same_at c.loop-k.emitted.sent.items sent k []
     (left-length c.loop-k.emitted.sent.items sent k within_sent c.loop-k.invariant.sent) within_sent c.loop-k.invariant.sent) in
     output-at limit is now first k
-    (atomic_of c.of.result.model.now) r sent faults c.in_ok-output.output c.of.ensures within_first same.0 c.requires.sent c.requires.faults given
+    (atomic_of c.of-atom.result.model.now) r sent faults c.in_ok-output.output c.of-atom.ensures within_first same.0 c.requires.sent c.requires.faults given
 
 pub loop-k-preserved : goal.loop-k-preserved
 loop-k-preserved c =
@@ -80,24 +79,28 @@ loop-k-preserved c =
     let same =
     same_from_drop xs first k r within within_first c.loop-k.invariant.rest
     (get_or_default xs k c.index-components-k.result r within) in
-    let step = reactions_from-step limit is now first k (atomic_of c.of.result.model.now) r c.of.ensures within_first same.0 in
+    let received = c.args.received.now in
+    let within_received : k < length received = omega (arith, c.requires.received, c.component_count-k-end.ensures.value) in
+    let step =
+    reactions_from-step limit is now first received k
+    (atomic_of c.of-atom.result.model.now) r c.index-received-k.result c.of-atom.ensures within_first same.0 within_received c.index-received-k.is in
     let sent = c.args.emitted.now.sent.items in
     let gave = outputs_from limit is now first 0 in
     let within_sent : k < length sent =
     omega (arith, ap length c.requires.sent, length-map gave sent_of, length-outputs limit is now first c.requires.matched, c.component_count-k-end.ensures.value) in
     let left = c.loop-k.emitted.sent.items in
-    let happened = reaction limit (behaviour_of (atomic_of c.of.result.model.now)) now (component_of limit r) [] in
+    let happened = reaction limit (behaviour_of (atomic_of c.of-atom.result.model.now)) now (component_of limit r) c.index-received-k.result in
     record {
       waits = waits-turn limit xs k c.react.new.self c.loop-k.invariant.waits c.in_ok-event.ensures.wait;
       rest = rest-turn xs first k c.react.new.self same.1;
       components =
-          components-turn limit xs k c.react.new.self happened (reactions_from limit is now first k)
-          (reactions_from limit is now first (k + 1)) (map (λ (q : Reaction). q.component) (reactions_from limit is now first 0)) within
+          components-turn limit xs k c.react.new.self happened (reactions_from limit is now first received k)
+          (reactions_from limit is now first received (k + 1)) (map (λ (q : Reaction). q.component) (reactions_from limit is now first received 0)) within
           (sym (ap (λ (q : Reaction). q.component) c.in_ok-event.ensures.reaction)) step c.loop-k.invariant.components;
       entries =
           entries-turn limit now k c.loop-k.trace.entries c.push_event.new.trace.entries
-          (c.args.trace.now.entries ++ entries_from limit now 0 (reactions_from limit is now first 0)) happened
-          (reactions_from limit is now first k) (reactions_from limit is now first (k + 1))
+          (c.args.trace.now.entries ++ entries_from limit now 0 (reactions_from limit is now first received 0)) happened
+          (reactions_from limit is now first received k) (reactions_from limit is now first received (k + 1))
           (ap (λ (p : PartOf). p.entries) c.in_ok-push_event.ensures ∙ ap
           (λ (q : Reaction). c.loop-k.trace.entries ++ entry_of limit now k q.event)
           (sym c.in_ok-event.ensures.reaction)) step c.loop-k.invariant.entries;
@@ -114,13 +117,12 @@ returns-clause-components c =
     let limit = c.args.instant.now.limit in
     let now = rank_of c.args.instant.now in
     let first = c.args.components.now in
+    let received = c.args.received.now in
     let xs = c.loop-k.components in
     let count : length is ≤ c.loop-k.k = omega (arith, c.component_count-k-end.ensures.value) in
     let all : length xs ≤ c.loop-k.k = omega (arith, c.loop-k.auto.components, c.requires.matched, c.component_count-k-end.ensures.value) in
-    components-end limit now is first xs c.loop-k.k
-    (map (λ (q : Reaction). q.component) (reactions_from limit is now first 0)) all count c.loop-k.invariant.components
-    ∙ ap (map (λ (q : Reaction). q.component))
-    (sym (instant-alone limit (file_of c.args.tree.now.file) now [] (map (component_of limit) first)))
+    components-end limit now is first xs received c.loop-k.k
+    (map (λ (q : Reaction). q.component) (reactions_from limit is now first received 0)) all count c.loop-k.invariant.components
 
 pub returns-clause-entries : goal.returns-clause-entries
 returns-clause-entries c =
@@ -128,22 +130,20 @@ returns-clause-entries c =
     let limit = c.args.instant.now.limit in
     let now = rank_of c.args.instant.now in
     let first = c.args.components.now in
+    let received = c.args.received.now in
     let count : length is ≤ c.loop-k.k = omega (arith, c.component_count-k-end.ensures.value) in
     let net = network_of limit (file_of c.args.tree.now.file) in
-    let cs = map (component_of limit) first in
-    let happened = instant limit net now [] cs in
+    let happened = reactions_from limit is now first received 0 in
     let short : length happened ≤ length is =
     omega (
       arith,
-      reactions-short limit net.behaviours now cs (net.arrives (emissions net.behaviours now cs) []),
+      reactions-short limit net.behaviours now (map (component_of limit) first) received,
       length-map is
           (λ (i : Instance). behaviour_of i.model),
     ) in
     let entries =
-    entries-end limit now is first c.loop-k.k c.loop-k.trace.entries
-    (c.args.trace.now.entries ++ entries_from limit now 0 (reactions_from limit is now first 0)) count c.loop-k.invariant.entries
-    ∙ ap (λ (rs : List Reaction). c.args.trace.now.entries ++ entries_from limit now 0 rs)
-    (sym (instant-alone limit (file_of c.args.tree.now.file) now [] (map (component_of limit) first)))
+    entries-end limit now is first received c.loop-k.k c.loop-k.trace.entries
+    (c.args.trace.now.entries ++ entries_from limit now 0 happened) count c.loop-k.invariant.entries
     ∙ ap (λ (es : List Entry). c.args.trace.now.entries ++ es) (sym (entries-counted limit now 0 (length is) happened short))
     in
     ap (λ (es : List Entry). let p : PartOf = record { entries = es; outer = c.loop-k.trace.outer } in p) entries

@@ -19,11 +19,12 @@ invariant-loop-k l =
       waits : All (λ (r : Running). IsWaitOfRun limit r.wait) l.components;
       rest : drop l.k l.components ≡ drop l.k first;
       components :
-          map (component_of limit) (take l.k l.components) ++ map (λ (r : Reaction). r.component) (reactions_from limit is now first l.k)
-          ≡ map (λ (r : Reaction). r.component) (reactions_from limit is now first 0);
+          map (component_of limit) (take l.k l.components)
+          ++ map (λ (r : Reaction). r.component) (reactions_from limit is now first l.received l.k)
+          ≡ map (λ (r : Reaction). r.component) (reactions_from limit is now first l.received 0);
       entries :
-          l.trace.entries ++ entries_from limit now l.k (reactions_from limit is now first l.k)
-          ≡ l.initial.trace.entries ++ entries_from limit now 0 (reactions_from limit is now first 0);
+          l.trace.entries ++ entries_from limit now l.k (reactions_from limit is now first l.received l.k)
+          ≡ l.initial.trace.entries ++ entries_from limit now 0 (reactions_from limit is now first l.received 0);
       sent : drop l.k l.emitted.sent.items ≡ drop l.k l.initial.emitted.sent.items;
       faults : l.emitted.faults.items ≡ l.initial.emitted.faults.items;
       outer : l.trace.outer ≡ l.initial.trace.outer;

@@ -1,42 +1,26 @@
-use Rattle.std.proofs.Common.{length, arith, ap}
-use Rattle.std.proofs.lemmas.List.{length-map}
+use Rattle.std.proofs.Common.{◌≡◌, length, arith, subst}
+use Rattle.std.specs.Prelude.{None}
 use Rattle.dv_syntax.specs.Trees.{file_of}
-use Rattle.dv_tree.specs.Instances.{instances, root_parts}
-use Rattle.dv_tree.specs.Tables.{Source, component_of}
-use Rattle.dv_tree.proofs.Accepted.{parts_accepted, length-instances}
+use Rattle.dv_check.specs.Refusals.{refusal_of}
+use Rattle.dv_tree.specs.Instances.{instances}
+use Rattle.dv_tree.specs.Tables.{Source}
+use Rattle.dv_tree.proofs.Named.{length-named, tree_named}
 use Rattle.dv_tree.proofs.Limits.{few_components}
 use Rattle.dv_tree.proofs.tree.Tree.component_count.Goals as goal
 
-pub returns-clause-value : goal.returns-clause-value
-returns-clause-value c =
-    let f = file_of c.self.inside.checked.now.file in
-    let parts = root_parts f in
-    let all = ap (λ (s : Source). length (instances (file_of s.file))) c.self.view_is in
+count : (c : goal.After-len) → c.len.result ≡ length (instances (file_of c.args.self.now.file))
+count c =
     omega (
       arith,
       c.len.ensures,
       c.self.inside.components.ok.0,
-      ap length c.self.invariant.0,
-      length-map parts
-          (component_of f.models),
-      length-instances f.models parts
-          (parts_accepted f (c.accepted_files.ensures _ c.self.inside.checked.now.accepted)),
-      all,
+      length-named (tree_named c.self.inside.checked.now c.args.self.now c.self.inside.components.items c.self.view_is c.self.invariant.3),
     )
+
+pub returns-clause-value : goal.returns-clause-value
+returns-clause-value c = count c
 
 pub returns-clause-at_most : goal.returns-clause-at_most
 returns-clause-at_most c =
-    let f = file_of c.self.inside.checked.now.file in
-    let parts = root_parts f in
-    omega (
-      arith,
-      c.len.ensures,
-      c.self.inside.components.ok.0,
-      ap length c.self.invariant.0,
-      length-map parts
-          (component_of f.models),
-      length-instances f.models parts
-          (parts_accepted f (c.accepted_files.ensures _ c.self.inside.checked.now.accepted)),
-      few_components f
-          (c.accepted_files.ensures _ c.self.inside.checked.now.accepted),
-    )
+    let accepted = subst (λ (s : Source). refusal_of (file_of s.file) ≡ None) c.self.view_is c.self.inside.checked.now.accepted in
+    omega (arith, count c, few_components (file_of c.args.self.now.file) (c.accepted_files.ensures _ accepted))

@@ -1,0 +1,24 @@
+-- The ports of a coupled model in the order of the text.
+use Rattle.std.specs.Prelude.{ℕ, nat_lt, if◌then◌else◌, List, [], ◌∷◌, ◌++◌, map}
+use Rattle.dv_syntax.specs.Trees.{CoupledTree}
+use Rattle.dv_syntax.specs.declared.tree.Name.{Name}
+use Rattle.dv_syntax.specs.declared.tree.Declaration.{Declaration}
+use Rattle.dv_syntax.specs.declared.tree.Declaration.TheVariants.{In, Out}
+
+-- the names of a list that stand before a place, up to the first one that does not, and those from there on
+abbrev pub names_before : ℕ → List Name → List Name
+names_before place [] = []
+names_before place (n ∷ names) = if nat_lt n.place place then n ∷ names_before place names else []
+
+abbrev pub names_from : ℕ → List Name → List Name
+names_from place [] = []
+names_from place (n ∷ names) = if nat_lt n.place place then names_from place names else n ∷ names
+
+-- the ports of a coupled model in the order of the text, which each of the lists has
+abbrev pub ports_by_place : List Name → List Name → List Declaration
+ports_by_place [] outputs = map Out outputs
+ports_by_place (i ∷ inputs) outputs =
+    map Out (names_before i.place outputs) ++ In i ∷ ports_by_place inputs (names_from i.place outputs)
+
+abbrev pub ports_of : CoupledTree → List Declaration
+ports_of m = ports_by_place m.inputs m.outputs

@@ -1,0 +1,50 @@
+-- The tree of a coupled model: its parts, each with the parts inside it.
+use Rattle.std.specs.Prelude.{ℕ, zero, suc, ◌+◌, max, List, [], ◌∷◌, Option, Some, None}
+use Rattle.dv_syntax.specs.Trees.{ModelTree, AtomicModel, CoupledModel, AtomicTree, CoupledTree}
+use Rattle.dv_syntax.specs.declared.tree.Name.{Name}
+use Rattle.dv_syntax.specs.declared.tree.Part.{Part}
+use Rattle.dv_check.specs.Names.{model_named}
+use Rattle.dv_check.specs.declared.limits.TheConstants.{GREATEST_DEPTH}
+
+-- parts in the order of the text: none; or one and the rest, which is atomic, or coupled with its own parts inside
+pub data PartTree : Type 0 where
+  NoParts : PartTree
+  AtomicPart : (name : Name) → (model : AtomicTree) → (rest : PartTree) → PartTree
+  CoupledPart : (name : Name) → (model : CoupledTree) → (inside rest : PartTree) → PartTree
+
+-- a part by its model, before the rest; a part whose model is unknown is none
+abbrev pub with_part : (CoupledTree → PartTree) → Name → Option ModelTree → PartTree → PartTree
+with_part inside name None rest = rest
+with_part inside name (Some (AtomicModel m)) rest = AtomicPart name m rest
+with_part inside name (Some (CoupledModel m)) rest = CoupledPart name m (inside m) rest
+
+abbrev pub parts_by : (CoupledTree → PartTree) → List ModelTree → List Part → PartTree
+parts_by inside models [] = NoParts
+parts_by inside models (p ∷ parts) = with_part inside p.name (model_named p.model.number models) (parts_by inside models parts)
+
+-- the parts of a coupled model, down to so many levels
+abbrev pub parts_to : ℕ → List ModelTree → CoupledTree → PartTree
+parts_to zero models m = NoParts
+parts_to (suc levels) models m = parts_by (parts_to levels models) models m.parts
+
+-- The parts of a model, down to the greatest depth. A deeper model shows there, without its parts: its depth is too great.
+abbrev pub tree_of : List ModelTree → CoupledTree → PartTree
+tree_of models m = parts_to GREATEST_DEPTH models m
+
+-- how deep coupled models lie in one another, the model of these parts counted
+abbrev pub depth_of : PartTree → ℕ
+depth_of NoParts = 1
+depth_of (AtomicPart name m rest) = depth_of rest
+depth_of (CoupledPart name m inside rest) = max (suc (depth_of inside)) (depth_of rest)
+
+-- the components: the atomic models inside
+abbrev pub component_count : PartTree → ℕ
+component_count NoParts = 0
+component_count (AtomicPart name m rest) = suc (component_count rest)
+component_count (CoupledPart name m inside rest) = component_count inside + component_count rest
+
+-- the instances: the atomic and coupled models inside
+abbrev pub instance_count : PartTree → ℕ
+instance_count NoParts = 0
+instance_count (AtomicPart name m rest) = suc (instance_count rest)
+instance_count (CoupledPart name m inside rest) = suc (instance_count inside + instance_count rest)

@@ -1,0 +1,190 @@
+//! The size of the whole tree, counted without building it.
+
+ghost use Rattle.std.specs.Prelude.{◌≡◌, List, fold, map, IfOk};
+ghost use Rattle.dv_syntax.specs.Trees.{coupled_of, model_of};
+ghost use Rattle.dv_check.specs.Refusals.{passes_limit};
+ghost use Rattle.dv_check.specs.Sizes.{alone, component, contents_by, contents_of, kept, size_by, size_of_tree, size_passes_limit, sizes_below, with_part, with_part_at};
+ghost use Rattle.dv_check.specs.Tables.{value_for};
+ghost use Rattle.dv_check.specs.Tree.{parts_to, tree_of};
+
+use crate::directory::Directory;
+use crate::limits::{GREATEST_COMPONENTS, GREATEST_DEPTH, GREATEST_INSTANCES};
+use crate::positions::{positions_inside, positions_of};
+use dv_syntax::{Coupled, Model};
+use std::alloc::{AllocError, Global};
+
+/// What is inside a model: the rules of an atomic one, or the parts of a coupled one by the positions of their models.
+#[derive(Drop)]
+pub enum Contents {
+    Rules,
+    Parts(Vec<usize>),
+}
+
+/// The size of a model, itself counted: how deep coupled models lie in one another, how many atomic models and how many
+/// models there are. A number past the greatest `usize` is kept as that one.
+#[derive(Clone, Copy)]
+pub struct Size {
+    pub depth: usize,
+    pub components: usize,
+    pub instances: usize,
+}
+
+impl Size {
+    // An atomic model.
+    fn component() -> Self
+        ensures { result ≡ component }
+    {
+        Size {
+            depth: 0,
+            components: 1,
+            instances: 1,
+        }
+    }
+
+    // A coupled model without its parts.
+    fn alone() -> Self
+        ensures { result ≡ alone }
+    {
+        Size {
+            depth: 1,
+            components: 0,
+            instances: 1,
+        }
+    }
+
+    // A model with one part more.
+    fn with_part(self, part: Size) -> Self
+        ensures { result ≡ with_part self part }
+    {
+        Size {
+            depth: self.depth.max(part.depth.saturating_add(1)),
+            components: self.components.saturating_add(part.components),
+            instances: self.instances.saturating_add(part.instances),
+        }
+    }
+
+    // A model with one part more, whose model stands at a position.
+    fn with_part_at(self, sizes: &[Size], position: usize) -> Self
+        ensures { result ≡ with_part_at sizes.now self position }
+    {
+        match sizes.get(position) {
+            Some(part) => self.with_part(*part),
+            None => self,
+        }
+    }
+
+    fn passes_limit(self) -> bool
+        ensures { result ≡ size_passes_limit self }
+    {
+        self.components == 0
+            || self.components > GREATEST_COMPONENTS
+            || self.instances > GREATEST_INSTANCES
+            || self.depth > GREATEST_DEPTH
+    }
+}
+
+/// Whether the tree of a root passes a limit: it has no component or too many, too many instances, or coupled models
+/// that lie too deep.
+#[tactic(auto, using(crate::proofs::Counting::limits_kept))]
+pub fn passes_limit(alloc: Global, models: &[Model], root: &Coupled) -> Result<bool, AllocError>
+    ensures { IfOk result (λ passes. passes
+        ≡ passes_limit (tree_of (map model_of models.now) (coupled_of root.now))) }
+{
+    let size = size_of_tree(alloc, GREATEST_DEPTH, models, root)?;
+    Ok(size.passes_limit())
+}
+
+// The size of a root whose parts show down to so many levels. The sizes of all models are counted level by level, those
+// of one level from those of the level before: the work is in the length of the text, however often models stand in the
+// tree.
+fn size_of_tree(
+    alloc: Global,
+    levels: usize,
+    models: &[Model],
+    root: &Coupled,
+) -> Result<Size, AllocError>
+    ensures { IfOk result (λ size. size
+        ≡ kept (size_of_tree (parts_to levels (map model_of models.now) (coupled_of root.now)))) }
+{
+    let positions = positions_of(alloc, models)?;
+    let contents = contents_of(alloc, &positions, models)?;
+    let sizes = sizes_below(alloc, levels, &contents)?;
+    let inside = positions_inside(alloc, &positions, &root.parts)?;
+    Ok(size_with_parts(&sizes, &inside))
+}
+
+fn contents_of(
+    alloc: Global,
+    positions: &Directory<usize>,
+    models: &[Model],
+) -> Result<Vec<Contents>, AllocError>
+    ensures { IfOk result (λ contents. map contents_by contents.items
+        ≡ map (contents_of (value_for positions.now)) (map model_of models.now)) }
+{
+    let mut contents = Vec::new(alloc);
+    for model in models {
+        contents.push(contents_of_model(alloc, positions, model)?)?;
+    }
+    Ok(contents)
+}
+
+fn contents_of_model(
+    alloc: Global,
+    positions: &Directory<usize>,
+    model: &Model,
+) -> Result<Contents, AllocError>
+    ensures { IfOk result (λ contents. contents_by contents
+        ≡ contents_of (value_for positions.now) (model_of model.now)) }
+{
+    match model {
+        Model::Atomic(_) => Ok(Contents::Rules),
+        Model::Coupled(coupled) => {
+            let inside = positions_inside(alloc, positions, &coupled.parts)?;
+            Ok(Contents::Parts(inside))
+        }
+    }
+}
+
+// The sizes of the models whose parts show down to fewer levels than this.
+fn sizes_below(alloc: Global, levels: usize, contents: &[Contents]) -> Result<Vec<Size>, AllocError>
+    ensures { IfOk result (λ sizes. sizes.items
+        ≡ sizes_below levels (map contents_by contents.now)) }
+{
+    let mut sizes = Vec::new(alloc);
+    for _level in 0..levels {
+        sizes = sizes_over(alloc, &sizes, contents)?;
+    }
+    Ok(sizes)
+}
+
+// The sizes of the models by those that they have one level less deep.
+fn sizes_over(alloc: Global, sizes: &[Size], contents: &[Contents]) -> Result<Vec<Size>, AllocError>
+    ensures { IfOk result (λ over. over.items
+        ≡ map (size_by sizes.now) (map contents_by contents.now)) }
+{
+    let mut over = Vec::new(alloc);
+    for model in contents {
+        over.push(size_by(sizes, model))?;
+    }
+    Ok(over)
+}
+
+fn size_by(sizes: &[Size], contents: &Contents) -> Size
+    ensures { result ≡ size_by sizes.now (contents_by contents.now) }
+{
+    match contents {
+        Contents::Rules => Size::component(),
+        Contents::Parts(inside) => size_with_parts(sizes, inside),
+    }
+}
+
+// The size of a coupled model with parts whose models stand at these positions.
+fn size_with_parts(sizes: &[Size], inside: &[usize]) -> Size
+    ensures { result ≡ fold (with_part_at sizes.now) alone inside.now }
+{
+    let mut size = Size::alone();
+    for position in inside {
+        size = size.with_part_at(sizes, *position);
+    }
+    size
+}

@@ -1,0 +1,12 @@
+pub mod Closes
+pub mod Cuts
+pub mod Ends
+pub mod Finishes
+pub mod Lists
+pub mod Marks
+pub mod Order
+pub mod Passes
+pub mod Same
+pub mod Settle
+pub mod Visits
+pub mod Ways

@@ -1,0 +1,167 @@
+//! The models of a document, and what it says of them.
+//!
+//! A fenced block with a root is a model, and one that is marked `inputs` its inputs. Behind a model stand commands, each with
+//! the lines that it prints, or the answer to a refused text, as `E7 line 3` between backquotes.
+
+use crate::outcome::{checked, printed};
+use std::alloc::{AllocError, Global};
+use std::rt::Files;
+use std::{fs, io};
+
+/// What the document has told so far: a model, its inputs, and what was expected and got of them.
+#[derive(Drop)]
+struct Telling {
+    model: String,
+    inputs: String,
+    expected: String,
+    got: String,
+    compared: u32,
+    differing: u32,
+}
+
+impl Telling {
+    fn new(alloc: Global) -> Self {
+        Telling {
+            model: String::new(alloc),
+            inputs: String::new(alloc),
+            expected: String::new(alloc),
+            got: String::new(alloc),
+            compared: 0,
+            differing: 0,
+        }
+    }
+
+    /// Compares what the last command printed, if there was one.
+    fn compare<R: Print>(&mut self, rt: &R) -> io::Result<()> {
+        if !self.got.is_empty() {
+            self.compared = self.compared.saturating_add(1);
+            if self.got != self.expected {
+                self.differing = self.differing.saturating_add(1);
+                println!(rt; "printed\n{}shown\n{}", self.got, self.expected)?;
+            }
+        }
+        self.got.clear();
+        self.expected.clear();
+        Ok(())
+    }
+}
+
+/// Runs the models of a document. Tells how many commands print what is shown, and answers whether all do.
+pub fn is_as_shown<R: AllocGlobal + Files + Print>(rt: &R, name: &str) -> io::Result<bool> {
+    let text = fs::read_to_string(rt, name)?;
+    let mut telling = Telling::new(rt.alloc());
+    let mut fence: Option<&str> = None;
+    let mut block = String::new(rt.alloc());
+    for line in text.as_str().lines() {
+        match (fence, line.strip_prefix("```")) {
+            (None, Some(mark)) => {
+                telling.compare(rt)?;
+                fence = Some(mark);
+                block.clear();
+            }
+            (Some(mark), Some(_)) => {
+                keep_block(&mut telling, mark, block.as_str())?;
+                fence = None;
+            }
+            (Some(_), None) => push_line(&mut block, line)?,
+            (None, None) => follow(rt, &mut telling, line)?,
+        }
+    }
+    telling.compare(rt)?;
+    if telling.differing == 0 {
+        println!(rt; "{name}: {} as shown", telling.compared)?;
+    } else {
+        println!(rt;
+            "{name}: {} of {} not as shown",
+            telling.differing, telling.compared
+        )?;
+    }
+    Ok(telling.differing == 0)
+}
+
+fn push_line(text: &mut String, line: &str) -> Result<(), AllocError> {
+    text.push_str(line)?;
+    text.push('\n')
+}
+
+/// Keeps a fenced block that is a model, or inputs.
+fn keep_block(telling: &mut Telling, mark: &str, block: &str) -> Result<(), AllocError> {
+    if mark == "inputs" {
+        telling.inputs.clear();
+        telling.inputs.push_str(block)
+    } else if mark.is_empty() && block.contains("root ") {
+        telling.inputs.clear();
+        telling.model.clear();
+        telling.model.push_str(block)
+    } else {
+        Ok(())
+    }
+}
+
+/// Takes a line outside of blocks: a command, what it prints, an answer, or other words.
+fn follow<R: AllocGlobal + Print>(rt: &R, telling: &mut Telling, line: &str) -> io::Result<()> {
+    if let Some(command) = line.strip_prefix("    $ ./pdevs ") {
+        telling.compare(rt)?;
+        telling.got = outcome_of(rt.alloc(), telling, command)?;
+    } else if let Some(shown) = line.strip_prefix("    ") {
+        push_line(&mut telling.expected, shown)?;
+    } else {
+        telling.compare(rt)?;
+        if let Some(answer) = answer_in(line) {
+            telling.got = printed(
+                rt.alloc(),
+                telling.model.as_str(),
+                telling.inputs.as_str(),
+                0,
+                20,
+            )?;
+            telling.expected = format!(in rt.alloc(); "pdevs: {answer}\n")?;
+        }
+    }
+    Ok(())
+}
+
+/// The answer that a line is, as `E7 line 3` between backquotes.
+fn answer_in(line: &str) -> Option<&str> {
+    let answer = line.strip_prefix("`")?.strip_suffix("`")?;
+    if answer.contains(" line ") {
+        Some(answer)
+    } else {
+        None
+    }
+}
+
+/// What a command prints: `check`, or `run` with its options.
+fn outcome_of(alloc: Global, telling: &Telling, command: &str) -> Result<String, AllocError> {
+    if command.starts_with("check ") {
+        return checked(alloc, telling.model.as_str());
+    }
+    if !command.starts_with("run ") {
+        return Ok(String::new(alloc));
+    }
+    let inputs = if command.contains("--inputs") {
+        telling.inputs.as_str()
+    } else {
+        ""
+    };
+    let horizon = number_behind(command, "--horizon").unwrap_or(0);
+    let limit = number_behind(command, "--microsteps").unwrap_or(20);
+    printed(
+        alloc,
+        telling.model.as_str(),
+        inputs,
+        horizon,
+        limit.min(1_000) as u32,
+    )
+}
+
+/// The number behind an option in a command.
+fn number_behind(command: &str, option: &str) -> Option<u64> {
+    let mut words = command.split_whitespace();
+    while let Some(word) = words.next() {
+        if word == option {
+            return words.next()?.parse::<u64>().ok();
+        }
+    }
+    None
+}

@@ -1,0 +1,41 @@
+//! What comes of a model.
+
+use dv_job::{JobError, Options, check_bytes, run_plain};
+use std::alloc::{AllocError, Global};
+
+/// What `check` prints of a model.
+pub fn checked(alloc: Global, model: &str) -> Result<String, AllocError> {
+    match check_bytes(alloc, model.as_bytes()) {
+        Ok(components) => format!(in alloc; "accepted {components}\n"),
+        Err(error) => refused(alloc, &error),
+    }
+}
+
+/// What `run` prints of a model with inputs.
+pub fn printed(
+    alloc: Global,
+    model: &str,
+    inputs: &str,
+    horizon: u64,
+    limit: u32,
+) -> Result<String, AllocError> {
+    let Some(options) = Options::new(horizon, limit, None, None, 1) else {
+        return String::from_str(alloc, "no options\n");
+    };
+    let mut trace = Vec::new(alloc);
+    match run_plain(
+        alloc,
+        model.as_bytes(),
+        inputs.as_bytes(),
+        &options,
+        &mut trace,
+    ) {
+        Ok(_) => String::from_str(alloc, str::from_utf8(&trace).unwrap_or("not text\n")),
+        Err(error) => refused(alloc, &error),
+    }
+}
+
+/// The line of an error.
+fn refused(alloc: Global, error: &JobError) -> Result<String, AllocError> {
+    format!(in alloc; "pdevs: {error}\n")
+}

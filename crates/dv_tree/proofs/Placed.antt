@@ -1,0 +1,170 @@
+-- The tables of coupled models, made from the names of the models and of their ports, are those of their text.
+use Rattle.std.proofs.Common.{◌≡◌, ℕ, suc, Bool, true, false, cond, eqb, List, [], ◌∷◌, length, map, get_or, refl, ap, sym, ◌∙◌, subst, arith}
+use Rattle.std.specs.Prelude.{Option, Some, None, option_map, slice_get}
+use Rattle.std.specs.List.{filter_map, cons_option, range_with_len}
+use Rattle.std.proofs.lemmas.List.{length-map}
+use Rattle.std.proofs.lemmas.Option.{slice_get-map, get_or_from_slice_get}
+use Rattle.dv_syntax.specs.Trees.{ModelTree, AtomicModel, CoupledModel, CoupledTree, FileTree}
+use Rattle.dv_syntax.specs.declared.tree.Part.{Part}
+use Rattle.dv_syntax.specs.declared.tree.Link.{Link}
+use Rattle.dv_eval.specs.Scope.{place_of}
+use Rattle.dv_check.specs.Names.{name_of_model, model_named}
+use Rattle.dv_tree.specs.Instances.{numbers, coupled_model}
+use Rattle.dv_tree.specs.Couplings.{Shown, inputs_of, outputs_of, shown_by, shown_of, shown_parts, part_couplings, own_couplings, placed_links}
+use Rattle.dv_tree.specs.Tables.{model_names, entry_at, entry_of, entries_of, entry_names, ports_at, placed_by, links_by, level_of, level_of_model, level_by, level_by_model, levels_of, root_table}
+use Rattle.dv_tree.specs.Nodes.{level_at, root_level}
+use Rattle.dv_tree.specs.declared.entries.Entry.{Entry}
+use Rattle.dv_tree.proofs.PlaceLemmas.{place_of-cons}
+
+-- the model that a name stands for, and its place
+pub data IsPlaced (models : List ModelTree) : Option ModelTree → Option ℕ → Type 0 where
+  nowhere : IsPlaced models None None
+  somewhere : (m : ModelTree) (place : ℕ) → slice_get models place ≡ Some m → IsPlaced models (Some m) (Some place)
+
+placed_later : {models : List ModelTree} {o : Option ModelTree} {p : Option ℕ} (x : ModelTree) → IsPlaced models o p →
+    IsPlaced (x ∷ models) o (option_map suc p)
+placed_later x nowhere = nowhere
+placed_later x (somewhere m place there) = somewhere m (suc place) there
+
+placed_at : (b : Bool) (x : ModelTree) (models : List ModelTree) (o : Option ModelTree) (p : Option ℕ) → IsPlaced models o p →
+    IsPlaced (x ∷ models) (cond b (Some x) o) (cond b (Some 0) (option_map suc p))
+placed_at true x models o p h = somewhere x 0 refl
+placed_at false x models o p h = placed_later x h
+
+pub is_placed : (number : ℕ) (models : List ModelTree) →
+    IsPlaced models (model_named number models) (place_of number (model_names models))
+is_placed number [] = nowhere
+is_placed number (x ∷ models) =
+    let At : Option ℕ → Type 0 = λ p. IsPlaced (x ∷ models) (model_named number (x ∷ models)) p in
+    subst At (sym (place_of-cons number (name_of_model x).number (model_names models)))
+    (placed_at (eqb (name_of_model x).number number) x models (model_named number models) (place_of number (model_names models))
+    (is_placed number models))
+
+-- what a table of the models has at a place
+pub table_at : {Y : Type 0} (f : ModelTree → Y) (models : List ModelTree) (place : ℕ) (m : ModelTree) (d : Y) →
+    slice_get models place ≡ Some m → get_or (map f models) place d ≡ f m
+table_at f models place m d there =
+    get_or_from_slice_get (map f models) place (f m) d (slice_get-map f models place ∙ ap (option_map f) there)
+
+-- what parts show, by their entries
+pub record ShownAs (models : List ModelTree) (shown : List Shown) (entries : List Entry) : Type 0 where
+  pub names : map (λ (s : Shown). s.name) shown ≡ entry_names entries
+  pub inputs : map (λ (s : Shown). s.inputs) shown ≡ ports_at (map inputs_of models) entries
+  pub outputs : map (λ (s : Shown). s.outputs) shown ≡ ports_at (map outputs_of models) entries
+
+shown_first : (models : List ModelTree) (p : Part) (shown : List Shown) (entries : List Entry) {o : Option ModelTree} {place : Option ℕ} →
+    IsPlaced models o place → ShownAs models shown entries →
+    ShownAs models (cons_option (option_map (shown_by p) o) shown) (cons_option (option_map (entry_at p.name) place) entries)
+shown_first models p shown entries nowhere rest = rest
+shown_first models p shown entries (somewhere m place there) rest = record {
+  names = ap (λ xs. p.name.number ∷ xs) rest.names;
+  inputs =
+      ap (λ x. x ∷ map (λ (s : Shown). s.inputs) shown) (sym (table_at inputs_of models place m [] there))
+      ∙ ap (λ xs. get_or (map inputs_of models) place [] ∷ xs) rest.inputs;
+  outputs =
+      ap (λ x. x ∷ map (λ (s : Shown). s.outputs) shown) (sym (table_at outputs_of models place m [] there))
+      ∙ ap (λ xs. get_or (map outputs_of models) place [] ∷ xs) rest.outputs;
+}
+
+pub shown_as : (models : List ModelTree) (parts : List Part) →
+    ShownAs models (filter_map (shown_of models) parts) (filter_map (entry_of (model_names models)) parts)
+shown_as models [] = record { names = refl; inputs = refl; outputs = refl }
+shown_as models (p ∷ parts) =
+    shown_first models p (filter_map (shown_of models) parts) (filter_map (entry_of (model_names models)) parts)
+    (is_placed p.model.number models) (shown_as models parts)
+
+-- links by the parts that are shown
+links_made : (models : List ModelTree) (m : CoupledTree) →
+    links_by (map inputs_of models) (map outputs_of models) (entries_of models m) m ≡ placed_links models m
+links_made models m =
+    let h = shown_as models m.parts in
+    let inputs = numbers m.inputs in
+    let outputs = numbers m.outputs in
+    ap (λ xs. filter_map (placed_by inputs outputs xs (ports_at (map inputs_of models) (entries_of models m)) (ports_at (map outputs_of models) (entries_of models m))) m.links) (sym h.names)
+    ∙ (ap (λ xs. filter_map (placed_by inputs outputs (map (λ (s : Shown). s.name) (shown_parts models m)) xs (ports_at (map outputs_of models) (entries_of models m))) m.links) (sym h.inputs)
+    ∙ ap (λ xs. filter_map (placed_by inputs outputs (map (λ (s : Shown). s.name) (shown_parts models m)) (map (λ (s : Shown). s.inputs) (shown_parts models m)) xs) m.links) (sym h.outputs))
+
+lengths : (shown : List Shown) → map length (map (λ (s : Shown). s.inputs) shown) ≡ map (λ (s : Shown). length s.inputs) shown
+lengths [] = refl
+lengths (s ∷ shown) = ap (λ xs. length s.inputs ∷ xs) (lengths shown)
+
+-- as many parts are shown as there are entries
+shown_count : (models : List ModelTree) (m : CoupledTree) → length (entries_of models m) ≡ length (shown_parts models m)
+shown_count models m =
+    omega (
+      arith,
+      ap length (shown_as models m.parts).names,
+      length-map (shown_parts models m) (λ (s : Shown). s.name),
+      length-map (entries_of models m) (λ (e : Entry). e.name.number),
+    )
+
+level_made : (models : List ModelTree) (m : CoupledTree) →
+    level_by (model_names models) (map inputs_of models) (map outputs_of models) m ≡ level_of models m
+level_made models m =
+    let entries = entries_of models m in
+    let counts = ap (map length) (sym (shown_as models m.parts).inputs) ∙ lengths (shown_parts models m) in
+    ap (λ links. record {
+      parts = entries;
+      outputs = length m.outputs;
+      inputs = map length (ports_at (map inputs_of models) entries);
+      of_inputs = own_couplings links;
+      of_parts = map (part_couplings links) (range_with_len 0 (length entries));
+    }) (links_made models m)
+    ∙ (ap (λ xs. record {
+      parts = entries;
+      outputs = length m.outputs;
+      inputs = xs;
+      of_inputs = own_couplings (placed_links models m);
+      of_parts = map (part_couplings (placed_links models m)) (range_with_len 0 (length entries));
+    }) counts
+    ∙ ap (λ n. record {
+      parts = entries;
+      outputs = length m.outputs;
+      inputs = map (λ (s : Shown). length s.inputs) (shown_parts models m);
+      of_inputs = own_couplings (placed_links models m);
+      of_parts = map (part_couplings (placed_links models m)) (range_with_len 0 n);
+    }) (shown_count models m))
+
+level_made_of : (models : List ModelTree) (m : ModelTree) →
+    level_by_model (model_names models) (map inputs_of models) (map outputs_of models) m ≡ level_of_model models m
+level_made_of models (AtomicModel m) = refl
+level_made_of models (CoupledModel m) = ap Some (level_made models m)
+
+made_of_each : (models each : List ModelTree) →
+    map (level_by_model (model_names models) (map inputs_of models) (map outputs_of models)) each ≡ map (level_of_model models) each
+made_of_each models [] = refl
+made_of_each models (m ∷ each) =
+    ap (λ x. x ∷ map (level_by_model (model_names models) (map inputs_of models) (map outputs_of models)) each) (level_made_of models m)
+    ∙ ap (λ xs. level_of_model models m ∷ xs) (made_of_each models each)
+
+pub levels_made : (models : List ModelTree) (names : List ℕ) (inputs outputs : List (List ℕ)) → names ≡ model_names models →
+    inputs ≡ map inputs_of models → outputs ≡ map outputs_of models → map (level_by_model names inputs outputs) models ≡ levels_of models
+levels_made models names inputs outputs names_are inputs_are outputs_are =
+    ap (λ x. map (level_by_model x inputs outputs) models) names_are
+    ∙ (ap (λ x. map (level_by_model (model_names models) x outputs) models) inputs_are
+    ∙ (ap (λ x. map (level_by_model (model_names models) (map inputs_of models) x) models) outputs_are ∙ made_of_each models models))
+
+-- the table of a model at its place
+pub level_placed : (models : List ModelTree) (place : ℕ) (m : ModelTree) → slice_get models place ≡ Some m →
+    level_at (levels_of models) place ≡ level_of_model models m
+level_placed models place m there = table_at (level_of_model models) models place m None there
+
+root_at : (models : List ModelTree) {o : Option ModelTree} {p : Option ℕ} → IsPlaced models o p →
+    root_level (levels_of models) p ≡ option_map (level_of models) (coupled_model o)
+root_at models nowhere = refl
+root_at models (somewhere (AtomicModel m) place there) = level_placed models place (AtomicModel m) there
+root_at models (somewhere (CoupledModel m) place there) = level_placed models place (CoupledModel m) there
+
+-- the table of the root
+pub root_made : (f : FileTree) → root_level (levels_of f.models) (place_of f.root.number (model_names f.models)) ≡ root_table f
+root_made f = root_at f.models (is_placed f.root.number f.models)
+
+-- the links of a coupled model, from tables that are equal to these
+pub links_from : (inputs outputs : List (List ℕ)) (entries : List Entry) (m : CoupledTree) (own_inputs own_outputs names : List ℕ) (links : List Link) →
+    own_inputs ≡ numbers m.inputs → own_outputs ≡ numbers m.outputs → names ≡ entry_names entries → links ≡ m.links →
+    filter_map (placed_by own_inputs own_outputs names (ports_at inputs entries) (ports_at outputs entries)) links ≡ links_by inputs outputs entries m
+links_from inputs outputs entries m own_inputs own_outputs names links a b c d =
+    ap (λ x. filter_map (placed_by x own_outputs names (ports_at inputs entries) (ports_at outputs entries)) links) a
+    ∙ (ap (λ x. filter_map (placed_by (numbers m.inputs) x names (ports_at inputs entries) (ports_at outputs entries)) links) b
+    ∙ (ap (λ x. filter_map (placed_by (numbers m.inputs) (numbers m.outputs) x (ports_at inputs entries) (ports_at outputs entries)) links) c
+    ∙ ap (filter_map (placed_by (numbers m.inputs) (numbers m.outputs) (entry_names entries) (ports_at inputs entries) (ports_at outputs entries))) d))

@@ -1,0 +1,19 @@
+use Rattle.std.proofs.Common.{◌+◌, ◌*◌, ◌++◌, ◌-◌, drop}
+use Rattle.std.specs.Vec.Iter.{into_iter_items}
+use Rattle.dv_tree.specs.Nodes.{arriving_nodes, coupled_count, nodes_by, nodes_to}
+use Rattle.dv_tree.proofs.Travel.{Sinks}
+use Rattle.dv_tree.proofs.routing.+sink.Given as goal
+
+abbrev pub decreases-sink : goal.decreases-sink
+decreases-sink l = 2 * l.depth
+
+abbrev pub decreases-sink_part : goal.decreases-sink_part
+decreases-sink_part l = 2 * l.depth + 1
+
+abbrev pub invariant-sink-loop-entry : goal.invariant-sink-loop-entry
+invariant-sink-loop-entry l =
+    let all = nodes_by (nodes_to (l.depth - 1) l.levels) l.levels l.entry-items in
+    let left = nodes_by (nodes_to (l.depth - 1) l.levels) l.levels (drop l.entry-index l.entry-items) in
+    Sinks left (into_iter_items l.parts) (into_iter_items l.kept) l.received.items
+    (drop (coupled_count all) (into_iter_items l.initial.kept))
+    (l.initial.received.items ++ arriving_nodes all (into_iter_items l.initial.parts) (into_iter_items l.initial.kept))

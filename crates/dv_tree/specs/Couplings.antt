@@ -1,0 +1,93 @@
+-- The links of a coupled model as places of ports.
+use Rattle.std.specs.Prelude.{ℕ, ◌==◌, if◌then◌else◌, slice_index_or, List, [], map, length, filter_map, Option, Some, None, option_map}
+use Rattle.std.specs.List.{range_with_len}
+use Rattle.dv_syntax.specs.Trees.{ModelTree, AtomicModel, CoupledModel, CoupledTree}
+use Rattle.dv_syntax.specs.declared.tree.Name.{Name}
+use Rattle.dv_syntax.specs.declared.tree.Part.{Part}
+use Rattle.dv_syntax.specs.declared.tree.Link.{Link}
+use Rattle.dv_syntax.specs.declared.tree.End.{End}
+use Rattle.dv_eval.specs.Scope.{scope_of, place_of}
+use Rattle.dv_check.specs.Names.{model_named}
+use Rattle.dv_tree.specs.Instances.{numbers}
+use Rattle.dv_tree.specs.declared.couplings.Target.{Target}
+use Rattle.dv_tree.specs.declared.couplings.Target.TheVariants.{Own, OfPart}
+use Rattle.dv_tree.specs.declared.couplings.Coupling.{Coupling}
+use Rattle.dv_tree.specs.declared.couplings.PlacedLink.{PlacedLink}
+
+-- the names of a model's input ports, and of its output ports
+abbrev pub inputs_of : ModelTree → List ℕ
+inputs_of (AtomicModel m) = (scope_of m).inputs
+inputs_of (CoupledModel m) = numbers m.inputs
+
+abbrev pub outputs_of : ModelTree → List ℕ
+outputs_of (AtomicModel m) = (scope_of m).outputs
+outputs_of (CoupledModel m) = numbers m.outputs
+
+-- what a part shows to the links around it: its name, and the names of its ports
+pub record Shown : Type 0 where
+  pub name : ℕ
+  pub inputs : List ℕ
+  pub outputs : List ℕ
+
+abbrev pub shown_by : Part → ModelTree → Shown
+shown_by p m = record { name = p.name.number; inputs = inputs_of m; outputs = outputs_of m }
+
+-- what the parts of a coupled model show; a part whose model is unknown is none
+abbrev pub shown_of : List ModelTree → Part → Option Shown
+shown_of models p = option_map (shown_by p) (model_named p.model.number models)
+
+abbrev pub shown_parts : List ModelTree → CoupledTree → List Shown
+shown_parts models m = filter_map (shown_of models) m.parts
+
+-- the place of a port of a part, from the names of the ports of each
+abbrev pub place_in : List (List ℕ) → ℕ → Option ℕ → Option Target
+place_in ports port None = None
+place_in ports port (Some part) = option_map (OfPart part) (place_of port (slice_index_or ports part []))
+
+-- the place of a port of the model itself or of a part, from the names of all; the first of a name counts
+abbrev pub place_at : List ℕ → List ℕ → List (List ℕ) → Option Name → ℕ → Option Target
+place_at own parts ports None port = option_map Own (place_of port own)
+place_at own parts ports (Some part) port = place_in ports port (place_of part.number parts)
+
+-- where a link begins, at an input of the model itself or an output of a part, and where it ends
+abbrev pub source_of : CoupledTree → List Shown → End → Option Target
+source_of m parts e =
+    place_at (numbers m.inputs) (map (λ (s : Shown). s.name) parts) (map (λ (s : Shown). s.outputs) parts) e.part e.port.number
+
+abbrev pub target_of : CoupledTree → List Shown → End → Option Target
+target_of m parts e =
+    place_at (numbers m.outputs) (map (λ (s : Shown). s.name) parts) (map (λ (s : Shown). s.inputs) parts) e.part e.port.number
+
+-- a link, where both of its ends have a place
+abbrev pub placed_between : Option Target → Option Target → Option PlacedLink
+placed_between (Some from) (Some to) = Some (record { from = from; to = to })
+placed_between from to = None
+
+abbrev pub placed_link : CoupledTree → List Shown → Link → Option PlacedLink
+placed_link m parts l = placed_between (source_of m parts l.from) (target_of m parts l.to)
+
+abbrev pub placed_links : List ModelTree → CoupledTree → List PlacedLink
+placed_links models m = filter_map (placed_link m (shown_parts models m)) m.links
+
+-- a link from an input of the model itself
+abbrev pub coupling_from_own : Target → Target → Option Coupling
+coupling_from_own (Own port) to = Some (record { port = port; target = to })
+coupling_from_own (OfPart part port) to = None
+
+-- a link from an output of this part
+abbrev pub coupling_from_part : ℕ → Target → Target → Option Coupling
+coupling_from_part k (Own port) to = None
+coupling_from_part k (OfPart part port) to = if part == k then Some (record { port = port; target = to }) else None
+
+abbrev pub own_couplings : List PlacedLink → List Coupling
+own_couplings links = filter_map (λ (l : PlacedLink). coupling_from_own l.from l.to) links
+
+abbrev pub part_couplings : List PlacedLink → ℕ → List Coupling
+part_couplings links k = filter_map (λ (l : PlacedLink). coupling_from_part k l.from l.to) links
+
+-- the couplings from the model's own inputs, and for each part those from its outputs, each in the order of the text
+abbrev pub couplings_of_inputs : List ModelTree → CoupledTree → List Coupling
+couplings_of_inputs models m = own_couplings (placed_links models m)
+
+abbrev pub couplings_of_parts : List ModelTree → CoupledTree → List (List Coupling)
+couplings_of_parts models m = map (part_couplings (placed_links models m)) (range_with_len 0 (length (shown_parts models m)))

@@ -1,0 +1,146 @@
+-- The parts of coupled models and what travels between them, by tables alone.
+use Rattle.std.specs.Prelude.{ℕ, zero, suc, ◌+◌, List, [], ◌∷◌, ◌++◌, map, replicate, drop, slice_index_or, Option, Some, None, refl}
+use Rattle.std.specs.Coded.{Coded, code_by, coded×, coded_list, coded_ℕ, coded_ℤ}
+use Rattle.dv_bag.specs.Bag.{Counts}
+use Rattle.dv_tree.specs.Paths.{name_at}
+use Rattle.dv_tree.specs.Routing.{Arrived, along, along_all, first_bags}
+use Rattle.dv_syntax.specs.Trees.{FileTree}
+use Rattle.dv_check.specs.declared.limits.TheConstants.{GREATEST_DEPTH}
+use Rattle.dv_tree.specs.Tables.{LevelTable, levels_of, root_table}
+use Rattle.dv_tree.specs.declared.entries.Entry.{Entry}
+
+-- what has arrived is stored as the pair of its fields
+abbrev pub arrived_code : Coded Arrived
+arrived_code =
+    code_by (List Counts × List (List Counts))
+    (coded× (coded_list (coded_list (coded× coded_ℤ coded_ℕ))) (coded_list (coded_list (coded_list (coded× coded_ℤ coded_ℕ)))))
+    (λ a. (a.own, a.parts)) (λ p. record { own = p.0; parts = p.1 }) (λ _. refl)
+
+-- parts in the order of the text, each with its name: none; or one and the rest, which has the place of its atomic model, or the
+-- table of its coupled one and the parts inside
+pub data Nodes : Type 0 where
+  NoNodes : Nodes
+  AtomicNode : (name model : ℕ) → (rest : Nodes) → Nodes
+  CoupledNode : (name : ℕ) → (level : LevelTable) → (inside rest : Nodes) → Nodes
+
+-- a part by the table of its model, if it has one
+abbrev pub with_node : (LevelTable → Nodes) → Entry → Option LevelTable → Nodes → Nodes
+with_node inside e None rest = AtomicNode e.name.number e.model rest
+with_node inside e (Some l) rest = CoupledNode e.name.number l (inside l) rest
+
+abbrev pub level_at : List (Option LevelTable) → ℕ → Option LevelTable
+level_at levels place = slice_index_or levels place None
+
+abbrev pub nodes_by : (LevelTable → Nodes) → List (Option LevelTable) → List Entry → Nodes
+nodes_by inside levels [] = NoNodes
+nodes_by inside levels (e ∷ entries) = with_node inside e (level_at levels e.model) (nodes_by inside levels entries)
+
+-- the parts of a coupled model, down to so many levels
+abbrev pub nodes_to : ℕ → List (Option LevelTable) → LevelTable → Nodes
+nodes_to zero levels l = NoNodes
+nodes_to (suc depth) levels l = nodes_by (nodes_to depth levels) levels l.parts
+
+-- the components inside: the text of the path and the place of the model of each, behind a text
+abbrev pub components_in : List (List ℕ) → List ℕ → Nodes → List (List ℕ × ℕ)
+components_in names before NoNodes = []
+components_in names before (AtomicNode name model rest) = (before ++ name_at names name, model) ∷ components_in names before rest
+components_in names before (CoupledNode name l inside rest) =
+    components_in names (before ++ name_at names name ++ 46 ∷ []) inside ++ components_in names before rest
+
+-- the numbers of atomic and of coupled models inside
+abbrev pub atomic_count : Nodes → ℕ
+atomic_count NoNodes = 0
+atomic_count (AtomicNode name model rest) = suc (atomic_count rest)
+atomic_count (CoupledNode name l inside rest) = atomic_count inside + atomic_count rest
+
+abbrev pub coupled_count : Nodes → ℕ
+coupled_count NoNodes = 0
+coupled_count (AtomicNode name model rest) = coupled_count rest
+coupled_count (CoupledNode name l inside rest) = suc (coupled_count inside) + coupled_count rest
+
+-- no values at any port of a coupled model
+abbrev pub nothing_in : LevelTable → Arrived
+nothing_in l = record { own = replicate l.outputs []; parts = map (λ ports. replicate ports []) l.inputs }
+
+-- what comes from its parts
+abbrev pub from_level : LevelTable → List (List Counts) → Arrived
+from_level l leaving = along_all l.of_parts leaving (nothing_in l)
+
+-- what leaves each part, from what is sent by the components from there on
+abbrev pub leaving_nodes : Nodes → List (List Counts) → List (List Counts)
+leaving_nodes NoNodes sent = []
+leaving_nodes (AtomicNode name model rest) sent = first_bags sent ∷ leaving_nodes rest (drop 1 sent)
+leaving_nodes (CoupledNode name l inside rest) sent =
+    (from_level l (leaving_nodes inside sent)).own ∷ leaving_nodes rest (drop (atomic_count inside) sent)
+
+-- what comes from the parts of each coupled model inside, a model before those inside it
+abbrev pub kept_nodes : Nodes → List (List Counts) → List Arrived
+kept_nodes NoNodes sent = []
+kept_nodes (AtomicNode name model rest) sent = kept_nodes rest (drop 1 sent)
+kept_nodes (CoupledNode name l inside rest) sent =
+    (from_level l (leaving_nodes inside sent) ∷ kept_nodes inside sent) ++ kept_nodes rest (drop (atomic_count inside) sent)
+
+-- what comes to the parts of a coupled model, where this comes from them
+abbrev pub to_level : LevelTable → List Counts → Arrived → List (List Counts)
+to_level l input a = (along l.of_inputs input a).parts
+
+-- what the components of a coupled model receive, from what comes to its inputs and what comes from parts
+abbrev pub through_level : (List (List Counts) → List Arrived → List (List Counts)) → LevelTable → List Counts → List Arrived → List (List Counts)
+through_level inside l input [] = []
+through_level inside l input (a ∷ kept) = inside (to_level l input a) kept
+
+abbrev pub arriving_nodes : Nodes → List (List Counts) → List Arrived → List (List Counts)
+arriving_nodes NoNodes comes kept = []
+arriving_nodes (AtomicNode name model rest) comes kept = first_bags comes ∷ arriving_nodes rest (drop 1 comes) kept
+arriving_nodes (CoupledNode name l inside rest) comes kept =
+    through_level (arriving_nodes inside) l (first_bags comes) kept
+    ++ arriving_nodes rest (drop 1 comes) (drop (suc (coupled_count inside)) kept)
+
+-- one part, by the table of its model, if it has one: how many components it has, what leaves it, what is kept of it
+abbrev pub part_count : (LevelTable → Nodes) → Option LevelTable → ℕ
+part_count inside None = 1
+part_count inside (Some l) = atomic_count (inside l)
+
+abbrev pub part_leaving : (LevelTable → Nodes) → Option LevelTable → List (List Counts) → List Counts
+part_leaving inside None sent = first_bags sent
+part_leaving inside (Some l) sent = (from_level l (leaving_nodes (inside l) sent)).own
+
+abbrev pub part_kept : (LevelTable → Nodes) → Option LevelTable → List (List Counts) → List Arrived
+part_kept inside None sent = []
+part_kept inside (Some l) sent = from_level l (leaving_nodes (inside l) sent) ∷ kept_nodes (inside l) sent
+
+-- how much of what is kept is of this part, and what its components receive
+abbrev pub part_coupled : (LevelTable → Nodes) → Option LevelTable → ℕ
+part_coupled inside None = 0
+part_coupled inside (Some l) = suc (coupled_count (inside l))
+
+abbrev pub part_received : (LevelTable → Nodes) → Option LevelTable → List Counts → List Arrived → List (List Counts)
+part_received inside None comes kept = comes ∷ []
+part_received inside (Some l) comes kept = through_level (arriving_nodes (inside l)) l comes kept
+
+-- the table of the root, by its place
+abbrev pub root_level : List (Option LevelTable) → Option ℕ → Option LevelTable
+root_level levels None = None
+root_level levels (Some place) = level_at levels place
+
+-- the components of a text
+abbrev pub components_of_root : List (List ℕ) → List (Option LevelTable) → Option LevelTable → List (List ℕ × ℕ)
+components_of_root names levels None = []
+components_of_root names levels (Some l) = components_in names [] (nodes_to GREATEST_DEPTH levels l)
+
+abbrev pub components_of : List (List ℕ) → FileTree → List (List ℕ × ℕ)
+components_of names f = components_of_root names (levels_of f.models) (root_table f)
+
+-- what leaves the root
+abbrev pub root_leaving : List (Option LevelTable) → Option LevelTable → List (List Counts) → List Counts
+root_leaving levels None sent = []
+root_leaving levels (Some l) sent = (from_level l (leaving_nodes (nodes_to GREATEST_DEPTH levels l) sent)).own
+
+-- what the components of parts of a root receive
+abbrev pub received_in : LevelTable → Nodes → List (List Counts) → List Counts → List (List Counts)
+received_in l inside sent input =
+    arriving_nodes inside (to_level l input (from_level l (leaving_nodes inside sent))) (kept_nodes inside sent)
+
+abbrev pub root_received : List (Option LevelTable) → Option LevelTable → List (List Counts) → List Counts → List (List Counts)
+root_received levels None sent input = []
+root_received levels (Some l) sent input = received_in l (nodes_to GREATEST_DEPTH levels l) sent input

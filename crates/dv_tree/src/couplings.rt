@@ -1,0 +1,97 @@
+//! The links of a coupled model as places of ports.
+
+ghost use Rattle.std.specs.Prelude.{◌≡◌, [], map, replicate, IfOk, OnOk};
+ghost use Rattle.std.specs.List.{range_with_len};
+ghost use Rattle.dv_tree.specs.Couplings.{coupling_from_own, own_couplings, part_couplings};
+ghost use Rattle.dv_tree.specs.Tables.{with_link};
+
+use std::alloc::{AllocError, Global};
+
+/// A port by its place: a port of the coupled model itself, or of one of its parts.
+#[derive(Clone, Copy, Debug, PartialEq, Eq)]
+pub enum Target {
+    Own { port: usize },
+    OfPart { part: usize, port: usize },
+}
+
+/// What comes from a port of some model, and where it goes.
+#[derive(Clone, Copy, Debug, PartialEq, Eq)]
+pub struct Coupling {
+    pub port: usize,
+    pub target: Target,
+}
+
+/// A link by the places of its two ends.
+#[derive(Clone, Copy, Debug, PartialEq, Eq)]
+pub struct PlacedLink {
+    pub from: Target,
+    pub to: Target,
+}
+
+// A link from an input of the model itself.
+fn coupling_from_own(from: Target, to: Target) -> Option<Coupling>
+    ensures { result ≡ coupling_from_own from to }
+{
+    match from {
+        Target::Own { port } => Some(Coupling { port, target: to }),
+        Target::OfPart { .. } => None,
+    }
+}
+
+/// The couplings from the inputs of the model itself, in the order of the links.
+pub(crate) fn own_couplings(
+    alloc: Global,
+    links: &[PlacedLink],
+) -> Result<Vec<Coupling>, AllocError>
+    ensures { IfOk result (λ couplings. couplings.items ≡ own_couplings links.now) }
+{
+    let mut couplings = Vec::new(alloc);
+    for link in links {
+        if let Some(coupling) = coupling_from_own(link.from, link.to) {
+            couplings.push(coupling)?;
+        }
+    }
+    Ok(couplings)
+}
+
+/// For each of so many parts the couplings from its outputs, in the order of the links.
+pub(crate) fn part_couplings(
+    alloc: Global,
+    parts: usize,
+    links: &[PlacedLink],
+) -> Result<Vec<Vec<Coupling>>, AllocError>
+    ensures { IfOk result (λ lists. map (λ list. list.items) lists.items
+        ≡ map (part_couplings links.now) (range_with_len 0 parts)) }
+{
+    let mut lists = empty_lists(alloc, parts)?;
+    for link in links {
+        add_link(&mut lists, link)?;
+    }
+    Ok(lists)
+}
+
+fn empty_lists(alloc: Global, count: usize) -> Result<Vec<Vec<Coupling>>, AllocError>
+    ensures { IfOk result (λ lists. map (λ list. list.items) lists.items ≡ replicate count []) }
+{
+    let mut lists = Vec::with_capacity(alloc, count)?;
+    for _ in 0..count {
+        lists.push(Vec::new(alloc))?;
+    }
+    Ok(lists)
+}
+
+// The coupling that a link is joins those of its part.
+fn add_link(lists: &mut Vec<Vec<Coupling>>, link: &PlacedLink) -> Result<(), AllocError>
+    ensures { OnOk result (map (λ list. list.items) lists.new.items
+        ≡ with_link (map (λ list. list.items) lists.old.items) link.now) }
+{
+    if let Target::OfPart { part, port } = link.from {
+        if part < lists.len() {
+            lists[part].push(Coupling {
+                port,
+                target: link.to,
+            })?;
+        }
+    }
+    Ok(())
+}

@@ -1,0 +1,52 @@
+//! Laws of routing. Each function stands for the law in its contract; its body does nothing.
+
+ghost use Rattle.std.specs.Prelude.{◌≡◌, ℕ, List, [], ◌∷◌, length, map, replicate};
+ghost use Rattle.std.specs.List.{All};
+ghost use Rattle.dv_syntax.specs.Trees.{FileTree};
+ghost use Rattle.dv_bag.specs.Bag.{Counts};
+ghost use Rattle.dv_tree.specs.Instances.{instances};
+ghost use Rattle.dv_tree.specs.Routing.{arrives, leaves};
+ghost use Rattle.dv_tree.specs.Rows.{beside, sevens, two_levels, two_parts, two_paths};
+
+/// Each component receives a list of bags.
+pub fn each_component_receives()
+    ensures { (f : FileTree) (sent : List (List Counts)) (input : List Counts) →
+        length (arrives f sent input) ≡ length (instances f) }
+{}
+
+/// Where nothing is sent and nothing comes from outside, nothing arrives and nothing leaves.
+pub fn nothing_comes_of_nothing()
+    ensures arrives { (f : FileTree) (ports : ℕ) → All (All (λ b. b ≡ []))
+        (arrives f (map (λ i. []) (instances f)) (replicate ports [])) }
+    ensures leaves { (f : FileTree) → All (λ b. b ≡ [])
+        (leaves f (map (λ i. []) (instances f))) }
+{}
+
+/// A component's path has the names of all parts that lead to it.
+pub fn paths_lead_through_parts()
+    ensures { map (λ i. i.path) (instances two_levels) ≡ (2 ∷ []) ∷ (3 ∷ 5 ∷ 7 ∷ []) ∷ [] }
+{}
+
+/// A value arrives once for every path.
+pub fn copies_arrive_by_every_path()
+    ensures { leaves two_paths ((sevens 1 ∷ []) ∷ []) ≡ sevens 2 ∷ [] ∷ [] }
+{}
+
+/// What leaves a part enters a coupled one, and goes down to the component inside.
+pub fn values_go_through_levels()
+    ensures { arrives two_levels ((sevens 1 ∷ []) ∷ ([] ∷ []) ∷ []) ([] ∷ [] ∷ [])
+        ≡ ([] ∷ []) ∷ (sevens 1 ∷ []) ∷ [] }
+{}
+
+/// What comes to an input of the root goes to each part that a link leads to.
+pub fn inputs_go_to_every_part()
+    ensures { arrives two_parts (([] ∷ []) ∷ ([] ∷ []) ∷ []) (sevens 1 ∷ [] ∷ [])
+        ≡ (sevens 1 ∷ []) ∷ (sevens 1 ∷ []) ∷ [] }
+{}
+
+/// What leads out and what leads to another part take nothing from each other.
+pub fn exits_stand_beside_inner_links()
+    ensures leaves { leaves beside ((sevens 1 ∷ []) ∷ ([] ∷ []) ∷ []) ≡ sevens 1 ∷ [] ∷ [] }
+    ensures arrives { arrives beside ((sevens 1 ∷ []) ∷ ([] ∷ []) ∷ []) ([] ∷ [] ∷ [])
+        ≡ ([] ∷ []) ∷ (sevens 1 ∷ []) ∷ [] }
+{}

@@ -1,0 +1,288 @@
+//! The tables of coupled models.
+
+ghost use Rattle.std.specs.Prelude.{◌≡◌, [], length, map, replicate, slice_index_or, option_copied, IfOk};
+ghost use Rattle.std.specs.List.{filter_map};
+ghost use Rattle.dv_syntax.specs.Trees.{coupled_of, model_of};
+ghost use Rattle.dv_eval.specs.Scope.{place_of};
+ghost use Rattle.dv_tree.specs.Couplings.{place_at};
+ghost use Rattle.dv_tree.specs.Nodes.{level_at, nothing_in};
+ghost use Rattle.dv_tree.specs.Tables.{level_by, level_by_model, links_by, placed_by, ports_at};
+
+use crate::arrived::Arrived;
+use crate::couplings::{Coupling, PlacedLink, Target, own_couplings, part_couplings};
+use crate::entries::{Entry, entries, entry_names};
+use crate::places::Places;
+use crate::tables::numbers;
+use dv_bag::Bags;
+use dv_syntax::{Coupled, End, Link, Model as ModelItem};
+use std::alloc::{AllocError, Global};
+use std::marker::Model;
+
+/// The table of a coupled model: its parts, the number of its outputs and of the inputs of each part, and its links by
+/// where they begin.
+#[derive(Drop)]
+pub(crate) struct Level {
+    parts: Vec<Entry>,
+    outputs: usize,
+    inputs: Vec<usize>,
+    of_inputs: Vec<Coupling>,
+    of_parts: Vec<Vec<Coupling>>,
+}
+
+impl Model for Level {
+    ghost use Rattle.std.specs.Prelude.{map};
+    ghost use Rattle.dv_tree.specs.Tables.{LevelTable, level_code};
+
+    ghost Value = { LevelTable };
+
+    ghost coded = { level_code };
+
+    ghost view = { λ l. record { parts = l.parts.items; outputs = l.outputs; inputs = l.inputs.items; of_inputs = l.of_inputs.items; of_parts = map (λ list. list.items) l.of_parts.items } };
+}
+
+impl Level {
+    /// The parts in the order of the text.
+    pub(crate) fn parts(&self) -> &[Entry]
+        ensures { result.now ≡ self.now.parts }
+    {
+        &self.parts
+    }
+
+    /// The couplings from the inputs of the model itself.
+    pub(crate) fn couplings_of_inputs(&self) -> &[Coupling]
+        ensures { result.now ≡ self.now.of_inputs }
+    {
+        &self.of_inputs
+    }
+
+    /// The couplings from the outputs of a part. Past the last part there are none.
+    pub(crate) fn couplings_of_part(&self, part: usize) -> &[Coupling]
+        ensures { result.now ≡ slice_index_or self.now.of_parts part [] }
+    {
+        match self.of_parts.get(part) {
+            Some(couplings) => couplings,
+            None => &[],
+        }
+    }
+
+    /// No values at any port that a link leads to.
+    ///
+    /// # Errors
+    ///
+    /// No memory for the bags.
+    pub(crate) fn nothing(&self, alloc: Global) -> Result<Arrived, AllocError>
+        ensures { IfOk result (λ arrived. arrived ≡ nothing_in self.now) }
+    {
+        let own = Bags::empty(alloc, self.outputs)?;
+        let parts = empty_bags(alloc, &self.inputs)?;
+        Ok(Arrived { own, parts })
+    }
+}
+
+fn empty_bags(alloc: Global, ports: &[usize]) -> Result<Vec<Bags>, AllocError>
+    ensures { IfOk result (λ bags. bags.items ≡ map (λ ports. replicate ports []) ports.now) }
+{
+    let mut bags = Vec::with_capacity(alloc, ports.len())?;
+    for count in ports {
+        bags.push(Bags::empty(alloc, *count)?)?;
+    }
+    Ok(bags)
+}
+
+// The place of an end of a link, by the ports of the model itself and those of each model.
+fn place_at(
+    end: &End,
+    own: &Places,
+    names: &Places,
+    parts: &[Entry],
+    ports: &[Places],
+) -> Option<Target>
+    ensures { result ≡ place_at own.now names.now (ports_at ports.now parts.now)
+        end.now.part end.now.port.number }
+{
+    match end.part {
+        None => {
+            let port = own.place(end.port.number)?;
+            Some(Target::Own { port })
+        }
+        Some(name) => {
+            let part = names.place(name.number)?;
+            let port = port_of(part, end.port.number, parts, ports)?;
+            Some(Target::OfPart { part, port })
+        }
+    }
+}
+
+// The place of a port of a part.
+fn port_of(part: usize, port: u32, parts: &[Entry], ports: &[Places]) -> Option<usize>
+    ensures { result ≡ place_of port (slice_index_or (ports_at ports.now parts.now) part []) }
+{
+    let model = parts.get(part)?.model;
+    ports.get(model)?.place(port)
+}
+
+// Where the links of a coupled model lead: the ports of the model itself, its parts by their names, and the ports of
+// each model of the file.
+#[derive(Drop)]
+struct Ends<'t> {
+    own_inputs: Places,
+    own_outputs: Places,
+    names: Places,
+    parts: &'t [Entry],
+    inputs: &'t [Places],
+    outputs: &'t [Places],
+}
+
+fn placed_link(link: &Link, ends: &Ends) -> Option<PlacedLink>
+    ensures { result ≡ placed_by ends.now.own_inputs ends.now.own_outputs ends.now.names
+        (ports_at ends.now.inputs.now ends.now.parts.now)
+        (ports_at ends.now.outputs.now ends.now.parts.now) link.now }
+{
+    let from = place_at(
+        &link.from,
+        &ends.own_inputs,
+        &ends.names,
+        ends.parts,
+        ends.outputs,
+    )?;
+    let to = place_at(
+        &link.to,
+        &ends.own_outputs,
+        &ends.names,
+        ends.parts,
+        ends.inputs,
+    )?;
+    Some(PlacedLink { from, to })
+}
+
+// The links whose ends both have a place.
+fn placed_links(alloc: Global, links: &[Link], ends: &Ends) -> Result<Vec<PlacedLink>, AllocError>
+    ensures { IfOk result (λ placed. placed.items
+        ≡ filter_map (placed_by ends.now.own_inputs ends.now.own_outputs ends.now.names
+        (ports_at ends.now.inputs.now ends.now.parts.now)
+        (ports_at ends.now.outputs.now ends.now.parts.now)) links.now) }
+{
+    let mut placed = Vec::new(alloc);
+    for link in links {
+        if let Some(link) = placed_link(link, ends) {
+            placed.push(link)?;
+        }
+    }
+    Ok(placed)
+}
+
+fn links_by(
+    alloc: Global,
+    coupled: &Coupled,
+    parts: &[Entry],
+    inputs: &[Places],
+    outputs: &[Places],
+) -> Result<Vec<PlacedLink>, AllocError>
+    ensures { IfOk result (λ links. links.items
+        ≡ links_by inputs.now outputs.now parts.now (coupled_of coupled.now)) }
+{
+    let own_inputs = Places::of(alloc, numbers(alloc, &coupled.inputs)?)?;
+    let own_outputs = Places::of(alloc, numbers(alloc, &coupled.outputs)?)?;
+    let names = Places::of(alloc, entry_names(alloc, parts)?)?;
+    let ends = Ends {
+        own_inputs,
+        own_outputs,
+        names,
+        parts,
+        inputs,
+        outputs,
+    };
+    placed_links(alloc, &coupled.links, &ends)
+}
+
+// The number of input ports of each part.
+fn input_counts(alloc: Global, parts: &[Entry], inputs: &[Places]) -> Result<Vec<usize>, AllocError>
+    ensures { IfOk result (λ counts. counts.items ≡ map length (ports_at inputs.now parts.now)) }
+{
+    let mut counts = Vec::with_capacity(alloc, parts.len())?;
+    for part in parts {
+        counts.push(port_count(part.model, inputs))?;
+    }
+    Ok(counts)
+}
+
+fn port_count(model: usize, ports: &[Places]) -> usize
+    ensures { result ≡ length (slice_index_or ports.now model []) }
+{
+    match ports.get(model) {
+        Some(places) => places.len(),
+        None => 0,
+    }
+}
+
+// The table of a coupled model, by the names of the models and the ports of each.
+fn make_level(
+    alloc: Global,
+    coupled: &Coupled,
+    models: &Places,
+    inputs: &[Places],
+    outputs: &[Places],
+) -> Result<Level, AllocError>
+    ensures { IfOk result (λ level. level
+        ≡ level_by models.now inputs.now outputs.now (coupled_of coupled.now)) }
+{
+    let parts = entries(alloc, &coupled.parts, models)?;
+    let links = links_by(alloc, coupled, &parts, inputs, outputs)?;
+    let counts = input_counts(alloc, &parts, inputs)?;
+    let of_inputs = own_couplings(alloc, &links)?;
+    let of_parts = part_couplings(alloc, parts.len(), &links)?;
+    Ok(Level {
+        parts,
+        outputs: coupled.outputs.len(),
+        inputs: counts,
+        of_inputs,
+        of_parts,
+    })
+}
+
+fn level_of_model(
+    alloc: Global,
+    model: &ModelItem,
+    models: &Places,
+    inputs: &[Places],
+    outputs: &[Places],
+) -> Result<Option<Level>, AllocError>
+    ensures { IfOk result (λ level. level
+        ≡ level_by_model models.now inputs.now outputs.now (model_of model.now)) }
+{
+    match model {
+        ModelItem::Atomic(_) => Ok(None),
+        ModelItem::Coupled(coupled) => {
+            let level = make_level(alloc, coupled, models, inputs, outputs)?;
+            Ok(Some(level))
+        }
+    }
+}
+
+/// The tables of the coupled models of a file, by the places of the models.
+pub(crate) fn levels(
+    alloc: Global,
+    items: &[ModelItem],
+    models: &Places,
+    inputs: &[Places],
+    outputs: &[Places],
+) -> Result<Vec<Option<Level>>, AllocError>
+    ensures { IfOk result (λ levels. levels.items
+        ≡ map (level_by_model models.now inputs.now outputs.now) (map model_of items.now)) }
+{
+    let mut levels = Vec::with_capacity(alloc, items.len())?;
+    for item in items {
+        levels.push(level_of_model(alloc, item, models, inputs, outputs)?)?;
+    }
+    Ok(levels)
+}
+
+/// The table of the model at a place, where that is a coupled one.
+pub(crate) fn level_at(levels: &[Option<Level>], place: usize) -> Option<&Level>
+    ensures { option_copied result ≡ level_at levels.now place }
+{
+    match levels.get(place) {
+        Some(Some(level)) => Some(level),
+        Some(None) | None => None,
+    }
+}

@@ -1,0 +1,182 @@
+//! How values travel.
+
+ghost use Rattle.std.specs.Prelude.{◌≡◌, ◌++◌, ◌∷◌, suc, drop, option_copied, OnOk, IfOk};
+ghost use Rattle.std.specs.Vec.Iter.{into_iter_items};
+ghost use Rattle.dv_tree.specs.Nodes.{arriving_nodes, atomic_count, coupled_count, from_level, kept_nodes, leaving_nodes, nodes_to, part_count, part_coupled, part_kept, part_leaving, part_received, through_level};
+ghost use Rattle.dv_tree.specs.Routing.{along, first_bags};
+
+use crate::arrived::Arrived;
+use crate::couplings::Coupling;
+use crate::levels::{Level, level_at};
+use dv_bag::{Bags, Sent};
+use std::alloc::{AllocError, Global};
+use std::vec::IntoIter;
+
+/// Going up: adds what comes from the parts of a coupled model, and then the same of the coupled models inside, from
+/// what the components send from there on. Gives what the components behind these send.
+///
+/// # Errors
+///
+/// No memory for the values.
+#[cycle(rise)]
+pub(crate) fn rise<'s>(
+    alloc: Global,
+    depth: usize,
+    level: &Level,
+    levels: &[Option<Level>],
+    sent: &'s [Sent],
+    kept: &mut Vec<Arrived>,
+) -> Result<&'s [Sent], AllocError>
+    ensures rest { IfOk result (λ rest. rest.now
+        ≡ drop (atomic_count (nodes_to depth levels.now level.now)) sent.now) }
+    ensures kept { OnOk result (kept.new.items ≡ kept.old.items
+        ++ from_level level.now (leaving_nodes (nodes_to depth levels.now level.now) sent.now)
+        ∷ kept_nodes (nodes_to depth levels.now level.now) sent.now) }
+{
+    let mut arrived = level.nothing(alloc)?;
+    if depth == 0 {
+        kept.push(arrived)?;
+        return Ok(sent);
+    }
+    let slot = kept.len();
+    kept.push(Arrived::empty(alloc)?)?;
+    let mut rest = sent;
+    for (part, entry) in level.parts().iter().enumerate() {
+        let inside = level_at(levels, entry.model);
+        let couplings = level.couplings_of_part(part);
+        rest = rise_part(
+            alloc,
+            depth - 1,
+            inside,
+            levels,
+            couplings,
+            rest,
+            kept,
+            &mut arrived,
+        )?;
+    }
+    kept[slot] = arrived;
+    Ok(rest)
+}
+
+// The same of one part, which is coupled or atomic: what leaves it goes along its couplings.
+#[cycle(rise)]
+fn rise_part<'s>(
+    alloc: Global,
+    depth: usize,
+    inside: Option<&Level>,
+    levels: &[Option<Level>],
+    couplings: &[Coupling],
+    sent: &'s [Sent],
+    kept: &mut Vec<Arrived>,
+    arrived: &mut Arrived,
+) -> Result<&'s [Sent], AllocError>
+    ensures rest { IfOk result (λ rest. rest.now
+        ≡ drop (part_count (nodes_to depth levels.now) (option_copied inside.entry)) sent.now) }
+    ensures arrived { OnOk result (arrived.new ≡ along couplings.now
+        (part_leaving (nodes_to depth levels.now) (option_copied inside.entry) sent.now) arrived.old) }
+    ensures kept { OnOk result (kept.new.items ≡ kept.old.items
+        ++ part_kept (nodes_to depth levels.now) (option_copied inside.entry) sent.now) }
+{
+    match inside {
+        None => add_first(couplings, sent, arrived),
+        Some(level) => {
+            let place = kept.len();
+            let rest = rise(alloc, depth, level, levels, sent, kept)?;
+            arrived.add_bags(couplings, kept[place].own())?;
+            Ok(rest)
+        }
+    }
+}
+
+// What the first component sends goes along its couplings. Gives what the others send.
+fn add_first<'s>(
+    couplings: &[Coupling],
+    sent: &'s [Sent],
+    arrived: &mut Arrived,
+) -> Result<&'s [Sent], AllocError>
+    ensures rest { IfOk result (λ rest. rest.now ≡ drop 1 sent.now) }
+    ensures arrived { OnOk result
+        (arrived.new ≡ along couplings.now (first_bags sent.now) arrived.old) }
+{
+    match sent {
+        [first, rest @ ..] => {
+            arrived.add_sent(couplings, first)?;
+            Ok(rest)
+        }
+        [] => Ok(sent),
+    }
+}
+
+/// Going down: adds what the components of a coupled model receive, from what comes to its inputs and what came from
+/// the parts of the model and of those inside, which is taken.
+///
+/// # Errors
+///
+/// No memory for the values.
+#[cycle(sink)]
+pub(crate) fn sink(
+    alloc: Global,
+    depth: usize,
+    level: &Level,
+    levels: &[Option<Level>],
+    input: &Bags,
+    kept: &mut IntoIter<Arrived>,
+    received: &mut Vec<Bags>,
+) -> Result<(), AllocError>
+    ensures kept { OnOk result (into_iter_items kept.new
+        ≡ drop (suc (coupled_count (nodes_to depth levels.now level.now))) (into_iter_items kept.old)) }
+    ensures received { OnOk result (received.new.items ≡ received.old.items
+        ++ through_level (arriving_nodes (nodes_to depth levels.now level.now)) level.now input.now
+        (into_iter_items kept.old)) }
+{
+    let Some(mut arrived) = kept.next() else {
+        return Ok(());
+    };
+    arrived.add_bags(level.couplings_of_inputs(), input)?;
+    if depth == 0 {
+        return Ok(());
+    }
+    let mut parts = arrived.into_parts().into_iter();
+    for entry in level.parts() {
+        let inside = level_at(levels, entry.model);
+        let comes = next_bags(alloc, &mut parts)?;
+        sink_part(alloc, depth - 1, inside, levels, comes, kept, received)?;
+    }
+    Ok(())
+}
+
+// The same of one part, which is coupled or atomic.
+#[cycle(sink)]
+fn sink_part(
+    alloc: Global,
+    depth: usize,
+    inside: Option<&Level>,
+    levels: &[Option<Level>],
+    comes: Bags,
+    kept: &mut IntoIter<Arrived>,
+    received: &mut Vec<Bags>,
+) -> Result<(), AllocError>
+    ensures kept { OnOk result (into_iter_items kept.new ≡ drop
+        (part_coupled (nodes_to depth levels.now) (option_copied inside.entry))
+        (into_iter_items kept.old)) }
+    ensures received { OnOk result (received.new.items ≡ received.old.items
+        ++ part_received (nodes_to depth levels.now) (option_copied inside.entry) comes
+        (into_iter_items kept.old)) }
+{
+    match inside {
+        None => Ok(received.push(comes)?),
+        Some(level) => sink(alloc, depth, level, levels, &comes, kept, received),
+    }
+}
+
+// What comes to the next part.
+fn next_bags(alloc: Global, parts: &mut IntoIter<Bags>) -> Result<Bags, AllocError>
+    ensures value { IfOk result (λ bags. bags ≡ first_bags (into_iter_items parts.old)) }
+    ensures rest { OnOk result (into_iter_items parts.new ≡ drop 1 (into_iter_items parts.old)) }
+{
+    match parts.next() {
+        Some(bags) => Ok(bags),
+        None => Bags::empty(alloc, 0),
+    }
+}
