@@ -10,7 +10,7 @@ use Rattle.dv_tree.specs.Nodes.{nodes_by, nodes_to}
 use Rattle.dv_tree.specs.Tables.{LevelTable, scope_of_model}
 
 -- above no level the parts are those of the table
-pub nodes_to-below : (depth : ℕ) (levels : List (Option LevelTable)) (l : LevelTable) → depth ≢ 0 →
+nodes_to-below : (depth : ℕ) (levels : List (Option LevelTable)) (l : LevelTable) → depth ≢ 0 →
     nodes_to depth levels l ≡ nodes_by (nodes_to (depth - 1) levels) levels l.parts
 nodes_to-below zero levels l some = absurd (some refl)
 nodes_to-below (suc depth) levels l some = ap (λ n. nodes_by (nodes_to n levels) levels l.parts) (omega arith)

@@ -2,6 +2,7 @@ pub mod Along
 pub mod Below
 pub mod Gathered
 pub mod Limits
+pub mod Linear
 pub mod Links
 pub mod Mirrors
 pub mod Named

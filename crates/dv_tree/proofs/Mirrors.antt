@@ -21,7 +21,8 @@ pub data Mirrors (models : List ModelTree) : PartTree → Nodes → Type 0 where
   atomic : (name : Name) (m : AtomicTree) (place : ℕ) {rest : PartTree} {others : Nodes} → slice_get models place ≡ Some (AtomicModel m) →
       Mirrors models rest others → Mirrors models (AtomicPart name m rest) (AtomicNode name.number place others)
   coupled : (name : Name) (m : CoupledTree) {inside rest : PartTree} {within others : Nodes} → Mirrors models inside within →
-      Mirrors models rest others → Mirrors models (CoupledPart name m inside rest) (CoupledNode name.number (level_of models m) within others)
+      Mirrors models rest others → Mirrors models (CoupledPart name m inside rest)
+      (CoupledNode name.number (level_of models m) within others)
 
 module _ (models : List ModelTree) (inside : CoupledTree → PartTree) (within : LevelTable → Nodes)
     (below : (m : CoupledTree) → Mirrors models (inside m) (within (level_of models m))) where
@@ -32,11 +33,13 @@ module _ (models : List ModelTree) (inside : CoupledTree → PartTree) (within :
   mirrors_part p rest entries nowhere h = h
   mirrors_part p rest entries (somewhere (AtomicModel m) place there) h =
       let At : Option LevelTable → Type 0 =
-      λ o. Mirrors models (AtomicPart p.name m rest) (with_node within (entry_at p.name place) o (nodes_by within (levels_of models) entries)) in
+      λ o. Mirrors models (AtomicPart p.name m rest)
+      (with_node within (entry_at p.name place) o (nodes_by within (levels_of models) entries)) in
       subst At (sym (level_placed models place (AtomicModel m) there)) (atomic p.name m place there h)
   mirrors_part p rest entries (somewhere (CoupledModel m) place there) h =
       let At : Option LevelTable → Type 0 =
-      λ o. Mirrors models (CoupledPart p.name m (inside m) rest) (with_node within (entry_at p.name place) o (nodes_by within (levels_of models) entries)) in
+      λ o. Mirrors models (CoupledPart p.name m (inside m) rest)
+      (with_node within (entry_at p.name place) o (nodes_by within (levels_of models) entries)) in
       subst At (sym (level_placed models place (CoupledModel m) there)) (coupled p.name m (below m) h)
 
   mirrors_parts : (parts : List Part) →
@@ -107,9 +110,11 @@ same_leaving (atomic name m place there rest) sent = ap (λ xs. first_bags sent 
 same_leaving {models = models} (coupled name m {inside = inside} {rest = rest} {within = within} {others = others} h more) sent =
     ap (λ xs. (from_parts models m xs).own ∷ leaving models rest (drop (component_count inside) sent))
     (leaving-take models inside sent ∙ same_leaving h sent)
-    ∙ (ap (λ (a : Arrived). a.own ∷ leaving models rest (drop (component_count inside) sent)) (from_table models m (leaving_nodes within sent))
+    ∙ (ap (λ (a : Arrived). a.own ∷ leaving models rest (drop (component_count inside) sent))
+    (from_table models m (leaving_nodes within sent))
     ∙ (ap (λ k. (from_level (level_of models m) (leaving_nodes within sent)).own ∷ leaving models rest (drop k sent)) (same_count h)
-    ∙ ap (λ xs. (from_level (level_of models m) (leaving_nodes within sent)).own ∷ xs) (same_leaving more (drop (atomic_count within) sent))))
+    ∙ ap (λ xs. (from_level (level_of models m) (leaving_nodes within sent)).own ∷ xs)
+    (same_leaving more (drop (atomic_count within) sent))))
 
 length-kept_nodes : (n : Nodes) (sent : List (List Counts)) → length (kept_nodes n sent) ≡ coupled_count n
 length-kept_nodes NoNodes sent = refl
@@ -151,5 +156,7 @@ same_arriving {models = models} (coupled name m {inside = inside} {rest = rest} 
     ∙ (ap (arriving_nodes others (drop 1 comes)) (drop_at kept after (coupled_count within) (length-kept_nodes within sent))
     ∙ (same_arriving others_h (drop 1 comes) (drop (atomic_count within) sent) more
     ∙ ap (λ j. arriving models rest (drop 1 comes) (drop j sent)) (sym (same_count h)))) in
-    ap (λ xs. xs ++ arriving_nodes others (drop 1 comes) (drop (coupled_count within) ((kept ++ kept_nodes others (drop (atomic_count within) sent)) ++ more))) first
-    ∙ ap (λ xs. arriving models inside (to_parts models m (first_bags comes) (leaving models inside (take k sent))) (take k sent) ++ xs) behind
+    ap (λ xs. xs ++ arriving_nodes others (drop 1 comes)
+    (drop (coupled_count within) ((kept ++ kept_nodes others (drop (atomic_count within) sent)) ++ more))) first
+    ∙ ap (λ xs. arriving models inside (to_parts models m (first_bags comes) (leaving models inside (take k sent)))
+    (take k sent) ++ xs) behind

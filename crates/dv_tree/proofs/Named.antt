@@ -100,7 +100,8 @@ length-instances_in path (CoupledPart name m inside rest) =
     ∙ ap (λ k. component_count inside + k) (length-instances_in path rest))
 
 -- a component by its number
-pub record IsComponent (models : List ModelTree) (names : List (List ℕ)) (cs : List (List ℕ × ℕ)) (is : List Instance) (k : ℕ) : Type 0 where
+pub record IsComponent (models : List ModelTree) (names : List (List ℕ)) (cs : List (List ℕ × ℕ)) (is : List Instance)
+    (k : ℕ) : Type 0 where
   pub component : List ℕ × ℕ
   pub instance : Instance
   pub kept : slice_get cs k ≡ Some component

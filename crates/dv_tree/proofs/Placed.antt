@@ -80,9 +80,12 @@ links_made models m =
     let h = shown_as models m.parts in
     let inputs = numbers m.inputs in
     let outputs = numbers m.outputs in
-    ap (λ xs. filter_map (placed_by inputs outputs xs (ports_at (map inputs_of models) (entries_of models m)) (ports_at (map outputs_of models) (entries_of models m))) m.links) (sym h.names)
-    ∙ (ap (λ xs. filter_map (placed_by inputs outputs (map (λ (s : Shown). s.name) (shown_parts models m)) xs (ports_at (map outputs_of models) (entries_of models m))) m.links) (sym h.inputs)
-    ∙ ap (λ xs. filter_map (placed_by inputs outputs (map (λ (s : Shown). s.name) (shown_parts models m)) (map (λ (s : Shown). s.inputs) (shown_parts models m)) xs) m.links) (sym h.outputs))
+    ap (λ xs. filter_map (placed_by inputs outputs xs (ports_at (map inputs_of models) (entries_of models m))
+    (ports_at (map outputs_of models) (entries_of models m))) m.links) (sym h.names)
+    ∙ (ap (λ xs. filter_map (placed_by inputs outputs (map (λ (s : Shown). s.name) (shown_parts models m)) xs
+    (ports_at (map outputs_of models) (entries_of models m))) m.links) (sym h.inputs)
+    ∙ ap (λ xs. filter_map (placed_by inputs outputs (map (λ (s : Shown). s.name) (shown_parts models m))
+    (map (λ (s : Shown). s.inputs) (shown_parts models m)) xs) m.links) (sym h.outputs))
 
 lengths : (shown : List Shown) → map length (map (λ (s : Shown). s.inputs) shown) ≡ map (λ (s : Shown). length s.inputs) shown
 lengths [] = refl
@@ -160,11 +163,15 @@ pub root_made : (f : FileTree) → root_level (levels_of f.models) (place_of f.r
 root_made f = root_at f.models (is_placed f.root.number f.models)
 
 -- the links of a coupled model, from tables that are equal to these
-pub links_from : (inputs outputs : List (List ℕ)) (entries : List Entry) (m : CoupledTree) (own_inputs own_outputs names : List ℕ) (links : List Link) →
+pub links_from : (inputs outputs : List (List ℕ)) (entries : List Entry) (m : CoupledTree) (own_inputs own_outputs names : List ℕ)
+    (links : List Link) →
     own_inputs ≡ numbers m.inputs → own_outputs ≡ numbers m.outputs → names ≡ entry_names entries → links ≡ m.links →
-    filter_map (placed_by own_inputs own_outputs names (ports_at inputs entries) (ports_at outputs entries)) links ≡ links_by inputs outputs entries m
+    filter_map (placed_by own_inputs own_outputs names (ports_at inputs entries)
+    (ports_at outputs entries)) links ≡ links_by inputs outputs entries m
 links_from inputs outputs entries m own_inputs own_outputs names links a b c d =
     ap (λ x. filter_map (placed_by x own_outputs names (ports_at inputs entries) (ports_at outputs entries)) links) a
     ∙ (ap (λ x. filter_map (placed_by (numbers m.inputs) x names (ports_at inputs entries) (ports_at outputs entries)) links) b
-    ∙ (ap (λ x. filter_map (placed_by (numbers m.inputs) (numbers m.outputs) x (ports_at inputs entries) (ports_at outputs entries)) links) c
-    ∙ ap (filter_map (placed_by (numbers m.inputs) (numbers m.outputs) (entry_names entries) (ports_at inputs entries) (ports_at outputs entries))) d))
+    ∙ (ap (λ x. filter_map (placed_by (numbers m.inputs) (numbers m.outputs) x (ports_at inputs entries)
+    (ports_at outputs entries)) links) c
+    ∙ ap (filter_map (placed_by (numbers m.inputs) (numbers m.outputs) (entry_names entries) (ports_at inputs entries)
+    (ports_at outputs entries))) d))

@@ -71,7 +71,8 @@ parts_nothing : (models : List ModelTree) (m : CoupledTree) (input : List Counts
 parts_nothing models m input bags none_in none =
     let Parts : Arrived → Type 0 = λ a. All IsNothing a.parts in
     subst Parts
-    (sym (along_none (couplings_of_inputs models m) input (from_parts models m bags) (none_at input none_in) ∙ from_nothing models m bags none))
+    (sym (along_none (couplings_of_inputs models m) input (from_parts models m bags) (none_at input none_in)
+    ∙ from_nothing models m bags none))
     (All-map IsNothing (λ (s : Shown). replicate (length s.inputs) []) (shown_parts models m)
     (λ k d within. All-replicate (λ b. b ≡ []) _ [] refl))
 
@@ -88,10 +89,12 @@ nothing_leaves models (AtomicPart name m rest) sent none =
 nothing_leaves models (CoupledPart name m inside rest) sent none =
     let k = component_count inside in
     All-cons IsNothing _ (leaving models rest (drop k sent))
-    (own_nothing models m (leaving models inside (take k sent)) (nothing_leaves models inside (take k sent) (All-take IsNothing k sent none)))
+    (own_nothing models m (leaving models inside (take k sent))
+    (nothing_leaves models inside (take k sent) (All-take IsNothing k sent none)))
     (nothing_leaves models rest (drop k sent) (All-drop IsNothing k sent none))
 
-pub nothing_arrives : (models : List ModelTree) (t : PartTree) (comes sent : List (List Counts)) → All IsNothing comes → All IsNothing sent →
+pub nothing_arrives : (models : List ModelTree) (t : PartTree) (comes sent : List (List Counts)) → All IsNothing comes →
+    All IsNothing sent →
     All IsNothing (arriving models t comes sent)
 nothing_arrives models NoParts comes sent none_in none = All-nil IsNothing
 nothing_arrives models (AtomicPart name m rest) comes sent none_in none =
@@ -104,7 +107,8 @@ nothing_arrives models (CoupledPart name m inside rest) comes sent none_in none 
     let into = to_parts models m (first_bags comes) (leaving models inside below) in
     All-append IsNothing (arriving models inside into below) (arriving models rest (drop 1 comes) (drop k sent))
     (nothing_arrives models inside into below
-    (parts_nothing models m (first_bags comes) (leaving models inside below) (first_nothing comes none_in) (nothing_leaves models inside below none_below)) none_below)
+    (parts_nothing models m (first_bags comes) (leaving models inside below) (first_nothing comes none_in)
+    (nothing_leaves models inside below none_below)) none_below)
     (nothing_arrives models rest (drop 1 comes) (drop k sent) (All-drop IsNothing 1 comes none_in) (All-drop IsNothing k sent none))
 
 none_sent : (is : List Instance) → All IsNothing (map (λ i. []) is)

@@ -5,6 +5,7 @@ pub mod Couplings
 pub mod Routing
 -- What the laws speak of.
 pub mod Rows
+pub mod Unions
 -- What serves proofs.
 pub mod Tables
 pub mod Nodes

@@ -85,7 +85,8 @@ abbrev pub to_level : LevelTable → List Counts → Arrived → List (List Coun
 to_level l input a = (along l.of_inputs input a).parts
 
 -- what the components of a coupled model receive, from what comes to its inputs and what comes from parts
-abbrev pub through_level : (List (List Counts) → List Arrived → List (List Counts)) → LevelTable → List Counts → List Arrived → List (List Counts)
+abbrev pub through_level : (List (List Counts) → List Arrived → List (List Counts)) → LevelTable → List Counts → List Arrived →
+    List (List Counts)
 through_level inside l input [] = []
 through_level inside l input (a ∷ kept) = inside (to_level l input a) kept
 

@@ -66,7 +66,8 @@ abbrev pub level_code : Coded LevelTable
 level_code =
     code_by (List Entry × (ℕ × (List ℕ × (List Coupling × List (List Coupling)))))
     (coded× (coded_list entry.the_row.coded)
-    (coded× coded_ℕ (coded× (coded_list coded_ℕ) (coded× (coded_list coupling.the_row.coded) (coded_list (coded_list coupling.the_row.coded))))))
+    (coded× coded_ℕ (coded× (coded_list coded_ℕ)
+    (coded× (coded_list coupling.the_row.coded) (coded_list (coded_list coupling.the_row.coded))))))
     (λ t. (t.parts, (t.outputs, (t.inputs, (t.of_inputs, t.of_parts)))))
     (λ p. record { parts = p.0; outputs = p.1.0; inputs = p.1.1.0; of_inputs = p.1.1.1.0; of_parts = p.1.1.1.1 }) (λ _. refl)
 
@@ -105,7 +106,8 @@ placed_by inputs outputs names part_inputs part_outputs l =
 
 abbrev pub links_by : List (List ℕ) → List (List ℕ) → List Entry → CoupledTree → List PlacedLink
 links_by inputs outputs entries m =
-    filter_map (placed_by (numbers m.inputs) (numbers m.outputs) (entry_names entries) (ports_at inputs entries) (ports_at outputs entries)) m.links
+    filter_map (placed_by (numbers m.inputs) (numbers m.outputs) (entry_names entries) (ports_at inputs entries)
+    (ports_at outputs entries)) m.links
 
 abbrev pub level_with : List (List ℕ) → List (List ℕ) → List Entry → CoupledTree → LevelTable
 level_with inputs outputs entries m = record {

@@ -1,4 +1,4 @@
-//! Laws of routing. Each function stands for the law in its contract; its body does nothing.
+//! Laws of routing. Each function stands for the law in its contract; its body does nothing but name laws of bags.
 
 ghost use Rattle.std.specs.Prelude.{◌≡◌, ℕ, List, [], ◌∷◌, length, map, replicate};
 ghost use Rattle.std.specs.List.{All};
@@ -7,6 +7,9 @@ ghost use Rattle.dv_bag.specs.Bag.{Counts};
 ghost use Rattle.dv_tree.specs.Instances.{instances};
 ghost use Rattle.dv_tree.specs.Routing.{arrives, leaves};
 ghost use Rattle.dv_tree.specs.Rows.{beside, sevens, two_levels, two_parts, two_paths};
+ghost use Rattle.dv_tree.specs.Unions.{AllUnite, Unite};
+
+use dv_bag::laws::bags::bags_are_a_commutative_monoid;
 
 /// Each component receives a list of bags.
 pub fn each_component_receives()
@@ -50,3 +53,16 @@ pub fn exits_stand_beside_inner_links()
     ensures arrives { arrives beside ((sevens 1 ∷ []) ∷ ([] ∷ []) ∷ []) ([] ∷ [] ∷ [])
         ≡ ([] ∷ []) ∷ (sevens 1 ∷ []) ∷ [] }
 {}
+
+/// Routing is linear: of what is sent in two lists and united port by port, and of what comes to the inputs united
+/// alike, there leaves and there arrives what leaves and arrives of the one, united with that of the other. Where bags
+/// are sent, bags leave and arrive.
+pub fn routing_is_linear()
+    ensures leaves { (f : FileTree) (a b both : List (List Counts)) → AllUnite a b both →
+        Unite (leaves f a) (leaves f b) (leaves f both) }
+    ensures arrives { (f : FileTree) (x y input : List Counts) (a b both : List (List Counts)) →
+        Unite x y input → AllUnite a b both →
+        AllUnite (arrives f a x) (arrives f b y) (arrives f both input) }
+{
+    bags_are_a_commutative_monoid();
+}

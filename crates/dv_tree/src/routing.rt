@@ -74,7 +74,8 @@ fn rise_part<'s>(
     ensures rest { IfOk result (λ rest. rest.now
         ≡ drop (part_count (nodes_to depth levels.now) (option_copied inside.entry)) sent.now) }
     ensures arrived { OnOk result (arrived.new ≡ along couplings.now
-        (part_leaving (nodes_to depth levels.now) (option_copied inside.entry) sent.now) arrived.old) }
+        (part_leaving (nodes_to depth levels.now) (option_copied inside.entry) sent.now)
+        arrived.old) }
     ensures kept { OnOk result (kept.new.items ≡ kept.old.items
         ++ part_kept (nodes_to depth levels.now) (option_copied inside.entry) sent.now) }
 {
@@ -125,7 +126,8 @@ pub(crate) fn sink(
     received: &mut Vec<Bags>,
 ) -> Result<(), AllocError>
     ensures kept { OnOk result (into_iter_items kept.new
-        ≡ drop (suc (coupled_count (nodes_to depth levels.now level.now))) (into_iter_items kept.old)) }
+        ≡ drop (suc (coupled_count (nodes_to depth levels.now level.now)))
+        (into_iter_items kept.old)) }
     ensures received { OnOk result (received.new.items ≡ received.old.items
         ++ through_level (arriving_nodes (nodes_to depth levels.now level.now)) level.now input.now
         (into_iter_items kept.old)) }

@@ -7,5 +7,6 @@ decreases-add_components l = l.depth
 
 abbrev pub invariant-loop-entry : goal.invariant-loop-entry
 invariant-loop-entry l =
-    l.components.items ++ components_in l.names l.before (nodes_by (nodes_to (l.depth - 1) l.levels) l.levels (drop l.entry-index l.entry-items))
+    l.components.items ++ components_in l.names l.before
+    (nodes_by (nodes_to (l.depth - 1) l.levels) l.levels (drop l.entry-index l.entry-items))
     ≡ l.initial.components.items ++ components_in l.names l.before (nodes_by (nodes_to (l.depth - 1) l.levels) l.levels l.entry-items)

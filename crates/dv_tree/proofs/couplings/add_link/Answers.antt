@@ -13,5 +13,6 @@ returns-in_ok-push c =
     let list = c.index_mut.result.now in
     map-set (λ l. l.items) lists part c.push.new.self
     ∙ (ap (set (map (λ l. l.items) lists) part) (c.in_ok-push.ensures.items
-    ∙ ap (λ xs. xs ++ coupling ∷ []) (ap (λ l. l.items) c.index_mut.ensures.value ∙ sym (get_or-map (λ l. l.items) lists part list [] (omega (Rattle.std.proofs.Common.arith, c.if-part-len.true)))))
+    ∙ ap (λ xs. xs ++ coupling ∷ []) (ap (λ l. l.items) c.index_mut.ensures.value
+    ∙ sym (get_or-map (λ l. l.items) lists part list [] (omega (Rattle.std.proofs.Common.arith, c.if-part-len.true)))))
     ∙ ap (λ t. with_coupling_at t c.args.link.now.to (map (λ l. l.items) lists)) (sym c.in-OfPart.is))

@@ -15,7 +15,17 @@ returns-clause-few c =
     let few = few_inputs (file_of checked.file) (c.accepted_files.ensures _ checked.accepted) in
     let all = ap length c.deref.ensures.value in
     let inputs = ap length c.self.invariant.4 in
-    IfOk-weaker c.texts_of.result (λ (texts : Vec (String Global) Global). map string_bytes texts.items ≡ texts_of checked.names c.deref.result.now)
+    IfOk-weaker c.texts_of.result (λ (texts : Vec
+    (String Global) Global). map string_bytes texts.items ≡ texts_of checked.names c.deref.result.now)
     (λ (texts : Vec (String Global) Global). length texts.items ≤ GREATEST_NAMES)
-    (λ texts is. omega (arith, few, all, inputs, ap length is, length-map texts.items string_bytes, length-map c.deref.result.now (name_at checked.names)))
+    (λ texts is. omega (
+      arith,
+      few,
+      all,
+      inputs,
+      ap length is,
+      length-map texts.items string_bytes,
+      length-map c.deref.result.now
+          (name_at checked.names),
+    ))
     c.texts_of.ensures
