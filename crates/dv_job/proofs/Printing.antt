@@ -111,10 +111,13 @@ pub left_by_inputs : (e : InputsError) (text inputs : List ℕ) (h l : ℕ) (old
     (tree : Source) → IsModelOf text names (file_of file) → (tree.file ≡ file) × (tree.names ≡ names)
     → ((r : InputRefusal) → ◌≡◌ {A = Result (List Input) InputsError} (Err e) (Err (input.Refused r))
     → reading_of inputs (tree_inputs tree) ≡ Err r) → LeftBy (job_error_of_inputs e) text inputs h l old old
-left_by_inputs (input.Refused r) text inputs h l old names file tree m same refused = (record {
-  names = tree.names;
-  file = file_of tree.file;
-  accepted = model_of_tree text names file tree m same;
-  refused = refused r refl;
-}, kept old)
+left_by_inputs (input.Refused r) text inputs h l old names file tree m same refused = (
+  record {
+    names = tree.names;
+    file = file_of tree.file;
+    accepted = model_of_tree text names file tree m same;
+    refused = refused r refl;
+  },
+  kept old,
+)
 left_by_inputs input.Memory text inputs h l old names file tree m same refused = inl (kept old)

@@ -100,3 +100,11 @@ pub const KEEP: &str =
 coupled Top { in x; part k: Keep; link self.x -> k.x; }
 root Top;
 ";
+
+/// Two nodes of two relays each, from the root's input to its output.
+pub const NODES: &str =
+    "atomic Relay { in x; out y; var v: 0..99 = 0; phases z, g; start z; hold z: forever; hold g: 2; external z { v := sum(x); goto g; } output g { send y v; } internal g { goto z; } }
+coupled Node { in i; out o; part r: Relay; part s: Relay; link self.i -> r.x; link r.y -> s.x; link s.y -> self.o; }
+coupled Top { in i; out o; part n: Node; part m: Node; link self.i -> n.i; link n.o -> m.i; link n.o -> self.o; link m.o -> self.o; }
+root Top;
+";

@@ -1,6 +1,6 @@
 //! Models in models: how values travel, what contains itself, and the limits on the whole tree.
 
-use crate::models::{CLOCKS_AND_CELL, TWO_WAYS};
+use crate::models::{CLOCKS_AND_CELL, NODES, TWO_WAYS};
 use crate::runs::{Frame, rows, same_run, same_with_inputs};
 use std::alloc::{AllocError, Global};
 use std::process::Abort;
@@ -22,14 +22,6 @@ fn values_meet(rt: HostRuntime) {
         "5.0 d.t i run n=1 > beat:0\n5.0 c c w v=1 > y:0\n10.0 d.t i run n=2 > beat:1\n10.0 c c w v=4 > y:1\nwhole 10\nstatus 0",
     );
 }
-
-/// Two nodes of two relays each, from the root's input to its output.
-const NODES: &str =
-    "atomic Relay { in x; out y; var v: 0..99 = 0; phases z, g; start z; hold z: forever; hold g: 2; external z { v := sum(x); goto g; } output g { send y v; } internal g { goto z; } }
-coupled Node { in i; out o; part r: Relay; part s: Relay; link self.i -> r.x; link r.y -> s.x; link s.y -> self.o; }
-coupled Top { in i; out o; part n: Node; part m: Node; link self.i -> n.i; link n.o -> m.i; link n.o -> self.o; link m.o -> self.o; }
-root Top;
-";
 
 #[test]
 fn values_go_through_nodes(rt: HostRuntime) {

@@ -1,6 +1,6 @@
 //! Writers that take little, or fail.
 
-use crate::models::CLOCK;
+use crate::models::NODES;
 use crate::runs::{expect_same, same};
 use dv_job::{JobEnded, JobError, Options, run_plain};
 use std::alloc::Global;
@@ -58,13 +58,13 @@ impl Write for Full {
     }
 }
 
-const WHOLE: &[u8; 76] =
-    b"5.0 t i run n=1 > beat:0\n5.0 out o:0\n10.0 t i run n=2 > beat:1\n10.0 out o:1\n";
+/// The lines of the run, before its end.
+const LINES: &[u8; 54] = b"1.0 n.r e g v=7\n3.0 n.r i z v=7 > y:7\n3.0 n.s e g v=7\n";
 
-// How a run of the clock to 12 ends.
+// How a run of nested models with an input ends.
 fn ended<R: Abort + AllocGlobal, W: Write>(rt: &R, writer: &mut W) -> Result<JobEnded, JobError> {
-    let options = Options::new(12, 20, None, None, 16).expect(rt, "options");
-    run_plain(rt.alloc(), CLOCK.as_bytes(), &[], &options, writer)
+    let options = Options::new(3, 20, None, None, 16).expect(rt, "options");
+    run_plain(rt.alloc(), NODES.as_bytes(), b"1 i 7\n", &options, writer)
 }
 
 #[test]
@@ -72,8 +72,8 @@ fn a_writer_that_takes_one_byte_a_call(rt: HostRuntime) {
     let mut writer = failing_at(rt.alloc(), 0);
     let ended = ended(&rt, &mut writer);
     same!(rt; matches!(ended, Ok(JobEnded::Whole)), true);
-    same!(rt; writer.bytes.as_slice().get(..76), Some(WHOLE.as_slice()));
-    same!(rt; writer.bytes.as_slice().get(76..), Some(b"whole 12\n".as_slice()));
+    same!(rt; writer.bytes.as_slice().get(..54), Some(LINES.as_slice()));
+    same!(rt; writer.bytes.as_slice().get(54..), Some(b"whole 3\n".as_slice()));
 }
 
 // A call that failed is not made again, and the bytes of the calls before it stand.
@@ -82,13 +82,13 @@ fn fails_at<R: Abort + AllocGlobal>(rt: &R, call: usize) {
     let ended = ended(rt, &mut writer);
     assert!(rt; matches!(ended, Err(JobError::Write)), "call {call}");
     expect_same(rt, "the calls", writer.calls, call);
-    let bytes = WHOLE.as_slice().get(..call.saturating_sub(1));
+    let bytes = LINES.as_slice().get(..call.saturating_sub(1));
     assert_eq!(rt; Some(writer.bytes.as_slice()), bytes, "call {call}");
 }
 
 #[test]
 fn a_writer_that_fails_at_a_call(rt: HostRuntime) {
-    for call in 1..=76 {
+    for call in 1..=54 {
         fails_at(&rt, call);
     }
 }

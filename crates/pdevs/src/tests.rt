@@ -109,7 +109,13 @@ fn a_run_is_asked_for(rt: HostRuntime) {
                 "m.pd 5 with i.txt",
             ),
             (
-                &["run", "--inputs=i.txt", "--horizon=5", "m.pd", "--microsteps=3"],
+                &[
+                    "run",
+                    "--inputs=i.txt",
+                    "--horizon=5",
+                    "m.pd",
+                    "--microsteps=3",
+                ],
                 "m.pd 5 3 with i.txt",
             ),
             (&["run", "--horizon", "5", "--", "-m"], "-m 5"),
