@@ -8,7 +8,7 @@ use Rattle.dv_bag.specs.Bag.{Counts}
 use Rattle.dv_bag.specs.Part.{PartOf}
 use Rattle.dv_devs.specs.Network.{Network, trace_before}
 use Rattle.dv_syntax.specs.declared.tree.File.{File}
-use Rattle.dv_syntax.specs.Trees.{FileTree, file_of}
+use Rattle.dv_syntax.specs.Trees.{file_of}
 use Rattle.dv_bag.specs.declared.inputs.Input.{Input}
 use Rattle.dv_inputs.specs.Reading.{reading_of}
 use Rattle.dv_inputs.specs.declared.error.InputRefusal.{InputRefusal}
