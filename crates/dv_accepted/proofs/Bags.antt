@@ -7,7 +7,7 @@ use Rattle.dv_bag.specs.declared.state.Datum.TheVariants as datum
 use Rattle.dv_bag.proofs.Monoid.{total_with, total_without}
 use Rattle.dv_eval.specs.declared.scope.Domain.{Domain}
 use Rattle.dv_eval.specs.declared.scope.Domain.TheVariants as domain
-use Rattle.dv_eval.specs.Meaning.{is_full}
+use Rattle.dv_bag.specs.Effects.{is_full}
 use Rattle.dv_accepted.specs.Fitting.{datum_fits}
 use Rattle.dv_accepted.proofs.Fitting.{and_true, both_true}
 

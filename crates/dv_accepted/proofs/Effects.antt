@@ -15,7 +15,9 @@ use Rattle.dv_bag.specs.declared.value.Value.{Value}
 use Rattle.dv_eval.specs.declared.scope.Domain.{Domain}
 use Rattle.dv_eval.specs.declared.scope.Domain.TheVariants as domain
 use Rattle.dv_eval.specs.Scope.{Scope, names_of, place_of}
-use Rattle.dv_eval.specs.Meaning.{Arrivals, Context, addition, addition_at, addition_to, assignment, assignment_at, assignment_in_domain, assignment_to, bag_of_name, capacity_of, effect_of, in_loop, is_full, is_within, moment_in, number_of, outermost, removal_at, removal_from, repetition, run, sending, truth_of, value_within, with_bag, with_datum, with_goto, with_state, with_value_at}
+use Rattle.dv_bag.specs.Arrivals.{Arrivals}
+use Rattle.dv_bag.specs.Effects.{is_full, is_within, with_bag, with_datum, with_state}
+use Rattle.dv_eval.specs.Meaning.{Context, addition, addition_at, addition_to, assignment, assignment_at, assignment_in_domain, assignment_to, bag_of_name, capacity_of, effect_of, in_loop, moment_in, number_of, outermost, removal_at, removal_from, repetition, run, sending, truth_of, value_within, with_goto, with_value_at}
 use Rattle.dv_accepted.specs.Fitting.{data_fit, datum_fits, fits_in, in_phase, LeadsToPhase}
 use Rattle.dv_accepted.proofs.Fitting.{and_true, both_true, found_within}
 use Rattle.dv_accepted.proofs.Bags.{less_fits, more_fits}

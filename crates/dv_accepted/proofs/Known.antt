@@ -16,8 +16,8 @@ use Rattle.dv_eval.specs.declared.scope.Domain.TheVariants as domain
 use Rattle.dv_eval.specs.Scope.{Scope, is_declared, names_of, phases_in, place_from, place_of, range_of, scope_of, state_variables_in, with_variable, with_variables}
 use Rattle.dv_check.specs.declared.declarations.NameSort.{NameSort}
 use Rattle.dv_check.specs.declared.declarations.NameSort.TheVariants.{Variable as ForVariable, Flag as ForFlag, Bag as ForBag, Input as ForInput, Output as ForOutput, LoopVariable as ForLoopVariable}
-use Rattle.dv_check.specs.declared.expression.ValueType.{ValueType}
-use Rattle.dv_check.specs.declared.expression.ValueType.TheVariants.{Number, Truth}
+use Rattle.dv_bag.specs.declared.value.ValueType.{ValueType}
+use Rattle.dv_bag.specs.declared.value.ValueType.TheVariants.{Number, Truth}
 use Rattle.dv_check.specs.Tables.{first_of}
 use Rattle.dv_check.specs.Types.{Known, bag_name_refusals, expression_refusals, first_place, operand_refusals, place_refusals, sees_inputs, type_of, type_of_name, type_of_prefix, type_refusals, value_name_refusals, value_refusals, is_bag as is_bag_sort}
 use Rattle.dv_check.specs.Rules.{atomic_refusals, assignment_refusals, change_refusals, changed_bag_refusals, domain_of_state_variable, hold_refusals, known_in, known_in_loop, known_in_rule, loop_variable_refusals, number_of_state_variable, phase_refusals, rule_refusals, sent_port_refusals, sort_in, statements_refusals, ticks_refusals}

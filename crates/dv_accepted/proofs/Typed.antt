@@ -23,11 +23,13 @@ use Rattle.dv_bag.specs.declared.state.State.{State}
 use Rattle.dv_eval.specs.declared.scope.Domain.{Domain}
 use Rattle.dv_eval.specs.declared.scope.Domain.TheVariants as domain
 use Rattle.dv_eval.specs.Scope.{Scope, scope_of}
-use Rattle.dv_eval.specs.Meaning.{Arrivals, bag_of_name, call_result, datum_at, datum_of_name, is_decided, is_kept, loop_value, meaning, moment_in, number_of, number_or_empty, number_or_overflow, operator_result, prefix_result, truth_of, value_in_loop, value_of_datum, value_of_name}
+use Rattle.dv_bag.specs.Arithmetic.{is_kept, number_or_empty, number_or_overflow}
+use Rattle.dv_bag.specs.Arrivals.{Arrivals}
+use Rattle.dv_eval.specs.Meaning.{bag_of_name, call_result, datum_at, datum_of_name, is_decided, loop_value, meaning, moment_in, number_of, operator_result, prefix_result, truth_of, value_in_loop, value_of_datum, value_of_name}
 use Rattle.dv_check.specs.declared.declarations.NameSort.{NameSort}
 use Rattle.dv_check.specs.declared.declarations.NameSort.TheVariants.{Variable as ForVariable, Flag as ForFlag, Bag as ForBag, Input as ForInput, Output as ForOutput, LoopVariable as ForLoopVariable}
-use Rattle.dv_check.specs.declared.expression.ValueType.{ValueType}
-use Rattle.dv_check.specs.declared.expression.ValueType.TheVariants.{Number, Truth}
+use Rattle.dv_bag.specs.declared.value.ValueType.{ValueType}
+use Rattle.dv_bag.specs.declared.value.ValueType.TheVariants.{Number, Truth}
 use Rattle.dv_check.specs.Names.{refusal_if}
 use Rattle.dv_check.specs.Types.{Known, alike, bag_name_refusals, both_of, differ, expression_refusals, first_place, is_bag, is_of, knows_elapsed, operand_refusals, operands_wanted, place_refusals, same_type, type_if, type_of, type_of_name, type_of_operator, type_of_prefix, type_refusals, value_name_refusals}
 use Rattle.dv_check.specs.Rules.{known_in, known_in_rule, sort_in}

@@ -14,9 +14,11 @@ use Rattle.dv_bag.specs.declared.state.State.{State}
 use Rattle.dv_eval.specs.declared.scope.Domain.{Domain}
 use Rattle.dv_eval.specs.declared.scope.Domain.TheVariants as domain
 use Rattle.dv_eval.specs.Scope.{Scope, is_declared, names_of, place_of, scope_of}
-use Rattle.dv_eval.specs.Meaning.{Arrivals, Context, Moment, bag_of_name, is_within}
-use Rattle.dv_check.specs.declared.expression.ValueType.{ValueType}
-use Rattle.dv_check.specs.declared.expression.ValueType.TheVariants.{Number, Truth}
+use Rattle.dv_bag.specs.Arrivals.{Arrivals}
+use Rattle.dv_bag.specs.Effects.{is_within}
+use Rattle.dv_eval.specs.Meaning.{Context, Moment, bag_of_name}
+use Rattle.dv_bag.specs.declared.value.ValueType.{ValueType}
+use Rattle.dv_bag.specs.declared.value.ValueType.TheVariants.{Number, Truth}
 use Rattle.dv_check.specs.Types.{Known, knows_elapsed, sees_inputs}
 use Rattle.dv_check.specs.Rules.{known_in_loop}
 

@@ -1,5 +1,8 @@
 -- What a reader believes: values, bags, inputs, what a rule does, and the entries of a trace.
 pub mod Bag
+pub mod Arithmetic
+pub mod Arrivals
+pub mod Effects
 pub mod Inputs
 pub mod Outcome
 pub mod Part

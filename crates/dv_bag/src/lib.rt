@@ -1,6 +1,10 @@
 //! What a run takes and gives: inputs; values, bags, states, faults, and the entries of a trace.
 #![tactic(auto)]
 
+/// What numbers give.
+pub mod arithmetic;
+/// What an instant brings.
+pub mod arrivals;
 /// Bags of values.
 pub mod bag;
 /// The entries of a trace.
@@ -13,6 +17,8 @@ pub mod inputs;
 pub mod laws;
 /// Parts of a trace.
 pub mod part;
+/// How soon an input can be answered.
+pub mod response;
 /// What a component sends.
 pub mod sent;
 /// States, and what a rule does to them.
@@ -20,14 +26,16 @@ pub mod state;
 /// What an expression gives.
 pub mod value;
 
+pub use arrivals::Arrivals;
 pub use bag::{Bag, Bags};
 pub use entry::{Entry, Kind, Outer, What};
 pub use fault::{Fault, RuleError};
 pub use inputs::{Input, Inputs};
 pub use part::{Part, Trace};
+pub use response::Response;
 pub use sent::Sent;
 pub use state::{Datum, DatumView, Effect, HeldBag, State, Variables};
-pub use value::Value;
+pub use value::{Value, ValueType};
 
 /// The most values that are sent in one output, come to one port at one instant, or lie in a bag of a state.
 pub const GREATEST_COUNT: u64 = 4096;

@@ -1,8 +1,8 @@
 //! What expressions, rules and holds of texts do at their start.
 
 use crate::compare::{Call, error_text, rows};
-use dv_bag::{Effect, Fault, RuleError, State, Value};
-use dv_eval::{Arrivals, Context, Moment, Scope, eval, hold, rule_body, run_rule, start_state};
+use dv_bag::{Arrivals, Effect, Fault, RuleError, State, Value};
+use dv_eval::{Context, Moment, Scope, eval, hold, rule_body, run_rule, start_state};
 use dv_lex::{LoadError, tokens};
 use dv_parser::parse;
 use dv_syntax::{Atomic, File, Model, RuleSort, Ticks};

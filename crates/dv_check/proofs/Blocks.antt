@@ -7,7 +7,7 @@ use Rattle.dv_syntax.specs.declared.tree.Stmt.{Stmt}
 use Rattle.dv_syntax.specs.Trees.{Expression, Statements, If, IfElse, For, statement_before}
 use Rattle.dv_check.specs.declared.environment.Environment.{Environment, Loop, the_lemmas}
 use Rattle.dv_check.specs.declared.findings.Findings.{Findings}
-use Rattle.dv_check.specs.declared.expression.ValueType.TheVariants.{Truth}
+use Rattle.dv_bag.specs.declared.value.ValueType.TheVariants.{Truth}
 use Rattle.dv_check.specs.Findings.{with_refusal, with_refusals}
 use Rattle.dv_check.specs.Types.{Known, bag_name_refusals, place_refusals}
 use Rattle.dv_check.specs.Rules.{known_at, known_in_loop, loop_variable_refusals, statements_refusals}

@@ -21,7 +21,7 @@ use Rattle.dv_eval.specs.Meaning.{hold_of}
 use Rattle.dv_check.specs.declared.limits.TheConstants.{GREATEST_NAMES}
 use Rattle.dv_check.specs.declared.declarations.NameSort.{NameSort}
 use Rattle.dv_check.specs.declared.declarations.NameSort.TheVariants.{Variable as ForVariable, Flag as ForFlag, Bag as ForBag, Input as ForInput, Output as ForOutput, LoopVariable as ForLoopVariable}
-use Rattle.dv_check.specs.declared.expression.ValueType.TheVariants.{Number, Truth}
+use Rattle.dv_bag.specs.declared.value.ValueType.TheVariants.{Number, Truth}
 use Rattle.dv_check.specs.declared.declarations.Declarations.{Declarations}
 use Rattle.dv_check.specs.declared.environment.Environment.{Environment, fold-Environment}
 use Rattle.dv_check.specs.declared.environment.Environment.TheOpen.{Environment-F}

@@ -11,8 +11,8 @@ use Rattle.dv_syntax.specs.declared.tree.RuleSort.{RuleSort}
 use Rattle.dv_syntax.specs.declared.tree.RuleSort.TheVariants as rule
 use Rattle.dv_check.specs.declared.declarations.NameSort.{NameSort}
 use Rattle.dv_check.specs.declared.declarations.NameSort.TheVariants.{Variable, Flag, Bag, Input, Output, LoopVariable}
-use Rattle.dv_check.specs.declared.expression.ValueType.{ValueType}
-use Rattle.dv_check.specs.declared.expression.ValueType.TheVariants.{Number, Truth}
+use Rattle.dv_bag.specs.declared.value.ValueType.{ValueType}
+use Rattle.dv_bag.specs.declared.value.ValueType.TheVariants.{Number, Truth}
 use Rattle.dv_check.specs.Names.{refusal, refusal_if}
 
 -- what is known at a place of an atomic model: what ports, variables, flags, bags and loop variables stand for, where they are

@@ -9,12 +9,12 @@ ghost use Rattle.dv_check.specs.Rules.{bag_refusals, declaration_refusals, hold_
 
 use crate::directory::Directory;
 use crate::environment::Environment;
-use crate::expression::{ValueType, check_place};
+use crate::expression::check_place;
 use crate::findings::Findings;
 use crate::names;
 use crate::number_set::NumberSet;
 use crate::statements::check_statements;
-use dv_bag::GREATEST_COUNT;
+use dv_bag::{GREATEST_COUNT, ValueType};
 use dv_eval::VariableRange;
 use dv_lex::RefusalNumber;
 use dv_syntax::{Atomic, Declaration, Hold, Name, Rule, Start, StateBag, Ticks, Variable};

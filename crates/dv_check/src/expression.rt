@@ -11,15 +11,9 @@ ghost use Rattle.dv_check.specs.Types.{alike, bag_name_refusals, both_of, differ
 use crate::declarations::NameSort;
 use crate::environment::Environment;
 use crate::findings::Findings;
+use dv_bag::ValueType;
 use dv_lex::RefusalNumber;
 use dv_syntax::{Expr, Name, Operator, Prefix, RuleSort};
-
-/// The type of a value.
-#[derive(Clone, Copy, Debug, PartialEq, Eq)]
-pub enum ValueType {
-    Number,
-    Truth,
-}
 
 /// The type of an expression, unless it is refused, and the place of its first token.
 #[derive(Clone, Copy)]

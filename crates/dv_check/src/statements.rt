@@ -9,8 +9,9 @@ ghost use Rattle.dv_check.specs.Rules.{assignment_refusals, change_refusals, cha
 
 use crate::declarations::NameSort;
 use crate::environment::Environment;
-use crate::expression::{ValueType, check_bag, check_place, check_value, type_of_name};
+use crate::expression::{check_bag, check_place, check_value, type_of_name};
 use crate::findings::Findings;
+use dv_bag::ValueType;
 use dv_lex::RefusalNumber;
 use dv_syntax::laws::trees_keep_blocks;
 use dv_syntax::{Expr, Name, RuleSort, Stmt};

@@ -4,7 +4,7 @@ use Rattle.std.specs.Ordering.{int_cmp, match_ordering}
 use Rattle.std.specs.declared.cmp.Ordering.{Ordering}
 use Rattle.std.specs.declared.cmp.Ordering.TheVariants.{Less, Equal, Greater}
 use Rattle.dv_bag.specs.Bag.{Counts, bag_at, count_of, total, total_of_all}
-use Rattle.dv_eval.specs.Meaning.{AreFew}
+use Rattle.dv_bag.specs.Arrivals.{AreFew}
 
 -- a value is in a bag at most as often as the bag has values
 count_within : (v : ℤ) (b : Counts) → count_of v b ≤ total b

@@ -5,7 +5,8 @@ use Rattle.dv_syntax.specs.declared.tree.Operator.TheVariants.{Add, Subtract, Di
 use Rattle.dv_bag.specs.declared.fault.Fault.{Fault}
 use Rattle.dv_bag.specs.declared.value.Value.{Value}
 use Rattle.dv_eval.specs.Scope.{nothing_declared}
-use Rattle.dv_eval.specs.Meaning.{meaning, moment_in, nothing_arrived, outermost}
+use Rattle.dv_bag.specs.Arrivals.{nothing_arrived}
+use Rattle.dv_eval.specs.Meaning.{meaning, moment_in, outermost}
 
 abbrev pub number : ℕ → Expression
 number n = Literal (record { value = n; place = 1 })

@@ -1,7 +1,7 @@
 -- The meaning of expressions, rules and holds, by recursion on the tree: a value or an effect, or the first fault from the left.
 -- A checked model knows its names and gives every operator what it wants; for all others a name that is not known counts
 -- as 0 or as an empty bag, and a truth value as 0 or 1.
-use Rattle.std.specs.Prelude.{ℕ, ℤ, ◌≤◌, pos, negsuc, neg_ℤ, ◌+ℤ◌, ◌-ℤ◌, ◌*ℤ◌, ◌^◌, Bool, true, false, not, ◌&&◌, ◌||◌, if◌then◌else◌, ◌==◌, nat_le, int_lt, int_div, int_rem, List, [], ◌∷◌, length, replicate, slice_get, slice_set, Option, Some, None, Result, Ok, Err}
+use Rattle.std.specs.Prelude.{ℕ, ℤ, pos, negsuc, neg_ℤ, ◌+ℤ◌, ◌-ℤ◌, ◌*ℤ◌, Bool, true, false, not, ◌&&◌, ◌||◌, if◌then◌else◌, ◌==◌, nat_le, int_lt, List, [], ◌∷◌, length, replicate, slice_get, slice_set, Option, Some, None, Result, Ok, Err}
 use Rattle.std.specs.Ordering.{int_eq}
 use Rattle.dv_syntax.specs.Trees.{Expression, Literal, TruthValue, Named, Parens, Prefixed, Binary, Call, Elapsed, Times, Statements, Done, Assign, Goto, Send, If, IfElse, For, Drop}
 use Rattle.dv_syntax.specs.Trees.{Add as AddTo}
@@ -11,13 +11,16 @@ use Rattle.dv_syntax.specs.declared.tree.Operator.{Operator}
 use Rattle.dv_syntax.specs.declared.tree.Operator.TheVariants.{Or, And, Add, Subtract, Multiply, Divide as DivideBy, Remainder, Equal, Unequal, Less, AtMost, Greater, AtLeast}
 use Rattle.dv_syntax.specs.declared.tree.BagCall.{BagCall}
 use Rattle.dv_syntax.specs.declared.tree.BagCall.TheVariants.{Size, Sum, Least, Most}
+use Rattle.dv_bag.specs.Arithmetic.{number_or_empty, number_or_overflow, quotient, remainder}
+use Rattle.dv_bag.specs.Arrivals.{Arrivals, nothing_arrived}
 use Rattle.dv_bag.specs.Bag.{Counts, bag_at, count_of, least, most, sum_or_overflow, total, total_of_all, values_of, with_copies, without_one}
 use Rattle.dv_bag.specs.Reading.{bag_held_at}
+use Rattle.dv_bag.specs.Effects.{is_full, is_within, with_bag, with_datum, with_state}
 use Rattle.dv_bag.specs.Outcome.{◌>>=◌}
 use Rattle.dv_bag.specs.declared.value.Value.{Value}
 use Rattle.dv_bag.specs.declared.value.Value.TheVariants.{Number, Truth}
 use Rattle.dv_bag.specs.declared.fault.Fault.{Fault}
-use Rattle.dv_bag.specs.declared.fault.Fault.TheVariants.{Overflow, Divide, Range, Empty, Full, Negative as BelowZero, Flood}
+use Rattle.dv_bag.specs.declared.fault.Fault.TheVariants.{Range, Full, Negative as BelowZero, Flood}
 use Rattle.dv_bag.specs.declared.state.Datum.{Datum}
 use Rattle.dv_bag.specs.declared.state.Datum.TheVariants as datum
 use Rattle.dv_bag.specs.declared.state.State.{State}
@@ -28,13 +31,6 @@ use Rattle.dv_eval.specs.declared.scope.VariableRange.{VariableRange}
 use Rattle.dv_eval.specs.declared.scope.Domain.{Domain}
 use Rattle.dv_eval.specs.declared.scope.Domain.TheVariants as domain
 
--- within -2^63..2^63-1
-abbrev pub is_kept : ℤ → Bool
-is_kept n = not (int_lt n (neg_ℤ (pos (2 ^ 63)))) && int_lt n (pos (2 ^ 63))
-
-abbrev pub number_or_overflow : ℤ → Result Value Fault
-number_or_overflow n = if is_kept n then Ok (Number n) else Err Overflow
-
 -- a value as a number, and as a truth value
 abbrev pub number_of : Value → ℤ
 number_of (Number n) = n
@@ -44,14 +40,6 @@ number_of (Truth false) = pos 0
 abbrev pub truth_of : Value → Bool
 truth_of (Truth b) = b
 truth_of (Number n) = not (int_eq n (pos 0))
-
--- towards 0
-abbrev pub quotient : ℤ → ℤ → Result Value Fault
-quotient a b = if int_eq b (pos 0) then Err Divide else number_or_overflow (int_div a b)
-
--- what the exact quotient leaves
-abbrev pub remainder : ℤ → ℤ → Result Value Fault
-remainder a b = if int_eq b (pos 0) then Err Divide else Ok (Number (int_rem a b))
 
 -- the same number, or the same truth value
 abbrev pub same : Value → Value → Bool
@@ -95,18 +83,6 @@ value_of_datum None = Number (pos 0)
 abbrev pub datum_at : List Datum → Option ℕ → Option Datum
 datum_at contents None = None
 datum_at contents (Some place) = slice_get contents place
-
--- what an instant brings to a rule: the values that have arrived, by input port, and the ticks since the last transition
-pub record Arrivals : Type 0 where
-  pub received : List Counts
-  pub elapsed : ℕ
-
--- at every port at most the greatest count of values
-abbrev pub AreFew : List Counts → Type 0
-AreFew bags = (port : ℕ) → total (bag_at bags port) ≤ GREATEST_COUNT
-
-abbrev pub nothing_arrived : Arrivals
-nothing_arrived = record { received = []; elapsed = 0 }
 
 -- what is known beside the state where a statement stands: what has arrived, and the values of the enclosing loops'
 -- variables by name, the innermost first
@@ -161,10 +137,6 @@ bag_between m None port = bag_received m.context.arrivals port
 abbrev pub bag_of_name : Scope → Moment → ℕ → Counts
 bag_of_name scope m name = bag_between m (place_of name (names_of scope.variables)) (place_of name scope.inputs)
 
-abbrev pub number_or_empty : Option ℤ → Result Value Fault
-number_or_empty None = Err Empty
-number_or_empty (Some n) = Ok (Number n)
-
 -- what a call gives of a bag: the number of the values, their exact sum, the least and the greatest
 abbrev pub call_result : BagCall → Counts → Result Value Fault
 call_result Size b = Ok (Number (pos (total b)))
@@ -184,16 +156,6 @@ meaning scope m (Binary operator a b) =
 meaning scope m (Call call place b) = call_result call (bag_of_name scope m b.number)
 meaning scope m (Elapsed place) = number_or_overflow (pos m.context.arrivals.elapsed)
 meaning scope m (Times place e b) = meaning scope m e >>= λ v. Ok (Number (pos (count_of (number_of v) (bag_of_name scope m b.number))))
-
--- a number within a range
-abbrev pub is_within : ℤ → ℤ → ℤ → Bool
-is_within low high n = not (int_lt n low) && not (int_lt high n)
-
-abbrev pub with_state : Effect → State → Effect
-with_state e s = record { state = s; sent = e.sent; goto = e.goto }
-
-abbrev pub with_datum : State → ℕ → Datum → State
-with_datum s place d = record { phase = s.phase; variables = slice_set s.variables place d }
 
 -- a number into the variable at a place, where it is within the variable's range
 abbrev pub assignment_in_range : VariableRange → ℕ → ℤ → Effect → Result Effect Fault
@@ -235,13 +197,6 @@ capacity_in (domain.Bag capacity) = Some capacity
 abbrev pub capacity_of : Option (ℕ × Domain) → Option ℕ
 capacity_of None = None
 capacity_of (Some variable) = capacity_in variable.1
-
-abbrev pub with_bag : Effect → ℕ → Counts → Effect
-with_bag e place b = with_state e (with_datum e.state place (datum.Bag b))
-
--- whether a bag holds as many values as it may; no accepted capacity is above the greatest count
-abbrev pub is_full : ℕ → Counts → Bool
-is_full capacity b = nat_le capacity (total b) || nat_le GREATEST_COUNT (total b)
 
 -- a number added to the bag at a place, which may hold so many values; where there is no bag, nothing changes
 abbrev pub addition_to : Option ℕ → Option Datum → ℕ → ℤ → Effect → Result Effect Fault

@@ -15,7 +15,8 @@ use Rattle.dv_bag.specs.declared.state.Effect.{Effect}
 use Rattle.dv_eval.specs.declared.scope.Domain.TheVariants as domain
 use Rattle.dv_eval.specs.Scope.{Scope}
 use Rattle.dv_eval.specs.Edges.{number}
-use Rattle.dv_eval.specs.Meaning.{Arrivals, effect_of, meaning, moment_in, nothing_arrived, outermost}
+use Rattle.dv_bag.specs.Arrivals.{Arrivals, nothing_arrived}
+use Rattle.dv_eval.specs.Meaning.{effect_of, meaning, moment_in, outermost}
 
 abbrev pub named : ℕ → Name
 named n = record { number = n; place = 1 }

@@ -1,15 +1,18 @@
 //! The value of an expression.
 
-ghost use Rattle.std.specs.Prelude.{◌≡◌, ◌≤◌, ◌+ℤ◌, ◌-ℤ◌, ◌*ℤ◌, neg_ℤ, pos, [], option_map, unwrap_or, IfSome};
+ghost use Rattle.std.specs.Prelude.{◌≡◌, ◌≤◌, pos, [], option_map, unwrap_or, IfSome};
 ghost use Rattle.std.specs.Option.{option_copied};
 ghost use Rattle.dv_bag.specs.Bag.{count_of, total};
 ghost use Rattle.dv_bag.specs.Reading.{HoldsFew, bag_held_at, datum_of};
 ghost use Rattle.dv_syntax.specs.Trees.{expression_of};
 ghost use Rattle.dv_eval.specs.Contexts.{context_of, moment_of};
-ghost use Rattle.dv_eval.specs.Meaning.{bag_of_name, bag_received, call_result, datum_of_name, is_decided, meaning, number_or_empty, number_or_overflow, number_of, operator_result, prefix_result, quotient, remainder, same, truth_of, value_of_name};
+ghost use Rattle.dv_eval.specs.Meaning.{bag_of_name, bag_received, call_result, datum_of_name, is_decided, meaning, number_of, operator_result, prefix_result, same, truth_of, value_of_name};
 
 use crate::moment::{Context, Moment};
 use crate::scope::Scope;
+use dv_bag::arithmetic::{
+    difference, negated, number_or_empty, product, quotient, remainder, sum, ticks_or_overflow,
+};
 use dv_bag::{Bag, DatumView, Fault, GREATEST_COUNT, State, Value};
 use dv_syntax::{BagCall, Expr, Operator, Prefix};
 
@@ -133,15 +136,6 @@ fn call_result(call: BagCall, bag: Option<&Bag>) -> Result<Value, Fault>
     }
 }
 
-fn number_or_empty(number: Option<i64>) -> Result<Value, Fault>
-    ensures { result ≡ number_or_empty number }
-{
-    match number {
-        Some(number) => Ok(Value::Number(number)),
-        None => Err(Fault::Empty),
-    }
-}
-
 // How often a number is in a bag.
 fn copies_of(number: i64, bag: Option<&Bag>) -> i64
     requires { IfSome bag (λ bag. total bag.now ≤ GREATEST_COUNT) }
@@ -153,22 +147,12 @@ fn copies_of(number: i64, bag: Option<&Bag>) -> i64
     }
 }
 
-// Ticks as a number.
-fn ticks_or_overflow(ticks: u64) -> Result<Value, Fault>
-    ensures { result ≡ number_or_overflow (pos ticks) }
-{
-    match i64::try_from(ticks) {
-        Ok(number) => Ok(Value::Number(number)),
-        Err(_) => Err(Fault::Overflow),
-    }
-}
-
 // What an operator before its operand gives.
 fn prefix_result(operator: Prefix, operand: Value) -> Result<Value, Fault>
     ensures { result ≡ prefix_result operator operand }
 {
     match operator {
-        Prefix::Minus => negated(operand),
+        Prefix::Minus => negated(number_of(operand)),
         Prefix::Not => Ok(Value::Truth(!truth_of(operand))),
     }
 }
@@ -231,61 +215,4 @@ fn same(left: Value, right: Value) -> bool
     ensures { result ≡ same left right }
 {
     number_of(left) == number_of(right)
-}
-
-fn sum(a: i64, b: i64) -> Result<Value, Fault>
-    ensures { result ≡ number_or_overflow (a +ℤ b) }
-{
-    match a.checked_add(b) {
-        Some(sum) => Ok(Value::Number(sum)),
-        None => Err(Fault::Overflow),
-    }
-}
-
-fn difference(a: i64, b: i64) -> Result<Value, Fault>
-    ensures { result ≡ number_or_overflow (a -ℤ b) }
-{
-    match a.checked_sub(b) {
-        Some(difference) => Ok(Value::Number(difference)),
-        None => Err(Fault::Overflow),
-    }
-}
-
-fn product(a: i64, b: i64) -> Result<Value, Fault>
-    ensures { result ≡ number_or_overflow (a *ℤ b) }
-{
-    match a.checked_mul(b) {
-        Some(product) => Ok(Value::Number(product)),
-        None => Err(Fault::Overflow),
-    }
-}
-
-fn negated(value: Value) -> Result<Value, Fault>
-    ensures { result ≡ number_or_overflow (neg_ℤ (number_of value)) }
-{
-    match number_of(value).checked_neg() {
-        Some(negated) => Ok(Value::Number(negated)),
-        None => Err(Fault::Overflow),
-    }
-}
-
-fn quotient(a: i64, b: i64) -> Result<Value, Fault>
-    ensures { result ≡ quotient a b }
-{
-    if b == 0 {
-        return Err(Fault::Divide);
-    }
-    match a.checked_div(b) {
-        Some(quotient) => Ok(Value::Number(quotient)),
-        None => Err(Fault::Overflow),
-    }
-}
-
-fn remainder(a: i64, b: i64) -> Result<Value, Fault>
-    ensures { result ≡ remainder a b }
-{
-    if b == 0 {
-        return Err(Fault::Divide);
-    }
-    Ok(Value::Number(a.wrapping_rem(b)))
 }

@@ -16,6 +16,6 @@ pub mod scope;
 
 pub use expression::eval;
 pub use model::{hold, phase_hold, phase_ticks, rule_body, rule_of, start_state};
-pub use moment::{Arrivals, Context, Moment};
+pub use moment::{Context, Moment};
 pub use rule::run_rule;
 pub use scope::{Domain, Scope, VariableRange, state_variable_of};

@@ -7,9 +7,9 @@ ghost use Rattle.dv_eval.specs.Scope.{hold_ticks, rule_body, rule_of, same_sort,
 ghost use Rattle.dv_eval.specs.Meaning.{hold_of};
 
 use crate::expression::{eval, number_of};
-use crate::moment::{Arrivals, Context, Moment};
+use crate::moment::{Context, Moment};
 use crate::scope::{Domain, Scope};
-use dv_bag::{Bag, Datum, Fault, HeldBag, State, Variables};
+use dv_bag::{Arrivals, Bag, Datum, Fault, HeldBag, State, Variables};
 use dv_syntax::{Atomic, RuleSort, Stmt, Ticks};
 use std::alloc::{AllocError, Global};
 

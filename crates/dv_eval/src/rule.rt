@@ -7,12 +7,15 @@ ghost use Rattle.dv_bag.specs.Outcome.{Gives};
 ghost use Rattle.dv_bag.specs.declared.state.Datum.TheVariants as datum;
 ghost use Rattle.dv_eval.specs.Copies.{repeated};
 ghost use Rattle.dv_eval.specs.Contexts.{context_of};
-ghost use Rattle.dv_eval.specs.Meaning.{addition, addition_to, assignment, assignment_in_range, bag_of_name, effect_of, in_loop, meaning, moment_in, removal, repetition, run, sending, with_datum, with_goto, with_state};
+ghost use Rattle.dv_bag.specs.Effects.{with_datum, with_state};
+ghost use Rattle.dv_eval.specs.Meaning.{addition, addition_to, assignment, assignment_in_range, bag_of_name, effect_of, in_loop, meaning, moment_in, removal, repetition, run, sending, with_goto};
 
 use crate::expression::{bag_of_name, eval, number_of, truth_of};
-use crate::moment::{Arrivals, Context, Moment};
+use crate::moment::{Context, Moment};
 use crate::scope::{Domain, Scope, VariableRange};
-use dv_bag::{Bag, DatumView, Effect, Fault, GREATEST_COUNT, RuleError, Sent, State, Value};
+use dv_bag::{
+    Arrivals, Bag, DatumView, Effect, Fault, GREATEST_COUNT, RuleError, Sent, State, Value,
+};
 use dv_syntax::laws::trees_keep_blocks;
 use dv_syntax::{Expr, Stmt};
 use std::alloc::{AllocError, Global};

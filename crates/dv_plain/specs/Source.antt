@@ -16,7 +16,8 @@ use Rattle.dv_bag.specs.declared.fault.Fault.{Fault}
 use Rattle.dv_bag.specs.declared.state.State.{State}
 use Rattle.dv_bag.specs.declared.state.Effect.{Effect}
 use Rattle.dv_eval.specs.Scope.{scope_of, start_state, rule_body, rule_of, hold_ticks, phase_name}
-use Rattle.dv_eval.specs.Meaning.{Arrivals, nothing_arrived, effect_of, hold_of}
+use Rattle.dv_bag.specs.Arrivals.{Arrivals, nothing_arrived}
+use Rattle.dv_eval.specs.Meaning.{effect_of, hold_of}
 use Rattle.dv_tree.specs.Instances.{Instance, instances, root_inputs}
 use Rattle.dv_tree.specs.Routing.{arrives, leaves}
 

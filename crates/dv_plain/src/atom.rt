@@ -10,8 +10,8 @@ ghost use Rattle.dv_tree.specs.Instances.{instances};
 ghost use Rattle.dv_plain.specs.Source.{behaviour_of, change_by, state_by_goto};
 ghost use Rattle.dv_plain.specs.Transitions.{GivesAs, change_of};
 
-use dv_bag::{Fault, RuleError, Sent, State};
-use dv_eval::{Arrivals, Scope, phase_hold, rule_body, rule_of, run_rule};
+use dv_bag::{Arrivals, Fault, RuleError, Sent, State};
+use dv_eval::{Scope, phase_hold, rule_body, rule_of, run_rule};
 use dv_syntax::{Atomic, RuleSort, Stmt};
 use dv_tree::Tree;
 use std::alloc::Global;

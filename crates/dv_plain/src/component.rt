@@ -3,7 +3,7 @@
 ghost use Rattle.std.specs.Prelude.{◌≡◌, false, not, ◌&&◌, ◌||◌, IfOk, List, Ok, Some};
 ghost use Rattle.dv_syntax.specs.Trees.{atomic_of};
 ghost use Rattle.dv_bag.specs.Bag.{Counts};
-ghost use Rattle.dv_eval.specs.Meaning.{AreFew};
+ghost use Rattle.dv_bag.specs.Arrivals.{AreFew};
 ghost use Rattle.dv_devs.specs.Behaviour.{all_empty, emission, is_imminent, kind_of, next_of, reaction, reaction_after_output, transition_of};
 ghost use Rattle.dv_plain.specs.Components.{GivesTransition, GivesWait, IsWaitOfRun, component_of, is_quiet, next_of_wait, rank_of};
 ghost use Rattle.dv_plain.specs.Source.{behaviour_of, hold_end, start_of};
@@ -13,8 +13,8 @@ use crate::atom::Atom;
 use crate::instant::Instant;
 use crate::received::{are_empty, are_few};
 use crate::wait::{Hold, Wait, wait_from};
-use dv_bag::{Bags, Fault, Kind, RuleError, Sent, State, What};
-use dv_eval::{Arrivals, start_state};
+use dv_bag::{Arrivals, Bags, Fault, Kind, RuleError, Sent, State, What};
+use dv_eval::start_state;
 use dv_time::Time;
 use std::alloc::{AllocError, Global};
 

@@ -2,15 +2,14 @@
 
 ghost use Rattle.std.specs.Prelude.{IfOk};
 ghost use Rattle.dv_syntax.specs.Trees.{atomic_of};
-ghost use Rattle.dv_eval.specs.Meaning.{AreFew};
+ghost use Rattle.dv_bag.specs.Arrivals.{AreFew};
 ghost use Rattle.dv_devs.specs.Behaviour.{confluent_of, external_of, internal_of, state_with_hold};
 ghost use Rattle.dv_plain.specs.Source.{behaviour_of};
 ghost use Rattle.dv_plain.specs.Transitions.{GivesAs, IsOfTicks, hold_of, held_of};
 
 use crate::atom::Atom;
 use crate::wait::Hold;
-use dv_bag::{Bags, RuleError, State};
-use dv_eval::Arrivals;
+use dv_bag::{Arrivals, Bags, RuleError, State};
 use std::alloc::Global;
 
 impl Atom<'_> {

@@ -1,7 +1,7 @@
 use Rattle.std.proofs.Common.{ap, sym, ◌∙◌, subst}
 use Rattle.dv_syntax.specs.Trees.{atomic_of}
 use Rattle.dv_devs.specs.Behaviour.{Continues, external_of}
-use Rattle.dv_eval.specs.Meaning.{Arrivals}
+use Rattle.dv_bag.specs.Arrivals.{Arrivals}
 use Rattle.dv_plain.specs.Components.{component_of}
 use Rattle.dv_plain.specs.Source.{behaviour_of}
 use Rattle.dv_plain.specs.Transitions.{GivesAs, held_of}

@@ -1,0 +1,122 @@
+//! What the numbers of the language give: exact results, or a fault.
+
+ghost use Rattle.std.specs.Prelude.{◌≡◌, ◌+ℤ◌, ◌-ℤ◌, ◌*ℤ◌, neg_ℤ, pos};
+ghost use Rattle.dv_bag.specs.Arithmetic.{number_or_empty, number_or_overflow, quotient, remainder};
+
+use crate::fault::Fault;
+use crate::value::Value;
+
+/// The sum of two numbers.
+///
+/// # Errors
+///
+/// `Overflow` where it is no number of 64 bits.
+pub fn sum(a: i64, b: i64) -> Result<Value, Fault>
+    ensures { result ≡ number_or_overflow (a +ℤ b) }
+{
+    match a.checked_add(b) {
+        Some(sum) => Ok(Value::Number(sum)),
+        None => Err(Fault::Overflow),
+    }
+}
+
+/// What the second of two numbers leaves of the first.
+///
+/// # Errors
+///
+/// `Overflow` where it is no number of 64 bits.
+pub fn difference(a: i64, b: i64) -> Result<Value, Fault>
+    ensures { result ≡ number_or_overflow (a -ℤ b) }
+{
+    match a.checked_sub(b) {
+        Some(difference) => Ok(Value::Number(difference)),
+        None => Err(Fault::Overflow),
+    }
+}
+
+/// The product of two numbers.
+///
+/// # Errors
+///
+/// `Overflow` where it is no number of 64 bits.
+pub fn product(a: i64, b: i64) -> Result<Value, Fault>
+    ensures { result ≡ number_or_overflow (a *ℤ b) }
+{
+    match a.checked_mul(b) {
+        Some(product) => Ok(Value::Number(product)),
+        None => Err(Fault::Overflow),
+    }
+}
+
+/// A number with the other sign.
+///
+/// # Errors
+///
+/// `Overflow` where it is no number of 64 bits.
+pub fn negated(number: i64) -> Result<Value, Fault>
+    ensures { result ≡ number_or_overflow (neg_ℤ number) }
+{
+    match number.checked_neg() {
+        Some(negated) => Ok(Value::Number(negated)),
+        None => Err(Fault::Overflow),
+    }
+}
+
+/// The quotient of two numbers, towards 0.
+///
+/// # Errors
+///
+/// `Divide` by 0, and `Overflow` where it is no number of 64 bits.
+pub fn quotient(a: i64, b: i64) -> Result<Value, Fault>
+    ensures { result ≡ quotient a b }
+{
+    if b == 0 {
+        return Err(Fault::Divide);
+    }
+    match a.checked_div(b) {
+        Some(quotient) => Ok(Value::Number(quotient)),
+        None => Err(Fault::Overflow),
+    }
+}
+
+/// What the quotient of two numbers leaves of the first, with the first one's sign.
+///
+/// # Errors
+///
+/// `Divide` by 0.
+pub fn remainder(a: i64, b: i64) -> Result<Value, Fault>
+    ensures { result ≡ remainder a b }
+{
+    if b == 0 {
+        return Err(Fault::Divide);
+    }
+    Ok(Value::Number(a.wrapping_rem(b)))
+}
+
+/// A count of ticks as a number.
+///
+/// # Errors
+///
+/// `Overflow` where it is no number of 64 bits with a sign.
+pub fn ticks_or_overflow(ticks: u64) -> Result<Value, Fault>
+    ensures { result ≡ number_or_overflow (pos ticks) }
+{
+    match i64::try_from(ticks) {
+        Ok(number) => Ok(Value::Number(number)),
+        Err(_) => Err(Fault::Overflow),
+    }
+}
+
+/// The least or the greatest value of a bag, if it has one.
+///
+/// # Errors
+///
+/// `Empty` where it has none.
+pub fn number_or_empty(number: Option<i64>) -> Result<Value, Fault>
+    ensures { result ≡ number_or_empty number }
+{
+    match number {
+        Some(number) => Ok(Value::Number(number)),
+        None => Err(Fault::Empty),
+    }
+}
