@@ -1,0 +1,5 @@
+pub mod Endings
+pub mod Fitting
+pub mod Remaining
+pub mod Steps
+pub mod Typing

@@ -1,0 +1,9 @@
+-- What a reader believes: what a program may speak of, what instructions do, the machine, how its runs end, and when a program
+-- is valid; and rows.
+pub mod Shape
+pub mod Operations
+pub mod Machine
+pub mod Runs
+pub mod Known
+pub mod Valid
+pub mod Rows

@@ -1,0 +1,114 @@
+//! The instructions of the stack machine.
+
+/// Where a bag is read: one of the state, by its slot, or what has arrived at an input port.
+#[derive(Clone, Copy, Debug, PartialEq, Eq)]
+pub enum Source {
+    Own(u16),
+    Port(u16),
+}
+
+/// What has a value by itself.
+#[derive(Clone, Copy, Debug, PartialEq, Eq)]
+pub enum Leaf {
+    /// This number.
+    Number(i64),
+    /// This truth value.
+    Truth(bool),
+    /// The number in a slot of the state.
+    Variable(u16),
+    /// The truth value in a slot of the state.
+    Flag(u16),
+    /// The value at which an open loop is. The outermost loop is number 0.
+    Item(u16),
+    /// The ticks since the last transition.
+    Elapsed,
+    /// The number of values of a bag.
+    Size(Source),
+    /// The sum of the values of a bag.
+    Sum(Source),
+    /// The least value of a bag.
+    Least(Source),
+    /// The greatest value of a bag.
+    Most(Source),
+}
+
+/// What makes a value of a value.
+#[derive(Clone, Copy, Debug, PartialEq, Eq)]
+pub enum Unary {
+    /// The number with the other sign.
+    Negate,
+    /// The other truth value.
+    Not,
+    /// How often the number is in a bag.
+    Times(Source),
+}
+
+/// What makes a value of two, of which the second is on top.
+#[derive(Clone, Copy, Debug, PartialEq, Eq)]
+pub enum Binary {
+    Add,
+    Subtract,
+    Multiply,
+    /// The quotient, towards 0.
+    Divide,
+    /// What the exact quotient leaves.
+    Remainder,
+    Equal,
+    Unequal,
+    Less,
+    AtMost,
+    Greater,
+    AtLeast,
+    /// Whether two truth values are the same.
+    Same,
+    /// Whether two truth values differ.
+    Different,
+}
+
+/// What is done with a value.
+#[derive(Clone, Copy, Debug, PartialEq, Eq)]
+pub enum Action {
+    /// The number goes into the variable of a slot.
+    SetVariable(u16),
+    /// The truth value goes into the flag of a slot.
+    SetFlag(u16),
+    /// The bag of a slot gets one more copy of the number.
+    AddTo(u16),
+    /// The bag of a slot loses one copy of the number, where it has one.
+    DropFrom(u16),
+    /// The number is sent by an output port.
+    Send(u16),
+}
+
+/// One instruction. A jump names the place to which it leads, from 0.
+#[derive(Clone, Copy, Debug, PartialEq, Eq)]
+pub enum Instruction {
+    /// One value more.
+    Push(Leaf),
+    /// A value in place of one.
+    Apply(Unary),
+    /// A value in place of two.
+    Combine(Binary),
+    /// The value on top goes, and something is done with it.
+    Perform(Action),
+    /// The phase to which the rule goes, until another is named.
+    Go(u32),
+    /// On at a place.
+    Jump(u32),
+    /// The truth value on top goes; where it is false, on at a place.
+    JumpFalse(u32),
+    /// Where the truth value on top is false, it stays, and it goes on at a place; else the value
+    /// goes.
+    FalseKeep(u32),
+    /// Where the truth value on top is true, it stays, and it goes on at a place; else the value
+    /// goes.
+    TrueKeep(u32),
+    /// A loop over the values of a bag as it stands now; where it has none, on past the loop, at a
+    /// place.
+    Loop(Source, u32),
+    /// The innermost loop's next value, on at the first place of its body; where there is none the
+    /// loop ends.
+    Next(u32),
+    /// The program ends.
+    End,
+}

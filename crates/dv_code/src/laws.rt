@@ -1,0 +1,39 @@
+//! What valid programs do.
+
+ghost use Rattle.std.specs.Prelude.{◌≡◌, ◌≢◌, ℕ, ◌*◌, ◌^◌, ◌≤◌, List, length};
+ghost use Rattle.dv_bag.specs.Arrivals.{AreFew, Arrivals};
+ghost use Rattle.dv_bag.specs.declared.TheConstants.{GREATEST_COUNT};
+ghost use Rattle.dv_bag.specs.declared.state.State.{State};
+ghost use Rattle.dv_bag.specs.declared.value.ValueType.{ValueType};
+ghost use Rattle.dv_code.specs.Shape.{AreSmall, Fits, Shape};
+ghost use Rattle.dv_code.specs.Machine.{Outcome, Stuck, begins, run};
+ghost use Rattle.dv_code.specs.Runs.{Ends};
+ghost use Rattle.dv_code.specs.Valid.{EndsWell, IsValid, Program};
+ghost use Rattle.dv_code.specs.declared.instruction.Instruction.{Instruction};
+
+/// No configuration that a valid program reaches from a state that fits is stuck, whatever has
+/// arrived.
+pub fn valid_programs_are_never_stuck()
+    ensures { (shape : Shape) (left : List ValueType) (depth : ℕ) (code : List Instruction)
+        → IsValid shape left depth code → (arrivals : Arrivals) (s : State)
+        → Fits shape.slots s.variables
+        → (n : ℕ) → run shape code arrivals n (begins shape s) ≢ Stuck }
+{}
+
+/// A valid program ends, or has a fault, within its length times `GREATEST_COUNT` to the depth of
+/// its loops, where no bag holds more values than that. The state that it leaves fits, and on the
+/// stack stand values of the types that it is to leave.
+pub fn valid_programs_end()
+    ensures { (p : Program) (left : List ValueType) (depth : ℕ)
+        → IsValid p.shape left depth p.code → AreSmall p.shape.slots
+        → (arrivals : Arrivals) → AreFew arrivals.received
+        → (s : State) → Fits p.shape.slots s.variables
+        → (n : ℕ) × (end : Outcome) × Ends p arrivals s n end
+        × (n ≤ length p.code * GREATEST_COUNT ^ depth) × EndsWell p.shape left end }
+{}
+
+/// A run ends in one way alone, after one number of steps.
+pub fn runs_end_in_one_way()
+    ensures { (p : Program) (arrivals : Arrivals) (s : State) (m n : ℕ) (one two : Outcome)
+        → Ends p arrivals s m one → Ends p arrivals s n two → (m ≡ n) × (one ≡ two) }
+{}

@@ -1,0 +1,136 @@
+//! What a program may speak of.
+
+ghost use Rattle.std.specs.Prelude.{◌≡◌};
+ghost use Rattle.dv_code.specs.Shape.{AreSmall, shape_of};
+
+use std::marker::Model;
+use std::sync::Arc;
+
+/// What a slot of a state may hold.
+#[derive(Clone, Copy, Debug, PartialEq, Eq)]
+pub enum Slot {
+    /// A number of a range.
+    Ranged { low: i64, high: i64 },
+    /// A truth value.
+    Flagged,
+    /// A bag of at most so many values, each copy counted.
+    Holding { capacity: u64 },
+}
+
+/// What a program is for.
+#[derive(Clone, Copy, Debug, PartialEq, Eq)]
+pub enum ProgramSort {
+    /// A rule that sends.
+    Output,
+    /// A rule that changes the state where its hold runs out.
+    Internal,
+    /// A rule that changes the state where values arrive.
+    External,
+    /// A rule that changes the state where both happen at once.
+    Confluent,
+    /// An expression that gives the ticks of a phase.
+    Hold,
+}
+
+/// What the programs of an atomic model may speak of: the slots of its states, and how many input
+/// ports, output ports and phases it has. The capacity of a bag is from 1 to `GREATEST_COUNT`.
+#[derive(Drop)]
+pub struct Tables {
+    slots: Vec<Slot>,
+    inputs: u32,
+    outputs: u32,
+    phases: u32,
+}
+
+impl Model for Tables {
+    ghost use Rattle.dv_code.specs.Shape.{AreSmall, Tables as Meant};
+
+    ghost Value = { Meant };
+
+    ghost view = { λ t. record { slots = t.slots.items; inputs = t.inputs; outputs = t.outputs; phases = t.phases } };
+
+    ghost invariant = { λ t. AreSmall t.slots.items };
+}
+
+impl Tables {
+    /// These slots, and so many input ports, output ports and phases.
+    pub fn new(slots: Vec<Slot>, inputs: u32, outputs: u32, phases: u32) -> Self
+        requires { AreSmall slots.items }
+        ensures { result
+            ≡ record { slots = slots.items; inputs = inputs; outputs = outputs; phases = phases } }
+    {
+        Tables {
+            slots,
+            inputs,
+            outputs,
+            phases,
+        }
+    }
+
+    /// What each slot may hold.
+    pub fn slots(&self) -> &[Slot]
+        ensures slots { result.now ≡ self.now.slots }
+        ensures small { AreSmall result.now }
+    {
+        &self.slots
+    }
+
+    /// The number of input ports.
+    pub fn inputs(&self) -> u32
+        ensures { result ≡ self.now.inputs }
+    {
+        self.inputs
+    }
+
+    /// The number of output ports.
+    pub fn outputs(&self) -> u32
+        ensures { result ≡ self.now.outputs }
+    {
+        self.outputs
+    }
+
+    /// The number of phases.
+    pub fn phases(&self) -> u32
+        ensures { result ≡ self.now.phases }
+    {
+        self.phases
+    }
+}
+
+/// What a program may speak of, and what it is for. The programs of a model share its tables.
+#[derive(Drop)]
+pub struct Shape {
+    tables: Arc<Tables>,
+    sort: ProgramSort,
+}
+
+impl Model for Shape {
+    ghost use Rattle.dv_code.specs.Shape.{Shape as Meant, shape_of};
+
+    ghost Value = { Meant };
+
+    ghost view = { λ s. shape_of s.tables.value s.sort };
+}
+
+impl Shape {
+    /// A program of this sort, over these tables.
+    pub fn new(tables: Arc<Tables>, sort: ProgramSort) -> Self
+        ensures { result ≡ shape_of tables.value sort }
+    {
+        Shape { tables, sort }
+    }
+
+    /// The tables.
+    pub fn tables(&self) -> &Tables
+        ensures { shape_of result.now self.now.sort ≡ self.now }
+    {
+        &self.tables
+    }
+
+    /// What the program is for.
+    pub fn sort(&self) -> ProgramSort
+        ensures { result ≡ self.now.sort }
+    {
+        self.sort
+    }
+}
