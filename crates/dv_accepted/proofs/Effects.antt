@@ -70,7 +70,7 @@ abbrev ok_effect : Effect → Result Effect Fault
 ok_effect e = Ok e
 
 module _ (scope : Scope) where
-  same_fits : (e next : Effect) → Fits scope e → ok_effect e ≡ Ok next → Fits scope next
+  pub same_fits : (e next : Effect) → Fits scope e → ok_effect e ≡ Ok next → Fits scope next
   same_fits e next fit is = let same : e ≡ next = cc in rw (← same) fit
 
   datum_put_fits : (place : ℕ) (v : ℕ × Domain) (d : Datum) (e : Effect) → slice_get scope.variables place ≡ Some v
@@ -102,7 +102,7 @@ module _ (scope : Scope) where
   assignment_to_fits None place x e next there fit is = same_fits e next fit is
   assignment_to_fits (Some v) place x e next there fit is = assignment_in_domain_fits v.1 v.0 place x e next there fit is
 
-  assignment_at_fits : (o : Option ℕ) (x : Value) (e next : Effect) → Fits scope e → assignment_at scope o x e ≡ Ok next → Fits scope next
+  pub assignment_at_fits : (o : Option ℕ) (x : Value) (e next : Effect) → Fits scope e → assignment_at scope o x e ≡ Ok next → Fits scope next
   assignment_at_fits None x e next fit is = same_fits e next fit is
   assignment_at_fits (Some place) x e next fit is = assignment_to_fits (slice_get scope.variables place) place x e next refl fit is
 
@@ -142,7 +142,7 @@ module _ (scope : Scope) where
   addition_to_fits (Some (name, domain.Bag capacity)) place n e next there fit is =
       addition_in_bag_fits (slice_get e.state.variables place) capacity name place n e next refl there fit is
 
-  addition_at_fits : (o : Option ℕ) (n : ℤ) (e next : Effect) → Fits scope e → addition_at scope o n e ≡ Ok next → Fits scope next
+  pub addition_at_fits : (o : Option ℕ) (n : ℤ) (e next : Effect) → Fits scope e → addition_at scope o n e ≡ Ok next → Fits scope next
   addition_at_fits None n e next fit is = same_fits e next fit is
   addition_at_fits (Some place) n e next fit is = addition_to_fits (slice_get scope.variables place) place n e next refl fit is
 
@@ -155,7 +155,7 @@ module _ (scope : Scope) where
       let h = held e place (datum.Bag c) fit content in
       datum_put_fits place h.variable (datum.Bag (without_one n c)) e h.there (less_fits h.variable.1 n c h.fitting) fit
 
-  removal_at_fits : (o : Option ℕ) (n : ℤ) (e : Effect) → Fits scope e → Fits scope (removal_at o n e)
+  pub removal_at_fits : (o : Option ℕ) (n : ℤ) (e : Effect) → Fits scope e → Fits scope (removal_at o n e)
   removal_at_fits None n e fit = fit
   removal_at_fits (Some place) n e fit = removal_from_fits (slice_get e.state.variables place) place n e refl fit
 
@@ -165,12 +165,12 @@ module _ (scope : Scope) where
   with_value_fits None n e fit = fit
   with_value_fits (Some port) n e fit = record { state = fit.state; goto = fit.goto }
 
-  sending_fits : (b : Bool) (o : Option ℕ) (n : ℤ) (e next : Effect) → Fits scope e
+  pub sending_fits : (b : Bool) (o : Option ℕ) (n : ℤ) (e next : Effect) → Fits scope e
       → (if b then Err fault.Flood else Ok (with_value_at o n e)) ≡ Ok next → Fits scope next
   sending_fits true o n e next fit is = absurd (cc)
   sending_fits false o n e next fit is = same_fits (with_value_at o n e) next (with_value_fits o n e fit) is
 
-  goto_fits : (o : Option ℕ) (phase : ℕ) (e : Effect) → place_of phase scope.phases ≡ o → Fits scope e → Fits scope (with_goto o e)
+  pub goto_fits : (o : Option ℕ) (phase : ℕ) (e : Effect) → place_of phase scope.phases ≡ o → Fits scope e → Fits scope (with_goto o e)
   goto_fits None phase e is fit = fit
   goto_fits (Some place) phase e is fit = record { state = fit.state; goto = found_within place phase scope.phases is }
 
@@ -182,7 +182,7 @@ module _ (scope : Scope) where
   branch_fits false one other next fit fit_other is = fit_other is
 
   -- where each step leads from what fits to what fits
-  walk_fits : (step : ℤ → Effect → Result Effect Fault) (ns : List ℤ) (e next : Effect)
+  pub walk_fits : (step : ℤ → Effect → Result Effect Fault) (ns : List ℤ) (e next : Effect)
       → ((n : ℤ) (now later : Effect) → Fits scope now → step n now ≡ Ok later → Fits scope later)
       → Fits scope e → repetition step ns e ≡ Ok next → Fits scope next
   walk_fits step [] e next keeps fit is = same_fits e next fit is
@@ -190,7 +190,7 @@ module _ (scope : Scope) where
       let first = gave (step n e) (repetition step ns) next is in
       walk_fits step ns first.value next keeps (keeps n e first.value fit first.first) first.then_
 
-  run_fits : (context : Context) (body : Statements) (e next : Effect) → Fits scope e
+  pub run_fits : (context : Context) (body : Statements) (e next : Effect) → Fits scope e
       → run scope context body e ≡ Ok next → Fits scope next
   run_fits context Done e next fit is = same_fits e next fit is
   run_fits context (Assign variable value rest) e next fit is =

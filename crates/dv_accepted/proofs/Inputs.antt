@@ -188,14 +188,20 @@ not_entered : (m : AtomicTree) (q : ℕ) → declared_in (state_variables_in m.d
 unfolding first_of
 not_entered m q none = with_variables_entry q (state_variables_in m.declarations) [] ∙ none
 
-pub port_read : (m : AtomicTree) (q : ℕ) → atomic_refusals m ≡ [] → is_declared q (scope_of m).inputs ≡ true → ReadsPort (scope_of m) q
-port_read m q none declared =
-    let h = place_of_declared q (scope_of m).inputs declared in
+-- the name of an input port has no place among the variables, flags and bags
+pub port_placeless : (m : AtomicTree) (q : ℕ) → atomic_refusals m ≡ [] → is_declared q (scope_of m).inputs ≡ true
+    → place_of q (names_of (scope_of m).variables) ≡ None
+port_placeless m q none declared =
     let is = declared_among q (inputs_in m.declarations) [] declared in
     let unstored = apart q _ m.declarations (names_once m none) is in
     let entries = (scope_of m).variables in
     let undeclared = declared_entry entries q ∙ ap is_some (not_entered m q unstored) in
-    let placeless : place_of q (names_of entries) ≡ None = no_place 0 q (names_of entries) undeclared in
+    no_place 0 q (names_of entries) undeclared
+
+pub port_read : (m : AtomicTree) (q : ℕ) → atomic_refusals m ≡ [] → is_declared q (scope_of m).inputs ≡ true → ReadsPort (scope_of m) q
+port_read m q none declared =
+    let h = place_of_declared q (scope_of m).inputs declared in
+    let placeless = port_placeless m q none declared in
     record {
       port = h.place;
       found = h.found;

@@ -523,12 +523,12 @@ module _ (m : AtomicTree) where
 -- ---- Data of variables, flags and bags
 
 -- the datum at the place of an entry
-record FitsAt (ds : List Datum) (place : ℕ) (o : Domain) : Type 0 where
-  datum : Datum
-  there : slice_get ds place ≡ Some datum
-  fitting : datum_fits o datum ≡ true
+pub record FitsAt (ds : List Datum) (place : ℕ) (o : Domain) : Type 0 where
+  pub datum : Datum
+  pub there : slice_get ds place ≡ Some datum
+  pub fitting : datum_fits o datum ≡ true
 
-fits_at : (vs : List (ℕ × Domain)) (ds : List Datum) (place : ℕ) (o : Domain) → data_fit vs ds ≡ true
+pub fits_at : (vs : List (ℕ × Domain)) (ds : List Datum) (place : ℕ) (o : Domain) → data_fit vs ds ≡ true
     → option_map (λ v. v.1) (slice_get vs place) ≡ Some o → FitsAt ds place o
 fits_at [] ds place o e is = absurd (cc)
 fits_at (v ∷ vs) [] place o e is = absurd (cc)

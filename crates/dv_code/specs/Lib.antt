@@ -6,4 +6,5 @@ pub mod Machine
 pub mod Runs
 pub mod Known
 pub mod Valid
+pub mod Listing
 pub mod Rows

@@ -5,6 +5,8 @@
 pub mod instruction;
 /// Laws of valid programs.
 pub mod laws;
+/// Instructions as a listing has them.
+pub mod listing;
 /// Worked rows.
 pub mod rows;
 /// What a program may speak of.

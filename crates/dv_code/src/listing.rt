@@ -1,0 +1,122 @@
+//! Instructions as an assembler's listing has them.
+
+use crate::instruction::{Action, Binary, Instruction, Leaf, Source, Unary};
+use std::fmt;
+
+impl fmt::Display for Source {
+    ghost use Rattle.std.specs.Prelude.{Some};
+    ghost use Rattle.dv_code.specs.Listing.{source_words};
+
+    ghost output = { λ s. Some (source_words s) };
+
+    fn fmt<W: fmt::Write>(&self, f: &mut fmt::Formatter<W>) -> fmt::Result {
+        match self {
+            Source::Own(place) => write!(f, "bag {place}"),
+            Source::Port(port) => write!(f, "port {port}"),
+        }
+    }
+}
+
+impl fmt::Display for Leaf {
+    ghost use Rattle.std.specs.Prelude.{Some};
+    ghost use Rattle.dv_code.specs.Listing.{leaf_words};
+
+    ghost output = { λ l. Some (leaf_words l) };
+
+    fn fmt<W: fmt::Write>(&self, f: &mut fmt::Formatter<W>) -> fmt::Result {
+        match self {
+            Leaf::Number(number) => write!(f, "{number}"),
+            Leaf::Truth(true) => f.write_str("true"),
+            Leaf::Truth(false) => f.write_str("false"),
+            Leaf::Variable(place) => write!(f, "variable {place}"),
+            Leaf::Flag(place) => write!(f, "flag {place}"),
+            Leaf::Item(number) => write!(f, "item {number}"),
+            Leaf::Elapsed => f.write_str("elapsed"),
+            Leaf::Size(source) => write!(f, "size of {source}"),
+            Leaf::Sum(source) => write!(f, "sum of {source}"),
+            Leaf::Least(source) => write!(f, "least of {source}"),
+            Leaf::Most(source) => write!(f, "most of {source}"),
+        }
+    }
+}
+
+impl fmt::Display for Unary {
+    ghost use Rattle.std.specs.Prelude.{Some};
+    ghost use Rattle.dv_code.specs.Listing.{unary_words};
+
+    ghost output = { λ u. Some (unary_words u) };
+
+    fn fmt<W: fmt::Write>(&self, f: &mut fmt::Formatter<W>) -> fmt::Result {
+        match self {
+            Unary::Negate => f.write_str("negate"),
+            Unary::Not => f.write_str("not"),
+            Unary::Times(source) => write!(f, "times in {source}"),
+        }
+    }
+}
+
+impl fmt::Display for Binary {
+    ghost use Rattle.std.specs.Prelude.{Some};
+    ghost use Rattle.dv_code.specs.Listing.{binary_words};
+
+    ghost output = { λ o. Some (binary_words o) };
+
+    fn fmt<W: fmt::Write>(&self, f: &mut fmt::Formatter<W>) -> fmt::Result {
+        f.write_str(match self {
+            Binary::Add => "add",
+            Binary::Subtract => "subtract",
+            Binary::Multiply => "multiply",
+            Binary::Divide => "divide",
+            Binary::Remainder => "remainder",
+            Binary::Equal => "equal",
+            Binary::Unequal => "unequal",
+            Binary::Less => "less",
+            Binary::AtMost => "at most",
+            Binary::Greater => "greater",
+            Binary::AtLeast => "at least",
+            Binary::Same => "same",
+            Binary::Different => "different",
+        })
+    }
+}
+
+impl fmt::Display for Action {
+    ghost use Rattle.std.specs.Prelude.{Some};
+    ghost use Rattle.dv_code.specs.Listing.{action_words};
+
+    ghost output = { λ a. Some (action_words a) };
+
+    fn fmt<W: fmt::Write>(&self, f: &mut fmt::Formatter<W>) -> fmt::Result {
+        match self {
+            Action::SetVariable(place) => write!(f, "set variable {place}"),
+            Action::SetFlag(place) => write!(f, "set flag {place}"),
+            Action::AddTo(place) => write!(f, "add to bag {place}"),
+            Action::DropFrom(place) => write!(f, "drop from bag {place}"),
+            Action::Send(port) => write!(f, "send by port {port}"),
+        }
+    }
+}
+
+impl fmt::Display for Instruction {
+    ghost use Rattle.std.specs.Prelude.{Some};
+    ghost use Rattle.dv_code.specs.Listing.{instruction_words};
+
+    ghost output = { λ i. Some (instruction_words i) };
+
+    fn fmt<W: fmt::Write>(&self, f: &mut fmt::Formatter<W>) -> fmt::Result {
+        match self {
+            Instruction::Push(leaf) => write!(f, "push {leaf}"),
+            Instruction::Apply(unary) => write!(f, "{unary}"),
+            Instruction::Combine(binary) => write!(f, "{binary}"),
+            Instruction::Perform(action) => write!(f, "{action}"),
+            Instruction::Go(phase) => write!(f, "go to phase {phase}"),
+            Instruction::Jump(to) => write!(f, "jump to {to}"),
+            Instruction::JumpFalse(to) => write!(f, "if false jump to {to}"),
+            Instruction::FalseKeep(to) => write!(f, "if false keep and jump to {to}"),
+            Instruction::TrueKeep(to) => write!(f, "if true keep and jump to {to}"),
+            Instruction::Loop(source, past) => write!(f, "loop over {source} up to {past}"),
+            Instruction::Next(first) => write!(f, "next from {first}"),
+            Instruction::End => f.write_str("end"),
+        }
+    }
+}

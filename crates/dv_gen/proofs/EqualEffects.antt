@@ -1,0 +1,264 @@
+-- The effect of what is accepted is the same by places as by names, on a state that fits.
+use Rattle.std.proofs.Common.{◌≡◌, ℕ, ℤ, Bool, true, false, if◌then◌else◌, List, [], ◌∷◌, length, refl, sym, ap, ◌∙◌, Option, Some, None, Result, Ok, IfSome}
+use Rattle.std.specs.List.{All}
+use Rattle.std.proofs.lemmas.Bool.{lt-ltb}
+use Rattle.dv_syntax.specs.Trees.{AtomicTree, HoldTree, RuleTree, Expression as NamedExpression, Statements as NamedStatements, Done as Ended, Assign, Goto as GoTo, Send, If as IfOnly, IfElse, For as Each, Add as AddTo, Drop}
+use Rattle.dv_syntax.specs.declared.tree.Name.{Name}
+use Rattle.dv_syntax.specs.declared.tree.RuleSort.{RuleSort}
+use Rattle.dv_bag.specs.Arrivals.{Arrivals, nothing_arrived}
+use Rattle.dv_bag.specs.Bag.{values_of}
+use Rattle.dv_bag.specs.Outcome.{◌>>=◌}
+use Rattle.dv_bag.specs.declared.fault.Fault.{Fault}
+use Rattle.dv_bag.specs.declared.state.State.{State}
+use Rattle.dv_bag.specs.declared.state.Effect.{Effect}
+use Rattle.dv_bag.specs.declared.value.Value.{Value}
+use Rattle.dv_bag.specs.declared.value.ValueType.{ValueType}
+use Rattle.dv_bag.specs.declared.value.ValueType.TheVariants.{Number, Truth}
+use Rattle.dv_eval.specs.Meaning.{addition, assignment, bag_of_name, effect_of, meaning, moment_in, number_of, outermost, removal, repetition, run, sending, value_within, with_goto, truth_of as truth_in_text}
+use Rattle.dv_eval.specs.Scope.{Scope, names_of, place_of, scope_of}
+use Rattle.dv_eval.specs.declared.scope.Domain.TheVariants as domain
+use Rattle.dv_check.specs.declared.declarations.NameSort.{NameSort}
+use Rattle.dv_check.specs.Rules.{atomic_refusals, known_in, known_in_rule, statements_refusals}
+use Rattle.dv_check.specs.Types.{Known, place_refusals, type_of_name, value_refusals}
+use Rattle.dv_accepted.specs.Fitting.{context_within, fits, is_of_type, known_within}
+use Rattle.dv_accepted.proofs.Effects.{Fits, addition_at_fits, assignment_at_fits, goto_fits, removal_at_fits, run_fits, same_fits, sending_fits, walk_fits}
+use Rattle.dv_accepted.proofs.Fitting.{HasPlace}
+use Rattle.dv_accepted.proofs.Typed.{place_typed}
+use Rattle.dv_code.specs.Machine.{first_effect}
+use Rattle.dv_code.specs.Operations.{action_effect}
+use Rattle.dv_code.specs.Shape.{Shape}
+use Rattle.dv_code.specs.declared.instruction.Action.{Action}
+use Rattle.dv_code.specs.declared.instruction.Action.TheVariants as action
+use Rattle.dv_gen.specs.Resolution.{all_resolved, assignment_at, choice, hold_tree, place_or_first, resolved, rule_shape, rule_tree, slot_place}
+use Rattle.dv_gen.specs.Resolved.{Act, Done, Expression, For, Goto, If, Statements, When, effect_from, for_each, or_same, rule_effect, truth_of, value_of, values_in}
+use Rattle.dv_gen.proofs.Accepted.{accepted_assignment, accepted_change, accepted_goto, accepted_if, accepted_if_else, accepted_loop, accepted_send, each_hold, each_rule}
+use Rattle.dv_gen.proofs.EqualOperators.{bind_agrees, on_number, on_truth}
+use Rattle.dv_gen.proofs.EqualValues.{bag_agrees, gives_type, value_agrees}
+use Rattle.dv_gen.proofs.FittingStates.{bag_there}
+use Rattle.dv_gen.proofs.Loops.{items_within, knows_within, loops_of}
+use Rattle.dv_gen.proofs.KnownNames.{Assigned, Stands, StandsForBag, ToFlag, ToVariable, assigned_stands, assigned_type, changed_bag_stands, flag_assignment, sent_port_stands, slot_there, variable_assignment}
+
+-- ---- Actions
+
+module _ (scope : Scope) (s : RuleSort) (e : Effect) (fit : Fits scope e) (q : ℕ) where
+  abbrev done_by : Action → Value → Result Effect Fault
+  done_by a v = or_same e (action_effect (rule_shape scope s) a v e)
+
+  assignment_agrees : (loops : List ℕ) {o : Option NameSort} (t : ValueType) (v : Value) → Assigned scope loops q o
+      → type_of_name o ≡ Some t → is_of_type t v ≡ true
+      → done_by (assignment_at scope (place_of q (names_of scope.variables))) v ≡ assignment scope q v e
+  assignment_agrees loops t v (ToVariable stands) typed is =
+      let same : Number ≡ t = cc in
+      let target = variable_assignment scope loops q stands in
+      let slot = slot_there scope q (domain.Number stands.range) stands.has in
+      let a = assignment_at scope (place_of q (names_of scope.variables)) in
+      on_number (λ x. done_by a x) (λ x. assignment scope q x e) v (ap (λ u. is_of_type u v) same ∙ is)
+      (λ n. rw (target, slot, stands.has.found, stands.has.there) refl)
+  assignment_agrees loops t v (ToFlag stands) typed is =
+      let same : Truth ≡ t = cc in
+      let target = flag_assignment scope loops q stands in
+      let slot = slot_there scope q (domain.Flag stands.start) stands.has in
+      let a = assignment_at scope (place_of q (names_of scope.variables)) in
+      on_truth (λ x. done_by a x) (λ x. assignment scope q x e) v (ap (λ u. is_of_type u v) same ∙ is)
+      (λ b. rw (target, slot, stands.has.found, stands.has.there) refl)
+
+  sending_agrees : (v : Value) → HasPlace q scope.outputs → is_of_type Number v ≡ true
+      → done_by (action.Send (place_or_first (place_of q scope.outputs))) v ≡ sending scope q v e
+  sending_agrees v there is =
+      let within = lt-ltb there.place (length scope.outputs) there.within in
+      on_number (λ x. done_by (action.Send (place_or_first (place_of q scope.outputs))) x) (λ x. sending scope q x e) v is
+      (λ n. rw (there.found, within) refl)
+
+  addition_agrees : (v : Value) → StandsForBag scope q → is_of_type Number v ≡ true
+      → done_by (action.AddTo (slot_place scope q)) v ≡ addition scope q (number_of v) e
+  addition_agrees v stands is =
+      let slot = slot_there scope q (domain.Bag stands.capacity) stands.has in
+      let held = bag_there scope e.state fit.state q stands in
+      on_number (λ x. done_by (action.AddTo (slot_place scope q)) x) (λ x. addition scope q (number_of x) e) v is
+      (λ n. rw (stands.has.found, slot, stands.has.there, held.1) refl)
+
+  removal_agrees : (v : Value) → StandsForBag scope q → is_of_type Number v ≡ true
+      → done_by (action.DropFrom (slot_place scope q)) v ≡ Ok (removal scope q (number_of v) e)
+  removal_agrees v stands is =
+      let held = bag_there scope e.state fit.state q stands in
+      on_number (λ x. done_by (action.DropFrom (slot_place scope q)) x) (λ x. Ok (removal scope q (number_of x) e)) v is
+      (λ n. rw (stands.has.found, held.1) refl)
+
+-- ---- What follows alike
+
+branch_agrees : (b : Bool) (one two first second : Result Effect Fault) → one ≡ first → two ≡ second
+    → (if b then one else two) ≡ (if b then first else second)
+branch_agrees true one two first second same same_other = same
+branch_agrees false one two first second same same_other = same_other
+
+-- what follows from either branch
+after_branch : (b : Bool) (first second : Result Effect Fault) (next : Effect) (P : Type 0)
+    → (first ≡ Ok next → P) → (second ≡ Ok next → P) → (if b then first else second) ≡ Ok next → P
+after_branch true first second next P later later_other is = later is
+after_branch false first second next P later later_other is = later_other is
+
+-- the same steps for each of some values
+walk_agrees : (scope : Scope) (step named : ℤ → Effect → Result Effect Fault) (ns : List ℤ) (e : Effect)
+    → ((n : ℤ) (now : Effect) → Fits scope now → step n now ≡ named n now)
+    → ((n : ℤ) (now later : Effect) → Fits scope now → named n now ≡ Ok later → Fits scope later)
+    → Fits scope e → for_each step ns e ≡ repetition named ns e
+walk_agrees scope step named [] e same keeps fit = refl
+walk_agrees scope step named (n ∷ ns) e same keeps fit =
+    ap (λ r. r >>= for_each step ns) (same n e fit)
+    ∙ bind_agrees (named n e) (for_each step ns) (repetition named ns) (λ next is.
+    walk_agrees scope step named ns next same keeps (keeps n e next fit is))
+
+-- an empty second block is none
+choice_effect : (shape : Shape) (arrivals : Arrivals) (items : List ℤ) (condition : Expression) (block other rest : Statements) (e : Effect)
+    → effect_from shape arrivals items (choice condition block other rest) e
+    ≡ effect_from shape arrivals items (If condition block other rest) e
+choice_effect shape arrivals items condition block Done rest e = refl
+choice_effect shape arrivals items condition block (Act a value next) rest e = refl
+choice_effect shape arrivals items condition block (Goto phase next) rest e = refl
+choice_effect shape arrivals items condition block (When c b next) rest e = refl
+choice_effect shape arrivals items condition block (If c b o next) rest e = refl
+choice_effect shape arrivals items condition block (For source b next) rest e = refl
+
+-- ---- Statements
+
+module _ (m : AtomicTree) (none : atomic_refusals m ≡ []) (s : RuleSort) (arrivals : Arrivals) where
+  abbrev known : List (Name × ℤ) → Known
+  known bound = known_within bound (known_in_rule (Some s) (known_in m))
+
+  abbrev by_places : List (Name × ℤ) → NamedStatements → Effect → Result Effect Fault
+  by_places bound body =
+      effect_from (rule_shape (scope_of m) s) arrivals (items_within bound) (all_resolved (scope_of m) (loops_of bound) body)
+
+  abbrev by_names : List (Name × ℤ) → NamedStatements → Effect → Result Effect Fault
+  by_names bound body = run (scope_of m) (context_within arrivals bound) body
+
+  module _ (bound : List (Name × ℤ)) (e : Effect) (fit : Fits (scope_of m) e) where
+    abbrev value_by_names : NamedExpression → Result Value Fault
+    value_by_names x = value_within (scope_of m) (context_within arrivals bound) e x
+
+    stands : (q : ℕ) → Stands (scope_of m) (loops_of bound) q ((known bound).sort q)
+    stands q = (knows_within m none (Some s) bound).name q
+
+    -- the same value, something that is done alike with each value of its type, and what follows
+    value_follows : (t : ValueType) (x : NamedExpression) (f g : Value → Result Effect Fault) (go on : Effect → Result Effect Fault)
+        → place_refusals t (known bound) x ≡ [] → ((v : Value) → is_of_type t v ≡ true → f v ≡ g v)
+        → ((v : Value) (next : Effect) → g v ≡ Ok next → go next ≡ on next)
+        → (value_of arrivals (items_within bound) e.state (resolved (scope_of m) (loops_of bound) x) >>= λ v. f v >>= go)
+        ≡ (value_by_names x >>= λ v. g v >>= on)
+    value_follows t x f g go on accepted step later =
+        let typed = place_typed (known bound) t x accepted in
+        ap (λ r. r >>= λ v. f v >>= go) (value_agrees m none (Some s) arrivals bound e.state fit.state x t typed)
+        ∙ bind_agrees (value_by_names x) _ _ (λ v is.
+        ap (λ r. r >>= go) (step v (gives_type m none (Some s) arrivals bound e.state fit.state x t typed v is))
+        ∙ bind_agrees (g v) go on (later v))
+
+    -- a condition, and a block for each of its two values
+    choice_follows : (x : NamedExpression) (one two first second : Result Effect Fault) (go on : Effect → Result Effect Fault)
+        → place_refusals Truth (known bound) x ≡ [] → one ≡ first → two ≡ second
+        → ((next : Effect) → first ≡ Ok next → go next ≡ on next) → ((next : Effect) → second ≡ Ok next → go next ≡ on next)
+        → (value_of arrivals (items_within bound) e.state (resolved (scope_of m) (loops_of bound) x)
+        >>= λ v. (if truth_of v then one else two) >>= go)
+        ≡ (value_by_names x >>= λ v. (if truth_in_text v then first else second) >>= on)
+    choice_follows x one two first second go on accepted same same_other later later_other =
+        value_follows Truth x (λ v. if truth_of v then one else two) (λ v. if truth_in_text v then first else second) go on accepted
+        (λ v is. on_truth (λ y. if truth_of y then one else two) (λ y. if truth_in_text y then first else second) v is
+        (λ b. branch_agrees b one two first second same same_other))
+        (λ v next is. after_branch (truth_in_text v) first second next (go next ≡ on next) (later next) (later_other next) is)
+
+  effects_agree : (bound : List (Name × ℤ)) (body : NamedStatements) → statements_refusals (known bound) body ≡ [] → (e : Effect)
+      → Fits (scope_of m) e → by_places bound body e ≡ by_names bound body e
+  effects_agree bound Ended accepted e fit = refl
+  effects_agree bound (Assign n x rest) accepted e fit =
+      let k = known bound in
+      let parts = accepted_assignment k n x rest accepted in
+      let stands_for = stands bound e fit n.number in
+      let target = assigned_stands (scope_of m) (loops_of bound) n.number k.rule (k.sort n.number) n.place stands_for parts.target in
+      let type = assigned_type (scope_of m) (loops_of bound) n.number target.0 in
+      let value = ap (λ o. value_refusals o k x) (sym type.1) ∙ parts.value in
+      value_follows bound e fit type.0 x _ (λ v. assignment (scope_of m) n.number v e) (by_places bound rest) (by_names bound rest) value
+      (λ v is. assignment_agrees (scope_of m) s e fit n.number (loops_of bound) type.0 v target.0 type.1 is)
+      (λ v next is. effects_agree bound rest parts.rest next
+      (assignment_at_fits (scope_of m) (place_of n.number (names_of (scope_of m).variables)) v e next fit is))
+  effects_agree bound (GoTo place phase rest) accepted e fit =
+      let parts = accepted_goto (known bound) place phase rest accepted in
+      let there = (knows_within m none (Some s) bound).phase phase.number parts.there in
+      let fits_there = goto_fits (scope_of m) (Some there.place) phase.number e there.found fit in
+      rw there.found (effects_agree bound rest parts.rest (with_goto (Some there.place) e) fits_there)
+  effects_agree bound (Send place port x rest) accepted e fit =
+      let k = known bound in
+      let parts = accepted_send k place port x rest accepted in
+      let stands_for = stands bound e fit port.number in
+      let there = sent_port_stands (scope_of m) (loops_of bound) port.number (k.sort port.number) port.place stands_for parts.target in
+      value_follows bound e fit Number x _ (λ v. sending (scope_of m) port.number v e) (by_places bound rest) (by_names bound rest)
+      parts.value (λ v is. sending_agrees (scope_of m) s e fit port.number v there is)
+      (λ v next is. effects_agree bound rest parts.rest next
+      (sending_fits (scope_of m) _ (place_of port.number (scope_of m).outputs) (number_of v) e next fit is))
+  effects_agree bound (IfOnly place x block rest) accepted e fit =
+      let parts = accepted_if (known bound) place x block rest accepted in
+      let context = context_within arrivals bound in
+      choice_follows bound e fit x (by_places bound block e) (Ok e) (by_names bound block e) (Ok e)
+      (by_places bound rest) (by_names bound rest) parts.condition (effects_agree bound block parts.first e fit) refl
+      (λ next is. effects_agree bound rest parts.rest next (run_fits (scope_of m) context block e next fit is))
+      (λ next is. effects_agree bound rest parts.rest next (same_fits (scope_of m) e next fit is))
+  effects_agree bound (IfElse place x block other rest) accepted e fit =
+      let parts = accepted_if_else (known bound) place x block other rest accepted in
+      let context = context_within arrivals bound in
+      choice_effect (rule_shape (scope_of m) s) arrivals (items_within bound) (resolved (scope_of m) (loops_of bound) x)
+      (all_resolved (scope_of m) (loops_of bound) block) (all_resolved (scope_of m) (loops_of bound) other)
+      (all_resolved (scope_of m) (loops_of bound) rest) e
+      ∙ choice_follows bound e fit x (by_places bound block e) (by_places bound other e) (by_names bound block e) (by_names bound other e)
+      (by_places bound rest) (by_names bound rest) parts.condition (effects_agree bound block parts.first e fit)
+      (effects_agree bound other parts.second e fit)
+      (λ next is. effects_agree bound rest parts.rest next (run_fits (scope_of m) context block e next fit is))
+      (λ next is. effects_agree bound rest parts.rest next (run_fits (scope_of m) context other e next fit is))
+  effects_agree bound (Each place v b block rest) accepted e fit =
+      let parts = accepted_loop (known bound) place v b block rest accepted in
+      let bag = bag_agrees m none (Some s) arrivals bound e.state fit.state b.number parts.readable in
+      let values = values_of (bag_of_name (scope_of m) (moment_in (context_within arrivals bound) e.state) b.number) in
+      let step = λ (n : ℤ). by_places ((v, n) ∷ bound) block in
+      let named = λ (n : ℤ). by_names ((v, n) ∷ bound) block in
+      let keeps = λ (n : ℤ) (now next : Effect). run_fits (scope_of m) (context_within arrivals ((v, n) ∷ bound)) block now next in
+      let same = walk_agrees (scope_of m) step named values e (λ n now. effects_agree ((v, n) ∷ bound) block parts.inside now) keeps fit in
+      ap (λ o. for_each step (values_in o) e >>= by_places bound rest) bag
+      ∙ (ap (λ r. r >>= by_places bound rest) same
+      ∙ bind_agrees (repetition named values e) (by_places bound rest) (by_names bound rest) (λ next is.
+      effects_agree bound rest parts.rest next (walk_fits (scope_of m) named values e next keeps fit is)))
+  effects_agree bound (AddTo place x b rest) accepted e fit =
+      let k = known bound in
+      let parts = accepted_change k place x b rest accepted in
+      let stands_for = stands bound e fit b.number in
+      let bag = changed_bag_stands (scope_of m) (loops_of bound) b.number (k.sort b.number) b.place stands_for parts.bag in
+      value_follows bound e fit Number x _ (λ v. addition (scope_of m) b.number (number_of v) e)
+      (by_places bound rest) (by_names bound rest) parts.value (λ v is. addition_agrees (scope_of m) s e fit b.number v bag is)
+      (λ v next is. effects_agree bound rest parts.rest next
+      (addition_at_fits (scope_of m) (place_of b.number (names_of (scope_of m).variables)) (number_of v) e next fit is))
+  effects_agree bound (Drop place x b rest) accepted e fit =
+      let k = known bound in
+      let parts = accepted_change k place x b rest accepted in
+      let stands_for = stands bound e fit b.number in
+      let bag = changed_bag_stands (scope_of m) (loops_of bound) b.number (k.sort b.number) b.place stands_for parts.bag in
+      value_follows bound e fit Number x _ (λ v. Ok (removal (scope_of m) b.number (number_of v) e))
+      (by_places bound rest) (by_names bound rest) parts.value (λ v is. removal_agrees (scope_of m) s e fit b.number v bag is)
+      (λ v next is. effects_agree bound rest parts.rest next
+      (same_fits (scope_of m) (removal (scope_of m) b.number (number_of v) e) next
+      (removal_at_fits (scope_of m) (place_of b.number (names_of (scope_of m).variables)) (number_of v) e fit) is))
+
+-- ---- Rules and holds
+
+module _ (m : AtomicTree) (none : atomic_refusals m ≡ []) where
+  abbrev RuleAgrees : RuleTree → Type 0
+  RuleAgrees r = (arrivals : Arrivals) (s : State) → fits m s ≡ true
+      → rule_effect (rule_shape (scope_of m) r.sort) arrivals (rule_tree m r.body) s ≡ effect_of (scope_of m) r.body arrivals s
+
+  abbrev TicksAgree : NamedExpression → Type 0
+  TicksAgree e = (s : State) → fits m s ≡ true
+      → value_of nothing_arrived [] s (hold_tree m e) ≡ meaning (scope_of m) (moment_in (outermost nothing_arrived) s) e
+
+  pub rules_agree : All RuleAgrees m.rules
+  rules_agree = each_rule m none RuleAgrees (λ r accepted arrivals s fit.
+      let start = first_effect (rule_shape (scope_of m) r.sort) s in
+      effects_agree m none r.sort arrivals [] r.body accepted start (record { state = fit; goto = tt }))
+
+  pub holds_agree : All (λ (h : HoldTree). IfSome h.ticks TicksAgree) m.holds
+  holds_agree = each_hold m none TicksAgree (λ e accepted s fit.
+      value_agrees m none None nothing_arrived [] s fit e Number (place_typed (known_in m) Number e accepted))

@@ -1,0 +1,139 @@
+-- The value of what is accepted is the same by places as by names, in a state that fits.
+use Rattle.std.proofs.Common.{◌≡◌, ℕ, ℤ, pos, true, ◌&&◌, List, [], refl, ap, ◌∙◌, Option, Some, None, Result, Ok}
+use Rattle.dv_syntax.specs.Trees.{AtomicTree, Expression as NamedExpression, Literal, TruthValue, Named, Parens, Prefixed, Binary, Call, Elapsed, Times}
+use Rattle.dv_syntax.specs.declared.tree.Name.{Name}
+use Rattle.dv_syntax.specs.declared.tree.Prefix.TheVariants as prefix
+use Rattle.dv_syntax.specs.declared.tree.RuleSort.{RuleSort}
+use Rattle.dv_bag.specs.Arrivals.{Arrivals}
+use Rattle.dv_bag.specs.Bag.{count_of}
+use Rattle.dv_bag.specs.Outcome.{◌>>=◌}
+use Rattle.dv_bag.specs.declared.fault.Fault.{Fault}
+use Rattle.dv_bag.specs.declared.state.State.{State}
+use Rattle.dv_bag.specs.declared.value.Value.{Value}
+use Rattle.dv_bag.specs.declared.value.Value.TheVariants as value
+use Rattle.dv_bag.specs.declared.value.ValueType.{ValueType}
+use Rattle.dv_bag.specs.declared.value.ValueType.TheVariants.{Number, Truth}
+use Rattle.dv_eval.specs.Meaning.{Moment, bag_of_name, meaning, moment_in, number_of, prefix_result, value_of_name}
+use Rattle.dv_eval.specs.Scope.{Scope, scope_of}
+use Rattle.dv_check.specs.declared.declarations.NameSort.{NameSort}
+use Rattle.dv_check.specs.declared.declarations.NameSort.TheVariants.{Variable as ForVariable, Flag as ForFlag, Bag as ForBag, Input as ForInput, Output as ForOutput, LoopVariable as ForLoopVariable}
+use Rattle.dv_check.specs.Rules.{atomic_refusals, known_in, known_in_rule}
+use Rattle.dv_check.specs.Types.{Known, is_bag, is_of, type_of_name, type_of as type_in_text}
+use Rattle.dv_accepted.specs.Fitting.{context_within, fits_in, known_within}
+use Rattle.dv_accepted.proofs.Fitting.{both_true}
+use Rattle.dv_accepted.proofs.Typed.{value_typed}
+use Rattle.dv_code.specs.Operations.{bag_of, leaf_value, of_bag, unary_value}
+use Rattle.dv_code.specs.declared.instruction.Unary.TheVariants as unary
+use Rattle.dv_gen.specs.Resolution.{leaf_of, resolved, source_of}
+use Rattle.dv_gen.specs.Resolved.{or_zero, value_of}
+use Rattle.dv_gen.proofs.KnownNames.{InputPort, Readable, Stands, StateBag, flag_leaf, item_leaf, own_source, port_source, known_readable, variable_leaf}
+use Rattle.dv_gen.proofs.OperandTypes.{operand_types, type_given, type_wanted}
+use Rattle.dv_gen.proofs.TypedTrees.{expression_typed}
+use Rattle.dv_gen.proofs.FittingStates.{bag_there, flag_there, number_there}
+use Rattle.dv_gen.proofs.Loops.{is_item, items_within, knows_within, loops_of, no_loop_value}
+use Rattle.dv_gen.proofs.EqualOperators.{GivesType, bind_agrees, call_agrees, on_number, on_truth, operator_agrees}
+
+-- ---- Names
+
+module _ (scope : Scope) (arrivals : Arrivals) (bound : List (Name × ℤ)) (s : State) (fit : fits_in scope s ≡ true) where
+  abbrev moment : Moment
+  moment = moment_in (context_within arrivals bound) s
+
+  name_agrees : (q : ℕ) (o : Option NameSort) (t : ValueType) → Stands scope (loops_of bound) q o → type_of_name o ≡ Some t
+      → or_zero (leaf_value arrivals (items_within bound) s (leaf_of scope (loops_of bound) q)) ≡ Ok (value_of_name scope moment q)
+  name_agrees q None t stands typed = absurd (cc)
+  name_agrees q (Some ForVariable) t stands typed =
+      let leaf = variable_leaf scope (loops_of bound) q stands in
+      let outside = no_loop_value bound q stands.outside in
+      let held = number_there scope s fit q stands.range stands.has in
+      rw (leaf, outside, stands.has.found, held.1) refl
+  name_agrees q (Some ForFlag) t stands typed =
+      let leaf = flag_leaf scope (loops_of bound) q stands in
+      let outside = no_loop_value bound q stands.outside in
+      let held = flag_there scope s fit q stands.start stands.has in
+      rw (leaf, outside, stands.has.found, held.1) refl
+  name_agrees q (Some ForBag) t stands typed = absurd (cc)
+  name_agrees q (Some ForInput) t stands typed = absurd (cc)
+  name_agrees q (Some ForOutput) t stands typed = absurd (cc)
+  name_agrees q (Some ForLoopVariable) t stands typed =
+      let leaf = item_leaf scope (loops_of bound) q stands in
+      let item = is_item bound q stands.loop stands.found in
+      rw (leaf, item.by_name, item.by_place) refl
+
+  source_agrees : (rule : Option RuleSort) (q : ℕ) → Readable scope rule q
+      → bag_of arrivals s (source_of scope q) ≡ Some (bag_of_name scope moment q)
+  source_agrees rule q (StateBag stands) =
+      let source = own_source scope q stands in
+      let held = bag_there scope s fit q stands in
+      rw (source, stands.has.found, held.1) refl
+  source_agrees rule q (InputPort stands seen) =
+      let source = port_source scope q stands in
+      rw (source, stands.placeless, stands.port.found) refl
+
+-- ---- Expressions
+
+module _ (m : AtomicTree) (none : atomic_refusals m ≡ []) (rule : Option RuleSort) (arrivals : Arrivals) (bound : List (Name × ℤ))
+    (s : State) (fit : fits_in (scope_of m) s ≡ true) where
+  abbrev known : Known
+  known = known_within bound (known_in_rule rule (known_in m))
+
+  abbrev by_names : NamedExpression → Result Value Fault
+  by_names e = meaning (scope_of m) (moment_in (context_within arrivals bound) s) e
+
+  abbrev by_places : NamedExpression → Result Value Fault
+  by_places e = value_of arrivals (items_within bound) s (resolved (scope_of m) (loops_of bound) e)
+
+  pub gives_type : (e : NamedExpression) (t : ValueType) → type_in_text known e ≡ Some t → GivesType t (by_names e)
+  gives_type e t typed v is = value_typed m rule arrivals bound s fit e t v typed is
+
+  pub bag_agrees : (q : ℕ) → is_bag known.rule (known.sort q) ≡ true
+      → bag_of arrivals s (source_of (scope_of m) q) ≡ Some (bag_of_name (scope_of m) (moment_in (context_within arrivals bound) s) q)
+  bag_agrees q is =
+      source_agrees (scope_of m) arrivals bound s fit rule q
+      (known_readable (scope_of m) rule (loops_of bound) known (knows_within m none rule bound) q is)
+
+  pub value_agrees : (e : NamedExpression) (t : ValueType) → type_in_text known e ≡ Some t → by_places e ≡ by_names e
+  value_agrees (Literal n) t typed = refl
+  value_agrees (TruthValue place b) t typed = refl
+  value_agrees (Named name) t typed =
+      let knows = knows_within m none rule bound in
+      name_agrees (scope_of m) arrivals bound s fit name.number (known.sort name.number) t (knows.name name.number) typed
+  value_agrees (Parens place e) t typed = value_agrees e t typed
+  value_agrees (Prefixed prefix.Minus place e) t typed =
+      let is = type_given (is_of Number (type_in_text known e)) Number t typed in
+      let operand = type_wanted Number (type_in_text known e) is.0 in
+      ap (λ r. r >>= λ v. or_zero (unary_value arrivals s unary.Negate v)) (value_agrees e Number operand)
+      ∙ bind_agrees (by_names e) _ _ (λ v is_v.
+      on_number (λ x. or_zero (unary_value arrivals s unary.Negate x)) (λ x. prefix_result prefix.Minus x) v
+      (gives_type e Number operand v is_v) (λ n. refl))
+  value_agrees (Prefixed prefix.Not place e) t typed =
+      let is = type_given (is_of Truth (type_in_text known e)) Truth t typed in
+      let operand = type_wanted Truth (type_in_text known e) is.0 in
+      ap (λ r. r >>= λ v. or_zero (unary_value arrivals s unary.Not v)) (value_agrees e Truth operand)
+      ∙ bind_agrees (by_names e) _ _ (λ v is_v.
+      on_truth (λ x. or_zero (unary_value arrivals s unary.Not x)) (λ x. prefix_result prefix.Not x) v
+      (gives_type e Truth operand v is_v) (λ b. refl))
+  value_agrees (Binary o a b) t typed =
+      let knows = knows_within m none rule bound in
+      let left = type_in_text known a in
+      let right = type_in_text known b in
+      let operands = operand_types o left right t typed in
+      operator_agrees arrivals (items_within bound) s (resolved (scope_of m) (loops_of bound) a) (resolved (scope_of m) (loops_of bound) b)
+      (by_names a) (by_names b) (value_agrees a operands.left operands.left_is) (value_agrees b operands.right operands.right_is)
+      left right t (gives_type a) (gives_type b) (λ u is. (expression_typed (scope_of m) rule (loops_of bound) known knows a u is).0)
+      o typed
+  value_agrees (Call c place b) t typed =
+      let is = type_given (is_bag known.rule (known.sort b.number)) Number t typed in
+      call_agrees c arrivals (items_within bound) s (source_of (scope_of m) b.number) _ (bag_agrees b.number is.0)
+  value_agrees (Elapsed place) t typed = refl
+  value_agrees (Times place e b) t typed =
+      let is = type_given (is_of Number (type_in_text known e) && is_bag known.rule (known.sort b.number)) Number t typed in
+      let both = both_true (is_of Number (type_in_text known e)) (is_bag known.rule (known.sort b.number)) is.0 in
+      let operand = type_wanted Number (type_in_text known e) both.0 in
+      let source = source_of (scope_of m) b.number in
+      let bag = bag_of_name (scope_of m) (moment_in (context_within arrivals bound) s) b.number in
+      let counted = bag_agrees b.number both.1 in
+      ap (λ r. r >>= λ v. or_zero (unary_value arrivals s (unary.Times source) v)) (value_agrees e Number operand)
+      ∙ bind_agrees (by_names e) _ _ (λ v is_v.
+      on_number (λ x. or_zero (unary_value arrivals s (unary.Times source) x)) (λ x. Ok (value.Number (pos (count_of (number_of x) bag)))) v
+      (gives_type e Number operand v is_v) (λ n. ap (λ o. or_zero (of_bag o (λ c. Ok (value.Number (pos (count_of n c)))))) counted))

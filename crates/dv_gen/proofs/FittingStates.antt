@@ -1,0 +1,163 @@
+-- States that fit a model: they fit the slots of its tables, and have at each place what the name of that place stands for.
+-- The bags of an accepted model are small.
+use Rattle.std.proofs.Common.{◌≡◌, ℕ, zero, suc, ◌<◌, ◌≤◌, Bool, true, false, nat_le, if◌then◌else◌, List, [], ◌∷◌, ◌++◌, map, refl, ap, ◌∙◌, Some, arith, ℤ, option_map}
+use Rattle.std.specs.Prelude.{slice_get}
+use Rattle.std.specs.List.{flat_map}
+use Rattle.std.proofs.lemmas.Bool.{leb-true}
+use Rattle.dv_syntax.specs.Trees.{AtomicTree}
+use Rattle.dv_syntax.specs.declared.tree.Name.{Name}
+use Rattle.dv_syntax.specs.declared.tree.Declaration.{Declaration}
+use Rattle.dv_syntax.specs.declared.tree.Declaration.TheVariants.{In, Out, Var, Flag, Bag}
+use Rattle.dv_bag.specs.Bag.{total, Counts}
+use Rattle.dv_bag.specs.declared.TheConstants.{GREATEST_COUNT}
+use Rattle.dv_bag.specs.declared.state.Datum.{Datum}
+use Rattle.dv_bag.specs.declared.state.Datum.TheVariants as datum
+use Rattle.dv_bag.specs.declared.state.State.{State}
+use Rattle.dv_eval.specs.Scope.{is_declared, names_of, range_of, scope_of, state_variables_in, with_variable, with_variables, Scope}
+use Rattle.dv_eval.specs.declared.scope.Domain.{Domain}
+use Rattle.dv_eval.specs.declared.scope.Domain.TheVariants as domain
+use Rattle.dv_check.specs.Rules.{atomic_refusals, bag_refusals, declaration_refusals, is_capacity, variable_refusals}
+use Rattle.dv_check.proofs.Accepted.{both_nil, not_false, not_refused}
+use Rattle.dv_accepted.specs.Fitting.{data_fit, datum_fits, fits, fits_in}
+use Rattle.dv_accepted.proofs.Fitting.{both_true, parts_of_none}
+use Rattle.dv_code.specs.Shape.{AreSmall, Fits, FitsSlot}
+use Rattle.dv_code.specs.declared.shape.Slot.TheVariants.{Holding}
+use Rattle.dv_gen.specs.Resolution.{slot_of, tables_of}
+use Rattle.dv_eval.specs.declared.scope.VariableRange.{VariableRange}
+use Rattle.dv_accepted.proofs.Known.{fits_at}
+use Rattle.dv_gen.proofs.KnownNames.{HasDomain, StandsForBag}
+
+-- ---- States and tables
+
+datum_fits_slot : (d : Domain) (x : Datum) → datum_fits d x ≡ true → FitsSlot (slot_of d) x
+datum_fits_slot (domain.Number range) (datum.Number n) fit = fit
+datum_fits_slot (domain.Number range) (datum.Flag b) fit = absurd (cc)
+datum_fits_slot (domain.Number range) (datum.Bag b) fit = absurd (cc)
+datum_fits_slot (domain.Flag start) (datum.Number n) fit = absurd (cc)
+datum_fits_slot (domain.Flag start) (datum.Flag b) fit = tt
+datum_fits_slot (domain.Flag start) (datum.Bag b) fit = absurd (cc)
+datum_fits_slot (domain.Bag capacity) (datum.Number n) fit = absurd (cc)
+datum_fits_slot (domain.Bag capacity) (datum.Flag b) fit = absurd (cc)
+datum_fits_slot (domain.Bag capacity) (datum.Bag b) fit =
+    leb-true (total b) capacity (both_true (nat_le (total b) capacity) (nat_le capacity GREATEST_COUNT) fit).0
+
+data_fit_slots : (variables : List (ℕ × Domain)) (xs : List Datum) → data_fit variables xs ≡ true
+    → Fits (map (λ v. slot_of v.1) variables) xs
+data_fit_slots [] [] fit = tt
+data_fit_slots [] (x ∷ xs) fit = absurd (cc)
+data_fit_slots (v ∷ variables) [] fit = absurd (cc)
+data_fit_slots (v ∷ variables) (x ∷ xs) fit =
+    let both = both_true (datum_fits v.1 x) (data_fit variables xs) fit in
+    (datum_fits_slot v.1 x both.0, data_fit_slots variables xs both.1)
+
+pub states_fit : (m : AtomicTree) (s : State) → fits m s ≡ true → Fits (tables_of (scope_of m)).slots s.variables
+states_fit m s fit = data_fit_slots (scope_of m).variables s.variables (both_true _ (data_fit (scope_of m).variables s.variables) fit).1
+
+-- ---- What a state that fits has at places
+
+number_datum : (range : VariableRange) (d : Datum) → datum_fits (domain.Number range) d ≡ true → (n : ℤ) × (d ≡ datum.Number n)
+number_datum range (datum.Number n) fit = (n, refl)
+number_datum range (datum.Flag b) fit = absurd (cc)
+number_datum range (datum.Bag b) fit = absurd (cc)
+
+flag_datum : (start : Bool) (d : Datum) → datum_fits (domain.Flag start) d ≡ true → (b : Bool) × (d ≡ datum.Flag b)
+flag_datum start (datum.Number n) fit = absurd (cc)
+flag_datum start (datum.Flag b) fit = (b, refl)
+flag_datum start (datum.Bag b) fit = absurd (cc)
+
+bag_datum : (capacity : ℕ) (d : Datum) → datum_fits (domain.Bag capacity) d ≡ true → (b : Counts) × (d ≡ datum.Bag b)
+bag_datum capacity (datum.Number n) fit = absurd (cc)
+bag_datum capacity (datum.Flag b) fit = absurd (cc)
+bag_datum capacity (datum.Bag b) fit = (b, refl)
+
+module _ (scope : Scope) (s : State) (fit : fits_in scope s ≡ true) (q : ℕ) where
+  datum_there : (d : Domain) (has : HasDomain scope q d)
+      → (x : Datum) × (slice_get s.variables has.place ≡ Some x) × (datum_fits d x ≡ true)
+  datum_there d has =
+      let there = ap (option_map (λ (v : ℕ × Domain). v.1)) has.there in
+      let held = fits_at scope.variables s.variables has.place d (both_true _ (data_fit scope.variables s.variables) fit).1 there in
+      (held.datum, held.there, held.fitting)
+
+  pub number_there : (range : VariableRange) (has : HasDomain scope q (domain.Number range))
+      → (n : ℤ) × (slice_get s.variables has.place ≡ Some (datum.Number n))
+  number_there range has =
+      let held = datum_there (domain.Number range) has in
+      let number = number_datum range held.0 held.2 in
+      (number.0, held.1 ∙ ap (λ x. Some x) number.1)
+
+  pub flag_there : (start : Bool) (has : HasDomain scope q (domain.Flag start))
+      → (b : Bool) × (slice_get s.variables has.place ≡ Some (datum.Flag b))
+  flag_there start has =
+      let held = datum_there (domain.Flag start) has in
+      let flag = flag_datum start held.0 held.2 in
+      (flag.0, held.1 ∙ ap (λ x. Some x) flag.1)
+
+  pub bag_there : (stands : StandsForBag scope q) → (b : Counts) × (slice_get s.variables stands.has.place ≡ Some (datum.Bag b))
+  bag_there stands =
+      let held = datum_there (domain.Bag stands.capacity) stands.has in
+      let bag = bag_datum stands.capacity held.0 held.2 in
+      (bag.0, held.1 ∙ ap (λ x. Some x) bag.1)
+
+-- ---- Capacities
+
+abbrev HasCapacity : Domain → Type 0
+HasCapacity (domain.Number range) = Unit {0}
+HasCapacity (domain.Flag start) = Unit {0}
+HasCapacity (domain.Bag capacity) = (0 < capacity) × (capacity ≤ GREATEST_COUNT)
+
+abbrev HaveCapacities : List (ℕ × Domain) → Type 0
+HaveCapacities [] = Unit {0}
+HaveCapacities (v ∷ variables) = HasCapacity v.1 × HaveCapacities variables
+
+have_capacities_push : (variables : List (ℕ × Domain)) (v : ℕ × Domain) → HaveCapacities variables → HasCapacity v.1
+    → HaveCapacities (variables ++ v ∷ [])
+have_capacities_push [] v have has = (has, tt)
+have_capacities_push (w ∷ variables) v have has = (have.0, have_capacities_push variables v have.1 has)
+
+have_capacities_if : (b : Bool) (variables : List (ℕ × Domain)) (v : ℕ × Domain) → HaveCapacities variables → HasCapacity v.1
+    → HaveCapacities (if b then variables else variables ++ v ∷ [])
+have_capacities_if true variables v have has = have
+have_capacities_if false variables v have has = have_capacities_push variables v have has
+
+have_capacities_with : (variables : List (ℕ × Domain)) (v : Name × Domain) → HaveCapacities variables → HasCapacity v.1
+    → HaveCapacities (with_variable variables v)
+have_capacities_with variables v have has =
+    have_capacities_if (is_declared v.0.number (names_of variables)) variables (v.0.number, v.1) have has
+
+capacity_within : (capacity : ℕ) → is_capacity capacity ≡ true → (0 < capacity) × (capacity ≤ GREATEST_COUNT)
+capacity_within capacity is =
+    let both = both_true (nat_le 1 capacity) (nat_le capacity GREATEST_COUNT) is in
+    let least = leb-true 1 capacity both.0 in
+    (omega arith, leb-true capacity GREATEST_COUNT both.1)
+
+declarations_have_capacities : (ds : List Declaration) (variables : List (ℕ × Domain)) → flat_map declaration_refusals ds ≡ []
+    → HaveCapacities variables → HaveCapacities (with_variables variables (state_variables_in ds))
+declarations_have_capacities [] variables none have = have
+declarations_have_capacities (In port ∷ ds) variables none have = declarations_have_capacities ds variables none have
+declarations_have_capacities (Out port ∷ ds) variables none have = declarations_have_capacities ds variables none have
+declarations_have_capacities (Var v ∷ ds) variables none have =
+    let both = both_nil (variable_refusals v) (flat_map declaration_refusals ds) none in
+    declarations_have_capacities ds _ both.1 (have_capacities_with variables (v.name, domain.Number (range_of v)) have tt)
+declarations_have_capacities (Flag f ∷ ds) variables none have =
+    declarations_have_capacities ds _ none (have_capacities_with variables (f.name, domain.Flag f.start) have tt)
+declarations_have_capacities (Bag b ∷ ds) variables none have =
+    let both = both_nil (bag_refusals b) (flat_map declaration_refusals ds) none in
+    let within = capacity_within b.capacity.value (not_false _ (not_refused _ _ _ both.0)) in
+    declarations_have_capacities ds _ both.1 (have_capacities_with variables (b.name, domain.Bag b.capacity.value) have within)
+
+capacity_of_slot : (d : Domain) (capacity : ℕ) → HasCapacity d → Some (slot_of d) ≡ Some (Holding capacity)
+    → (0 < capacity) × (capacity ≤ GREATEST_COUNT)
+capacity_of_slot (domain.Number range) capacity has is = absurd (cc)
+capacity_of_slot (domain.Flag start) capacity has is = absurd (cc)
+capacity_of_slot (domain.Bag declared) capacity has is =
+    let same : declared ≡ capacity = cc in
+    rw (← same) has
+
+capacities_of_slots : (variables : List (ℕ × Domain)) → HaveCapacities variables → AreSmall (map (λ v. slot_of v.1) variables)
+capacities_of_slots [] have place capacity is = absurd (cc)
+capacities_of_slots (v ∷ variables) have zero capacity is = capacity_of_slot v.1 capacity have.0 is
+capacities_of_slots (v ∷ variables) have (suc place) capacity is = capacities_of_slots variables have.1 place capacity is
+
+pub tables_are_small : (m : AtomicTree) → atomic_refusals m ≡ [] → AreSmall (tables_of (scope_of m)).slots
+tables_are_small m none =
+    capacities_of_slots (scope_of m).variables (declarations_have_capacities m.declarations [] (parts_of_none m none).declarations tt)

@@ -1,0 +1,55 @@
+-- The gotos of a tree are the instructions Go of its program.
+use Rattle.std.proofs.Common.{◌≡◌, ℕ, ◌+◌, List, [], ◌∷◌, ◌++◌, append-nil, refl, ap, ◌∙◌}
+use Rattle.dv_code.specs.declared.instruction.Instruction.{Instruction}
+use Rattle.dv_code.specs.declared.instruction.Instruction.TheVariants.{Go}
+use Rattle.dv_gen.specs.Resolved.{Expression, Read, Prefix, Infix, And, Or, Statements, Done, Act, Goto, When, If, For, gotos}
+use Rattle.dv_gen.specs.Generator.{past, code_of, past_all, code_of_all, goes, program_of, hold_program_of}
+
+goes_append : (is js : List Instruction) → goes (is ++ js) ≡ goes is ++ goes js
+goes_append [] js = refl
+goes_append (Go phase ∷ is) js = ap (λ phases. phase ∷ phases) (goes_append is js)
+goes_append (i ∷ is) js = goes_append is js
+
+-- code after code that goes to these phases
+goes_after : (is js : List Instruction) (phases : List ℕ) → goes is ≡ phases → goes (is ++ js) ≡ phases ++ goes js
+goes_after is js phases e = goes_append is js ∙ ap (λ ps. ps ++ goes js) e
+
+-- the code of an expression goes nowhere
+goes_nowhere : (e : Expression) (p : ℕ) → goes (code_of p e) ≡ []
+goes_nowhere (Read l) p = refl
+goes_nowhere (Prefix u a) p = goes_after (code_of p a) _ [] (goes_nowhere a p)
+goes_nowhere (Infix o a b) p =
+    goes_after (code_of p a) _ [] (goes_nowhere a p) ∙ goes_after (code_of (past p a) b) _ [] (goes_nowhere b (past p a))
+goes_nowhere (And a b) p = goes_after (code_of p a) _ [] (goes_nowhere a p) ∙ goes_nowhere b (past p a + 1)
+goes_nowhere (Or a b) p = goes_after (code_of p a) _ [] (goes_nowhere a p) ∙ goes_nowhere b (past p a + 1)
+
+goes_past : (e : Expression) (p : ℕ) (js : List Instruction) → goes (code_of p e ++ js) ≡ goes js
+goes_past e p js = goes_after (code_of p e) js [] (goes_nowhere e p)
+
+-- the code of statements goes to the phases of their gotos
+goes_all : (block : Statements) (p : ℕ) → goes (code_of_all p block) ≡ gotos block
+goes_all Done p = refl
+goes_all (Act a value rest) p = goes_past value p _ ∙ goes_all rest (past p value + 1)
+goes_all (Goto phase rest) p = ap (λ phases. phase ∷ phases) (goes_all rest (p + 1))
+goes_all (When condition block rest) p =
+    let then_at = past p condition + 1 in
+    goes_past condition p _
+    ∙ goes_after (code_of_all then_at block) _ (gotos block) (goes_all block then_at)
+    ∙ ap (λ phases. gotos block ++ phases) (goes_all rest (past_all then_at block))
+goes_all (If condition block other rest) p =
+    let then_at = past p condition + 1 in
+    let else_at = past_all then_at block + 1 in
+    goes_past condition p _
+    ∙ goes_after (code_of_all then_at block) _ (gotos block) (goes_all block then_at)
+    ∙ ap (λ phases. gotos block ++ phases)
+    (goes_after (code_of_all else_at other) _ (gotos other) (goes_all other else_at)
+    ∙ ap (λ phases. gotos other ++ phases) (goes_all rest (past_all else_at other)))
+goes_all (For s block rest) p =
+    goes_after (code_of_all (p + 1) block) _ (gotos block) (goes_all block (p + 1))
+    ∙ ap (λ phases. gotos block ++ phases) (goes_all rest (past_all (p + 1) block + 1))
+
+pub rule_goes : (body : Statements) → goes (program_of body) ≡ gotos body
+rule_goes body = goes_append (code_of_all 0 body) _ ∙ append-nil (goes (code_of_all 0 body)) ∙ goes_all body 0
+
+pub hold_goes : (e : Expression) → goes (hold_program_of e) ≡ []
+hold_goes e = goes_past e 0 _

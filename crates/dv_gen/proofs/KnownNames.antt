@@ -1,0 +1,263 @@
+-- What the names that are known in an accepted model stand for, by their places.
+use Rattle.std.proofs.Common.{◌≡◌, ℕ, ◌<◌, ◌==◌, Bool, true, false, if◌then◌else◌, List, [], ◌∷◌, length, refl, sym, ap, subst, ◌∙◌, Option, Some, None, option_map, arith}
+use Rattle.std.specs.Prelude.{slice_get}
+use Rattle.std.proofs.lemmas.Option.{slice_get-map}
+use Rattle.dv_syntax.specs.Trees.{AtomicTree}
+use Rattle.dv_syntax.specs.declared.tree.Name.{Name}
+use Rattle.dv_syntax.specs.declared.tree.RuleSort.{RuleSort}
+use Rattle.dv_eval.specs.Scope.{Scope, names_of, phases_in, place_of, scope_of}
+use Rattle.dv_eval.specs.declared.scope.VariableRange.{VariableRange}
+use Rattle.dv_eval.specs.declared.scope.Domain.{Domain}
+use Rattle.dv_eval.specs.declared.scope.Domain.TheVariants as domain
+use Rattle.dv_check.specs.declared.declarations.NameSort.{NameSort}
+use Rattle.dv_check.specs.declared.declarations.NameSort.TheVariants.{Variable as ForVariable, Flag as ForFlag, Bag as ForBag, Input as ForInput, Output as ForOutput, LoopVariable as ForLoopVariable}
+use Rattle.dv_check.specs.Couplings.{is_input, is_output}
+use Rattle.dv_bag.specs.declared.value.ValueType.{ValueType}
+use Rattle.dv_bag.specs.declared.value.ValueType.TheVariants.{Number, Truth}
+use Rattle.dv_check.specs.Rules.{assignment_refusals, atomic_refusals, changed_bag_refusals, is_output_rule, known_in, known_in_loop, known_in_rule, sent_port_refusals, sort_in}
+use Rattle.dv_check.specs.Types.{Known, is_bag, sees_inputs, type_of_name}
+use Rattle.dv_check.proofs.Accepted.{not_refused}
+use Rattle.dv_check.proofs.Declared.{input_declared, output_declared}
+use Rattle.dv_accepted.specs.Fitting.{domain_named, domain_at as domain_of_place}
+use Rattle.dv_accepted.proofs.Fitting.{HasPlace, among_declared, place_of_declared}
+use Rattle.dv_accepted.proofs.Inputs.{port_placeless}
+use Rattle.dv_accepted.proofs.Known.{is_of_loop, is_stored, of_no_loop, sort_named, sort_of_domain}
+use Rattle.dv_code.specs.declared.instruction.Source.TheVariants.{Own, Port}
+use Rattle.dv_code.specs.declared.instruction.Leaf.TheVariants as leaf
+use Rattle.dv_code.specs.declared.instruction.Action.TheVariants as action
+use Rattle.dv_gen.specs.Resolution.{assignment_at, leaf_of, loop_of, slot_of, source_of, tables_of}
+
+-- ---- What a name stands for
+
+-- the name has a place among the variables, flags and bags, with this domain
+pub record HasDomain (scope : Scope) (q : ℕ) (d : Domain) : Type 0 where
+  pub place : ℕ
+  pub found : place_of q (names_of scope.variables) ≡ Some place
+  pub name : ℕ
+  pub there : slice_get scope.variables place ≡ Some (name, d)
+
+-- a variable that no loop around hides
+pub record StandsForVariable (scope : Scope) (loops : List ℕ) (q : ℕ) : Type 0 where
+  pub outside : loop_of q loops ≡ None
+  pub range : VariableRange
+  pub has : HasDomain scope q (domain.Number range)
+
+-- a flag that no loop around hides
+pub record StandsForFlag (scope : Scope) (loops : List ℕ) (q : ℕ) : Type 0 where
+  pub outside : loop_of q loops ≡ None
+  pub start : Bool
+  pub has : HasDomain scope q (domain.Flag start)
+
+pub record StandsForBag (scope : Scope) (q : ℕ) : Type 0 where
+  pub capacity : ℕ
+  pub has : HasDomain scope q (domain.Bag capacity)
+
+pub record StandsForInput (scope : Scope) (q : ℕ) : Type 0 where
+  pub placeless : place_of q (names_of scope.variables) ≡ None
+  pub port : HasPlace q scope.inputs
+
+pub record StandsForLoop (loops : List ℕ) (q : ℕ) : Type 0 where
+  pub loop : ℕ
+  pub found : loop_of q loops ≡ Some loop
+  pub within : loop < length loops
+
+-- what a name of a sort stands for, in loops of these variables
+abbrev pub Stands : Scope → List ℕ → ℕ → Option NameSort → Type 0
+Stands scope loops q None = Unit {0}
+Stands scope loops q (Some ForVariable) = StandsForVariable scope loops q
+Stands scope loops q (Some ForFlag) = StandsForFlag scope loops q
+Stands scope loops q (Some ForBag) = StandsForBag scope q
+Stands scope loops q (Some ForInput) = StandsForInput scope q
+Stands scope loops q (Some ForOutput) = HasPlace q scope.outputs
+Stands scope loops q (Some ForLoopVariable) = StandsForLoop loops q
+
+-- all that is known in a rule, in loops of these variables, stands for something
+pub record Knows (scope : Scope) (rule : Option RuleSort) (loops : List ℕ) (known : Known) : Type 0 where
+  pub rule_is : known.rule ≡ rule
+  pub name : (q : ℕ) → Stands scope loops q (known.sort q)
+  pub phase : (q : ℕ) → known.has_phase q ≡ true → HasPlace q scope.phases
+
+-- ---- Domains by place
+
+domain_there : (o : Option (ℕ × Domain)) (d : Domain) → option_map (λ v. v.1) o ≡ Some d → (name : ℕ) × (o ≡ Some (name, d))
+domain_there None d is = absurd (cc)
+domain_there (Some v) d is =
+    let same : v.1 ≡ d = cc in
+    (v.0, ap (λ x. Some (v.0, x)) same)
+
+domain_at_place : (scope : Scope) (q : ℕ) (d : Domain) (o : Option ℕ) → place_of q (names_of scope.variables) ≡ o
+    → domain_of_place scope.variables o ≡ Some d → HasDomain scope q d
+domain_at_place scope q d None found is = absurd (cc)
+domain_at_place scope q d (Some place) found is =
+    let entry = domain_there (slice_get scope.variables place) d is in
+    record { place = place; found = found; name = entry.0; there = entry.1 }
+
+pub has_domain : (scope : Scope) (q : ℕ) (d : Domain) → domain_named scope q ≡ Some d → HasDomain scope q d
+has_domain scope q d is = domain_at_place scope q d (place_of q (names_of scope.variables)) refl is
+
+-- the slot at the place of a name
+pub slot_there : (scope : Scope) (q : ℕ) (d : Domain) (has : HasDomain scope q d)
+    → slice_get (tables_of scope).slots has.place ≡ Some (slot_of d)
+slot_there scope q d has =
+    slice_get-map (λ (v : ℕ × Domain). slot_of v.1) scope.variables has.place ∙ ap (option_map (λ (v : ℕ × Domain). slot_of v.1)) has.there
+
+-- ---- Leaves, sources and actions by place
+
+-- a variable that no loop hides is read at its place, and so is a flag
+pub variable_leaf : (scope : Scope) (loops : List ℕ) (q : ℕ) (stands : StandsForVariable scope loops q)
+    → leaf_of scope loops q ≡ leaf.Variable stands.has.place
+variable_leaf scope loops q stands = rw (stands.outside, stands.has.found, stands.has.there) refl
+
+pub flag_leaf : (scope : Scope) (loops : List ℕ) (q : ℕ) (stands : StandsForFlag scope loops q)
+    → leaf_of scope loops q ≡ leaf.Flag stands.has.place
+flag_leaf scope loops q stands = rw (stands.outside, stands.has.found, stands.has.there) refl
+
+pub item_leaf : (scope : Scope) (loops : List ℕ) (q : ℕ) (stands : StandsForLoop loops q)
+    → leaf_of scope loops q ≡ leaf.Item stands.loop
+item_leaf scope loops q stands = rw stands.found refl
+
+-- what an assignment to a variable, and to a flag, is
+pub variable_assignment : (scope : Scope) (loops : List ℕ) (q : ℕ) (stands : StandsForVariable scope loops q)
+    → assignment_at scope (place_of q (names_of scope.variables)) ≡ action.SetVariable stands.has.place
+variable_assignment scope loops q stands = rw (stands.has.found, stands.has.there) refl
+
+pub flag_assignment : (scope : Scope) (loops : List ℕ) (q : ℕ) (stands : StandsForFlag scope loops q)
+    → assignment_at scope (place_of q (names_of scope.variables)) ≡ action.SetFlag stands.has.place
+flag_assignment scope loops q stands = rw (stands.has.found, stands.has.there) refl
+
+-- where a bag is read
+pub own_source : (scope : Scope) (q : ℕ) (stands : StandsForBag scope q) → source_of scope q ≡ Own stands.has.place
+own_source scope q stands = rw stands.has.found refl
+
+pub port_source : (scope : Scope) (q : ℕ) (stands : StandsForInput scope q) → source_of scope q ≡ Port stands.port.place
+port_source scope q stands = rw (stands.placeless, stands.port.found) refl
+
+-- ---- Outside of all loops
+
+domain_stands : (scope : Scope) (q : ℕ) (d : Domain) → domain_named scope q ≡ Some d → Stands scope [] q (Some (sort_of_domain d))
+domain_stands scope q (domain.Number range) is =
+    record { outside = refl; range = range; has = has_domain scope q (domain.Number range) is }
+domain_stands scope q (domain.Flag start) is =
+    record { outside = refl; start = start; has = has_domain scope q (domain.Flag start) is }
+domain_stands scope q (domain.Bag capacity) is = record { capacity = capacity; has = has_domain scope q (domain.Bag capacity) is }
+
+module _ (m : AtomicTree) (none : atomic_refusals m ≡ []) where
+  stored_stands : (q : ℕ) (o : NameSort) → sort_in m.declarations q ≡ Some o → is_stored (Some o) ≡ true
+      → Stands (scope_of m) [] q (Some o)
+  stored_stands q o sort stored =
+      let named = sort_named m q (ap is_stored sort ∙ stored) in
+      subst (Stands (scope_of m) [] q) (named.2 ∙ sort) (domain_stands (scope_of m) q named.0 named.1)
+
+  stands_outside_as : (q : ℕ) (o : Option NameSort) → sort_in m.declarations q ≡ o → Stands (scope_of m) [] q o
+  stands_outside_as q None sort = tt
+  stands_outside_as q (Some ForVariable) sort = stored_stands q ForVariable sort refl
+  stands_outside_as q (Some ForFlag) sort = stored_stands q ForFlag sort refl
+  stands_outside_as q (Some ForBag) sort = stored_stands q ForBag sort refl
+  stands_outside_as q (Some ForInput) sort =
+      let declared = input_declared q m.declarations [] (ap is_input sort) in
+      record { placeless = port_placeless m q none declared; port = place_of_declared q (scope_of m).inputs declared }
+  stands_outside_as q (Some ForOutput) sort =
+      place_of_declared q (scope_of m).outputs (output_declared q m.declarations [] (ap is_output sort))
+  stands_outside_as q (Some ForLoopVariable) sort =
+      let both : false ≡ true = sym (of_no_loop q m.declarations) ∙ ap is_of_loop sort in
+      absurd (cc)
+
+  pub knows_outside : (rule : Option RuleSort) → Knows (scope_of m) rule [] (known_in_rule rule (known_in m))
+  knows_outside rule = record {
+    rule_is = refl;
+    name = λ q. stands_outside_as q (sort_in m.declarations q) refl;
+    phase = λ q has. place_of_declared q (scope_of m).phases (among_declared q (phases_in m.phases) has);
+  }
+
+-- ---- In the block of one loop more
+
+stands_behind : (scope : Scope) (loops : List ℕ) (v q : ℕ) (o : Option NameSort) → (v == q) ≡ false → Stands scope loops q o
+    → Stands scope (v ∷ loops) q o
+stands_behind scope loops v q None other stands = tt
+stands_behind scope loops v q (Some ForVariable) other stands =
+    record { outside = rw other stands.outside; range = stands.range; has = stands.has }
+stands_behind scope loops v q (Some ForFlag) other stands =
+    record { outside = rw other stands.outside; start = stands.start; has = stands.has }
+stands_behind scope loops v q (Some ForBag) other stands = stands
+stands_behind scope loops v q (Some ForInput) other stands = stands
+stands_behind scope loops v q (Some ForOutput) other stands = stands
+stands_behind scope loops v q (Some ForLoopVariable) other stands =
+    record { loop = stands.loop; found = rw other stands.found; within = omega (arith, stands.within) }
+
+stands_inside : (b : Bool) (scope : Scope) (loops : List ℕ) (v q : ℕ) (o : Option NameSort) → (v == q) ≡ b → Stands scope loops q o
+    → Stands scope (v ∷ loops) q (if b then Some ForLoopVariable else o)
+stands_inside true scope loops v q o same stands =
+    record { loop = length loops; found = rw same refl; within = omega arith }
+stands_inside false scope loops v q o other stands = stands_behind scope loops v q o other stands
+
+pub knows_inside : (scope : Scope) (rule : Option RuleSort) (loops : List ℕ) (known : Known) (v : Name) → Knows scope rule loops known
+    → Knows scope rule (v.number ∷ loops) (known_in_loop v known)
+knows_inside scope rule loops known v knows = record {
+  rule_is = knows.rule_is;
+  name = λ q. stands_inside (v.number == q) scope loops v.number q (known.sort q) refl (knows.name q);
+  phase = knows.phase;
+}
+
+-- ---- What accepted names stand for
+
+-- a bag that can be read: one of the state, or where inputs are seen what has arrived at a port
+pub data Readable (scope : Scope) (rule : Option RuleSort) (q : ℕ) : Type 0 where
+  StateBag : (stands : StandsForBag scope q) → Readable scope rule q
+  InputPort : (stands : StandsForInput scope q) (seen : sees_inputs rule ≡ true) → Readable scope rule q
+
+-- what is assigned: a variable or a flag
+pub data Assigned (scope : Scope) (loops : List ℕ) (q : ℕ) : Option NameSort → Type 0 where
+  ToVariable : (stands : StandsForVariable scope loops q) → Assigned scope loops q (Some ForVariable)
+  ToFlag : (stands : StandsForFlag scope loops q) → Assigned scope loops q (Some ForFlag)
+
+module _ (scope : Scope) (loops : List ℕ) (q : ℕ) where
+  readable_stands : (rule : Option RuleSort) (o : Option NameSort) → Stands scope loops q o → is_bag rule o ≡ true
+      → Readable scope rule q
+  readable_stands rule None stands is = absurd (cc)
+  readable_stands rule (Some ForVariable) stands is = absurd (cc)
+  readable_stands rule (Some ForFlag) stands is = absurd (cc)
+  readable_stands rule (Some ForBag) stands is = StateBag stands
+  readable_stands rule (Some ForInput) stands is = InputPort stands is
+  readable_stands rule (Some ForOutput) stands is = absurd (cc)
+  readable_stands rule (Some ForLoopVariable) stands is = absurd (cc)
+
+  pub assigned_stands : (rule : Option RuleSort) (o : Option NameSort) (place : ℕ) → Stands scope loops q o
+      → assignment_refusals rule o place ≡ [] → Assigned scope loops q o × (is_output_rule rule ≡ false)
+  assigned_stands rule None place stands none = absurd (cc)
+  assigned_stands rule (Some ForVariable) place stands none = (ToVariable stands, not_refused _ _ _ none)
+  assigned_stands rule (Some ForFlag) place stands none = (ToFlag stands, not_refused _ _ _ none)
+  assigned_stands rule (Some ForBag) place stands none = absurd (cc)
+  assigned_stands rule (Some ForInput) place stands none = absurd (cc)
+  assigned_stands rule (Some ForOutput) place stands none = absurd (cc)
+  assigned_stands rule (Some ForLoopVariable) place stands none = absurd (cc)
+
+  -- its type is that which is wanted of the value
+  pub assigned_type : {o : Option NameSort} → Assigned scope loops q o → (t : ValueType) × (type_of_name o ≡ Some t)
+  assigned_type (ToVariable stands) = (Number, refl)
+  assigned_type (ToFlag stands) = (Truth, refl)
+
+  pub changed_bag_stands : (o : Option NameSort) (place : ℕ) → Stands scope loops q o → changed_bag_refusals o place ≡ []
+      → StandsForBag scope q
+  changed_bag_stands None place stands none = absurd (cc)
+  changed_bag_stands (Some ForVariable) place stands none = absurd (cc)
+  changed_bag_stands (Some ForFlag) place stands none = absurd (cc)
+  changed_bag_stands (Some ForBag) place stands none = stands
+  changed_bag_stands (Some ForInput) place stands none = absurd (cc)
+  changed_bag_stands (Some ForOutput) place stands none = absurd (cc)
+  changed_bag_stands (Some ForLoopVariable) place stands none = absurd (cc)
+
+  pub sent_port_stands : (o : Option NameSort) (place : ℕ) → Stands scope loops q o → sent_port_refusals o place ≡ []
+      → HasPlace q scope.outputs
+  sent_port_stands None place stands none = absurd (cc)
+  sent_port_stands (Some ForVariable) place stands none = absurd (cc)
+  sent_port_stands (Some ForFlag) place stands none = absurd (cc)
+  sent_port_stands (Some ForBag) place stands none = absurd (cc)
+  sent_port_stands (Some ForInput) place stands none = absurd (cc)
+  sent_port_stands (Some ForOutput) place stands none = stands
+  sent_port_stands (Some ForLoopVariable) place stands none = absurd (cc)
+
+pub known_readable : (scope : Scope) (rule : Option RuleSort) (loops : List ℕ) (known : Known) → Knows scope rule loops known → (q : ℕ)
+    → is_bag known.rule (known.sort q) ≡ true → Readable scope rule q
+known_readable scope rule loops known knows q is =
+    let seen = ap (λ r. is_bag r (known.sort q)) (sym knows.rule_is) ∙ is in
+    readable_stands scope loops q rule (known.sort q) (knows.name q) seen

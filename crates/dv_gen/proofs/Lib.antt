@@ -1,0 +1,15 @@
+pub mod Accepted
+pub mod Compiled
+pub mod EqualEffects
+pub mod EqualOperators
+pub mod EqualValues
+pub mod FittingStates
+pub mod Gotos
+pub mod KnownNames
+pub mod Loops
+pub mod Marks
+pub mod OperandTypes
+pub mod Places
+pub mod Simulation
+pub mod TypedTrees
+pub mod Validity

@@ -1,0 +1,185 @@
+-- From the trees of a text, whose names a scope knows, to trees in which every name is a place.
+use Rattle.std.specs.Prelude.{ℕ, ◌==◌, pos, if◌then◌else◌, unwrap_or, List, [], ◌∷◌, length, map, option_map, slice_get, Option, Some, None}
+use Rattle.dv_syntax.specs.Trees.{AtomicTree, Expression as NamedExpression, Literal, TruthValue, Named, Parens, Prefixed, Binary, Call, Elapsed, Times, Statements as NamedStatements, Done as Ended, Assign, Goto as GoTo, Send, If as IfOnly, IfElse, For as Each, Add as AddTo, Drop}
+use Rattle.dv_syntax.specs.declared.tree.Prefix.TheVariants as prefix
+use Rattle.dv_syntax.specs.declared.tree.Operator.{Operator}
+use Rattle.dv_syntax.specs.declared.tree.Operator.TheVariants as operator
+use Rattle.dv_syntax.specs.declared.tree.BagCall.{BagCall}
+use Rattle.dv_syntax.specs.declared.tree.BagCall.TheVariants as call
+use Rattle.dv_syntax.specs.declared.tree.RuleSort.{RuleSort}
+use Rattle.dv_syntax.specs.declared.tree.RuleSort.TheVariants as rule
+use Rattle.dv_bag.specs.declared.value.ValueType.{ValueType}
+use Rattle.dv_bag.specs.declared.value.ValueType.TheVariants as type
+use Rattle.dv_eval.specs.Scope.{Scope, names_of, place_of, scope_of}
+use Rattle.dv_eval.specs.declared.scope.Domain.{Domain}
+use Rattle.dv_eval.specs.declared.scope.Domain.TheVariants as domain
+use Rattle.dv_code.specs.Shape.{Shape, Tables, shape_of}
+use Rattle.dv_code.specs.declared.shape.ProgramSort.{ProgramSort}
+use Rattle.dv_code.specs.declared.shape.ProgramSort.TheVariants as sort
+use Rattle.dv_code.specs.declared.shape.Slot.{Slot}
+use Rattle.dv_code.specs.declared.shape.Slot.TheVariants as slot
+use Rattle.dv_code.specs.declared.instruction.Source.{Source}
+use Rattle.dv_code.specs.declared.instruction.Source.TheVariants.{Own, Port}
+use Rattle.dv_code.specs.declared.instruction.Leaf.{Leaf}
+use Rattle.dv_code.specs.declared.instruction.Leaf.TheVariants as leaf
+use Rattle.dv_code.specs.declared.instruction.Unary.TheVariants as unary
+use Rattle.dv_code.specs.declared.instruction.Binary.{Binary as Operation}
+use Rattle.dv_code.specs.declared.instruction.Binary.TheVariants as binary
+use Rattle.dv_code.specs.declared.instruction.Action.{Action}
+use Rattle.dv_code.specs.declared.instruction.Action.TheVariants as action
+use Rattle.dv_gen.specs.Resolved.{Expression, Read, Prefix, Infix, And, Or, Statements, Done, Act, Goto, When, If, For, type_of}
+
+-- what a slot may hold
+abbrev pub slot_of : Domain → Slot
+slot_of (domain.Number range) = slot.Ranged range.low range.high
+slot_of (domain.Flag start) = slot.Flagged
+slot_of (domain.Bag capacity) = slot.Holding capacity
+
+-- what the programs of a model may speak of
+abbrev pub tables_of : Scope → Tables
+tables_of scope = record {
+  slots = map (λ v. slot_of v.1) scope.variables;
+  inputs = length scope.inputs;
+  outputs = length scope.outputs;
+  phases = length scope.phases;
+}
+
+abbrev pub program_sort : RuleSort → ProgramSort
+program_sort rule.Output = sort.Output
+program_sort rule.Internal = sort.Internal
+program_sort rule.External = sort.External
+program_sort rule.Confluent = sort.Confluent
+
+abbrev pub rule_shape : Scope → RuleSort → Shape
+rule_shape scope s = shape_of (tables_of scope) (program_sort s)
+
+abbrev pub hold_shape : Scope → Shape
+hold_shape scope = shape_of (tables_of scope) sort.Hold
+
+-- the place of a name, or the first
+abbrev pub place_or_first : Option ℕ → ℕ
+place_or_first place = unwrap_or place 0
+
+-- where a bag is read: a state bag, or an input port
+abbrev pub source_between : Option ℕ → Option ℕ → Source
+source_between (Some place) port = Own place
+source_between None port = Port (place_or_first port)
+
+abbrev pub source_of : Scope → ℕ → Source
+source_of scope name = source_between (place_of name (names_of scope.variables)) (place_of name scope.inputs)
+
+-- the number of the innermost loop of a variable, from the outermost on; the innermost stands first
+abbrev pub loop_of : ℕ → List ℕ → Option ℕ
+loop_of name [] = None
+loop_of name (v ∷ loops) = if v == name then Some (length loops) else loop_of name loops
+
+abbrev pub leaf_in : ℕ → Option Domain → Leaf
+leaf_in place None = leaf.Number (pos 0)
+leaf_in place (Some (domain.Number range)) = leaf.Variable place
+leaf_in place (Some (domain.Flag start)) = leaf.Flag place
+leaf_in place (Some (domain.Bag capacity)) = leaf.Number (pos 0)
+
+abbrev pub domain_at : Scope → Option ℕ → Option Domain
+domain_at scope None = None
+domain_at scope (Some place) = option_map (λ v. v.1) (slice_get scope.variables place)
+
+abbrev pub leaf_at : Scope → Option ℕ → Leaf
+leaf_at scope place = leaf_in (place_or_first place) (domain_at scope place)
+
+abbrev pub leaf_by : Option ℕ → Leaf → Leaf
+leaf_by None l = l
+leaf_by (Some loop) l = leaf.Item loop
+
+-- what a name stands for: the innermost loop variable of that name, else a variable or a flag
+abbrev pub leaf_of : Scope → List ℕ → ℕ → Leaf
+leaf_of scope loops name = leaf_by (loop_of name loops) (leaf_at scope (place_of name (names_of scope.variables)))
+
+abbrev pub call_leaf : BagCall → Source → Leaf
+call_leaf call.Size s = leaf.Size s
+call_leaf call.Sum s = leaf.Sum s
+call_leaf call.Least s = leaf.Least s
+call_leaf call.Most s = leaf.Most s
+
+-- equal and unequal, of numbers or of truth values
+abbrev pub equal_of : ValueType → Operation
+equal_of type.Number = binary.Equal
+equal_of type.Truth = binary.Same
+
+abbrev pub unequal_of : ValueType → Operation
+unequal_of type.Number = binary.Unequal
+unequal_of type.Truth = binary.Different
+
+-- an operator between two resolved operands
+abbrev pub infix_of : Operator → Expression → Expression → Expression
+infix_of operator.Or a b = Or a b
+infix_of operator.And a b = And a b
+infix_of operator.Add a b = Infix binary.Add a b
+infix_of operator.Subtract a b = Infix binary.Subtract a b
+infix_of operator.Multiply a b = Infix binary.Multiply a b
+infix_of operator.Divide a b = Infix binary.Divide a b
+infix_of operator.Remainder a b = Infix binary.Remainder a b
+infix_of operator.Equal a b = Infix (equal_of (type_of a)) a b
+infix_of operator.Unequal a b = Infix (unequal_of (type_of a)) a b
+infix_of operator.Less a b = Infix binary.Less a b
+infix_of operator.AtMost a b = Infix binary.AtMost a b
+infix_of operator.Greater a b = Infix binary.Greater a b
+infix_of operator.AtLeast a b = Infix binary.AtLeast a b
+
+-- an expression in loops of these variables, the innermost first; parentheses go
+abbrev pub resolved : Scope → List ℕ → NamedExpression → Expression
+resolved scope loops (Literal n) = Read (leaf.Number (pos n.value))
+resolved scope loops (TruthValue place b) = Read (leaf.Truth b)
+resolved scope loops (Named name) = Read (leaf_of scope loops name.number)
+resolved scope loops (Parens place e) = resolved scope loops e
+resolved scope loops (Prefixed prefix.Minus place e) = Prefix unary.Negate (resolved scope loops e)
+resolved scope loops (Prefixed prefix.Not place e) = Prefix unary.Not (resolved scope loops e)
+resolved scope loops (Binary o a b) = infix_of o (resolved scope loops a) (resolved scope loops b)
+resolved scope loops (Call c place b) = Read (call_leaf c (source_of scope b.number))
+resolved scope loops (Elapsed place) = Read leaf.Elapsed
+resolved scope loops (Times place e b) = Prefix (unary.Times (source_of scope b.number)) (resolved scope loops e)
+
+-- an assignment to the state variable of a name
+abbrev pub assignment_in : ℕ → Option Domain → Action
+assignment_in place None = action.SetVariable place
+assignment_in place (Some (domain.Number range)) = action.SetVariable place
+assignment_in place (Some (domain.Flag start)) = action.SetFlag place
+assignment_in place (Some (domain.Bag capacity)) = action.SetVariable place
+
+abbrev pub assignment_at : Scope → Option ℕ → Action
+assignment_at scope place = assignment_in (place_or_first place) (domain_at scope place)
+
+-- the place of a state variable
+abbrev pub slot_place : Scope → ℕ → ℕ
+slot_place scope name = place_or_first (place_of name (names_of scope.variables))
+
+-- a choice between blocks; an empty second one is none
+abbrev pub choice : Expression → Statements → Statements → Statements → Statements
+choice condition block Done rest = When condition block rest
+choice condition block other rest = If condition block other rest
+
+-- statements in loops of these variables
+abbrev pub all_resolved : Scope → List ℕ → NamedStatements → Statements
+all_resolved scope loops Ended = Done
+all_resolved scope loops (Assign variable e rest) =
+    Act (assignment_at scope (place_of variable.number (names_of scope.variables))) (resolved scope loops e) (all_resolved scope loops rest)
+all_resolved scope loops (GoTo place phase rest) =
+    Goto (place_or_first (place_of phase.number scope.phases)) (all_resolved scope loops rest)
+all_resolved scope loops (Send place port e rest) =
+    Act (action.Send (place_or_first (place_of port.number scope.outputs))) (resolved scope loops e) (all_resolved scope loops rest)
+all_resolved scope loops (IfOnly place e block rest) =
+    When (resolved scope loops e) (all_resolved scope loops block) (all_resolved scope loops rest)
+all_resolved scope loops (IfElse place e block other rest) =
+    choice (resolved scope loops e) (all_resolved scope loops block) (all_resolved scope loops other) (all_resolved scope loops rest)
+all_resolved scope loops (Each place v b block rest) =
+    For (source_of scope b.number) (all_resolved scope (v.number ∷ loops) block) (all_resolved scope loops rest)
+all_resolved scope loops (AddTo place e b rest) =
+    Act (action.AddTo (slot_place scope b.number)) (resolved scope loops e) (all_resolved scope loops rest)
+all_resolved scope loops (Drop place e b rest) =
+    Act (action.DropFrom (slot_place scope b.number)) (resolved scope loops e) (all_resolved scope loops rest)
+
+-- the tree of a rule, and of a hold
+abbrev pub rule_tree : AtomicTree → NamedStatements → Statements
+rule_tree m body = all_resolved (scope_of m) [] body
+
+abbrev pub hold_tree : AtomicTree → NamedExpression → Expression
+hold_tree m e = resolved (scope_of m) [] e
