@@ -1,0 +1,95 @@
+-- The holds that begin where external rules go are not below the response.
+use Rattle.std.proofs.Common.{◌≡◌, ℕ, ◌==◌, length, replicate, Bool, true, false, ◌&&◌, if◌then◌else◌, List, [], ◌∷◌, ◌++◌, unwrap_or, Option, Some, None, Ok, IfSome, refl, sym, subst, arith}
+use Rattle.std.specs.List.{AllByRecursion, flat_map}
+use Rattle.std.proofs.lemmas.Result.{IfOk-at_ok}
+use Rattle.dv_syntax.specs.declared.tree.RuleSort.TheVariants.{External}
+use Rattle.dv_syntax.specs.Trees.{AtomicTree, Done, RuleTree}
+use Rattle.dv_bag.specs.Arrivals.{Arrivals}
+use Rattle.dv_bag.specs.declared.state.State.{State}
+use Rattle.dv_bag.specs.declared.state.Effect.{Effect}
+use Rattle.dv_eval.specs.declared.scope.Domain.{Domain}
+use Rattle.dv_eval.specs.Meaning.{effect_of, hold_of, outermost}
+use Rattle.dv_eval.specs.Scope.{hold_ticks, phase_name, place_of, rule_body, rule_of, same_sort, scope_of}
+use Rattle.dv_accepted.specs.Fitting.{HoldsDatum, domain_named, in_phase}
+use Rattle.dv_bound.specs.Response.{HoldsNumbers, IsNotBelow, external_gotos, external_gotos_in, gotos_in, phase_response, response_of, sooner}
+use Rattle.dv_bound.specs.Soonest.{soonest}
+use Rattle.dv_bound.proofs.Names.{name_at}
+use Rattle.dv_bound.proofs.Gotos.{all_parts, run_leaves}
+use Rattle.dv_bound.proofs.Values.{hold_not_below}
+
+-- ---- The soonest of responses
+
+-- a response that is no later than another: a hold that is not below that one is not below it
+abbrev pub IsNoLater : Option ℕ → Option ℕ → Type 0
+IsNoLater a b = (ticks : ℕ) → IsNotBelow b ticks → IsNotBelow a ticks
+
+sooner_left : (a b : Option ℕ) → IsNoLater (sooner a b) a
+sooner_left None b ticks h = absurd h
+sooner_left (Some a) None ticks h = h
+sooner_left (Some a) (Some b) ticks h = omega arith
+
+sooner_right : (a b : Option ℕ) → IsNoLater (sooner a b) b
+sooner_right a None ticks h = absurd h
+sooner_right None (Some b) ticks h = h
+sooner_right (Some a) (Some b) ticks h = omega arith
+
+module _ (response : ℕ → Option ℕ) where
+  soonest_of_start : (start : Option ℕ) (phases : List ℕ) → IsNoLater (soonest response start phases) start
+  soonest_of_start start [] = λ ticks h. h
+  soonest_of_start start (p ∷ phases) = λ ticks h.
+      soonest_of_start (sooner start (response p)) phases ticks (sooner_left start (response p) ticks h)
+
+  soonest_of_each : (start : Option ℕ) (phases : List ℕ)
+      → AllByRecursion (λ phase. IsNoLater (soonest response start phases) (response phase)) phases
+  soonest_of_each start [] = tt
+  soonest_of_each start (p ∷ phases) =
+      let now = sooner start (response p) in
+      (λ ticks h. soonest_of_start now phases ticks (sooner_right start (response p) ticks h), soonest_of_each now phases)
+
+-- ---- The gotos of the rule of a phase
+
+all_of_rule : (P : ℕ → Type 0) (phase : ℕ) (rules : List RuleTree) → AllByRecursion P (flat_map external_gotos_in rules)
+    → AllByRecursion P (gotos_in (rule_body External phase rules))
+all_of_rule P phase [] all = tt
+all_of_rule P phase (r ∷ rules) all = by (same_sort r.sort External) (r.phase.number == phase) all (all_of_rule P phase rules)
+  where
+    by : (b c : Bool) → AllByRecursion P ((if b then gotos_in r.body else []) ++ flat_map external_gotos_in rules)
+        → (AllByRecursion P (flat_map external_gotos_in rules) → AllByRecursion P (gotos_in (rule_body External phase rules)))
+        → AllByRecursion P (gotos_in (unwrap_or (if b && c then Some r.body else rule_of External phase rules) Done))
+    by true true all later = (all_parts P (gotos_in r.body) _ all).0
+    by true false all later = later (all_parts P (gotos_in r.body) _ all).1
+    by false c all later = later all
+
+-- ---- Where a goto leads
+
+module _ (m : AtomicTree) where
+  -- the response of the model is no later than that of the phase to which a goto leads
+  abbrev pub Counts : Option ℕ → Type 0
+  Counts goto = IfSome goto (λ place. IsNoLater (response_of m) (phase_response m (phase_name (scope_of m) place)))
+
+  goto_counts : (name : ℕ) (o : Option ℕ) → place_of name (scope_of m).phases ≡ o → IsNoLater (response_of m) (phase_response m name)
+      → Counts o
+  goto_counts name None e no_later = tt
+  goto_counts name (Some place) e no_later =
+      subst (λ q. IsNoLater (response_of m) (phase_response m q)) (sym (name_at name place (scope_of m).phases e)) no_later
+
+  gotos_count : (phases : List ℕ) → AllByRecursion (λ phase. IsNoLater (response_of m) (phase_response m phase)) phases
+      → AllByRecursion (λ phase. Counts (place_of phase (scope_of m).phases)) phases
+  gotos_count [] all = tt
+  gotos_count (p ∷ phases) all = (goto_counts p (place_of p (scope_of m).phases) refl all.0, gotos_count phases all.1)
+
+  pub hold_after_goto : (phase place ticks : ℕ) (arrivals : Arrivals) (s : State) (e : Effect)
+      → ((name : ℕ) (d : Domain) → domain_named (scope_of m) name ≡ Some d → HoldsDatum (scope_of m) (in_phase e.state place) name d)
+      → HoldsNumbers e.state.variables
+      → effect_of (scope_of m) (rule_body External phase m.rules) arrivals s ≡ Ok e → e.goto ≡ Some place
+      → hold_of (scope_of m) (hold_ticks (phase_name (scope_of m) place) m.holds) (in_phase e.state place) ≡ Ok (Some ticks)
+      → IsNotBelow (response_of m) ticks
+  hold_after_goto phase place ticks arrivals s e held numbers is goto hold =
+      let each = gotos_count (external_gotos m) (soonest_of_each (phase_response m) None (external_gotos m)) in
+      let all = all_of_rule _ phase m.rules each in
+      let start : Effect = record { state = s; sent = replicate (length (scope_of m).outputs) []; goto = None } in
+      let run = run_leaves Counts (scope_of m) (outermost arrivals) (rule_body External phase m.rules) start all tt in
+      let left = IfOk-at_ok (λ (e : Effect). Counts e.goto) is run in
+      let counts = subst Counts goto left in
+      counts ticks (IfOk-at_ok (λ o. IfSome o (IsNotBelow (phase_response m (phase_name (scope_of m) place)))) hold
+      (hold_not_below (scope_of m) (in_phase e.state place) held numbers (hold_ticks (phase_name (scope_of m) place) m.holds)))

@@ -1,0 +1,12 @@
+use Rattle.std.proofs.Common.{◌≡◌, drop}
+use Rattle.dv_syntax.specs.Trees.{statements_of}
+use Rattle.dv_bound.specs.Response.{gotos_in, ticks_of}
+use Rattle.dv_bound.specs.Soonest.{response_in, soonest}
+use Rattle.dv_bound.proofs.lookahead.+gotos.Given as goal
+
+abbrev pub invariant-soonest_of_statements-loop-statement :
+    goal.invariant-soonest_of_statements-loop-statement
+invariant-soonest_of_statements-loop-statement l =
+    let response = response_in l.responses.entries in
+    soonest response (ticks_of l.so_far) (gotos_in (statements_of (drop l.statement-index l.statements)))
+    ≡ soonest response (ticks_of l.initial.so_far) (gotos_in (statements_of l.statements))

@@ -1,0 +1,112 @@
+-- The response of an atomic model, which is its lookahead (Chandy and Misra; Bryant): where an external rule goes to a phase, the
+-- hold that begins there is not below it.
+use Rattle.std.specs.Prelude.{ℕ, ℤ, pos, negsuc, neg_ℤ, ◌+ℤ◌, ◌^◌, ◌-◌, ◌≤◌, int_lt, min, IsTrue, if◌then◌else◌, List, [], ◌∷◌, ◌++◌, fold, map, Option, Some, None}
+use Rattle.std.specs.List.{All, flat_map}
+use Rattle.dv_syntax.specs.Trees.{AtomicTree, RuleTree, Expression, Literal, Named, Parens, Binary, Call, Times, Statements, Done, Assign, Goto, Send, If, IfElse, For, Add, Drop}
+use Rattle.dv_syntax.specs.declared.tree.Operator.TheVariants as operator
+use Rattle.dv_syntax.specs.declared.tree.BagCall.TheVariants as call
+use Rattle.dv_syntax.specs.declared.tree.RuleSort.TheVariants.{External}
+use Rattle.dv_eval.specs.Scope.{Scope, hold_ticks, same_sort, scope_of}
+use Rattle.dv_eval.specs.declared.scope.Domain.{Domain}
+use Rattle.dv_eval.specs.declared.scope.Domain.TheVariants as domain
+use Rattle.dv_bag.specs.Bag.{Counts, is_number}
+use Rattle.dv_bag.specs.declared.response.Response.{Response}
+use Rattle.dv_bag.specs.declared.response.Response.TheVariants as response
+use Rattle.dv_bag.specs.declared.state.Datum.{Datum}
+use Rattle.dv_bag.specs.declared.state.Datum.TheVariants as datum
+use Rattle.dv_accepted.specs.Fitting.{domain_named}
+
+-- the least and the greatest number of 64 bits
+abbrev pub least_number : ℤ
+least_number = neg_ℤ (pos (2 ^ 63))
+
+abbrev pub greatest_number : ℤ
+greatest_number = pos (2 ^ 63 - 1)
+
+-- kept within -2^63..2^63-1
+abbrev pub within_numbers : ℤ → ℤ
+within_numbers n = if int_lt n least_number then least_number else if int_lt greatest_number n then greatest_number else n
+
+-- the low end of a variable's range; of what is no variable the least number
+abbrev pub low_end : Option Domain → ℤ
+low_end None = least_number
+low_end (Some (domain.Number range)) = range.low
+low_end (Some (domain.Flag start)) = least_number
+low_end (Some (domain.Bag capacity)) = least_number
+
+-- a number that a hold's expression is not below, in any state of the model
+abbrev pub low : Scope → Expression → ℤ
+low scope (Literal n) = pos n.value
+low scope (Named name) = low_end (domain_named scope name.number)
+low scope (Parens place e) = low scope e
+low scope (Binary operator.Add a b) = within_numbers (low scope a +ℤ low scope b)
+low scope (Call call.Size place b) = pos 0
+low scope (Times place e b) = pos 0
+low scope other = least_number
+
+-- as ticks, which are never below 0
+abbrev pub ticks_in : ℤ → ℕ
+ticks_in (pos n) = n
+ticks_in (negsuc n) = 0
+
+-- the response of a hold: forever is never
+abbrev pub hold_response : Scope → Option Expression → Option ℕ
+hold_response scope None = None
+hold_response scope (Some e) = Some (ticks_in (low scope e))
+
+-- the sooner of two; none is never
+abbrev pub sooner : Option ℕ → Option ℕ → Option ℕ
+sooner None b = b
+sooner (Some a) None = Some a
+sooner (Some a) (Some b) = Some (min a b)
+
+-- the names of the phases to which statements go, in the order of the text
+abbrev pub gotos_in : Statements → List ℕ
+gotos_in Done = []
+gotos_in (Assign variable e rest) = gotos_in rest
+gotos_in (Goto place phase rest) = phase.number ∷ gotos_in rest
+gotos_in (Send place port e rest) = gotos_in rest
+gotos_in (If place e block rest) = gotos_in block ++ gotos_in rest
+gotos_in (IfElse place e block other rest) = gotos_in block ++ (gotos_in other ++ gotos_in rest)
+gotos_in (For place v b block rest) = gotos_in block ++ gotos_in rest
+gotos_in (Add place e b rest) = gotos_in rest
+gotos_in (Drop place e b rest) = gotos_in rest
+
+-- those of external rules
+abbrev pub external_gotos_in : RuleTree → List ℕ
+external_gotos_in r = if same_sort r.sort External then gotos_in r.body else []
+
+abbrev pub external_gotos : AtomicTree → List ℕ
+external_gotos m = flat_map external_gotos_in m.rules
+
+-- the response of the hold of a phase
+abbrev pub phase_response : AtomicTree → ℕ → Option ℕ
+phase_response m phase = hold_response (scope_of m) (hold_ticks phase m.holds)
+
+-- The response of a model: the soonest of the holds to which its external rules go; where they go nowhere, never.
+abbrev pub response_of : AtomicTree → Option ℕ
+response_of m = fold sooner None (map (phase_response m) (external_gotos m))
+
+-- a response of the code, as ticks
+abbrev pub ticks_of : Response → Option ℕ
+ticks_of (response.Ticks n) = Some n
+ticks_of response.Never = None
+
+-- a hold of so many ticks is not below a response
+abbrev pub IsNotBelow : Option ℕ → ℕ → Type 0
+IsNotBelow None ticks = ⊥
+IsNotBelow (Some r) ticks = r ≤ ticks
+
+-- each value of a bag is a number of the language
+abbrev pub IsBagOfNumbers : Counts → Type 0
+IsBagOfNumbers b = All (λ p. IsTrue (is_number p.0)) b
+
+-- a number of the language, a truth value, or a bag of such numbers
+abbrev pub IsOfNumbers : Datum → Type 0
+IsOfNumbers (datum.Number n) = IsTrue (is_number n)
+IsOfNumbers (datum.Flag b) = Unit {0}
+IsOfNumbers (datum.Bag b) = IsBagOfNumbers b
+
+-- The variables and bags of a state hold numbers of the language alone. Those of a state of the code do by their type.
+abbrev pub HoldsNumbers : List Datum → Type 0
+HoldsNumbers contents = All IsOfNumbers contents

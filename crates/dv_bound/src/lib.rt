@@ -1,0 +1,16 @@
+//! The lookahead of atomic models: how soon an input can be answered.
+#![tactic(auto)]
+
+/// Laws of responses.
+pub mod laws;
+/// The response of a model.
+pub mod lookahead;
+/// A number that an expression is not below.
+mod low;
+/// Worked rows.
+pub mod rows;
+
+pub use lookahead::response;
+
+#[cfg(test)]
+mod tests;

@@ -1,0 +1,158 @@
+//! The response of an atomic model, in a time linear in its text.
+
+ghost use Rattle.std.specs.Prelude.{◌≡◌, ℕ, None, Some, IfOk, OnOk, map};
+ghost use Rattle.std.specs.List.{flat_map};
+ghost use Rattle.dv_syntax.specs.Trees.{Statements, atomic_of, hold_of, rule_of, statement_before, statements_of};
+ghost use Rattle.dv_syntax.specs.Trees.{ticks_of as expression_of_ticks};
+ghost use Rattle.dv_eval.specs.Scope.{hold_ticks, scope_of};
+ghost use Rattle.dv_bound.specs.Response.{external_gotos_in, gotos_in, hold_response, response_of, sooner, ticks_in, ticks_of};
+ghost use Rattle.dv_bound.specs.Soonest.{response_in, soonest, with_response};
+
+use crate::low::low;
+use dv_bag::Response;
+use dv_eval::Scope;
+use dv_syntax::laws::trees_keep_blocks;
+use dv_syntax::{Atomic, Hold, Rule, RuleSort, Stmt, Ticks};
+use indexmap::IndexMap;
+use std::alloc::{AllocError, Global};
+
+// Responses by the name of a phase.
+type PhaseResponses = IndexMap<u32, Response>;
+
+/// The response of an atomic model, whose names are in this scope: the soonest of the holds to which its
+/// external rules go.
+///
+/// # Errors
+///
+/// No memory for a table of the holds.
+pub fn response(alloc: Global, model: &Atomic, scope: &Scope) -> Result<Response, AllocError>
+    requires { scope.now ≡ scope_of (atomic_of model.now) }
+    ensures { IfOk result (λ response. ticks_of response ≡ response_of (atomic_of model.now)) }
+{
+    let responses = phase_responses(alloc, &model.holds, scope)?;
+    Ok(soonest_of_rules(&responses, &model.rules))
+}
+
+// The responses of the holds: of each phase that has one that of its first.
+fn phase_responses(
+    alloc: Global,
+    holds: &[Hold],
+    scope: &Scope,
+) -> Result<PhaseResponses, AllocError>
+    ensures { IfOk result (λ responses. (phase : ℕ) → response_in responses.entries phase
+        ≡ hold_response scope.now (hold_ticks phase (map hold_of holds.now))) }
+{
+    let mut responses = IndexMap::new(alloc);
+    for hold in holds {
+        insert_if_absent(
+            &mut responses,
+            hold.phase.number,
+            hold_response(&hold.ticks, scope),
+        )?;
+    }
+    Ok(responses)
+}
+
+// A phase keeps the response that it has.
+fn insert_if_absent(
+    responses: &mut PhaseResponses,
+    phase: u32,
+    response: Response,
+) -> Result<(), AllocError>
+    ensures { OnOk result (responses.new.entries
+        ≡ with_response responses.old.entries phase response) }
+{
+    if !responses.contains_key(&phase) {
+        responses.insert(phase, response)?;
+    }
+    Ok(())
+}
+
+// The response of a hold: in no state of the model it ends sooner.
+fn hold_response(ticks: &Ticks, scope: &Scope) -> Response
+    ensures { ticks_of result ≡ hold_response scope.now (expression_of_ticks ticks.now) }
+{
+    match ticks {
+        Ticks::Forever => Response::Never,
+        Ticks::After(expression) => Response::Ticks(ticks_in(low(expression, scope))),
+    }
+}
+
+// A number as ticks, which are never below 0.
+fn ticks_in(low: i64) -> u64
+    ensures { result ≡ ticks_in low }
+{
+    low.max(0) as u64
+}
+
+// The soonest response of the phases to which external rules go.
+fn soonest_of_rules(responses: &PhaseResponses, rules: &[Rule]) -> Response
+    ensures { ticks_of result ≡ soonest (response_in responses.now.entries) None
+        (flat_map external_gotos_in (map rule_of rules.now)) }
+{
+    let mut so_far = Response::Never;
+    for rule in rules {
+        if rule.sort == RuleSort::External {
+            so_far = soonest_of_statements(responses, &rule.body.statements, so_far);
+        }
+    }
+    so_far
+}
+
+// The soonest of a response and those of the phases to which statements go.
+#[cycle(gotos)]
+fn soonest_of_statements(
+    responses: &PhaseResponses,
+    statements: &[Stmt],
+    mut so_far: Response,
+) -> Response
+    ensures { ticks_of result ≡ soonest (response_in responses.now.entries) (ticks_of so_far)
+        (gotos_in (statements_of statements.now)) }
+{
+    for statement in statements {
+        so_far = soonest_of_statement(responses, statement, so_far);
+    }
+    so_far
+}
+
+#[cycle(gotos)]
+fn soonest_of_statement(responses: &PhaseResponses, statement: &Stmt, so_far: Response) -> Response
+    ensures { (rest : Statements)
+        → soonest (response_in responses.now.entries) (ticks_of result) (gotos_in rest)
+        ≡ soonest (response_in responses.now.entries) (ticks_of so_far)
+        (gotos_in (statement_before statement.now rest)) }
+{
+    trees_keep_blocks();
+    match statement {
+        Stmt::Goto { phase, .. } => sooner(so_far, response_of_phase(responses, phase.number)),
+        Stmt::If { then_block, .. } => {
+            soonest_of_statements(responses, &then_block.statements, so_far)
+        }
+        Stmt::IfElse {
+            then_block,
+            else_block,
+            ..
+        } => {
+            let so_far = soonest_of_statements(responses, &then_block.statements, so_far);
+            soonest_of_statements(responses, &else_block.statements, so_far)
+        }
+        Stmt::For { block, .. } => soonest_of_statements(responses, &block.statements, so_far),
+        Stmt::Assign { .. } | Stmt::Send { .. } | Stmt::Add { .. } | Stmt::Drop { .. } => so_far,
+    }
+}
+
+// A phase without a hold never answers.
+fn response_of_phase(responses: &PhaseResponses, phase: u32) -> Response
+    ensures { ticks_of result ≡ response_in responses.now.entries phase }
+{
+    responses.get(&phase).copied().unwrap_or(Response::Never)
+}
+
+fn sooner(a: Response, b: Response) -> Response
+    ensures { ticks_of result ≡ sooner (ticks_of a) (ticks_of b) }
+{
+    match (a, b) {
+        (Response::Never, other) | (other, Response::Never) => other,
+        (Response::Ticks(a), Response::Ticks(b)) => Response::Ticks(a.min(b)),
+    }
+}

@@ -1,0 +1,44 @@
+//! A number that an expression is not below, in any state of its model.
+
+ghost use Rattle.std.specs.Prelude.{◌≡◌};
+ghost use Rattle.dv_syntax.specs.Trees.{expression_of};
+ghost use Rattle.dv_accepted.specs.Fitting.{domain_named};
+ghost use Rattle.dv_bound.specs.Response.{low, low_end};
+
+use dv_eval::{Domain, Scope};
+use dv_syntax::{BagCall, Expr, Operator};
+
+/// A number that an expression is not below; where nothing else is known, the least one.
+pub(crate) fn low(expression: &Expr, scope: &Scope) -> i64
+    ensures { result ≡ low scope.now (expression_of expression.now) }
+{
+    match expression {
+        Expr::Literal(number) => number.value.value(),
+        Expr::Named(name) => low_end(name.number, scope),
+        Expr::Parens { inner, .. } => low(inner, scope),
+        Expr::Binary {
+            operator: Operator::Add,
+            left,
+            right,
+        } => low(left, scope).saturating_add(low(right, scope)),
+        Expr::Call {
+            call: BagCall::Size,
+            ..
+        }
+        | Expr::Times { .. } => 0,
+        _ => i64::MIN,
+    }
+}
+
+// The low end of the range of a variable; of what is no variable the least number.
+fn low_end(name: u32, scope: &Scope) -> i64
+    ensures { result ≡ low_end (domain_named scope.now name) }
+{
+    let Some(place) = scope.variable(name) else {
+        return i64::MIN;
+    };
+    match scope.domain(place) {
+        Some(Domain::Number(range)) => range.low,
+        _ => i64::MIN,
+    }
+}
