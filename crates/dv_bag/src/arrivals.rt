@@ -60,6 +60,13 @@ impl<'a> Arrivals<'a> {
         received.as_slice().get(port)
     }
 
+    /// No bag has more values than it may. It does nothing.
+    pub fn are_few(&self)
+        ensures { AreFew self.now.received }
+    {
+        let _ = &self.received;
+    }
+
     /// The ticks since the last transition.
     pub fn elapsed(&self) -> u64
         ensures { result ≡ self.now.elapsed }

@@ -1,5 +1,9 @@
+pub mod Copies
 pub mod Endings
 pub mod Fitting
+pub mod Innermost
 pub mod Remaining
-pub mod Steps
+pub mod Running
+pub mod Stepping
+pub mod Turning
 pub mod Typing

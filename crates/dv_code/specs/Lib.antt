@@ -8,3 +8,7 @@ pub mod Known
 pub mod Valid
 pub mod Listing
 pub mod Rows
+-- What serves proofs.
+pub mod Performing
+pub mod Samples
+pub mod Turns

@@ -1,21 +1,45 @@
 //! Programs for a stack machine, when they are valid, and the machine that runs them.
 #![tactic(auto)]
 
+/// What actions do.
+mod actions;
+/// What a run has done so far.
+mod draft;
 /// The instructions.
 pub mod instruction;
 /// Laws of valid programs.
 pub mod laws;
+/// What leaves give.
+mod leaf;
 /// Instructions as a listing has them.
 pub mod listing;
+/// The open loops.
+mod loops;
+/// The machine that runs programs.
+pub mod machine;
+/// One open loop.
+mod open_loop;
+/// What operators make of values.
+mod operators;
 /// Worked rows.
 pub mod rows;
 /// What a program may speak of.
 pub mod shape;
+/// The bags that a program reads.
+mod source;
+/// The operand stack.
+mod stack;
+/// A count of steps.
+pub mod steps;
+#[cfg(test)]
+mod tests;
 /// Valid programs.
 pub mod valid;
 
 pub use instruction::{Action, Binary, Instruction, Leaf, Source, Unary};
+pub use machine::{run_hold, run_rule};
 pub use shape::{ProgramSort, Shape, Slot, Tables};
+pub use steps::Steps;
 pub use valid::Valid;
 
 /// How deep loops may lie in one another.

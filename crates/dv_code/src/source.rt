@@ -1,0 +1,30 @@
+//! The bags that a program reads.
+
+ghost use Rattle.std.specs.Prelude.{◌≡◌, ◌≢◌, ◌≤◌, [], None, Some, IfSome, unwrap_or};
+ghost use Rattle.std.specs.Option.{option_copied};
+ghost use Rattle.dv_bag.specs.Bag.{total};
+ghost use Rattle.dv_code.specs.Operations.{bag_of};
+
+use crate::instruction::Source;
+use dv_bag::{Arrivals, Bag, DatumView, GREATEST_COUNT, State};
+
+/// The bag of a source. Where nothing has arrived at an input port there may be none, which stands
+/// for an empty one.
+pub(crate) fn bag_of<'a>(
+    source: Source,
+    state: &'a State,
+    arrivals: &Arrivals<'a>,
+) -> Option<&'a Bag>
+    requires { bag_of arrivals.now state.now source ≢ None }
+    ensures bag { bag_of arrivals.now state.now source
+        ≡ Some (unwrap_or (option_copied result) []) }
+    ensures few { IfSome result (λ bag. total bag.now ≤ GREATEST_COUNT) }
+{
+    match source {
+        Source::Own(slot) => match state.variables.get(usize::from(slot)) {
+            Some(DatumView::Bag(bag)) => Some(bag),
+            _ => unreachable!(),
+        },
+        Source::Port(port) => arrivals.bag(usize::from(port)),
+    }
+}
