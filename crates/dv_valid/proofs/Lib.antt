@@ -1,0 +1,5 @@
+pub mod Lists
+pub mod Tops
+pub mod Tries
+pub mod Growth
+pub mod Unique

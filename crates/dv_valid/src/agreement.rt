@@ -1,0 +1,281 @@
+//! Which instructions agree with the marks of a program.
+
+ghost use Rattle.std.specs.Prelude.{◌≡◌, ◌↔◌, ◌+◌, ◌<◌, [], ◌∷◌, length, IsTrue};
+ghost use Rattle.dv_code.specs.Shape.{Shape, left_by};
+ghost use Rattle.dv_code.specs.Valid.{IsFine, mark};
+ghost use Rattle.dv_code.specs.declared.TheConstants.{DEEPEST_LOOPS};
+ghost use Rattle.dv_code.specs.declared.instruction.Instruction.TheVariants.{Push, Apply, Combine, Perform, JumpFalse, FalseKeep, TrueKeep, Loop, Next, End};
+ghost use Rattle.dv_valid.specs.Stacks.{types_at};
+ghost use Rattle.dv_valid.specs.Marks.{AgreesAt, AreNumbered, ArrivesAt, Fit, IsNumbered, IsPlaced, mark_of, meaning, with_top};
+
+use crate::known::{is_bag, knows_action, knows_leaf, knows_phase, knows_unary};
+use crate::marks::{Mark, Marks, without_top};
+use crate::nest::{Body, Nest};
+use crate::stacks::TypeStacks;
+use crate::types::{action_type, leaf_type, operand_type, result_type, unary_type};
+use dv_bag::value::ValueType;
+use dv_code::{Action, Binary, Instruction, Leaf, ProgramSort, Shape, Source, Unary};
+
+impl Marks {
+    /// Whether a program is valid by these marks.
+    pub fn fit(&self, shape: &Shape, code: &[Instruction]) -> bool
+        requires numbered { AreNumbered self.now }
+        requires one_each { length self.now.by_place.items ≡ length code.now }
+        ensures { IsTrue result ↔ Fit shape.now code.now (mark_of self.now) }
+    {
+        if !self.arrives(0, self.outside()) {
+            return false;
+        }
+        for (place, instruction) in code.iter().enumerate() {
+            if !self.is_fine(shape, place, *instruction) {
+                return false;
+            }
+        }
+        true
+    }
+
+    /// Whether an instruction agrees with the marks, and its own with its place.
+    fn is_fine(&self, shape: &Shape, place: usize, instruction: Instruction) -> bool
+        requires numbered { AreNumbered self.now }
+        requires place { place < length self.now.by_place.items }
+        ensures { IsTrue result ↔ IsFine shape.now (left_by shape.now.sort) DEEPEST_LOOPS
+            (length self.now.by_place.items) (mark_of self.now) place instruction }
+    {
+        let here = self.by_place[place];
+        here.nest.contains(place, self.by_place.len())
+            && self.agrees(shape, place, here, instruction)
+    }
+
+    /// Whether an instruction with this mark agrees with the marks of the places to which it leads.
+    fn agrees(&self, shape: &Shape, place: usize, here: Mark, instruction: Instruction) -> bool
+        requires { IsPlaced self.now place here }
+        ensures { IsTrue result
+            ↔ AgreesAt shape.now self.now place (meaning self.now.stacks here) instruction }
+    {
+        match instruction {
+            Instruction::Push(leaf) => self.push_agrees(shape, place, here, leaf),
+            Instruction::Apply(unary) => self.apply_agrees(shape, place, here, unary),
+            Instruction::Combine(binary) => self.combine_agrees(place, here, binary),
+            Instruction::Perform(action) => self.perform_agrees(shape, place, here, action),
+            Instruction::Go(phase) => knows_phase(shape, phase) && self.arrives(place + 1, here),
+            Instruction::Jump(to) => place < to as usize && self.arrives(to as usize, here),
+            Instruction::JumpFalse(to) => self.jump_false_agrees(place, here, to),
+            Instruction::FalseKeep(to) => self.keep_agrees(place, here, to),
+            Instruction::TrueKeep(to) => self.keep_agrees(place, here, to),
+            Instruction::Loop(source, past) => self.loop_agrees(shape, place, here, source, past),
+            Instruction::Next(first) => self.next_agrees(place, here, first),
+            Instruction::End => self.end_agrees(shape, place, here),
+        }
+    }
+
+    /// Whether a leaf is known, and its type comes on top.
+    fn push_agrees(&self, shape: &Shape, place: usize, here: Mark, leaf: Leaf) -> bool
+        requires { IsPlaced self.now place here }
+        ensures { IsTrue result
+            ↔ AgreesAt shape.now self.now place (meaning self.now.stacks here) (Push leaf) }
+    {
+        knows_leaf(shape, here.nest.depth(), leaf)
+            && self.arrives_with(place + 1, leaf_type(leaf), here)
+    }
+
+    /// Whether an operator on one value is known, and finds its type on top.
+    fn apply_agrees(&self, shape: &Shape, place: usize, here: Mark, unary: Unary) -> bool
+        requires { IsPlaced self.now place here }
+        ensures { IsTrue result
+            ↔ AgreesAt shape.now self.now place (meaning self.now.stacks here) (Apply unary) }
+    {
+        let Some(_) = without_top(&self.stacks, here, unary_type(unary)) else {
+            return false;
+        };
+        knows_unary(shape, unary) && self.arrives(place + 1, here)
+    }
+
+    /// Whether an operator on two values finds its types on top, and leaves its own in their place.
+    fn combine_agrees(&self, place: usize, here: Mark, binary: Binary) -> bool
+        requires { IsPlaced self.now place here }
+        ensures { (shape : Shape) → IsTrue result
+            ↔ AgreesAt shape self.now place (meaning self.now.stacks here) (Combine binary) }
+    {
+        let Some(one) = without_top(&self.stacks, here, operand_type(binary)) else {
+            return false;
+        };
+        let Some(below) = without_top(&self.stacks, one, operand_type(binary)) else {
+            return false;
+        };
+        self.arrives_with(place + 1, result_type(binary), below)
+    }
+
+    /// Whether an action is known, and takes its type from the top.
+    fn perform_agrees(&self, shape: &Shape, place: usize, here: Mark, action: Action) -> bool
+        requires { IsPlaced self.now place here }
+        ensures { IsTrue result
+            ↔ AgreesAt shape.now self.now place (meaning self.now.stacks here) (Perform action) }
+    {
+        let Some(below) = without_top(&self.stacks, here, action_type(action)) else {
+            return false;
+        };
+        knows_action(shape, action) && self.arrives(place + 1, below)
+    }
+
+    /// Whether a jump takes a truth value from the top, and leads forward.
+    fn jump_false_agrees(&self, place: usize, here: Mark, to: u32) -> bool
+        requires { IsPlaced self.now place here }
+        ensures { (shape : Shape) → IsTrue result
+            ↔ AgreesAt shape self.now place (meaning self.now.stacks here) (JumpFalse to) }
+    {
+        let Some(below) = without_top(&self.stacks, here, ValueType::Truth) else {
+            return false;
+        };
+        place < to as usize && self.arrives(place + 1, below) && self.arrives(to as usize, below)
+    }
+
+    /// Whether a jump that keeps a truth value finds one on top, and leads forward.
+    fn keep_agrees(&self, place: usize, here: Mark, to: u32) -> bool
+        requires { IsPlaced self.now place here }
+        ensures false_keep { (shape : Shape) → IsTrue result
+            ↔ AgreesAt shape self.now place (meaning self.now.stacks here) (FalseKeep to) }
+        ensures true_keep { (shape : Shape) → IsTrue result
+            ↔ AgreesAt shape self.now place (meaning self.now.stacks here) (TrueKeep to) }
+    {
+        let Some(below) = without_top(&self.stacks, here, ValueType::Truth) else {
+            return false;
+        };
+        place < to as usize && self.arrives(place + 1, below) && self.arrives(to as usize, here)
+    }
+
+    /// Whether a loop begins on an empty stack, over a known bag, and leads into its body and past
+    /// it.
+    fn loop_agrees(
+        &self,
+        shape: &Shape,
+        place: usize,
+        here: Mark,
+        source: Source,
+        past: u32,
+    ) -> bool
+        requires { IsPlaced self.now place here }
+        ensures { IsTrue result
+            ↔ AgreesAt shape.now self.now place (meaning self.now.stacks here) (Loop source past) }
+    {
+        let body = Body {
+            first: place + 1,
+            past: past as usize,
+        };
+        let Some(nest) = here.nest.with_inner(body) else {
+            return false;
+        };
+        let inside = Mark {
+            types: self.stacks.empty(),
+            nest,
+        };
+        self.stacks.is_same(here.types, self.stacks.empty())
+            && is_bag(shape, source)
+            && self.arrives(place + 1, inside)
+            && self.arrives(past as usize, here)
+    }
+
+    /// Whether the innermost loop's body ends here, on an empty stack, and leads to its beginning
+    /// and out of it.
+    fn next_agrees(&self, place: usize, here: Mark, first: u32) -> bool
+        requires { IsPlaced self.now place here }
+        ensures { (shape : Shape) → IsTrue result
+            ↔ AgreesAt shape self.now place (meaning self.now.stacks here) (Next first) }
+    {
+        let Some((body, nest)) = here.nest.innermost() else {
+            return false;
+        };
+        let around = Mark {
+            types: self.stacks.empty(),
+            nest,
+        };
+        self.stacks.is_same(here.types, self.stacks.empty())
+            && body.first == first as usize
+            && body.past == place + 1
+            && self.arrives(first as usize, here)
+            && self.arrives(place + 1, around)
+    }
+
+    /// Whether the program ends at its last place, outside all loops, with the types that it is to
+    /// leave.
+    fn end_agrees(&self, shape: &Shape, place: usize, here: Mark) -> bool
+        requires { IsPlaced self.now place here }
+        ensures { IsTrue result
+            ↔ AgreesAt shape.now self.now place (meaning self.now.stacks here) End }
+    {
+        are_left(&self.stacks, here.types, shape.sort())
+            && here.nest.depth() == 0
+            && place + 1 == self.by_place.len()
+    }
+
+    /// The mark outside all loops, with an empty stack.
+    fn outside(&self) -> Mark
+        ensures numbered { IsNumbered self.now.stacks result }
+        ensures mark { meaning self.now.stacks result ≡ mark [] [] }
+    {
+        Mark {
+            types: self.stacks.empty(),
+            nest: Nest::Outside,
+        }
+    }
+
+    /// Whether this mark is at a place of the program.
+    fn arrives(&self, to: usize, mark: Mark) -> bool
+        requires numbered { AreNumbered self.now }
+        requires mark { IsNumbered self.now.stacks mark }
+        ensures { IsTrue result ↔ ArrivesAt self.now to (meaning self.now.stacks mark) }
+    {
+        match self.mark(to) {
+            None => false,
+            Some(found) => is_same(&self.stacks, found, mark),
+        }
+    }
+
+    /// Whether this mark with one more type on top is at a place of the program.
+    fn arrives_with(&self, to: usize, top: ValueType, mark: Mark) -> bool
+        requires numbered { AreNumbered self.now }
+        requires mark { IsNumbered self.now.stacks mark }
+        ensures { IsTrue result
+            ↔ ArrivesAt self.now to (with_top top (meaning self.now.stacks mark)) }
+    {
+        match self.mark(to) {
+            None => false,
+            Some(found) => is_same_below(&self.stacks, found, top, mark),
+        }
+    }
+}
+
+/// Whether two marks mean the same.
+fn is_same(stacks: &TypeStacks, one: Mark, other: Mark) -> bool
+    requires one { IsNumbered stacks.now one }
+    requires other { IsNumbered stacks.now other }
+    ensures { IsTrue result ↔ (meaning stacks.now one ≡ meaning stacks.now other) }
+{
+    stacks.is_same(one.types, other.types) && one.nest.is_same(other.nest)
+}
+
+/// Whether a mark is another one with this type on top.
+fn is_same_below(stacks: &TypeStacks, found: Mark, top: ValueType, mark: Mark) -> bool
+    requires found { IsNumbered stacks.now found }
+    requires mark { IsNumbered stacks.now mark }
+    ensures { IsTrue result
+        ↔ (meaning stacks.now found ≡ with_top top (meaning stacks.now mark)) }
+{
+    match without_top(stacks, found, top) {
+        None => false,
+        Some(below) => is_same(stacks, below, mark),
+    }
+}
+
+/// Whether a stack has the types that a program of this sort leaves.
+fn are_left(stacks: &TypeStacks, types: usize, sort: ProgramSort) -> bool
+    requires { types < length stacks.now }
+    ensures { IsTrue result ↔ (types_at stacks.now types ≡ left_by sort) }
+{
+    match sort {
+        ProgramSort::Hold => match stacks.below(types, ValueType::Number) {
+            None => false,
+            Some(below) => stacks.is_same(below, stacks.empty()),
+        },
+        _ => stacks.is_same(types, stacks.empty()),
+    }
+}

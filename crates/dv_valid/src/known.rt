@@ -1,0 +1,130 @@
+//! Which places, ports and phases a shape knows.
+
+ghost use Rattle.std.specs.Prelude.{◌≡◌, ◌↔◌, ℕ, ℤ, slice_get, IsTrue, Some};
+ghost use Rattle.dv_code.specs.Shape.{may_change, may_read_elapsed, may_receive, may_send};
+ghost use Rattle.dv_code.specs.Known.{IsBagOf, KnowsAction, KnowsLeaf, KnowsPhase, KnowsUnary};
+ghost use Rattle.dv_code.specs.declared.shape.Slot.TheVariants.{Ranged, Flagged, Holding};
+
+use dv_code::{Action, Leaf, ProgramSort, Shape, Slot, Source, Unary};
+
+/// Whether programs of this sort may change the state and go to a phase.
+fn may_change(sort: ProgramSort) -> bool
+    ensures { result ≡ may_change sort }
+{
+    match sort {
+        ProgramSort::Internal | ProgramSort::External | ProgramSort::Confluent => true,
+        ProgramSort::Output | ProgramSort::Hold => false,
+    }
+}
+
+/// Whether programs of this sort may send.
+fn may_send(sort: ProgramSort) -> bool
+    ensures { result ≡ may_send sort }
+{
+    matches!(sort, ProgramSort::Output)
+}
+
+/// Whether programs of this sort may read what has arrived.
+fn may_receive(sort: ProgramSort) -> bool
+    ensures { result ≡ may_receive sort }
+{
+    matches!(sort, ProgramSort::External | ProgramSort::Confluent)
+}
+
+/// Whether programs of this sort may read the elapsed time.
+fn may_read_elapsed(sort: ProgramSort) -> bool
+    ensures { result ≡ may_read_elapsed sort }
+{
+    matches!(sort, ProgramSort::External)
+}
+
+/// What the slot of a place may hold, if there is one.
+fn slot(shape: &Shape, place: u16) -> Option<Slot>
+    ensures { result ≡ slice_get shape.now.slots place }
+{
+    shape.tables().slots().get(usize::from(place)).copied()
+}
+
+/// Whether the slot of a place holds a number of a range.
+fn is_ranged(shape: &Shape, place: u16) -> bool
+    ensures { IsTrue result
+        ↔ ((low high : ℤ) × (slice_get shape.now.slots place ≡ Some (Ranged low high))) }
+{
+    matches!(slot(shape, place), Some(Slot::Ranged { .. }))
+}
+
+/// Whether the slot of a place holds a truth value.
+fn is_flagged(shape: &Shape, place: u16) -> bool
+    ensures { IsTrue result ↔ (slice_get shape.now.slots place ≡ Some Flagged) }
+{
+    matches!(slot(shape, place), Some(Slot::Flagged))
+}
+
+/// Whether the slot of a place holds a bag.
+fn is_holding(shape: &Shape, place: u16) -> bool
+    ensures { IsTrue result
+        ↔ ((capacity : ℕ) × (slice_get shape.now.slots place ≡ Some (Holding capacity))) }
+{
+    matches!(slot(shape, place), Some(Slot::Holding { .. }))
+}
+
+/// Whether a program may read a bag there.
+pub fn is_bag(shape: &Shape, source: Source) -> bool
+    ensures { IsTrue result ↔ IsBagOf shape.now source }
+{
+    match source {
+        Source::Own(place) => is_holding(shape, place),
+        Source::Port(port) => {
+            u32::from(port) < shape.tables().inputs() && may_receive(shape.sort())
+        }
+    }
+}
+
+/// Whether a program may read a leaf inside so many loops.
+pub fn knows_leaf(shape: &Shape, inside: usize, leaf: Leaf) -> bool
+    ensures { IsTrue result ↔ KnowsLeaf shape.now inside leaf }
+{
+    match leaf {
+        Leaf::Number(_) | Leaf::Truth(_) => true,
+        Leaf::Variable(place) => is_ranged(shape, place),
+        Leaf::Flag(place) => is_flagged(shape, place),
+        Leaf::Item(number) => usize::from(number) < inside,
+        Leaf::Elapsed => may_read_elapsed(shape.sort()),
+        Leaf::Size(source) | Leaf::Sum(source) | Leaf::Least(source) | Leaf::Most(source) => {
+            is_bag(shape, source)
+        }
+    }
+}
+
+/// Whether a program may apply an operator.
+pub fn knows_unary(shape: &Shape, unary: Unary) -> bool
+    ensures { IsTrue result ↔ KnowsUnary shape.now unary }
+{
+    match unary {
+        Unary::Negate | Unary::Not => true,
+        Unary::Times(source) => is_bag(shape, source),
+    }
+}
+
+/// Whether a program may perform an action.
+pub fn knows_action(shape: &Shape, action: Action) -> bool
+    ensures { IsTrue result ↔ KnowsAction shape.now action }
+{
+    match action {
+        Action::SetVariable(place) => is_ranged(shape, place) && may_change(shape.sort()),
+        Action::SetFlag(place) => is_flagged(shape, place) && may_change(shape.sort()),
+        Action::AddTo(place) | Action::DropFrom(place) => {
+            is_holding(shape, place) && may_change(shape.sort())
+        }
+        Action::Send(port) => {
+            u32::from(port) < shape.tables().outputs() && may_send(shape.sort())
+        }
+    }
+}
+
+/// Whether a program may go to a phase.
+pub fn knows_phase(shape: &Shape, phase: u32) -> bool
+    ensures { IsTrue result ↔ KnowsPhase shape.now phase }
+{
+    phase < shape.tables().phases() && may_change(shape.sort())
+}

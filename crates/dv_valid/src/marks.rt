@@ -1,0 +1,267 @@
+//! The marks of a program. All ways but that of `Next` lead forward, and an instruction leaves no
+//! choice about the mark of its place once the marks behind it are known. So one pass from the last
+//! place to the first finds the only marks that can fit.
+
+ghost use Rattle.std.specs.Prelude.{◌≡◌, ◌≢◌, ℕ, ◌+◌, ◌<◌, ◌≤◌, List, [], ◌∷◌, length, slice_get, true, Some, IfOk, IfSome, MatchOption, OnOk};
+ghost use Rattle.dv_bag.specs.declared.value.ValueType.{ValueType};
+ghost use Rattle.dv_code.specs.Known.{operand_type, result_type};
+ghost use Rattle.dv_code.specs.Shape.{Shape, left_by};
+ghost use Rattle.dv_code.specs.Valid.{Body as MeantBody, Mark as Meant, mark};
+ghost use Rattle.dv_code.specs.declared.TheConstants.{DEEPEST_LOOPS};
+ghost use Rattle.dv_valid.specs.Nests.{bodies};
+ghost use Rattle.dv_valid.specs.Stacks.{Keeps, types_at};
+ghost use Rattle.dv_valid.specs.Marks.{AreNumbered, Fit, IsForcedAt, IsFound, IsNumbered, MayBeNumbered, Settles, mark_of, meaning, settling_place, with_top};
+
+use crate::nest::{Body, Nest};
+use crate::stacks::TypeStacks;
+use crate::types::{action_type, leaf_type, operand_type, result_type};
+use dv_bag::value::ValueType;
+use dv_code::{Binary, Instruction, ProgramSort};
+use std::alloc::{AllocError, Global};
+
+/// What stands at a place by every way that leads there: the types on the stack, as the number of
+/// a stack of types, and the bodies that the place lies in.
+#[derive(Clone, Copy)]
+pub struct Mark {
+    pub types: usize,
+    pub nest: Nest,
+}
+
+/// A mark for each place of a program.
+#[derive(Drop)]
+pub struct Marks {
+    pub stacks: TypeStacks,
+    pub by_place: Vec<Mark>,
+}
+
+impl Marks {
+    /// The only marks by which a program can be valid; none where there are no such marks.
+    ///
+    /// # Errors
+    ///
+    /// No memory for the marks, or for their stacks of types.
+    pub fn of(
+        alloc: Global,
+        sort: ProgramSort,
+        code: &[Instruction],
+    ) -> Result<Option<Marks>, AllocError>
+        ensures numbered { IfOk result (λ found. IfSome found AreNumbered) }
+        ensures one_each { IfOk result (λ found.
+            IfSome found (λ marks. length marks.by_place.items ≡ length code.now)) }
+        ensures only { IfOk result (λ found. (shape : Shape) (marks : ℕ → Meant)
+            → shape.sort ≡ sort → Fit shape code.now marks
+            → MatchOption found ⊥ (λ these. (place : ℕ)
+            → place < length code.now → mark_of these place ≡ marks place)) }
+    {
+        let stacks = TypeStacks::new(alloc)?;
+        let outside = Mark {
+            types: stacks.empty(),
+            nest: Nest::Outside,
+        };
+        let mut marks = Marks {
+            stacks,
+            by_place: vec![in alloc; outside; code.len()]?,
+        };
+        for place in (0..code.len()).rev() {
+            if !marks.settle(sort, place, code[place])? {
+                return Ok(None);
+            }
+        }
+        Ok(Some(marks))
+    }
+
+    /// The mark of a place, if it is one of the program.
+    pub fn mark(&self, place: usize) -> Option<Mark>
+        ensures { result ≡ slice_get self.now.by_place.items place }
+    {
+        self.by_place.get(place).copied()
+    }
+
+    /// Finds the mark of a place, once those behind it are known; `false` where none fits.
+    fn settle(
+        &mut self,
+        sort: ProgramSort,
+        place: usize,
+        instruction: Instruction,
+    ) -> Result<bool, AllocError>
+        requires numbered { AreNumbered self.old }
+        requires place { place < length self.old.by_place.items }
+        ensures numbered { OnOk result (AreNumbered self.new) }
+        ensures one_each { OnOk result
+            (length self.new.by_place.items ≡ length self.old.by_place.items) }
+        ensures others { OnOk result ((other : ℕ) → other ≢ place
+            → mark_of self.new other ≡ mark_of self.old other) }
+        ensures only { IfOk result (λ done. (here : Meant)
+            → IsForcedAt (left_by sort) self.old place instruction here
+            → (done ≡ true) × (mark_of self.new place ≡ here)) }
+    {
+        let Some(mark) = self.before(sort, place, instruction)? else {
+            return Ok(false);
+        };
+        self.by_place[place] = mark;
+        Ok(true)
+    }
+
+    /// The mark of a place by those behind it, if one fits.
+    fn before(
+        &mut self,
+        sort: ProgramSort,
+        place: usize,
+        instruction: Instruction,
+    ) -> Result<Option<Mark>, AllocError>
+        requires numbered { AreNumbered self.old }
+        requires place { place < length self.old.by_place.items }
+        ensures places { OnOk result (self.new.by_place.items ≡ self.old.by_place.items) }
+        ensures kept { OnOk result (Keeps self.old.stacks self.new.stacks) }
+        ensures numbered { IfOk result (MayBeNumbered self.new.stacks) }
+        ensures only { IfOk result (λ found. (here : Meant)
+            → IsForcedAt (left_by sort) self.old place instruction here
+            → IsFound self.new.stacks here found) }
+    {
+        if let Instruction::End = instruction {
+            let types = left_stack(&mut self.stacks, sort)?;
+            return Ok(Some(Mark {
+                types,
+                nest: Nest::Outside,
+            }));
+        }
+        let next = place + 1;
+        match self.mark(settling_place(next, instruction)) {
+            None => Ok(None),
+            Some(after) => mark_before(&mut self.stacks, next, instruction, after),
+        }
+    }
+}
+
+/// The place whose mark settles that of an instruction before the next one.
+fn settling_place(next: usize, instruction: Instruction) -> usize
+    ensures { result ≡ settling_place next instruction }
+{
+    match instruction {
+        Instruction::Jump(to) => to as usize,
+        _ => next,
+    }
+}
+
+/// The number of the stack that a program of this sort leaves.
+fn left_stack(stacks: &mut TypeStacks, sort: ProgramSort) -> Result<usize, AllocError>
+    ensures kept { OnOk result (Keeps stacks.old stacks.new) }
+    ensures stack { IfOk result (λ stack. (stack < length stacks.new)
+        × (types_at stacks.new stack ≡ left_by sort)) }
+{
+    let empty = stacks.empty();
+    match sort {
+        ProgramSort::Hold => stacks.push(ValueType::Number, empty),
+        _ => Ok(empty),
+    }
+}
+
+/// The mark of an instruction before the next place, if one fits, by the mark that settles it.
+fn mark_before(
+    stacks: &mut TypeStacks,
+    next: usize,
+    instruction: Instruction,
+    after: Mark,
+) -> Result<Option<Mark>, AllocError>
+    requires { IsNumbered stacks.old after }
+    ensures kept { OnOk result (Keeps stacks.old stacks.new) }
+    ensures numbered { IfOk result (MayBeNumbered stacks.new) }
+    ensures only { IfOk result (λ found. (here : Meant) → length here.nest ≤ DEEPEST_LOOPS
+        → Settles next instruction here (meaning stacks.old after)
+        → IsFound stacks.new here found) }
+{
+    match instruction {
+        Instruction::Push(leaf) => Ok(without_top(stacks, after, leaf_type(leaf))),
+        Instruction::Apply(_) | Instruction::Go(_) | Instruction::Jump(_) => Ok(Some(after)),
+        Instruction::Combine(binary) => before_combine(stacks, after, binary),
+        Instruction::Perform(action) => Ok(Some(with_top(stacks, after, action_type(action))?)),
+        Instruction::JumpFalse(_) | Instruction::FalseKeep(_) | Instruction::TrueKeep(_) => {
+            Ok(Some(with_top(stacks, after, ValueType::Truth)?))
+        }
+        Instruction::Loop(_, _) => Ok(before_loop(stacks, after)),
+        Instruction::Next(first) => Ok(before_next(stacks, after, first as usize, next)),
+        Instruction::End => Ok(None),
+    }
+}
+
+/// The mark with the type on top gone, if it is this one.
+pub fn without_top(stacks: &TypeStacks, mark: Mark, top: ValueType) -> Option<Mark>
+    requires { IsNumbered stacks.now mark }
+    ensures numbered { MayBeNumbered stacks.now result }
+    ensures only { (here : Meant) → meaning stacks.now mark ≡ with_top top here
+        → IsFound stacks.now here result }
+    ensures below { IfSome result (λ below. meaning stacks.now mark
+        ≡ with_top top (meaning stacks.now below)) }
+{
+    let types = stacks.below(mark.types, top)?;
+    Some(Mark {
+        types,
+        nest: mark.nest,
+    })
+}
+
+/// The mark with one more type on top.
+fn with_top(stacks: &mut TypeStacks, mark: Mark, top: ValueType) -> Result<Mark, AllocError>
+    requires { IsNumbered stacks.old mark }
+    ensures kept { OnOk result (Keeps stacks.old stacks.new) }
+    ensures numbered { IfOk result (IsNumbered stacks.new) }
+    ensures mark { IfOk result (λ found. meaning stacks.new found
+        ≡ with_top top (meaning stacks.old mark)) }
+{
+    let types = stacks.push(top, mark.types)?;
+    Ok(Mark {
+        types,
+        nest: mark.nest,
+    })
+}
+
+/// The mark before an operator on two values, if one fits.
+fn before_combine(
+    stacks: &mut TypeStacks,
+    after: Mark,
+    binary: Binary,
+) -> Result<Option<Mark>, AllocError>
+    requires { IsNumbered stacks.old after }
+    ensures kept { OnOk result (Keeps stacks.old stacks.new) }
+    ensures numbered { IfOk result (MayBeNumbered stacks.new) }
+    ensures only { IfOk result (λ found. (below : List ValueType) (here : Meant)
+        → here.types ≡ operand_type binary ∷ operand_type binary ∷ below
+        → meaning stacks.old after ≡ mark (result_type binary ∷ below) here.nest
+        → IsFound stacks.new here found) }
+{
+    let Some(below) = without_top(stacks, after, result_type(binary)) else {
+        return Ok(None);
+    };
+    let one = with_top(stacks, below, operand_type(binary))?;
+    Ok(Some(with_top(stacks, one, operand_type(binary))?))
+}
+
+/// The mark before a loop whose body begins with this mark, if it begins one.
+fn before_loop(stacks: &TypeStacks, after: Mark) -> Option<Mark>
+    ensures numbered { MayBeNumbered stacks.now result }
+    ensures only { (body : MeantBody) (here : Meant) → here.types ≡ []
+        → (meaning stacks.now after).nest ≡ body ∷ here.nest
+        → IsFound stacks.now here result }
+{
+    let (_, nest) = after.nest.innermost()?;
+    Some(Mark {
+        types: stacks.empty(),
+        nest,
+    })
+}
+
+/// The mark where a loop's body ends, if outside the body it is this one and the loop does not lie
+/// too deep.
+fn before_next(stacks: &TypeStacks, after: Mark, first: usize, past: usize) -> Option<Mark>
+    ensures numbered { MayBeNumbered stacks.now result }
+    ensures only { (here : Meant) → length here.nest ≤ DEEPEST_LOOPS
+        → here ≡ mark [] (record { first = first; past = past }
+        ∷ (meaning stacks.now after).nest)
+        → IsFound stacks.now here result }
+{
+    let nest = after.nest.with_inner(Body { first, past })?;
+    Some(Mark {
+        types: stacks.empty(),
+        nest,
+    })
+}
