@@ -35,7 +35,7 @@ use Rattle.dv_gen.proofs.Accepted.{accepted_assignment, accepted_change, accepte
 use Rattle.dv_gen.proofs.EqualOperators.{bind_agrees, on_number, on_truth}
 use Rattle.dv_gen.proofs.EqualValues.{bag_agrees, gives_type, value_agrees}
 use Rattle.dv_gen.proofs.FittingStates.{bag_there}
-use Rattle.dv_gen.proofs.Loops.{items_within, knows_within, loops_of}
+use Rattle.dv_gen.proofs.LoopVariables.{items_within, knows_within, loops_of}
 use Rattle.dv_gen.proofs.KnownNames.{Assigned, Stands, StandsForBag, ToFlag, ToVariable, assigned_stands, assigned_type, changed_bag_stands, flag_assignment, sent_port_stands, slot_there, variable_assignment}
 
 -- ---- Actions

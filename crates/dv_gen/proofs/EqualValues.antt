@@ -30,7 +30,7 @@ use Rattle.dv_gen.proofs.KnownNames.{InputPort, Readable, Stands, StateBag, flag
 use Rattle.dv_gen.proofs.OperandTypes.{operand_types, type_given, type_wanted}
 use Rattle.dv_gen.proofs.TypedTrees.{expression_typed}
 use Rattle.dv_gen.proofs.FittingStates.{bag_there, flag_there, number_there}
-use Rattle.dv_gen.proofs.Loops.{is_item, items_within, knows_within, loops_of, no_loop_value}
+use Rattle.dv_gen.proofs.LoopVariables.{is_item, items_within, knows_within, loops_of, no_loop_value}
 use Rattle.dv_gen.proofs.EqualOperators.{GivesType, bind_agrees, call_agrees, on_number, on_truth, operator_agrees}
 
 -- ---- Names

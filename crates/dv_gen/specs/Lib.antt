@@ -2,4 +2,9 @@
 pub mod Resolved
 pub mod Resolution
 pub mod Generator
+pub mod ModelCode
 pub mod Rows
+-- What serves proofs.
+pub mod Emission
+pub mod Directories
+pub mod Generators

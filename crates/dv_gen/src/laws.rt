@@ -2,19 +2,21 @@
 
 ghost use Rattle.std.specs.Prelude.{◌≡◌, ℕ, true, List, [], ◌∷◌, IfSome};
 ghost use Rattle.std.specs.List.{All};
-ghost use Rattle.dv_syntax.specs.Trees.{AtomicTree, HoldTree, RuleTree};
+ghost use Rattle.dv_syntax.specs.Trees.{AtomicTree, FileTree, HoldTree, ModelTree, RuleTree};
 ghost use Rattle.dv_syntax.specs.Grammar.{loop_depth};
 ghost use Rattle.dv_bag.specs.Arrivals.{Arrivals, nothing_arrived};
 ghost use Rattle.dv_bag.specs.declared.state.State.{State};
 ghost use Rattle.dv_bag.specs.declared.value.ValueType.TheVariants.{Number};
 ghost use Rattle.dv_eval.specs.Meaning.{effect_of, meaning, moment_in, outermost};
 ghost use Rattle.dv_eval.specs.Scope.{scope_of};
+ghost use Rattle.dv_check.specs.Refusals.{AreOfOneText, refusal_of};
 ghost use Rattle.dv_check.specs.Rules.{atomic_refusals};
 ghost use Rattle.dv_accepted.specs.Fitting.{fits};
 ghost use Rattle.dv_code.specs.Machine.{begins, first_effect, run};
 ghost use Rattle.dv_code.specs.Shape.{AreSmall, Fits, Shape};
 ghost use Rattle.dv_code.specs.Valid.{IsValid};
 ghost use Rattle.dv_gen.specs.Generator.{ending, goes, hold_ending, hold_program_of, program_of};
+ghost use Rattle.dv_gen.specs.ModelCode.{IsCompilableModel};
 ghost use Rattle.dv_gen.specs.Resolution.{hold_shape, hold_tree, rule_shape, rule_tree, tables_of};
 ghost use Rattle.dv_gen.specs.Resolved.{AreTyped, Expression, IsTyped, Statements, gotos, rule_effect, type_of, value_of};
 
@@ -105,4 +107,11 @@ pub fn places_mean_what_names_mean()
         IfSome h.ticks (λ e. (s : State) → fits m s ≡ true →
         value_of nothing_arrived [] s (hold_tree m e)
         ≡ meaning (scope_of m) (moment_in (outermost nothing_arrived) s) e)) m.holds }
+{}
+
+/// Each atomic model of a text that is accepted can be compiled: the loops of its rules are not too
+/// deep.
+pub fn texts_are_compilable()
+    ensures { (names : List (List ℕ)) (f : FileTree) → AreOfOneText names f → refusal_of f ≡ None
+        → All (λ (m : ModelTree). IsCompilableModel m) f.models }
 {}

@@ -1,0 +1,44 @@
+-- The models of a text that is accepted are compilable.
+use Rattle.std.proofs.Common.{◌≡◌, ℕ, ◌≤◌, List, [], ◌∷◌, map, Option, None, sym, ap, subst}
+use Rattle.std.specs.List.{All, AllByRecursion}
+use Rattle.std.proofs.lemmas.List.Elements.{All-from_recursion}
+use Rattle.dv_syntax.specs.declared.tree.Name.{Name}
+use Rattle.dv_syntax.specs.Grammar.{IsItem, IsModel, loop_depth, the_limits}
+use Rattle.dv_syntax.specs.Trees.{AtomicTree, FileTree, ModelTree, RuleTree}
+use Rattle.dv_syntax.specs.Written.{AtomicItem, Declares, Lists, Starts, Holds, Rules, WrittenModel, WrittenAtomic, WrittenCoupled, sorted, sorted_items, sorted_model}
+use Rattle.dv_code.specs.declared.TheConstants.{DEEPEST_LOOPS}
+use Rattle.dv_check.specs.Accepted.{IsAcceptedModel}
+use Rattle.dv_check.specs.Refusals.{AreOfOneText, refusal_of}
+use Rattle.dv_check.proofs.Accepted.{file_accepted}
+use Rattle.dv_gen.specs.ModelCode.{IsCompilableModel}
+
+-- a rule whose loops are not too deep
+abbrev IsShallow : RuleTree → Type 0
+IsShallow r = loop_depth r.body ≤ DEEPEST_LOOPS
+
+shallow_items : (name : Name) (items : List AtomicItem) → AllByRecursion (IsItem the_limits) items
+    → AllByRecursion IsShallow (sorted_items name items).rules
+shallow_items name [] all = tt
+shallow_items name (Declares d ∷ items) all = shallow_items name items all.1
+shallow_items name (Lists p ∷ items) all = shallow_items name items all.1
+shallow_items name (Starts s ∷ items) all = shallow_items name items all.1
+shallow_items name (Holds h ∷ items) all = shallow_items name items all.1
+shallow_items name (Rules r ∷ items) all = (all.0.2, shallow_items name items all.1)
+
+compilable_models : (known : List ModelTree) (written : List WrittenModel) → AllByRecursion (IsModel the_limits) written
+    → AllByRecursion (IsAcceptedModel known) (map sorted_model written) → AllByRecursion IsCompilableModel (map sorted_model written)
+compilable_models known [] within accepted = tt
+compilable_models known (WrittenAtomic name items ∷ written) within accepted =
+    let shallow = All-from_recursion IsShallow (sorted_items name items).rules (shallow_items name items within.0) in
+    (record { accepted = accepted.0; shallow = shallow }, compilable_models known written within.1 accepted.1)
+compilable_models known (WrittenCoupled name items ∷ written) within accepted = (tt, compilable_models known written within.1 accepted.1)
+
+pub text_compilable : (names : List (List ℕ)) (f : FileTree) → AreOfOneText names f → refusal_of f ≡ None
+    → All (λ (m : ModelTree). IsCompilableModel m) f.models
+text_compilable names f text fine =
+    let written = text.parsed.written in
+    let tree = ap (λ (g : FileTree). g.models) text.parsed.tree in
+    let accepted = subst (λ models. AllByRecursion (IsAcceptedModel f.models) models) tree (file_accepted f fine).models in
+    let all = compilable_models f.models written.models text.parsed.read.models accepted in
+    All-from_recursion (λ (m : ModelTree). IsCompilableModel m) f.models
+    (subst (λ models. AllByRecursion IsCompilableModel models) (sym tree) all)

@@ -1,0 +1,44 @@
+-- How deep loops lie in the code's statements.
+use Rattle.std.proofs.Common.{◌≡◌, ℕ, zero, suc, ◌+◌, ◌<◌, ◌≤◌, max, List, [], ◌∷◌, length, get_or, ap, arith}
+use Rattle.dv_syntax.specs.declared.tree.Stmt.{Stmt}
+use Rattle.dv_syntax.specs.declared.tree.Stmt as stmt
+use Rattle.dv_syntax.specs.Grammar.{loop_depth}
+use Rattle.dv_code.specs.declared.TheConstants.{DEEPEST_LOOPS}
+use Rattle.dv_syntax.specs.declared.tree.Name.{Name}
+use Rattle.dv_syntax.specs.Trees.{Expression, Statements, Done, If, IfElse, For, row_statements, statement_before, statements_of}
+
+-- of a statement and the rest the deeper one counts
+loop_depth-before : (s : Stmt) (rest : Statements)
+    → loop_depth (statement_before s rest) ≡ max (loop_depth (statement_before s Done)) (loop_depth rest)
+loop_depth-before (stmt.Assign name e) rest = omega arith
+loop_depth-before (stmt.Goto place phase) rest = omega arith
+loop_depth-before (stmt.Send place port e) rest = omega arith
+loop_depth-before (stmt.If' place e shape block) rest = omega arith
+loop_depth-before (stmt.IfElse' place e shape block other_shape other) rest = omega arith
+loop_depth-before (stmt.For' place v b shape block) rest = omega arith
+loop_depth-before (stmt.Add place e b) rest = omega arith
+loop_depth-before (stmt.Drop place e b) rest = omega arith
+
+-- no statement of a list is deeper than the list
+pub loop_depth-at : (statements : List Stmt) (i : ℕ) (d : Stmt) → i < length statements
+    → loop_depth (statement_before (get_or statements i d) Done) ≤ loop_depth (statements_of statements)
+loop_depth-at [] i d within = absurd (omega arith)
+loop_depth-at (s ∷ statements) zero d within = omega (arith, loop_depth-before s (statements_of statements))
+loop_depth-at (s ∷ statements) (suc i) d within =
+    omega (arith, loop_depth-before s (statements_of statements), loop_depth-at statements i d (omega arith))
+
+-- ---- The blocks of a statement, below some loops
+
+module _ (outer : ℕ) (s : Statements) (place : ℕ) (e : Expression) (shallow : outer + loop_depth s ≤ DEEPEST_LOOPS) where
+  pub block_shallow : (block : Statements) → s ≡ If place e block Done → outer + loop_depth block ≤ DEEPEST_LOOPS
+  block_shallow block tree = let depth = ap loop_depth tree in omega arith
+
+  pub first_shallow : (block other : Statements) → s ≡ IfElse place e block other Done → outer + loop_depth block ≤ DEEPEST_LOOPS
+  first_shallow block other tree = let depth = ap loop_depth tree in omega arith
+
+  pub other_shallow : (block other : Statements) → s ≡ IfElse place e block other Done → outer + loop_depth other ≤ DEEPEST_LOOPS
+  other_shallow block other tree = let depth = ap loop_depth tree in omega arith
+
+pub loop_shallow : (outer : ℕ) (s : Statements) (place : ℕ) (v b : Name) (block : Statements) → outer + loop_depth s ≤ DEEPEST_LOOPS
+    → s ≡ For place v b block Done → suc outer + loop_depth block ≤ DEEPEST_LOOPS
+loop_shallow outer s place v b block shallow tree = let depth = ap loop_depth tree in omega arith

@@ -1,0 +1,118 @@
+//! The rules and the holds of an atomic model by the names of their phases.
+
+ghost use Rattle.std.specs.Prelude.{◌≡◌, ℕ, map, nat_eq, option_map, if◌then◌else◌, IfOk, OnOk};
+ghost use Rattle.std.specs.Option.{option_copied, option_or};
+ghost use Rattle.indexmap.specs.IndexMap.{get};
+ghost use Rattle.dv_syntax.specs.Trees.{atomic_of, hold_of, rule_of as tree_of, statements_of};
+ghost use Rattle.dv_syntax.specs.declared.tree.RuleSort.{RuleSort as DeclaredSort};
+ghost use Rattle.dv_eval.specs.Scope.{hold_ticks, rule_of, same_sort, ticks_found};
+ghost use Rattle.dv_gen.specs.Directories.{rule_found, rule_under, ticks_found_in, ticks_under};
+
+use dv_syntax::{Atomic, Hold, Rule, RuleSort, Stmt, Ticks};
+use indexmap::IndexMap;
+use std::alloc::{AllocError, Global};
+
+/// For the name of each phase its first rule of each sort, and its first hold. Each is found without
+/// a look at the others, so that all phases take a time linear in the model's text.
+#[derive(Drop)]
+pub struct Directory<'a> {
+    output: IndexMap<u32, &'a [Stmt]>,
+    internal: IndexMap<u32, &'a [Stmt]>,
+    external: IndexMap<u32, &'a [Stmt]>,
+    confluent: IndexMap<u32, &'a [Stmt]>,
+    holds: IndexMap<u32, &'a Ticks>,
+}
+
+impl<'a> Directory<'a> {
+    /// The rules and the holds of a model.
+    ///
+    /// # Errors
+    ///
+    /// No memory for the names.
+    pub fn of(alloc: Global, model: &'a Atomic) -> Result<Self, AllocError>
+        ensures rules { IfOk result (λ directory. (sort : DeclaredSort) (phase : ℕ)
+            → rule_found directory sort phase ≡ rule_of sort phase (atomic_of model.now).rules) }
+        ensures holds { IfOk result (λ directory. (phase : ℕ)
+            → ticks_found_in directory phase ≡ hold_ticks phase (atomic_of model.now).holds) }
+    {
+        Ok(Directory {
+            output: first_rules(alloc, RuleSort::Output, &model.rules)?,
+            internal: first_rules(alloc, RuleSort::Internal, &model.rules)?,
+            external: first_rules(alloc, RuleSort::External, &model.rules)?,
+            confluent: first_rules(alloc, RuleSort::Confluent, &model.rules)?,
+            holds: first_holds(alloc, &model.holds)?,
+        })
+    }
+
+    /// The statements of the first rule of a sort for a phase, if there is such a rule.
+    pub fn rule(&self, sort: RuleSort, phase: u32) -> Option<&'a [Stmt]>
+        ensures { option_map statements_of (option_copied result)
+            ≡ rule_found self.now sort phase }
+    {
+        let rules = match sort {
+            RuleSort::Output => &self.output,
+            RuleSort::Internal => &self.internal,
+            RuleSort::External => &self.external,
+            RuleSort::Confluent => &self.confluent,
+        };
+        rules.get(&phase).copied()
+    }
+
+    /// The ticks of the first hold of a phase, if it has one.
+    pub fn ticks(&self, phase: u32) -> Option<&'a Ticks>
+        ensures { ticks_found (option_copied result) ≡ ticks_found_in self.now phase }
+    {
+        self.holds.get(&phase).copied()
+    }
+}
+
+// The first rules of a sort.
+fn first_rules<'a>(
+    alloc: Global,
+    sort: RuleSort,
+    rules: &'a [Rule],
+) -> Result<IndexMap<u32, &'a [Stmt]>, AllocError>
+    ensures { IfOk result (λ first. (phase : ℕ)
+        → rule_under first phase ≡ rule_of sort phase (map tree_of rules.now)) }
+{
+    let mut first: IndexMap<u32, &'a [Stmt]> = IndexMap::new(alloc);
+    for rule in rules {
+        if is_of_sort(rule, sort) {
+            keep_first(&mut first, rule.phase.number, &rule.body.statements)?;
+        }
+    }
+    Ok(first)
+}
+
+fn is_of_sort(rule: &Rule, sort: RuleSort) -> bool
+    ensures { result ≡ same_sort rule.now.sort sort }
+{
+    rule.sort == sort
+}
+
+// The first holds.
+fn first_holds<'a>(alloc: Global, holds: &'a [Hold]) -> Result<IndexMap<u32, &'a Ticks>, AllocError>
+    ensures { IfOk result (λ first. (phase : ℕ)
+        → ticks_under first phase ≡ hold_ticks phase (map hold_of holds.now)) }
+{
+    let mut first: IndexMap<u32, &'a Ticks> = IndexMap::new(alloc);
+    for hold in holds {
+        keep_first(&mut first, hold.phase.number, &hold.ticks)?;
+    }
+    Ok(first)
+}
+
+// Adds a value, unless there is one for the number.
+fn keep_first<V: Drop>(
+    first: &mut IndexMap<u32, V>,
+    number: u32,
+    value: V,
+) -> Result<(), AllocError>
+    ensures { OnOk result ((q : ℕ) → get nat_eq first.new q
+        ≡ option_or (get nat_eq first.old q) (if nat_eq number q then Some value else None)) }
+{
+    if !first.contains_key(&number) {
+        first.insert(number, value)?;
+    }
+    Ok(())
+}

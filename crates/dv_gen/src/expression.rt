@@ -1,0 +1,226 @@
+//! The code of expressions.
+
+ghost use Rattle.std.specs.Prelude.{◌≡◌, ◌≤◌, List, length, IfOk, OnOk};
+ghost use Rattle.dv_code.specs.Known.{leaf_type, result_type, unary_type};
+ghost use Rattle.dv_code.specs.declared.instruction.Instruction.{Instruction};
+ghost use Rattle.dv_syntax.specs.Trees.{expression_of};
+ghost use Rattle.dv_gen.specs.Emission.{junction, loops_of, unary_of, with_expression};
+ghost use Rattle.dv_gen.specs.Resolution.{call_leaf, equal_of, infix_of, resolved, unequal_of};
+ghost use Rattle.dv_gen.specs.Resolved.{Expression, Prefix as Prefixed, Read, type_of};
+
+use crate::draft::Draft;
+use crate::loops::Loops;
+use crate::names::Names;
+use dv_bag::ValueType;
+use dv_code::{Binary, DEEPEST_LOOPS, Instruction, Leaf, Source, Unary};
+use dv_syntax::{BagCall, Expr, Operator, Prefix};
+use std::alloc::AllocError;
+
+/// What stands between the code of two operands, or behind both.
+#[derive(Clone, Copy)]
+pub enum Joint {
+    /// The second operand has its say where the first is true.
+    IfTrue,
+    /// The second operand has its say where the first is false.
+    IfFalse,
+    /// Both operands count.
+    Operation(Binary),
+}
+
+/// Writes the code of an expression, and says what type of value it leaves.
+///
+/// # Errors
+///
+/// No memory for the code, or more instructions than a program may have.
+#[cycle(expression)]
+pub fn emit_expression(
+    expression: &Expr,
+    names: &Names,
+    loops: &Loops,
+    draft: &mut Draft,
+) -> Result<ValueType, AllocError>
+    requires { length (loops_of loops.now) ≤ DEEPEST_LOOPS }
+    ensures code { OnOk result (draft.new ≡ with_expression draft.old
+        (resolved names.now (loops_of loops.now) (expression_of expression.now))) }
+    ensures value { IfOk result (λ type. type
+        ≡ type_of (resolved names.now (loops_of loops.now) (expression_of expression.now))) }
+{
+    match expression {
+        Expr::Literal(number) => emit_leaf(Leaf::Number(number.value.value()), draft),
+        Expr::TruthValue { value, .. } => emit_leaf(Leaf::Truth(*value), draft),
+        Expr::Named(name) => emit_leaf(names.leaf(name.number, loops), draft),
+        Expr::Parens { inner, .. } => emit_expression(inner, names, loops, draft),
+        Expr::Prefixed {
+            operator,
+            operand,
+            ..
+        } => {
+            emit_expression(operand, names, loops, draft)?;
+            emit_unary(unary_of(*operator), draft)
+        }
+        Expr::Binary {
+            operator,
+            left,
+            right,
+        } => {
+            let operand = emit_expression(left, names, loops, draft)?;
+            emit_second(joint_of(*operator, operand), right, names, loops, draft)
+        }
+        Expr::Call { call, bag, .. } => {
+            emit_leaf(call_leaf(*call, names.source(bag.number)), draft)
+        }
+        Expr::Elapsed { .. } => emit_leaf(Leaf::Elapsed, draft),
+        Expr::Times { value, bag, .. } => {
+            emit_expression(value, names, loops, draft)?;
+            emit_unary(Unary::Times(names.source(bag.number)), draft)
+        }
+    }
+}
+
+// Writes what joins the operand whose code stands last to a second one, and the code of that.
+#[cycle(expression)]
+fn emit_second(
+    joint: Joint,
+    right: &Expr,
+    names: &Names,
+    loops: &Loops,
+    draft: &mut Draft,
+) -> Result<ValueType, AllocError>
+    requires { length (loops_of loops.now) ≤ DEEPEST_LOOPS }
+    ensures code { OnOk result ((before : List Instruction) (left : Expression)
+        → draft.old ≡ with_expression before left
+        → draft.new ≡ with_expression before (junction joint left
+        (resolved names.now (loops_of loops.now) (expression_of right.now)))) }
+    ensures value { IfOk result (λ type. (left right : Expression)
+        → type ≡ type_of (junction joint left right)) }
+{
+    // Where a jump past the second operand leads is known behind it: until then it leads to itself.
+    let jump = draft.place();
+    match joint {
+        Joint::IfTrue => {
+            draft.push(Instruction::FalseKeep(jump))?;
+            emit_expression(right, names, loops, draft)?;
+            draft.replace(jump, Instruction::FalseKeep(draft.place()));
+            Ok(ValueType::Truth)
+        }
+        Joint::IfFalse => {
+            draft.push(Instruction::TrueKeep(jump))?;
+            emit_expression(right, names, loops, draft)?;
+            draft.replace(jump, Instruction::TrueKeep(draft.place()));
+            Ok(ValueType::Truth)
+        }
+        Joint::Operation(operation) => {
+            emit_expression(right, names, loops, draft)?;
+            draft.push(Instruction::Combine(operation))?;
+            Ok(result_type(operation))
+        }
+    }
+}
+
+fn emit_leaf(leaf: Leaf, draft: &mut Draft) -> Result<ValueType, AllocError>
+    ensures code { OnOk result (draft.new ≡ with_expression draft.old (Read leaf)) }
+    ensures value { IfOk result (λ type. type ≡ leaf_type leaf) }
+{
+    draft.push(Instruction::Push(leaf))?;
+    Ok(leaf_type(leaf))
+}
+
+// Writes an operator behind the operand whose code stands last.
+fn emit_unary(unary: Unary, draft: &mut Draft) -> Result<ValueType, AllocError>
+    ensures code { OnOk result ((before : List Instruction) (operand : Expression)
+        → draft.old ≡ with_expression before operand
+        → draft.new ≡ with_expression before (Prefixed unary operand)) }
+    ensures value { IfOk result (λ type. type ≡ unary_type unary) }
+{
+    draft.push(Instruction::Apply(unary))?;
+    Ok(unary_type(unary))
+}
+
+fn unary_of(prefix: Prefix) -> Unary
+    ensures { result ≡ unary_of prefix }
+{
+    match prefix {
+        Prefix::Minus => Unary::Negate,
+        Prefix::Not => Unary::Not,
+    }
+}
+
+// What joins operands of which the first is of this type.
+fn joint_of(operator: Operator, operand: ValueType) -> Joint
+    ensures { (left right : Expression) → operand ≡ type_of left
+        → junction result left right ≡ infix_of operator left right }
+{
+    match operator {
+        Operator::Or => Joint::IfFalse,
+        Operator::And => Joint::IfTrue,
+        Operator::Add => Joint::Operation(Binary::Add),
+        Operator::Subtract => Joint::Operation(Binary::Subtract),
+        Operator::Multiply => Joint::Operation(Binary::Multiply),
+        Operator::Divide => Joint::Operation(Binary::Divide),
+        Operator::Remainder => Joint::Operation(Binary::Remainder),
+        Operator::Equal => Joint::Operation(equal_of(operand)),
+        Operator::Unequal => Joint::Operation(unequal_of(operand)),
+        Operator::Less => Joint::Operation(Binary::Less),
+        Operator::AtMost => Joint::Operation(Binary::AtMost),
+        Operator::Greater => Joint::Operation(Binary::Greater),
+        Operator::AtLeast => Joint::Operation(Binary::AtLeast),
+    }
+}
+
+fn equal_of(operand: ValueType) -> Binary
+    ensures { result ≡ equal_of operand }
+{
+    match operand {
+        ValueType::Number => Binary::Equal,
+        ValueType::Truth => Binary::Same,
+    }
+}
+
+fn unequal_of(operand: ValueType) -> Binary
+    ensures { result ≡ unequal_of operand }
+{
+    match operand {
+        ValueType::Number => Binary::Unequal,
+        ValueType::Truth => Binary::Different,
+    }
+}
+
+fn call_leaf(call: BagCall, source: Source) -> Leaf
+    ensures { result ≡ call_leaf call source }
+{
+    match call {
+        BagCall::Size => Leaf::Size(source),
+        BagCall::Sum => Leaf::Sum(source),
+        BagCall::Least => Leaf::Least(source),
+        BagCall::Most => Leaf::Most(source),
+    }
+}
+
+// The type of a leaf's value.
+fn leaf_type(leaf: Leaf) -> ValueType
+    ensures { result ≡ leaf_type leaf }
+{
+    match leaf {
+        Leaf::Truth(_) | Leaf::Flag(_) => ValueType::Truth,
+        _ => ValueType::Number,
+    }
+}
+
+fn unary_type(unary: Unary) -> ValueType
+    ensures { result ≡ unary_type unary }
+{
+    match unary {
+        Unary::Not => ValueType::Truth,
+        Unary::Negate | Unary::Times(_) => ValueType::Number,
+    }
+}
+
+fn result_type(operation: Binary) -> ValueType
+    ensures { result ≡ result_type operation }
+{
+    match operation {
+        Binary::Add | Binary::Subtract | Binary::Multiply | Binary::Divide | Binary::Remainder =>
+            ValueType::Number,
+        _ => ValueType::Truth,
+    }
+}

@@ -1,0 +1,240 @@
+//! The code of statements.
+
+ghost use Rattle.std.specs.Prelude.{◌≡◌, ◌+◌, ◌<◌, ◌≤◌, length, IfOk, OnOk};
+ghost use Rattle.dv_syntax.specs.Grammar.{loop_depth};
+ghost use Rattle.dv_syntax.specs.Trees.{Done, Statements as NamedStatements, expression_of, statement_before, statements_of};
+ghost use Rattle.dv_gen.specs.Emission.{loops_of, with_branch, with_statements};
+ghost use Rattle.dv_gen.specs.Resolution.{all_resolved, resolved};
+ghost use Rattle.dv_gen.specs.Resolved.{Act, For, If as Choice, Statements, When};
+
+use crate::draft::Draft;
+use crate::expression::emit_expression;
+use crate::loops::Loops;
+use crate::names::Names;
+use dv_code::{Action, DEEPEST_LOOPS, Instruction, Source};
+use dv_syntax::laws::trees_keep_blocks;
+use dv_syntax::{Expr, Stmt};
+use std::alloc::AllocError;
+
+/// Writes the code of statements, one after the other.
+///
+/// # Errors
+///
+/// No memory for the code, or more instructions than a program may have.
+#[cycle(statements)]
+pub fn emit_statements(
+    statements: &[Stmt],
+    names: &Names,
+    loops: &Loops,
+    draft: &mut Draft,
+) -> Result<(), AllocError>
+    requires { length (loops_of loops.now) + loop_depth (statements_of statements.now)
+        ≤ DEEPEST_LOOPS }
+    ensures { OnOk result (draft.new ≡ with_statements draft.old
+        (all_resolved names.now (loops_of loops.now) (statements_of statements.now))) }
+{
+    for statement in statements {
+        emit_statement(statement, names, loops, draft)?;
+    }
+    Ok(())
+}
+
+#[cycle(statements)]
+fn emit_statement(
+    statement: &Stmt,
+    names: &Names,
+    loops: &Loops,
+    draft: &mut Draft,
+) -> Result<(), AllocError>
+    requires { length (loops_of loops.now) + loop_depth (statement_before statement.now Done)
+        ≤ DEEPEST_LOOPS }
+    ensures { OnOk result ((rest : NamedStatements)
+        → with_statements draft.new (all_resolved names.now (loops_of loops.now) rest)
+        ≡ with_statements draft.old (all_resolved names.now (loops_of loops.now)
+        (statement_before statement.now rest))) }
+{
+    trees_keep_blocks();
+    match statement {
+        Stmt::Assign { variable, value } => {
+            emit_action(
+                names.assignment(variable.number),
+                value,
+                names,
+                loops,
+                draft,
+            )?;
+        }
+        Stmt::Goto { phase, .. } => {
+            draft.push(Instruction::Go(names.phase(phase.number)))?;
+        }
+        Stmt::Send { port, value, .. } => {
+            let action = Action::Send(names.output(port.number));
+            emit_action(action, value, names, loops, draft)?;
+        }
+        Stmt::If {
+            condition,
+            then_block,
+            ..
+        } => {
+            emit_when(&then_block.statements, condition, names, loops, draft)?;
+        }
+        Stmt::IfElse {
+            condition,
+            then_block,
+            else_block,
+            ..
+        } => {
+            let first: &[Stmt] = &then_block.statements;
+            let other: &[Stmt] = &else_block.statements;
+            if other.is_empty() {
+                emit_when(first, condition, names, loops, draft)?;
+            } else {
+                let jump = emit_first_block(first, condition, names, loops, draft)?;
+                emit_other_block(other, jump, names, loops, draft)?;
+            }
+        }
+        Stmt::For {
+            variable,
+            bag,
+            block,
+            ..
+        } => {
+            let inner = Loops::Within {
+                variable: variable.number,
+                outer: &*loops,
+            };
+            emit_loop(
+                &block.statements,
+                names.source(bag.number),
+                names,
+                &inner,
+                draft,
+            )?;
+        }
+        Stmt::Add { value, bag, .. } => {
+            let action = Action::AddTo(names.slot(bag.number));
+            emit_action(action, value, names, loops, draft)?;
+        }
+        Stmt::Drop { value, bag, .. } => {
+            let action = Action::DropFrom(names.slot(bag.number));
+            emit_action(action, value, names, loops, draft)?;
+        }
+    }
+    Ok(())
+}
+
+// Writes a block that is done where a condition holds.
+#[cycle(statements)]
+fn emit_when(
+    block: &[Stmt],
+    condition: &Expr,
+    names: &Names,
+    loops: &Loops,
+    draft: &mut Draft,
+) -> Result<(), AllocError>
+    requires { length (loops_of loops.now) + loop_depth (statements_of block.now)
+        ≤ DEEPEST_LOOPS }
+    ensures { OnOk result ((rest : Statements) → with_statements draft.new rest
+        ≡ with_statements draft.old (When
+        (resolved names.now (loops_of loops.now) (expression_of condition.now))
+        (all_resolved names.now (loops_of loops.now) (statements_of block.now)) rest)) }
+{
+    emit_expression(condition, names, loops, draft)?;
+    // Where the jump leads is known behind the block: until then it leads to itself.
+    let test = draft.place();
+    draft.push(Instruction::JumpFalse(test))?;
+    emit_statements(block, names, loops, draft)?;
+    draft.replace(test, Instruction::JumpFalse(draft.place()));
+    Ok(())
+}
+
+// Writes the first of two blocks, which is done where a condition holds, and gives the place of the
+// jump past the other one, whose aim is not known yet.
+#[cycle(statements)]
+fn emit_first_block(
+    block: &[Stmt],
+    condition: &Expr,
+    names: &Names,
+    loops: &Loops,
+    draft: &mut Draft,
+) -> Result<u32, AllocError>
+    requires { length (loops_of loops.now) + loop_depth (statements_of block.now)
+        ≤ DEEPEST_LOOPS }
+    ensures within { IfOk result (λ jump. jump < length draft.new) }
+    ensures code { IfOk result (λ jump. (other rest : Statements)
+        → with_statements (with_branch draft.new jump other) rest
+        ≡ with_statements draft.old (Choice
+        (resolved names.now (loops_of loops.now) (expression_of condition.now))
+        (all_resolved names.now (loops_of loops.now) (statements_of block.now)) other rest)) }
+{
+    emit_expression(condition, names, loops, draft)?;
+    let test = draft.place();
+    draft.push(Instruction::JumpFalse(test))?;
+    emit_statements(block, names, loops, draft)?;
+    let jump = draft.place();
+    draft.push(Instruction::Jump(jump))?;
+    draft.replace(test, Instruction::JumpFalse(draft.place()));
+    Ok(jump)
+}
+
+// Writes the other of two blocks, past which the jump at a place leads.
+#[cycle(statements)]
+fn emit_other_block(
+    block: &[Stmt],
+    jump: u32,
+    names: &Names,
+    loops: &Loops,
+    draft: &mut Draft,
+) -> Result<(), AllocError>
+    requires depth { length (loops_of loops.now) + loop_depth (statements_of block.now)
+        ≤ DEEPEST_LOOPS }
+    requires within { jump < length draft.old }
+    ensures { OnOk result (draft.new ≡ with_branch draft.old jump
+        (all_resolved names.now (loops_of loops.now) (statements_of block.now))) }
+{
+    emit_statements(block, names, loops, draft)?;
+    draft.replace(jump, Instruction::Jump(draft.place()));
+    Ok(())
+}
+
+// Writes a loop over the values of a bag, whose own variable is the innermost of the loops.
+#[cycle(statements)]
+fn emit_loop(
+    block: &[Stmt],
+    bag: Source,
+    names: &Names,
+    loops: &Loops,
+    draft: &mut Draft,
+) -> Result<(), AllocError>
+    requires { length (loops_of loops.now) + loop_depth (statements_of block.now)
+        ≤ DEEPEST_LOOPS }
+    ensures { OnOk result ((rest : Statements) → with_statements draft.new rest
+        ≡ with_statements draft.old (For bag
+        (all_resolved names.now (loops_of loops.now) (statements_of block.now)) rest)) }
+{
+    let entry = draft.place();
+    draft.push(Instruction::Loop(bag, entry))?;
+    let first = draft.place();
+    emit_statements(block, names, loops, draft)?;
+    draft.push(Instruction::Next(first))?;
+    draft.replace(entry, Instruction::Loop(bag, draft.place()));
+    Ok(())
+}
+
+// Writes an action with the value of an expression.
+fn emit_action(
+    action: Action,
+    value: &Expr,
+    names: &Names,
+    loops: &Loops,
+    draft: &mut Draft,
+) -> Result<(), AllocError>
+    requires { length (loops_of loops.now) ≤ DEEPEST_LOOPS }
+    ensures { OnOk result ((rest : Statements) → with_statements draft.new rest
+        ≡ with_statements draft.old
+        (Act action (resolved names.now (loops_of loops.now) (expression_of value.now)) rest)) }
+{
+    emit_expression(value, names, loops, draft)?;
+    draft.push(Instruction::Perform(action))?;
+    Ok(())
+}
