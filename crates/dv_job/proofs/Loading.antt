@@ -10,7 +10,11 @@ use Rattle.dv_syntax.specs.Trees.{FileTree}
 use Rattle.dv_syntax.specs.Grammar.{IsFileOf}
 use Rattle.dv_parser.specs.Reading.{refusal_of_tokens, IsRefused as AreRefused}
 use Rattle.dv_check.specs.Refusals.{IsAnswerTo, refusal_of}
-use Rattle.dv_job.specs.Job.{HasAnswer, HasModel, HasNoFile, IsAnswer, IsModelOf, IsRefusedFile, IsRefusedText}
+use Rattle.std.specs.Option.{option_or}
+use Rattle.dv_flat.specs.Limit.{IsLinkAnswer, file_refusal, link_refusal}
+use Rattle.dv_job.specs.Job.{HasAnswer, HasModel, HasNoFile, IsAnswer, IsCheckedFileOf, IsModelOf, IsRefusedFile, IsRefusedText}
+use Rattle.dv_job.specs.Ending.{AnswersWith}
+use Rattle.dv_job.specs.Errors.{job_error_of_load}
 use Rattle.dv_job.specs.Loading.{IsUnloaded}
 
 -- a text without tokens is not loaded
@@ -25,12 +29,38 @@ pub unparsed : (e : LoadError) (text : List ℕ) (names : List (List ℕ)) (toke
 unparsed (Refused r) text names tokens lexed unread = inr (inl (record { names = names; tokens = tokens; lexed = lexed; unread = unread }))
 unparsed Memory text names tokens lexed unread = tt
 
+-- the refusal of a file that breaks a rule, and of one that has too many links
+broken : (o links : Option Refusal) (r : Refusal) → o ≡ Some r → option_or o links ≡ Some r
+broken None links r is = let none : None ≡ Some r = is in cc
+broken (Some s) links r is = is
+
+linked : (o links : Option Refusal) → o ≡ None → option_or o links ≡ links
+linked None links is = refl
+linked (Some s) links is = let none : Some s ≡ None = is in cc
+
 -- nor one whose file is refused
 pub unchecked : (e : LoadError) (text : List ℕ) (names : List (List ℕ)) (tokens : List Token) (f : FileTree) →
     IsTokensOf text names tokens → IsFileOf tokens f → IsAnswerTo f e → IsUnloaded e text
 unchecked (Refused r) text names tokens f lexed parsed refused =
-    inr (inr (record { names = names; tokens = tokens; file = f; lexed = lexed; parsed = parsed; refused = refused }))
+    inr (inr (record { names = names; tokens = tokens; file = f; lexed = lexed; parsed = parsed; refused = broken (refusal_of f) (link_refusal f) r refused }))
 unchecked Memory text names tokens f lexed parsed refused = tt
+
+-- nor one that has too many links
+pub crowded : (e : LoadError) (text : List ℕ) (names : List (List ℕ)) (f : FileTree) → IsCheckedFileOf text names f →
+    IsLinkAnswer f e → IsUnloaded e text
+crowded (Refused r) text names f c refused =
+    inr (inr (record { names = names; tokens = c.tokens; file = f; lexed = c.lexed; parsed = c.parsed; refused = linked (refusal_of f) (link_refusal f) c.checked ∙ refused }))
+crowded Memory text names f c refused = tt
+
+-- the error of a text that is not loaded is its answer, or want of memory
+pub answered : (e : LoadError) (text : List ℕ) → IsUnloaded e text → AnswersWith text (job_error_of_load text e)
+answered (Refused r) text refused = record { refusal = r; refused = refused; answer = refl }
+answered Memory text refused = tt
+
+-- one that has few enough is accepted
+pub accepted : (text : List ℕ) (names : List (List ℕ)) (f : FileTree) → IsCheckedFileOf text names f → link_refusal f ≡ None →
+    IsModelOf text names f
+accepted text names f c few = record { tokens = c.tokens; lexed = c.lexed; parsed = c.parsed; accepted = linked (refusal_of f) (link_refusal f) c.checked ∙ few }
 
 -- ---- One answer, by the laws of tokens and of files
 
@@ -83,8 +113,8 @@ module _ (tokens_law : TokenLaws) (files_law : FileLaws) where
 
   one_refused : (text : List ℕ) (r other : Refusal) → IsRefusedFile text r → IsRefusedFile text other → r ≡ other
   one_refused text r other one two =
-      same_in_option (refusal_of one.file) r other one.refused
-      (subst (λ (f : FileTree). refusal_of f ≡ Some other)
+      same_in_option (file_refusal one.file) r other one.refused
+      (subst (λ (f : FileTree). file_refusal f ≡ Some other)
       (sym (same_file text one.names two.names one.tokens two.tokens one.file two.file one.lexed one.parsed two.lexed two.parsed)) two.refused)
 
   one_later : (text : List ℕ) (r other : Refusal) → HasNoFile text r ⊎ IsRefusedFile text r →
@@ -122,8 +152,8 @@ module _ (tokens_law : TokenLaws) (files_law : FileLaws) where
   model_and_refusal text names f r m (inr (inl two)) =
       no_file_and_file text two.names names two.tokens m.tokens f r two.lexed two.unread m.lexed m.parsed
   model_and_refusal text names f r m (inr (inr two)) =
-      none_or_some (refusal_of f) r m.accepted
-      (subst (λ (g : FileTree). refusal_of g ≡ Some r)
+      none_or_some (file_refusal f) r m.accepted
+      (subst (λ (g : FileTree). file_refusal g ≡ Some r)
       (same_file text two.names names two.tokens m.tokens two.file f two.lexed two.parsed m.lexed m.parsed) two.refused)
 
   pub not_both : (text : List ℕ) (names : List (List ℕ)) (f : FileTree) (e : TextError) → IsModelOf text names f → ¬ IsAnswer text e
@@ -132,7 +162,7 @@ module _ (tokens_law : TokenLaws) (files_law : FileLaws) where
   refused_so : (text : List ℕ) (r : Refusal) → IsRefusedText text r → HasAnswer text
   refused_so text r refused = (answer_to text r, record { refusal = r; refused = refused; answer = refl })
 
-  of_file : (text : List ℕ) (names : List (List ℕ)) (tokens : List Token) (f : FileTree) (o : Option Refusal) → refusal_of f ≡ o →
+  of_file : (text : List ℕ) (names : List (List ℕ)) (tokens : List Token) (f : FileTree) (o : Option Refusal) → file_refusal f ≡ o →
       IsTokensOf text names tokens → IsFileOf tokens f → HasModel text ⊎ HasAnswer text
   of_file text names tokens f None is lexed parsed =
       inl (names, f, record { tokens = tokens; lexed = lexed; parsed = parsed; accepted = is })
@@ -142,7 +172,7 @@ module _ (tokens_law : TokenLaws) (files_law : FileLaws) where
 
   of_tokens : (text : List ℕ) (names : List (List ℕ)) (tokens : List Token) → IsTokensOf text names tokens → HasModel text ⊎ HasAnswer text
   of_tokens text names tokens lexed = elim (files_law.some tokens (length text)) [
-    | inl file ↦ of_file text names tokens file.0 (refusal_of file.0) refl lexed file.1
+    | inl file ↦ of_file text names tokens file.0 (file_refusal file.0) refl lexed file.1
     | inr refused ↦ inr (refused_so text refused.0
         (inr (inl (record { names = names; tokens = tokens; lexed = lexed; unread = refused.1 }))))
   ]

@@ -1,5 +1,5 @@
 -- From what the crates below say to what a run of bytes leaves.
-use Rattle.std.proofs.Common.{◌≡◌, ℕ, List, Option, Some, None, Result, Ok, Err, refl, ap, ◌∙◌, sym, subst, inl, inr}
+use Rattle.std.proofs.Common.{◌≡◌, ℕ, List, Option, Some, None, Result, Ok, Err, refl, ap, ◌∙◌, subst, inl, inr}
 use Rattle.std.specs.Io.KnownBytes.{Appends, Keeps}
 use Rattle.dv_time.specs.Time.{end_of}
 use Rattle.dv_lex.specs.declared.error.LoadError.{LoadError}
@@ -7,7 +7,6 @@ use Rattle.dv_lex.specs.declared.error.LoadError.TheVariants as load
 use Rattle.dv_bag.specs.Bag.{Counts}
 use Rattle.dv_bag.specs.Part.{PartOf}
 use Rattle.dv_devs.specs.Network.{Network, trace_before}
-use Rattle.dv_syntax.specs.declared.tree.File.{File}
 use Rattle.dv_syntax.specs.Trees.{file_of}
 use Rattle.dv_bag.specs.declared.inputs.Input.{Input}
 use Rattle.dv_inputs.specs.Reading.{reading_of}
@@ -36,21 +35,10 @@ AreInstants =
     (horizon : ℕ) → text_of all outputs (trace_before limit net inputs (end_of limit horizon)) (Horizon horizon)
     ≡ whole_text all outputs limit net inputs horizon
 
--- the tree of a text has the text's model
-pub model_of_tree : (text : List ℕ) (names : List (List ℕ)) (file : File) (tree : Source) → IsModelOf text names (file_of file) →
-    (tree.file ≡ file) × (tree.names ≡ names) → IsModelOf text tree.names (file_of tree.file)
-model_of_tree text names file tree m same =
-    subst (λ (n : List (List ℕ)). IsModelOf text n (file_of tree.file)) (sym same.1)
-    (subst (λ (f : File). IsModelOf text names (file_of f)) (sym same.0) m)
-
 -- a model and its inputs, both read
-pub job_of_tree : (text inputs : List ℕ) (names : List (List ℕ)) (file : File) (tree : Source) (played : List Input)
-    → IsModelOf text names (file_of file) → (tree.file ≡ file) × (tree.names ≡ names)
+pub job_of_tree : (text inputs : List ℕ) (tree : Source) (played : List Input) → IsModelOf text tree.names (file_of tree.file)
     → reading_of inputs (tree_inputs tree) ≡ Ok played → IsJob text inputs tree.names (file_of tree.file) played
-job_of_tree text inputs names file tree played m same read = record {
-  accepted = model_of_tree text names file tree m same;
-  read = read;
-}
+job_of_tree text inputs tree played m read = record { accepted = m; read = read }
 
 -- what is written of a trace is the text of the run
 text_of_run : (tree : Source) (played : List Input) (h l : ℕ) (trace : PartOf) → AreInstants
@@ -107,17 +95,17 @@ kept None = tt
 kept (Some bytes) = refl
 
 -- inputs that were not read
-pub left_by_inputs : (e : InputsError) (text inputs : List ℕ) (h l : ℕ) (old : Option (List ℕ)) (names : List (List ℕ)) (file : File)
-    (tree : Source) → IsModelOf text names (file_of file) → (tree.file ≡ file) × (tree.names ≡ names)
+pub left_by_inputs : (e : InputsError) (text inputs : List ℕ) (h l : ℕ) (old : Option (List ℕ)) (tree : Source)
+    → IsModelOf text tree.names (file_of tree.file)
     → ((r : InputRefusal) → ◌≡◌ {A = Result (List Input) InputsError} (Err e) (Err (input.Refused r))
     → reading_of inputs (tree_inputs tree) ≡ Err r) → LeftBy (job_error_of_inputs e) text inputs h l old old
-left_by_inputs (input.Refused r) text inputs h l old names file tree m same refused = (
+left_by_inputs (input.Refused r) text inputs h l old tree m refused = (
   record {
     names = tree.names;
     file = file_of tree.file;
-    accepted = model_of_tree text names file tree m same;
+    accepted = m;
     refused = refused r refl;
   },
   kept old,
 )
-left_by_inputs input.Memory text inputs h l old names file tree m same refused = inl (kept old)
+left_by_inputs input.Memory text inputs h l old tree m refused = inl (kept old)

@@ -4,7 +4,7 @@ ghost use Rattle.std.specs.Prelude.{IfOk, IfErr};
 ghost use Rattle.dv_job.specs.Ending.{AnswersWith, HasComponents};
 
 use crate::ended::JobError;
-use crate::load::{load, unloaded};
+use crate::load::{load, load_links, unloaded};
 use dv_tree::Tree;
 use std::alloc::Global;
 
@@ -22,5 +22,6 @@ pub fn check_bytes(alloc: Global, model: &[u8]) -> Result<u32, JobError>
         Err(error) => return Err(unloaded(model, error)),
     };
     let tree = Tree::of(alloc, &checked)?;
+    load_links(alloc, model, &tree)?;
     Ok(tree.component_count() as u32)
 }

@@ -3,27 +3,46 @@
 ghost use Rattle.std.specs.Prelude.{◌≡◌, IfOk, IfErr, Ok, Err};
 ghost use Rattle.dv_syntax.specs.Trees.{file_of};
 ghost use Rattle.dv_job.specs.Errors.{job_error_of_load};
-ghost use Rattle.dv_job.specs.Job.{IsModelOf};
+ghost use Rattle.dv_job.specs.Ending.{AnswersWith};
+ghost use Rattle.dv_job.specs.Job.{IsCheckedFileOf, IsModelOf};
 ghost use Rattle.dv_inputs.specs.Reading.{reading_of};
 ghost use Rattle.dv_job.specs.Loading.{IsUnloaded, tree_inputs};
 
 use crate::ended::JobError;
 use dv_bag::Inputs;
 use dv_check::{Checked, check};
+use dv_flat::{Flat, flatten};
 use dv_inputs::{InputRefusal, InputsError, read_inputs};
 use dv_lex::{LoadError, answer, tokens};
 use dv_parser::parse;
 use dv_tree::Tree;
 use std::alloc::Global;
 
-/// The checked text of these bytes.
+/// The checked text of these bytes, whose links are still to be counted.
 pub fn load(alloc: Global, text: &[u8]) -> Result<Checked, LoadError>
-    ensures model { IfOk result (λ c. IsModelOf text.now c.names (file_of c.file)) }
+    ensures checked { IfOk result (λ c. IsCheckedFileOf text.now c.names (file_of c.file)) }
     ensures refused { IfErr result (λ e. IsUnloaded e text.now) }
 {
     let lexed = tokens(alloc, text)?;
     let file = parse(alloc, &lexed.tokens, text.len() as u32)?;
     check(alloc, file, lexed.names)
+}
+
+/// The links of the tree of a checked text. With them the text is accepted.
+///
+/// # Errors
+///
+/// `Text` is E17, where there are too many. `Memory`: no memory for the links.
+pub fn load_links(alloc: Global, text: &[u8], tree: &Tree) -> Result<Flat, JobError>
+    requires checked { IsCheckedFileOf text.now tree.now.names (file_of tree.now.file) }
+    ensures accepted { IfOk result
+        (λ _. IsModelOf text.now tree.now.names (file_of tree.now.file)) }
+    ensures refused { IfErr result (AnswersWith text.now) }
+{
+    match flatten(alloc, tree) {
+        Ok(flat) => Ok(flat),
+        Err(error) => Err(unloaded(text, error)),
+    }
 }
 
 /// The inputs that a text says to the root of a tree.

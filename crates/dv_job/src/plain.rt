@@ -6,7 +6,7 @@ ghost use Rattle.dv_bag.specs.declared.entry.Entry.{Entry};
 ghost use Rattle.dv_job.specs.Ending.{LeftBy, PrintsTrace, ending_of, is_fault};
 
 use crate::ended::{JobEnded, JobError};
-use crate::load::{load, load_inputs, unloaded};
+use crate::load::{load, load_inputs, load_links, unloaded};
 use crate::options::Options;
 use dv_bag::{Bags, Entry, Trace, What};
 use dv_plain::resultant_run;
@@ -42,6 +42,7 @@ pub fn run_plain<W: Write>(
         Err(error) => return Err(unloaded(model, error)),
     };
     let tree = Tree::of(alloc, &checked)?;
+    load_links(alloc, model, &tree)?;
     let played = load_inputs(alloc, inputs, &tree)?;
     let trace = resultant_run(alloc, &tree, &played, options.horizon, options.limit)?;
     write_trace(

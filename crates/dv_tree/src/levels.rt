@@ -21,7 +21,7 @@ use std::marker::Model;
 /// The table of a coupled model: its parts, the number of its outputs and of the inputs of each part, and its links by
 /// where they begin.
 #[derive(Drop)]
-pub(crate) struct Level {
+pub struct Level {
     parts: Vec<Entry>,
     outputs: usize,
     inputs: Vec<usize>,
@@ -42,21 +42,28 @@ impl Model for Level {
 
 impl Level {
     /// The parts in the order of the text.
-    pub(crate) fn parts(&self) -> &[Entry]
+    pub fn parts(&self) -> &[Entry]
         ensures { result.now ≡ self.now.parts }
     {
         &self.parts
     }
 
+    /// The number of output ports of the model itself.
+    pub fn output_count(&self) -> usize
+        ensures { result ≡ self.now.outputs }
+    {
+        self.outputs
+    }
+
     /// The couplings from the inputs of the model itself.
-    pub(crate) fn couplings_of_inputs(&self) -> &[Coupling]
+    pub fn couplings_of_inputs(&self) -> &[Coupling]
         ensures { result.now ≡ self.now.of_inputs }
     {
         &self.of_inputs
     }
 
     /// The couplings from the outputs of a part. Past the last part there are none.
-    pub(crate) fn couplings_of_part(&self, part: usize) -> &[Coupling]
+    pub fn couplings_of_part(&self, part: usize) -> &[Coupling]
         ensures { result.now ≡ slice_index_or self.now.of_parts part [] }
     {
         match self.of_parts.get(part) {
@@ -278,7 +285,7 @@ pub(crate) fn levels(
 }
 
 /// The table of the model at a place, where that is a coupled one.
-pub(crate) fn level_at(levels: &[Option<Level>], place: usize) -> Option<&Level>
+pub fn level_at(levels: &[Option<Level>], place: usize) -> Option<&Level>
     ensures { option_copied result ≡ level_at levels.now place }
 {
     match levels.get(place) {

@@ -23,4 +23,6 @@ mod tables;
 pub mod tree;
 
 pub use couplings::{Coupling, Target};
+pub use entries::Entry;
+pub use levels::{Level, level_at};
 pub use tree::{Routed, Tree};

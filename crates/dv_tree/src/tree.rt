@@ -8,7 +8,7 @@ ghost use Rattle.dv_tree.specs.Instances.{instances, root_inputs, root_outputs};
 ghost use Rattle.dv_tree.specs.Nodes.{components_of_root, root_leaving, root_level, root_received};
 ghost use Rattle.dv_tree.specs.Paths.{name_at, texts_of, with_dots};
 ghost use Rattle.dv_tree.specs.Routing.{arrives, leaves};
-ghost use Rattle.dv_tree.specs.Tables.{levels_of, model_names, scope_of_model};
+ghost use Rattle.dv_tree.specs.Tables.{levels_of, model_names, root_table, scope_of_model, scopes_of};
 
 use crate::components::{Component, add_components, name_at};
 use crate::levels::{Level, level_at, levels};
@@ -22,7 +22,7 @@ use dv_check::laws::accepted_files;
 use dv_check::{Checked, GREATEST_COMPONENTS, GREATEST_DEPTH, GREATEST_NAMES};
 use dv_eval::Scope;
 use dv_lex::Names;
-use dv_syntax::{Atomic, Model as ModelItem};
+use dv_syntax::{Atomic, File, Model as ModelItem};
 use std::alloc::{AllocError, Global};
 use std::marker::Model;
 
@@ -90,6 +90,34 @@ impl<'c> Tree<'c> {
         })
     }
 
+    /// The text, as it was parsed.
+    pub fn file(&self) -> &File
+        ensures { result.now ≡ self.now.file }
+    {
+        &self.checked.file
+    }
+
+    /// The tables of the coupled models, by the places of the models; an atomic model has none.
+    pub fn levels(&self) -> &[Option<Level>]
+        ensures { result.now ≡ levels_of (file_of self.now.file).models }
+    {
+        &self.levels
+    }
+
+    /// What each model declares, by the places of the models; a coupled model declares nothing here.
+    pub fn scopes(&self) -> &[Scope]
+        ensures { result.now ≡ scopes_of (file_of self.now.file) }
+    {
+        &self.scopes
+    }
+
+    /// The table of the root, where that is a coupled model.
+    pub fn root_level(&self) -> Option<&Level>
+        ensures { option_copied result ≡ root_table (file_of self.now.file) }
+    {
+        root_level(&self.levels, self.root)
+    }
+
     /// The number of components.
     pub fn component_count(&self) -> usize
         ensures value { result ≡ length (instances (file_of self.now.file)) }
@@ -138,10 +166,19 @@ impl<'c> Tree<'c> {
         name_at(&self.checked.names, number)
     }
 
+    /// The place of the root's name in the text.
+    pub fn root_place(&self) -> u32
+        ensures { result ≡ (file_of self.now.file).root.place }
+    {
+        self.checked.file.root.place
+    }
+
     /// The number of input ports of the root.
     pub fn input_count(&self) -> usize
-        ensures { result ≡ length (root_inputs (file_of self.now.file)) }
+        ensures value { result ≡ length (root_inputs (file_of self.now.file)) }
+        ensures at_most { result ≤ GREATEST_NAMES }
     {
+        accepted_files();
         self.inputs.len()
     }
 

@@ -1,4 +1,4 @@
-use Rattle.dv_tree.proofs.Quiet.{each_receives}
+use Rattle.dv_tree.proofs.Received.{each_receives}
 use Rattle.dv_tree.proofs.laws.each_component_receives.Goals as goal
 
 pub returns : goal.returns

@@ -1,0 +1,109 @@
+-- The loops over the parts of a coupled model, part by part.
+use Rattle.std.proofs.Common.{◌≡◌, ℕ, zero, suc, ◌+◌, ◌-◌, ◌^◌, ◌<◌, ◌≤◌, min, List, [], ◌∷◌, ◌++◌, length, map, get_or, drop, refl, ap, sym, ◌∙◌, add-one, arith}
+use Rattle.std.specs.List.{fold, sum_by}
+use Rattle.std.specs.Prelude.{Option, None}
+use Rattle.std.proofs.lemmas.List.{append_assoc, at_drop_more, drop_all, get_or-map, length-map}
+use Rattle.std.proofs.lemmas.List.Sums.{sum_by-cons}
+use Rattle.dv_syntax.specs.Trees.{ModelTree, model_of}
+use Rattle.dv_syntax.specs.declared.tree.Model.{Model}
+use Rattle.dv_eval.specs.Scope.{Scope}
+use Rattle.dv_bag.specs.Bag.{capped}
+use Rattle.dv_flat.specs.Ways.{WayCounts, crossing_ways, joined_ways, model_ways, no_ways, output_ways, own_inputs, part_ways, ways_by, with_output}
+use Rattle.dv_tree.specs.declared.couplings.Coupling.{Coupling}
+use Rattle.dv_tree.specs.declared.entries.Entry.{Entry}
+use Rattle.dv_tree.specs.Nodes.{level_at}
+use Rattle.dv_tree.specs.Tables.{LevelTable, level_of_model, levels_of, scope_of_model}
+use Rattle.dv_tree.proofs.Below.{scope_read}
+use Rattle.dv_tree.proofs.Gathered.{Gathers}
+
+-- the ways inside parts, and those that their couplings join to ways of all parts
+abbrev pub inside_from : List WayCounts → List (List Coupling) → List WayCounts → ℕ
+inside_from all couplings parts = sum_by (λ (p : WayCounts). p.inside) parts + crossing_ways all couplings parts
+
+-- one part, by the couplings that stand at its place
+pub output_ways-part : (couplings : List (List Coupling)) (place : ℕ) (p : WayCounts) (parts : List WayCounts) (ways : List ℕ) →
+    output_ways (drop place couplings) (p ∷ parts) ways
+    ≡ output_ways (drop (suc place) couplings) parts (fold (with_output p.outputs) ways (get_or couplings place []))
+output_ways-part [] zero p parts ways = refl
+output_ways-part [] (suc place) p parts ways = refl
+output_ways-part (cs ∷ couplings) zero p parts ways = refl
+output_ways-part (cs ∷ couplings) (suc place) p parts ways = output_ways-part couplings place p parts ways
+
+pub crossing_ways-part : (all : List WayCounts) (couplings : List (List Coupling)) (place : ℕ) (p : WayCounts) (parts : List WayCounts) →
+    crossing_ways all (drop place couplings) (p ∷ parts)
+    ≡ sum_by (joined_ways all p.outputs) (get_or couplings place []) + crossing_ways all (drop (suc place) couplings) parts
+crossing_ways-part all [] zero p parts = refl
+crossing_ways-part all [] (suc place) p parts = refl
+crossing_ways-part all (cs ∷ couplings) zero p parts = refl
+crossing_ways-part all (cs ∷ couplings) (suc place) p parts = crossing_ways-part all couplings place p parts
+
+-- a sum that is kept, at the end of its loop
+pub summed_up : {X : Type 0} (f : X → ℕ) (xs : List X) (i total : ℕ) → total < 2 ^ 64 →
+    capped (total + sum_by f (drop i xs)) ≡ capped (sum_by f xs) → length xs ≤ i → total ≡ capped (sum_by f xs)
+summed_up f xs i total kept summed past =
+    let none = ap (λ ys. capped (total + sum_by f ys)) (drop_all i xs past) in
+    omega (arith, none, summed)
+
+inside_from-part : (all : List WayCounts) (couplings : List (List Coupling)) (place : ℕ) (p : WayCounts) (parts : List WayCounts) →
+    inside_from all (drop place couplings) (p ∷ parts)
+    ≡ (p.inside + sum_by (joined_ways all p.outputs) (get_or couplings place [])) + inside_from all (drop (place + 1) couplings) parts
+inside_from-part all couplings place p parts =
+    let part = crossing_ways-part all couplings place p parts in
+    let next = ap (λ n. crossing_ways all (drop n couplings) parts) (add-one place) in
+    let first = sum_by-cons (λ (q : WayCounts). q.inside) p parts in
+    omega (arith, first, part, next)
+
+kept_step : (ways inside joined i j whole rest : ℕ) → inside ≡ i → joined ≡ capped j → whole ≡ (i + j) + rest →
+    capped (min (min (ways + inside) (2 ^ 64 - 1) + joined) (2 ^ 64 - 1) + rest) ≡ capped (ways + whole)
+kept_step ways inside joined i j whole rest inside_is joined_is whole_is = omega arith
+
+-- the sum over parts, one part further and at its end
+pub inside_more : (below all : List WayCounts) (couplings : List (List Coupling)) (entries : List Entry) (d : Entry) (place : ℕ)
+    (ways inside joined : ℕ) → place < length entries →
+    inside ≡ (get_or below (get_or entries place d).model no_ways).inside →
+    joined ≡ capped (sum_by (joined_ways all (get_or below (get_or entries place d).model no_ways).outputs) (get_or couplings place [])) →
+    capped (min (min (ways + inside) (2 ^ 64 - 1) + joined) (2 ^ 64 - 1)
+    + inside_from all (drop (place + 1) couplings) (part_ways below (drop (place + 1) entries)))
+    ≡ capped (ways + inside_from all (drop place couplings) (part_ways below (drop place entries)))
+inside_more below all couplings entries d place ways inside joined within inside_is joined_is =
+    let p = get_or below (get_or entries place d).model no_ways in
+    let rest = drop (place + 1) entries in
+    let left : List Entry → ℕ = λ es. inside_from all (drop place couplings) (part_ways below es) in
+    kept_step ways inside joined p.inside _ _ _ inside_is joined_is
+    (at_drop_more left entries place d within ∙ inside_from-part all couplings place p (part_ways below rest))
+
+pub output_ways-end : (couplings : List (List Coupling)) (ways : List ℕ) → output_ways couplings [] ways ≡ ways
+output_ways-end [] ways = refl
+output_ways-end (cs ∷ couplings) ways = refl
+
+pub inside_end : (all : List WayCounts) (couplings : List (List Coupling)) → inside_from all couplings [] ≡ 0
+inside_end all [] = refl
+inside_end all (cs ∷ couplings) = refl
+
+-- the ways of one model more
+pub over_more : (below : List WayCounts) (models : List ModelTree) (items : List Model) (m : Model) (place : ℕ) (scopes : List Scope)
+    (levels : List (Option LevelTable)) (scope : Scope) (level : Option LevelTable) (over pushed : List WayCounts) (ways : WayCounts) →
+    models ≡ map model_of items → scopes ≡ map scope_of_model models → levels ≡ levels_of models → place < length items →
+    m ≡ get_or items place m → scope ≡ get_or scopes place scope → level ≡ level_at levels place →
+    ways ≡ ways_by (own_inputs (model_of m)) scope level below → pushed ≡ over ++ ways ∷ [] →
+    Gathers (λ xs. map (model_ways below models) (map model_of xs)) over place items →
+    Gathers (λ xs. map (model_ways below models) (map model_of xs)) pushed (place + 1) items
+over_more below models items m place scopes levels scope level over pushed ways are scopes_are levels_are within read scope_is level_is
+    ways_are pushed_is gathered =
+    let made : List Model → List WayCounts = λ xs. map (model_ways below models) (map model_of xs) in
+    let rest = drop (place + 1) items in
+    let one : made (drop place items) ≡ made (m ∷ rest) = at_drop_more made items place m within ∙ ap (λ x. made (x ∷ rest)) (sym read) in
+    let by_scope : scope ≡ scope_of_model (model_of m) =
+    scope_read items scopes place m scope (scopes_are ∙ ap (map scope_of_model) are) within read scope_is in
+    let by_level : level ≡ level_of_model models (model_of m) =
+    level_is
+    ∙ (ap (λ ls. level_at ls place) (levels_are ∙ ap (map (level_of_model models)) are)
+    ∙ (get_or-map (level_of_model models) (map model_of items) place (model_of m) None (omega (arith, within, length-map items model_of))
+    ∙ ap (level_of_model models) (get_or-map model_of items place m (model_of m) within ∙ ap model_of (sym read)))) in
+    let is : ways ≡ model_ways below models (model_of m) =
+    ways_are
+    ∙ (ap (λ s. ways_by (own_inputs (model_of m)) s level below) by_scope
+    ∙ ap (λ l. ways_by (own_inputs (model_of m)) (scope_of_model (model_of m)) l below) by_level) in
+    ap (λ xs. xs ++ made rest) (pushed_is ∙ ap (λ w. over ++ w ∷ []) is)
+    ∙ (append_assoc over (model_ways below models (model_of m) ∷ []) (made rest)
+    ∙ (ap (λ xs. over ++ xs) (sym one) ∙ gathered))

@@ -1,0 +1,48 @@
+-- Routing by links: each value that is sent arrives as often as the links from there have copies.
+use Rattle.std.specs.Prelude.{ℕ, ◌*◌, ◌==◌, ◌&&◌, Bool, List, [], ◌∷◌, filter, fold, slice_index_or}
+use Rattle.dv_syntax.specs.Trees.{FileTree}
+use Rattle.dv_bag.specs.Bag.{Counts, IsBag, bag_at, capped, union}
+use Rattle.dv_flat.specs.Links.{direct_links, entry_links, exit_links}
+use Rattle.dv_flat.specs.declared.link.ComponentPort.{ComponentPort}
+use Rattle.dv_flat.specs.declared.link.DirectLink.{DirectLink}
+use Rattle.dv_flat.specs.declared.link.EntryLink.{EntryLink}
+use Rattle.dv_flat.specs.declared.link.ExitLink.{ExitLink}
+
+-- a bag with each value so many times
+abbrev pub times : ℕ → Counts → Counts
+times n [] = []
+times n (p ∷ ps) = (p.0, capped (p.1 * n)) ∷ times n ps
+
+abbrev pub same_port : ComponentPort → ComponentPort → Bool
+same_port a b = (a.component == b.component) && (a.port == b.port)
+
+-- what the components send at a port, and with what it carries a link that begins there
+abbrev pub sent_at : List (List Counts) → ComponentPort → Counts
+sent_at sent from = bag_at (slice_index_or sent from.component []) from.port
+
+abbrev pub with_direct : List (List Counts) → Counts → DirectLink → Counts
+with_direct sent bag l = union bag (times l.copies (sent_at sent l.from))
+
+abbrev pub with_entry : List Counts → Counts → EntryLink → Counts
+with_entry input bag l = union bag (times l.copies (bag_at input l.from))
+
+abbrev pub with_exit : List (List Counts) → Counts → ExitLink → Counts
+with_exit sent bag l = union bag (times l.copies (sent_at sent l.from))
+
+-- what arrives at an input port of a component: by the direct links that lead there, and by the entry links
+abbrev pub carried_to : FileTree → List (List Counts) → List Counts → ComponentPort → Counts
+carried_to f sent input to =
+    fold (with_entry input)
+    (fold (with_direct sent) [] (filter (λ (l : DirectLink). same_port l.to to) (direct_links f)))
+    (filter (λ (l : EntryLink). same_port l.to to) (entry_links f))
+
+-- what leaves by an output port of the root
+abbrev pub carried_out : FileTree → List (List Counts) → ℕ → Counts
+carried_out f sent port = fold (with_exit sent) [] (filter (λ (l : ExitLink). l.to == port) (exit_links f))
+
+-- at every port stands a bag
+abbrev pub AreBags : List Counts → Type 0
+AreBags bags = (port : ℕ) → IsBag (bag_at bags port)
+
+abbrev pub AllAreBags : List (List Counts) → Type 0
+AllAreBags sent = (component : ℕ) → AreBags (slice_index_or sent component [])

@@ -1,0 +1,34 @@
+-- The limit on links, counted with copies.
+use Rattle.std.specs.Prelude.{◌≡◌, ℕ, ◌+◌, nat_lt, if◌then◌else◌, Option, Some, None}
+use Rattle.std.specs.List.{sum_by}
+use Rattle.std.specs.Option.{option_or}
+use Rattle.dv_syntax.specs.Trees.{FileTree}
+use Rattle.dv_lex.specs.declared.error.Refusal.{Refusal}
+use Rattle.dv_lex.specs.declared.error.RefusalNumber.TheVariants.{E17}
+use Rattle.dv_lex.specs.declared.error.LoadError.{LoadError}
+use Rattle.dv_lex.specs.declared.error.LoadError.TheVariants.{Refused, Memory}
+use Rattle.dv_check.specs.Refusals.{refusal_of}
+use Rattle.dv_flat.specs.Links.{direct_links, entry_links, exit_links}
+use Rattle.dv_flat.specs.declared.TheConstants.{GREATEST_LINKS}
+use Rattle.dv_flat.specs.declared.link.DirectLink.{DirectLink}
+use Rattle.dv_flat.specs.declared.link.EntryLink.{EntryLink}
+use Rattle.dv_flat.specs.declared.link.ExitLink.{ExitLink}
+
+-- how many links a file has, each counted as often as it has copies
+abbrev pub link_count : FileTree → ℕ
+link_count f =
+    sum_by (λ (l : DirectLink). l.copies) (direct_links f)
+    + (sum_by (λ (l : EntryLink). l.copies) (entry_links f) + sum_by (λ (l : ExitLink). l.copies) (exit_links f))
+
+-- the refusal for too many links names the root
+abbrev pub link_refusal : FileTree → Option Refusal
+link_refusal f = if nat_lt GREATEST_LINKS (link_count f) then Some (record { number = E17; place = f.root.place }) else None
+
+-- the refusal of a file: a rule that it breaks or a limit on its tree that it passes, else the limit on links
+abbrev pub file_refusal : FileTree → Option Refusal
+file_refusal f = option_or (refusal_of f) (link_refusal f)
+
+-- an error that is the refusal for too many links; of want of memory nothing is said
+abbrev pub IsLinkAnswer : FileTree → LoadError → Type 0
+IsLinkAnswer f (Refused r) = link_refusal f ≡ Some r
+IsLinkAnswer f Memory = Unit {0}

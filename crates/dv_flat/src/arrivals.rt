@@ -1,0 +1,136 @@
+//! Where the tokens arrive: for each source the targets that it reaches.
+
+ghost use Rattle.std.specs.Prelude.{◌≡◌, ◌+◌, ◌^◌, ◌<◌, ◌≤◌, [], fold, length, map, replicate, slice_index_or, IfOk, OnOk};
+ghost use Rattle.std.specs.List.{All, range_with_len};
+ghost use Rattle.dv_syntax.specs.Trees.{file_of};
+ghost use Rattle.dv_bag.specs.Bag.{bag_at};
+ghost use Rattle.dv_flat.specs.Ends.{output_ports};
+ghost use Rattle.dv_flat.specs.Tokens.{arrival_lists, departure_lists, with_arrival, with_arrivals, with_input, with_output};
+ghost use Rattle.dv_flat.specs.declared.link.ComponentPort as component_port;
+
+use crate::link::ComponentPort;
+use crate::ports::input_ports;
+use crate::tokens::route_tokens;
+use dv_bag::{Bag, Bags};
+use dv_check::GREATEST_NAMES;
+use dv_tree::Tree;
+use std::alloc::{AllocError, Global};
+
+/// How many copies of what a source sends come to a target.
+#[derive(Clone, Copy)]
+pub(crate) struct Arrival<T> {
+    pub(crate) to: T,
+    pub(crate) copies: u64,
+}
+
+/// Where the tokens arrive: for each source the input ports of components and the output ports of the root that it
+/// reaches, in the order of the ports.
+#[derive(Drop)]
+pub(crate) struct Reached {
+    pub(crate) inputs: Vec<Vec<Arrival<ComponentPort>>>,
+    pub(crate) outputs: Vec<Vec<Arrival<u32>>>,
+}
+
+impl Reached {
+    /// What the sources reach, where the components have so many output ports.
+    ///
+    /// # Errors
+    ///
+    /// No memory for the tokens or their arrivals.
+    pub(crate) fn of(alloc: Global, tree: &Tree, outputs: usize) -> Result<Self, AllocError>
+        requires all { outputs ≡ length (output_ports (file_of tree.now.file)) }
+        requires few { outputs + GREATEST_NAMES < 2 ^ 63 }
+        ensures inputs { IfOk result (λ reached. map (λ list. list.items) reached.inputs.items
+            ≡ arrival_lists (file_of tree.now.file)) }
+        ensures outputs { IfOk result (λ reached. map (λ list. list.items) reached.outputs.items
+            ≡ departure_lists (file_of tree.now.file)) }
+    {
+        let targets = input_ports(alloc, tree)?;
+        let routed = route_tokens(alloc, tree, outputs)?;
+        let sources = outputs + tree.input_count();
+        Ok(Reached {
+            inputs: arrivals_at_inputs(alloc, sources, &targets, &routed.received)?,
+            outputs: arrivals_at_outputs(alloc, outputs, &routed.leaving)?,
+        })
+    }
+}
+
+// For each of so many sources the input ports of components that its token reaches.
+fn arrivals_at_inputs(
+    alloc: Global,
+    sources: usize,
+    targets: &[ComponentPort],
+    received: &[Bags],
+) -> Result<Vec<Vec<Arrival<ComponentPort>>>, AllocError>
+    requires { All (λ (to : component_port.ComponentPort). (to.component < length received.now)
+        × (to.port < length (slice_index_or received.now to.component []))) targets.now }
+    ensures { IfOk result (λ lists. map (λ list. list.items) lists.items
+        ≡ fold (with_input received.now) (replicate sources []) targets.now) }
+{
+    let mut lists = empty_lists(alloc, sources)?;
+    for to in targets {
+        let bag = received[to.component as usize].get(to.port as usize);
+        add_arrivals(*to, bag, &mut lists)?;
+    }
+    Ok(lists)
+}
+
+// For each of so many sources the output ports of the root that its token reaches.
+fn arrivals_at_outputs(
+    alloc: Global,
+    sources: usize,
+    leaving: &Bags,
+) -> Result<Vec<Vec<Arrival<u32>>>, AllocError>
+    requires { length leaving.now ≤ GREATEST_NAMES }
+    ensures { IfOk result (λ lists. map (λ list. list.items) lists.items
+        ≡ fold (with_output leaving.now) (replicate sources [])
+        (range_with_len 0 (length leaving.now))) }
+{
+    let mut lists = empty_lists(alloc, sources)?;
+    for port in 0..leaving.len() {
+        add_arrivals(port as u32, leaving.get(port), &mut lists)?;
+    }
+    Ok(lists)
+}
+
+fn empty_lists<T: Copy>(alloc: Global, count: usize) -> Result<Vec<Vec<Arrival<T>>>, AllocError>
+    ensures { IfOk result (λ lists. map (λ list. list.items) lists.items ≡ replicate count []) }
+{
+    let mut lists = Vec::with_capacity(alloc, count)?;
+    for _ in 0..count {
+        lists.push(Vec::new(alloc))?;
+    }
+    Ok(lists)
+}
+
+// Adds a target to the list of each source whose token stands there.
+fn add_arrivals<T: Copy>(
+    to: T,
+    bag: &Bag,
+    lists: &mut Vec<Vec<Arrival<T>>>,
+) -> Result<(), AllocError>
+    ensures { OnOk result (map (λ list. list.items) lists.new.items
+        ≡ with_arrivals to (map (λ list. list.items) lists.old.items) bag.now) }
+{
+    for pair in bag.pairs() {
+        add_arrival(pair.0, Arrival { to, copies: pair.1 }, lists)?;
+    }
+    Ok(())
+}
+
+// Adds an arrival to the list of the source whose token this is. No other values are sent.
+fn add_arrival<T: Copy>(
+    token: i64,
+    arrival: Arrival<T>,
+    lists: &mut Vec<Vec<Arrival<T>>>,
+) -> Result<(), AllocError>
+    ensures { OnOk result (map (λ list. list.items) lists.new.items
+        ≡ with_arrival token arrival (map (λ list. list.items) lists.old.items)) }
+{
+    if let Ok(place) = usize::try_from(token) {
+        if place < lists.len() {
+            lists[place].push(arrival)?;
+        }
+    }
+    Ok(())
+}

@@ -1,0 +1,23 @@
+//! From the tree of a text to its links: from the components' outputs to the inputs that they reach, with copies.
+#![tactic(auto)]
+
+/// Where the tokens arrive.
+mod arrivals;
+/// The links of a text.
+pub mod flat;
+/// Laws of links.
+pub mod laws;
+/// The limit on links.
+mod limit;
+/// Links between ports.
+pub mod link;
+/// The ports of the components.
+mod ports;
+/// Values that tell where they were sent.
+mod tokens;
+
+pub use flat::{Flat, flatten};
+pub use link::{ComponentPort, DirectLink, EntryLink, ExitLink};
+
+/// The most links of a text, each counted as often as it has copies.
+pub const GREATEST_LINKS: u64 = 65_536;

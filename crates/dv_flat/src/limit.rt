@@ -1,0 +1,291 @@
+//! Whether a text has too many links, counted model by model: neither instances are visited nor ways walked.
+
+ghost use Rattle.std.specs.Prelude.{◌≡◌, fold, nat_lt, option_copied, replicate, slice_index_or, sum, IfOk, OnOk};
+ghost use Rattle.std.specs.List.{sum_by};
+ghost use Rattle.dv_syntax.specs.Trees.{file_of, model_of};
+ghost use Rattle.dv_bag.specs.Bag.{capped};
+ghost use Rattle.dv_flat.specs.Limit.{link_count};
+ghost use Rattle.dv_flat.specs.Ways.{all_ways, at_port, component_ways, coupled_ways, inside_ways, input_ways, joined_ways, more_at, more_out, no_ways, output_ways, own_inputs, part_ways, ways_below, ways_by, ways_from, ways_over, with_output};
+
+use crate::GREATEST_LINKS;
+use dv_check::GREATEST_DEPTH;
+use dv_eval::Scope;
+use dv_syntax::Model as ModelItem;
+use dv_tree::{Coupling, Entry, Level, Target, Tree, level_at};
+use std::alloc::{AllocError, Global};
+use std::marker::Model;
+
+/// The ways of a model: how many lead from each of its input ports to components inside, how many lead to each of its
+/// output ports from components inside, and how many begin and end inside. A number past the greatest `u64` is kept as
+/// that one.
+#[derive(Drop)]
+struct Ways {
+    inputs: Vec<u64>,
+    outputs: Vec<u64>,
+    inside: u64,
+}
+
+impl Model for Ways {
+    ghost use Rattle.dv_flat.specs.Ways.{WayCounts};
+
+    ghost Value = { WayCounts };
+
+    ghost view = { λ w. record { inputs = w.inputs.items; outputs = w.outputs.items; inside = w.inside } };
+}
+
+impl Ways {
+    // A component, by what it declares.
+    fn component(alloc: Global, scope: &Scope) -> Result<Self, AllocError>
+        ensures { IfOk result (λ ways. ways ≡ component_ways scope.now) }
+    {
+        Ok(Ways {
+            inputs: vec![in alloc; 1; scope.inputs().len()]?,
+            outputs: vec![in alloc; 1; scope.outputs().len()]?,
+            inside: 0,
+        })
+    }
+
+    // A coupled model with so many inputs, by its table and the ways of all models one level less deep.
+    fn coupled(
+        alloc: Global,
+        inputs: usize,
+        level: &Level,
+        below: &[Ways],
+    ) -> Result<Self, AllocError>
+        ensures { IfOk result (λ ways. ways
+            ≡ coupled_ways inputs level.now (part_ways below.now level.now.parts)) }
+    {
+        Ok(Ways {
+            inputs: input_ways(alloc, inputs, level, below)?,
+            outputs: output_ways(alloc, level, below)?,
+            inside: inside_ways(level, below),
+        })
+    }
+
+    // All of them together.
+    fn total(&self) -> u64
+        ensures { result ≡ capped (all_ways self.now) }
+    {
+        sum_of(&self.inputs)
+            .saturating_add(sum_of(&self.outputs))
+            .saturating_add(self.inside)
+    }
+}
+
+// The sum of the ways of all ports.
+fn sum_of(ways: &[u64]) -> u64
+    ensures { result ≡ capped (sum ways.now) }
+{
+    let mut sum: u64 = 0;
+    for more in ways {
+        sum = sum.saturating_add(*more);
+    }
+    sum
+}
+
+// The ways of a port; past the last port there are none.
+fn at_port(ways: &[u64], port: usize) -> u64
+    ensures { result ≡ at_port ways.now port }
+{
+    match ways.get(port) {
+        Some(ways) => *ways,
+        None => 0,
+    }
+}
+
+// More ways at a port; past the last port there is no place for them.
+fn add_at(ways: &mut [u64], port: usize, more: u64)
+    ensures { ways.new ≡ more_at port more ways.old }
+{
+    if port < ways.len() {
+        ways[port] = ways[port].saturating_add(more);
+    }
+}
+
+// The ways of a part, by those of all models; a model that is not among these has no ports.
+fn inputs_of<'w>(below: &'w [Ways], part: &Entry) -> &'w [u64]
+    ensures { result.now ≡ (slice_index_or below.now part.now.model no_ways).inputs }
+{
+    match below.get(part.model) {
+        Some(ways) => &ways.inputs,
+        None => &[],
+    }
+}
+
+fn outputs_of<'w>(below: &'w [Ways], part: &Entry) -> &'w [u64]
+    ensures { result.now ≡ (slice_index_or below.now part.now.model no_ways).outputs }
+{
+    match below.get(part.model) {
+        Some(ways) => &ways.outputs,
+        None => &[],
+    }
+}
+
+fn inside_of(below: &[Ways], part: &Entry) -> u64
+    ensures { result ≡ (slice_index_or below.now part.now.model no_ways).inside }
+{
+    match below.get(part.model) {
+        Some(ways) => ways.inside,
+        None => 0,
+    }
+}
+
+// The ways that lead on inside from the target of a coupling.
+fn ways_from(target: Target, parts: &[Entry], below: &[Ways]) -> u64
+    ensures { result ≡ ways_from (part_ways below.now parts.now) target }
+{
+    match target {
+        Target::Own { .. } => 0,
+        Target::OfPart { part, port } => match parts.get(part) {
+            Some(part) => at_port(inputs_of(below, part), port),
+            None => 0,
+        },
+    }
+}
+
+// From each input of a coupled model, by its couplings from there.
+fn input_ways(
+    alloc: Global,
+    inputs: usize,
+    level: &Level,
+    below: &[Ways],
+) -> Result<Vec<u64>, AllocError>
+    ensures { IfOk result (λ ways. ways.items
+        ≡ input_ways inputs (part_ways below.now level.now.parts) level.now.of_inputs) }
+{
+    let mut ways = vec![in alloc; 0; inputs]?;
+    for coupling in level.couplings_of_inputs() {
+        let more = ways_from(coupling.target, level.parts(), below);
+        add_at(&mut ways, coupling.port, more);
+    }
+    Ok(ways)
+}
+
+// To each output of a coupled model, part by part.
+fn output_ways(alloc: Global, level: &Level, below: &[Ways]) -> Result<Vec<u64>, AllocError>
+    ensures { IfOk result (λ ways. ways.items ≡ output_ways level.now.of_parts
+        (part_ways below.now level.now.parts) (replicate level.now.outputs 0)) }
+{
+    let mut ways = vec![in alloc; 0; level.output_count()]?;
+    for (place, part) in level.parts().iter().enumerate() {
+        add_outputs(
+            &mut ways,
+            level.couplings_of_part(place),
+            outputs_of(below, part),
+        );
+    }
+    Ok(ways)
+}
+
+// The ways that go on from the outputs of a part to outputs of the model itself.
+fn add_outputs(ways: &mut [u64], couplings: &[Coupling], outputs: &[u64])
+    ensures { ways.new ≡ fold (with_output outputs.now) ways.old couplings.now }
+{
+    for coupling in couplings {
+        if let Target::Own { port } = coupling.target {
+            add_at(ways, port, at_port(outputs, coupling.port));
+        }
+    }
+}
+
+// The ways that begin and end inside a coupled model.
+fn inside_ways(level: &Level, below: &[Ways]) -> u64
+    ensures { result ≡ capped (inside_ways level.now.of_parts
+        (part_ways below.now level.now.parts)) }
+{
+    let mut ways: u64 = 0;
+    for (place, part) in level.parts().iter().enumerate() {
+        let couplings = level.couplings_of_part(place);
+        let joined = joined_ways(couplings, outputs_of(below, part), level.parts(), below);
+        ways = ways
+            .saturating_add(inside_of(below, part))
+            .saturating_add(joined);
+    }
+    ways
+}
+
+// The ways that the couplings of one part join to those from its outputs.
+fn joined_ways(couplings: &[Coupling], outputs: &[u64], parts: &[Entry], below: &[Ways]) -> u64
+    ensures { result ≡ capped (sum_by (joined_ways (part_ways below.now parts.now) outputs.now)
+        couplings.now) }
+{
+    let mut ways: u64 = 0;
+    for coupling in couplings {
+        let onward = ways_from(coupling.target, parts, below);
+        let joined = at_port(outputs, coupling.port).saturating_mul(onward);
+        ways = ways.saturating_add(joined);
+    }
+    ways
+}
+
+// The number of input ports that a coupled model declares.
+fn own_inputs(model: &ModelItem) -> usize
+    ensures { result ≡ own_inputs (model_of model.now) }
+{
+    match model {
+        ModelItem::Atomic(_) => 0,
+        ModelItem::Coupled(coupled) => coupled.inputs.len(),
+    }
+}
+
+// The ways of a model: those of a coupled one by its table, those of an atomic one by what it declares.
+fn ways_by(
+    alloc: Global,
+    inputs: usize,
+    scope: &Scope,
+    level: Option<&Level>,
+    below: &[Ways],
+) -> Result<Ways, AllocError>
+    ensures { IfOk result (λ ways. ways
+        ≡ ways_by inputs scope.now (option_copied level.entry) below.now) }
+{
+    match level {
+        None => Ways::component(alloc, scope),
+        Some(level) => Ways::coupled(alloc, inputs, level, below),
+    }
+}
+
+// The ways of the models by those that they have one level less deep.
+fn ways_over(alloc: Global, tree: &Tree, below: &[Ways]) -> Result<Vec<Ways>, AllocError>
+    ensures { IfOk result (λ over. over.items
+        ≡ ways_over below.now (file_of tree.now.file).models) }
+{
+    let scopes = tree.scopes();
+    let levels = tree.levels();
+    let mut over = Vec::new(alloc);
+    for (place, model) in tree.file().models.iter().enumerate() {
+        let inputs = own_inputs(model);
+        let level = level_at(levels, place);
+        over.push(ways_by(alloc, inputs, &scopes[place], level, below)?)?;
+    }
+    Ok(over)
+}
+
+// The ways of the models whose parts show down to fewer levels than this. Those of one level are counted from those of
+// the level before: the work is in the length of the text, however many ways there are.
+fn ways_below(alloc: Global, levels: usize, tree: &Tree) -> Result<Vec<Ways>, AllocError>
+    ensures { IfOk result (λ ways. ways.items ≡ ways_below levels (file_of tree.now.file).models) }
+{
+    let mut ways = Vec::new(alloc);
+    for _level in 0..levels {
+        ways = ways_over(alloc, tree, &ways)?;
+    }
+    Ok(ways)
+}
+
+/// Whether a text has more than `GREATEST_LINKS` links, each counted as often as it has copies.
+///
+/// # Errors
+///
+/// No memory for the numbers of ways.
+pub(crate) fn passes_limit(alloc: Global, tree: &Tree) -> Result<bool, AllocError>
+    ensures { IfOk result (λ passes. passes
+        ≡ nat_lt GREATEST_LINKS (link_count (file_of tree.now.file))) }
+{
+    let Some(root) = tree.root_level() else {
+        return Ok(false);
+    };
+    let below = ways_below(alloc, GREATEST_DEPTH, tree)?;
+    let ways = Ways::coupled(alloc, tree.input_count(), root, &below)?;
+    Ok(ways.total() > GREATEST_LINKS)
+}

@@ -1,0 +1,63 @@
+//! The ports of the components, in the order of the components' numbers.
+
+ghost use Rattle.std.specs.Prelude.{◌≡◌, ◌++◌, length, map, nat_eq, IfOk, OnOk};
+ghost use Rattle.std.specs.List.{IsDistinct, range_with_len};
+ghost use Rattle.dv_syntax.specs.Trees.{file_of};
+ghost use Rattle.dv_flat.specs.Ends.{input_ports, output_ports, port_at};
+
+use crate::link::ComponentPort;
+use dv_tree::Tree;
+use std::alloc::{AllocError, Global};
+
+/// The output ports of all components.
+///
+/// # Errors
+///
+/// No memory for the ports.
+pub(crate) fn output_ports(alloc: Global, tree: &Tree) -> Result<Vec<ComponentPort>, AllocError>
+    ensures { IfOk result (λ ports. ports.items ≡ output_ports (file_of tree.now.file)) }
+{
+    let mut ports = Vec::new(alloc);
+    for component in 0..tree.component_count() {
+        add_ports(
+            component as u32,
+            tree.scope(component).outputs(),
+            &mut ports,
+        )?;
+    }
+    Ok(ports)
+}
+
+/// The input ports of all components.
+///
+/// # Errors
+///
+/// No memory for the ports.
+pub(crate) fn input_ports(alloc: Global, tree: &Tree) -> Result<Vec<ComponentPort>, AllocError>
+    ensures { IfOk result (λ ports. ports.items ≡ input_ports (file_of tree.now.file)) }
+{
+    let mut ports = Vec::new(alloc);
+    for component in 0..tree.component_count() {
+        add_ports(component as u32, tree.scope(component).inputs(), &mut ports)?;
+    }
+    Ok(ports)
+}
+
+// The ports of one component, by their names. Different names of 32 bits are few enough for places of 32 bits.
+fn add_ports(
+    component: u32,
+    names: &[u32],
+    ports: &mut Vec<ComponentPort>,
+) -> Result<(), AllocError>
+    requires { IsDistinct nat_eq names.now }
+    ensures { OnOk result (ports.new.items
+        ≡ ports.old.items ++ map (port_at component) (range_with_len 0 (length names.now))) }
+{
+    for port in 0..names.len() {
+        ports.push(ComponentPort {
+            component,
+            port: port as u32,
+        })?;
+    }
+    Ok(())
+}
