@@ -1,7 +1,8 @@
 //! Bags of values.
 
 ghost use Rattle.std.specs.Cmp.{decided, partial_equiv_from_equiv};
-ghost use Rattle.std.specs.Prelude.{◌≡◌, ◌<◌, ◌≤◌, ◌*◌, ◌^◌, ◌*ℤ◌, ◌≤ℤ◌, neg_ℤ, pos, ◌↔◌, [], length, nat_eq, replicate, slice_set, IfOk, IfErr, OnOk, OnErr, IsOk, IsTrue};
+ghost use Rattle.std.specs.Prelude.{◌≡◌, ◌<◌, ◌≤◌, ◌*◌, ◌^◌, ◌*ℤ◌, ◌≤ℤ◌, neg_ℤ, pos, ◌↔◌, [], length, nat_eq, replicate, slice_set, unwrap_or, IfOk, IfErr, IfSome, OnOk, OnErr, IsOk, IsTrue};
+ghost use Rattle.std.specs.Option.{option_copied};
 ghost use Rattle.smallvec.specs.SmallVec.{HasRoomFor};
 ghost use Rattle.dv_bag.specs.Bag.{IsBag, bag_at, count_of, least, most, place_of, size, size_of_all, sum_or_overflow, total, union, with_copies, without_one};
 ghost use Rattle.dv_bag.specs.Same.{same_bag, same_bags, same_bag-decides, same_bags-decides};
@@ -171,6 +172,17 @@ impl Bag {
         ensures bag { IsBag self.now }
     {
         &self.pairs
+    }
+}
+
+/// How often a number is in a bag, as a number of the language; in no bag it never is.
+pub fn copies_of(number: i64, bag: Option<&Bag>) -> i64
+    requires { IfSome bag (λ bag. total bag.now ≤ GREATEST_COUNT) }
+    ensures { result ≡ pos (count_of number (unwrap_or (option_copied bag.entry) [])) }
+{
+    match bag {
+        Some(bag) => bag.times(number) as i64,
+        None => 0,
     }
 }
 

@@ -1,7 +1,7 @@
-pub mod Copies
 pub mod Endings
 pub mod Fitting
 pub mod Innermost
+pub mod Outcomes
 pub mod Remaining
 pub mod Running
 pub mod Stepping

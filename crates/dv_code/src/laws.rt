@@ -1,14 +1,18 @@
 //! What valid programs do.
 
-ghost use Rattle.std.specs.Prelude.{◌≡◌, ◌≢◌, ℕ, ◌*◌, ◌^◌, ◌≤◌, List, length};
+ghost use Rattle.std.specs.Prelude.{◌≡◌, ◌≢◌, ℕ, ℤ, ◌*◌, ◌^◌, ◌≤◌, List, length, Ok, Err};
 ghost use Rattle.dv_bag.specs.Arrivals.{AreFew, Arrivals};
 ghost use Rattle.dv_bag.specs.declared.TheConstants.{GREATEST_COUNT};
 ghost use Rattle.dv_bag.specs.declared.state.State.{State};
 ghost use Rattle.dv_bag.specs.declared.value.ValueType.{ValueType};
 ghost use Rattle.dv_code.specs.Shape.{AreSmall, Fits, Shape};
 ghost use Rattle.dv_code.specs.Machine.{Outcome, Stuck, begins, run};
-ghost use Rattle.dv_code.specs.Runs.{Ends};
-ghost use Rattle.dv_code.specs.Valid.{EndsWell, IsValid, Program};
+ghost use Rattle.dv_code.specs.Runs.{Ends, GivesEffect, GivesNumber, IsOver};
+ghost use Rattle.dv_code.specs.Outcomes.{effect_by, number_by, outcome_of};
+ghost use Rattle.dv_code.specs.Valid.{EndsWell, IsSafe, IsValid, Program};
+ghost use Rattle.dv_bag.specs.declared.fault.Fault.{Fault};
+ghost use Rattle.dv_bag.specs.declared.fault.RuleError.TheVariants as error;
+ghost use Rattle.dv_bag.specs.declared.state.Effect.{Effect};
 ghost use Rattle.dv_code.specs.declared.instruction.Instruction.{Instruction};
 
 /// No configuration that a valid program reaches from a state that fits is stuck, whatever has
@@ -36,4 +40,35 @@ pub fn valid_programs_end()
 pub fn runs_end_in_one_way()
     ensures { (p : Program) (arrivals : Arrivals) (s : State) (m n : ℕ) (one two : Outcome)
         → Ends p arrivals s m one → Ends p arrivals s n two → (m ≡ n) × (one ≡ two) }
+{}
+
+/// What a program gives is how its run ends: wherever a run has ended, after however many steps, its
+/// outcome is the one that is given, and from a state that fits, where no bag holds too many values,
+/// a program's run has ended so.
+pub fn programs_give_how_their_runs_end()
+    ensures ended { (p : Program) → IsSafe p → (arrivals : Arrivals) → AreFew arrivals.received
+        → (s : State) → Fits p.shape.slots s.variables
+        → (n : ℕ) × Ends p arrivals s n (outcome_of p arrivals s) }
+    ensures outcome { (p : Program) → IsSafe p → (arrivals : Arrivals)
+        → AreFew arrivals.received → (s : State) → Fits p.shape.slots s.variables
+        → (n : ℕ) (end : Outcome) → run p.shape p.code arrivals n (begins p.shape s) ≡ end
+        → IsOver end → outcome_of p arrivals s ≡ end }
+{}
+
+/// What the machine answers is what the program gives.
+pub fn the_machine_gives_what_programs_give()
+    ensures effect { (p : Program) → IsSafe p → (arrivals : Arrivals)
+        → AreFew arrivals.received → (s : State) → Fits p.shape.slots s.variables
+        → (n : ℕ) (e : Effect) → GivesEffect p arrivals s n (Ok e) → effect_by p arrivals s ≡ Ok e }
+    ensures fault { (p : Program) → IsSafe p → (arrivals : Arrivals)
+        → AreFew arrivals.received → (s : State) → Fits p.shape.slots s.variables
+        → (n : ℕ) (f : Fault) → GivesEffect p arrivals s n (Err (error.Fault f))
+        → effect_by p arrivals s ≡ Err f }
+    ensures number { (p : Program) → IsSafe p → (arrivals : Arrivals)
+        → AreFew arrivals.received → (s : State) → Fits p.shape.slots s.variables
+        → (n : ℕ) (x : ℤ) → GivesNumber p arrivals s n (Ok x) → number_by p arrivals s ≡ Ok x }
+    ensures hold_fault { (p : Program) → IsSafe p → (arrivals : Arrivals)
+        → AreFew arrivals.received → (s : State) → Fits p.shape.slots s.variables
+        → (n : ℕ) (f : Fault) → GivesNumber p arrivals s n (Err (error.Fault f))
+        → number_by p arrivals s ≡ Err f }
 {}

@@ -65,11 +65,9 @@ impl<'a> Loops<'a> {
 
     /// The value at which a loop is. The outermost loop is number 0.
     pub(crate) fn item(&self, number: usize) -> i64
-        requires { 0 < length self.now }
+        requires { number < length self.now }
         ensures { item_of (items_of self.now) number ≡ Some (Ok (Number result)) }
     {
-        // A number past the innermost loop's stands for that one.
-        let innermost = self.open.len() - 1;
-        self.open[number.min(innermost)].item()
+        self.open[number].item()
     }
 }

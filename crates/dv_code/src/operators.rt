@@ -1,14 +1,13 @@
 //! What operators make of values.
 
-ghost use Rattle.std.specs.Prelude.{◌≡◌, ◌≢◌, ◌≤◌, [], None, Ok, Some, IfSome, pos, unwrap_or};
-ghost use Rattle.std.specs.Option.{option_copied};
-ghost use Rattle.dv_bag.specs.Bag.{count_of, total};
+ghost use Rattle.std.specs.Prelude.{◌≡◌, ◌≢◌, None, Ok, Some};
 ghost use Rattle.dv_code.specs.Operations.{binary_value, of_numbers, of_truths, unary_value};
 
 use crate::instruction::{Binary, Unary};
 use crate::source::bag_of;
 use dv_bag::arithmetic::{difference, negated, product, quotient, remainder, sum};
-use dv_bag::{Arrivals, Bag, Fault, GREATEST_COUNT, State, Value};
+use dv_bag::bag::copies_of;
+use dv_bag::{Arrivals, Fault, State, Value};
 
 /// What an operator makes of a value.
 ///
@@ -32,17 +31,6 @@ pub(crate) fn unary_value(
             Ok(Value::Number(copies))
         }
         _ => unreachable!(),
-    }
-}
-
-// How often a number is in a bag.
-fn copies_of(number: i64, bag: Option<&Bag>) -> i64
-    requires { IfSome bag (λ bag. total bag.now ≤ GREATEST_COUNT) }
-    ensures { result ≡ pos (count_of number (unwrap_or (option_copied bag.entry) [])) }
-{
-    match bag {
-        Some(bag) => bag.times(number) as i64,
-        None => 0,
     }
 }
 

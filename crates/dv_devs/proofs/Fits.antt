@@ -4,10 +4,11 @@ use Rattle.std.specs.List.{filter, list_all}
 use Rattle.std.proofs.lemmas.Bool.{and_parts}
 use Rattle.dv_time.specs.Time.{tick_of}
 use Rattle.dv_bag.specs.Bag.{Counts}
-use Rattle.dv_devs.specs.Behaviour.{Behaviour, Component, Reaction, Change, Hold, Continues, Begins, state_with_hold, internal_of, external_of, confluent_of, transition_of, next_of, bags_or_flood, reaction_with, reaction_after_output, reaction, emission, is_imminent, all_empty, kind_of}
+use Rattle.dv_devs.specs.Behaviour.{Behaviour, Component, Reaction, Change, Hold, Continues, Begins, state_with_hold, internal_of, external_of, confluent_of, transition_of, next_of, bags_or_flood, reaction_with, reaction_after_output, reaction, emission, is_imminent, all_empty, kind_of, are_few}
 use Rattle.dv_bag.specs.Outcome.{◌>>=◌}
 use Rattle.dv_devs.specs.Network.{Network, reactions, instant, components_after, components_at, emissions, emissions_at, first_bags, other_bags, sent_by, part_of_instant, entries_by, outer_from, trace_at, trace_before}
 use Rattle.dv_bag.specs.declared.fault.Fault.{Fault}
+use Rattle.dv_bag.specs.declared.fault.Fault.TheVariants.{Flood}
 use Rattle.dv_bag.specs.declared.state.State.{State}
 use Rattle.dv_bag.specs.declared.entry.Kind.{Kind}
 use Rattle.dv_devs.specs.Fits.{AllAgree, AllFit, AllKeep, Agrees, AreAlike, Keeps, LeavesAlikeOf, OnlyArrives}
@@ -17,7 +18,15 @@ use Rattle.dv_bag.specs.declared.entry.Entry.{Entry}
 use Rattle.dv_devs.proofs.Parts.{all_same, part_of, same_part}
 use Rattle.dv_devs.proofs.Results.{any, bind, bind_same}
 
+few_or_flood : (bags : List Counts) (few : Bool) → IfOk (cond few (Ok bags) (Err Flood)) (λ x. IsTrue few)
+few_or_flood bags true = refl
+few_or_flood bags false = tt
+
 module _ (fits : State → Bool) (comes : List Counts → Bool) where
+  -- what reaches a transition: what may come, and no flood
+  abbrev Reaches : List Counts → Type 0
+  Reaches bags = IsTrue (comes bags) × IsTrue (are_few bags)
+
   abbrev FitsAfter : State × Hold → Type 0
   FitsAfter p = IsTrue (fits p.0)
 
@@ -38,26 +47,26 @@ module _ (fits : State → Bool) (comes : List Counts → Bool) where
     internal_fits s fit =
         bind FitsChange FitsAfter (b.internal s) (λ m. state_with_hold b m.state) (keeps.internal s fit) (λ m h. hold_fits b m.state h)
 
-    external_fits : (elapsed : ℕ) (before : State × Hold) → IsTrue (comes bags) → IsTrue (fits before.0) →
+    external_fits : (elapsed : ℕ) (before : State × Hold) → Reaches bags → IsTrue (fits before.0) →
         IfOk (external_of b elapsed bags before) FitsAfter
     external_fits elapsed before come fit =
         bind FitsChange FitsAfter (b.external elapsed bags before.0) (λ m. cond m.goes (state_with_hold b m.state) (Ok (m.state, before.1)))
-        (keeps.external elapsed bags before.0 fit come) (λ m h. goes_or_stays b m before.1 m.goes h)
+        (keeps.external elapsed bags before.0 fit come.0 come.1) (λ m h. goes_or_stays b m before.1 m.goes h)
 
-    confluent_fits : (s : State) (rule : Option (Result Change Fault)) → IsTrue (comes bags) → IsTrue (fits s) →
+    confluent_fits : (s : State) (rule : Option (Result Change Fault)) → Reaches bags → IsTrue (fits s) →
         IfSome rule (λ r. IfOk r FitsChange) → IfOk (confluent_of b bags s rule) FitsAfter
     confluent_fits s None come fit h =
         bind FitsAfter FitsAfter (internal_of b s) (external_of b 0 bags) (internal_fits s fit) (λ p k. external_fits 0 p come k)
     confluent_fits s (Some rule) come fit h =
         bind FitsChange FitsAfter rule (λ m. state_with_hold b m.state) h (λ m k. hold_fits b m.state k)
 
-    by_kind : (limit now : ℕ) (c : Component) (imminent empty : Bool) → (empty ≡ false → IsTrue (comes bags)) →
+    by_kind : (limit now : ℕ) (c : Component) (imminent empty : Bool) → (empty ≡ false → Reaches bags) →
         (imminent ≡ false → empty ≡ false) → IsTrue (fits c.state) →
         IfOk (cond imminent (cond empty (internal_of b c.state) (confluent_of b bags c.state (b.confluent bags c.state)))
         (external_of b (tick_of limit now - c.last) bags (c.state, Continues))) FitsAfter
     by_kind limit now c true true come some fit = internal_fits c.state fit
     by_kind limit now c true false come some fit =
-        confluent_fits c.state (b.confluent bags c.state) (come refl) fit (keeps.confluent bags c.state fit (come refl))
+        confluent_fits c.state (b.confluent bags c.state) (come refl) fit (keeps.confluent bags c.state fit (come refl).0 (come refl).1)
     by_kind limit now c false empty come some fit = external_fits (tick_of limit now - c.last) (c.state, Continues) (come (some refl)) fit
 
     reaction_with_fits : (tick : ℕ) (c : Component) (kind : Kind) (sent : List Counts) (x : Result (State × Option ℕ) Fault) →
@@ -72,8 +81,9 @@ module _ (fits : State → Bool) (comes : List Counts → Bool) where
     output_fits limit now c (Ok sent) come some fit =
         let Fit : State × Option ℕ → Type 0 = λ p. IsTrue (fits p.0) in
         reaction_with_fits (tick_of limit now) c (kind_of now c bags) sent _ fit
-        (bind (λ x. Unit {0}) Fit (bags_or_flood bags) _ (any (bags_or_flood bags)) (λ x u.
-        bind FitsAfter Fit (transition_of limit b now c bags) _ (by_kind limit now c (is_imminent now c) (all_empty bags) come some fit)
+        (bind (λ x. IsTrue (are_few bags)) Fit (bags_or_flood bags) _ (few_or_flood bags (are_few bags)) (λ x few.
+        bind FitsAfter Fit (transition_of limit b now c bags) _
+        (by_kind limit now c (is_imminent now c) (all_empty bags) (λ e. (come e, few)) some fit)
         (λ p h.
         bind (λ x. Unit {0}) Fit (next_of limit now c.next p.1) _ (any (next_of limit now c.next p.1)) (λ next v. h))))
 
@@ -108,16 +118,16 @@ module _ (fits : State → Bool) (comes : List Counts → Bool) where
         (λ m h. hold_agree m.state h)
         ∙ ap (λ (r : Result Change Fault). r >>= λ m. state_with_hold b m.state) (agree.internal s fit)
 
-    external_agree : (elapsed : ℕ) (before : State × Hold) → IsTrue (comes bags) → IsTrue (fits before.0) →
+    external_agree : (elapsed : ℕ) (before : State × Hold) → Reaches bags → IsTrue (fits before.0) →
         external_of a elapsed bags before ≡ external_of b elapsed bags before
     external_agree elapsed before come fit =
         bind_same FitsChange (a.external elapsed bags before.0) (λ m. cond m.goes (state_with_hold a m.state) (Ok (m.state, before.1)))
-        (λ m. cond m.goes (state_with_hold b m.state) (Ok (m.state, before.1))) (keeps.external elapsed bags before.0 fit come)
+        (λ m. cond m.goes (state_with_hold b m.state) (Ok (m.state, before.1))) (keeps.external elapsed bags before.0 fit come.0 come.1)
         (λ m h. ap (λ (r : Result (State × Hold) Fault). cond m.goes r (Ok (m.state, before.1))) (hold_agree m.state h))
         ∙ ap (λ (r : Result Change Fault). r >>= λ m. cond m.goes (state_with_hold b m.state) (Ok (m.state, before.1)))
-        (agree.external elapsed bags before.0 fit come)
+        (agree.external elapsed bags before.0 fit come.0 come.1)
 
-    same_rule : (s : State) (rule : Option (Result Change Fault)) → IsTrue (comes bags) → IsTrue (fits s) →
+    same_rule : (s : State) (rule : Option (Result Change Fault)) → Reaches bags → IsTrue (fits s) →
         IfSome rule (λ r. IfOk r FitsChange) → confluent_of a bags s rule ≡ confluent_of b bags s rule
     same_rule s None come fit h =
         bind_same FitsAfter (internal_of a s) (external_of a 0 bags) (external_of b 0 bags) (internal_fits a keeps bags s fit)
@@ -126,13 +136,13 @@ module _ (fits : State → Bool) (comes : List Counts → Bool) where
     same_rule s (Some rule) come fit h =
         bind_same FitsChange rule (λ m. state_with_hold a m.state) (λ m. state_with_hold b m.state) h (λ m k. hold_agree m.state k)
 
-    confluent_agree : (s : State) → IsTrue (comes bags) → IsTrue (fits s) →
+    confluent_agree : (s : State) → Reaches bags → IsTrue (fits s) →
         confluent_of a bags s (a.confluent bags s) ≡ confluent_of b bags s (b.confluent bags s)
     confluent_agree s come fit =
-        same_rule s (a.confluent bags s) come fit (keeps.confluent bags s fit come)
-        ∙ ap (confluent_of b bags s) (agree.confluent bags s fit come)
+        same_rule s (a.confluent bags s) come fit (keeps.confluent bags s fit come.0 come.1)
+        ∙ ap (confluent_of b bags s) (agree.confluent bags s fit come.0 come.1)
 
-    kind_agree : (limit now : ℕ) (c : Component) (imminent empty : Bool) → (empty ≡ false → IsTrue (comes bags)) →
+    kind_agree : (limit now : ℕ) (c : Component) (imminent empty : Bool) → (empty ≡ false → Reaches bags) →
         (imminent ≡ false → empty ≡ false) → IsTrue (fits c.state)
         → cond imminent (cond empty (internal_of a c.state) (confluent_of a bags c.state (a.confluent bags c.state)))
         (external_of a (tick_of limit now - c.last) bags (c.state, Continues))
@@ -148,9 +158,10 @@ module _ (fits : State → Bool) (comes : List Counts → Bool) where
         reaction_after_output limit a now c bags sent ≡ reaction_after_output limit b now c bags sent
     output_agree limit now c (Err f) come some fit = refl
     output_agree limit now c (Ok sent) come some fit =
-        ap (λ (r : Result (State × Hold) Fault). reaction_with (tick_of limit now) c (kind_of now c bags) sent
-        (bags_or_flood bags >>= λ x. r >>= λ m. next_of limit now c.next m.1 >>= λ next. Ok (m.0, next)))
-        (kind_agree limit now c (is_imminent now c) (all_empty bags) come some fit)
+        ap (reaction_with (tick_of limit now) c (kind_of now c bags) sent)
+        (bind_same (λ x. IsTrue (are_few bags)) (bags_or_flood bags) _ _ (few_or_flood bags (are_few bags))
+        (λ x few. ap (λ (r : Result (State × Hold) Fault). r >>= λ m. next_of limit now c.next m.1 >>= λ next. Ok (m.0, next))
+        (kind_agree limit now c (is_imminent now c) (all_empty bags) (λ e. (come e, few)) some fit)))
 
     pub emission_agrees : (now : ℕ) (c : Component) → IsTrue (fits c.state) → emission a now c ≡ emission b now c
     emission_agrees now c fit = ap (λ (r : Result (List Counts) Fault). cond (is_imminent now c) r (Ok [])) (agree.output c.state fit)

@@ -80,9 +80,13 @@ is_imminent now c = is_at now c.next
 abbrev pub all_empty : List Counts → Bool
 all_empty bags = list_all (λ b. nat_eq (size b) 0) bags
 
--- the bags, or a flood: more than 4,096 values at a port
+-- at no port more than 4,096 values
+abbrev pub are_few : List Counts → Bool
+are_few bags = list_all (λ b. nat_le (size b) GREATEST_COUNT) bags
+
+-- the bags, or a flood
 abbrev pub bags_or_flood : List Counts → Result (List Counts) Fault
-bags_or_flood bags = if list_all (λ b. nat_le (size b) GREATEST_COUNT) bags then Ok bags else Err Flood
+bags_or_flood bags = if are_few bags then Ok bags else Err Flood
 
 -- the output function of a component that is imminent; it sees the state alone
 abbrev pub emission : Behaviour → ℕ → Component → Result (List Counts) Fault

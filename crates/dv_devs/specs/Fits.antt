@@ -2,26 +2,26 @@
 use Rattle.std.specs.Prelude.{◌≡◌, ℕ, ◌+◌, ◌<◌, Bool, IfOk, IfSome, IsTrue, List, [], ◌∷◌}
 use Rattle.std.specs.List.{list_all}
 use Rattle.dv_bag.specs.Bag.{Counts}
-use Rattle.dv_devs.specs.Behaviour.{Behaviour, Component, Change}
+use Rattle.dv_devs.specs.Behaviour.{Behaviour, Component, Change, are_few}
 use Rattle.dv_devs.specs.Network.{Network, emissions_at}
 use Rattle.dv_devs.specs.Parts.{sent_among}
 use Rattle.dv_bag.specs.declared.state.State.{State}
 
--- from a state that fits, where only what may come comes, a behaviour goes to a state that fits
+-- from a state that fits, where only what may come comes and floods no port, a behaviour goes to a state that fits
 pub record Keeps (fits : State → Bool) (comes : List Counts → Bool) (b : Behaviour) : Type 0 where
   pub internal : (s : State) → IsTrue (fits s) → IfOk (b.internal s) (λ (m : Change). IsTrue (fits m.state))
-  pub external : (elapsed : ℕ) (bags : List Counts) (s : State) → IsTrue (fits s) → IsTrue (comes bags)
+  pub external : (elapsed : ℕ) (bags : List Counts) (s : State) → IsTrue (fits s) → IsTrue (comes bags) → IsTrue (are_few bags)
       → IfOk (b.external elapsed bags s) (λ (m : Change). IsTrue (fits m.state))
-  pub confluent : (bags : List Counts) (s : State) → IsTrue (fits s) → IsTrue (comes bags)
+  pub confluent : (bags : List Counts) (s : State) → IsTrue (fits s) → IsTrue (comes bags) → IsTrue (are_few bags)
       → IfSome (b.confluent bags s) (λ r. IfOk r (λ (m : Change). IsTrue (fits m.state)))
 
--- two behaviours do the same at states that fit, where only what may come comes
+-- two behaviours do the same at states that fit, where only what may come comes and floods no port
 pub record Agrees (fits : State → Bool) (comes : List Counts → Bool) (a b : Behaviour) : Type 0 where
   pub output : (s : State) → IsTrue (fits s) → a.output s ≡ b.output s
   pub internal : (s : State) → IsTrue (fits s) → a.internal s ≡ b.internal s
-  pub external : (elapsed : ℕ) (bags : List Counts) (s : State) → IsTrue (fits s) → IsTrue (comes bags)
+  pub external : (elapsed : ℕ) (bags : List Counts) (s : State) → IsTrue (fits s) → IsTrue (comes bags) → IsTrue (are_few bags)
       → a.external elapsed bags s ≡ b.external elapsed bags s
-  pub confluent : (bags : List Counts) (s : State) → IsTrue (fits s) → IsTrue (comes bags)
+  pub confluent : (bags : List Counts) (s : State) → IsTrue (fits s) → IsTrue (comes bags) → IsTrue (are_few bags)
       → a.confluent bags s ≡ b.confluent bags s
   pub hold : (s : State) → IsTrue (fits s) → a.hold s ≡ b.hold s
 

@@ -1,8 +1,8 @@
 //! The value of an expression.
 
-ghost use Rattle.std.specs.Prelude.{◌≡◌, ◌≤◌, pos, [], option_map, unwrap_or, IfSome};
+ghost use Rattle.std.specs.Prelude.{◌≡◌, ◌≤◌, [], option_map, unwrap_or, IfSome};
 ghost use Rattle.std.specs.Option.{option_copied};
-ghost use Rattle.dv_bag.specs.Bag.{count_of, total};
+ghost use Rattle.dv_bag.specs.Bag.{total};
 ghost use Rattle.dv_bag.specs.Reading.{HoldsFew, bag_held_at, datum_of};
 ghost use Rattle.dv_syntax.specs.Trees.{expression_of};
 ghost use Rattle.dv_eval.specs.Contexts.{context_of, moment_of};
@@ -13,6 +13,7 @@ use crate::scope::Scope;
 use dv_bag::arithmetic::{
     difference, negated, number_or_empty, product, quotient, remainder, sum, ticks_or_overflow,
 };
+use dv_bag::bag::copies_of;
 use dv_bag::{Bag, DatumView, Fault, GREATEST_COUNT, State, Value};
 use dv_syntax::{BagCall, Expr, Operator, Prefix};
 
@@ -133,17 +134,6 @@ fn call_result(call: BagCall, bag: Option<&Bag>) -> Result<Value, Fault>
         BagCall::Sum => Ok(Value::Number(bag.sum()?)),
         BagCall::Least => number_or_empty(bag.least()),
         BagCall::Most => number_or_empty(bag.most()),
-    }
-}
-
-// How often a number is in a bag.
-fn copies_of(number: i64, bag: Option<&Bag>) -> i64
-    requires { IfSome bag (λ bag. total bag.now ≤ GREATEST_COUNT) }
-    ensures { result ≡ pos (count_of number (unwrap_or (option_copied bag.entry) [])) }
-{
-    match bag {
-        Some(bag) => bag.times(number) as i64,
-        None => 0,
     }
 }
 

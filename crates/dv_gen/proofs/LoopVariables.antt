@@ -1,6 +1,6 @@
 -- The variables of the loops around, by name and by number.
 use Rattle.std.proofs.Common.{◌≡◌, ℕ, ◌<◌, ◌==◌, ℤ, Bool, true, false, if◌then◌else◌, List, [], ◌∷◌, length, refl, Option, Some, None, Ok, arith}
-use Rattle.std.proofs.lemmas.Bool.{le-ltb, lt-ltb}
+use Rattle.std.proofs.lemmas.Bool.{eq-eqb, ne_eqb}
 use Rattle.dv_syntax.specs.Trees.{AtomicTree}
 use Rattle.dv_syntax.specs.declared.tree.Name.{Name}
 use Rattle.dv_syntax.specs.declared.tree.RuleSort.{RuleSort}
@@ -38,12 +38,12 @@ is_item_if : (b : Bool) (v : Name × ℤ) (bound : List (Name × ℤ)) (q loop :
     → (loop_of q (loops_of bound) ≡ Some loop → IsItem bound q loop) → IsItem (v ∷ bound) q loop
 is_item_if true v bound q loop test found later =
     let innermost : length (loops_of bound) ≡ loop = cc in
-    let not_behind = le-ltb loop (length (items_within bound)) (omega (arith, as_many bound)) in
-    record { within = omega (arith, as_many bound); number = v.1; by_name = rw test refl; by_place = rw not_behind refl }
+    let here = eq-eqb loop (length (items_within bound)) (omega (arith, as_many bound)) in
+    record { within = omega (arith, as_many bound); number = v.1; by_name = rw test refl; by_place = rw here refl }
 is_item_if false v bound q loop test found later =
     let h = later found in
-    let behind = lt-ltb loop (length (items_within bound)) h.within in
-    record { within = omega (arith, h.within); number = h.number; by_name = rw test h.by_name; by_place = rw behind h.by_place }
+    let further = ne_eqb loop (length (items_within bound)) (λ same. absurd (omega (arith, same, h.within))) in
+    record { within = omega (arith, h.within); number = h.number; by_name = rw test h.by_name; by_place = rw further h.by_place }
 
 pub is_item : (bound : List (Name × ℤ)) (q loop : ℕ) → loop_of q (loops_of bound) ≡ Some loop → IsItem bound q loop
 is_item [] q loop found = absurd (cc)

@@ -1,4 +1,4 @@
-use Rattle.std.proofs.Common.{◌≡◌, ◌-◌, ◌<◌, List, length, min, get_or, Some, Ok, ℤ, sym, ap, ◌∙◌, arith, rules}
+use Rattle.std.proofs.Common.{◌≡◌, ◌<◌, List, length, get_or, Some, Ok, ℤ, sym, ap, ◌∙◌, arith, rules}
 use Rattle.std.proofs.lemmas.Int.{to_z-of_z}
 use Rattle.std.proofs.lemmas.List.{length-reverse}
 use Rattle.dv_bag.specs.declared.value.Value.TheVariants.{Number}
@@ -12,17 +12,12 @@ use Rattle.dv_code.proofs.loops.Loops.item.Goals as goal
 pub returns : goal.returns
 returns c =
     let ts = c.self.inside.open.items in
-    let turn = c.index-deref-min.result in
-    let some : 0 < length ts = omega (arith, c.requires, ap length c.self.view_is, length-reverse ts) in
-    let place : c.min.result ≡ min c.args.number (length ts - 1) =
-    c.min.ensures ∙ ap (λ n. min c.args.number (n - 1)) c.len-innermost.ensures.value in
-    let there : get_or ts (min c.args.number (length ts - 1)) turn ≡ turn =
-    sym
-    (c.index-deref-min.is
-    ∙ ap (λ (xs : List Turn). get_or xs c.min.result turn) c.deref.ensures
-    ∙ ap (λ i. get_or ts i turn) place) in
+    let turn = c.index-deref-number.result in
+    let within : c.args.number < length ts = omega (arith, c.requires, ap length c.self.view_is, length-reverse ts) in
+    let there : get_or ts c.args.number turn ≡ turn =
+    sym (c.index-deref-number.is ∙ ap (λ (xs : List Turn). get_or xs c.args.number turn) c.deref.ensures) in
     let number : SFits w64 c.item.result = search rules in
     ap (λ (loops : List Turn). item_of (items_of loops) c.args.number) (sym c.self.view_is)
-    ∙ item_at ts c.args.number turn some
+    ∙ item_at ts c.args.number turn within
     ∙ ap (λ (t : Turn). Some (Ok (Number t.item))) there
     ∙ ap (λ (n : ℤ). Some (Ok (Number n))) (sym c.item.ensures ∙ sym (to_z-of_z w64 c.item.result number))

@@ -2,8 +2,8 @@ use Rattle.std.proofs.Common.{ℤ, Option, [], ap, sym, ◌∙◌, rules, unwrap
 use Rattle.std.specs.Option.{option_copied}
 use Rattle.std.proofs.lemmas.Int.{to_z-of_z, to_z_pos}
 use Rattle.dv_bag.specs.Bag.{Counts, count_of}
-use Rattle.dv_eval.proofs.Bags.{few_copies}
-use Rattle.dv_eval.proofs.expression.copies_of.Goals as goal
+use Rattle.dv_bag.proofs.Copies.{few_copies}
+use Rattle.dv_bag.proofs.bag.copies_of.Goals as goal
 
 pub overflow_cast-result : goal.overflow_cast-result
 overflow_cast-result c =
