@@ -4,3 +4,4 @@ pub mod Effects
 pub mod Known
 pub mod Inputs
 pub mod Typed
+pub mod Sendings

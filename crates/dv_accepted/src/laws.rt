@@ -12,6 +12,7 @@ ghost use Rattle.dv_bag.specs.declared.state.Effect.{Effect};
 ghost use Rattle.dv_eval.specs.declared.scope.Domain.{Domain};
 ghost use Rattle.dv_eval.specs.Scope.{is_declared, scope_of, start_state};
 ghost use Rattle.dv_bag.specs.Arrivals.{Arrivals};
+ghost use Rattle.dv_bag.specs.BagLists.{AreBags};
 ghost use Rattle.dv_eval.specs.Meaning.{effect_of, meaning, moment_in, outermost};
 ghost use Rattle.dv_bag.specs.declared.value.ValueType.{ValueType};
 ghost use Rattle.dv_check.specs.Types.{Known, place_refusals, type_of};
@@ -35,6 +36,12 @@ pub fn rules_keep_to_the_ranges()
         effect_of (scope_of m) body arrivals s ≡ Ok e → LeadsToPhase (scope_of m) e.goto }
     ensures phase { (m : AtomicTree) (s : State) (place : ℕ) → fits m s ≡ true →
         place < length (scope_of m).phases → fits m (in_phase s place) ≡ true }
+{}
+
+/// What a rule sends stands in bags, whatever has arrived.
+pub fn rules_send_bags()
+    ensures { (m : AtomicTree) (body : Statements) (arrivals : Arrivals) (s : State) (e : Effect)
+        → effect_of (scope_of m) body arrivals s ≡ Ok e → AreBags e.sent }
 {}
 
 /// The rules and the holds of an accepted model name only what the model declares and the variables of the loops

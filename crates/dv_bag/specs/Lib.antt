@@ -1,5 +1,6 @@
 -- What a reader believes: values, bags, inputs, what a rule does, and the entries of a trace.
 pub mod Bag
+pub mod BagLists
 pub mod Arithmetic
 pub mod Arrivals
 pub mod Effects

@@ -14,6 +14,7 @@ pub mod PortLists
 pub mod Products
 pub mod Ranges
 pub mod RootWays
+pub mod Routed
 pub mod Sources
 pub mod Sums
 pub mod Superposed

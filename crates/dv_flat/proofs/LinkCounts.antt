@@ -6,13 +6,13 @@ use Rattle.std.proofs.lemmas.List.Elements.{All-head, All-tail}
 use Rattle.std.proofs.lemmas.List.Sums.{sum_by-cons}
 use Rattle.dv_syntax.specs.Trees.{FileTree}
 use Rattle.dv_bag.specs.Bag.{Counts, IsBag, bag_at, union}
+use Rattle.dv_bag.specs.BagLists.{AllAreBags, AreBags}
 use Rattle.dv_bag.proofs.Monoid.{union_assoc, union_bag, union_comm}
 use Rattle.dv_tree.specs.Instances.{Instance, instances, root_inputs, root_outputs}
 use Rattle.dv_tree.specs.Routing.{arrives, leaves}
 use Rattle.dv_tree.specs.Unions.{AllUnite, Unite}
 use Rattle.dv_tree.proofs.Linear.{arrives_united, leaves_united}
 use Rattle.dv_tree.proofs.Quiet.{arrives_nothing, leaves_nothing}
-use Rattle.dv_flat.specs.Carried.{AllAreBags, AreBags}
 use Rattle.dv_flat.specs.Ends.{input_ports, output_ports}
 use Rattle.dv_flat.specs.Links.{alone_at, direct_copies, direct_link, direct_links, entry_copies, entry_link, entry_links, exit_copies, exit_link, exit_links, root_ports, sent_alone}
 use Rattle.dv_flat.specs.declared.link.ComponentPort.{ComponentPort}

@@ -10,13 +10,14 @@ use Rattle.std.proofs.lemmas.Bool.Decides.{nat_tests}
 use Rattle.std.proofs.lemmas.List.{get_or_past}
 use Rattle.dv_syntax.specs.Trees.{FileTree}
 use Rattle.dv_bag.specs.Bag.{Counts, IsAbove, IsBag, bag_at, capped, count_of, total, union}
+use Rattle.dv_bag.specs.BagLists.{AllAreBags, AreBags}
 use Rattle.dv_bag.proofs.Monoid.{count_kept, count_union, same_counts_same_bag, union_bag}
 use Rattle.dv_tree.specs.Instances.{instances, root_inputs, root_outputs}
 use Rattle.dv_tree.specs.Routing.{arrives, leaves}
 use Rattle.dv_tree.proofs.Along.{union_none}
 use Rattle.dv_tree.proofs.Limits.{length-leaves}
 use Rattle.dv_tree.proofs.Received.{port_counts, ports_received}
-use Rattle.dv_flat.specs.Carried.{AllAreBags, AreBags, carried_out, carried_to, same_port, sent_at, times, with_direct}
+use Rattle.dv_flat.specs.Carried.{carried_out, carried_to, same_port, sent_at, times, with_direct}
 use Rattle.dv_flat.specs.Ends.{input_count, input_ports, output_ports, port_at}
 use Rattle.dv_flat.specs.Links.{direct_copies, direct_link, direct_links, entry_copies, entry_link, entry_links, exit_copies, exit_link, exit_links, root_ports}
 use Rattle.dv_flat.specs.declared.link.ComponentPort.{ComponentPort}

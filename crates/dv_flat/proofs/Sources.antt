@@ -3,10 +3,10 @@ use Rattle.std.proofs.Common.{◌≡◌, ℕ, zero, suc, ◌+◌, List, [], ◌�
 use Rattle.std.specs.List.{range_with_len, sum_by}
 use Rattle.std.proofs.lemmas.List.Sums.{sum_by-append, sum_by-cons}
 use Rattle.dv_bag.specs.Bag.{Counts, IsBag, bag_at, union}
+use Rattle.dv_bag.specs.BagLists.{AllAreBags, AreBags}
 use Rattle.dv_bag.proofs.Monoid.{union_unit}
 use Rattle.dv_tree.specs.Instances.{Instance}
 use Rattle.dv_tree.specs.Unions.{AllUnite, Unite}
-use Rattle.dv_flat.specs.Carried.{AllAreBags, AreBags}
 use Rattle.dv_flat.specs.Ends.{output_count, port_at, ports_from}
 use Rattle.dv_flat.specs.Links.{alone_at, sent_alone}
 use Rattle.dv_flat.proofs.Alike.{Alike}

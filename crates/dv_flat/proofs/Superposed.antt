@@ -4,11 +4,12 @@ use Rattle.std.proofs.lemmas.Bool.{eqb-true}
 use Rattle.std.proofs.lemmas.Bool.Decides.{nat_tests}
 use Rattle.dv_syntax.specs.Trees.{FileTree}
 use Rattle.dv_bag.specs.Bag.{Counts, IsBag, bag_at, capped, count_of, union}
+use Rattle.dv_bag.specs.BagLists.{AllAreBags, AreBags}
 use Rattle.dv_bag.proofs.Monoid.{count_kept, count_union, union_bag}
 use Rattle.dv_tree.specs.Instances.{instances, root_inputs}
 use Rattle.dv_tree.specs.Routing.{arrives, leaves}
 use Rattle.dv_tree.proofs.Kept.{AtOutputs, AtPorts, output_counts, arrives_kept, leaves_kept}
-use Rattle.dv_flat.specs.Carried.{AllAreBags, AreBags, same_port, sent_at}
+use Rattle.dv_flat.specs.Carried.{same_port, sent_at}
 use Rattle.dv_flat.specs.Ends.{output_count, output_ports, port_at}
 use Rattle.dv_flat.specs.Links.{alone_at, root_ports, sent_alone}
 use Rattle.dv_flat.specs.declared.link.ComponentPort.{ComponentPort}

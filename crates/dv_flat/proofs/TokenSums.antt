@@ -6,9 +6,10 @@ use Rattle.std.proofs.lemmas.Int.{ints}
 use Rattle.std.proofs.lemmas.List.FromFn.{get_or-range_with_len, get_or-map-range_with_len, length-range_with_len}
 use Rattle.dv_syntax.specs.Trees.{FileTree}
 use Rattle.dv_bag.specs.Bag.{Counts, IsBag, bag_at, count_of}
+use Rattle.dv_bag.specs.BagLists.{AllAreBags}
 use Rattle.dv_bag.proofs.Monoid.{count_kept, count_with_other, count_with_same}
 use Rattle.dv_tree.specs.Instances.{Instance, instances, root_inputs}
-use Rattle.dv_flat.specs.Carried.{AllAreBags, sent_at}
+use Rattle.dv_flat.specs.Carried.{sent_at}
 use Rattle.dv_flat.specs.Ends.{output_count, output_ports, port_at}
 use Rattle.dv_flat.specs.Links.{direct_copies, entry_copies, exit_copies, root_ports}
 use Rattle.dv_flat.specs.Tokens.{arrived_tokens, come_tokens, left_tokens, sent_tokens, token, tokens_from}

@@ -1,8 +1,11 @@
 -- Routing by links: each value that is sent arrives as often as the links from there have copies.
-use Rattle.std.specs.Prelude.{ℕ, ◌*◌, ◌==◌, ◌&&◌, Bool, List, [], ◌∷◌, filter, fold, slice_index_or}
+use Rattle.std.specs.Prelude.{ℕ, suc, ◌*◌, ◌==◌, ◌&&◌, Bool, List, [], ◌∷◌, filter, fold, map, slice_index_or}
+use Rattle.std.specs.List.{range_with_len}
 use Rattle.dv_syntax.specs.Trees.{FileTree}
-use Rattle.dv_bag.specs.Bag.{Counts, IsBag, bag_at, capped, union}
-use Rattle.dv_flat.specs.Links.{direct_links, entry_links, exit_links}
+use Rattle.dv_tree.specs.Instances.{Instance, instances, root_outputs}
+use Rattle.dv_bag.specs.Bag.{Counts, bag_at, capped, union}
+use Rattle.dv_flat.specs.Ends.{input_count, port_at}
+use Rattle.dv_flat.specs.Links.{direct_links, entry_links, exit_links, root_ports}
 use Rattle.dv_flat.specs.declared.link.ComponentPort.{ComponentPort}
 use Rattle.dv_flat.specs.declared.link.DirectLink.{DirectLink}
 use Rattle.dv_flat.specs.declared.link.EntryLink.{EntryLink}
@@ -40,9 +43,16 @@ carried_to f sent input to =
 abbrev pub carried_out : FileTree → List (List Counts) → ℕ → Counts
 carried_out f sent port = fold (with_exit sent) [] (filter (λ (l : ExitLink). l.to == port) (exit_links f))
 
--- at every port stands a bag
-abbrev pub AreBags : List Counts → Type 0
-AreBags bags = (port : ℕ) → IsBag (bag_at bags port)
+-- what arrives at the components from a number on, port by port
+abbrev pub carried_from : FileTree → List (List Counts) → List Counts → ℕ → List Instance → List (List Counts)
+carried_from f sent input k [] = []
+carried_from f sent input k (i ∷ is) =
+    map (λ port. carried_to f sent input (port_at k port)) (range_with_len 0 (input_count i.model))
+    ∷ carried_from f sent input (suc k) is
 
-abbrev pub AllAreBags : List (List Counts) → Type 0
-AllAreBags sent = (component : ℕ) → AreBags (slice_index_or sent component [])
+-- what each component receives by links, and what leaves the root
+abbrev pub arrives_by_links : FileTree → List (List Counts) → List Counts → List (List Counts)
+arrives_by_links f sent input = carried_from f sent input 0 (instances f)
+
+abbrev pub leaves_by_links : FileTree → List (List Counts) → List Counts
+leaves_by_links f sent = map (carried_out f sent) (root_ports (root_outputs f))

@@ -4,9 +4,10 @@ ghost use Rattle.std.specs.Prelude.{◌≡◌, ◌≢◌, ℕ, List, [], ◌∷�
 ghost use Rattle.std.specs.List.{All};
 ghost use Rattle.dv_syntax.specs.Trees.{FileTree};
 ghost use Rattle.dv_bag.specs.Bag.{Counts, bag_at};
+ghost use Rattle.dv_bag.specs.BagLists.{AllAreBags, AreBags};
 ghost use Rattle.dv_check.specs.Refusals.{refusal_of};
 ghost use Rattle.dv_tree.specs.Routing.{arrives, leaves};
-ghost use Rattle.dv_flat.specs.Carried.{AllAreBags, AreBags, carried_out, carried_to};
+ghost use Rattle.dv_flat.specs.Carried.{arrives_by_links, carried_out, carried_to, leaves_by_links};
 ghost use Rattle.dv_flat.specs.Ends.{port_at};
 ghost use Rattle.dv_flat.specs.Links.{direct_links, entry_links, exit_links};
 ghost use Rattle.dv_flat.specs.Rows.{two_ways};
@@ -14,7 +15,8 @@ ghost use Rattle.dv_flat.specs.declared.link.DirectLink as direct;
 
 use dv_check::laws::accepted_files;
 
-/// What links carry is what routing by the tree gives, whatever is sent and whatever comes from outside.
+/// What links carry is what routing by the tree gives, whatever is sent and whatever comes from outside: at each port,
+/// and so in all that the components receive and all that leaves.
 pub fn links_route_as_the_tree()
     ensures arrives { (f : FileTree) (sent : List (List Counts)) (input : List Counts)
         → AllAreBags sent → AreBags input → (component port : ℕ)
@@ -22,6 +24,10 @@ pub fn links_route_as_the_tree()
         ≡ bag_at (slice_index_or (arrives f sent input) component []) port }
     ensures leaves { (f : FileTree) (sent : List (List Counts)) → AllAreBags sent → (port : ℕ)
         → carried_out f sent port ≡ bag_at (leaves f sent) port }
+    ensures all_arrive { (f : FileTree) (sent : List (List Counts)) (input : List Counts)
+        → AllAreBags sent → AreBags input → arrives_by_links f sent input ≡ arrives f sent input }
+    ensures all_leave { (f : FileTree) (sent : List (List Counts)) → AllAreBags sent
+        → leaves_by_links f sent ≡ leaves f sent }
 {}
 
 /// No component of an accepted text is linked to itself.

@@ -1,9 +1,9 @@
 -- What holds of each rule and of each hold of a model holds of those that are found for a phase.
-use Rattle.std.proofs.Common.{◌≡◌, ℕ, zero, suc, ◌+◌, ◌<◌, ◌≤◌, ◌==◌, Bool, true, false, ◌&&◌, if◌then◌else◌, List, [], ◌∷◌, get_or, Option, Some, None, refl, sym, ap, subst, ◌∙◌, arith}
+use Rattle.std.proofs.Common.{◌≡◌, ℕ, ◌≤◌, ◌==◌, Bool, true, false, ◌&&◌, if◌then◌else◌, List, [], ◌∷◌, get_or, Option, Some, None, refl, subst, arith}
 use Rattle.std.specs.Prelude.{IfSome}
 use Rattle.std.specs.List.{All}
 use Rattle.std.proofs.lemmas.List.Elements.{All-tail}
-use Rattle.dv_syntax.specs.Trees.{AtomicTree, Done, Expression, HoldTree, RuleTree, Statements}
+use Rattle.dv_syntax.specs.Trees.{AtomicTree, Expression, HoldTree, RuleTree, Statements}
 use Rattle.dv_syntax.specs.Grammar.{loop_depth}
 use Rattle.dv_syntax.specs.declared.tree.RuleSort.{RuleSort}
 use Rattle.dv_syntax.specs.declared.tree.RuleSort.TheVariants.{Output, Internal, External, Confluent}
@@ -42,7 +42,7 @@ module _ (P : RuleSort → Statements → Type 0) (sort : RuleSort) where
   found_if true false r rest e here later = later
   found_if false there r rest e here later = later
 
-  rule_of-All : (phase : ℕ) (rules : List RuleTree) → All (λ (r : RuleTree). P r.sort r.body) rules
+  pub rule_of-All : (phase : ℕ) (rules : List RuleTree) → All (λ (r : RuleTree). P r.sort r.body) rules
       → IfSome (rule_of sort phase rules) (P sort)
   rule_of-All phase [] all = tt
   rule_of-All phase (r ∷ rules) all =
@@ -56,7 +56,8 @@ module _ (P : Expression → Type 0) where
   held_if true ticks rest here later = here
   held_if false ticks rest here later = later
 
-  hold_ticks-All : (phase : ℕ) (holds : List HoldTree) → All (λ (h : HoldTree). IfSome h.ticks P) holds → IfSome (hold_ticks phase holds) P
+  pub hold_ticks-All : (phase : ℕ) (holds : List HoldTree) → All (λ (h : HoldTree). IfSome h.ticks P) holds
+      → IfSome (hold_ticks phase holds) P
   hold_ticks-All phase [] all = tt
   hold_ticks-All phase (h ∷ holds) all =
       held_if (h.phase.number == phase) h.ticks (hold_ticks phase holds) (all 0 h (omega arith))

@@ -5,14 +5,13 @@ use Rattle.dv_syntax.specs.Trees.{Expression as NamedExpression, Statements as N
 use Rattle.dv_syntax.specs.declared.tree.RuleSort.{RuleSort}
 use Rattle.dv_syntax.specs.declared.tree.RuleSort.TheVariants as rule
 use Rattle.dv_bag.specs.declared.value.ValueType.{ValueType}
-use Rattle.dv_bag.specs.declared.value.ValueType.TheVariants.{Number}
 use Rattle.dv_code.specs.declared.TheConstants.{DEEPEST_LOOPS}
 use Rattle.dv_code.specs.declared.instruction.Instruction.{Instruction}
 use Rattle.dv_code.specs.declared.instruction.Instruction.TheVariants.{End}
 use Rattle.dv_code.specs.Shape.{AreSmall, Shape, Tables, left_by, shape_of}
 use Rattle.dv_code.specs.declared.shape.ProgramSort.{ProgramSort}
 use Rattle.dv_code.specs.declared.shape.ProgramSort.TheVariants.{Hold}
-use Rattle.dv_code.specs.Valid.{IsProgram, IsValid, Program}
+use Rattle.dv_code.specs.Valid.{IsProgram, IsSafe, IsValid, Program}
 use Rattle.dv_eval.specs.Scope.{Scope}
 use Rattle.dv_gen.specs.Resolved.{AreTyped, Expression, IsTyped, Statements, type_of}
 use Rattle.dv_gen.specs.Resolution.{all_resolved, hold_shape, program_sort, resolved, rule_shape, tables_of}
@@ -36,26 +35,30 @@ rule_leaves rule.Internal = refl
 rule_leaves rule.External = refl
 rule_leaves rule.Confluent = refl
 
-pub rule_is_program : ((shape : Shape) (depth : ℕ) (body : Statements) → AreTyped shape depth 0 body
+pub rule_is_safe : ((shape : Shape) (depth : ℕ) (body : Statements) → AreTyped shape depth 0 body
     → IsValid shape [] depth (program_of body))
     → (scope : Scope) (sort : RuleSort) (body : NamedStatements) → IsRuleBody scope sort body → AreSmall (tables_of scope).slots
-    → length (rule_code scope sort body).code < 2 ^ 32 → IsProgram (rule_code scope sort body)
-rule_is_program valid scope sort body is small short =
+    → IsSafe (rule_code scope sort body)
+rule_is_safe valid scope sort body is small =
     let shape = rule_shape scope sort in
     let code = program_of (all_resolved scope [] body) in
     let whole = deeper shape [] (loop_depth body) DEEPEST_LOOPS code is.shallow
     (valid shape (loop_depth body) (all_resolved scope [] body) is.typed) in
-    record { valid = subst (λ left. IsValid shape left DEEPEST_LOOPS code) (sym (rule_leaves sort)) whole; small = small; short = short }
+    (subst (λ left. IsValid shape left DEEPEST_LOOPS code) (sym (rule_leaves sort)) whole, small)
 
-pub hold_is_program : ((shape : Shape) (e : Expression) → IsTyped shape 0 e → IsValid shape (type_of e ∷ []) 0 (hold_program_of e))
+pub hold_is_safe : ((shape : Shape) (e : Expression) → IsTyped shape 0 e → IsValid shape (type_of e ∷ []) 0 (hold_program_of e))
     → (scope : Scope) (e : NamedExpression) → IsHoldTicks scope e → AreSmall (tables_of scope).slots
-    → length (hold_code scope e).code < 2 ^ 32 → IsProgram (hold_code scope e)
-hold_is_program valid scope e is small short =
+    → IsSafe (hold_code scope e)
+hold_is_safe valid scope e is small =
     let shape = hold_shape scope in
     let tree = resolved scope [] e in
     let code = hold_program_of tree in
     let whole = deeper shape (type_of tree ∷ []) 0 DEEPEST_LOOPS code (omega arith) (valid shape tree is.typed) in
-    record { valid = subst (λ t. IsValid shape (t ∷ []) DEEPEST_LOOPS code) is.number whole; small = small; short = short }
+    (subst (λ t. IsValid shape (t ∷ []) DEEPEST_LOOPS code) is.number whole, small)
+
+-- a safe program that is short
+short_program : (p : Program) → IsSafe p → length p.code < 2 ^ 32 → IsProgram p
+short_program p safe short = record { valid = safe.0; small = safe.1; short = short }
 
 -- ---- What is written from nothing on
 
@@ -90,10 +93,9 @@ module _ (scope : Scope) (p : Program) (small : AreSmall (tables_of scope).slots
   pub rule_fits : ((shape : Shape) (depth : ℕ) (body : Statements) → AreTyped shape depth 0 body → IsValid shape [] depth (program_of body))
       → (sort : RuleSort) (body : NamedStatements) → IsRuleBody scope sort body → p ≡ rule_code scope sort body → IsProgram p
   rule_fits valid sort body is written =
-      subst IsProgram (sym written) (rule_is_program valid scope sort body is small
-      (subst (λ (q : Program). length q.code < 2 ^ 32) written short))
+      short_program p (subst IsSafe (sym written) (rule_is_safe valid scope sort body is small)) short
 
   pub hold_fits : ((shape : Shape) (e : Expression) → IsTyped shape 0 e → IsValid shape (type_of e ∷ []) 0 (hold_program_of e))
       → (e : NamedExpression) → IsHoldTicks scope e → p ≡ hold_code scope e → IsProgram p
   hold_fits valid e is written =
-      subst IsProgram (sym written) (hold_is_program valid scope e is small (subst (λ (q : Program). length q.code < 2 ^ 32) written short))
+      short_program p (subst IsSafe (sym written) (hold_is_safe valid scope e is small)) short

@@ -2,6 +2,7 @@
 
 ghost use Rattle.std.specs.Prelude.{◌≡◌, ℕ, ◌+◌, ◌*◌, ◌<◌, ◌≤◌, List, [], ℤ, IfSome, count_by, replicate, length};
 ghost use Rattle.dv_bag.specs.Bag.{Counts, bag_at, capped, count_of};
+ghost use Rattle.dv_bag.specs.BagLists.{AreBags};
 ghost use Rattle.dv_bag.specs.Inputs.{IsByTick, bags_at, inputs_at, inputs_before, is_of, next_from, tick_at};
 ghost use Rattle.dv_bag.specs.declared.inputs.Input.{Input};
 
@@ -12,6 +13,11 @@ pub fn equal_inputs_are_copies()
     ensures copies { (ports tick port : ℕ) (value : ℤ) (inputs : List Input) → port < ports
         → count_of value (bag_at (bags_at ports inputs tick) port)
         ≡ capped (count_by (is_of tick port value) inputs) }
+{}
+
+/// What comes in at a rank stands in bags.
+pub fn what_comes_in_stands_in_bags()
+    ensures { (limit ports n : ℕ) (inputs : List Input) → AreBags (inputs_at limit ports inputs n) }
 {}
 
 /// The place of a tick is that of the first input that is not before it, and is the same up to that input's tick.

@@ -1,0 +1,9 @@
+//! The compiled model is the model: its programs give the behaviour of its rules, direct links route as the coupling
+//! tree does, no hold that begins by an input is below the response, and so a network of programs and links has the
+//! trace of the text.
+//!
+//! Nothing here runs: each function of `laws` stands for a law of the definitions.
+#![tactic(auto)]
+
+/// What is so of every compiled model.
+pub mod laws;
