@@ -5,6 +5,7 @@ pub mod Arithmetic
 pub mod Arrivals
 pub mod Effects
 pub mod Inputs
+pub mod Numbers
 pub mod Outcome
 pub mod Part
 pub mod Reading

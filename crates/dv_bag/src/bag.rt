@@ -6,6 +6,7 @@ ghost use Rattle.std.specs.Option.{option_copied};
 ghost use Rattle.smallvec.specs.SmallVec.{HasRoomFor};
 ghost use Rattle.dv_bag.specs.Bag.{IsBag, bag_at, count_of, least, most, place_of, size, size_of_all, sum_or_overflow, total, union, with_copies, without_one};
 ghost use Rattle.dv_bag.specs.Same.{same_bag, same_bags, same_bag-decides, same_bags-decides};
+ghost use Rattle.dv_bag.specs.Numbers.{IsBagOfNumbers};
 
 use crate::GREATEST_COUNT;
 use crate::fault::Fault;
@@ -163,6 +164,16 @@ impl Bag {
         match search(self.pairs.as_slice(), value) {
             Ok(place) => self.pairs[place].1,
             Err(_) => 0,
+        }
+    }
+
+    /// Each value is a number of the language. It does nothing.
+    pub fn holds_numbers(&self)
+        ensures { IsBagOfNumbers self.now }
+    {
+        // A number is known to be one where it is read. A build leaves the loop out.
+        for pair in self.pairs.as_slice() {
+            let _value = pair.0;
         }
     }
 

@@ -4,6 +4,7 @@ ghost use Rattle.std.specs.Cmp.{decided, partial_equiv_from_equiv};
 ghost use Rattle.std.specs.Option.{option_map};
 ghost use Rattle.std.specs.Prelude.{◌≡◌, ◌==◌, ◌<◌, ◌≤◌, [], ◌∷◌, ◌++◌, length, slice_get, slice_set, IfOk, IfSome, OnOk, OnErr};
 ghost use Rattle.dv_bag.specs.Bag.{total, with_copies, without_one};
+ghost use Rattle.dv_bag.specs.Numbers.{HoldsNumbers, IsOfNumbers};
 ghost use Rattle.dv_bag.specs.Reading.{HasBagAt, HoldsFew, bag_held_at, datum_of};
 ghost use Rattle.dv_bag.specs.Same.{same_bag, same_bag-decides, same_datum, same_datum-decides, same_variables, same_variables-decides};
 ghost use Rattle.dv_bag.specs.declared.state.Datum.TheVariants as datum;
@@ -113,6 +114,21 @@ pub enum DatumView<'a> {
     Number(i64),
     Flag(bool),
     Bag(&'a Bag),
+}
+
+impl Datum {
+    // Each number of the datum is one of the language. It does nothing.
+    fn holds_numbers(&self)
+        ensures { IsOfNumbers self.now }
+    {
+        match self {
+            Datum::Number(number) => {
+                let _number = *number;
+            }
+            Datum::Flag(_) => {}
+            Datum::Bag(bag) => bag.as_bag().holds_numbers(),
+        }
+    }
 }
 
 impl MadeWith<Global> for Datum {
@@ -260,6 +276,15 @@ impl Variables {
             bag.drop_one(value);
         }
     }
+
+    /// Each number of the variables and bags is one of the language. It does nothing.
+    pub fn holds_numbers(&self)
+        ensures { HoldsNumbers self.now }
+    {
+        for datum in self.data.as_slice() {
+            datum.holds_numbers();
+        }
+    }
 }
 
 impl Clone for Variables {
@@ -291,6 +316,15 @@ impl Eq for Variables {
 pub struct State {
     pub phase: u32,
     pub variables: Variables,
+}
+
+impl State {
+    /// Each number of the state is one of the language. It does nothing.
+    pub fn holds_numbers(&self)
+        ensures { HoldsNumbers self.now.variables }
+    {
+        self.variables.holds_numbers();
+    }
 }
 
 impl Clone for State {

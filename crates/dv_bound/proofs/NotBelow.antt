@@ -11,7 +11,8 @@ use Rattle.dv_eval.specs.declared.scope.Domain.{Domain}
 use Rattle.dv_eval.specs.Meaning.{effect_of, hold_of, outermost}
 use Rattle.dv_eval.specs.Scope.{hold_ticks, phase_name, place_of, rule_body, rule_of, same_sort, scope_of}
 use Rattle.dv_accepted.specs.Fitting.{HoldsDatum, domain_named, in_phase}
-use Rattle.dv_bound.specs.Response.{HoldsNumbers, IsNotBelow, external_gotos, external_gotos_in, gotos_in, phase_response, response_of, sooner}
+use Rattle.dv_bag.specs.Numbers.{HoldsNumbers}
+use Rattle.dv_bound.specs.Response.{IsNotBelow, external_gotos, external_gotos_in, gotos_in, phase_response, response_of, sooner}
 use Rattle.dv_bound.specs.Soonest.{soonest}
 use Rattle.dv_bound.proofs.Names.{name_at}
 use Rattle.dv_bound.proofs.Gotos.{all_parts, run_leaves}

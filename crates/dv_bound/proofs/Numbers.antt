@@ -26,7 +26,8 @@ use Rattle.dv_bag.specs.declared.value.Value.TheVariants.{Number, Truth}
 use Rattle.dv_bag.specs.Reading.{bag_of_datum}
 use Rattle.dv_eval.specs.Scope.{Scope, names_of, place_of}
 use Rattle.dv_eval.specs.Meaning.{bag_between, call_result, datum_at, is_decided, meaning, moment_in, number_of, operator_result, outermost, prefix_result, value_of_datum}
-use Rattle.dv_bound.specs.Response.{HoldsNumbers, IsBagOfNumbers, IsOfNumbers, least_number}
+use Rattle.dv_bag.specs.Numbers.{HoldsNumbers, IsBagOfNumbers, IsOfNumbers}
+use Rattle.dv_bound.specs.Response.{least_number}
 use Rattle.dv_bound.proofs.Outcomes.{if_ok_any, if_ok_then}
 
 -- a number that is not below the least one of the language

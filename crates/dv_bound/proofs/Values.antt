@@ -19,7 +19,8 @@ use Rattle.dv_eval.specs.declared.scope.VariableRange.{VariableRange}
 use Rattle.dv_eval.specs.Scope.{Scope, names_of, place_of}
 use Rattle.dv_eval.specs.Meaning.{datum_at, datum_of_name, hold_of, meaning, moment_in, number_of, outermost, ticks_from, value_of_datum}
 use Rattle.dv_accepted.specs.Fitting.{HoldsDatum, datum_fits, domain_named}
-use Rattle.dv_bound.specs.Response.{HoldsNumbers, IsNotBelow, greatest_number, hold_response, least_number, low, low_end, ticks_in, within_numbers}
+use Rattle.dv_bag.specs.Numbers.{HoldsNumbers}
+use Rattle.dv_bound.specs.Response.{IsNotBelow, greatest_number, hold_response, least_number, low, low_end, ticks_in, within_numbers}
 use Rattle.dv_bound.proofs.Numbers.{name_not_under, not_less, value_not_under}
 use Rattle.dv_bound.proofs.Outcomes.{if_ok_any, if_ok_then}
 

@@ -1,7 +1,7 @@
 -- The response of an atomic model, which is its lookahead (Chandy and Misra; Bryant): where an external rule goes to a phase, the
 -- hold that begins there is not below it.
-use Rattle.std.specs.Prelude.{ℕ, ℤ, pos, negsuc, neg_ℤ, ◌+ℤ◌, ◌^◌, ◌-◌, ◌≤◌, int_lt, min, IsTrue, if◌then◌else◌, List, [], ◌∷◌, ◌++◌, fold, map, Option, Some, None}
-use Rattle.std.specs.List.{All, flat_map}
+use Rattle.std.specs.Prelude.{ℕ, ℤ, pos, negsuc, neg_ℤ, ◌+ℤ◌, ◌^◌, ◌-◌, ◌≤◌, int_lt, min, if◌then◌else◌, List, [], ◌∷◌, ◌++◌, fold, map, Option, Some, None}
+use Rattle.std.specs.List.{flat_map}
 use Rattle.dv_syntax.specs.Trees.{AtomicTree, RuleTree, Expression, Literal, Named, Parens, Binary, Call, Times, Statements, Done, Assign, Goto, Send, If, IfElse, For, Add, Drop}
 use Rattle.dv_syntax.specs.declared.tree.Operator.TheVariants as operator
 use Rattle.dv_syntax.specs.declared.tree.BagCall.TheVariants as call
@@ -9,11 +9,8 @@ use Rattle.dv_syntax.specs.declared.tree.RuleSort.TheVariants.{External}
 use Rattle.dv_eval.specs.Scope.{Scope, hold_ticks, same_sort, scope_of}
 use Rattle.dv_eval.specs.declared.scope.Domain.{Domain}
 use Rattle.dv_eval.specs.declared.scope.Domain.TheVariants as domain
-use Rattle.dv_bag.specs.Bag.{Counts, is_number}
 use Rattle.dv_bag.specs.declared.response.Response.{Response}
 use Rattle.dv_bag.specs.declared.response.Response.TheVariants as response
-use Rattle.dv_bag.specs.declared.state.Datum.{Datum}
-use Rattle.dv_bag.specs.declared.state.Datum.TheVariants as datum
 use Rattle.dv_accepted.specs.Fitting.{domain_named}
 
 -- the least and the greatest number of 64 bits
@@ -96,17 +93,3 @@ ticks_of response.Never = None
 abbrev pub IsNotBelow : Option ℕ → ℕ → Type 0
 IsNotBelow None ticks = ⊥
 IsNotBelow (Some r) ticks = r ≤ ticks
-
--- each value of a bag is a number of the language
-abbrev pub IsBagOfNumbers : Counts → Type 0
-IsBagOfNumbers b = All (λ p. IsTrue (is_number p.0)) b
-
--- a number of the language, a truth value, or a bag of such numbers
-abbrev pub IsOfNumbers : Datum → Type 0
-IsOfNumbers (datum.Number n) = IsTrue (is_number n)
-IsOfNumbers (datum.Flag b) = Unit {0}
-IsOfNumbers (datum.Bag b) = IsBagOfNumbers b
-
--- The variables and bags of a state hold numbers of the language alone. Those of a state of the code do by their type.
-abbrev pub HoldsNumbers : List Datum → Type 0
-HoldsNumbers contents = All IsOfNumbers contents

@@ -4,18 +4,19 @@ ghost use Rattle.std.specs.Prelude.{◌≡◌, ℕ, true, Ok, Some};
 ghost use Rattle.dv_syntax.specs.Trees.{AtomicTree};
 ghost use Rattle.dv_syntax.specs.declared.tree.RuleSort.TheVariants.{External};
 ghost use Rattle.dv_bag.specs.Arrivals.{Arrivals};
+ghost use Rattle.dv_bag.specs.Numbers.{HoldsNumbers};
 ghost use Rattle.dv_bag.specs.declared.state.State.{State};
 ghost use Rattle.dv_bag.specs.declared.state.Effect.{Effect};
 ghost use Rattle.dv_eval.specs.Meaning.{effect_of, hold_of};
 ghost use Rattle.dv_eval.specs.Scope.{hold_ticks, phase_name, rule_body, scope_of};
 ghost use Rattle.dv_accepted.specs.Fitting.{fits, in_phase};
-ghost use Rattle.dv_bound.specs.Response.{HoldsNumbers, IsNotBelow, response_of};
+ghost use Rattle.dv_bound.specs.Response.{IsNotBelow, response_of};
 
 use dv_accepted::laws::{accepted_names_are_known, rules_keep_to_the_ranges};
 
 /// Where an external rule goes to a phase, from any state that fits and whatever has arrived, the hold that begins
 /// there, if it ends, is not below the model's response. The state in which it begins holds numbers of the language
-/// alone, in variables and in bags, as each state of the code does by its type.
+/// alone, in variables and in bags, as each state of the code does by its type: see `State::holds_numbers`.
 pub fn holds_are_not_below_the_response()
     ensures { (m : AtomicTree) (phase place ticks : ℕ) (arrivals : Arrivals) (s : State)
         (e : Effect) → fits m s ≡ true →

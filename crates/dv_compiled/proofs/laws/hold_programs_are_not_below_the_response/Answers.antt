@@ -7,7 +7,7 @@ use Rattle.dv_devs.specs.Behaviour.{Change}
 use Rattle.dv_eval.specs.Meaning.{effect_of, hold_of}
 use Rattle.dv_eval.specs.Scope.{hold_ticks, phase_name, rule_body, scope_of}
 use Rattle.dv_accepted.specs.Fitting.{fits}
-use Rattle.dv_bound.specs.Response.{HoldsNumbers}
+use Rattle.dv_bag.specs.Numbers.{HoldsNumbers}
 use Rattle.dv_compiled.specs.Behaviours.{arriving}
 use Rattle.dv_compiled.proofs.Floods.{few_pass}
 use Rattle.dv_compiled.proofs.Responses.{goes_by_effect}
