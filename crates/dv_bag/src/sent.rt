@@ -1,10 +1,11 @@
 //! What a component sends.
 
 ghost use Rattle.std.specs.Cmp.{decided, partial_equiv_from_equiv};
-ghost use Rattle.std.specs.Prelude.{◌≡◌, ◌<◌, ◌==◌, ◌↔◌, ℕ, ℤ, IsTrue, [], length, nat_eq, replicate, slice_index_or, slice_set, IfOk, IfSome, OnOk, OnErr};
+ghost use Rattle.std.specs.Prelude.{◌≡◌, ◌<◌, ◌≤◌, ◌==◌, ◌↔◌, ℕ, ℤ, IsTrue, [], length, nat_eq, replicate, slice_index_or, slice_set, IfOk, IfErr, OnOk, OnErr};
+ghost use Rattle.std.specs.List.{AllWithin};
 ghost use Rattle.dv_bag.specs.Bag.{bag_at, count_of, size_of_all, with_copies};
 ghost use Rattle.dv_bag.specs.Same.{same_bags, same_bags-decides};
-ghost use Rattle.dv_bag.specs.Sent.{GoAsOften, HasCopiesAt, sent_at};
+ghost use Rattle.dv_bag.specs.Sent.{GoAsOften, HasCopiesAt, IsPlaceOf, RiseFrom, sent_at};
 
 use crate::bag::Bag;
 use smallvec::SmallVec;
@@ -39,8 +40,8 @@ impl MadeWith<Global> for Sending {
     }
 }
 
-/// What a component sent at one instant: a bag for each of its output ports, as one list. Copies of one value lie
-/// inline.
+/// What a component sent at one instant: a bag for each of its output ports, as one list in the order of the ports and
+/// then of the values. Copies of one value lie inline.
 #[derive(Debug, Drop)]
 pub struct Sent {
     ports: usize,
@@ -50,13 +51,13 @@ pub struct Sent {
 impl Model for Sent {
     ghost use Rattle.std.specs.Prelude.{List};
     ghost use Rattle.dv_bag.specs.Bag.{Counts};
-    ghost use Rattle.dv_bag.specs.Sent.{AreWithin, by_port};
+    ghost use Rattle.dv_bag.specs.Sent.{AreWithin, RiseFrom, by_port};
 
     ghost Value = { List Counts };
 
     ghost view = { λ s. by_port s.ports s.sendings.items };
 
-    ghost invariant = { λ s. AreWithin s.ports s.sendings.items };
+    ghost invariant = { λ s. AreWithin s.ports s.sendings.items × RiseFrom 0 s.sendings.items };
 }
 
 impl Sent {
@@ -106,21 +107,25 @@ impl Sent {
             (self.new ≡ slice_set self.old port (with_copies value 1 (bag_at self.old port))) }
         ensures err { OnErr result (self.new ≡ self.old) }
     {
-        if let Some(place) = find(self.sendings.as_slice(), port, value) {
-            let copies = self.sendings[place].copies.saturating_add(1);
-            self.sendings[place] = Sending {
-                port,
-                value,
-                copies,
-            };
-            return Ok(());
+        match search(self.sendings.as_slice(), port, value) {
+            Ok(place) => {
+                let copies = self.sendings[place].copies.saturating_add(1);
+                self.sendings[place] = Sending {
+                    port,
+                    value,
+                    copies,
+                };
+                Ok(())
+            }
+            Err(place) => {
+                let sending = Sending {
+                    port,
+                    value,
+                    copies: 1,
+                };
+                Ok(self.sendings.insert(place, sending)?)
+            }
         }
-        self.sendings.push(Sending {
-            port,
-            value,
-            copies: 1,
-        })?;
-        Ok(())
     }
 
     /// What was sent at a port. At a port past the last that is nothing.
@@ -132,25 +137,40 @@ impl Sent {
         ensures { IfOk result (λ bag. bag ≡ bag_at self.now port) }
     {
         let mut bag = Bag::new(*self.sendings.allocator());
-        for sending in self.sendings.as_slice() {
-            if sending.port == port {
-                bag.insert_copies(sending.value, sending.copies)?;
-            }
+        let sendings = self.sendings.as_slice();
+        let (first, end) = places_of(sendings, port);
+        for sending in &sendings[first..end] {
+            bag.insert_copies(sending.value, sending.copies)?;
         }
         Ok(bag)
     }
 }
 
-// The place of copies of a value that go to a port, if there are some.
-fn find(sendings: &[Sending], port: usize, value: i64) -> Option<usize>
-    ensures { IfSome result (λ place. HasCopiesAt port value place sendings.now) }
+// Where what goes to a port begins and ends, by two binary searches.
+fn places_of(sendings: &[Sending], port: usize) -> (usize, usize)
+    requires { RiseFrom 0 sendings.now }
+    ensures order { result.0 ≤ result.1 }
+    ensures within { result.1 ≤ length sendings.now }
+    ensures before { AllWithin (λ s. s.port < port) sendings.now 0 result.0 }
+    ensures there { AllWithin (λ s. s.port ≡ port) sendings.now result.0 result.1 }
+    ensures behind { AllWithin (λ s. port < s.port) sendings.now result.1 (length sendings.now) }
 {
-    for (place, sending) in sendings.iter().enumerate() {
-        if sending.is_of(port, value) {
-            return Some(place);
-        }
+    let first = sendings.partition_point(|sending| sending.port < port);
+    let end = sendings.partition_point(|sending| sending.port <= port);
+    (first, end)
+}
+
+// The place of copies of a value that go to a port, or the place at which they go in.
+fn search(sendings: &[Sending], port: usize, value: i64) -> Result<usize, usize>
+    requires { RiseFrom 0 sendings.now }
+    ensures found { IfOk result (λ place. HasCopiesAt port value place sendings.now) }
+    ensures absent { IfErr result (λ place. IsPlaceOf port place sendings.now) }
+{
+    let (first, end) = places_of(sendings, port);
+    match sendings[first..end].binary_search_by_key(&value, |sending| sending.value) {
+        Ok(place) => Ok(first + place),
+        Err(place) => Err(first + place),
     }
-    None
 }
 
 // Whether each value of the first list goes to its port as often by the second.

@@ -4,6 +4,7 @@ pub mod Apart
 pub mod ArrivalLists
 pub mod Capped
 pub mod Copies
+pub mod Enough
 pub mod Found
 pub mod Levels
 pub mod LinkCounts
@@ -19,6 +20,7 @@ pub mod Sources
 pub mod Sums
 pub mod Superposed
 pub mod Through
+pub mod TokenCounts
 pub mod TokenLists
 pub mod TokenSums
 pub mod Trees

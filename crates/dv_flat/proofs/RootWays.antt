@@ -1,8 +1,7 @@
 -- The links of a text, each counted as often as it has copies, are as many as the ways of its root.
-use Rattle.std.proofs.Common.{◌≡◌, ℕ, zero, suc, ◌+◌, ◌<◌, ◌≤◌, List, [], ◌∷◌, length, map, get_or, min, nat_lt, replicate, drop, refl, ap, sym, ◌∙◌, ◌-◌, ◌^◌, arith, lit<}
+use Rattle.std.proofs.Common.{◌≡◌, ℕ, zero, suc, ◌+◌, ◌≤◌, List, [], ◌∷◌, length, map, get_or, replicate, drop, refl, ap, sym, ◌∙◌, arith}
 use Rattle.std.specs.Prelude.{Option, Some, None, option_map}
 use Rattle.std.specs.List.{range_with_len, sum, sum_by}
-use Rattle.std.proofs.lemmas.Bool.Decides.{nat_tests}
 use Rattle.std.proofs.lemmas.List.{length-map, length-replicate}
 use Rattle.std.proofs.lemmas.List.Sums.{sum_by-append}
 use Rattle.dv_syntax.specs.Trees.{ModelTree, CoupledTree, FileTree}
@@ -17,7 +16,6 @@ use Rattle.dv_tree.specs.Tables.{LevelTable, level_of, root_table}
 use Rattle.dv_flat.specs.Ends.{input_count, port_at, ports_from}
 use Rattle.dv_flat.specs.Limit.{link_count}
 use Rattle.dv_flat.specs.Ways.{WayCounts, all_ways, at_port, coupled_ways, no_ways, part_ways, ways_below}
-use Rattle.dv_flat.specs.declared.TheConstants.{GREATEST_LINKS}
 use Rattle.dv_flat.proofs.Alike.{Alike}
 use Rattle.dv_flat.proofs.Copies.{copies}
 use Rattle.dv_flat.proofs.Levels.{levels_counted}
@@ -127,9 +125,6 @@ links_are_ways f =
     let out = root_left f.models (root_of f) in
     omega (arith, direct_sum f, entry_sum f, exit_sum f, both, arriving_all, root, out)
 
-passed_kept : (m l n k : ℕ) → l < m → min n m ≡ min k m → nat_lt l (min n m) ≡ nat_lt l k
-passed_kept m l n k below alike = grind (arith, nat_tests)
-
 -- the root's ways by tables
 ways_by_table : (models : List ModelTree) (root : Option CoupledTree) (l : LevelTable) → Some l ≡ option_map (level_of models) root →
     coupled_ways (length (numbers (inputs_in root))) l (part_ways (ways_below GREATEST_DEPTH models) l.parts) ≡ root_ways models root
@@ -142,15 +137,13 @@ ways_by_table models (Some m) l e =
     (length-map m.inputs (λ (x : Name). x.number))
     ∙ levels_counted GREATEST_DEPTH models m)
 
--- a text passes the limit where the ways of its root, as far as they are kept, do
-pub passes_by_ways : (f : FileTree) (l : LevelTable) (inputs : ℕ) (below : List WayCounts) (total : ℕ) → Some l ≡ root_table f →
+-- a text has as many links as its root has ways, as far as they are kept
+pub counted_by_ways : (f : FileTree) (l : LevelTable) (inputs : ℕ) (below : List WayCounts) (total : ℕ) → Some l ≡ root_table f →
     inputs ≡ length (root_inputs f) → below ≡ ways_below GREATEST_DEPTH f.models →
-    total ≡ capped (all_ways (coupled_ways inputs l (part_ways below l.parts))) →
-    nat_lt GREATEST_LINKS total ≡ nat_lt GREATEST_LINKS (link_count f)
-passes_by_ways f l inputs below total root_is inputs_are below_is total_is =
+    total ≡ capped (all_ways (coupled_ways inputs l (part_ways below l.parts))) → total ≡ capped (link_count f)
+counted_by_ways f l inputs below total root_is inputs_are below_is total_is =
     let ways : coupled_ways inputs l (part_ways below l.parts) ≡ root_ways f.models (root_of f) =
     ap (λ n. coupled_ways n l (part_ways below l.parts)) inputs_are
     ∙ (ap (λ ws. coupled_ways (length (root_inputs f)) l (part_ways ws l.parts)) below_is
     ∙ ways_by_table f.models (root_of f) l root_is) in
-    ap (nat_lt GREATEST_LINKS) (total_is ∙ ap (λ w. capped (all_ways w)) ways)
-    ∙ passed_kept (2 ^ 64 - 1) GREATEST_LINKS (all_ways (root_ways f.models (root_of f))) (link_count f) (lit< tt) (sym (links_are_ways f))
+    total_is ∙ (ap (λ w. capped (all_ways w)) ways ∙ sym (links_are_ways f))

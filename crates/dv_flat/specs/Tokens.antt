@@ -1,12 +1,12 @@
--- Tokens: each output port of a component, and each input port of the root, sends a value of its own.
-use Rattle.std.specs.Prelude.{ℕ, zero, suc, ◌+◌, List, [], ◌∷◌, ◌++◌, length, map, fold, replicate, slice_index_or, slice_set, Option, Some, None, ℤ, pos, negsuc}
-use Rattle.std.specs.List.{range_with_len}
+-- Tokens: each source, an output port of a component, sends a value of its own, and so does each input port of the root.
+use Rattle.std.specs.Prelude.{ℕ, zero, suc, ◌+◌, ◌<◌, Bool, false, if◌then◌else◌, List, [], ◌∷◌, ◌++◌, length, map, fold, replicate, slice_index_or, slice_set, Option, Some, None, ℤ, pos, negsuc}
+use Rattle.std.specs.List.{filter_map, range_with_len}
 use Rattle.dv_syntax.specs.Trees.{FileTree}
-use Rattle.dv_bag.specs.Bag.{Counts, bag_at}
+use Rattle.dv_bag.specs.Bag.{Counts, bag_at, with_copies}
 use Rattle.dv_tree.specs.Instances.{Instance, instances, root_inputs, root_outputs}
 use Rattle.dv_tree.specs.Routing.{arrives, leaves}
-use Rattle.dv_flat.specs.Ends.{input_ports, output_count, output_ports}
-use Rattle.dv_flat.specs.Links.{root_ports}
+use Rattle.dv_flat.specs.Ends.{input_ports, output_count}
+use Rattle.dv_flat.specs.Links.{direct_copies, direct_link, exit_copies, exit_link, root_ports}
 use Rattle.dv_flat.specs.declared.arrivals.Arrival.{Arrival}
 use Rattle.dv_flat.specs.declared.link.ComponentPort.{ComponentPort}
 use Rattle.dv_flat.specs.declared.link.DirectLink.{DirectLink}
@@ -21,21 +21,39 @@ token t = (pos t, 1) ∷ []
 abbrev pub tokens_from : ℕ → ℕ → List Counts
 tokens_from first ports = map token (range_with_len first ports)
 
--- for each output port of components
-abbrev pub sent_tokens : ℕ → List Instance → List (List Counts)
-sent_tokens first [] = []
-sent_tokens first (i ∷ is) = tokens_from first (output_count i.model) ∷ sent_tokens (first + output_count i.model) is
+-- no values at the output ports of components
+abbrev pub silence : List Instance → List (List Counts)
+silence is = map (λ (i : Instance). replicate (output_count i.model) []) is
 
--- the tokens of the root's inputs stand behind those of the outputs
-abbrev pub come_tokens : FileTree → List Counts
-come_tokens f = tokens_from (length (output_ports f)) (length (root_inputs f))
+-- with a token at an output port
+abbrev pub with_token : List (List Counts) → ℕ → ComponentPort → List (List Counts)
+with_token sent t from =
+    slice_set sent from.component
+    (slice_set (slice_index_or sent from.component []) from.port
+    (with_copies (pos t) 1 (bag_at (slice_index_or sent from.component []) from.port)))
+
+-- with those of sources, from one on
+abbrev pub with_tokens : ℕ → List ComponentPort → List (List Counts) → List (List Counts)
+with_tokens t [] sent = sent
+with_tokens t (from ∷ froms) sent = with_tokens (suc t) froms (with_token sent t from)
+
+-- an output port of a component that there is
+abbrev pub IsOutput : FileTree → ComponentPort → Type 0
+IsOutput f from = from.port < slice_index_or (map (λ (i : Instance). output_count i.model) (instances f)) from.component 0
+
+-- the token of each source is its place; the tokens of the root's inputs stand behind these
+abbrev pub sent_tokens : FileTree → List ComponentPort → List (List Counts)
+sent_tokens f sources = with_tokens 0 sources (silence (instances f))
+
+abbrev pub come_tokens : FileTree → List ComponentPort → List Counts
+come_tokens f sources = tokens_from (length sources) (length (root_inputs f))
 
 -- what arrives and what leaves of all tokens
-abbrev pub arrived_tokens : FileTree → List (List Counts)
-arrived_tokens f = arrives f (sent_tokens 0 (instances f)) (come_tokens f)
+abbrev pub arrived_tokens : FileTree → List ComponentPort → List (List Counts)
+arrived_tokens f sources = arrives f (sent_tokens f sources) (come_tokens f sources)
 
-abbrev pub left_tokens : FileTree → List Counts
-left_tokens f = leaves f (sent_tokens 0 (instances f))
+abbrev pub left_tokens : FileTree → List ComponentPort → List Counts
+left_tokens f sources = leaves f (sent_tokens f sources)
 
 -- so many copies come to a target; of none there is no arrival
 abbrev pub arrival : {T : Type 0} → T → ℕ → Option (Arrival T)
@@ -60,12 +78,26 @@ abbrev pub with_output : List Counts → List (List (Arrival ℕ)) → ℕ → L
 with_output leaving lists to = with_arrivals to lists (bag_at leaving to)
 
 -- for each token the input ports of components where it arrives, and the output ports of the root where it leaves
-abbrev pub arrival_lists : FileTree → List (List (Arrival ComponentPort))
-arrival_lists f =
-    fold (with_input (arrived_tokens f)) (replicate (length (output_ports f) + length (root_inputs f)) []) (input_ports f)
+abbrev pub arrival_lists : FileTree → List ComponentPort → List (List (Arrival ComponentPort))
+arrival_lists f sources =
+    fold (with_input (arrived_tokens f sources)) (replicate (length sources + length (root_inputs f)) []) (input_ports f)
 
-abbrev pub departure_lists : FileTree → List (List (Arrival ℕ))
-departure_lists f = fold (with_output (left_tokens f)) (replicate (length (output_ports f)) []) (root_ports (root_outputs f))
+abbrev pub departure_lists : FileTree → List ComponentPort → List (List (Arrival ℕ))
+departure_lists f sources =
+    fold (with_output (left_tokens f sources)) (replicate (length sources) []) (root_ports (root_outputs f))
+
+-- the links of one source
+abbrev pub direct_from : FileTree → ComponentPort → List DirectLink
+direct_from f from = filter_map (λ to. direct_link from to (direct_copies f from to)) (input_ports f)
+
+abbrev pub exit_from : FileTree → ComponentPort → List ExitLink
+exit_from f from = filter_map (λ to. exit_link from to (exit_copies f from to)) (root_ports (root_outputs f))
+
+-- the sources at whose places a flag stands
+abbrev pub chosen_from : ℕ → List Bool → List ComponentPort → List ComponentPort
+chosen_from k flags [] = []
+chosen_from k flags (from ∷ froms) =
+    if slice_index_or flags k false then from ∷ chosen_from (suc k) flags froms else chosen_from (suc k) flags froms
 
 -- the links of a source, by its arrivals
 abbrev pub direct_to : ComponentPort → List (Arrival ComponentPort) → List DirectLink

@@ -4,8 +4,7 @@ ghost use Rattle.std.specs.Prelude.{◌≡◌, ◌+◌, ◌^◌, ◌<◌, ◌≤
 ghost use Rattle.std.specs.List.{All, range_with_len};
 ghost use Rattle.dv_syntax.specs.Trees.{file_of};
 ghost use Rattle.dv_bag.specs.Bag.{bag_at};
-ghost use Rattle.dv_flat.specs.Ends.{output_ports};
-ghost use Rattle.dv_flat.specs.Tokens.{arrival_lists, departure_lists, with_arrival, with_arrivals, with_input, with_output};
+ghost use Rattle.dv_flat.specs.Tokens.{IsOutput, arrival_lists, departure_lists, with_arrival, with_arrivals, with_input, with_output};
 ghost use Rattle.dv_flat.specs.declared.link.ComponentPort as component_port;
 
 use crate::link::ComponentPort;
@@ -32,42 +31,46 @@ pub(crate) struct Reached {
 }
 
 impl Reached {
-    /// What the sources reach, where the components have so many output ports.
+    /// What the sources and the root's inputs reach.
     ///
     /// # Errors
     ///
     /// No memory for the tokens or their arrivals.
-    pub(crate) fn of(alloc: Global, tree: &Tree, outputs: usize) -> Result<Self, AllocError>
-        requires all { outputs ≡ length (output_ports (file_of tree.now.file)) }
-        requires few { outputs + GREATEST_NAMES < 2 ^ 63 }
+    pub(crate) fn of(
+        alloc: Global,
+        tree: &Tree,
+        sources: &[ComponentPort],
+    ) -> Result<Self, AllocError>
+        requires outputs { All (IsOutput (file_of tree.now.file)) sources.now }
+        requires few { length sources.now + GREATEST_NAMES < 2 ^ 63 }
         ensures inputs { IfOk result (λ reached. map (λ list. list.items) reached.inputs.items
-            ≡ arrival_lists (file_of tree.now.file)) }
+            ≡ arrival_lists (file_of tree.now.file) sources.now) }
         ensures outputs { IfOk result (λ reached. map (λ list. list.items) reached.outputs.items
-            ≡ departure_lists (file_of tree.now.file)) }
+            ≡ departure_lists (file_of tree.now.file) sources.now) }
     {
         let targets = input_ports(alloc, tree)?;
-        let routed = route_tokens(alloc, tree, outputs)?;
-        let sources = outputs + tree.input_count();
+        let routed = route_tokens(alloc, tree, sources)?;
+        let tokens = sources.len() + tree.input_count();
         Ok(Reached {
-            inputs: arrivals_at_inputs(alloc, sources, &targets, &routed.received)?,
-            outputs: arrivals_at_outputs(alloc, outputs, &routed.leaving)?,
+            inputs: arrivals_at_inputs(alloc, tokens, &targets, &routed.received)?,
+            outputs: arrivals_at_outputs(alloc, sources.len(), &routed.leaving)?,
         })
     }
 }
 
-// For each of so many sources the input ports of components that its token reaches.
+// For each of so many tokens the input ports of components that it reaches.
 fn arrivals_at_inputs(
     alloc: Global,
-    sources: usize,
+    tokens: usize,
     targets: &[ComponentPort],
     received: &[Bags],
 ) -> Result<Vec<Vec<Arrival<ComponentPort>>>, AllocError>
     requires { All (λ (to : component_port.ComponentPort). (to.component < length received.now)
         × (to.port < length (slice_index_or received.now to.component []))) targets.now }
     ensures { IfOk result (λ lists. map (λ list. list.items) lists.items
-        ≡ fold (with_input received.now) (replicate sources []) targets.now) }
+        ≡ fold (with_input received.now) (replicate tokens []) targets.now) }
 {
-    let mut lists = empty_lists(alloc, sources)?;
+    let mut lists = empty_lists(alloc, tokens)?;
     for to in targets {
         let bag = received[to.component as usize].get(to.port as usize);
         add_arrivals(*to, bag, &mut lists)?;
@@ -75,18 +78,18 @@ fn arrivals_at_inputs(
     Ok(lists)
 }
 
-// For each of so many sources the output ports of the root that its token reaches.
+// For each of so many tokens the output ports of the root that it reaches.
 fn arrivals_at_outputs(
     alloc: Global,
-    sources: usize,
+    tokens: usize,
     leaving: &Bags,
 ) -> Result<Vec<Vec<Arrival<u32>>>, AllocError>
     requires { length leaving.now ≤ GREATEST_NAMES }
     ensures { IfOk result (λ lists. map (λ list. list.items) lists.items
-        ≡ fold (with_output leaving.now) (replicate sources [])
+        ≡ fold (with_output leaving.now) (replicate tokens [])
         (range_with_len 0 (length leaving.now))) }
 {
-    let mut lists = empty_lists(alloc, sources)?;
+    let mut lists = empty_lists(alloc, tokens)?;
     for port in 0..leaving.len() {
         add_arrivals(port as u32, leaving.get(port), &mut lists)?;
     }

@@ -11,6 +11,8 @@ pub mod laws;
 mod limit;
 /// Links between ports.
 pub mod link;
+/// Which outputs lead on.
+mod live;
 /// The ports of the components.
 mod ports;
 /// Values that tell where they were sent.

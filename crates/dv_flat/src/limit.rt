@@ -1,13 +1,12 @@
-//! Whether a text has too many links, counted model by model: neither instances are visited nor ways walked.
+//! How many links a text has, counted model by model: neither instances are visited nor ways walked.
 
-ghost use Rattle.std.specs.Prelude.{◌≡◌, fold, nat_lt, option_copied, replicate, slice_index_or, sum, IfOk, OnOk};
+ghost use Rattle.std.specs.Prelude.{◌≡◌, fold, option_copied, replicate, slice_index_or, sum, IfOk, OnOk};
 ghost use Rattle.std.specs.List.{sum_by};
 ghost use Rattle.dv_syntax.specs.Trees.{file_of, model_of};
 ghost use Rattle.dv_bag.specs.Bag.{capped};
 ghost use Rattle.dv_flat.specs.Limit.{link_count};
 ghost use Rattle.dv_flat.specs.Ways.{all_ways, at_port, component_ways, coupled_ways, inside_ways, input_ways, joined_ways, more_at, more_out, no_ways, output_ways, own_inputs, part_ways, ways_below, ways_by, ways_from, ways_over, with_output};
 
-use crate::GREATEST_LINKS;
 use dv_check::GREATEST_DEPTH;
 use dv_eval::Scope;
 use dv_syntax::Model as ModelItem;
@@ -19,7 +18,7 @@ use std::marker::Model;
 /// output ports from components inside, and how many begin and end inside. A number past the greatest `u64` is kept as
 /// that one.
 #[derive(Drop)]
-struct Ways {
+pub(crate) struct Ways {
     inputs: Vec<u64>,
     outputs: Vec<u64>,
     inside: u64,
@@ -84,7 +83,7 @@ fn sum_of(ways: &[u64]) -> u64
 }
 
 // The ways of a port; past the last port there are none.
-fn at_port(ways: &[u64], port: usize) -> u64
+pub(crate) fn at_port(ways: &[u64], port: usize) -> u64
     ensures { result ≡ at_port ways.now port }
 {
     match ways.get(port) {
@@ -112,7 +111,7 @@ fn inputs_of<'w>(below: &'w [Ways], part: &Entry) -> &'w [u64]
     }
 }
 
-fn outputs_of<'w>(below: &'w [Ways], part: &Entry) -> &'w [u64]
+pub(crate) fn outputs_of<'w>(below: &'w [Ways], part: &Entry) -> &'w [u64]
     ensures { result.now ≡ (slice_index_or below.now part.now.model no_ways).outputs }
 {
     match below.get(part.model) {
@@ -131,7 +130,7 @@ fn inside_of(below: &[Ways], part: &Entry) -> u64
 }
 
 // The ways that lead on inside from the target of a coupling.
-fn ways_from(target: Target, parts: &[Entry], below: &[Ways]) -> u64
+pub(crate) fn ways_from(target: Target, parts: &[Entry], below: &[Ways]) -> u64
     ensures { result ≡ ways_from (part_ways below.now parts.now) target }
 {
     match target {
@@ -261,9 +260,13 @@ fn ways_over(alloc: Global, tree: &Tree, below: &[Ways]) -> Result<Vec<Ways>, Al
     Ok(over)
 }
 
-// The ways of the models whose parts show down to fewer levels than this. Those of one level are counted from those of
-// the level before: the work is in the length of the text, however many ways there are.
-fn ways_below(alloc: Global, levels: usize, tree: &Tree) -> Result<Vec<Ways>, AllocError>
+/// The ways of the models whose parts show down to fewer levels than this. Those of one level are counted from those of
+/// the level before: the work is in the length of the text, however many ways there are.
+///
+/// # Errors
+///
+/// No memory for the numbers of ways.
+pub(crate) fn ways_below(alloc: Global, levels: usize, tree: &Tree) -> Result<Vec<Ways>, AllocError>
     ensures { IfOk result (λ ways. ways.items ≡ ways_below levels (file_of tree.now.file).models) }
 {
     let mut ways = Vec::new(alloc);
@@ -273,19 +276,19 @@ fn ways_below(alloc: Global, levels: usize, tree: &Tree) -> Result<Vec<Ways>, Al
     Ok(ways)
 }
 
-/// Whether a text has more than `GREATEST_LINKS` links, each counted as often as it has copies.
+/// The number of links of a text, each counted as often as it has copies, by the ways of the models one level below the
+/// root. A number past the greatest `u64` stands as that one.
 ///
 /// # Errors
 ///
 /// No memory for the numbers of ways.
-pub(crate) fn passes_limit(alloc: Global, tree: &Tree) -> Result<bool, AllocError>
-    ensures { IfOk result (λ passes. passes
-        ≡ nat_lt GREATEST_LINKS (link_count (file_of tree.now.file))) }
+pub(crate) fn count_links(alloc: Global, tree: &Tree, below: &[Ways]) -> Result<u64, AllocError>
+    requires { below.now ≡ ways_below GREATEST_DEPTH (file_of tree.now.file).models }
+    ensures { IfOk result (λ count. count ≡ capped (link_count (file_of tree.now.file))) }
 {
     let Some(root) = tree.root_level() else {
-        return Ok(false);
+        return Ok(0);
     };
-    let below = ways_below(alloc, GREATEST_DEPTH, tree)?;
-    let ways = Ways::coupled(alloc, tree.input_count(), root, &below)?;
-    Ok(ways.total() > GREATEST_LINKS)
+    let ways = Ways::coupled(alloc, tree.input_count(), root, below)?;
+    Ok(ways.total())
 }

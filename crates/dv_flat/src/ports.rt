@@ -1,9 +1,10 @@
 //! The ports of the components, in the order of the components' numbers.
 
-ghost use Rattle.std.specs.Prelude.{◌≡◌, ◌++◌, length, map, nat_eq, IfOk, OnOk};
+ghost use Rattle.std.specs.Prelude.{◌≡◌, ◌++◌, false, length, map, nat_eq, slice_index_or, IfOk, OnOk};
 ghost use Rattle.std.specs.List.{IsDistinct, range_with_len};
 ghost use Rattle.dv_syntax.specs.Trees.{file_of};
 ghost use Rattle.dv_flat.specs.Ends.{input_ports, output_ports, port_at};
+ghost use Rattle.dv_flat.specs.Tokens.{chosen_from};
 
 use crate::link::ComponentPort;
 use dv_tree::Tree;
@@ -41,6 +42,37 @@ pub(crate) fn input_ports(alloc: Global, tree: &Tree) -> Result<Vec<ComponentPor
         add_ports(component as u32, tree.scope(component).inputs(), &mut ports)?;
     }
     Ok(ports)
+}
+
+/// Those of the ports at whose places a flag stands.
+///
+/// # Errors
+///
+/// No memory for the ports.
+pub(crate) fn chosen(
+    alloc: Global,
+    ports: &[ComponentPort],
+    flags: &[bool],
+) -> Result<Vec<ComponentPort>, AllocError>
+    ensures { IfOk result (λ chosen. chosen.items ≡ chosen_from 0 flags.now ports.now) }
+{
+    let mut chosen = Vec::new(alloc);
+    for (place, port) in ports.iter().enumerate() {
+        if is_set(flags, place) {
+            chosen.push(*port)?;
+        }
+    }
+    Ok(chosen)
+}
+
+/// Whether a flag stands at a place. Past the last place there is none.
+pub(crate) fn is_set(flags: &[bool], place: usize) -> bool
+    ensures { result ≡ slice_index_or flags.now place false }
+{
+    match flags.get(place) {
+        Some(flag) => *flag,
+        None => false,
+    }
 }
 
 // The ports of one component, by their names. Different names of 32 bits are few enough for places of 32 bits.

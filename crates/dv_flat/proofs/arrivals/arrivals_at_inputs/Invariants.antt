@@ -6,4 +6,4 @@ use Rattle.dv_flat.proofs.arrivals.arrivals_at_inputs.Given as goal
 abbrev pub invariant-loop-to : goal.invariant-loop-to
 invariant-loop-to l =
     fold (with_input l.received) (map (λ list. list.items) l.lists.items) (drop l.to-index l.targets)
-    ≡ fold (with_input l.received) (replicate l.sources []) l.targets
+    ≡ fold (with_input l.received) (replicate l.tokens []) l.targets

@@ -7,4 +7,4 @@ use Rattle.dv_flat.proofs.arrivals.arrivals_at_outputs.Given as goal
 abbrev pub invariant-loop-port : goal.invariant-loop-port
 invariant-loop-port l =
     fold (with_output l.leaving) (map (λ list. list.items) l.lists.items) (range_with_len l.port (length l.leaving - l.port))
-    ≡ fold (with_output l.leaving) (replicate l.sources []) (range_with_len 0 (length l.leaving))
+    ≡ fold (with_output l.leaving) (replicate l.tokens []) (range_with_len 0 (length l.leaving))

@@ -1,45 +1,40 @@
-use Rattle.std.proofs.Common.{◌∙◌, ◌∷◌, ◌++◌, [], ap, arith, length, sym}
+use Rattle.std.proofs.Common.{[], get_or, length, map, ap, arith, ◌∙◌}
+use Rattle.std.proofs.lemmas.Int.{ints}
+use Rattle.std.proofs.lemmas.List.{get_or_default}
 use Rattle.dv_syntax.specs.Trees.{file_of}
-use Rattle.dv_eval.specs.Scope.{Scope}
 use Rattle.dv_tree.specs.Instances.{instances}
-use Rattle.dv_flat.specs.Ends.{output_count}
-use Rattle.dv_flat.specs.Tokens.{sent_tokens}
-use Rattle.dv_flat.proofs.PortLists.{instance_at}
-use Rattle.dv_flat.proofs.TokenLists.{length-ports_there, tokens_step}
+use Rattle.dv_flat.specs.Ends.{port_at}
+use Rattle.dv_flat.specs.Tokens.{with_tokens}
+use Rattle.dv_flat.proofs.TokenCounts.{component_within, port_there, silence_lengths, token_lengths, token_sent}
 use Rattle.dv_flat.proofs.tokens.sent_tokens.Goals as goal
 
-pub tokens_sent-requires : goal.tokens_sent-requires
-tokens_sent-requires c =
-    let at = instance_at (instances (file_of c.args.tree.now.file)) c.loop-component.component c.scope.result.now c.scope.ensures in
-    let own = ap (λ (s : Scope). length s.outputs) at.scope ∙ sym c.output_count-ports.ensures in
-    omega (
-      arith,
-      c.loop-component.invariant.1,
-      c.requires.few,
-      length-ports_there at output_count c.output_count-ports.result own,
-    )
+pub loop-token-init : goal.loop-token-init
+loop-token-init c = record {
+  so_far = ap (with_tokens 0 c.args.sources.now) c.in_ok-sent.ensures;
+  ports = ap (map length) c.in_ok-sent.ensures ∙ silence_lengths (instances (file_of c.args.tree.now.file));
+}
 
-pub overflow_add-first : goal.overflow_add-first
-overflow_add-first c =
-    let at = instance_at (instances (file_of c.args.tree.now.file)) c.loop-component.component c.scope.result.now c.scope.ensures in
-    let own = ap (λ (s : Scope). length s.outputs) at.scope ∙ sym c.output_count-ports.ensures in
+pub index_mut-values-requires : goal.index_mut-values-requires
+index_mut-values-requires c =
+    let at = c.loop-token in
+    let there = c.requires.outputs at.token (port_at 0 0) c.loop-token-test.true in
+    let long = port_there at.sent.items _ _ at.invariant.ports there in
+    omega (arith, component_within at.sent.items _ _ long)
+
+pub loop-token-preserved : goal.loop-token-preserved
+loop-token-preserved c =
+    let at = c.loop-token in
+    let sources = c.args.sources.now in
+    let from = get_or sources at.token (port_at 0 0) in
+    let values = c.index_mut-values.result.now in
+    let there = c.requires.outputs at.token (port_at 0 0) c.loop-token-test.true in
+    let long = component_within at.sent.items from.component _ (port_there at.sent.items _ from at.invariant.ports there) in
+    let old = c.index_mut-values.ensures.value ∙ get_or_default at.sent.items from.component values [] long in
     record {
-      fits = omega (
-        arith,
-        c.loop-component.invariant.1,
-        c.requires.few,
-        length-ports_there at output_count c.output_count-ports.result own,
-      );
+      so_far =
+          token_sent sources at.token (port_at 0 0) at.sent.items values c.insert.new.self _ c.loop-token-test.true
+          (omega (arith, ints)) old c.in_ok-insert.ensures.ok ∙ at.invariant.so_far;
+      ports =
+          token_lengths sources at.token (port_at 0 0) at.sent.items values c.insert.new.self _ c.loop-token-test.true
+          (omega (arith, ints)) old c.in_ok-insert.ensures.ok ∙ at.invariant.ports;
     }
-
-pub loop-component-preserved : goal.loop-component-preserved
-loop-component-preserved c =
-    let is = instances (file_of c.args.tree.now.file) in
-    let ports = c.output_count-ports.result in
-    let at = instance_at is c.loop-component.component c.scope.result.now c.scope.ensures in
-    let own = ap (λ (s : Scope). length s.outputs) at.scope ∙ sym c.output_count-ports.ensures in (
-      tokens_step at c.loop-component.first ports c.loop-component.sent.items c.push.new.self.items (sent_tokens 0 is) own
-          (c.in_ok-push.ensures.items ∙ ap (λ bags. c.loop-component.sent.items ++ bags ∷ []) c.in_ok-tokens_sent.ensures)
-          c.loop-component.invariant.0,
-      omega (arith, c.loop-component.invariant.1, length-ports_there at output_count ports own),
-    )

@@ -4,4 +4,5 @@ use Rattle.dv_bag.proofs.Sendings.{none_or_some}
 use Rattle.dv_bag.proofs.sent.Sent.is_empty.Goals as goal
 
 pub returns : goal.returns
-returns c = c.is_empty.ensures ∙ none_or_some c.self.inside.ports c.self.inside.sendings.items c.self.invariant ∙ ap (λ bags. nat_eq (size_of_all bags) 0) c.self.view_is
+returns c = c.is_empty.ensures ∙ none_or_some c.self.inside.ports c.self.inside.sendings.items c.self.invariant.0
+    ∙ ap (λ bags. nat_eq (size_of_all bags) 0) c.self.view_is

@@ -14,6 +14,6 @@ pub returns : goal.returns
 returns c =
     let all = at_drop_all copies_in c.as_slice-sending-items.result.now c.loop-sending.sending-index (omega arith) in
     let same = ap copies_in c.as_slice-sending-items.ensures in
-    let whole = total_by_port c.self.inside.ports c.self.inside.sendings.items c.self.invariant in
+    let whole = total_by_port c.self.inside.ports c.self.inside.sendings.items c.self.invariant.0 in
     let view = ap size_of_all c.self.view_is in
     omega arith

@@ -1,6 +1,0 @@
-use Rattle.std.proofs.Common.{◌≡◌, ◌-◌, ◌++◌, [], replicate}
-use Rattle.dv_flat.specs.Tokens.{tokens_from}
-use Rattle.dv_flat.proofs.tokens.tokens_sent.Given as goal
-
-abbrev pub invariant-loop-port : goal.invariant-loop-port
-invariant-loop-port l = l.sent ≡ tokens_from l.first l.port ++ replicate (l.ports - l.port) []
