@@ -1,5 +1,6 @@
 -- From a state that fits a model, its rules lead to states that fit.
-use Rattle.std.proofs.Common.{◌≡◌, ℕ, ℤ, zero, suc, ◌<◌, Bool, true, false, nat_lt, if◌then◌else◌, List, [], ◌∷◌, length, replicate, refl, sym, ap, ◌∙◌, Option, Some, None, Result, Ok, Err}
+use Rattle.std.proofs.Common.{◌≡◌, ℕ, ℤ, zero, suc, ◌<◌, Bool, true, false, nat_lt, if◌then◌else◌, List, [], ◌∷◌, length}
+use Rattle.std.proofs.Common.{replicate, refl, sym, ap, ◌∙◌, Option, Some, None, Result, Ok, Err}
 use Rattle.std.specs.Prelude.{slice_get, slice_set}
 use Rattle.std.proofs.lemmas.Bool.{lt-ltb}
 use Rattle.dv_syntax.specs.Trees.{Statements, Done, Assign, Goto, Send, If, IfElse, For, Add, Drop}
@@ -17,7 +18,10 @@ use Rattle.dv_eval.specs.declared.scope.Domain.TheVariants as domain
 use Rattle.dv_eval.specs.Scope.{Scope, names_of, place_of}
 use Rattle.dv_bag.specs.Arrivals.{Arrivals}
 use Rattle.dv_bag.specs.Effects.{is_full, is_within, with_bag, with_datum, with_state}
-use Rattle.dv_eval.specs.Meaning.{Context, addition, addition_at, addition_to, assignment, assignment_at, assignment_in_domain, assignment_to, bag_of_name, capacity_of, effect_of, in_loop, moment_in, number_of, outermost, removal_at, removal_from, repetition, run, sending, truth_of, value_within, with_goto, with_value_at}
+use Rattle.dv_eval.specs.Meaning.{Context, addition, addition_at, addition_to, assignment, assignment_at, assignment_in_domain}
+use Rattle.dv_eval.specs.Meaning.{assignment_to, bag_of_name, capacity_of, effect_of, in_loop, moment_in, number_of, outermost}
+use Rattle.dv_eval.specs.Meaning.{removal_at, removal_from, repetition, run, sending, truth_of, value_within, with_goto}
+use Rattle.dv_eval.specs.Meaning.{with_value_at}
 use Rattle.dv_accepted.specs.Fitting.{data_fit, datum_fits, fits_in, in_phase, LeadsToPhase}
 use Rattle.dv_accepted.proofs.Fitting.{and_true, both_true, found_within}
 use Rattle.dv_accepted.proofs.Bags.{less_fits, more_fits}
@@ -102,7 +106,8 @@ module _ (scope : Scope) where
   assignment_to_fits None place x e next there fit is = same_fits e next fit is
   assignment_to_fits (Some v) place x e next there fit is = assignment_in_domain_fits v.1 v.0 place x e next there fit is
 
-  pub assignment_at_fits : (o : Option ℕ) (x : Value) (e next : Effect) → Fits scope e → assignment_at scope o x e ≡ Ok next → Fits scope next
+  pub assignment_at_fits : (o : Option ℕ) (x : Value) (e next : Effect) → Fits scope e → assignment_at scope o x e ≡ Ok next
+      → Fits scope next
   assignment_at_fits None x e next fit is = same_fits e next fit is
   assignment_at_fits (Some place) x e next fit is = assignment_to_fits (slice_get scope.variables place) place x e next refl fit is
 

@@ -1,5 +1,6 @@
 -- The name of an input port is that of no variable, flag or bag: it stands for what has arrived at the port.
-use Rattle.std.proofs.Common.{◌≡◌, ℕ, ◌+◌, ◌==◌, Bool, true, false, ◌||◌, if◌then◌else◌, List, [], ◌∷◌, ◌++◌, map, refl, sym, ap, ◌∙◌, Option, Some, None, is_some, arith}
+use Rattle.std.proofs.Common.{◌≡◌, ℕ, ◌+◌, ◌==◌, Bool, true, false, ◌||◌, if◌then◌else◌, List, [], ◌∷◌, ◌++◌, map, refl, sym, ap}
+use Rattle.std.proofs.Common.{◌∙◌, Option, Some, None, is_some, arith}
 use Rattle.std.specs.List.{list_any}
 use Rattle.std.proofs.lemmas.List.Folds.{list_any-append}
 use Rattle.dv_lex.specs.declared.error.RefusalNumber.TheVariants.{E6}
@@ -9,11 +10,13 @@ use Rattle.dv_syntax.specs.declared.tree.Declaration.TheVariants.{In, Out, Var, 
 use Rattle.dv_syntax.specs.Trees.{AtomicTree}
 use Rattle.dv_eval.specs.declared.scope.Domain.{Domain}
 use Rattle.dv_eval.specs.declared.scope.Domain.TheVariants as domain
-use Rattle.dv_eval.specs.Scope.{inputs_in, is_declared, names_of, place_from, place_of, range_of, scope_of, state_variables_in, with_name, with_names}
+use Rattle.dv_eval.specs.Scope.{inputs_in, is_declared, names_of, place_from, place_of, range_of, scope_of, state_variables_in}
+use Rattle.dv_eval.specs.Scope.{with_name, with_names}
 use Rattle.dv_eval.specs.Meaning.{bag_between, bag_received}
 use Rattle.dv_check.specs.Names.{refusal_if, repeats, repeats_after, with_number}
 use Rattle.dv_check.specs.Tables.{first_of}
-use Rattle.dv_check.specs.Rules.{atomic_refusals, items_refusals, known_in, name_of_declaration, names_refusals, number_of_declaration, standing_refusals, start_hold_refusals}
+use Rattle.dv_check.specs.Rules.{atomic_refusals, items_refusals, known_in, name_of_declaration, names_refusals}
+use Rattle.dv_check.specs.Rules.{number_of_declaration, standing_refusals, start_hold_refusals}
 use Rattle.dv_accepted.specs.Fitting.{ReadsPort}
 use Rattle.dv_check.proofs.Accepted.{both_nil, not_refused}
 use Rattle.dv_accepted.proofs.Fitting.{place_of_declared}

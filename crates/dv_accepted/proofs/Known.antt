@@ -1,5 +1,6 @@
 -- What is accepted names only what its model declares.
-use Rattle.std.proofs.Common.{◌≡◌, ℕ, zero, suc, ◌+◌, ◌==◌, Bool, true, false, not, ◌&&◌, ◌||◌, if◌then◌else◌, List, [], ◌∷◌, ◌++◌, refl, sym, ap, ◌∙◌, Option, Some, None, is_some, option_map, arith}
+use Rattle.std.proofs.Common.{◌≡◌, ℕ, zero, suc, ◌+◌, ◌==◌, Bool, true, false, not, ◌&&◌, ◌||◌, if◌then◌else◌, List, [], ◌∷◌}
+use Rattle.std.proofs.Common.{◌++◌, refl, sym, ap, ◌∙◌, Option, Some, None, is_some, option_map, arith}
 use Rattle.std.specs.Prelude.{slice_get}
 use Rattle.std.specs.List.{AllByRecursion, All, flat_map}
 use Rattle.std.specs.Option.{option_or}
@@ -8,21 +9,32 @@ use Rattle.dv_syntax.specs.declared.tree.Name.{Name}
 use Rattle.dv_syntax.specs.declared.tree.Declaration.{Declaration}
 use Rattle.dv_syntax.specs.declared.tree.Declaration.TheVariants.{In, Out, Var, Flag, Bag}
 use Rattle.dv_syntax.specs.declared.tree.RuleSort.{RuleSort}
-use Rattle.dv_syntax.specs.Trees.{AtomicTree, HoldTree, RuleTree, Expression, Literal, TruthValue, Named, Parens, Prefixed, Binary, Call, Elapsed, Times, Statements, Done, Assign, Goto, Send, If, IfElse, For, Add, Drop}
+use Rattle.dv_syntax.specs.Trees.{AtomicTree, HoldTree, RuleTree, Expression, Literal, TruthValue, Named, Parens, Prefixed}
+use Rattle.dv_syntax.specs.Trees.{Binary, Call, Elapsed, Times, Statements, Done, Assign, Goto, Send, If, IfElse, For, Add, Drop}
 use Rattle.dv_bag.specs.declared.state.Datum.{Datum}
 use Rattle.dv_bag.specs.declared.state.State.{State}
 use Rattle.dv_eval.specs.declared.scope.Domain.{Domain}
 use Rattle.dv_eval.specs.declared.scope.Domain.TheVariants as domain
-use Rattle.dv_eval.specs.Scope.{Scope, is_declared, names_of, phases_in, place_from, place_of, range_of, scope_of, state_variables_in, with_variable, with_variables}
+use Rattle.dv_eval.specs.Scope.{Scope, is_declared, names_of, phases_in, place_from, place_of, range_of, scope_of}
+use Rattle.dv_eval.specs.Scope.{state_variables_in, with_variable, with_variables}
 use Rattle.dv_check.specs.declared.declarations.NameSort.{NameSort}
-use Rattle.dv_check.specs.declared.declarations.NameSort.TheVariants.{Variable as ForVariable, Flag as ForFlag, Bag as ForBag, Input as ForInput, Output as ForOutput, LoopVariable as ForLoopVariable}
+use Rattle.dv_check.specs.declared.declarations.NameSort.TheVariants.{Variable as ForVariable, Flag as ForFlag, Bag as ForBag}
+use Rattle.dv_check.specs.declared.declarations.NameSort.TheVariants.{Input as ForInput, Output as ForOutput}
+use Rattle.dv_check.specs.declared.declarations.NameSort.TheVariants.{LoopVariable as ForLoopVariable}
 use Rattle.dv_bag.specs.declared.value.ValueType.{ValueType}
 use Rattle.dv_bag.specs.declared.value.ValueType.TheVariants.{Number, Truth}
 use Rattle.dv_check.specs.Tables.{first_of}
-use Rattle.dv_check.specs.Types.{Known, bag_name_refusals, expression_refusals, first_place, operand_refusals, place_refusals, sees_inputs, type_of, type_of_name, type_of_prefix, type_refusals, value_name_refusals, value_refusals, is_bag as is_bag_sort}
-use Rattle.dv_check.specs.Rules.{atomic_refusals, assignment_refusals, change_refusals, changed_bag_refusals, domain_of_state_variable, hold_refusals, known_in, known_in_loop, known_in_rule, loop_variable_refusals, number_of_state_variable, phase_refusals, rule_refusals, sent_port_refusals, sort_in, statements_refusals, ticks_refusals}
+use Rattle.dv_check.specs.Types.{Known, bag_name_refusals, expression_refusals, first_place, operand_refusals, place_refusals}
+use Rattle.dv_check.specs.Types.{sees_inputs, type_of, type_of_name, type_of_prefix, type_refusals, value_name_refusals}
+use Rattle.dv_check.specs.Types.{value_refusals, is_bag as is_bag_sort}
+use Rattle.dv_check.specs.Rules.{atomic_refusals, assignment_refusals, change_refusals, changed_bag_refusals}
+use Rattle.dv_check.specs.Rules.{domain_of_state_variable, hold_refusals, known_in, known_in_loop, known_in_rule}
+use Rattle.dv_check.specs.Rules.{loop_variable_refusals, number_of_state_variable, phase_refusals, rule_refusals}
+use Rattle.dv_check.specs.Rules.{sent_port_refusals, sort_in, statements_refusals, ticks_refusals}
 use Rattle.dv_check.specs.Couplings.{is_input, is_output}
-use Rattle.dv_accepted.specs.Fitting.{are_names_known, are_terms_known, are_ticks_known, data_fit, datum_fits, domain_at, domain_named, fits_in, has_value, has_values, HoldsDatum, is_assignable, is_bag, is_readable, is_value, is_variable}
+use Rattle.dv_accepted.specs.Fitting.{are_names_known, are_terms_known, are_ticks_known, data_fit, datum_fits, domain_at}
+use Rattle.dv_accepted.specs.Fitting.{domain_named, fits_in, has_value, has_values, HoldsDatum, is_assignable, is_bag}
+use Rattle.dv_accepted.specs.Fitting.{is_readable, is_value, is_variable}
 use Rattle.dv_check.proofs.Accepted.{both_nil, not_refused, not_false}
 use Rattle.dv_check.proofs.Declared.{input_declared, output_declared, same_declared}
 use Rattle.dv_check.proofs.Firsts.{first_of_push}
@@ -46,7 +58,8 @@ or_some : {A : Type 0} (o p : Option A) → is_some o ≡ true → o ≡ option_
 or_some None p e = absurd (cc)
 or_some (Some x) p e = refl
 
-or_step : {A : Type 0} (o p : Option A) (b : Bool) (x : A) → option_or (option_or o (if b then Some x else None)) p ≡ option_or o (if b then Some x else p)
+or_step : {A : Type 0} (o p : Option A) (b : Bool) (x : A)
+    → option_or (option_or o (if b then Some x else None)) p ≡ option_or o (if b then Some x else p)
 or_step (Some y) p b x = refl
 or_step None p true x = refl
 or_step None p false x = refl
@@ -59,17 +72,21 @@ declared_if false d o rest e = e
 pub declared_entry : (entries : List (ℕ × Domain)) (q : ℕ) → is_declared q (names_of entries) ≡ is_some (entry_in entries q)
 unfolding first_of
 declared_entry [] q = refl
-declared_entry (e ∷ entries) q = declared_if (e.0 == q) e.1 (entry_in entries q) (is_declared q (names_of entries)) (declared_entry entries q)
+declared_entry (e ∷ entries) q =
+    declared_if (e.0 == q) e.1 (entry_in entries q) (is_declared q (names_of entries)) (declared_entry entries q)
 
 -- a name that is declared already keeps its entry
 kept_if : (b : Bool) (q n : ℕ) (d : Domain) (entries : List (ℕ × Domain)) → (n == q) ≡ b → is_declared n (names_of entries) ≡ true
     → entry_in entries q ≡ option_or (entry_in entries q) (if b then Some d else None)
-kept_if true q n d entries same there = or_some (entry_in entries q) (Some d) (sym (declared_entry entries q) ∙ same_declared q n (names_of entries) same there)
+kept_if true q n d entries same there =
+    or_some (entry_in entries q) (Some d) (sym (declared_entry entries q) ∙ same_declared q n (names_of entries) same there)
 kept_if false q n d entries other there = or_none (entry_in entries q)
 
 -- one variable or flag more
-with_variable_entry_if : (b : Bool) (q : ℕ) (v : Name × Domain) (entries : List (ℕ × Domain)) → is_declared v.0.number (names_of entries) ≡ b
-    → entry_in (if b then entries else entries ++ (v.0.number, v.1) ∷ []) q ≡ option_or (entry_in entries q) (if v.0.number == q then Some v.1 else None)
+with_variable_entry_if : (b : Bool) (q : ℕ) (v : Name × Domain) (entries : List (ℕ × Domain))
+    → is_declared v.0.number (names_of entries) ≡ b
+    → entry_in (if b then entries else entries ++ (v.0.number, v.1) ∷ []) q
+    ≡ option_or (entry_in entries q) (if v.0.number == q then Some v.1 else None)
 with_variable_entry_if true q v entries there = kept_if (v.0.number == q) q v.0.number v.1 entries refl there
 with_variable_entry_if false q v entries new = first_of_push (λ (e : ℕ × Domain). e.0) (λ (e : ℕ × Domain). e.1) entries (v.0.number, v.1) q
 
@@ -111,7 +128,8 @@ port_if true sort found rest other e later = absurd (cc)
 port_if false sort found rest other e later = later e
 
 -- the first declaration of a name of a variable, a flag or a bag is that of its domain
-declared_sort : (q : ℕ) (ds : List Declaration) → is_stored (sort_in ds q) ≡ true → option_map sort_of_domain (declared_in (state_variables_in ds) q) ≡ sort_in ds q
+declared_sort : (q : ℕ) (ds : List Declaration) → is_stored (sort_in ds q) ≡ true
+    → option_map sort_of_domain (declared_in (state_variables_in ds) q) ≡ sort_in ds q
 unfolding first_of
 declared_sort q [] e = absurd (cc)
 declared_sort q (In port ∷ ds) e =
@@ -119,11 +137,13 @@ declared_sort q (In port ∷ ds) e =
 declared_sort q (Out port ∷ ds) e =
     port_if (port.number == q) ForOutput (declared_in (state_variables_in ds) q) _ refl e (declared_sort q ds)
 declared_sort q (Var v ∷ ds) e =
-    sorted_if (v.name.number == q) (domain.Number (range_of v)) ForVariable (declared_in (state_variables_in ds) q) _ refl e (declared_sort q ds)
+    sorted_if (v.name.number == q) (domain.Number (range_of v)) ForVariable (declared_in (state_variables_in ds) q) _ refl e
+    (declared_sort q ds)
 declared_sort q (Flag f ∷ ds) e =
     sorted_if (f.name.number == q) (domain.Flag f.start) ForFlag (declared_in (state_variables_in ds) q) _ refl e (declared_sort q ds)
 declared_sort q (Bag b ∷ ds) e =
-    sorted_if (b.name.number == q) (domain.Bag b.capacity.value) ForBag (declared_in (state_variables_in ds) q) _ refl e (declared_sort q ds)
+    sorted_if (b.name.number == q) (domain.Bag b.capacity.value) ForBag (declared_in (state_variables_in ds) q) _ refl e
+    (declared_sort q ds)
 
 -- a name of a variable, a flag or a bag with what it may hold
 pub record Entered (m : AtomicTree) (q : ℕ) : Type 0 where
@@ -151,7 +171,8 @@ record HasEntry (k q : ℕ) (entries : List (ℕ × Domain)) (d : Domain) : Type
   there : option_map (λ v. v.1) (slice_get entries offset) ≡ Some d
 
 has_entry_if : (b : Bool) (k q : ℕ) (e : ℕ × Domain) (entries : List (ℕ × Domain)) (d : Domain) → (e.0 == q) ≡ b
-    → (if b then Some e.1 else entry_in entries q) ≡ Some d → (entry_in entries q ≡ Some d → HasEntry (k + 1) q entries d) → HasEntry k q (e ∷ entries) d
+    → (if b then Some e.1 else entry_in entries q) ≡ Some d → (entry_in entries q ≡ Some d → HasEntry (k + 1) q entries d)
+    → HasEntry k q (e ∷ entries) d
 has_entry_if true k q e entries d test is later =
     let here : k ≡ k + 0 = omega arith in
     record { offset = 0; found = rw test (ap (λ n. Some n) here); there = is }
@@ -171,7 +192,8 @@ domain_entered scope q d is =
     let at_start : 0 + h.offset ≡ h.offset = omega arith in
     ap (domain_at scope.variables) (h.found ∙ ap (λ n. Some n) at_start) ∙ h.there
 
-pub sort_named : (m : AtomicTree) (q : ℕ) → is_stored (sort_in m.declarations q) ≡ true → (d : Domain) × (domain_named (scope_of m) q ≡ Some d) × (Some (sort_of_domain d) ≡ sort_in m.declarations q)
+pub sort_named : (m : AtomicTree) (q : ℕ) → is_stored (sort_in m.declarations q) ≡ true
+    → (d : Domain) × (domain_named (scope_of m) q ≡ Some d) × (Some (sort_of_domain d) ≡ sort_in m.declarations q)
 sort_named m q e =
     let h = sort_entered m q e in
     (h.domain, domain_entered (scope_of m) q h.domain h.there, h.sort)
@@ -245,7 +267,8 @@ is_of_loop (Some ForInput) = false
 is_of_loop (Some ForOutput) = false
 is_of_loop (Some ForLoopVariable) = true
 
-of_no_loop_if : (b : Bool) (sort : NameSort) (o : Option NameSort) → is_of_loop (Some sort) ≡ false → is_of_loop o ≡ false → is_of_loop (if b then Some sort else o) ≡ false
+of_no_loop_if : (b : Bool) (sort : NameSort) (o : Option NameSort) → is_of_loop (Some sort) ≡ false → is_of_loop o ≡ false
+    → is_of_loop (if b then Some sort else o) ≡ false
 of_no_loop_if true sort o here later = here
 of_no_loop_if false sort o here later = later
 
@@ -332,7 +355,8 @@ unless_loop : (is : Option NameSort → Bool) (b : Bool) (o : Option NameSort) (
 unless_loop is true o there other e later = absurd (cc)
 unless_loop is false o there other e later = later e
 
-knows_inside : (m : AtomicTree) (loops : List ℕ) (known : Known) (v : Name) → Knows m loops known → Knows m (v.number ∷ loops) (known_in_loop v known)
+knows_inside : (m : AtomicTree) (loops : List ℕ) (known : Known) (v : Name) → Knows m loops known
+    → Knows m (v.number ∷ loops) (known_in_loop v known)
 knows_inside m loops known v k = record {
   value = λ q e. value_if (v.number == q) (known.sort q) (is_declared q loops) (is_variable (scope_of m) q) e (k.value q);
   variable = λ q e. variable_if (v.number == q) (known.sort q) (is_declared q loops) (is_variable (scope_of m) q) e (k.variable q);
@@ -508,7 +532,8 @@ module _ (m : AtomicTree) where
   ticks_known : (h : HoldTree) → hold_refusals (known_in m) h ≡ [] → are_ticks_known (scope_of m) h.ticks ≡ true
   ticks_known h none = ticks_of_known h.ticks (both_nil (phase_refusals (known_in m) h.phase) (ticks_refusals (known_in m) h.ticks) none).1
 
-  holds_known_from : (holds : List HoldTree) → flat_map (hold_refusals (known_in m)) holds ≡ [] → AllByRecursion (λ (h : HoldTree). are_ticks_known (scope_of m) h.ticks ≡ true) holds
+  holds_known_from : (holds : List HoldTree) → flat_map (hold_refusals (known_in m)) holds ≡ []
+      → AllByRecursion (λ (h : HoldTree). are_ticks_known (scope_of m) h.ticks ≡ true) holds
   holds_known_from [] none = tt
   holds_known_from (h ∷ holds) none =
       let both = both_nil (hold_refusals (known_in m) h) (flat_map (hold_refusals (known_in m)) holds) none in
@@ -546,6 +571,7 @@ datum_held_at scope s q d (Some place) fit found is =
     let held = fits_at scope.variables s.variables place d fit is in
     record { place = place; found = found; datum = held.datum; there = held.there; fitting = held.fitting }
 
-pub datum_held : (scope : Scope) (s : State) (q : ℕ) (d : Domain) → fits_in scope s ≡ true → domain_named scope q ≡ Some d → HoldsDatum scope s q d
+pub datum_held : (scope : Scope) (s : State) (q : ℕ) (d : Domain) → fits_in scope s ≡ true → domain_named scope q ≡ Some d
+    → HoldsDatum scope s q d
 datum_held scope s q d fit is =
     datum_held_at scope s q d (place_of q (names_of scope.variables)) (both_true _ (data_fit scope.variables s.variables) fit).1 refl is

@@ -1,5 +1,6 @@
 pub mod Fitting
 pub mod Bags
+pub mod Computing
 pub mod Effects
 pub mod Known
 pub mod Inputs

@@ -1,11 +1,13 @@
 -- Accepted expressions have types, and their values are of these.
-use Rattle.std.proofs.Common.{◌≡◌, ℕ, ℤ, Bool, true, false, not, ◌==◌, if◌then◌else◌, List, [], ◌∷◌, ◌++◌, refl, sym, ap, ◌∙◌, Option, Some, None, Result, Ok, Err, pos, neg_ℤ, ◌+ℤ◌, ◌-ℤ◌, ◌*ℤ◌, int_div, int_rem}
+use Rattle.std.proofs.Common.{◌≡◌, ℕ, ℤ, Bool, true, false, not, ◌==◌, if◌then◌else◌, List, [], ◌∷◌, ◌++◌, refl, sym, ap, ◌∙◌}
+use Rattle.std.proofs.Common.{Option, Some, None, Result, Ok, Err, pos, neg_ℤ, ◌+ℤ◌, ◌-ℤ◌, ◌*ℤ◌, int_div, int_rem}
 use Rattle.std.specs.Ordering.{int_eq}
 use Rattle.dv_lex.specs.declared.error.RefusalNumber.TheVariants.{E8}
 use Rattle.dv_syntax.specs.declared.tree.Prefix.{Prefix}
 use Rattle.dv_syntax.specs.declared.tree.Prefix.TheVariants.{Minus, Not}
 use Rattle.dv_syntax.specs.declared.tree.Operator.{Operator}
-use Rattle.dv_syntax.specs.declared.tree.Operator.TheVariants.{Or, And, Add, Subtract, Multiply, Divide, Remainder, Equal, Unequal, Less, AtMost, Greater, AtLeast}
+use Rattle.dv_syntax.specs.declared.tree.Operator.TheVariants.{Or, And, Add, Subtract, Multiply, Divide, Remainder, Equal}
+use Rattle.dv_syntax.specs.declared.tree.Operator.TheVariants.{Unequal, Less, AtMost, Greater, AtLeast}
 use Rattle.dv_syntax.specs.declared.tree.Name.{Name}
 use Rattle.dv_syntax.specs.declared.tree.BagCall.{BagCall}
 use Rattle.dv_syntax.specs.declared.tree.BagCall.TheVariants.{Size, Sum, Least, Most}
@@ -25,13 +27,19 @@ use Rattle.dv_eval.specs.declared.scope.Domain.TheVariants as domain
 use Rattle.dv_eval.specs.Scope.{Scope, scope_of}
 use Rattle.dv_bag.specs.Arithmetic.{is_kept, number_or_empty, number_or_overflow}
 use Rattle.dv_bag.specs.Arrivals.{Arrivals}
-use Rattle.dv_eval.specs.Meaning.{bag_of_name, call_result, datum_at, datum_of_name, is_decided, loop_value, meaning, moment_in, number_of, operator_result, prefix_result, truth_of, value_in_loop, value_of_datum, value_of_name}
+use Rattle.dv_eval.specs.Meaning.{bag_of_name, call_result, datum_at, datum_of_name, is_decided, loop_value, meaning, moment_in}
+use Rattle.dv_eval.specs.Meaning.{number_of, operator_result, prefix_result, truth_of, value_in_loop, value_of_datum}
+use Rattle.dv_eval.specs.Meaning.{value_of_name}
 use Rattle.dv_check.specs.declared.declarations.NameSort.{NameSort}
-use Rattle.dv_check.specs.declared.declarations.NameSort.TheVariants.{Variable as ForVariable, Flag as ForFlag, Bag as ForBag, Input as ForInput, Output as ForOutput, LoopVariable as ForLoopVariable}
+use Rattle.dv_check.specs.declared.declarations.NameSort.TheVariants.{Variable as ForVariable, Flag as ForFlag, Bag as ForBag}
+use Rattle.dv_check.specs.declared.declarations.NameSort.TheVariants.{Input as ForInput, Output as ForOutput}
+use Rattle.dv_check.specs.declared.declarations.NameSort.TheVariants.{LoopVariable as ForLoopVariable}
 use Rattle.dv_bag.specs.declared.value.ValueType.{ValueType}
 use Rattle.dv_bag.specs.declared.value.ValueType.TheVariants.{Number, Truth}
 use Rattle.dv_check.specs.Names.{refusal_if}
-use Rattle.dv_check.specs.Types.{Known, alike, bag_name_refusals, both_of, differ, expression_refusals, first_place, is_bag, is_of, knows_elapsed, operand_refusals, operands_wanted, place_refusals, same_type, type_if, type_of, type_of_name, type_of_operator, type_of_prefix, type_refusals, value_name_refusals}
+use Rattle.dv_check.specs.Types.{Known, alike, bag_name_refusals, both_of, differ, expression_refusals, first_place, is_bag}
+use Rattle.dv_check.specs.Types.{is_of, knows_elapsed, operand_refusals, operands_wanted, place_refusals, same_type, type_if}
+use Rattle.dv_check.specs.Types.{type_of, type_of_name, type_of_operator, type_of_prefix, type_refusals, value_name_refusals}
 use Rattle.dv_check.specs.Rules.{known_in, known_in_rule, sort_in}
 use Rattle.dv_accepted.specs.Fitting.{context_within, datum_fits, fits_in, HoldsDatum, is_of_type, known_within, values_within}
 use Rattle.dv_check.proofs.Accepted.{both_nil, not_false, not_refused}
@@ -48,7 +56,8 @@ some_if : (b : Bool) (t : ValueType) → b ≡ true → Typed (type_if b t)
 some_if true t e = (t, refl)
 some_if false t e = absurd (cc)
 
-both_wanted : (wanted x y : ValueType) (p q : ℕ) → operands_wanted wanted (Some x) p (Some y) q ≡ [] → both_of wanted (Some x) (Some y) ≡ true
+both_wanted : (wanted x y : ValueType) (p q : ℕ) → operands_wanted wanted (Some x) p (Some y) q ≡ []
+    → both_of wanted (Some x) (Some y) ≡ true
 both_wanted Number Number Number p q e = refl
 both_wanted Number Number Truth p q e = absurd (cc)
 both_wanted Number Truth Number p q e = absurd (cc)
@@ -64,7 +73,8 @@ both_alike Number Truth q e = absurd (cc)
 both_alike Truth Number q e = absurd (cc)
 both_alike Truth Truth q e = refl
 
-operator_typed : (o : Operator) (x y : ValueType) (p q : ℕ) → operand_refusals o (Some x) p (Some y) q ≡ [] → Typed (type_of_operator o (Some x) (Some y))
+operator_typed : (o : Operator) (x y : ValueType) (p q : ℕ) → operand_refusals o (Some x) p (Some y) q ≡ []
+    → Typed (type_of_operator o (Some x) (Some y))
 operator_typed Or x y p q e = some_if _ Truth (both_wanted Truth x y p q e)
 operator_typed And x y p q e = some_if _ Truth (both_wanted Truth x y p q e)
 operator_typed Add x y p q e = some_if _ Number (both_wanted Number x y p q e)
@@ -79,7 +89,8 @@ operator_typed AtMost x y p q e = some_if _ Truth (both_wanted Number x y p q e)
 operator_typed Greater x y p q e = some_if _ Truth (both_wanted Number x y p q e)
 operator_typed AtLeast x y p q e = some_if _ Truth (both_wanted Number x y p q e)
 
-operands_typed : (o : Operator) (a b : Option ValueType) (p q : ℕ) → Typed a → Typed b → operand_refusals o a p b q ≡ [] → Typed (type_of_operator o a b)
+operands_typed : (o : Operator) (a b : Option ValueType) (p q : ℕ) → Typed a → Typed b → operand_refusals o a p b q ≡ []
+    → Typed (type_of_operator o a b)
 operands_typed o a b p q left right e =
     let same = ap (λ x. operand_refusals o x p b q) left.1 ∙ ap (λ y. operand_refusals o (Some left.0) p y q) right.1 in
     let h = operator_typed o left.0 right.0 p q (sym same ∙ e) in
@@ -175,14 +186,17 @@ ok_truth b = Ok (value.Truth b)
 truth : (b : Bool) (v : Value) → ok_truth b ≡ Ok v → is_of_type Truth v ≡ true
 truth b v e = let same : value.Truth b ≡ v = cc in rw (← same) refl
 
-result_typed : (o : Operator) (a b : Option ValueType) (t : ValueType) (x y v : Value) → type_of_operator o a b ≡ Some t → operator_result o x y ≡ Ok v → is_of_type t v ≡ true
+result_typed : (o : Operator) (a b : Option ValueType) (t : ValueType) (x y v : Value) → type_of_operator o a b ≡ Some t
+    → operator_result o x y ≡ Ok v → is_of_type t v ≡ true
 result_typed Or a b t x y v typed e = of_type_if _ Truth t v typed (truth _ v e)
 result_typed And a b t x y v typed e = of_type_if _ Truth t v typed (truth _ v e)
 result_typed Add a b t x y v typed e = of_type_if _ Number t v typed (kept_number (number_of x +ℤ number_of y) v e)
 result_typed Subtract a b t x y v typed e = of_type_if _ Number t v typed (kept_number (number_of x -ℤ number_of y) v e)
 result_typed Multiply a b t x y v typed e = of_type_if _ Number t v typed (kept_number (number_of x *ℤ number_of y) v e)
-result_typed Divide a b t x y v typed e = of_type_if _ Number t v typed (quotient_if (int_eq (number_of y) (pos 0)) (int_div (number_of x) (number_of y)) v e)
-result_typed Remainder a b t x y v typed e = of_type_if _ Number t v typed (remainder_if (int_eq (number_of y) (pos 0)) (int_rem (number_of x) (number_of y)) v e)
+result_typed Divide a b t x y v typed e =
+    of_type_if _ Number t v typed (quotient_if (int_eq (number_of y) (pos 0)) (int_div (number_of x) (number_of y)) v e)
+result_typed Remainder a b t x y v typed e =
+    of_type_if _ Number t v typed (remainder_if (int_eq (number_of y) (pos 0)) (int_rem (number_of x) (number_of y)) v e)
 result_typed Equal a b t x y v typed e = of_type_if _ Truth t v typed (truth _ v e)
 result_typed Unequal a b t x y v typed e = of_type_if _ Truth t v typed (truth _ v e)
 result_typed Less a b t x y v typed e = of_type_if _ Truth t v typed (truth _ v e)
@@ -208,8 +222,10 @@ decided_typed Greater a b t x v decided typed e = absurd (cc)
 decided_typed AtLeast a b t x v decided typed e = absurd (cc)
 
 -- the right operand is asked where the left one does not decide
-asked_typed : (c : Bool) (o : Operator) (a b : Option ValueType) (t : ValueType) (x v : Value) (right : Result Value Fault) → is_decided o x ≡ c
-    → type_of_operator o a b ≡ Some t → (if c then ok_truth (truth_of x) else (right >>= λ y. operator_result o x y)) ≡ Ok v → is_of_type t v ≡ true
+asked_typed : (c : Bool) (o : Operator) (a b : Option ValueType) (t : ValueType) (x v : Value) (right : Result Value Fault)
+    → is_decided o x ≡ c
+    → type_of_operator o a b ≡ Some t → (if c then ok_truth (truth_of x) else (right >>= λ y. operator_result o x y)) ≡ Ok v
+    → is_of_type t v ≡ true
 asked_typed true o a b t x v right decided typed e = decided_typed o a b t x v decided typed e
 asked_typed false o a b t x v right asked typed e =
     let given = gave right (λ y. operator_result o x y) v e in
@@ -225,7 +241,8 @@ call_typed Sum b v e = let sum = gave (sum_or_overflow b) ok_number v e in numbe
 call_typed Least b v e = bag_end_typed (least b) v e
 call_typed Most b v e = bag_end_typed (most b) v e
 
-prefix_typed : (o : Prefix) (b : Bool) (t : ValueType) (x v : Value) → type_if b (type_of_prefix o) ≡ Some t → prefix_result o x ≡ Ok v → is_of_type t v ≡ true
+prefix_typed : (o : Prefix) (b : Bool) (t : ValueType) (x v : Value) → type_if b (type_of_prefix o) ≡ Some t
+    → prefix_result o x ≡ Ok v → is_of_type t v ≡ true
 prefix_typed Minus b t x v typed e = of_type_if b Number t v typed (kept_number (neg_ℤ (number_of x)) v e)
 prefix_typed Not b t x v typed e = of_type_if b Truth t v typed (truth _ v e)
 

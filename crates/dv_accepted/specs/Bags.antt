@@ -5,7 +5,8 @@ use Rattle.dv_syntax.specs.declared.tree.Variable.{Variable}
 use Rattle.dv_syntax.specs.declared.tree.Declaration.TheVariants.{Out, Var, Flag, Bag}
 use Rattle.dv_syntax.specs.declared.tree.Operator.TheVariants.{Subtract, Equal}
 use Rattle.dv_syntax.specs.declared.tree.RuleSort.TheVariants as rule
-use Rattle.dv_syntax.specs.Trees.{Expression, Named, Binary, Call, Times, Statements, Done, Assign, Send, If, For, Add, Drop, AtomicTree, AtomicModel, CoupledTree, CoupledModel, FileTree}
+use Rattle.dv_syntax.specs.Trees.{Expression, Named, Binary, Call, Times, Statements, Done, Assign, Send, If, For, Add, Drop}
+use Rattle.dv_syntax.specs.Trees.{AtomicTree, AtomicModel, CoupledTree, CoupledModel, FileTree}
 use Rattle.dv_accepted.specs.Clock.{bound, literal, named}
 
 -- the names: 0 Heap, 1 y, 2 n, 3 b, 4 on, 5 z, 6 v, 7 Top, 8 a, 9 nosuch
@@ -22,7 +23,8 @@ abbrev pub changing : Expression → Statements
 changing value =
     Assign (named 2 200) value
     (Add 300 (Named (named 2 304)) (named 3 309)
-    (If 312 (Binary Equal (Times 315 (Named (named 2 321)) (named 3 324)) (literal 2 329)) (Drop 333 (Named (named 2 338)) (named 3 345) Done) Done))
+    (If 312 (Binary Equal (Times 315 (Named (named 2 321)) (named 3 324)) (literal 2 329))
+    (Drop 333 (Named (named 2 338)) (named 3 345) Done) Done))
 
 -- out y; var n: 0..9 = 0; bag b CAPACITY; flag on = false; phases z; start z; hold z: TICKS; output z { .. } internal z { .. }
 abbrev pub heap : ℕ → Expression → Expression → AtomicTree

@@ -41,10 +41,20 @@ on_one_line = record {
 
 -- the names: 0 Top, 1 o, 2 b, 3 q, 4 nosuch
 abbrev pub unknown_source : Link
-unknown_source = record { place = 21; from = record { part = Some (named 2 26); port = named 3 28 }; to = record { part = None; port = named 1 38 } }
+unknown_source =
+    record {
+      place = 21;
+      from = record { part = Some (named 2 26); port = named 3 28 };
+      to = record { part = None; port = named 1 38 };
+    }
 
 abbrev pub unknown_source_again : Link
-unknown_source_again = record { place = 41; from = record { part = Some (named 2 46); port = named 3 48 }; to = record { part = None; port = named 1 58 } }
+unknown_source_again =
+    record {
+      place = 41;
+      from = record { part = Some (named 2 46); port = named 3 48 };
+      to = record { part = None; port = named 1 58 };
+    }
 
 -- coupled Top { out o; link b.q -> self.o; link b.q -> self.o; part b: nosuch; }
 abbrev pub around_an_unknown_part : CoupledTree

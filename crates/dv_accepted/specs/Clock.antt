@@ -7,7 +7,8 @@ use Rattle.dv_syntax.specs.declared.tree.Declaration.TheVariants.{Out, Var}
 use Rattle.dv_syntax.specs.declared.tree.Link.{Link}
 use Rattle.dv_syntax.specs.declared.tree.Operator.TheVariants as operator
 use Rattle.dv_syntax.specs.declared.tree.RuleSort.TheVariants as rule
-use Rattle.dv_syntax.specs.Trees.{Expression, Literal, Named, Binary, Statements, Done, Assign, Goto, Send, IfElse, AtomicTree, AtomicModel, CoupledModel, CoupledTree, FileTree}
+use Rattle.dv_syntax.specs.Trees.{Expression, Literal, Named, Binary, Statements, Done, Assign, Goto, Send, IfElse, AtomicTree}
+use Rattle.dv_syntax.specs.Trees.{AtomicModel, CoupledModel, CoupledTree, FileTree}
 
 -- a name, a bound and a number at a place
 abbrev pub named : ℕ → ℕ → Name
@@ -36,7 +37,9 @@ tick = record {
   declarations = Out (named 1 18) ∷ (Var count ∷ []);
   phases = record { place = 50; names = named 3 57 ∷ (named 4 62 ∷ []) } ∷ [];
   starts = record { place = 70; phase = named 3 76 } ∷ [];
-  holds = record { place = 90; phase = named 3 95; ticks = Some (literal 5 100) } ∷ (record { place = 110; phase = named 4 115; ticks = None } ∷ []);
+  holds =
+      record { place = 90; phase = named 3 95; ticks = Some (literal 5 100) }
+      ∷ (record { place = 110; phase = named 4 115; ticks = None } ∷ []);
   rules =
       record { sort = rule.Output; phase = named 3 140; body = Send 146 (named 1 151) (Named (named 2 156)) Done }
       ∷ (record { sort = rule.Internal; phase = named 3 190; body = counting }
@@ -45,7 +48,12 @@ tick = record {
 
 -- link t.beat -> self.o;
 abbrev pub link_at : ℕ → Link
-link_at place = record { place = place; from = record { part = Some (named 7 (place + 5)); port = named 1 (place + 7) }; to = record { part = None; port = named 6 (place + 20) } }
+link_at place =
+    record {
+      place = place;
+      from = record { part = Some (named 7 (place + 5)); port = named 1 (place + 7) };
+      to = record { part = None; port = named 6 (place + 20) };
+    }
 
 -- coupled Top { out o; part t: Tick; LINKS }
 abbrev pub top : List Link → CoupledTree

@@ -1,8 +1,10 @@
 -- States that fit a model: what a model can reach. In such a state the meaning of what is accepted never takes a name for
 -- unknown, nor a truth value for a number.
-use Rattle.std.specs.Prelude.{◌≡◌, ℕ, ℤ, ◌<◌, Bool, true, false, not, ◌&&◌, ◌||◌, nat_lt, nat_le, slice_get, List, [], ◌∷◌, length, option_map, Option, Some, None}
+use Rattle.std.specs.Prelude.{◌≡◌, ℕ, ℤ, ◌<◌, Bool, true, false, not, ◌&&◌, ◌||◌, nat_lt, nat_le, slice_get, List, [], ◌∷◌}
+use Rattle.std.specs.Prelude.{length, option_map, Option, Some, None}
 use Rattle.dv_syntax.specs.declared.tree.Name.{Name}
-use Rattle.dv_syntax.specs.Trees.{AtomicTree, Expression, Literal, TruthValue, Named, Parens, Prefixed, Binary, Call, Elapsed, Times, Statements, Done, Assign, Goto, Send, If, IfElse, For, Add, Drop}
+use Rattle.dv_syntax.specs.Trees.{AtomicTree, Expression, Literal, TruthValue, Named, Parens, Prefixed, Binary, Call, Elapsed}
+use Rattle.dv_syntax.specs.Trees.{Times, Statements, Done, Assign, Goto, Send, If, IfElse, For, Add, Drop}
 use Rattle.dv_syntax.specs.declared.tree.RuleSort.{RuleSort}
 use Rattle.dv_bag.specs.Bag.{bag_at, total}
 use Rattle.dv_bag.specs.declared.TheConstants.{GREATEST_COUNT}

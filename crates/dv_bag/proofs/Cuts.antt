@@ -1,5 +1,6 @@
 -- Lists cut by time.
-use Rattle.std.proofs.Common.{◌≡◌, ℕ, suc, ◌<◌, Bool, true, false, not, cond, List, [], ◌∷◌, ◌++◌, length, get_or, refl, sym, ap, ◌∙◌, arith}
+use Rattle.std.proofs.Common.{◌≡◌, ℕ, suc, ◌<◌, Bool, true, false, not, cond, List, [], ◌∷◌, ◌++◌, length, get_or, refl, sym, ap}
+use Rattle.std.proofs.Common.{◌∙◌, arith}
 use Rattle.std.specs.List.{AllPairs, filter}
 use Rattle.std.proofs.lemmas.Bool.{false≢true}
 use Rattle.std.proofs.lemmas.Bool.Decides.{nat_tests}
@@ -23,7 +24,8 @@ module _ {X : Type 0} where
   apart p [] = refl
   apart p (x ∷ xs) = step (apart p xs) (p x) refl
     where
-      step : filter (λ x. not (p x)) (filter p xs) ≡ [] → (t : Bool) → p x ≡ t → filter (λ x. not (p x)) (cond t (x ∷ filter p xs) (filter p xs)) ≡ []
+      step : filter (λ x. not (p x)) (filter p xs) ≡ [] → (t : Bool) → p x ≡ t
+          → filter (λ x. not (p x)) (cond t (x ∷ filter p xs) (filter p xs)) ≡ []
       step rest true e = rw e rest
       step rest false e = rest
 
@@ -31,7 +33,8 @@ module _ {X : Type 0} where
   apart_turned p [] = refl
   apart_turned p (x ∷ xs) = step (apart_turned p xs) (p x) refl
     where
-      step : filter p (filter (λ x. not (p x)) xs) ≡ [] → (t : Bool) → p x ≡ t → filter p (cond (not t) (x ∷ filter (λ x. not (p x)) xs) (filter (λ x. not (p x)) xs)) ≡ []
+      step : filter p (filter (λ x. not (p x)) xs) ≡ [] → (t : Bool) → p x ≡ t
+          → filter p (cond (not t) (x ∷ filter (λ x. not (p x)) xs) (filter (λ x. not (p x)) xs)) ≡ []
       step rest true e = rest
       step rest false e = rw e rest
 
@@ -40,7 +43,8 @@ module _ {X : Type 0} where
   narrower p q within [] = refl
   narrower p q within (x ∷ xs) = step (narrower p q within xs) (q x) refl (p x) refl
     where
-      step : filter p (filter q xs) ≡ filter p xs → (t : Bool) → q x ≡ t → (u : Bool) → p x ≡ u → filter p (cond t (x ∷ filter q xs) (filter q xs)) ≡ cond u (x ∷ filter p xs) (filter p xs)
+      step : filter p (filter q xs) ≡ filter p xs → (t : Bool) → q x ≡ t → (u : Bool) → p x ≡ u
+          → filter p (cond t (x ∷ filter q xs) (filter q xs)) ≡ cond u (x ∷ filter p xs) (filter p xs)
       step rest true e true k = rw k (ap (λ ys. x ∷ ys) rest)
       step rest true e false k = rw k rest
       step rest false e true k = absurd (false≢true (sym e ∙ within x k))
@@ -61,17 +65,20 @@ module _ {X : Type 0} where
     rising_tail x xs h i j d lt within = h (suc i) (suc j) d (omega arith) (omega arith)
 
     -- where none is before the time of one that is not, the cut is in front
-    none_before : (c : Time) (x : X) (xs : List X) → is_before (time x) c ≡ false → ((j : ℕ) (d : X) → j < length xs → is_before (time (get_or xs j d)) (time x) ≡ false) → first_part c xs ≡ []
+    none_before : (c : Time) (x : X) (xs : List X) → is_before (time x) c ≡ false
+        → ((j : ℕ) (d : X) → j < length xs → is_before (time (get_or xs j d)) (time x) ≡ false) → first_part c xs ≡ []
     unfolding first_part
     none_before c x [] late after = refl
     none_before c x (y ∷ ys) late after =
         rw (later (time x) (time y) c (after 0 x (omega arith)) late) (none_before c x ys late (λ j d lt. after (suc j) d (omega arith)))
 
-    all_since : (c : Time) (x : X) (xs : List X) → is_before (time x) c ≡ false → ((j : ℕ) (d : X) → j < length xs → is_before (time (get_or xs j d)) (time x) ≡ false) → last_part c xs ≡ xs
+    all_since : (c : Time) (x : X) (xs : List X) → is_before (time x) c ≡ false
+        → ((j : ℕ) (d : X) → j < length xs → is_before (time (get_or xs j d)) (time x) ≡ false) → last_part c xs ≡ xs
     unfolding last_part
     all_since c x [] late after = refl
     all_since c x (y ∷ ys) late after =
-        rw (later (time x) (time y) c (after 0 x (omega arith)) late) (ap (λ zs. y ∷ zs) (all_since c x ys late (λ j d lt. after (suc j) d (omega arith))))
+        rw (later (time x) (time y) c (after 0 x (omega arith)) late)
+        (ap (λ zs. y ∷ zs) (all_since c x ys late (λ j d lt. after (suc j) d (omega arith))))
 
     together : (c : Time) (xs : List X) → IsRising xs → first_part c xs ++ last_part c xs ≡ xs
     unfolding first_part last_part IsRising
@@ -81,9 +88,11 @@ module _ {X : Type 0} where
         after : (j : ℕ) (d : X) → j < length xs → is_before (time (get_or xs j d)) (time x) ≡ false
         after j d lt = h 0 (suc j) d (omega arith) (omega arith)
 
-        step : first_part c xs ++ last_part c xs ≡ xs → (t : Bool) → is_before (time x) c ≡ t → cond t (x ∷ first_part c xs) (first_part c xs) ++ cond (not t) (x ∷ last_part c xs) (last_part c xs) ≡ x ∷ xs
+        step : first_part c xs ++ last_part c xs ≡ xs → (t : Bool) → is_before (time x) c ≡ t
+            → cond t (x ∷ first_part c xs) (first_part c xs) ++ cond (not t) (x ∷ last_part c xs) (last_part c xs) ≡ x ∷ xs
         step rest true e = ap (λ ys. x ∷ ys) rest
-        step rest false e = ap (λ ys. ys ++ (x ∷ last_part c xs)) (none_before c x xs e after) ∙ ap (λ ys. x ∷ ys) (all_since c x xs e after)
+        step rest false e =
+            ap (λ ys. ys ++ (x ∷ last_part c xs)) (none_before c x xs e after) ∙ ap (λ ys. x ∷ ys) (all_since c x xs e after)
 
 -- a part of two lists
 abbrev part_of : List Entry → List Outer → PartOf
@@ -100,7 +109,9 @@ pub nothing_since : (c : Time) (p : PartOf) → since c (before c p) ≡ nothing
 nothing_since c p = both _ _ _ _ (apart (λ (e : Entry). is_before e.time c) p.entries) (apart (λ (o : Outer). is_before o.time c) p.outer)
 
 pub nothing_before : (c : Time) (p : PartOf) → before c (since c p) ≡ nothing
-nothing_before c p = both _ _ _ _ (apart_turned (λ (e : Entry). is_before e.time c) p.entries) (apart_turned (λ (o : Outer). is_before o.time c) p.outer)
+nothing_before c p =
+    both _ _ _ _ (apart_turned (λ (e : Entry). is_before e.time c) p.entries)
+    (apart_turned (λ (o : Outer). is_before o.time c) p.outer)
 
 pub before_both : (c d : Time) (p : PartOf) → is_before d c ≡ false → before c (before d p) ≡ before c p
 before_both c d p h = both _ _ _ _
@@ -108,7 +119,11 @@ before_both c d p h = both _ _ _ _
     (narrower (λ (o : Outer). is_before o.time c) (λ (o : Outer). is_before o.time d) (λ o k. sooner o.time c d h k) p.outer)
 
 pub before_joined : (c : Time) (p q : PartOf) → before c (joined p q) ≡ joined (before c p) (before c q)
-before_joined c p q = both _ _ _ _ (filter-append (λ (e : Entry). is_before e.time c) p.entries q.entries) (filter-append (λ (o : Outer). is_before o.time c) p.outer q.outer)
+before_joined c p q =
+    both _ _ _ _ (filter-append (λ (e : Entry). is_before e.time c) p.entries q.entries)
+    (filter-append (λ (o : Outer). is_before o.time c) p.outer q.outer)
 
 pub since_joined : (c : Time) (p q : PartOf) → since c (joined p q) ≡ joined (since c p) (since c q)
-since_joined c p q = both _ _ _ _ (filter-append (λ (e : Entry). not (is_before e.time c)) p.entries q.entries) (filter-append (λ (o : Outer). not (is_before o.time c)) p.outer q.outer)
+since_joined c p q =
+    both _ _ _ _ (filter-append (λ (e : Entry). not (is_before e.time c)) p.entries q.entries)
+    (filter-append (λ (o : Outer). not (is_before o.time c)) p.outer q.outer)

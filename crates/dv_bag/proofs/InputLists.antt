@@ -1,5 +1,7 @@
 -- Lists of inputs: what comes in at a tick, and where its inputs stand.
-use Rattle.std.proofs.Common.{◌≡◌, inl, inr, ℕ, zero, suc, ◌+◌, ◌-◌, ◌*◌, ◌<◌, ◌≤◌, Bool, true, false, ◌&&◌, cond, nat_eq, List, [], ◌∷◌, ◌++◌, length, get_or, set, drop, replicate, filter, ℤ, Option, Some, None, IfSome, refl, sym, ap, ◌∙◌, subst, arith}
+use Rattle.std.proofs.Common.{◌≡◌, inl, inr, ℕ, zero, suc, ◌+◌, ◌-◌, ◌*◌, ◌<◌, ◌≤◌, Bool, true, false, ◌&&◌, cond, nat_eq, List}
+use Rattle.std.proofs.Common.{[], ◌∷◌, ◌++◌, length, get_or, set, drop, replicate, filter, ℤ, Option, Some, None, IfSome, refl}
+use Rattle.std.proofs.Common.{sym, ap, ◌∙◌, subst, arith}
 use Rattle.std.specs.List.{count_by, take_while}
 use Rattle.std.specs.Ordering.{int_eq}
 use Rattle.std.proofs.lemmas.Bool.{cases_Bool, cases_lt, false≢true, eq-eqb, eqb-true, eqb-false, ne_eqb, lt-ltb, le-ltb}
@@ -11,7 +13,8 @@ use Rattle.std.proofs.Math.Nat.{div-lt_iff_lt-mul, le-div_iff_mul-le}
 use Rattle.dv_time.specs.declared.TheConstants.{GREATEST_TICK}
 use Rattle.dv_time.specs.Time.{micro_of, tick_of}
 use Rattle.dv_bag.specs.Bag.{Counts, IsBag, bag_at, capped, count_of, with_copies}
-use Rattle.dv_bag.specs.Inputs.{IsFrom, IsByTick, bags_at, bags_from, inputs_at, inputs_before, is_of, last_tick, next_from, tick_at, values_at, values_into}
+use Rattle.dv_bag.specs.Inputs.{IsFrom, IsByTick, bags_at, bags_from, inputs_at, inputs_before, is_of, last_tick, next_from}
+use Rattle.dv_bag.specs.Inputs.{tick_at, values_at, values_into}
 use Rattle.dv_bag.specs.InputSteps.{with_input, with_inputs}
 use Rattle.dv_bag.specs.declared.inputs.Input.{Input}
 use Rattle.dv_bag.proofs.Pairs.{with_copies_bag}

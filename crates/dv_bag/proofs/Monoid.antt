@@ -1,5 +1,6 @@
 -- Bags as counts: union adds counts, and equal counts are equal bags.
-use Rattle.std.proofs.Common.{◌≡◌, ℕ, zero, suc, zero-add, add-zero, ◌+◌, ◌-◌, ◌^◌, ◌<◌, ◌≤◌, Bool, true, false, cond, nat_eq, [], ◌∷◌, ℤ, ◌<ℤ◌, refl, sym, ap, ◌∙◌, subst, arith}
+use Rattle.std.proofs.Common.{◌≡◌, ℕ, zero, suc, zero-add, add-zero, ◌+◌, ◌-◌, ◌^◌, ◌<◌, ◌≤◌, Bool, true, false, cond, nat_eq, []}
+use Rattle.std.proofs.Common.{◌∷◌, ℤ, ◌<ℤ◌, refl, sym, ap, ◌∙◌, subst, arith}
 use Rattle.std.specs.Ordering.{int_cmp}
 use Rattle.std.proofs.lemmas.Bool.Decides.{nat_tests}
 use Rattle.std.proofs.lemmas.Cmp.{int_ranked, by_ranked}
@@ -8,7 +9,7 @@ use Rattle.dv_bag.specs.Bag.{Counts, IsAbove, IsBag, capped, count_of, with_copi
 use Rattle.dv_bag.proofs.Pairs.{cmp_less, cmp_equal, cmp_greater, bag_from_above, by_copies, some_copies, with_copies_bag}
 
 -- the three places of a number beside another
-by_order : {G : Type 0} (v w : ℤ) → (v <ℤ w → G) → (v ≡ w → G) → (w <ℤ v → G) → G
+pub by_order : {G : Type 0} (v w : ℤ) → (v <ℤ w → G) → (v ≡ w → G) → (w <ℤ v → G) → G
 by_order v w less equal greater = by_ranked _ _ _ (int_cmp v w) (int_ranked v w _ refl) (λ e p. less p) (λ e p. equal p) (λ e p. greater p)
 
 -- a value that is not above the bound is not in the bag
@@ -41,14 +42,16 @@ count_before w v n p ps other lt = by_order w v
     (λ e. absurd (other e))
     (λ above. rw (cmp_greater w v above) refl)
 
-count_tail : (w : ℤ) (x y : ℤ × ℕ) (xs ys : Counts) → x.0 ≡ y.0 → (w ≡ x.0 → x.1 ≡ y.1) → count_of w xs ≡ count_of w ys → count_of w (x ∷ xs) ≡ count_of w (y ∷ ys)
+count_tail : (w : ℤ) (x y : ℤ × ℕ) (xs ys : Counts) → x.0 ≡ y.0 → (w ≡ x.0 → x.1 ≡ y.1) → count_of w xs ≡ count_of w ys
+    → count_of w (x ∷ xs) ≡ count_of w (y ∷ ys)
 count_tail w x y xs ys e first rest = by_order w x.0
     (λ lt. rw (cmp_less w x.0 lt, cmp_less w y.0 (subst (λ (z : ℤ). w <ℤ z) e lt)) refl)
     (λ same. rw (cmp_equal w x.0 same, cmp_equal w y.0 (same ∙ e)) (first same))
     (λ gt. rw (cmp_greater w x.0 gt, cmp_greater w y.0 (subst (λ (z : ℤ). z <ℤ w) e gt)) rest)
 
 count_some_other : (w v : ℤ) (n : ℕ) (b : Counts) → (w ≡ v → ⊥) → count_of w (with_some v n b) ≡ count_of w b
-count_some_other w v n [] other = by_order w v (λ lt. rw (cmp_less w v lt) refl) (λ e. absurd (other e)) (λ gt. rw (cmp_greater w v gt) refl)
+count_some_other w v n [] other =
+    by_order w v (λ lt. rw (cmp_less w v lt) refl) (λ e. absurd (other e)) (λ gt. rw (cmp_greater w v gt) refl)
 count_some_other w v n (p ∷ ps) other = by_order v p.0
     (λ lt. rw (cmp_less v p.0 lt) (count_before w v (capped n) p ps other lt))
     (λ e. rw (cmp_equal v p.0 e) (count_tail w (p.0, capped (p.1 + n)) p ps ps refl (λ same. absurd (other (same ∙ sym e))) refl))
@@ -81,7 +84,10 @@ count_without_other w v [] h other = refl
 count_without_other w v (p ∷ ps) h other = by_order v p.0
     (λ lt. rw (cmp_less v p.0 lt) refl)
     (λ e. rw (cmp_equal v p.0 e) (last_or_not (nat_eq p.1 1) e))
-    (λ gt. rw (cmp_greater v p.0 gt) (count_tail w p p (without_one v ps) ps refl (λ same. refl) (count_without_other w v ps (bag_from_above p.0 ps h.2) other)))
+    (λ gt.
+    rw (cmp_greater v p.0 gt)
+    (count_tail w p p (without_one v ps) ps refl (λ same. refl)
+    (count_without_other w v ps (bag_from_above p.0 ps h.2) other)))
   where
     gone : v ≡ p.0 → count_of w ps ≡ count_of w (p ∷ ps)
     gone e = by_order w p.0
@@ -108,7 +114,8 @@ count_union v a (p ∷ ps) h k =
     let none = count_below p.0 v ps k.2 (λ above. absurd (omega (arith, ints))) in
     rw (cmp_less v p.0 lt) (omega arith))
     (λ e.
-    let more : count_of v (with_copies p.0 p.1 a) ≡ capped (count_of v a + p.1) = subst (λ (w : ℤ). count_of v (with_copies w p.1 a) ≡ capped (count_of v a + p.1)) e (count_with_same v p.1 a h) in
+    let more : count_of v (with_copies p.0 p.1 a) ≡ capped (count_of v a + p.1) =
+    subst (λ (w : ℤ). count_of v (with_copies w p.1 a) ≡ capped (count_of v a + p.1)) e (count_with_same v p.1 a h) in
     let none = count_below p.0 v ps k.2 (λ above. absurd (omega (arith, ints))) in
     rw (cmp_equal v p.0 e) (omega arith))
     (λ gt.
@@ -130,8 +137,12 @@ same_first p q ps qs h k same = by_order p.0 q.0
 
 same_tail : (p q : ℤ × ℕ) (ps qs : Counts) → IsBag (p ∷ ps) → IsBag (q ∷ qs) → SameCounts (p ∷ ps) (q ∷ qs) → p.0 ≡ q.0 → SameCounts ps qs
 same_tail p q ps qs h k same e v = by_order v p.0
-    (λ lt. count_below p.0 v ps h.2 (λ above. absurd (omega (arith, ints))) ∙ sym (count_below q.0 v qs k.2 (λ above. absurd (omega (arith, ints)))))
-    (λ here. count_below p.0 v ps h.2 (λ above. absurd (omega (arith, ints))) ∙ sym (count_below q.0 v qs k.2 (λ above. absurd (omega (arith, ints)))))
+    (λ lt.
+    count_below p.0 v ps h.2 (λ above. absurd (omega (arith, ints)))
+    ∙ sym (count_below q.0 v qs k.2 (λ above. absurd (omega (arith, ints)))))
+    (λ here.
+    count_below p.0 v ps h.2 (λ above. absurd (omega (arith, ints)))
+    ∙ sym (count_below q.0 v qs k.2 (λ above. absurd (omega (arith, ints)))))
     (λ gt.
     let left : count_of v (p ∷ ps) ≡ count_of v ps = rw (cmp_greater v p.0 gt) refl in
     let right : count_of v (q ∷ qs) ≡ count_of v qs = rw (cmp_greater v q.0 (subst (λ (z : ℤ). z <ℤ v) e gt)) refl in
@@ -150,10 +161,14 @@ same_counts_same_bag (p ∷ ps) (q ∷ qs) h k same =
 
 -- the laws of a commutative monoid
 pub union_unit : (b : Counts) → IsBag b → union [] b ≡ b
-union_unit b h = same_counts_same_bag (union [] b) b (union_bag [] b tt h) h (λ v. let kept = count_kept v b h in count_union v [] b tt h ∙ omega arith)
+union_unit b h =
+    same_counts_same_bag (union [] b) b (union_bag [] b tt h) h
+    (λ v. let kept = count_kept v b h in count_union v [] b tt h ∙ omega arith)
 
 pub union_comm : (a b : Counts) → IsBag a → IsBag b → union a b ≡ union b a
-union_comm a b h k = same_counts_same_bag (union a b) (union b a) (union_bag a b h k) (union_bag b a k h) (λ v. let left = count_union v a b h k in let right = count_union v b a k h in omega arith)
+union_comm a b h k =
+    same_counts_same_bag (union a b) (union b a) (union_bag a b h k) (union_bag b a k h)
+    (λ v. let left = count_union v a b h k in let right = count_union v b a k h in omega arith)
 
 pub union_assoc : (a b c : Counts) → IsBag a → IsBag b → IsBag c → union (union a b) c ≡ union a (union b c)
 union_assoc a b c h k l =
@@ -167,15 +182,19 @@ union_assoc a b c h k l =
     omega arith)
 
 -- sizes add
-total_some : (v : ℤ) (n : ℕ) (b : Counts) → (capped (total (with_some v n b)) ≡ capped (total b + n)) × (total (with_some v n b) ≤ total b + n)
+total_some : (v : ℤ) (n : ℕ) (b : Counts)
+    → (capped (total (with_some v n b)) ≡ capped (total b + n)) × (total (with_some v n b) ≤ total b + n)
 total_some v n [] = (omega arith, omega arith)
 total_some v n (p ∷ ps) = by_order v p.0
     (λ lt. rw (cmp_less v p.0 lt) (omega arith, omega arith))
     (λ e. rw (cmp_equal v p.0 e) (omega arith, omega arith))
     (λ gt. let rest = total_some v n ps in rw (cmp_greater v p.0 gt) (omega arith, omega arith))
 
-pub total_with : (v : ℤ) (n : ℕ) (b : Counts) → (capped (total (with_copies v n b)) ≡ capped (total b + n)) × (total (with_copies v n b) ≤ total b + n)
-total_with v n b = by_copies (λ new. (capped (total new) ≡ capped (total b + n)) × (total new ≤ total b + n)) v n b (λ e. (omega arith, omega arith)) (λ more. total_some v n b)
+pub total_with : (v : ℤ) (n : ℕ) (b : Counts)
+    → (capped (total (with_copies v n b)) ≡ capped (total b + n)) × (total (with_copies v n b) ≤ total b + n)
+total_with v n b =
+    by_copies (λ new. (capped (total new) ≡ capped (total b + n)) × (total new ≤ total b + n)) v n b
+    (λ e. (omega arith, omega arith)) (λ more. total_some v n b)
 
 pub total_without : (v : ℤ) (b : Counts) → total (without_one v b) ≤ total b
 total_without v [] = omega arith
@@ -262,7 +281,9 @@ some_capped : (v : ℤ) (n : ℕ) (b : Counts) → with_some v (capped n) b ≡ 
 some_capped v n [] = let same : capped (capped n) ≡ capped n = omega arith in ap (λ (k : ℕ). (v, k) ∷ []) same
 some_capped v n (p ∷ ps) = by_order v p.0
     (λ lt. let same : capped (capped n) ≡ capped n = omega arith in rw (cmp_less v p.0 lt) (ap (λ (k : ℕ). (v, k) ∷ p ∷ ps) same))
-    (λ e. let same : capped (p.1 + capped n) ≡ capped (p.1 + n) = omega arith in rw (cmp_equal v p.0 e) (ap (λ (k : ℕ). (p.0, k) ∷ ps) same))
+    (λ e.
+    let same : capped (p.1 + capped n) ≡ capped (p.1 + n) = omega arith in
+    rw (cmp_equal v p.0 e) (ap (λ (k : ℕ). (p.0, k) ∷ ps) same))
     (λ gt. rw (cmp_greater v p.0 gt) (ap (λ (qs : Counts). p ∷ qs) (some_capped v n ps)))
 
 pub copies_capped : (v : ℤ) (n : ℕ) (b : Counts) → with_copies v (capped n) b ≡ with_copies v n b

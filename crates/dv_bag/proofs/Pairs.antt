@@ -1,5 +1,7 @@
 -- A bag as its ascending pairs: where a value stands, and what an edit there does.
-use Rattle.std.proofs.Common.{length-set, append-nil, drop, ◌≡◌, ◌⊎◌, inl, inr, Bool, true, false, ℕ, suc, zero, ◌+◌, ◌-◌, ◌^◌, ◌<◌, ◌≤◌, List, [], ◌∷◌, length, get_or, set, ℤ, pos, ◌<ℤ◌, Result, Ok, Err, Some, IfOk, IfErr, refl, sym, ap, ◌∙◌, subst, arith, cond, nat_eq}
+use Rattle.std.proofs.Common.{length-set, append-nil, drop, ◌≡◌, ◌⊎◌, inl, inr, Bool, true, false, ℕ, suc, zero, ◌+◌, ◌-◌, ◌^◌}
+use Rattle.std.proofs.Common.{◌<◌, ◌≤◌, List, [], ◌∷◌, length, get_or, set, ℤ, pos, ◌<ℤ◌, Result, Ok, Err, Some, IfOk, IfErr}
+use Rattle.std.proofs.Common.{refl, sym, ap, ◌∙◌, subst, arith, cond, nat_eq}
 use Rattle.std.specs.List.{insert, remove, refill}
 use Rattle.std.specs.List.Sorted.{IsSearchInRange, IsBinarySearchResult, IsNonDecreasingBy}
 use Rattle.std.specs.Ordering.{int_cmp, match_ordering, MatchOrdering, ordering_index}
@@ -13,15 +15,45 @@ use Rattle.std.proofs.lemmas.List.{at_drop_more, drop_all, take_all}
 use Rattle.std.proofs.lemmas.List.Sorted.{IsNonDecreasingBy-from_default}
 use Rattle.dv_bag.specs.Bag.{Counts, IsAbove, IsBag, capped, count_of, most, place_of, union, with_copies, with_some, without_one}
 
+-- the place of a value that a bag has, or of the gap for it
+abbrev pub IsPresent : ℤ → Counts → ℕ → Type 0
+IsPresent v b place = (place ≡ place_of v b) × (place < length b) × (0 < count_of v b)
+
+abbrev pub IsAbsent : ℤ → Counts → ℕ → Type 0
+IsAbsent v b place = (place ≡ place_of v b) × (place ≤ length b) × (count_of v b ≡ 0)
+
+-- what the order of a value to the first pair's gives: the value's count and place, some copies more, and one less
+abbrev count_by : Ordering → ℤ → ℤ × ℕ → Counts → ℕ
+count_by o v p ps = match_ordering o 0 p.1 (count_of v ps)
+
+abbrev place_by : Ordering → ℤ → Counts → ℕ
+place_by o v ps = match_ordering o 0 0 (suc (place_of v ps))
+
+abbrev more_by : Ordering → ℤ → ℕ → ℤ × ℕ → Counts → Counts
+more_by o v n p ps = match_ordering o ((v, capped n) ∷ p ∷ ps) ((p.0, capped (p.1 + n)) ∷ ps) (p ∷ with_some v n ps)
+
+abbrev less_by : Ordering → Bool → ℤ → ℤ × ℕ → Counts → Counts
+less_by o alone v p ps = match_ordering o (p ∷ ps) (cond alone ps ((p.0, p.1 - 1) ∷ ps)) (p ∷ without_one v ps)
+
+-- one copy less of a value of which so many stand at a place
+abbrev one_less_at : ℤ → Counts → ℕ → ℕ → Counts
+one_less_at v b place copies = cond (nat_eq copies 1) (remove b place) (set b place (v, copies - 1))
+
 -- the comparison of two numbers, from their order
 pub cmp_less : (v w : ℤ) → v <ℤ w → int_cmp v w ≡ Less
-cmp_less v w h = by_ranked _ _ _ (int_cmp v w) (int_ranked v w _ refl) (λ e p. e) (λ e p. absurd (omega (arith, ints))) (λ e p. absurd (omega (arith, ints)))
+cmp_less v w h =
+    by_ranked _ _ _ (int_cmp v w) (int_ranked v w _ refl) (λ e p. e) (λ e p. absurd (omega (arith, ints)))
+    (λ e p. absurd (omega (arith, ints)))
 
 pub cmp_equal : (v w : ℤ) → v ≡ w → int_cmp v w ≡ Equal
-cmp_equal v w h = by_ranked _ _ _ (int_cmp v w) (int_ranked v w _ refl) (λ e p. absurd (omega (arith, ints))) (λ e p. e) (λ e p. absurd (omega (arith, ints)))
+cmp_equal v w h =
+    by_ranked _ _ _ (int_cmp v w) (int_ranked v w _ refl) (λ e p. absurd (omega (arith, ints))) (λ e p. e)
+    (λ e p. absurd (omega (arith, ints)))
 
 pub cmp_greater : (v w : ℤ) → w <ℤ v → int_cmp v w ≡ Greater
-cmp_greater v w h = by_ranked _ _ _ (int_cmp v w) (int_ranked v w _ refl) (λ e p. absurd (omega (arith, ints))) (λ e p. absurd (omega (arith, ints))) (λ e p. e)
+cmp_greater v w h =
+    by_ranked _ _ _ (int_cmp v w) (int_ranked v w _ refl) (λ e p. absurd (omega (arith, ints)))
+    (λ e p. absurd (omega (arith, ints))) (λ e p. e)
 
 -- what stands above a value is a bag
 pub bag_from_above : (low : ℤ) (b : Counts) → IsAbove low b → IsBag b
@@ -53,7 +85,8 @@ values_rise (p ∷ ps) h zero (suc j) lt within = above_first p.0 ps j h.2 (omeg
 values_rise (p ∷ ps) h (suc i) (suc j) lt within = values_rise ps (bag_from_above p.0 ps h.2) i j (omega arith) (omega arith)
 
 -- the place of a value that is there
-pub place_present : (v : ℤ) (b : Counts) → IsBag b → (i : ℕ) → i < length b → value_at b i ≡ v → (i ≡ place_of v b) × (0 < count_of v b)
+pub place_present : (v : ℤ) (b : Counts) → IsBag b → (i : ℕ) → i < length b → value_at b i ≡ v
+    → (i ≡ place_of v b) × (0 < count_of v b)
 place_present v [] h i within e = absurd (omega arith)
 place_present v (p ∷ ps) h zero within e = rw (cmp_equal v p.0 (sym e)) (refl, h.0)
 place_present v (p ∷ ps) h (suc i) within e =
@@ -62,15 +95,19 @@ place_present v (p ∷ ps) h (suc i) within e =
     rw (cmp_greater v p.0 (subst (λ w. p.0 <ℤ w) e above)) (ap suc rest.0, rest.1)
 
 -- the place of a value that is not there
-pub place_absent : (v : ℤ) (b : Counts) → (i : ℕ) → i ≤ length b → ((j : ℕ) → j < i → value_at b j <ℤ v) → ((j : ℕ) → i ≤ j → j < length b → v <ℤ value_at b j) → (i ≡ place_of v b) × (count_of v b ≡ 0)
+pub place_absent : (v : ℤ) (b : Counts) → (i : ℕ) → i ≤ length b → ((j : ℕ) → j < i → value_at b j <ℤ v)
+    → ((j : ℕ) → i ≤ j → j < length b → v <ℤ value_at b j) → (i ≡ place_of v b) × (count_of v b ≡ 0)
 place_absent v [] i within below above = (omega arith, refl)
 place_absent v (p ∷ ps) zero within below above = rw (cmp_less v p.0 (above 0 (omega arith) (omega arith))) (refl, refl)
 place_absent v (p ∷ ps) (suc i) within below above =
-    let rest = place_absent v ps i (omega arith) (λ j lt. below (suc j) (omega arith)) (λ j le lt. above (suc j) (omega arith) (omega arith)) in
+    let rest =
+    place_absent v ps i (omega arith) (λ j lt. below (suc j) (omega arith))
+    (λ j le lt. above (suc j) (omega arith) (omega arith)) in
     rw (cmp_greater v p.0 (below 0 (omega arith))) (ap suc rest.0, rest.1)
 
 at_most : (b : Counts) → IsBag b → (i j : ℕ) → i ≤ j → j < length b → (value_at b i <ℤ value_at b j) ⊎ (value_at b i ≡ value_at b j)
-at_most b bag i j le within = elim (cases_lt i j) [ inl lt ↦ inl (values_rise b bag i j lt within) | inr ge ↦ inr (ap (value_at b) (omega arith)) ]
+at_most b bag i j le within =
+    elim (cases_lt i j) [ inl lt ↦ inl (values_rise b bag i j lt within) | inr ge ↦ inr (ap (value_at b) (omega arith)) ]
 
 index_small : (o : Ordering) → ordering_index o ≤ ordering_index Greater
 index_small Less = omega arith
@@ -87,16 +124,21 @@ index_rises v x y (inl lt) = by_ranked _ _ _ (int_cmp y v) (int_ranked y v _ ref
 module _ (b : Counts) (bag : IsBag b) (v : ℤ) where
   -- the comparisons with v rise along the bag, as a binary search asks
   comparisons_rise : IsNonDecreasingBy (λ pair. ordering_index (int_cmp pair.0 v)) b
-  comparisons_rise = IsNonDecreasingBy-from_default (λ pair. ordering_index (int_cmp pair.0 v)) b (pos 0, 0) (λ i j le within. index_rises v (value_at b i) (value_at b j) (at_most b bag i j le within))
+  comparisons_rise =
+      IsNonDecreasingBy-from_default (λ pair. ordering_index (int_cmp pair.0 v)) b (pos 0, 0)
+      (λ i j le within. index_rises v (value_at b i) (value_at b j) (at_most b bag i j le within))
 
   -- a binary search by value ends at the value, or at the gap for it
-  pub searched : (r : Result ℕ ℕ) → IsSearchInRange r (length b) → IsBinarySearchResult (λ pair. int_cmp pair.0 v) b r → record { found : IfOk r (λ place. (place ≡ place_of v b) × (place < length b) × (0 < count_of v b)); absent : IfErr r (λ place. (place ≡ place_of v b) × (place ≤ length b) × (count_of v b ≡ 0)) }
+  pub searched : (r : Result ℕ ℕ) → IsSearchInRange r (length b) → IsBinarySearchResult (λ pair. int_cmp pair.0 v) b r
+      → record { found : IfOk r (IsPresent v b); absent : IfErr r (IsAbsent v b) }
   searched (Ok at) within equal =
       let here = place_present v b bag at within (int_ranked _ v _ (sym (equal (pos 0, 0)))) in
       record { found = (here.0, within, here.1); absent = tt }
   searched (Err at) within parted =
       let apart = parted comparisons_rise in
-      let gap = place_absent v b at within (λ j lt. int_ranked _ v _ (sym (apart.0 j (pos 0, 0) (omega arith) lt))) (λ j le lt. int_ranked _ v _ (sym (apart.1 j (pos 0, 0) le lt))) in
+      let gap =
+      place_absent v b at within (λ j lt. int_ranked _ v _ (sym (apart.0 j (pos 0, 0) (omega arith) lt)))
+      (λ j le lt. int_ranked _ v _ (sym (apart.1 j (pos 0, 0) le lt))) in
       record { found = tt; absent = (gap.0, within, gap.1) }
 
 -- the pair at the place of a value that is there
@@ -104,27 +146,34 @@ pub copies_at_place : (v : ℤ) (b : Counts) → 0 < count_of v b → copies_at 
 copies_at_place v [] h = absurd (omega arith)
 copies_at_place v (p ∷ ps) h = step (int_cmp v p.0) h (copies_at_place v ps)
   where
-    step : (o : Ordering) → 0 < match_ordering o 0 p.1 (count_of v ps) → (0 < count_of v ps → copies_at ps (place_of v ps) ≡ count_of v ps) → copies_at (p ∷ ps) (match_ordering o 0 0 (suc (place_of v ps))) ≡ match_ordering o 0 p.1 (count_of v ps)
+    step : (o : Ordering) → 0 < count_by o v p ps → (0 < count_of v ps → copies_at ps (place_of v ps) ≡ count_of v ps)
+        → copies_at (p ∷ ps) (place_by o v ps) ≡ count_by o v p ps
     step Less h rest = absurd (omega arith)
     step Equal h rest = refl
     step Greater h rest = rest h
 
 -- more copies of a value that is there
-pub with_some_present : (v : ℤ) (n : ℕ) (b : Counts) → 0 < count_of v b → with_some v n b ≡ set b (place_of v b) (v, capped (count_of v b + n))
+pub with_some_present : (v : ℤ) (n : ℕ) (b : Counts) → 0 < count_of v b
+    → with_some v n b ≡ set b (place_of v b) (v, capped (count_of v b + n))
 with_some_present v n [] h = absurd (omega arith)
 with_some_present v n (p ∷ ps) h = step (int_cmp v p.0) (int_ranked v p.0 _ refl) h (with_some_present v n ps)
   where
-    step : (o : Ordering) → MatchOrdering o (v <ℤ p.0) (v ≡ p.0) (p.0 <ℤ v) → 0 < match_ordering o 0 p.1 (count_of v ps) → (0 < count_of v ps → with_some v n ps ≡ set ps (place_of v ps) (v, capped (count_of v ps + n))) → match_ordering o ((v, capped n) ∷ p ∷ ps) ((p.0, capped (p.1 + n)) ∷ ps) (p ∷ with_some v n ps) ≡ set (p ∷ ps) (match_ordering o 0 0 (suc (place_of v ps))) (v, capped (match_ordering o 0 p.1 (count_of v ps) + n))
+    step : (o : Ordering) → MatchOrdering o (v <ℤ p.0) (v ≡ p.0) (p.0 <ℤ v) → 0 < count_by o v p ps
+        → (0 < count_of v ps → with_some v n ps ≡ set ps (place_of v ps) (v, capped (count_of v ps + n)))
+        → more_by o v n p ps ≡ set (p ∷ ps) (place_by o v ps) (v, capped (count_by o v p ps + n))
     step Less m h rest = absurd (omega arith)
     step Equal m h rest = ap (λ (w : ℤ). (w, capped (p.1 + n)) ∷ ps) (sym m)
     step Greater m h rest = ap (λ qs. p ∷ qs) (rest h)
 
 -- copies of a value that is not there
-pub with_some_absent : (v : ℤ) (n : ℕ) (b : Counts) → IsBag b → count_of v b ≡ 0 → with_some v n b ≡ insert b (place_of v b) (v, capped n)
+pub with_some_absent : (v : ℤ) (n : ℕ) (b : Counts) → IsBag b → count_of v b ≡ 0
+    → with_some v n b ≡ insert b (place_of v b) (v, capped n)
 with_some_absent v n [] bag h = refl
 with_some_absent v n (p ∷ ps) bag h = step (int_cmp v p.0) h (with_some_absent v n ps (bag_from_above p.0 ps bag.2))
   where
-    step : (o : Ordering) → match_ordering o 0 p.1 (count_of v ps) ≡ 0 → (count_of v ps ≡ 0 → with_some v n ps ≡ insert ps (place_of v ps) (v, capped n)) → match_ordering o ((v, capped n) ∷ p ∷ ps) ((p.0, capped (p.1 + n)) ∷ ps) (p ∷ with_some v n ps) ≡ insert (p ∷ ps) (match_ordering o 0 0 (suc (place_of v ps))) (v, capped n)
+    step : (o : Ordering) → count_by o v p ps ≡ 0
+        → (count_of v ps ≡ 0 → with_some v n ps ≡ insert ps (place_of v ps) (v, capped n))
+        → more_by o v n p ps ≡ insert (p ∷ ps) (place_by o v ps) (v, capped n)
     step Less h rest = refl
     step Equal h rest = absurd (omega (arith, bag.0))
     step Greater h rest = ap (λ qs. p ∷ qs) (rest h)
@@ -134,21 +183,27 @@ cons_cond true p a b = refl
 cons_cond false p a b = refl
 
 -- one copy less of a value that is there
-pub without_one_present : (v : ℤ) (b : Counts) → 0 < count_of v b → without_one v b ≡ cond (nat_eq (count_of v b) 1) (remove b (place_of v b)) (set b (place_of v b) (v, count_of v b - 1))
+pub without_one_present : (v : ℤ) (b : Counts) → 0 < count_of v b
+    → without_one v b ≡ one_less_at v b (place_of v b) (count_of v b)
 without_one_present v [] h = absurd (omega arith)
 without_one_present v (p ∷ ps) h = step (int_cmp v p.0) (int_ranked v p.0 _ refl) h (without_one_present v ps)
   where
-    step : (o : Ordering) → MatchOrdering o (v <ℤ p.0) (v ≡ p.0) (p.0 <ℤ v) → 0 < match_ordering o 0 p.1 (count_of v ps) → (0 < count_of v ps → without_one v ps ≡ cond (nat_eq (count_of v ps) 1) (remove ps (place_of v ps)) (set ps (place_of v ps) (v, count_of v ps - 1))) → match_ordering o (p ∷ ps) (cond (nat_eq p.1 1) ps ((p.0, p.1 - 1) ∷ ps)) (p ∷ without_one v ps) ≡ cond (nat_eq (match_ordering o 0 p.1 (count_of v ps)) 1) (remove (p ∷ ps) (match_ordering o 0 0 (suc (place_of v ps)))) (set (p ∷ ps) (match_ordering o 0 0 (suc (place_of v ps))) (v, match_ordering o 0 p.1 (count_of v ps) - 1))
+    step : (o : Ordering) → MatchOrdering o (v <ℤ p.0) (v ≡ p.0) (p.0 <ℤ v) → 0 < count_by o v p ps
+        → (0 < count_of v ps → without_one v ps ≡ one_less_at v ps (place_of v ps) (count_of v ps))
+        → less_by o (nat_eq p.1 1) v p ps ≡ one_less_at v (p ∷ ps) (place_by o v ps) (count_by o v p ps)
     step Less m h rest = absurd (omega arith)
     step Equal m h rest = ap (λ (w : ℤ). cond (nat_eq p.1 1) ps ((w, p.1 - 1) ∷ ps)) (sym m)
-    step Greater m h rest = ap (λ qs. p ∷ qs) (rest h) ∙ cons_cond (nat_eq (count_of v ps) 1) p (remove ps (place_of v ps)) (set ps (place_of v ps) (v, count_of v ps - 1))
+    step Greater m h rest =
+        ap (λ qs. p ∷ qs) (rest h)
+        ∙ cons_cond (nat_eq (count_of v ps) 1) p (remove ps (place_of v ps)) (set ps (place_of v ps) (v, count_of v ps - 1))
 
 -- of a value that is not there, nothing
 pub without_one_absent : (v : ℤ) (b : Counts) → IsBag b → count_of v b ≡ 0 → without_one v b ≡ b
 without_one_absent v [] bag h = refl
 without_one_absent v (p ∷ ps) bag h = step (int_cmp v p.0) h (without_one_absent v ps (bag_from_above p.0 ps bag.2))
   where
-    step : (o : Ordering) → match_ordering o 0 p.1 (count_of v ps) ≡ 0 → (count_of v ps ≡ 0 → without_one v ps ≡ ps) → match_ordering o (p ∷ ps) (cond (nat_eq p.1 1) ps ((p.0, p.1 - 1) ∷ ps)) (p ∷ without_one v ps) ≡ p ∷ ps
+    step : (o : Ordering) → count_by o v p ps ≡ 0 → (count_of v ps ≡ 0 → without_one v ps ≡ ps)
+        → less_by o (nat_eq p.1 1) v p ps ≡ p ∷ ps
     step Less h rest = refl
     step Equal h rest = absurd (omega (arith, bag.0))
     step Greater h rest = ap (λ qs. p ∷ qs) (rest h)
@@ -158,7 +213,8 @@ pub with_some_above : (low v : ℤ) (n : ℕ) (b : Counts) → low <ℤ v → 0 
 with_some_above low v n [] lt more h = (lt, omega arith, omega arith, tt)
 with_some_above low v n (p ∷ ps) lt more h = step (int_cmp v p.0) (int_ranked v p.0 _ refl) (λ m. with_some_above p.0 v n ps m more h.3)
   where
-    step : (o : Ordering) → MatchOrdering o (v <ℤ p.0) (v ≡ p.0) (p.0 <ℤ v) → (p.0 <ℤ v → IsAbove p.0 (with_some v n ps)) → IsAbove low (match_ordering o ((v, capped n) ∷ p ∷ ps) ((p.0, capped (p.1 + n)) ∷ ps) (p ∷ with_some v n ps))
+    step : (o : Ordering) → MatchOrdering o (v <ℤ p.0) (v ≡ p.0) (p.0 <ℤ v) → (p.0 <ℤ v → IsAbove p.0 (with_some v n ps))
+        → IsAbove low (more_by o v n p ps)
     step Less m rest = (lt, omega arith, omega arith, (m, h.1, h.2, h.3))
     step Equal m rest = (h.0, omega (arith, h.1), omega arith, h.3)
     step Greater m rest = (h.0, h.1, h.2, rest m)
@@ -167,7 +223,7 @@ pub with_some_bag : (v : ℤ) (n : ℕ) (b : Counts) → 0 < n → IsBag b → I
 with_some_bag v n [] more h = (omega arith, omega arith, tt)
 with_some_bag v n (p ∷ ps) more h = step (int_cmp v p.0) (int_ranked v p.0 _ refl)
   where
-    step : (o : Ordering) → MatchOrdering o (v <ℤ p.0) (v ≡ p.0) (p.0 <ℤ v) → IsBag (match_ordering o ((v, capped n) ∷ p ∷ ps) ((p.0, capped (p.1 + n)) ∷ ps) (p ∷ with_some v n ps))
+    step : (o : Ordering) → MatchOrdering o (v <ℤ p.0) (v ≡ p.0) (p.0 <ℤ v) → IsBag (more_by o v n p ps)
     step Less m = (omega arith, omega arith, (m, h.0, h.1, h.2))
     step Equal m = (omega (arith, h.0), omega arith, h.2)
     step Greater m = (h.0, h.1, with_some_above p.0 v n ps m more h.2)
@@ -179,7 +235,7 @@ pub without_one_above : (low v : ℤ) (b : Counts) → IsAbove low b → IsAbove
 without_one_above low v [] h = tt
 without_one_above low v (p ∷ ps) h = step (int_cmp v p.0) (nat_eq p.1 1) refl (without_one_above p.0 v ps h.3)
   where
-    step : (o : Ordering) (t : Bool) → nat_eq p.1 1 ≡ t → IsAbove p.0 (without_one v ps) → IsAbove low (match_ordering o (p ∷ ps) (cond t ps ((p.0, p.1 - 1) ∷ ps)) (p ∷ without_one v ps))
+    step : (o : Ordering) (t : Bool) → nat_eq p.1 1 ≡ t → IsAbove p.0 (without_one v ps) → IsAbove low (less_by o t v p ps)
     step Less t e rest = h
     step Equal true e rest = above_lower p.0 low ps h.0 h.3
     step Equal false e rest = (h.0, more_than_one p.1 h.1 e, omega (arith, h.2), h.3)
@@ -189,7 +245,7 @@ pub without_one_bag : (v : ℤ) (b : Counts) → IsBag b → IsBag (without_one 
 without_one_bag v [] h = tt
 without_one_bag v (p ∷ ps) h = step (int_cmp v p.0) (nat_eq p.1 1) refl
   where
-    step : (o : Ordering) (t : Bool) → nat_eq p.1 1 ≡ t → IsBag (match_ordering o (p ∷ ps) (cond t ps ((p.0, p.1 - 1) ∷ ps)) (p ∷ without_one v ps))
+    step : (o : Ordering) (t : Bool) → nat_eq p.1 1 ≡ t → IsBag (less_by o t v p ps)
     step Less t e = h
     step Equal true e = bag_from_above p.0 ps h.2
     step Equal false e = (more_than_one p.1 h.0 e, omega (arith, h.1), h.2)
@@ -215,17 +271,23 @@ pub with_copies_bag : (v : ℤ) (n : ℕ) (b : Counts) → IsBag b → IsBag (wi
 with_copies_bag v n b h = by_copies IsBag v n b (λ e. h) (λ more. with_some_bag v n b more h)
 
 -- what the code of the edits leaves
-module _ (v w : ℤ) (b items slice read : Counts) (place : ℕ) (number : w ≡ v) (view : items ≡ b) (wrote : slice ≡ items) (seen : read ≡ items) where
-  pub copies_read : (place ≡ place_of w b) × (place < length b) × (0 < count_of w b) → copies_at read place ≡ count_of v b
-  copies_read found = let there = subst (λ (v : ℤ). 0 < count_of v b) number found.2 in let at = copies_at_place v b there in let same = found.0 in cc
+module _ (v w : ℤ) (b items slice read : Counts) (place : ℕ) (number : w ≡ v) (view : items ≡ b) (wrote : slice ≡ items)
+    (seen : read ≡ items) where
+  pub copies_read : IsPresent w b place → copies_at read place ≡ count_of v b
+  copies_read found =
+      let there = subst (λ (v : ℤ). 0 < count_of v b) number found.2 in
+      let at = copies_at_place v b there in
+      let same = found.0 in
+      cc
 
-  pub some_read : (place ≡ place_of w b) × (place < length b) × (0 < count_of w b) → 1 ≤ copies_at read place
+  pub some_read : IsPresent w b place → 1 ≤ copies_at read place
   some_read found =
       let there = subst (λ (v : ℤ). 0 < count_of v b) number found.2 in
       let at = copies_read found in
       omega arith
 
-  pub more_copies : (n sum : ℕ) → (place ≡ place_of w b) × (place < length b) × (0 < count_of w b) → sum ≡ capped (copies_at read place + n) → refill (length items) items (set slice place (w, sum)) ≡ with_some v n b
+  pub more_copies : (n sum : ℕ) → IsPresent w b place
+      → sum ≡ capped (copies_at read place + n) → refill (length items) items (set slice place (w, sum)) ≡ with_some v n b
   more_copies n sum found e =
       let there = subst (λ (v : ℤ). 0 < count_of v b) number found.2 in
       let at = copies_read found in
@@ -234,7 +296,8 @@ module _ (v w : ℤ) (b items slice read : Counts) (place : ℕ) (number : w ≡
       let filled = refill-set items place (w, sum) in
       cc
 
-  pub first_copies : (n : ℕ) (new : Counts) → IsBag b → n < 2 ^ 64 → (place ≡ place_of w b) × (place ≤ length b) × (count_of w b ≡ 0) → new ≡ insert items place (w, n) → new ≡ with_some v n b
+  pub first_copies : (n : ℕ) (new : Counts) → IsBag b → n < 2 ^ 64
+      → IsAbsent w b place → new ≡ insert items place (w, n) → new ≡ with_some v n b
   first_copies n new bag small absent e =
       let none = subst (λ (v : ℤ). count_of v b ≡ 0) number absent.2 in
       let meant = with_some_absent v n b bag none in
@@ -242,7 +305,8 @@ module _ (v w : ℤ) (b items slice read : Counts) (place : ℕ) (number : w ≡
       let kept : capped n ≡ n = omega arith in
       e ∙ rw (view, same, number) (sym (rw kept at meant))
 
-  pub last_copy : (new : Counts) → (place ≡ place_of w b) × (place < length b) × (0 < count_of w b) → copies_at read place ≡ 1 → new ≡ remove items place → new ≡ without_one v b
+  pub last_copy : (new : Counts) → IsPresent w b place → copies_at read place ≡ 1
+      → new ≡ remove items place → new ≡ without_one v b
   last_copy new found one e =
       let there = subst (λ (v : ℤ). 0 < count_of v b) number found.2 in
       let at = copies_read found in
@@ -251,7 +315,8 @@ module _ (v w : ℤ) (b items slice read : Counts) (place : ℕ) (number : w ≡
       let last : nat_eq (count_of v b) 1 ≡ true = rw (← at, one) refl in
       e ∙ rw (view, same, number) (sym (rw last at meant))
 
-  pub one_copy_less : (place ≡ place_of w b) × (place < length b) × (0 < count_of w b) → (copies_at read place ≡ 1 → ⊥) → refill (length items) items (set slice place (w, copies_at read place - 1)) ≡ without_one v b
+  pub one_copy_less : IsPresent w b place → (copies_at read place ≡ 1 → ⊥)
+      → refill (length items) items (set slice place (w, copies_at read place - 1)) ≡ without_one v b
   one_copy_less found several =
       let there = subst (λ (v : ℤ). 0 < count_of v b) number found.2 in
       let at = copies_read found in
@@ -267,7 +332,8 @@ pub with_some_length : (v : ℤ) (n : ℕ) (b : Counts) → length (with_some v 
 with_some_length v n [] = omega arith
 with_some_length v n (p ∷ ps) = step (int_cmp v p.0) (with_some_length v n ps)
   where
-    step : (o : Ordering) → length (with_some v n ps) ≤ length ps + 1 → length (match_ordering o ((v, capped n) ∷ p ∷ ps) ((p.0, capped (p.1 + n)) ∷ ps) (p ∷ with_some v n ps)) ≤ length (p ∷ ps) + 1
+    step : (o : Ordering) → length (with_some v n ps) ≤ length ps + 1 → length (more_by o v n p ps)
+        ≤ length (p ∷ ps) + 1
     step Less rest = omega arith
     step Equal rest = omega arith
     step Greater rest = omega arith

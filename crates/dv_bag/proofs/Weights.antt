@@ -13,7 +13,8 @@ abs_fits : (v : ℤ) → SFits w64 v → unsigned_abs v ≤ 2 ^ 63
 abs_fits (pos m) h = omega (arith, h.sfits)
 abs_fits (negsuc m) h = omega (arith, h.sfits)
 
-pub weight_within : (v : ℤ) (copies : ℕ) → SFits w64 v → (neg_ℤ (pos (2 ^ 63 * copies)) ≤ℤ (pos copies *ℤ v)) × ((pos copies *ℤ v) ≤ℤ pos (2 ^ 63 * copies))
+pub weight_within : (v : ℤ) (copies : ℕ) → SFits w64 v
+    → (neg_ℤ (pos (2 ^ 63 * copies)) ≤ℤ (pos copies *ℤ v)) × ((pos copies *ℤ v) ≤ℤ pos (2 ^ 63 * copies))
 weight_within v copies h =
     let product = unsigned_abs-mul (pos copies) v in
     let small = abs_fits v h in
@@ -21,7 +22,8 @@ weight_within v copies h =
     within_abs (pos copies *ℤ v) (2 ^ 63 * copies) (omega (arith, product, most))
 
 -- the product does not leave 128 bits
-pub weight_is : (v : ℤ) (copies : ℕ) (a b : ℤ) → SFits w64 v → copies < 2 ^ 64 → a ≡ pos copies → b ≡ v → to_z w128 (of_z w128 (to_z w128 (of_z w128 a) *ℤ to_z w128 (of_z w128 b))) ≡ pos copies *ℤ v
+pub weight_is : (v : ℤ) (copies : ℕ) (a b : ℤ) → SFits w64 v → copies < 2 ^ 64 → a ≡ pos copies → b ≡ v
+    → to_z w128 (of_z w128 (to_z w128 (of_z w128 a) *ℤ to_z w128 (of_z w128 b))) ≡ pos copies *ℤ v
 weight_is v copies a b h small ea eb =
     let bound = abs_fits v h in
     let first : SFits w128 (pos copies) = omega (arith, ints) in

@@ -1,5 +1,6 @@
 -- What the numbers of the language give: exact results, or a fault.
-use Rattle.std.specs.Prelude.{ℤ, pos, neg_ℤ, ◌^◌, Bool, not, ◌&&◌, if◌then◌else◌, int_lt, int_div, int_rem, Option, Some, None, Result, Ok, Err}
+use Rattle.std.specs.Prelude.{ℤ, pos, neg_ℤ, ◌^◌, Bool, not, ◌&&◌, if◌then◌else◌, int_lt, int_div, int_rem, Option, Some, None}
+use Rattle.std.specs.Prelude.{Result, Ok, Err}
 use Rattle.std.specs.Ordering.{int_eq}
 use Rattle.dv_bag.specs.declared.value.Value.{Value}
 use Rattle.dv_bag.specs.declared.value.Value.TheVariants.{Number}

@@ -1,6 +1,7 @@
 -- Bags: finite maps from whole numbers to counts above 0, as their pairs in ascending order.
 -- A count above 2^64 - 1 stands as that number.
-use Rattle.std.specs.Prelude.{ℕ, zero, suc, ◌+◌, ◌-◌, ◌^◌, ◌<◌, min, nat_eq, nat_lt, Bool, if◌then◌else◌, List, [], ◌∷◌, ◌++◌, replicate, slice_index_or, ℤ, pos, negsuc, ◌+ℤ◌, ◌*ℤ◌, ◌<ℤ◌, Option, Some, None, Result, Ok, Err}
+use Rattle.std.specs.Prelude.{ℕ, zero, suc, ◌+◌, ◌-◌, ◌^◌, ◌<◌, min, nat_eq, nat_lt, Bool, if◌then◌else◌, List, [], ◌∷◌, ◌++◌}
+use Rattle.std.specs.Prelude.{replicate, slice_index_or, ℤ, pos, negsuc, ◌+ℤ◌, ◌*ℤ◌, ◌<ℤ◌, Option, Some, None, Result, Ok, Err}
 use Rattle.std.specs.Ordering.{int_cmp, match_ordering}
 use Rattle.dv_bag.specs.declared.fault.Fault.{Fault}
 use Rattle.dv_bag.specs.declared.fault.Fault.TheVariants.{Overflow}

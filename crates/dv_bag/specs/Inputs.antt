@@ -1,5 +1,6 @@
 -- Inputs from outside: a list in which ticks never fall. An input comes at the start of its tick, that is at microstep 0.
-use Rattle.std.specs.Prelude.{ℕ, zero, suc, ◌+◌, ◌≤◌, nat_eq, nat_lt, Bool, ◌&&◌, if◌then◌else◌, List, [], ◌∷◌, length, filter, replicate, Option, Some, None, option_map, slice_get, ℤ}
+use Rattle.std.specs.Prelude.{ℕ, zero, suc, ◌+◌, ◌≤◌, nat_eq, nat_lt, Bool, ◌&&◌, if◌then◌else◌, List, [], ◌∷◌, length, filter}
+use Rattle.std.specs.Prelude.{replicate, Option, Some, None, option_map, slice_get, ℤ}
 use Rattle.std.specs.Ordering.{int_eq}
 use Rattle.dv_time.specs.Time.{tick_of, micro_of}
 use Rattle.dv_time.specs.declared.TheConstants.{GREATEST_TICK}

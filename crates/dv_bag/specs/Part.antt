@@ -33,4 +33,6 @@ since c p = record {
 
 -- nothing in a part is before what precedes it
 abbrev pub IsByTime : PartOf → Type 0
-IsByTime p = AllPairs (λ (a b : Entry). is_before b.time a.time ≡ false) p.entries × AllPairs (λ (a b : Outer). is_before b.time a.time ≡ false) p.outer
+IsByTime p =
+    AllPairs (λ (a b : Entry). is_before b.time a.time ≡ false) p.entries
+    × AllPairs (λ (a b : Outer). is_before b.time a.time ≡ false) p.outer

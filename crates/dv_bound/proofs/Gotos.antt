@@ -1,5 +1,6 @@
 -- What holds of the goto from which statements start, and of where each of their gotos leads, holds of the one that they leave.
-use Rattle.std.proofs.Common.{ℕ, ℤ, Bool, true, false, if◌then◌else◌, nat_le, List, [], ◌∷◌, ◌++◌, Option, Some, None, Result, Ok, Err, IfOk}
+use Rattle.std.proofs.Common.{ℕ, ℤ, Bool, true, false, if◌then◌else◌, nat_le, List, [], ◌∷◌, ◌++◌, Option, Some, None, Result, Ok}
+use Rattle.std.proofs.Common.{Err, IfOk}
 use Rattle.std.specs.Prelude.{slice_get}
 use Rattle.std.specs.List.{AllByRecursion}
 use Rattle.dv_syntax.specs.Trees.{Statements, Done, Assign, Goto, Send, If, IfElse, For, Add, Drop}
@@ -16,7 +17,9 @@ use Rattle.dv_bag.specs.declared.value.Value.{Value}
 use Rattle.dv_eval.specs.declared.scope.Domain.{Domain}
 use Rattle.dv_eval.specs.declared.scope.Domain.TheVariants as domain
 use Rattle.dv_eval.specs.Scope.{Scope, names_of, place_of}
-use Rattle.dv_eval.specs.Meaning.{Context, addition_at, addition_to, assignment_at, assignment_in_domain, assignment_to, bag_of_name, capacity_of, in_loop, moment_in, number_of, removal_at, removal_from, repetition, run, sending, truth_of, value_within, with_goto, with_value_at}
+use Rattle.dv_eval.specs.Meaning.{Context, addition_at, addition_to, assignment_at, assignment_in_domain, assignment_to}
+use Rattle.dv_eval.specs.Meaning.{bag_of_name, capacity_of, in_loop, moment_in, number_of, removal_at, removal_from, repetition}
+use Rattle.dv_eval.specs.Meaning.{run, sending, truth_of, value_within, with_goto, with_value_at}
 use Rattle.dv_bound.specs.Response.{gotos_in}
 use Rattle.dv_bound.proofs.Outcomes.{if_ok_any, if_ok_then}
 

@@ -1,5 +1,6 @@
 -- The holds that begin where external rules go are not below the response.
-use Rattle.std.proofs.Common.{◌≡◌, ℕ, ◌==◌, length, replicate, Bool, true, false, ◌&&◌, if◌then◌else◌, List, [], ◌∷◌, ◌++◌, unwrap_or, Option, Some, None, Ok, IfSome, refl, sym, subst, arith}
+use Rattle.std.proofs.Common.{◌≡◌, ℕ, ◌==◌, length, replicate, Bool, true, false, ◌&&◌, if◌then◌else◌, List, [], ◌∷◌, ◌++◌}
+use Rattle.std.proofs.Common.{unwrap_or, Option, Some, None, Ok, IfSome, refl, sym, subst, arith}
 use Rattle.std.specs.List.{AllByRecursion, flat_map}
 use Rattle.std.proofs.lemmas.Result.{IfOk-at_ok}
 use Rattle.dv_syntax.specs.declared.tree.RuleSort.TheVariants.{External}
@@ -12,7 +13,8 @@ use Rattle.dv_eval.specs.Meaning.{effect_of, hold_of, outermost}
 use Rattle.dv_eval.specs.Scope.{hold_ticks, phase_name, place_of, rule_body, rule_of, same_sort, scope_of}
 use Rattle.dv_accepted.specs.Fitting.{HoldsDatum, domain_named, in_phase}
 use Rattle.dv_bag.specs.Numbers.{HoldsNumbers}
-use Rattle.dv_bound.specs.Response.{IsNotBelow, external_gotos, external_gotos_in, gotos_in, phase_response, response_of, sooner}
+use Rattle.dv_bound.specs.Response.{IsNotBelow, external_gotos, external_gotos_in, gotos_in, phase_response}
+use Rattle.dv_bound.specs.Response.{response_of, sooner}
 use Rattle.dv_bound.specs.Soonest.{soonest}
 use Rattle.dv_bound.proofs.Names.{name_at}
 use Rattle.dv_bound.proofs.Gotos.{all_parts, run_leaves}

@@ -1,5 +1,7 @@
 -- In a state that holds numbers of the language alone, what an expression outside of all rules gives is not below the least one.
-use Rattle.std.proofs.Common.{◌≡◌, ℕ, zero, suc, ℤ, pos, negsuc, neg_ℤ, ◌+ℤ◌, ◌-ℤ◌, ◌*ℤ◌, ◌≤ℤ◌, ◌≤◌, ◌%◌, nat_abs, int_div, int_rem, int_lt, Bool, true, false, not, ◌&&◌, if◌then◌else◌, IsTrue, List, [], ◌∷◌, slice_get, All, Option, Some, None, Result, Ok, Err, IfOk, IfSome, refl, subst, arith}
+use Rattle.std.proofs.Common.{◌≡◌, ℕ, zero, suc, ℤ, pos, negsuc, neg_ℤ, ◌+ℤ◌, ◌-ℤ◌, ◌*ℤ◌, ◌≤ℤ◌, ◌≤◌, ◌%◌, nat_abs, int_div}
+use Rattle.std.proofs.Common.{int_rem, int_lt, Bool, true, false, not, ◌&&◌, if◌then◌else◌, IsTrue, List, [], ◌∷◌, slice_get, All}
+use Rattle.std.proofs.Common.{Option, Some, None, Result, Ok, Err, IfOk, IfSome, refl, subst, arith}
 use Rattle.std.specs.Ordering.{int_eq}
 use Rattle.std.proofs.lemmas.Int.{ints}
 use Rattle.std.proofs.lemmas.List.Elements.{All-nil}
@@ -25,7 +27,8 @@ use Rattle.dv_bag.specs.declared.value.Value.{Value}
 use Rattle.dv_bag.specs.declared.value.Value.TheVariants.{Number, Truth}
 use Rattle.dv_bag.specs.Reading.{bag_of_datum}
 use Rattle.dv_eval.specs.Scope.{Scope, names_of, place_of}
-use Rattle.dv_eval.specs.Meaning.{bag_between, call_result, datum_at, is_decided, meaning, moment_in, number_of, operator_result, outermost, prefix_result, value_of_datum}
+use Rattle.dv_eval.specs.Meaning.{bag_between, call_result, datum_at, is_decided, meaning, moment_in, number_of, operator_result}
+use Rattle.dv_eval.specs.Meaning.{outermost, prefix_result, value_of_datum}
 use Rattle.dv_bag.specs.Numbers.{HoldsNumbers, IsBagOfNumbers, IsOfNumbers}
 use Rattle.dv_bound.specs.Response.{least_number}
 use Rattle.dv_bound.proofs.Outcomes.{if_ok_any, if_ok_then}

@@ -1,5 +1,6 @@
 -- In a state that fits and holds numbers of the language alone, what a hold's expression gives is not below what is known of it.
-use Rattle.std.proofs.Common.{◌≡◌, ℕ, ℤ, pos, negsuc, ◌+ℤ◌, ◌≤ℤ◌, ◌≤◌, Bool, true, false, not, int_lt, if◌then◌else◌, Option, Some, None, Result, Ok, Err, IfOk, IfSome, refl, sym, ap, subst, ◌∙◌, arith}
+use Rattle.std.proofs.Common.{◌≡◌, ℕ, ℤ, pos, negsuc, ◌+ℤ◌, ◌≤ℤ◌, ◌≤◌, Bool, true, false, not, int_lt, if◌then◌else◌, Option}
+use Rattle.std.proofs.Common.{Some, None, Result, Ok, Err, IfOk, IfSome, refl, sym, ap, subst, ◌∙◌, arith}
 use Rattle.std.proofs.lemmas.Int.{ints}
 use Rattle.dv_syntax.specs.Trees.{Expression, Literal, TruthValue, Named, Parens, Prefixed, Binary, Call, Elapsed, Times}
 use Rattle.dv_syntax.specs.declared.tree.Operator.TheVariants as operator
@@ -20,7 +21,8 @@ use Rattle.dv_eval.specs.Scope.{Scope, names_of, place_of}
 use Rattle.dv_eval.specs.Meaning.{datum_at, datum_of_name, hold_of, meaning, moment_in, number_of, outermost, ticks_from, value_of_datum}
 use Rattle.dv_accepted.specs.Fitting.{HoldsDatum, datum_fits, domain_named}
 use Rattle.dv_bag.specs.Numbers.{HoldsNumbers}
-use Rattle.dv_bound.specs.Response.{IsNotBelow, greatest_number, hold_response, least_number, low, low_end, ticks_in, within_numbers}
+use Rattle.dv_bound.specs.Response.{IsNotBelow, greatest_number, hold_response, least_number, low, low_end}
+use Rattle.dv_bound.specs.Response.{ticks_in, within_numbers}
 use Rattle.dv_bound.proofs.Numbers.{name_not_under, not_less, value_not_under}
 use Rattle.dv_bound.proofs.Outcomes.{if_ok_any, if_ok_then}
 

@@ -1,8 +1,10 @@
 -- The response of an atomic model, which is its lookahead (Chandy and Misra; Bryant): where an external rule goes to a phase, the
 -- hold that begins there is not below it.
-use Rattle.std.specs.Prelude.{ℕ, ℤ, pos, negsuc, neg_ℤ, ◌+ℤ◌, ◌^◌, ◌-◌, ◌≤◌, int_lt, min, if◌then◌else◌, List, [], ◌∷◌, ◌++◌, fold, map, Option, Some, None}
+use Rattle.std.specs.Prelude.{ℕ, ℤ, pos, negsuc, neg_ℤ, ◌+ℤ◌, ◌^◌, ◌-◌, ◌≤◌, int_lt, min, if◌then◌else◌, List, [], ◌∷◌}
+use Rattle.std.specs.Prelude.{◌++◌, fold, map, Option, Some, None}
 use Rattle.std.specs.List.{flat_map}
-use Rattle.dv_syntax.specs.Trees.{AtomicTree, RuleTree, Expression, Literal, Named, Parens, Binary, Call, Times, Statements, Done, Assign, Goto, Send, If, IfElse, For, Add, Drop}
+use Rattle.dv_syntax.specs.Trees.{AtomicTree, RuleTree, Expression, Literal, Named, Parens, Binary, Call, Times, Statements, Done}
+use Rattle.dv_syntax.specs.Trees.{Assign, Goto, Send, If, IfElse, For, Add, Drop}
 use Rattle.dv_syntax.specs.declared.tree.Operator.TheVariants as operator
 use Rattle.dv_syntax.specs.declared.tree.BagCall.TheVariants as call
 use Rattle.dv_syntax.specs.declared.tree.RuleSort.TheVariants.{External}

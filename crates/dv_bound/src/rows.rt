@@ -4,7 +4,8 @@ ghost use Rattle.std.specs.Prelude.{◌≡◌, ◌+ℤ◌, pos, None, Some};
 ghost use Rattle.dv_syntax.specs.Trees.{Done, Parens};
 ghost use Rattle.dv_eval.specs.Edges.{greatest, number};
 ghost use Rattle.dv_bound.specs.Response.{least_number};
-ghost use Rattle.dv_bound.specs.Rows.{low_in_server, the_drift, either, for_each, goto, minus, plus, response_by, response_to, the_load, jobs_waiting, least_job};
+ghost use Rattle.dv_bound.specs.Rows.{low_in_server, the_drift, either, for_each, goto, minus, plus, response_by, response_to};
+ghost use Rattle.dv_bound.specs.Rows.{the_load, jobs_waiting, least_job};
 
 /// A hold counts with the least ticks that it can have, as far as the text shows them: those of a number, a
 /// variable, the size of a bag, and of their sums. All else counts as the least number, in sums too; and where the

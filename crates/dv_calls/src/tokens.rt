@@ -58,12 +58,19 @@ fn reads_a_model(rt: HostRuntime) {
         &rt,
         &[
             (
-                "atomic Tick { out beat; var n: 0..3 = 0; phases run; start run; # a clock\n  hold run: 5; internal run { if n != 3 { n := n + 1; } } }",
-                "Atomic@0 #0@7 OpenBrace@12 Out@14 #1@18 Semicolon@22 Var@24 #2@28 Colon@29 0@31 Range@32 3@34 Equal@36 0@38 Semicolon@39 Phases@41 #3@48 Semicolon@51 Start@53 #3@59 Semicolon@62 Hold@76 #3@81 Colon@84 5@86 Semicolon@87 Internal@89 #3@98 OpenBrace@102 If@104 #2@107 Unequal@109 3@112 OpenBrace@114 #2@116 Assign@118 #2@121 Plus@123 1@125 Semicolon@126 CloseBrace@128 CloseBrace@130 CloseBrace@132 | Tick beat n run",
+                "atomic Tick { out beat; var n: 0..3 = 0; phases run; start run; # a clock\n  hold run: 5; \
+                    internal run { if n != 3 { n := n + 1; } } }",
+                "Atomic@0 #0@7 OpenBrace@12 Out@14 #1@18 Semicolon@22 Var@24 #2@28 Colon@29 0@31 Range@32 \
+                    3@34 Equal@36 0@38 Semicolon@39 Phases@41 #3@48 Semicolon@51 Start@53 #3@59 Semicolon@62 \
+                    Hold@76 #3@81 Colon@84 5@86 Semicolon@87 Internal@89 #3@98 OpenBrace@102 If@104 #2@107 \
+                    Unequal@109 3@112 OpenBrace@114 #2@116 Assign@118 #2@121 Plus@123 1@125 Semicolon@126 \
+                    CloseBrace@128 CloseBrace@130 CloseBrace@132 | Tick beat n run",
             ),
             (
                 "coupled Top { out o; part t: Tick; link t.beat -> self.o; }",
-                "Coupled@0 #0@8 OpenBrace@12 Out@14 #1@18 Semicolon@19 Part@21 #2@26 Colon@27 #3@29 Semicolon@33 Link@35 #2@40 Dot@41 #4@42 Arrow@47 Itself@50 Dot@54 #1@55 Semicolon@56 CloseBrace@58 | Top o t Tick beat",
+                "Coupled@0 #0@8 OpenBrace@12 Out@14 #1@18 Semicolon@19 Part@21 #2@26 Colon@27 #3@29 \
+                    Semicolon@33 Link@35 #2@40 Dot@41 #4@42 Arrow@47 Itself@50 Dot@54 #1@55 Semicolon@56 \
+                    CloseBrace@58 | Top o t Tick beat",
             ),
             ("\nroot Top;\n", "Root@1 #0@6 Semicolon@9 | Top"),
         ],
@@ -82,11 +89,13 @@ fn reads_each_keyword(rt: HostRuntime) {
         &[
             (
                 "atomic coupled root in out var flag bag phases start hold forever output internal",
-                "Atomic@0 Coupled@7 Root@15 In@20 Out@23 Var@27 Flag@31 Bag@36 Phases@40 Start@47 Hold@53 Forever@58 Output@66 Internal@73 |",
+                "Atomic@0 Coupled@7 Root@15 In@20 Out@23 Var@27 Flag@31 Bag@36 Phases@40 Start@47 Hold@53 \
+                    Forever@58 Output@66 Internal@73 |",
             ),
             (
                 "external confluent part link self if else for add to drop from send goto",
-                "External@0 Confluent@9 Part@19 Link@24 Itself@29 If@34 Else@37 For@42 Add@46 To@50 Drop@53 From@58 Send@63 Goto@68 |",
+                "External@0 Confluent@9 Part@19 Link@24 Itself@29 If@34 Else@37 For@42 Add@46 To@50 Drop@53 \
+                    From@58 Send@63 Goto@68 |",
             ),
             (
                 "true false not and or elapsed size sum least most times",

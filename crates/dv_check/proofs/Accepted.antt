@@ -1,5 +1,7 @@
 -- What the refusals that a file does not have say of it.
-use Rattle.std.proofs.Common.{subst, ⊎_elim, ◌≡◌, ℕ, ◌+◌, ◌<◌, ◌≤◌, ◌==◌, Bool, true, false, not, ◌&&◌, ◌||◌, nat_lt, suc, if◌then◌else◌, List, [], ◌∷◌, ◌++◌, length, map, refl, sym, ap, ◌∙◌, Option, Some, None, option_map, Contains, arith}
+use Rattle.std.proofs.Common.{subst, ⊎_elim, ◌≡◌, ℕ, ◌+◌, ◌<◌, ◌≤◌, ◌==◌, Bool, true, false, not, ◌&&◌, ◌||◌, nat_lt, suc}
+use Rattle.std.proofs.Common.{if◌then◌else◌, List, [], ◌∷◌, ◌++◌, length, map, refl, sym, ap, ◌∙◌, Option, Some, None, option_map}
+use Rattle.std.proofs.Common.{Contains, arith}
 use Rattle.std.specs.List.{AllByRecursion, flat_map, slice_get}
 use Rattle.std.specs.Option.{option_or}
 use Rattle.std.proofs.lemmas.Option.{slice_get_cases}
@@ -24,9 +26,15 @@ use Rattle.dv_check.specs.Ports.{ports_of}
 use Rattle.dv_check.specs.Rules.{name_of_declaration, sort_in}
 use Rattle.dv_check.specs.Tree.{PartTree, component_count, depth_of, instance_count, tree_of}
 use Rattle.dv_check.specs.Cycles.{cycle_refusals}
-use Rattle.dv_check.specs.Couplings.{interior_of, coupled_refusals, has_ends, is_input, is_input_of_part, is_input_shown, is_output, is_output_of_part, is_output_shown, is_source, is_target, kind_refusals, leads_back, link_refusals, name_of_part, output_refusals, input_refusals, part_model_refusals, part_refusals, part_source_refusals, part_target_refusals, parts_in, port_refusals, repeated_links_after, same_part, source_refusals, source_at_part, target_refusals, target_at_part}
+use Rattle.dv_check.specs.Couplings.{interior_of, coupled_refusals, has_ends, is_input, is_input_of_part, is_input_shown}
+use Rattle.dv_check.specs.Couplings.{is_output, is_output_of_part, is_output_shown, is_source, is_target, kind_refusals}
+use Rattle.dv_check.specs.Couplings.{leads_back, link_refusals, name_of_part, output_refusals, input_refusals}
+use Rattle.dv_check.specs.Couplings.{part_model_refusals, part_refusals, part_source_refusals, part_target_refusals, parts_in}
+use Rattle.dv_check.specs.Couplings.{port_refusals, repeated_links_after, same_part, source_refusals, source_at_part}
+use Rattle.dv_check.specs.Couplings.{target_refusals, target_at_part}
 use Rattle.dv_check.specs.Refusals.{limit_refusals, model_refusals, passes_limit, refusal_of, refusals, root_limit_refusals, root_refusals}
-use Rattle.dv_check.specs.Accepted.{IsKnownPart, numbers_of, shown_inputs, shown_outputs, IsOutputOfPart, IsInputOfPart, IsSource, IsTarget, LeadsOn, IsAcceptedCoupled, IsAcceptedModel, IsAcceptedFile, IsThrough}
+use Rattle.dv_check.specs.Accepted.{IsKnownPart, numbers_of, shown_inputs, shown_outputs, IsOutputOfPart, IsInputOfPart, IsSource}
+use Rattle.dv_check.specs.Accepted.{IsTarget, LeadsOn, IsAcceptedCoupled, IsAcceptedModel, IsAcceptedFile, IsThrough}
 use Rattle.dv_check.proofs.Declared.{input_declared, output_declared}
 use Rattle.dv_check.proofs.Merged.{input_among, output_among, ports_counted}
 use Rattle.dv_check.proofs.Order.{none_first}
@@ -69,15 +77,18 @@ few limit names e = few_of names limit (slice_get names limit) refl e
 
 -- ---- Models and parts
 
-model_accepted_if : (all : List ModelTree) (b : Bool) (x m : ModelTree) (o : Option ModelTree) → model_refusals all x ≡ [] → (o ≡ Some m → model_refusals all m ≡ []) → (if b then Some x else o) ≡ Some m → model_refusals all m ≡ []
+model_accepted_if : (all : List ModelTree) (b : Bool) (x m : ModelTree) (o : Option ModelTree) → model_refusals all x ≡ []
+    → (o ≡ Some m → model_refusals all m ≡ []) → (if b then Some x else o) ≡ Some m → model_refusals all m ≡ []
 model_accepted_if all true x m o here later e = let same : x ≡ m = cc in rw (← same) here
 model_accepted_if all false x m o here later e = later e
 
-pub model_accepted : (all models : List ModelTree) (number : ℕ) (m : ModelTree) → flat_map (model_refusals all) models ≡ [] → model_named number models ≡ Some m → model_refusals all m ≡ []
+pub model_accepted : (all models : List ModelTree) (number : ℕ) (m : ModelTree) → flat_map (model_refusals all) models ≡ []
+    → model_named number models ≡ Some m → model_refusals all m ≡ []
 model_accepted all [] number m none e = absurd (cc)
 model_accepted all (x ∷ models) number m none e =
     let both = both_nil (model_refusals all x) (flat_map (model_refusals all) models) none in
-    model_accepted_if all ((name_of_model x).number == number) x m (model_named number models) both.0 (model_accepted all models number m both.1) e
+    model_accepted_if all ((name_of_model x).number == number) x m (model_named number models) both.0
+    (model_accepted all models number m both.1) e
 
 part_known_of : (models : List ModelTree) (p : Part) (o : Option ModelTree) → model_named p.model.number models ≡ o
     → part_model_refusals (option_map face_of o) p.model.place ≡ [] → IsKnownPart models p
@@ -96,13 +107,16 @@ parts_known models m (p ∷ parts) e =
     let both = both_nil (part_refusals (interior_of models m) p) (flat_map (part_refusals (interior_of models m)) parts) e in
     (part_known models p both.0, parts_known models m parts both.1)
 
-part_with_if : (P : Part → Type 0) (b : Bool) (x p : Part) (o : Option Part) → P x → (o ≡ Some p → P p) → (if b then Some x else o) ≡ Some p → P p
+part_with_if : (P : Part → Type 0) (b : Bool) (x p : Part) (o : Option Part) → P x → (o ≡ Some p → P p)
+    → (if b then Some x else o) ≡ Some p → P p
 part_with_if P true x p o here later e = let same : x ≡ p = cc in subst P same here
 part_with_if P false x p o here later e = later e
 
-part_with : (P : Part → Type 0) (parts : List Part) (number : ℕ) (p : Part) → AllByRecursion P parts → part_named number parts ≡ Some p → P p
+part_with : (P : Part → Type 0) (parts : List Part) (number : ℕ) (p : Part) → AllByRecursion P parts
+    → part_named number parts ≡ Some p → P p
 part_with P [] number p all e = absurd (cc)
-part_with P (x ∷ parts) number p all e = part_with_if P (x.name.number == number) x p (part_named number parts) all.0 (part_with P parts number p all.1) e
+part_with P (x ∷ parts) number p all e =
+    part_with_if P (x.name.number == number) x p (part_named number parts) all.0 (part_with P parts number p all.1) e
 
 -- ---- Links
 
@@ -173,7 +187,9 @@ not_back true ends e tested = absurd (true_false ends e tested)
 not_back false ends e tested = refl
 
 module _ (models : List ModelTree) (m : CoupledTree) (known : AllByRecursion (IsKnownPart models) m.parts) where
-  source_at : (o : Option Part) (part_name : Option Name) (name port : Name) → part_name ≡ Some name → part_named name.number m.parts ≡ o → source_at_part (interior_of models m) o name port ≡ [] → IsOutputOfPart models m.parts part_name port
+  source_at : (o : Option Part) (part_name : Option Name) (name port : Name) → part_name ≡ Some name
+      → part_named name.number m.parts ≡ o → source_at_part (interior_of models m) o name port ≡ []
+      → IsOutputOfPart models m.parts part_name port
   source_at None part_name name port at is e = absurd (cc)
   source_at (Some p) part_name name port at is e =
       let h = part_with (IsKnownPart models) m.parts name.number p known is in
@@ -232,7 +248,9 @@ module _ (models : List ModelTree) (m : CoupledTree) (known : AllByRecursion (Is
       let target = target_refusals w l.to.part l.to.port in
       let ends = both_nil (source_refusals w l.from.part l.from.port) (target ++ back) e in
       let behind = both_nil target back ends.1 in
-      let known = both_true (is_source w l.from.part l.from.port.number) (is_target w l.to.part l.to.port.number) (source_shown l.from.part l.from.port ends.0) (target_shown l.to.part l.to.port behind.0) in
+      let known =
+      both_true (is_source w l.from.part l.from.port.number) (is_target w l.to.part l.to.port.number)
+      (source_shown l.from.part l.from.port ends.0) (target_shown l.to.part l.to.port behind.0) in
       record {
         source = source_linked l.from.part l.from.port ends.0;
         target = target_linked l.to.part l.to.port behind.0;
@@ -255,7 +273,13 @@ few_of_kind names e = few GREATEST_NAMES names (both_nil (repeats E6 names) (exc
 
 few_own_ports : (m : CoupledTree) → kind_refusals (map name_of_declaration (ports_of m)) ≡ []
     → length m.inputs + length m.outputs ≤ GREATEST_NAMES
-few_own_ports m e = omega (arith, few_of_kind (map name_of_declaration (ports_of m)) e, length-map (ports_of m) name_of_declaration, ports_counted m.inputs m.outputs)
+few_own_ports m e =
+    omega (
+      arith,
+      few_of_kind (map name_of_declaration (ports_of m)) e,
+      length-map (ports_of m) name_of_declaration,
+      ports_counted m.inputs m.outputs,
+    )
 
 -- what stands in the list of all refusals of a coupled model
 record Nothing (models : List ModelTree) (m : CoupledTree) : Type 0 where
@@ -370,7 +394,11 @@ both_none (Some a) target by_source by_target = absurd (cc)
 no_through : (models : List ModelTree) (m : CoupledTree) (l : Link) → LeadsOn models m l → IsThrough l → ⊥
 no_through models m l leads through = true_false (leads_back l) (both_none l.from.part l.to.part through.0 through.1) leads.onward
 
-pub none_through : (f : FileTree) (m : CoupledTree) (l : Link) → refusal_of f ≡ None → Contains f.models (CoupledModel m) → Contains m.links l → IsThrough l → ⊥
+pub none_through : (f : FileTree) (m : CoupledTree) (l : Link) → refusal_of f ≡ None → Contains f.models (CoupledModel m)
+    → Contains m.links l → IsThrough l → ⊥
 none_through f m l e has has_link =
-    let linked : IsAcceptedModel f.models (CoupledModel m) = All-contains (IsAcceptedModel f.models) f.models (CoupledModel m) (All-from_recursion (IsAcceptedModel f.models) f.models (file_accepted f e).models) has in
-    no_through f.models m l (All-contains (LeadsOn f.models m) m.links l (All-from_recursion (LeadsOn f.models m) m.links linked.links) has_link)
+    let linked : IsAcceptedModel f.models (CoupledModel m) =
+    All-contains (IsAcceptedModel f.models) f.models (CoupledModel m)
+    (All-from_recursion (IsAcceptedModel f.models) f.models (file_accepted f e).models) has in
+    no_through f.models m l
+    (All-contains (LeadsOn f.models m) m.links l (All-from_recursion (LeadsOn f.models m) m.links linked.links) has_link)

@@ -1,5 +1,6 @@
 -- Parts on cycles: a part's model leads back where the numbers of the two models are the same.
-use Rattle.std.proofs.Common.{◌≡◌, ◌↔◌, ⊎_elim, ℕ, zero, suc, ◌+◌, ◌<◌, ◌==◌, Bool, true, false, ◌||◌, List, [], ◌∷◌, ◌++◌, length, get_or, map, refl, sym, ap, ◌∙◌, subst, Option, Some, None, eq-eqb, arith}
+use Rattle.std.proofs.Common.{◌≡◌, ◌↔◌, ⊎_elim, ℕ, zero, suc, ◌+◌, ◌<◌, ◌==◌, Bool, true, false, ◌||◌, List, [], ◌∷◌, ◌++◌}
+use Rattle.std.proofs.Common.{length, get_or, map, refl, sym, ap, ◌∙◌, subst, Option, Some, None, eq-eqb, arith}
 use Rattle.std.specs.List.{All, AllByRecursion, cons_option, filter_map, flat_map}
 use Rattle.std.proofs.lemmas.Bool.{eqb-true, false≢true, ne_eqb, or_cases}
 use Rattle.std.proofs.lemmas.List.{length-map}
@@ -10,7 +11,8 @@ use Rattle.dv_cycles.proofs.Ways.{way_edge}
 use Rattle.dv_lex.specs.declared.error.RefusalNumber.TheVariants.{E15}
 use Rattle.dv_syntax.specs.declared.tree.Part.{Part}
 use Rattle.dv_syntax.specs.Trees.{ModelTree, AtomicModel, CoupledModel}
-use Rattle.dv_check.specs.Cycles.{Test, containment, cycle_refusal, cycle_refusals, cycle_refusals_from, model_cycle_refusals, models_inside, part_cycle_refusals, position_inside, position_of, positions_inside, same_number}
+use Rattle.dv_check.specs.Cycles.{Test, containment, cycle_refusal, cycle_refusals, cycle_refusals_from, model_cycle_refusals}
+use Rattle.dv_check.specs.Cycles.{models_inside, part_cycle_refusals, position_inside, position_of, positions_inside, same_number}
 use Rattle.dv_check.specs.Names.{refusal_if}
 use Rattle.dv_check.proofs.ModelPositions.{IsFound, IsMissing, named_at}
 

@@ -1,5 +1,6 @@
 -- Counting from level to level gives the size of the tree.
-use Rattle.std.proofs.Common.{◌≡◌, ⊎_elim, ℕ, zero, suc, ◌+◌, ◌-◌, ◌^◌, ◌<◌, ◌≤◌, ◌==◌, nat_lt, min, max, Bool, ◌||◌, List, [], ◌∷◌, map, refl, sym, ap, ◌∙◌, Option, Some, option_map, lit<, arith}
+use Rattle.std.proofs.Common.{◌≡◌, ⊎_elim, ℕ, zero, suc, ◌+◌, ◌-◌, ◌^◌, ◌<◌, ◌≤◌, ◌==◌, nat_lt, min, max, Bool, ◌||◌, List, []}
+use Rattle.std.proofs.Common.{◌∷◌, map, refl, sym, ap, ◌∙◌, Option, Some, option_map, lit<, arith}
 use Rattle.std.specs.List.{cons_option, filter_map, fold, slice_get}
 use Rattle.std.proofs.lemmas.Bool.Decides.{nat_tests}
 use Rattle.std.proofs.lemmas.Option.{slice_get-map}
@@ -11,8 +12,10 @@ use Rattle.dv_check.specs.declared.limits.TheConstants.{GREATEST_COMPONENTS, GRE
 use Rattle.dv_check.specs.declared.sizes.Size.{Size}
 use Rattle.dv_check.specs.Cycles.{position_inside, position_of}
 use Rattle.dv_check.specs.Refusals.{passes_limit}
-use Rattle.dv_check.specs.Sizes.{alone, contents_of, kept, size_by, size_of_tree, size_passes_limit, size_to, sizes_below, with_known_part, with_part, with_part_at}
-use Rattle.dv_check.specs.Tree.{PartTree, NoParts, AtomicPart, CoupledPart, component_count, depth_of, instance_count, parts_by, parts_to, with_part as part_before}
+use Rattle.dv_check.specs.Sizes.{alone, contents_of, kept, size_by, size_of_tree, size_passes_limit, size_to, sizes_below}
+use Rattle.dv_check.specs.Sizes.{with_known_part, with_part, with_part_at}
+use Rattle.dv_check.specs.Tree.{PartTree, NoParts, AtomicPart, CoupledPart, component_count, depth_of, instance_count, parts_by}
+use Rattle.dv_check.specs.Tree.{parts_to, with_part as part_before}
 use Rattle.dv_check.proofs.ModelPositions.{IsFound, IsMissing, named_at}
 
 -- ---- Sizes
@@ -57,7 +60,8 @@ part_counted levels models name s (CoupledModel m) t =
     let inside = parts_to levels models m in
     let depths : max (max s.depth (depth_of inside + 1)) (depth_of t) ≡ max s.depth (max (suc (depth_of inside)) (depth_of t)) =
     omega arith in
-    let components : s.components + component_count inside + component_count t ≡ s.components + (component_count inside + component_count t) =
+    let components : s.components + component_count inside + component_count t
+    ≡ s.components + (component_count inside + component_count t) =
     omega arith in
     let instances : s.instances + suc (instance_count inside) + instance_count t
     ≡ s.instances + suc (instance_count inside + instance_count t) = omega arith in

@@ -23,7 +23,8 @@ nothing_in [] = refl
 nothing_in (r ∷ rs) = stays r rs
 
 -- nor in two lists without refusals, one after the other
-pub nothing_in_both : (first second : Findings) (xs ys : List Refusal) → first ≡ with_refusals nothing_found xs → second ≡ with_refusals first ys → is_none second.first ≡ is_none_left (xs ++ ys)
+pub nothing_in_both : (first second : Findings) (xs ys : List Refusal) → first ≡ with_refusals nothing_found xs
+    → second ≡ with_refusals first ys → is_none second.first ≡ is_none_left (xs ++ ys)
 nothing_in_both first second xs ys by_first by_second =
     ap (λ f. is_none f.first) (by_second ∙ ap (λ f. with_refusals f ys) by_first ∙ sym (fold-append with_refusal nothing_found xs ys))
     ∙ nothing_in (xs ++ ys)

@@ -10,3 +10,4 @@ pub mod Counting
 pub mod Accepted
 pub mod WholeTrees
 pub mod Order
+pub mod Computing

@@ -1,5 +1,6 @@
 -- Lists of names, one more at a time.
-use Rattle.std.proofs.Common.{◌≡◌, ℕ, ◌+◌, ◌<◌, ◌==◌, Bool, true, false, ◌||◌, if◌then◌else◌, List, [], length, get_or, take, map, refl, ap, ◌∙◌, ◌∷◌, Option}
+use Rattle.std.proofs.Common.{◌≡◌, ℕ, ◌+◌, ◌<◌, ◌==◌, Bool, true, false, ◌||◌, if◌then◌else◌, List, [], length, get_or, take, map}
+use Rattle.std.proofs.Common.{refl, ap, ◌∙◌, ◌∷◌, Option}
 use Rattle.std.specs.List.{filter_map, cons_option}
 use Rattle.std.proofs.Math.Path.{fun_ext}
 use Rattle.std.proofs.lemmas.List.Folds.{list_any_more}
@@ -17,12 +18,18 @@ pub among_none : among [] ≡ no_number
 unfolding among no_number
 among_none = refl
 
-pub among_more : (names : List Name) (i : ℕ) (d : Name) → i < length names → among (take (i + 1) names) ≡ with_number (among (take i names)) (get_or names i d).number
+pub among_more : (names : List Name) (i : ℕ) (d : Name) → i < length names
+    → among (take (i + 1) names) ≡ with_number (among (take i names)) (get_or names i d).number
 unfolding among with_number
-among_more names i d h = fun_ext (λ q. list_any_more (λ (n : Name). n.number == q) names i d h ∙ or_if (among (take i names) q) ((get_or names i d).number == q))
+among_more names i d h =
+    fun_ext
+    (λ q.
+    list_any_more (λ (n : Name). n.number == q) names i d h
+    ∙ or_if (among (take i names) q) ((get_or names i d).number == q))
 
 -- a filter of a list that was made from another
-pub filter_map_of_map : {A B C : Type 0} (f : B → Option C) (g : A → B) (xs : List A) → filter_map f (map g xs) ≡ filter_map (λ x. f (g x)) xs
+pub filter_map_of_map : {A B C : Type 0} (f : B → Option C) (g : A → B) (xs : List A)
+    → filter_map f (map g xs) ≡ filter_map (λ x. f (g x)) xs
 filter_map_of_map f g [] = refl
 filter_map_of_map f g (x ∷ xs) = ap (cons_option (f (g x))) (filter_map_of_map f g xs)
 

@@ -1,5 +1,6 @@
 -- The ports of a coupled model by place: none is lost, and none is added.
-use Rattle.std.proofs.Common.{◌≡◌, ℕ, ◌+◌, ◌==◌, Bool, true, false, ◌||◌, nat_lt, if◌then◌else◌, List, [], ◌∷◌, ◌++◌, length, map, refl, ap, Option, Some, arith}
+use Rattle.std.proofs.Common.{◌≡◌, ℕ, ◌+◌, ◌==◌, Bool, true, false, ◌||◌, nat_lt, if◌then◌else◌, List, [], ◌∷◌, ◌++◌, length, map}
+use Rattle.std.proofs.Common.{refl, ap, Option, Some, arith}
 use Rattle.std.proofs.lemmas.List.{length-append, length-map}
 use Rattle.dv_syntax.specs.declared.tree.Name.{Name}
 use Rattle.dv_syntax.specs.declared.tree.Declaration.{Declaration}
@@ -53,7 +54,8 @@ pub input_among : (q : ℕ) (inputs outputs : List Name) → is_input (sort_in (
 input_among q [] outputs e = absurd (no_input q outputs e)
 input_among q (i ∷ inputs) outputs e =
     let rest = names_from i.place outputs in
-    input_first q i inputs (ports_by_place inputs rest) (input_among q inputs rest) (input_behind q (names_before i.place outputs) (In i ∷ ports_by_place inputs rest) e)
+    input_first q i inputs (ports_by_place inputs rest) (input_among q inputs rest)
+    (input_behind q (names_before i.place outputs) (In i ∷ ports_by_place inputs rest) e)
 
 -- ---- Outputs
 

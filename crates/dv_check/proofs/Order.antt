@@ -1,12 +1,14 @@
 -- The order of refusals: by their places, and then by their numbers.
-use Rattle.std.proofs.Common.{◌≡◌, ℕ, ◌+◌, ◌*◌, ◌<◌, ◌≤◌, Bool, true, false, ◌||◌, ◌&&◌, nat_lt, nat_eq, if◌then◌else◌, List, [], ◌∷◌, get_or, refl, sym, ap, ◌∙◌, Option, Some, None, ◌⊎◌, inl, inr, ⊎_elim, Contains, arith}
+use Rattle.std.proofs.Common.{◌≡◌, ℕ, ◌+◌, ◌*◌, ◌<◌, ◌≤◌, Bool, true, false, ◌||◌, ◌&&◌, nat_lt, nat_eq, if◌then◌else◌, List, []}
+use Rattle.std.proofs.Common.{◌∷◌, get_or, refl, sym, ap, ◌∙◌, Option, Some, None, ◌⊎◌, inl, inr, ⊎_elim, Contains, arith}
 use Rattle.std.specs.List.{All, AllByRecursion}
 use Rattle.std.proofs.lemmas.Bool.{ltb-true, ltb-false, lt-ltb, le-ltb}
 use Rattle.std.proofs.lemmas.Bool.Decides.{nat_tests}
 use Rattle.std.proofs.lemmas.List.Elements.{All-from_recursion, Contains-append_right}
 use Rattle.dv_lex.specs.declared.error.Refusal.{Refusal}
 use Rattle.dv_lex.specs.declared.error.RefusalNumber.{RefusalNumber}
-use Rattle.dv_lex.specs.declared.error.RefusalNumber.TheVariants.{E1, E2, E3, E4, E5, E6, E7, E8, E9, E10, E11, E12, E13, E14, E15, E16, E17}
+use Rattle.dv_lex.specs.declared.error.RefusalNumber.TheVariants.{E1, E2, E3, E4, E5, E6, E7, E8, E9, E10, E11, E12, E13, E14}
+use Rattle.dv_lex.specs.declared.error.RefusalNumber.TheVariants.{E15, E16, E17}
 use Rattle.dv_lex.specs.Order.{ordinal, precedes, earlier, first_after, first_refusal}
 
 -- ---- A refusal as one number
@@ -62,7 +64,8 @@ not_transitive a b c first second = from_key a c (omega (arith, not_below_key b 
 
 -- a number is told by its ordinal
 all_numbers : List RefusalNumber
-all_numbers = E1 ∷ (E1 ∷ (E2 ∷ (E3 ∷ (E4 ∷ (E5 ∷ (E6 ∷ (E7 ∷ (E8 ∷ (E9 ∷ (E10 ∷ (E11 ∷ (E12 ∷ (E13 ∷ (E14 ∷ (E15 ∷ (E16 ∷ (E17 ∷ [])))))))))))))))))
+all_numbers =
+    E1 ∷ E1 ∷ E2 ∷ E3 ∷ E4 ∷ E5 ∷ E6 ∷ E7 ∷ E8 ∷ E9 ∷ E10 ∷ E11 ∷ E12 ∷ E13 ∷ E14 ∷ E15 ∷ E16 ∷ E17 ∷ []
 
 number_at : (n : RefusalNumber) → get_or all_numbers (ordinal n) E1 ≡ n
 unfolding all_numbers
@@ -132,7 +135,8 @@ pub first_contained : (rs : List Refusal) (r : Refusal) → first_refusal rs ≡
 first_contained rs r h = ⊎_elim (λ p. absurd (none_some r p)) (λ q. q) (found_or_contained None rs r h)
 
 -- neither of two precedes a refusal that the earlier of them does not precede
-neither_of : (b : Bool) (x y r : Refusal) → precedes x y ≡ b → precedes (if b then x else y) r ≡ false → (precedes x r ≡ false) × (precedes y r ≡ false)
+neither_of : (b : Bool) (x y r : Refusal) → precedes x y ≡ b → precedes (if b then x else y) r ≡ false
+    → (precedes x r ≡ false) × (precedes y r ≡ false)
 neither_of true x y r test low = (low, from_key y r (omega (arith, not_below_key x r low, below_key x y test)))
 neither_of false x y r test low = (not_transitive x y r test low, low)
 
@@ -151,7 +155,8 @@ not_before_itself : (o : Option Refusal) (r : Refusal) → o ≡ Some r → NotB
 not_before_itself None r e = tt
 not_before_itself (Some y) r e = ap (λ x. precedes x r) (same_some y r e) ∙ irreflexive r
 
-none_before : (o : Option Refusal) (rs : List Refusal) (r : Refusal) → first_after o rs ≡ Some r → NotBefore o r × AllByRecursion (λ x. precedes x r ≡ false) rs
+none_before : (o : Option Refusal) (rs : List Refusal) (r : Refusal) → first_after o rs ≡ Some r
+    → NotBefore o r × AllByRecursion (λ x. precedes x r ≡ false) rs
 none_before o [] r h = (not_before_itself o r h, tt)
 none_before o (x ∷ rs) r h =
     let rest = none_before (Some (earlier o x)) rs r h in

@@ -1,9 +1,12 @@
 -- The refusals of an atomic model: what is allowed where, phases and holds, ranges and capacities, and the start.
-use Rattle.std.specs.Prelude.{ℕ, ◌==◌, Bool, true, false, not, ◌&&◌, ◌||◌, max, nat_le, int_lt, if◌then◌else◌, List, [], ◌∷◌, ◌++◌, map, filter_map, Option, Some, None, Result, Ok, Err}
+use Rattle.std.specs.Prelude.{ℕ, ◌==◌, Bool, true, false, not, ◌&&◌, ◌||◌, max, nat_le, int_lt, if◌then◌else◌, List, [], ◌∷◌}
+use Rattle.std.specs.Prelude.{◌++◌, map, filter_map, Option, Some, None, Result, Ok, Err}
 use Rattle.std.specs.List.{flat_map, list_any}
 use Rattle.dv_lex.specs.declared.error.Refusal.{Refusal}
 use Rattle.dv_lex.specs.declared.error.RefusalNumber.TheVariants.{E6, E7, E8, E9, E10, E11, E17}
-use Rattle.dv_syntax.specs.Trees.{Expression, Literal, TruthValue, Named, Parens, Prefixed, Binary, Call, Elapsed, Times, Statements, Done, Assign, Goto, Send, If, IfElse, For, Add, Drop, PhasesTree, HoldTree, RuleTree, AtomicTree}
+use Rattle.dv_syntax.specs.Trees.{Expression, Literal, TruthValue, Named, Parens, Prefixed, Binary, Call, Elapsed, Times}
+use Rattle.dv_syntax.specs.Trees.{Statements, Done, Assign, Goto, Send, If, IfElse, For, Add, Drop, PhasesTree, HoldTree}
+use Rattle.dv_syntax.specs.Trees.{RuleTree, AtomicTree}
 use Rattle.dv_syntax.specs.declared.tree.Name.{Name}
 use Rattle.dv_syntax.specs.declared.tree.Variable.{Variable}
 use Rattle.dv_syntax.specs.declared.tree.StateBag.{StateBag}
@@ -20,7 +23,9 @@ use Rattle.dv_eval.specs.Scope.{scope_of, range_of, same_sort, start_state, hold
 use Rattle.dv_eval.specs.Meaning.{hold_of}
 use Rattle.dv_check.specs.declared.limits.TheConstants.{GREATEST_NAMES}
 use Rattle.dv_check.specs.declared.declarations.NameSort.{NameSort}
-use Rattle.dv_check.specs.declared.declarations.NameSort.TheVariants.{Variable as ForVariable, Flag as ForFlag, Bag as ForBag, Input as ForInput, Output as ForOutput, LoopVariable as ForLoopVariable}
+use Rattle.dv_check.specs.declared.declarations.NameSort.TheVariants.{Variable as ForVariable, Flag as ForFlag, Bag as ForBag}
+use Rattle.dv_check.specs.declared.declarations.NameSort.TheVariants.{Input as ForInput, Output as ForOutput}
+use Rattle.dv_check.specs.declared.declarations.NameSort.TheVariants.{LoopVariable as ForLoopVariable}
 use Rattle.dv_bag.specs.declared.value.ValueType.TheVariants.{Number, Truth}
 use Rattle.dv_check.specs.declared.declarations.Declarations.{Declarations}
 use Rattle.dv_check.specs.declared.environment.Environment.{Environment, fold-Environment}
@@ -363,4 +368,5 @@ start_hold_refusals known m (s ∷ starts) = refusal_if (is_start_fault known m 
 -- ---- All of them
 
 abbrev pub atomic_refusals : AtomicTree → List Refusal
-atomic_refusals m = names_refusals m ++ (standing_refusals m ++ (items_refusals (known_in m) m ++ start_hold_refusals (known_in m) m m.starts))
+atomic_refusals m =
+    names_refusals m ++ (standing_refusals m ++ (items_refusals (known_in m) m ++ start_hold_refusals (known_in m) m m.starts))

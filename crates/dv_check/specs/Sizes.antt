@@ -1,5 +1,6 @@
 -- The sizes of models, counted from the sizes of the models of their parts, without a tree.
-use Rattle.std.specs.Prelude.{ℕ, zero, suc, ◌+◌, ◌==◌, nat_lt, max, Bool, ◌||◌, List, [], map, filter_map, fold, slice_get, Option, Some, None}
+use Rattle.std.specs.Prelude.{ℕ, zero, suc, ◌+◌, ◌==◌, nat_lt, max, Bool, ◌||◌, List, [], map, filter_map, fold, slice_get}
+use Rattle.std.specs.Prelude.{Option, Some, None}
 use Rattle.dv_bag.specs.Bag.{capped}
 use Rattle.dv_syntax.specs.Trees.{ModelTree, AtomicModel, CoupledModel}
 use Rattle.dv_check.specs.declared.limits.TheConstants.{GREATEST_COMPONENTS, GREATEST_DEPTH, GREATEST_INSTANCES}

@@ -6,7 +6,8 @@ use Rattle.dv_syntax.specs.Trees.{Expression, Literal, TruthValue, Named, Parens
 use Rattle.dv_syntax.specs.declared.tree.Prefix.{Prefix}
 use Rattle.dv_syntax.specs.declared.tree.Prefix.TheVariants.{Minus, Not}
 use Rattle.dv_syntax.specs.declared.tree.Operator.{Operator}
-use Rattle.dv_syntax.specs.declared.tree.Operator.TheVariants.{Or, And, Add, Subtract, Multiply, Divide, Remainder, Equal, Unequal, Less, AtMost, Greater, AtLeast}
+use Rattle.dv_syntax.specs.declared.tree.Operator.TheVariants.{Or, And, Add, Subtract, Multiply, Divide, Remainder, Equal}
+use Rattle.dv_syntax.specs.declared.tree.Operator.TheVariants.{Unequal, Less, AtMost, Greater, AtLeast}
 use Rattle.dv_syntax.specs.declared.tree.RuleSort.{RuleSort}
 use Rattle.dv_syntax.specs.declared.tree.RuleSort.TheVariants as rule
 use Rattle.dv_check.specs.declared.declarations.NameSort.{NameSort}

@@ -9,7 +9,10 @@ ghost use Rattle.dv_lex.specs.declared.error.RefusalNumber.TheVariants.{E6, E10}
 ghost use Rattle.dv_check.specs.Findings.{with_refusals};
 ghost use Rattle.dv_check.specs.Names.{excess, refusal_if, repeats};
 ghost use Rattle.dv_check.specs.Tables.{has};
-ghost use Rattle.dv_check.specs.Rules.{atomic_refusals, can_ask_hold, holds_once_refusals, is_fault, is_hold_fine, is_hold_missing, is_start_fault, known_by, name_of_declaration, name_of_state_variable, names_refusals, once_refusals, phases_places, ports_in, ruled_phases, standing_refusals, start_hold_refusals, start_places, ticks_refusals};
+ghost use Rattle.dv_check.specs.Rules.{atomic_refusals, can_ask_hold, holds_once_refusals, is_fault, is_hold_fine};
+ghost use Rattle.dv_check.specs.Rules.{is_hold_missing, is_start_fault, known_by, name_of_declaration, name_of_state_variable};
+ghost use Rattle.dv_check.specs.Rules.{names_refusals, once_refusals, phases_places, ports_in, ruled_phases, standing_refusals};
+ghost use Rattle.dv_check.specs.Rules.{start_hold_refusals, start_places, ticks_refusals};
 
 use crate::declarations::Declarations;
 use crate::findings::Findings;

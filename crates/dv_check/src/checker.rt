@@ -9,7 +9,8 @@ ghost use Rattle.dv_syntax.specs.Trees.{file_of, model_of, ModelTree};
 ghost use Rattle.dv_check.specs.Findings.{with_refusals};
 ghost use Rattle.dv_check.specs.Models.{faces_by, faces_in};
 ghost use Rattle.dv_check.specs.Names.{model_named, name_of_model, repeats};
-ghost use Rattle.dv_check.specs.Refusals.{AreOfOneText, IsAnswerTo, limit_refusals, model_refusals, refusal_of, refusals, root_limit_refusals, root_refusals};
+ghost use Rattle.dv_check.specs.Refusals.{AreOfOneText, IsAnswerTo, limit_refusals, model_refusals, refusal_of, refusals};
+ghost use Rattle.dv_check.specs.Refusals.{root_limit_refusals, root_refusals};
 
 use crate::atomic::check_atomic;
 use crate::checked::Checked;

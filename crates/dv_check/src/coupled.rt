@@ -6,7 +6,8 @@ ghost use Rattle.dv_syntax.specs.Trees.{coupled_of, ModelTree};
 ghost use Rattle.dv_check.specs.Findings.{with_refusals};
 ghost use Rattle.dv_check.specs.LinkSets.{no_link};
 ghost use Rattle.dv_check.specs.Models.{faces_by, faces_in};
-ghost use Rattle.dv_check.specs.Couplings.{coupled_refusals, coupled_refusals_by, interior_by, kind_refusals, link_refusals, name_of_part, part_refusals, repeated_links_after};
+ghost use Rattle.dv_check.specs.Couplings.{coupled_refusals, coupled_refusals_by, interior_by, kind_refusals, link_refusals};
+ghost use Rattle.dv_check.specs.Couplings.{name_of_part, part_refusals, repeated_links_after};
 ghost use Rattle.dv_check.specs.Ports.{ports_of};
 ghost use Rattle.dv_check.specs.Rules.{name_of_declaration};
 

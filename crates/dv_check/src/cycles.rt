@@ -3,7 +3,8 @@
 ghost use Rattle.std.specs.Prelude.{◌≡◌, map, drop, slice_index_or, IfOk, OnOk};
 ghost use Rattle.std.specs.List.{flat_map};
 ghost use Rattle.dv_syntax.specs.Trees.{model_of};
-ghost use Rattle.dv_check.specs.Cycles.{cycle_refusals, cycle_refusals_from, model_cycle_refusals, part_cycle_refusals, positions_inside, same_number};
+ghost use Rattle.dv_check.specs.Cycles.{cycle_refusals, cycle_refusals_from, model_cycle_refusals, part_cycle_refusals};
+ghost use Rattle.dv_check.specs.Cycles.{positions_inside, same_number};
 ghost use Rattle.dv_check.specs.Findings.{with_refusals};
 ghost use Rattle.dv_check.specs.Tables.{value_for};
 

@@ -5,7 +5,9 @@ ghost use Rattle.std.specs.List.{flat_map};
 ghost use Rattle.dv_syntax.specs.Trees.{atomic_of, hold_of, rule_of, ticks_of};
 ghost use Rattle.dv_check.specs.Findings.{with_refusals};
 ghost use Rattle.dv_check.specs.Tables.{value_for};
-ghost use Rattle.dv_check.specs.Rules.{bag_refusals, declaration_refusals, hold_refusals, is_capacity, is_out_of_range, items_refusals, known_by, known_in, phase_refusals, place_in, rule_refusals, sort_in, sort_of, start_refusals, ticks_refusals, variable_refusals};
+ghost use Rattle.dv_check.specs.Rules.{bag_refusals, declaration_refusals, hold_refusals, is_capacity, is_out_of_range};
+ghost use Rattle.dv_check.specs.Rules.{items_refusals, known_by, known_in, phase_refusals, place_in, rule_refusals, sort_in};
+ghost use Rattle.dv_check.specs.Rules.{sort_of, start_refusals, ticks_refusals, variable_refusals};
 
 use crate::directory::Directory;
 use crate::environment::Environment;

@@ -6,7 +6,10 @@ ghost use Rattle.dv_syntax.specs.Trees.{expression_of};
 ghost use Rattle.dv_check.specs.Findings.{with_refusals};
 ghost use Rattle.dv_check.specs.Rules.{known_at};
 ghost use Rattle.dv_check.specs.Names.{refusal_if};
-ghost use Rattle.dv_check.specs.Types.{alike, bag_name_refusals, both_of, differ, is_bag, is_of, knows_elapsed, operands_wanted, sees_inputs, type_if, expression_refusals, first_place, operand_refusals, place_refusals, type_of, type_of_operator, type_of_name, type_of_prefix, value_name_refusals, type_refusals, value_refusals};
+ghost use Rattle.dv_check.specs.Types.{alike, bag_name_refusals, both_of, differ, is_bag, is_of, knows_elapsed, operands_wanted};
+ghost use Rattle.dv_check.specs.Types.{sees_inputs, type_if, expression_refusals, first_place, operand_refusals, place_refusals};
+ghost use Rattle.dv_check.specs.Types.{type_of, type_of_operator, type_of_name, type_of_prefix, value_name_refusals};
+ghost use Rattle.dv_check.specs.Types.{type_refusals, value_refusals};
 
 use crate::declarations::NameSort;
 use crate::environment::Environment;

@@ -3,7 +3,8 @@
 ghost use Rattle.std.specs.Prelude.{◌≡◌, map, filter_map, IfOk};
 ghost use Rattle.dv_syntax.specs.Trees.{hold_of, phases_of, rule_of};
 ghost use Rattle.dv_eval.specs.Scope.{phases_in, state_variables_in};
-ghost use Rattle.dv_check.specs.Rules.{first_phases, held_phase, held_phases, name_of_declaration, name_of_state_variable, port_of, ports_in, ruled_phase, ruled_phases};
+ghost use Rattle.dv_check.specs.Rules.{first_phases, held_phase, held_phases, name_of_declaration, name_of_state_variable};
+ghost use Rattle.dv_check.specs.Rules.{port_of, ports_in, ruled_phase, ruled_phases};
 
 use dv_eval::{Domain, state_variable_of};
 use dv_syntax::{Declaration, Hold, Name, Phases, Rule, RuleSort};

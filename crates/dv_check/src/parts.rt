@@ -10,7 +10,10 @@ ghost use Rattle.dv_check.specs.Tables.{value_for};
 ghost use Rattle.dv_check.specs.Rules.{sort_in};
 ghost use Rattle.dv_check.specs.Models.{faces_by};
 ghost use Rattle.dv_check.specs.Ports.{ports_of};
-ghost use Rattle.dv_check.specs.Couplings.{has_ends, input_refusals, interior_by, is_input, is_input_shown, is_output, is_output_shown, is_source, is_target, leads_back, link_refusals, name_of_part, output_refusals, part_refusals, part_source_refusals, part_target_refusals, parts_in, same_part, source_refusals, target_refusals};
+ghost use Rattle.dv_check.specs.Couplings.{has_ends, input_refusals, interior_by, is_input, is_input_shown, is_output};
+ghost use Rattle.dv_check.specs.Couplings.{is_output_shown, is_source, is_target, leads_back, link_refusals, name_of_part};
+ghost use Rattle.dv_check.specs.Couplings.{output_refusals, part_refusals, part_source_refusals, part_target_refusals, parts_in};
+ghost use Rattle.dv_check.specs.Couplings.{same_part, source_refusals, target_refusals};
 
 use crate::declarations::{NameSort, sorts_of};
 use crate::directory::Directory;

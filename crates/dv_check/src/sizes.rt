@@ -3,7 +3,8 @@
 ghost use Rattle.std.specs.Prelude.{◌≡◌, List, fold, map, IfOk};
 ghost use Rattle.dv_syntax.specs.Trees.{coupled_of, model_of};
 ghost use Rattle.dv_check.specs.Refusals.{passes_limit};
-ghost use Rattle.dv_check.specs.Sizes.{alone, component, contents_by, contents_of, kept, size_by, size_of_tree, size_passes_limit, sizes_below, with_part, with_part_at};
+ghost use Rattle.dv_check.specs.Sizes.{alone, component, contents_by, contents_of, kept, size_by, size_of_tree};
+ghost use Rattle.dv_check.specs.Sizes.{size_passes_limit, sizes_below, with_part, with_part_at};
 ghost use Rattle.dv_check.specs.Tables.{value_for};
 ghost use Rattle.dv_check.specs.Tree.{parts_to, tree_of};
 

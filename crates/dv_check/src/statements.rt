@@ -5,7 +5,8 @@ ghost use Rattle.dv_syntax.specs.Trees.{expression_of, statement_before, Stateme
 ghost use Rattle.dv_lex.specs.declared.error.RefusalNumber.TheVariants.{E9};
 ghost use Rattle.dv_check.specs.Findings.{with_refusals};
 ghost use Rattle.dv_check.specs.Names.{refusal_if};
-ghost use Rattle.dv_check.specs.Rules.{assignment_refusals, change_refusals, changed_bag_refusals, is_output_rule, known_at, loop_variable_refusals, phase_refusals, sent_port_refusals, statements_refusals};
+ghost use Rattle.dv_check.specs.Rules.{assignment_refusals, change_refusals, changed_bag_refusals, is_output_rule, known_at};
+ghost use Rattle.dv_check.specs.Rules.{loop_variable_refusals, phase_refusals, sent_port_refusals, statements_refusals};
 
 use crate::declarations::NameSort;
 use crate::environment::Environment;

@@ -2,7 +2,8 @@
 use Rattle.std.proofs.Common.{◌≡◌, ℕ, ◌+◌, ◌-◌, ◌<◌, ◌≤◌, ◌⊎◌, inl, inr, List, true, sym, subst, ap, arith, ◌∙◌}
 use Rattle.std.proofs.lemmas.Bool.{cases_lt}
 use Rattle.dv_cycles.specs.Ways.{leads}
-use Rattle.dv_cycles.specs.Search.{HasSegment, IsBefore, IsSettled, IsDoneBy, IsHeld, IsPath, IsPending, IsPlaced, IsSegment, IsValid, Reaches, State, beginning, last_segment, settled}
+use Rattle.dv_cycles.specs.Search.{HasSegment, IsBefore, IsSettled, IsDoneBy, IsHeld, IsPath, IsPending, IsPlaced, IsSegment}
+use Rattle.dv_cycles.specs.Search.{IsValid, Reaches, State, beginning, last_segment, settled}
 use Rattle.dv_cycles.specs.declared.search.Mark.TheVariants.{OnPath, Done}
 use Rattle.dv_cycles.proofs.Marks.{held_done_by, settled_before, settled_done, settled_done_by, settled_held, settled_on_path}
 use Rattle.dv_cycles.proofs.Ways.{reaches_on, reaches_same}

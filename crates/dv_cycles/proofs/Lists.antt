@@ -1,9 +1,12 @@
 -- The steps of the search on the lists that it keeps.
-use Rattle.std.proofs.Common.{◌≡◌, ℕ, ◌+◌, ◌-◌, ◌<◌, ◌≤◌, List, [], ◌∷◌, ◌++◌, length, take, get_or, set, true, refl, sym, subst, ap, arith, ◌∙◌, eq-eqb, nat_eq}
-use Rattle.std.proofs.lemmas.List.{get_or-append-add, get_or-append_right, get_or-set_other, get_or-set_same, get_or_append_left, get_or_push, length-append, length_push}
+use Rattle.std.proofs.Common.{◌≡◌, ℕ, ◌+◌, ◌-◌, ◌<◌, ◌≤◌, List, [], ◌∷◌, ◌++◌, length, take, get_or, set, true, refl, sym, subst}
+use Rattle.std.proofs.Common.{ap, arith, ◌∙◌, eq-eqb, nat_eq}
+use Rattle.std.proofs.lemmas.List.{get_or-append-add, get_or-append_right, get_or-set_other, get_or-set_same, get_or_append_left}
+use Rattle.std.proofs.lemmas.List.{get_or_push, length-append, length_push}
 use Rattle.std.proofs.lemmas.List.Folds.{list_any_at}
 use Rattle.dv_cycles.specs.Ways.{IsGraph, is_in, leads}
-use Rattle.dv_cycles.specs.Search.{IsHeld, IsOpen, IsPending, IsPlaced, IsSegment, IsValid, LeadTo, Reaches, State, beginning, last_segment, last_target, mark_at, nowhere, segment_at, settled, state, state_of}
+use Rattle.dv_cycles.specs.Search.{IsHeld, IsOpen, IsPending, IsPlaced, IsSegment, IsValid, LeadTo, Reaches, State, beginning}
+use Rattle.dv_cycles.specs.Search.{last_segment, last_target, mark_at, nowhere, segment_at, settled, state, state_of}
 use Rattle.dv_cycles.specs.declared.search.Mark.{Mark}
 use Rattle.dv_cycles.specs.declared.search.Mark.TheVariants.{New, OnPath}
 use Rattle.dv_cycles.specs.declared.search.Search.{Search}

@@ -2,7 +2,8 @@
 use Rattle.std.proofs.Common.{◌≡◌, ℕ, ◌<◌, ◌≤◌, ◌⊎◌, inl, inr, List, length, take, get_or, true, refl, sym, subst, ap, arith, ◌∙◌}
 use Rattle.std.proofs.lemmas.List.{get_or-take, length-take-le}
 use Rattle.dv_cycles.specs.Ways.{leads}
-use Rattle.dv_cycles.specs.Search.{HasSegment, IsBefore, IsSettled, IsDoneBy, IsHeld, IsPath, IsPending, IsPlaced, IsSegment, IsValid, LeadTo, State, beginning}
+use Rattle.dv_cycles.specs.Search.{HasSegment, IsBefore, IsSettled, IsDoneBy, IsHeld, IsPath, IsPending, IsPlaced, IsSegment}
+use Rattle.dv_cycles.specs.Search.{IsValid, LeadTo, State, beginning}
 use Rattle.dv_cycles.specs.declared.search.Mark.TheVariants.{Done}
 use Rattle.dv_cycles.specs.declared.search.Segment.{Segment}
 use Rattle.dv_cycles.proofs.Ways.{reaches_same}

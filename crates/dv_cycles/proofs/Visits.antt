@@ -2,7 +2,8 @@
 use Rattle.std.proofs.Common.{◌≡◌, ℕ, ◌+◌, ◌<◌, ◌≤◌, ◌⊎◌, inl, inr, List, length, true, refl, sym, subst, ap, arith, ◌∙◌}
 use Rattle.std.proofs.lemmas.Bool.{cases_eq, cases_lt}
 use Rattle.dv_cycles.specs.Ways.{IsGraph, leads}
-use Rattle.dv_cycles.specs.Search.{HasSegment, IsBefore, IsSettled, IsDoneBy, IsHeld, IsPath, IsPending, IsPlaced, IsSegment, IsValid, LeadTo, State, beginning}
+use Rattle.dv_cycles.specs.Search.{HasSegment, IsBefore, IsSettled, IsDoneBy, IsHeld, IsPath, IsPending, IsPlaced, IsSegment}
+use Rattle.dv_cycles.specs.Search.{IsValid, LeadTo, State, beginning}
 use Rattle.dv_cycles.specs.declared.search.Mark.{Mark}
 use Rattle.dv_cycles.specs.declared.search.Mark.TheVariants.{New, OnPath, Done}
 use Rattle.dv_cycles.proofs.Ways.{edge_within, reaches_edge, reaches_here, reaches_on, reaches_same}

@@ -1,5 +1,6 @@
 -- Ways go on one after the other, and what falls along no edge falls along no way.
-use Rattle.std.proofs.Common.{◌≡◌, ℕ, zero, suc, ◌<◌, ◌⊎◌, inl, inr, true, ◌&&◌, List, [], length, get_or, refl, subst, arith, eq-eqb, nat_eq, ◌∙◌}
+use Rattle.std.proofs.Common.{◌≡◌, ℕ, zero, suc, ◌<◌, ◌⊎◌, inl, inr, true, ◌&&◌, List, [], length, get_or, refl, subst, arith}
+use Rattle.std.proofs.Common.{eq-eqb, nat_eq, ◌∙◌}
 use Rattle.std.proofs.lemmas.Bool.{and_from, and_parts, cases_lt, cases_order, eqb-true, false≢true, or_cases, or_left, or_right}
 use Rattle.std.specs.List.{Any}
 use Rattle.std.proofs.lemmas.List.{get_or_default, get_or_past}

@@ -1,5 +1,6 @@
 -- What holds at each step of the search.
-use Rattle.std.specs.Prelude.{◌≡◌, ℕ, ◌+◌, ◌-◌, ◌<◌, ◌≤◌, nat_lt, if◌then◌else◌, ◌⊎◌, Bool, true, false, List, length, slice_index_or, count_by}
+use Rattle.std.specs.Prelude.{◌≡◌, ℕ, ◌+◌, ◌-◌, ◌<◌, ◌≤◌, nat_lt, if◌then◌else◌, ◌⊎◌, Bool, true, false, List, length}
+use Rattle.std.specs.Prelude.{slice_index_or, count_by}
 use Rattle.dv_cycles.specs.Ways.{has_way, leads}
 use Rattle.dv_cycles.specs.declared.search.Mark.{Mark}
 use Rattle.dv_cycles.specs.declared.search.Mark.TheVariants.{New, OnPath, Done}

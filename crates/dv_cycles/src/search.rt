@@ -7,7 +7,8 @@
 
 ghost use Rattle.std.specs.Prelude.{◌≡◌, ◌≢◌, ℕ, ◌+◌, ◌-◌, ◌<◌, ◌≤◌, List, length, map, take, true, false, vec_len, IfOk, OnOk};
 ghost use Rattle.dv_cycles.specs.Ways.{IsGraph};
-ghost use Rattle.dv_cycles.specs.Search.{IsHeld, IsOpen, IsPath, IsSearch, LeadTo, NoneAnew, is_new, last_segment, last_target, mark_at, new_count, node_at, number_of, segment_at, settled, state_of};
+ghost use Rattle.dv_cycles.specs.Search.{IsHeld, IsOpen, IsPath, IsSearch, LeadTo, NoneAnew, is_new, last_segment, last_target};
+ghost use Rattle.dv_cycles.specs.Search.{mark_at, new_count, node_at, number_of, segment_at, settled, state_of};
 ghost use Rattle.dv_cycles.specs.declared.search.Mark.TheVariants.{New, OnPath};
 
 use crate::graph::Graph;

@@ -1,5 +1,6 @@
 -- The readers of the grammar complete tokens that end too early, so such tokens begin a file.
-use Rattle.std.proofs.Common.{◌≡◌, ℕ, zero, suc, ◌+◌, ◌-◌, ◌<◌, arith, ltb, true, false, List, [], ◌∷◌, ◌++◌, Some, None, Ok, refl, ◌∙◌, inl, inr}
+use Rattle.std.proofs.Common.{◌≡◌, ℕ, zero, suc, ◌+◌, ◌-◌, ◌<◌, arith, ltb, true, false, List, [], ◌∷◌, ◌++◌, Some, None, Ok}
+use Rattle.std.proofs.Common.{refl, ◌∙◌, inl, inr}
 use Rattle.std.proofs.lemmas.Bool.{cases_Bool, ltb-true}
 use Rattle.dv_lex.specs.declared.token.Token.{Token}
 use Rattle.dv_lex.specs.declared.token.TokenKind.{TokenKind}
@@ -14,17 +15,35 @@ use Rattle.dv_syntax.specs.declared.tree.Prefix.TheVariants as prefix
 use Rattle.dv_syntax.specs.declared.tree.RuleSort.{RuleSort}
 use Rattle.dv_syntax.specs.declared.tree.RuleSort.TheVariants as sort
 use Rattle.dv_syntax.specs.Trees.{Expression, Literal, TruthValue, Named, Parens, Prefixed, Binary, Call, Elapsed, Times}
-use Rattle.dv_syntax.specs.Written.{Declares, Lists, Starts, Holds, Rules, Inputs, Outputs, Contains, Couples, WrittenModel, WrittenAtomic, WrittenCoupled, WrittenFile, sorted}
+use Rattle.dv_syntax.specs.Written.{Declares, Lists, Starts, Holds, Rules, Inputs, Outputs, Contains, Couples, WrittenModel}
+use Rattle.dv_syntax.specs.Written.{WrittenAtomic, WrittenCoupled, WrittenFile, sorted}
 use Rattle.dv_syntax.specs.Grammar.{Limits, prefix_kind, prefix_rank, operator_rank, depth, sort_word}
-use Rattle.dv_parser.specs.Reading.{SingleAssign, SingleGoto, SingleSend, SingleIf, SingleIfElse, SingleFor, SingleAdd, SingleDrop, joined, Unexpected, TooDeep, read_then, within, choose, maybe, same_kind, begins_name, begins_truth, begins_call, begins_prefix, truth_at, call_word_at, name_at, number_at, place_at, obstacle_at, operator_of, goes_on, operator_at, call_at, elapsed_at, leaf_at, parens_at, prefixed_at, times_at, primary_at, turns, expression_at, many_at, braces_at, assign_at, goto_at, send_at, add_at, drop_at, else_at, if_at, for_at, statement_at, block_at, bound_at, variable_at, flag_at, bag_at, further_name_at, phases_at, start_at, ticks_at, hold_at, rule_at, any_rule_at, port_at, item_at, atomic_at, end_at, part_at, link_at, coupled_item_at, coupled_at, model_at, file_at}
+use Rattle.dv_parser.specs.Reading.{SingleAssign, SingleGoto, SingleSend, SingleIf, SingleIfElse, SingleFor, SingleAdd}
+use Rattle.dv_parser.specs.Reading.{SingleDrop, joined, Unexpected, TooDeep, read_then, within, choose, maybe, same_kind}
+use Rattle.dv_parser.specs.Reading.{begins_name, begins_truth, begins_call, begins_prefix, truth_at, call_word_at, name_at}
+use Rattle.dv_parser.specs.Reading.{number_at, place_at, obstacle_at, operator_of, goes_on, operator_at, call_at, elapsed_at}
+use Rattle.dv_parser.specs.Reading.{leaf_at, parens_at, prefixed_at, times_at, primary_at, turns, expression_at, many_at}
+use Rattle.dv_parser.specs.Reading.{braces_at, assign_at, goto_at, send_at, add_at, drop_at, else_at, if_at, for_at, statement_at}
+use Rattle.dv_parser.specs.Reading.{block_at, bound_at, variable_at, flag_at, bag_at, further_name_at, phases_at, start_at}
+use Rattle.dv_parser.specs.Reading.{ticks_at, hold_at, rule_at, any_rule_at, port_at, item_at, atomic_at, end_at, part_at}
+use Rattle.dv_parser.specs.Reading.{link_at, coupled_item_at, coupled_at, model_at, file_at}
 use Rattle.dv_dead_ends.specs.Refusals.{BeginsFileWithin}
 use Rattle.dv_parser.proofs.Tokens.{then_is}
 use Rattle.dv_parser.proofs.Expressions.{positive_depth}
 use Rattle.dv_parser.proofs.Statements.{NoElse, statement_shortens}
 use Rattle.dv_parser.proofs.Models.{item_shortens, further_name_shortens, coupled_item_shortens, model_shortens, file_sound}
-use Rattle.dv_dead_ends.proofs.Steady.{Reader, begins_name_of_first, begins_truth_of_first, begins_call_of_first, truth_steady, call_word_steady, many_steady, braces_steady, name_steady, number_steady}
-use Rattle.dv_dead_ends.proofs.Completions.{of_kind, Unfinished, CompletesAt, Completes, Always, Begins, each, ReadsOn, Leaves, StopsThere, on_first, leaves_complete, then_completes, choose_completes, choose_completes_by, after_completes, deep_completes, name_completes, number_completes, truth_completes, call_word_completes, many_completes, braces_complete}
-use Rattle.dv_dead_ends.proofs.SteadyReaders.{cases_option, begins_prefix_of_first, primary_steady, expression_steady, statement_steady, block_steady, bound_steady, further_name_steady, ticks_steady, port_steady, variable_steady, flag_steady, bag_steady, item_steady, end_steady, part_steady, link_steady, coupled_item_steady, atomic_steady, coupled_steady, model_steady, last_at, root_at, whole_at, file_whole, as_file}
+use Rattle.dv_dead_ends.proofs.Steady.{Reader, begins_name_of_first, begins_truth_of_first, begins_call_of_first, truth_steady}
+use Rattle.dv_dead_ends.proofs.Steady.{call_word_steady, many_steady, braces_steady, name_steady, number_steady}
+use Rattle.dv_dead_ends.proofs.Completions.{of_kind, Unfinished, CompletesAt, Completes, Always, Begins, each, ReadsOn, Leaves}
+use Rattle.dv_dead_ends.proofs.Completions.{StopsThere, on_first, leaves_complete, then_completes, choose_completes}
+use Rattle.dv_dead_ends.proofs.Completions.{choose_completes_by, after_completes, deep_completes, name_completes}
+use Rattle.dv_dead_ends.proofs.Completions.{number_completes, truth_completes, call_word_completes, many_completes}
+use Rattle.dv_dead_ends.proofs.Completions.{braces_complete}
+use Rattle.dv_dead_ends.proofs.SteadyReaders.{cases_option, begins_prefix_of_first, primary_steady, expression_steady}
+use Rattle.dv_dead_ends.proofs.SteadyReaders.{statement_steady, block_steady, bound_steady, further_name_steady, ticks_steady}
+use Rattle.dv_dead_ends.proofs.SteadyReaders.{port_steady, variable_steady, flag_steady, bag_steady, item_steady, end_steady}
+use Rattle.dv_dead_ends.proofs.SteadyReaders.{part_steady, link_steady, coupled_item_steady, atomic_steady, coupled_steady}
+use Rattle.dv_dead_ends.proofs.SteadyReaders.{model_steady, last_at, root_at, whole_at, file_whole, as_file}
 
 -- ---- Expressions
 
@@ -331,7 +350,8 @@ bound_completes =
     (λ _ n. leaves_complete (record { minus = None; magnitude = n }) Always))
 
 variable_completes : Completes variable_at Always
-    (of_kind (kind.Keyword keyword.Var) ∷ a_name ∷ a_sign symbol.Colon ∷ a_number ∷ a_sign symbol.Range ∷ a_number ∷ a_sign symbol.Equal ∷ a_number ∷ a_sign symbol.Semicolon ∷ [])
+    (of_kind (kind.Keyword keyword.Var) ∷ a_name ∷ a_sign symbol.Colon ∷ a_number ∷ a_sign symbol.Range ∷ a_number
+    ∷ a_sign symbol.Equal ∷ a_number ∷ a_sign symbol.Semicolon ∷ [])
 unfolding variable_at
 variable_completes =
     after_completes (kind.Keyword keyword.Var) _ (λ _.
@@ -493,7 +513,8 @@ part_completes =
     after_completes (kind.Symbol symbol.Semicolon) _ (λ _. leaves_complete (record { name = n; model = model }) Always)))))
 
 link_completes : Completes link_at Always
-    (of_kind (kind.Keyword keyword.Link) ∷ a_name ∷ a_sign symbol.Dot ∷ a_name ∷ a_sign symbol.Arrow ∷ a_name ∷ a_sign symbol.Dot ∷ a_name ∷ a_sign symbol.Semicolon ∷ [])
+    (of_kind (kind.Keyword keyword.Link) ∷ a_name ∷ a_sign symbol.Dot ∷ a_name ∷ a_sign symbol.Arrow ∷ a_name ∷ a_sign symbol.Dot
+    ∷ a_name ∷ a_sign symbol.Semicolon ∷ [])
 unfolding link_at
 link_completes =
     after_completes (kind.Keyword keyword.Link) _ (λ place.
@@ -504,7 +525,8 @@ link_completes =
     (λ _. leaves_complete (record { place = place; from = source; to = target }) Always)))))
 
 coupled_item_completes : Completes coupled_item_at Always
-    (of_kind (kind.Keyword keyword.Link) ∷ a_name ∷ a_sign symbol.Dot ∷ a_name ∷ a_sign symbol.Arrow ∷ a_name ∷ a_sign symbol.Dot ∷ a_name ∷ a_sign symbol.Semicolon ∷ [])
+    (of_kind (kind.Keyword keyword.Link) ∷ a_name ∷ a_sign symbol.Dot ∷ a_name ∷ a_sign symbol.Arrow ∷ a_name ∷ a_sign symbol.Dot
+    ∷ a_name ∷ a_sign symbol.Semicolon ∷ [])
 unfolding coupled_item_at
 coupled_item_completes =
     choose_completes (kind.Keyword keyword.In) _ _

@@ -1,5 +1,6 @@
 -- Tokens that end too early can go on: a reader completes them.
-use Rattle.std.proofs.Common.{◌≡◌, ℕ, zero, suc, ◌<◌, Bool, true, false, List, [], ◌∷◌, ◌++◌, length, Ok, Err, refl, sym, ap, subst, ◌∙◌, ◌⊎◌, inl, inr, append_assoc, arith}
+use Rattle.std.proofs.Common.{◌≡◌, ℕ, zero, suc, ◌<◌, Bool, true, false, List, [], ◌∷◌, ◌++◌, length, Ok, Err, refl, sym, ap}
+use Rattle.std.proofs.Common.{subst, ◌∙◌, ◌⊎◌, inl, inr, append_assoc, arith}
 use Rattle.std.proofs.lemmas.Bool.{cases_Bool}
 use Rattle.dv_lex.specs.declared.token.Token.{Token}
 use Rattle.dv_lex.specs.declared.token.TokenKind.{TokenKind}
@@ -9,10 +10,13 @@ use Rattle.dv_lex.specs.declared.token.Symbol.TheVariants as symbol
 use Rattle.dv_syntax.specs.declared.tree.BagCall.{BagCall}
 use Rattle.dv_syntax.specs.declared.tree.BagCall.TheVariants as call
 use Rattle.dv_syntax.specs.Grammar.{call_word}
-use Rattle.dv_parser.specs.Reading.{Obstacle, Unexpected, TooDeep, TooShort, Read, read_then, choose, same_kind, begins, after, place_at, name_of, name_at, number_of, number_at, truth_at, word_of_at, call_word_at, many_at, braces_at}
+use Rattle.dv_parser.specs.Reading.{Obstacle, Unexpected, TooDeep, TooShort, Read, read_then, choose, same_kind, begins, after}
+use Rattle.dv_parser.specs.Reading.{place_at, name_of, name_at, number_of, number_at, truth_at, word_of_at, call_word_at, many_at}
+use Rattle.dv_parser.specs.Reading.{braces_at}
 use Rattle.dv_parser.proofs.Tokens.{ok_is, err_ok, same_kind-same}
 use Rattle.dv_parser.proofs.Readers.{Shortens}
-use Rattle.dv_dead_ends.proofs.Steady.{Reader, IsAt, SteadyAt, IsSteady, IsOfFirst, begins_of_first, ok_err, err_is, same_place, many_step, many_steady}
+use Rattle.dv_dead_ends.proofs.Steady.{Reader, IsAt, SteadyAt, IsSteady, IsOfFirst, begins_of_first, ok_err, err_is, same_place}
+use Rattle.dv_dead_ends.proofs.Steady.{many_step, many_steady}
 
 -- a token of a kind
 abbrev pub of_kind : TokenKind → Token

@@ -21,8 +21,12 @@ statements_within n w g (Goto place p rest) are = statements_within n w g rest a
 statements_within n w g (Send place p e rest) are = (expression_within n w g e are.0, statements_within n w g rest are.1)
 statements_within n w g (If place e block rest) are =
     (expression_within n w g e are.0, statements_within n w g block are.1, statements_within n w g rest are.2)
-statements_within n w g (IfElse place e block other rest) are =
-    (expression_within n w g e are.0, statements_within n w g block are.1, statements_within n w g other are.2, statements_within n w g rest are.3)
+statements_within n w g (IfElse place e block other rest) are = (
+  expression_within n w g e are.0,
+  statements_within n w g block are.1,
+  statements_within n w g other are.2,
+  statements_within n w g rest are.3,
+)
 statements_within n w g (For place v b block rest) are = (statements_within n w g block are.0, statements_within n w g rest are.1)
 statements_within n w g (Add place e b rest) are = (expression_within n w g e are.0, statements_within n w g rest are.1)
 statements_within n w g (Drop place e b rest) are = (expression_within n w g e are.0, statements_within n w g rest are.1)

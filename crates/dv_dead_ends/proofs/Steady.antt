@@ -1,5 +1,6 @@
 -- What a reader answers depends on the tokens up to the one at which it stops: others may follow that one.
-use Rattle.std.proofs.Common.{◌≡◌, ℕ, zero, suc, ◌<◌, Bool, true, false, List, [], ◌∷◌, ◌++◌, length, Ok, Err, refl, sym, ap, subst, ◌∙◌, ◌⊎◌, inl, inr, append_assoc, arith}
+use Rattle.std.proofs.Common.{◌≡◌, ℕ, zero, suc, ◌<◌, Bool, true, false, List, [], ◌∷◌, ◌++◌, length, Ok, Err, refl, sym, ap}
+use Rattle.std.proofs.Common.{subst, ◌∙◌, ◌⊎◌, inl, inr, append_assoc, arith}
 use Rattle.std.proofs.lemmas.Bool.{cases_Bool}
 use Rattle.dv_lex.specs.declared.token.Token.{Token}
 use Rattle.dv_lex.specs.declared.token.TokenKind.{TokenKind}
@@ -9,7 +10,9 @@ use Rattle.dv_lex.specs.declared.token.Symbol.TheVariants as symbol
 use Rattle.dv_syntax.specs.declared.tree.BagCall.{BagCall}
 use Rattle.dv_syntax.specs.declared.tree.BagCall.TheVariants as call
 use Rattle.dv_syntax.specs.Grammar.{call_word}
-use Rattle.dv_parser.specs.Reading.{Obstacle, Unexpected, TooDeep, TooShort, Read, read_then, choose, same_kind, begins, begins_name, begins_truth, begins_call, truth_at, word_of_at, call_word_at, after, place_at, name_of, name_at, number_of, number_at, many, many_at, braces_at}
+use Rattle.dv_parser.specs.Reading.{Obstacle, Unexpected, TooDeep, TooShort, Read, read_then, choose, same_kind, begins}
+use Rattle.dv_parser.specs.Reading.{begins_name, begins_truth, begins_call, truth_at, word_of_at, call_word_at, after, place_at}
+use Rattle.dv_parser.specs.Reading.{name_of, name_at, number_of, number_at, many, many_at, braces_at}
 use Rattle.dv_parser.proofs.Tokens.{then_ok, ok_is, err_ok}
 use Rattle.dv_parser.proofs.Readers.{Shortens, same_after, same_many}
 
@@ -201,7 +204,16 @@ then_at {A = A} {B = B} first second ts s h = record {
       elim (parted (first ts) (λ x. second (place_at ts) x.0 x.1) o e) [
         | inl f ↦ elim (s.stops o f) [
           | inl short ↦ inl short
-          | inr g ↦ inr (record { front = g.front; token = g.token; behind = g.behind; whole = g.whole; at = g.at; steady = λ other. then_err (first (g.front ++ g.token ∷ other)) _ o (g.steady other) })
+          | inr g ↦
+              inr
+              (record {
+                front = g.front;
+                token = g.token;
+                behind = g.behind;
+                whole = g.whole;
+                at = g.at;
+                steady = λ other. then_err (first (g.front ++ g.token ∷ other)) _ o (g.steady other);
+              })
         ]
         | inr a ↦ elim ((h a.0.0 a.0.1 a.1).stops o a.2) [
           | inl short ↦ inl short

@@ -12,13 +12,25 @@ use Rattle.dv_syntax.specs.declared.tree.Prefix.TheVariants as prefix
 use Rattle.dv_syntax.specs.declared.tree.RuleSort.{RuleSort}
 use Rattle.dv_syntax.specs.declared.tree.RuleSort.TheVariants as sort
 use Rattle.dv_syntax.specs.Trees.{Expression, Literal, TruthValue, Named, Parens, Prefixed, Binary, Call, Elapsed, Times, Statements}
-use Rattle.dv_syntax.specs.Written.{Declares, Lists, Starts, Holds, Rules, Inputs, Outputs, Contains, Couples, WrittenModel, WrittenAtomic, WrittenCoupled, WrittenFile}
+use Rattle.dv_syntax.specs.Written.{Declares, Lists, Starts, Holds, Rules, Inputs, Outputs, Contains, Couples, WrittenModel}
+use Rattle.dv_syntax.specs.Written.{WrittenAtomic, WrittenCoupled, WrittenFile}
 use Rattle.dv_syntax.specs.Grammar.{Limits, prefix_kind, prefix_rank, operator_rank, depth, sort_word}
-use Rattle.dv_parser.specs.Reading.{SingleAssign, SingleGoto, SingleSend, SingleIf, SingleIfElse, SingleFor, SingleAdd, SingleDrop, joined, Obstacle, Unexpected, TooDeep, Read, read_then, within, choose, maybe, begins_name, begins_truth, begins_call, begins_prefix, truth_at, call_word_at, after, name_at, number_at, place_at, obstacle_at, operator_of, goes_on, operator_at, call_at, elapsed_at, leaf_at, parens_at, prefixed_at, times_at, primary_at, turns, expression_at, many_at, braces_at, assign_at, goto_at, send_at, add_at, drop_at, else_at, if_at, for_at, statement_at, block_at, bound_at, variable_at, flag_at, bag_at, further_name_at, phases_at, start_at, ticks_at, hold_at, rule_at, any_rule_at, port_at, item_at, atomic_at, end_at, part_at, link_at, coupled_item_at, coupled_at, model_at, is_end, file_at}
+use Rattle.dv_parser.specs.Reading.{SingleAssign, SingleGoto, SingleSend, SingleIf, SingleIfElse, SingleFor, SingleAdd}
+use Rattle.dv_parser.specs.Reading.{SingleDrop, joined, Obstacle, Unexpected, TooDeep, Read, read_then, within, choose, maybe}
+use Rattle.dv_parser.specs.Reading.{begins_name, begins_truth, begins_call, begins_prefix, truth_at, call_word_at, after, name_at}
+use Rattle.dv_parser.specs.Reading.{number_at, place_at, obstacle_at, operator_of, goes_on, operator_at, call_at, elapsed_at}
+use Rattle.dv_parser.specs.Reading.{leaf_at, parens_at, prefixed_at, times_at, primary_at, turns, expression_at, many_at}
+use Rattle.dv_parser.specs.Reading.{braces_at, assign_at, goto_at, send_at, add_at, drop_at, else_at, if_at, for_at, statement_at}
+use Rattle.dv_parser.specs.Reading.{block_at, bound_at, variable_at, flag_at, bag_at, further_name_at, phases_at, start_at}
+use Rattle.dv_parser.specs.Reading.{ticks_at, hold_at, rule_at, any_rule_at, port_at, item_at, atomic_at, end_at, part_at}
+use Rattle.dv_parser.specs.Reading.{link_at, coupled_item_at, coupled_at, model_at, is_end, file_at}
 use Rattle.dv_parser.proofs.Statements.{statement_shortens}
 use Rattle.dv_parser.proofs.Models.{item_shortens, further_name_shortens, coupled_item_shortens, model_shortens}
 use Rattle.dv_parser.proofs.Sorting.{later, same_chosen, err_kept}
-use Rattle.dv_dead_ends.proofs.Steady.{Reader, IsSteady, ReadsOn, Leaves, StopsThere, by_first, leaves_steady, short_steady, then_steady, choose_at, choose_steady, IsOfFirst, begins_name_of_first, begins_truth_of_first, begins_call_of_first, after_steady, deep_steady, name_steady, number_steady, truth_steady, call_word_steady, many_steady, braces_steady, then_err}
+use Rattle.dv_dead_ends.proofs.Steady.{Reader, IsSteady, ReadsOn, Leaves, StopsThere, by_first, leaves_steady, short_steady}
+use Rattle.dv_dead_ends.proofs.Steady.{then_steady, choose_at, choose_steady, IsOfFirst, begins_name_of_first}
+use Rattle.dv_dead_ends.proofs.Steady.{begins_truth_of_first, begins_call_of_first, after_steady, deep_steady, name_steady}
+use Rattle.dv_dead_ends.proofs.Steady.{number_steady, truth_steady, call_word_steady, many_steady, braces_steady, then_err}
 
 -- ---- Expressions
 

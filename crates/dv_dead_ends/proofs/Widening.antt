@@ -1,6 +1,7 @@
 -- A narrow and a wide reader, to which less is too deep: the wide one answers the same, or goes past the token that is too
 -- deep to the narrow one.
-use Rattle.std.proofs.Common.{◌≡◌, ℕ, zero, suc, ◌<◌, Bool, true, false, List, [], ◌∷◌, ◌++◌, length, Ok, Err, refl, sym, ap, subst, ◌∙◌, inl, inr, append_assoc, arith}
+use Rattle.std.proofs.Common.{◌≡◌, ℕ, zero, suc, ◌<◌, Bool, true, false, List, [], ◌∷◌, ◌++◌, length, Ok, Err, refl, sym, ap}
+use Rattle.std.proofs.Common.{subst, ◌∙◌, inl, inr, append_assoc, arith}
 use Rattle.std.proofs.lemmas.Bool.{cases_Bool}
 use Rattle.std.proofs.lemmas.List.{append_cancel_right}
 use Rattle.dv_lex.specs.declared.token.Token.{Token}
@@ -13,10 +14,14 @@ use Rattle.dv_syntax.specs.declared.tree.BagCall.TheVariants as call
 use Rattle.dv_syntax.specs.Grammar.{call_word}
 use Rattle.dv_syntax.specs.declared.tree.Name.{Name}
 use Rattle.dv_syntax.specs.declared.tree.Number.{Number}
-use Rattle.dv_parser.specs.Reading.{Unexpected, TooDeep, TooShort, Read, read_then, choose, same_kind, begins, after, place_at, name_of, name_at, number_of, number_at, truth_at, word_of_at, call_word_at, many_at, braces_at}
+use Rattle.dv_parser.specs.Reading.{Unexpected, TooDeep, TooShort, Read, read_then, choose, same_kind, begins, after, place_at}
+use Rattle.dv_parser.specs.Reading.{name_of, name_at, number_of, number_at, truth_at, word_of_at, call_word_at, many_at}
+use Rattle.dv_parser.specs.Reading.{braces_at}
 use Rattle.dv_parser.proofs.Tokens.{then_is}
 use Rattle.dv_parser.proofs.Readers.{Shortens}
-use Rattle.dv_dead_ends.proofs.Steady.{Reader, Stops, SteadyAt, IsSteady, IsOfFirst, begins_of_first, ok_err, err_is, same_place, wider, after_both, then_err, leaves_steady, after_steady, then_steady, choose_at as choose_steady_at, name_steady, number_steady, many_step, many_steady}
+use Rattle.dv_dead_ends.proofs.Steady.{Reader, Stops, SteadyAt, IsSteady, IsOfFirst, begins_of_first, ok_err, err_is, same_place}
+use Rattle.dv_dead_ends.proofs.Steady.{wider, after_both, then_err, leaves_steady, after_steady, then_steady}
+use Rattle.dv_dead_ends.proofs.Steady.{choose_at as choose_steady_at, name_steady, number_steady, many_step, many_steady}
 use Rattle.dv_dead_ends.proofs.Completions.{Unfinished}
 
 -- a reader, and one behind it

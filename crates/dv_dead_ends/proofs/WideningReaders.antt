@@ -12,17 +12,29 @@ use Rattle.dv_syntax.specs.declared.tree.Prefix.TheVariants as prefix
 use Rattle.dv_syntax.specs.declared.tree.RuleSort.{RuleSort}
 use Rattle.dv_syntax.specs.declared.tree.RuleSort.TheVariants as sort
 use Rattle.dv_syntax.specs.Trees.{Expression, Literal, TruthValue, Named, Parens, Prefixed, Binary, Call, Elapsed, Times}
-use Rattle.dv_syntax.specs.Written.{Declares, Lists, Starts, Holds, Rules, Inputs, Outputs, Contains, Couples, WrittenModel, WrittenAtomic, WrittenCoupled, WrittenFile}
+use Rattle.dv_syntax.specs.Written.{Declares, Lists, Starts, Holds, Rules, Inputs, Outputs, Contains, Couples, WrittenModel}
+use Rattle.dv_syntax.specs.Written.{WrittenAtomic, WrittenCoupled, WrittenFile}
 use Rattle.dv_syntax.specs.Grammar.{Limits, prefix_kind, prefix_rank, operator_rank, depth, sort_word}
-use Rattle.dv_parser.specs.Reading.{SingleAssign, SingleGoto, SingleSend, SingleIf, SingleIfElse, SingleFor, SingleAdd, SingleDrop, joined, TooShort, read_then, within, choose, maybe, begins_name, begins_truth, begins_call, after, name_at, number_at, place_at, obstacle_at, operator_of, goes_on, operator_at, call_at, elapsed_at, leaf_at, parens_at, prefixed_at, times_at, primary_at, turns, expression_at, assign_at, goto_at, send_at, add_at, drop_at, else_at, if_at, for_at, statement_at, block_at, bound_at, variable_at, flag_at, bag_at, further_name_at, phases_at, start_at, ticks_at, hold_at, rule_at, any_rule_at, port_at, item_at, atomic_at, end_at, part_at, link_at, coupled_item_at, coupled_at, model_at}
+use Rattle.dv_parser.specs.Reading.{SingleAssign, SingleGoto, SingleSend, SingleIf, SingleIfElse, SingleFor, SingleAdd}
+use Rattle.dv_parser.specs.Reading.{SingleDrop, joined, TooShort, read_then, within, choose, maybe, begins_name, begins_truth}
+use Rattle.dv_parser.specs.Reading.{begins_call, after, name_at, number_at, place_at, obstacle_at, operator_of, goes_on}
+use Rattle.dv_parser.specs.Reading.{operator_at, call_at, elapsed_at, leaf_at, parens_at, prefixed_at, times_at, primary_at}
+use Rattle.dv_parser.specs.Reading.{turns, expression_at, assign_at, goto_at, send_at, add_at, drop_at, else_at, if_at, for_at}
+use Rattle.dv_parser.specs.Reading.{statement_at, block_at, bound_at, variable_at, flag_at, bag_at, further_name_at, phases_at}
+use Rattle.dv_parser.specs.Reading.{start_at, ticks_at, hold_at, rule_at, any_rule_at, port_at, item_at, atomic_at, end_at}
+use Rattle.dv_parser.specs.Reading.{part_at, link_at, coupled_item_at, coupled_at, model_at}
 use Rattle.dv_parser.proofs.Expressions.{expression_read, primary_depth, positive_depth, operator_rank-le}
 use Rattle.dv_parser.proofs.Statements.{statement_shortens}
 use Rattle.dv_parser.proofs.Models.{item_shortens, further_name_shortens, coupled_item_shortens, model_shortens}
 use Rattle.dv_dead_ends.proofs.Depths.{AreGreater}
 use Rattle.dv_dead_ends.proofs.Steady.{Reader, begins_of_first, begins_name_of_first, begins_truth_of_first, begins_call_of_first}
-use Rattle.dv_dead_ends.proofs.SteadyReaders.{cases_option, begins_prefix_of_first, primary_steady, expression_steady, if_steady, for_steady, block_steady, last_at, last_steady, root_at, whole_at}
+use Rattle.dv_dead_ends.proofs.SteadyReaders.{cases_option, begins_prefix_of_first, primary_steady, expression_steady, if_steady}
+use Rattle.dv_dead_ends.proofs.SteadyReaders.{for_steady, block_steady, last_at, last_steady, root_at, whole_at}
 use Rattle.dv_dead_ends.proofs.Beginnings.{HaveRoom}
-use Rattle.dv_dead_ends.proofs.Widening.{WidensAt, Widens, ReadOn, Leave, Refuse, Deep, by_first, leaves_at, leaves_widens, then_at, then_widens, choose_at, choose_widens_by, choose_widens, after_each, after_widens, deep_each, name_widens, number_widens, truth_widens, call_word_widens, many_widens, braces_widens}
+use Rattle.dv_dead_ends.proofs.Widening.{WidensAt, Widens, ReadOn, Leave, Refuse, Deep, by_first, leaves_at, leaves_widens}
+use Rattle.dv_dead_ends.proofs.Widening.{then_at, then_widens, choose_at, choose_widens_by, choose_widens, after_each}
+use Rattle.dv_dead_ends.proofs.Widening.{after_widens, deep_each, name_widens, number_widens, truth_widens, call_word_widens}
+use Rattle.dv_dead_ends.proofs.Widening.{many_widens, braces_widens}
 
 -- ---- Expressions
 

@@ -1,5 +1,6 @@
 -- Names in lists and maps: where a name stands, whether it is there, and how many different names of 32 bits there are.
-use Rattle.std.proofs.Common.{◌≡◌, ℕ, ◌+◌, ◌^◌, ◌<◌, ◌≤◌, Bool, true, false, cond, eqb, List, [], ◌∷◌, ◌++◌, length, get_or, Option, Some, None, is_some, position, refl, sym, ap, ◌∙◌, ◌||◌, true≢false, arith, Fits, w32}
+use Rattle.std.proofs.Common.{◌≡◌, ℕ, ◌+◌, ◌^◌, ◌<◌, ◌≤◌, Bool, true, false, cond, eqb, List, [], ◌∷◌, ◌++◌, length, get_or}
+use Rattle.std.proofs.Common.{Option, Some, None, is_some, position, refl, sym, ap, ◌∙◌, ◌||◌, true≢false, arith, Fits, w32}
 use Rattle.std.specs.List.{IsDistinct, list_any, position_from}
 use Rattle.std.specs.Map.{lookup}
 use Rattle.std.proofs.lemmas.Bool.Decides.{nat_tests}
@@ -34,12 +35,15 @@ none_from_is_some None e = refl
 none_from_is_some (Some x) e = absurd (true≢false e)
 
 -- a name is declared where a look-up finds it
-pub is_declared-lookup : (name : ℕ) (entries : List (ℕ × Domain)) → is_some (lookup (eqb name) entries) ≡ is_declared name (names_of entries)
+pub is_declared-lookup : (name : ℕ) (entries : List (ℕ × Domain))
+    → is_some (lookup (eqb name) entries) ≡ is_declared name (names_of entries)
 is_declared-lookup name [] = refl
-is_declared-lookup name (e ∷ entries) = is_some-cond (eqb name e.0) e.1 (lookup (eqb name) entries) ∙ cc (eqb-swap e.0 name, is_declared-lookup name entries)
+is_declared-lookup name (e ∷ entries) =
+    is_some-cond (eqb name e.0) e.1 (lookup (eqb name) entries) ∙ cc (eqb-swap e.0 name, is_declared-lookup name entries)
 
 -- a variable that a look-up finds stays as it is, and another goes last
-with_variable-lookup : (entries : List (ℕ × Domain)) (v : Name × Domain) → with_variable entries v ≡ cond (is_some (lookup (eqb v.0.number) entries)) entries (entries ++ (v.0.number, v.1) ∷ [])
+with_variable-lookup : (entries : List (ℕ × Domain)) (v : Name × Domain)
+    → with_variable entries v ≡ cond (is_some (lookup (eqb v.0.number) entries)) entries (entries ++ (v.0.number, v.1) ∷ [])
 with_variable-lookup entries v = ap (λ b. cond b entries (entries ++ (v.0.number, v.1) ∷ [])) (sym (is_declared-lookup v.0.number entries))
 
 -- a name is declared where a set has it
@@ -47,10 +51,12 @@ pub is_declared-list_any : (name : ℕ) (names : List ℕ) → list_any (eqb nam
 is_declared-list_any name [] = refl
 is_declared-list_any name (n ∷ names) = cc (eqb-swap n name, is_declared-list_any name names)
 
-pub with_variable-present : (entries : List (ℕ × Domain)) (v : Name × Domain) → is_some (lookup (eqb v.0.number) entries) ≡ true → with_variable entries v ≡ entries
+pub with_variable-present : (entries : List (ℕ × Domain)) (v : Name × Domain) → is_some (lookup (eqb v.0.number) entries) ≡ true
+    → with_variable entries v ≡ entries
 with_variable-present entries v e = with_variable-lookup entries v ∙ ap (λ b. cond b entries (entries ++ (v.0.number, v.1) ∷ [])) e
 
-pub with_variable-absent : (entries : List (ℕ × Domain)) (v : Name × Domain) → is_some (lookup (eqb v.0.number) entries) ≡ false → with_variable entries v ≡ entries ++ (v.0.number, v.1) ∷ []
+pub with_variable-absent : (entries : List (ℕ × Domain)) (v : Name × Domain) → is_some (lookup (eqb v.0.number) entries) ≡ false
+    → with_variable entries v ≡ entries ++ (v.0.number, v.1) ∷ []
 with_variable-absent entries v e = with_variable-lookup entries v ∙ ap (λ b. cond b entries (entries ++ (v.0.number, v.1) ∷ [])) e
 
 below_from_fits : (xs : List ℕ) → ((k : ℕ) → Fits w32 (get_or xs k 0)) → (q : ℕ) → list_any (eqb q) xs ≡ true → q < 2 ^ 32

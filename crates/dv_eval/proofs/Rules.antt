@@ -1,11 +1,14 @@
 -- What lists of statements do, one statement at a time, and loops, one value at a time.
-use Rattle.std.proofs.Common.{◌≡◌, ℕ, zero, suc, ◌+◌, ◌-◌, ◌<◌, ◌≤◌, Bool, true, List, [], ◌∷◌, ◌++◌, length, replicate, get_or, drop, set, Option, Some, Result, Ok, Err, refl, sym, ap, ◌∙◌, ℤ, pos, if◌then◌else◌, arith}
+use Rattle.std.proofs.Common.{◌≡◌, ℕ, zero, suc, ◌+◌, ◌-◌, ◌<◌, ◌≤◌, Bool, true, List, [], ◌∷◌, ◌++◌, length, replicate, get_or}
+use Rattle.std.proofs.Common.{drop, set, Option, Some, Result, Ok, Err, refl, sym, ap, ◌∙◌, ℤ, pos, if◌then◌else◌, arith}
 use Rattle.std.proofs.lemmas.List.{at_drop_more, get_or_default, set_past}
 use Rattle.dv_syntax.specs.declared.tree.Expr.{Expr}
 use Rattle.dv_syntax.specs.declared.tree.Name.{Name}
-use Rattle.dv_syntax.specs.declared.tree.Stmt.{Stmt, Row_of-Stmt, end_of-Stmt, more_of-Stmt, items-the_row-Stmt, items_hidden-the_row-Stmt-0}
+use Rattle.dv_syntax.specs.declared.tree.Stmt.{Stmt, Row_of-Stmt, end_of-Stmt, more_of-Stmt, items-the_row-Stmt}
+use Rattle.dv_syntax.specs.declared.tree.Stmt.{items_hidden-the_row-Stmt-0}
 use Rattle.dv_syntax.specs.declared.tree.Stmt as stmt
-use Rattle.dv_syntax.specs.Trees.{Expression, Statements, Done, For, If, IfElse, expression_of, statement_before, row_statements, statements_of}
+use Rattle.dv_syntax.specs.Trees.{Expression, Statements, Done, For, If, IfElse, expression_of, statement_before, row_statements}
+use Rattle.dv_syntax.specs.Trees.{statements_of}
 use Rattle.dv_bag.specs.Outcome.{◌>>=◌}
 use Rattle.dv_bag.specs.Bag.{Counts, total_of_all, bag_at, values_of, with_copies}
 use Rattle.dv_bag.specs.Outcome.{Fails}
@@ -18,7 +21,8 @@ use Rattle.dv_bag.specs.declared.value.Value.{Value}
 use Rattle.std.proofs.lemmas.Bool.{lt-leb}
 use Rattle.dv_eval.specs.Scope.{Scope, place_of}
 use Rattle.dv_eval.specs.Copies.{repeated}
-use Rattle.dv_eval.specs.Meaning.{Context, addition, assignment, bag_of_name, in_loop, moment_in, number_of, removal, repetition, run, sending, truth_of, value_within, with_value_at}
+use Rattle.dv_eval.specs.Meaning.{Context, addition, assignment, bag_of_name, in_loop, moment_in, number_of, removal, repetition}
+use Rattle.dv_eval.specs.Meaning.{run, sending, truth_of, value_within, with_value_at}
 
 -- to go on with a value is to keep it and then go on
 bind_kept : {A B : Type 0} (m : Result A Fault) (k : A → Result B Fault) → (m >>= k) ≡ ((m >>= λ x. Ok x) >>= k)
@@ -77,15 +81,19 @@ module _ (scope : Scope) (context : Context) where
   block_of block = run scope context (row_statements block)
 
   -- a statement before a rest: first the statement alone, and then the rest
-  run-statement_before : (s : Stmt) (rest : Statements) (e : Effect) → run scope context (statement_before s rest) e ≡ (one s e >>= run scope context rest)
-  run-statement_before (stmt.Assign name value) rest e = bind_twice (value_of e value) (λ v. assignment scope name.number v e) (run scope context rest)
+  run-statement_before : (s : Stmt) (rest : Statements) (e : Effect)
+      → run scope context (statement_before s rest) e ≡ (one s e >>= run scope context rest)
+  run-statement_before (stmt.Assign name value) rest e =
+      bind_twice (value_of e value) (λ v. assignment scope name.number v e) (run scope context rest)
   run-statement_before (stmt.Goto place phase) rest e = refl
-  run-statement_before (stmt.Send place port value) rest e = bind_twice (value_of e value) (λ v. sending scope port.number v e) (run scope context rest)
+  run-statement_before (stmt.Send place port value) rest e =
+      bind_twice (value_of e value) (λ v. sending scope port.number v e) (run scope context rest)
   run-statement_before (stmt.If' place c shape block) rest e =
       bind_twice (value_of e c) (λ v. if truth_of v then block_of block e else Ok e) (run scope context rest)
   run-statement_before (stmt.IfElse' place c shape block other_shape other) rest e =
       bind_twice (value_of e c) (λ v. if truth_of v then block_of block e else block_of other e) (run scope context rest)
-  run-statement_before (stmt.For' place v b shape block) rest e = bind_kept (walk scope context v b (row_statements block) e) (run scope context rest)
+  run-statement_before (stmt.For' place v b shape block) rest e =
+      bind_kept (walk scope context v b (row_statements block) e) (run scope context rest)
   run-statement_before (stmt.Add place value b) rest e =
       bind_twice (value_of e value) (λ v. addition scope b.number (number_of v) e) (run scope context rest)
   run-statement_before (stmt.Drop place value b) rest e =
@@ -113,7 +121,8 @@ module _ (scope : Scope) (context : Context) where
       bind_fails (one s e) (all (drop (i + 1) ss)) whole error (sym (run-drop ss i s e within is) ∙ known) step
 
 -- the copies of a value from one on: a step, and then those behind it
-module _ (step : Effect → Result Effect Fault) (c i : ℕ) (e : Effect) (whole : Result Effect Fault) (within : i < c) (known : repeated step (c - i) e ≡ whole) where
+module _ (step : Effect → Result Effect Fault) (c i : ℕ) (e : Effect) (whole : Result Effect Fault) (within : i < c)
+    (known : repeated step (c - i) e ≡ whole) where
   next_copy : (step e >>= repeated step (c - (i + 1))) ≡ whole
   next_copy = let more : c - i ≡ suc (c - (i + 1)) = omega arith in sym (ap (λ k. repeated step k e) more) ∙ known
 
@@ -164,7 +173,8 @@ sending-within :
     (scope : Scope) (name : ℕ) (v : Value) (e : Effect) (place : Option ℕ) → total_of_all e.sent < 4096
     → place_of name scope.outputs ≡ place → sending scope name v e ≡ Ok (with_value_at place (number_of v) e)
 sending-within scope name v e place few at =
-    ap (λ b. if b then Err Flood else Ok (with_value_at (place_of name scope.outputs) (number_of v) e)) (lt-leb 4096 (total_of_all e.sent) few)
+    ap (λ b. if b then Err Flood else Ok (with_value_at (place_of name scope.outputs) (number_of v) e))
+    (lt-leb 4096 (total_of_all e.sent) few)
     ∙ ap (λ p. Ok (with_value_at p (number_of v) e)) at
 
 -- a value at a port
@@ -182,7 +192,8 @@ pub sending-past :
     (scope : Scope) (name : ℕ) (v : Value) (e : Effect) (port : ℕ) → total_of_all e.sent < 4096 → place_of name scope.outputs ≡ Some port
     → length e.sent ≤ port → sending scope name v e ≡ Ok e
 sending-past scope name v e port few at past =
-    sending-some scope name v e port (number_of v) e.sent few at refl (sym (set_past e.sent port (with_copies (number_of v) 1 (bag_at e.sent port)) past))
+    sending-some scope name v e port (number_of v) e.sent few at refl
+    (sym (set_past e.sent port (with_copies (number_of v) 1 (bag_at e.sent port)) past))
 
 -- what is left of a statement alone
 bind_ok : {A : Type 0} (m : Result A Fault) → (m >>= λ x. Ok x) ≡ m

@@ -1,19 +1,24 @@
 -- The meaning of expressions, rules and holds, by recursion on the tree: a value or an effect, or the first fault from the left.
 -- A checked model knows its names and gives every operator what it wants; for all others a name that is not known counts
 -- as 0 or as an empty bag, and a truth value as 0 or 1.
-use Rattle.std.specs.Prelude.{ℕ, ℤ, pos, negsuc, neg_ℤ, ◌+ℤ◌, ◌-ℤ◌, ◌*ℤ◌, Bool, true, false, not, ◌&&◌, ◌||◌, if◌then◌else◌, ◌==◌, nat_le, int_lt, List, [], ◌∷◌, length, replicate, slice_get, slice_set, Option, Some, None, Result, Ok, Err}
+use Rattle.std.specs.Prelude.{ℕ, ℤ, pos, negsuc, neg_ℤ, ◌+ℤ◌, ◌-ℤ◌, ◌*ℤ◌, Bool, true, false, not, ◌&&◌, ◌||◌, if◌then◌else◌, ◌==◌}
+use Rattle.std.specs.Prelude.{nat_le, int_lt, List, [], ◌∷◌, length, replicate, slice_get, slice_set, Option, Some, None, Result}
+use Rattle.std.specs.Prelude.{Ok, Err}
 use Rattle.std.specs.Ordering.{int_eq}
-use Rattle.dv_syntax.specs.Trees.{Expression, Literal, TruthValue, Named, Parens, Prefixed, Binary, Call, Elapsed, Times, Statements, Done, Assign, Goto, Send, If, IfElse, For, Drop}
+use Rattle.dv_syntax.specs.Trees.{Expression, Literal, TruthValue, Named, Parens, Prefixed, Binary, Call, Elapsed, Times}
+use Rattle.dv_syntax.specs.Trees.{Statements, Done, Assign, Goto, Send, If, IfElse, For, Drop}
 use Rattle.dv_syntax.specs.Trees.{Add as AddTo}
 use Rattle.dv_syntax.specs.declared.tree.Prefix.{Prefix}
 use Rattle.dv_syntax.specs.declared.tree.Prefix.TheVariants.{Minus, Not}
 use Rattle.dv_syntax.specs.declared.tree.Operator.{Operator}
-use Rattle.dv_syntax.specs.declared.tree.Operator.TheVariants.{Or, And, Add, Subtract, Multiply, Divide as DivideBy, Remainder, Equal, Unequal, Less, AtMost, Greater, AtLeast}
+use Rattle.dv_syntax.specs.declared.tree.Operator.TheVariants.{Or, And, Add, Subtract, Multiply, Divide as DivideBy, Remainder}
+use Rattle.dv_syntax.specs.declared.tree.Operator.TheVariants.{Equal, Unequal, Less, AtMost, Greater, AtLeast}
 use Rattle.dv_syntax.specs.declared.tree.BagCall.{BagCall}
 use Rattle.dv_syntax.specs.declared.tree.BagCall.TheVariants.{Size, Sum, Least, Most}
 use Rattle.dv_bag.specs.Arithmetic.{number_or_empty, number_or_overflow, quotient, remainder}
 use Rattle.dv_bag.specs.Arrivals.{Arrivals, nothing_arrived}
-use Rattle.dv_bag.specs.Bag.{Counts, bag_at, count_of, least, most, sum_or_overflow, total, total_of_all, values_of, with_copies, without_one}
+use Rattle.dv_bag.specs.Bag.{Counts, bag_at, count_of, least, most, sum_or_overflow, total, total_of_all, values_of, with_copies}
+use Rattle.dv_bag.specs.Bag.{without_one}
 use Rattle.dv_bag.specs.Reading.{bag_held_at}
 use Rattle.dv_bag.specs.Effects.{is_full, is_within, with_bag, with_datum, with_state}
 use Rattle.dv_bag.specs.Outcome.{◌>>=◌}
@@ -152,14 +157,16 @@ meaning scope m (Named name) = Ok (value_of_name scope m name.number)
 meaning scope m (Parens place e) = meaning scope m e
 meaning scope m (Prefixed operator place e) = meaning scope m e >>= λ v. prefix_result operator v
 meaning scope m (Binary operator a b) =
-    meaning scope m a >>= λ x. if is_decided operator x then Ok (Truth (truth_of x)) else (meaning scope m b >>= λ y. operator_result operator x y)
+    meaning scope m a >>= λ x.
+    if is_decided operator x then Ok (Truth (truth_of x)) else (meaning scope m b >>= λ y. operator_result operator x y)
 meaning scope m (Call call place b) = call_result call (bag_of_name scope m b.number)
 meaning scope m (Elapsed place) = number_or_overflow (pos m.context.arrivals.elapsed)
 meaning scope m (Times place e b) = meaning scope m e >>= λ v. Ok (Number (pos (count_of (number_of v) (bag_of_name scope m b.number))))
 
 -- a number into the variable at a place, where it is within the variable's range
 abbrev pub assignment_in_range : VariableRange → ℕ → ℤ → Effect → Result Effect Fault
-assignment_in_range range place n e = if is_within range.low range.high n then Ok (with_state e (with_datum e.state place (datum.Number n))) else Err Range
+assignment_in_range range place n e =
+    if is_within range.low range.high n then Ok (with_state e (with_datum e.state place (datum.Number n))) else Err Range
 
 -- a value into the state variable at a place; a flag takes the truth value
 abbrev pub assignment_in_domain : Domain → ℕ → Value → Effect → Result Effect Fault
@@ -182,11 +189,14 @@ assignment scope name v e = assignment_at scope (place_of name (names_of scope.v
 -- one value more at a port
 abbrev pub with_value_at : Option ℕ → ℤ → Effect → Effect
 with_value_at None n e = e
-with_value_at (Some port) n e = record { state = e.state; sent = slice_set e.sent port (with_copies n 1 (bag_at e.sent port)); goto = e.goto }
+with_value_at (Some port) n e =
+    record { state = e.state; sent = slice_set e.sent port (with_copies n 1 (bag_at e.sent port)); goto = e.goto }
 
 -- a number sent by an output port; the 4,097th of one output is a flood
 abbrev pub sending : Scope → ℕ → Value → Effect → Result Effect Fault
-sending scope port v e = if nat_le GREATEST_COUNT (total_of_all e.sent) then Err Flood else Ok (with_value_at (place_of port scope.outputs) (number_of v) e)
+sending scope port v e =
+    if nat_le GREATEST_COUNT (total_of_all e.sent) then Err Flood
+    else Ok (with_value_at (place_of port scope.outputs) (number_of v) e)
 
 -- how many values a state bag may hold
 abbrev pub capacity_in : Domain → Option ℕ

@@ -1,5 +1,6 @@
 -- What an atomic model declares.
-use Rattle.std.specs.Prelude.{ℕ, ℤ, ◌+◌, ◌==◌, Bool, true, false, ◌&&◌, unwrap_or, slice_index, if◌then◌else◌, List, [], ◌∷◌, ◌++◌, map, filter_map, Option, Some, None, pos, neg_ℤ}
+use Rattle.std.specs.Prelude.{ℕ, ℤ, ◌+◌, ◌==◌, Bool, true, false, ◌&&◌, unwrap_or, slice_index, if◌then◌else◌, List, [], ◌∷◌}
+use Rattle.std.specs.Prelude.{◌++◌, map, filter_map, Option, Some, None, pos, neg_ℤ}
 use Rattle.std.specs.List.{list_any, flat_map}
 use Rattle.dv_syntax.specs.Trees.{PhasesTree, HoldTree, RuleTree, AtomicTree, Expression, Statements, Done, ticks_of}
 use Rattle.dv_syntax.specs.declared.tree.Name.{Name}

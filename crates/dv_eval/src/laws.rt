@@ -9,7 +9,9 @@ ghost use Rattle.dv_syntax.specs.declared.tree.Operator.TheVariants as operator;
 ghost use Rattle.dv_bag.specs.declared.fault.Fault.TheVariants as fault;
 ghost use Rattle.dv_bag.specs.declared.value.Value.TheVariants as outcome;
 ghost use Rattle.dv_eval.specs.Edges.{by_nothing, failing, faulty, greatest, holding, least, minus, number, too_great, value};
-ghost use Rattle.dv_eval.specs.Rows.{add_it, bag, effect_when, effect_with, elapsed_when, for_each, for_each_request, great, least_is_one, left, nested, next_digit, requests, send_it, some_there, two_threes, value_when, value_with};
+ghost use Rattle.dv_eval.specs.Rows.{add_it, bag, effect_when, effect_with, elapsed_when, for_each, for_each_request, great};
+ghost use Rattle.dv_eval.specs.Rows.{least_is_one, left, nested, next_digit, requests, send_it, some_there, two_threes};
+ghost use Rattle.dv_eval.specs.Rows.{value_when, value_with};
 
 /// Numbers have 64 bits and a sign. A quotient is rounded towards 0, and a remainder is what the exact quotient
 /// leaves. Of two operands with faults the left one's fault is the expression's.

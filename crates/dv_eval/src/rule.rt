@@ -8,7 +8,8 @@ ghost use Rattle.dv_bag.specs.declared.state.Datum.TheVariants as datum;
 ghost use Rattle.dv_eval.specs.Copies.{repeated};
 ghost use Rattle.dv_eval.specs.Contexts.{context_of};
 ghost use Rattle.dv_bag.specs.Effects.{with_datum, with_state};
-ghost use Rattle.dv_eval.specs.Meaning.{addition, addition_to, assignment, assignment_in_range, bag_of_name, effect_of, in_loop, meaning, moment_in, removal, repetition, run, sending, with_goto};
+ghost use Rattle.dv_eval.specs.Meaning.{addition, addition_to, assignment, assignment_in_range, bag_of_name, effect_of, in_loop};
+ghost use Rattle.dv_eval.specs.Meaning.{meaning, moment_in, removal, repetition, run, sending, with_goto};
 
 use crate::expression::{bag_of_name, eval, number_of, truth_of};
 use crate::moment::{Context, Moment};

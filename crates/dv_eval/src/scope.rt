@@ -3,7 +3,9 @@
 ghost use Rattle.std.specs.Prelude.{◌≡◌, ◌<◌, ℕ, [], length, slice_get, nat_eq, map, option_map, IfOk, OnOk};
 ghost use Rattle.std.specs.List.{IsDistinct};
 ghost use Rattle.dv_syntax.specs.Trees.{atomic_of, phases_of};
-ghost use Rattle.dv_eval.specs.Scope.{bound_value, inputs_in, names_of, nothing_declared, outputs_in, phases_in, place_of, range_of, scope_of, state_variable_of, state_variables_in, with_name, with_names, with_variable, with_variables};
+ghost use Rattle.dv_eval.specs.Scope.{bound_value, inputs_in, names_of, nothing_declared, outputs_in, phases_in, place_of};
+ghost use Rattle.dv_eval.specs.Scope.{range_of, scope_of, state_variable_of, state_variables_in, with_name, with_names};
+ghost use Rattle.dv_eval.specs.Scope.{with_variable, with_variables};
 
 use dv_syntax::{Atomic, Bound, Declaration, Name, Phases, Variable};
 use indexmap::{IndexMap, IndexSet};
@@ -84,7 +86,12 @@ impl Model for Scope {
 
     ghost Value = { scope.Scope };
 
-    ghost view = { λ e. record { variables = e.variables.entries; phases = e.phases.keys; inputs = e.inputs.keys; outputs = e.outputs.keys } };
+    ghost view = { λ e. record {
+      variables = e.variables.entries;
+      phases = e.phases.keys;
+      inputs = e.inputs.keys;
+      outputs = e.outputs.keys;
+    } };
 }
 
 impl Scope {

@@ -1,23 +1,16 @@
 -- The lists of arrivals: in that of each token stand the targets where the token is, with how often it is there.
-use Rattle.std.proofs.Common.{◌≡◌, ℕ, zero, suc, ◌+◌, ◌<◌, List, [], ◌∷◌, ◌++◌, length, get_or, replicate, ℤ, pos, negsuc, ◌<ℤ◌, refl, ap, sym, ◌∙◌, arith}
+use Rattle.std.proofs.Common.{◌≡◌, ℕ, zero, suc, ◌+◌, ◌<◌, List, [], ◌∷◌, ◌++◌, length, get_or, replicate, ℤ, pos, negsuc, refl, ap, sym, ◌∙◌, arith}
 use Rattle.std.specs.Prelude.{fold, Option, Some, None}
 use Rattle.std.specs.List.{cons_option, filter_map, flat_map}
-use Rattle.std.specs.Ordering.{int_cmp}
-use Rattle.std.proofs.lemmas.Cmp.{int_ranked, by_ranked}
 use Rattle.std.proofs.lemmas.Int.{ints}
 use Rattle.std.proofs.lemmas.List.{append-nil, append_assoc, get_or-replicate, get_or-set_same, get_or-set_other, length-replicate, length-set}
 use Rattle.dv_bag.specs.Bag.{Counts, IsBag, count_of}
-use Rattle.dv_bag.proofs.Monoid.{count_below}
+use Rattle.dv_bag.proofs.Monoid.{by_order, count_below}
 use Rattle.dv_bag.proofs.Pairs.{bag_from_above, cmp_equal, cmp_greater, cmp_less}
 use Rattle.dv_flat.specs.Links.{direct_link, entry_link, exit_link}
 use Rattle.dv_flat.specs.Tokens.{arrival, direct_to, entry_to, exit_to, links_of, with_arrival, with_arrivals}
 use Rattle.dv_flat.specs.declared.arrivals.Arrival.{Arrival}
 use Rattle.dv_flat.specs.declared.link.ComponentPort.{ComponentPort}
-
--- the three places of a number beside another
-by_order : {G : Type 0} (v w : ℤ) → (v <ℤ w → G) → (v ≡ w → G) → (w <ℤ v → G) → G
-by_order v w less equal greater =
-    by_ranked _ _ _ (int_cmp v w) (int_ranked v w _ refl) (λ e p. less p) (λ e p. equal p) (λ e p. greater p)
 
 module _ {T : Type 0} where
   length-with_arrival : (v : ℤ) (a : Arrival T) (lists : List (List (Arrival T))) → length (with_arrival v a lists) ≡ length lists

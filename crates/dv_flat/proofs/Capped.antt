@@ -1,9 +1,10 @@
 -- Sums of products, as counts of bags keep them: a count above the greatest one stands as that.
-use Rattle.std.proofs.Common.{◌≡◌, ℕ, zero, suc, ◌+◌, ◌-◌, ◌*◌, ◌^◌, ◌<◌, ◌≤◌, List, [], ◌∷◌, ◌++◌, refl, ap, ◌∙◌, arith, ⊎_elim}
-use Rattle.std.proofs.Math.Nat.{mul-le-mul_left}
-use Rattle.std.proofs.lemmas.Bool.{cases_lt}
-use Rattle.std.specs.List.{flat_map}
+use Rattle.std.proofs.Common.{◌≡◌, ℕ, ◌+◌, ◌*◌, List, [], ◌∷◌, ◌++◌, refl, ap, ◌∙◌, arith}
+use Rattle.std.specs.Prelude.{Option}
+use Rattle.std.specs.List.{cons_option, filter_map, flat_map, sum_by}
+use Rattle.std.proofs.lemmas.List.Sums.{sum_by-cons}
 use Rattle.dv_bag.specs.Bag.{capped}
+use Rattle.dv_flat.proofs.Alike.{alike_times}
 
 -- the sum of a number for each item
 abbrev pub total_by : {X : Type 0} → (X → ℕ) → List X → ℕ
@@ -33,18 +34,22 @@ pub total_by-times : {X : Type 0} (n : ℕ) (f : X → ℕ) (xs : List X) → to
 total_by-times n f [] = omega arith
 total_by-times n f (x ∷ xs) = omega (arith, total_by-times n f xs)
 
--- capping a part of a sum or a factor of a product changes nothing that is kept
-greater : (m w : ℕ) → 2 ^ 64 ≤ m → 2 ^ 64 ≤ m * suc w
-greater m w h = omega (arith, h)
+-- over what a list of options has
+pub total_by-filter_map : {X L : Type 0} (f : L → ℕ) (link : X → Option L) (n : X → ℕ)
+    → ((x : X) (rest : List L) → total_by f (cons_option (link x) rest) ≡ n x + total_by f rest) → (xs : List X)
+    → total_by f (filter_map link xs) ≡ total_by n xs
+total_by-filter_map f link n one [] = refl
+total_by-filter_map f link n one (x ∷ xs) =
+    one x (filter_map link xs) ∙ ap (λ rest. n x + rest) (total_by-filter_map f link n one xs)
 
+-- it is the library's sum
+pub sum_is_total : {X : Type 0} (f : X → ℕ) (xs : List X) → sum_by f xs ≡ total_by f xs
+sum_is_total f [] = refl
+sum_is_total f (x ∷ xs) = sum_by-cons f x xs ∙ ap (λ n. f x + n) (sum_is_total f xs)
+
+-- capping a part of a sum or a factor of a product changes nothing that is kept
 pub capped_product : (m w : ℕ) → capped (capped m * w) ≡ capped (m * w)
-capped_product m zero = omega arith
-capped_product m (suc w) =
-    ⊎_elim (λ (small : m < 2 ^ 64). ap (λ n. capped (n * suc w)) (let same : capped m ≡ m = omega (arith, small) in same))
-    (λ (great : 2 ^ 64 ≤ m).
-    let kept : capped m ≡ 2 ^ 64 - 1 = omega (arith, great) in
-    omega (arith, kept, mul-le-mul_left (2 ^ 64 - 1) (let some : 1 ≤ suc w = omega arith in some), greater m w great))
-    (cases_lt m (2 ^ 64))
+capped_product m w = alike_times (capped m) m w (omega arith)
 
 pub capped_sum : (m n : ℕ) → capped (capped m + capped n) ≡ capped (m + n)
 capped_sum m n = omega arith

@@ -2,10 +2,9 @@
 use Rattle.std.proofs.Common.{◌≡◌, ℕ, zero, suc, ◌+◌, Ordering, [], ◌∷◌, ℤ, pos, ◌<ℤ◌, refl, ap, arith}
 use Rattle.std.specs.Ordering.{int_cmp, match_ordering}
 use Rattle.std.specs.declared.cmp.Ordering.TheVariants.{Less, Equal, Greater}
-use Rattle.std.proofs.lemmas.Cmp.{int_ranked, by_ranked}
 use Rattle.std.proofs.lemmas.Int.{ints}
 use Rattle.dv_bag.specs.Bag.{Counts, IsAbove, IsBag, capped, count_of, with_copies, with_some, union}
-use Rattle.dv_bag.proofs.Monoid.{count_kept}
+use Rattle.dv_bag.proofs.Monoid.{by_order, count_kept}
 use Rattle.dv_bag.proofs.Pairs.{bag_from_above, cmp_less, cmp_equal, cmp_greater}
 use Rattle.dv_flat.proofs.Alike.{Alike}
 
@@ -36,9 +35,6 @@ sum_if : (o : Ordering) (m n : ℕ) → Alike (copies_if o (capped (m + n))) (co
 sum_if Less m n = refl
 sum_if Equal m n = omega arith
 sum_if Greater m n = refl
-
-by_order : {G : Type 0} (v w : ℤ) → (v <ℤ w → G) → (v ≡ w → G) → (w <ℤ v → G) → G
-by_order v w less equal greater = by_ranked _ _ _ (int_cmp v w) (int_ranked v w _ refl) (λ e p. less p) (λ e p. equal p) (λ e p. greater p)
 
 zeros_some : (v : ℤ) (n : ℕ) (b : Counts) → Alike (zeros (with_some v n b)) (copies_if (int_cmp (pos 0) v) n + zeros b)
 zeros_some v n [] = let one = kept_if (int_cmp (pos 0) v) n in omega (arith, one)

@@ -9,6 +9,7 @@ pub mod Found
 pub mod Levels
 pub mod LinkCounts
 pub mod LinkSums
+pub mod LinkTotals
 pub mod Loops
 pub mod Picked
 pub mod PortLists

@@ -1,9 +1,8 @@
 -- The links of a text, each counted as often as it has copies, are as many as there are copies that arrive and leave where each
 -- source sends one value.
 use Rattle.std.proofs.Common.{◌≡◌, ℕ, zero, suc, ◌+◌, List, [], ◌∷◌, length, map, get_or, replicate, refl, ap, sym, ◌∙◌, subst, arith}
-use Rattle.std.specs.List.{All, cons_option, filter_map, sum_by}
+use Rattle.std.specs.List.{All, sum_by}
 use Rattle.std.proofs.lemmas.List.Elements.{All-head, All-tail}
-use Rattle.std.proofs.lemmas.List.Sums.{sum_by-cons}
 use Rattle.dv_syntax.specs.Trees.{FileTree}
 use Rattle.dv_bag.specs.Bag.{Counts, IsBag, bag_at, union}
 use Rattle.dv_bag.specs.BagLists.{AllAreBags, AreBags}
@@ -22,25 +21,9 @@ use Rattle.dv_flat.specs.declared.link.ExitLink.{ExitLink}
 use Rattle.dv_flat.proofs.Alike.{Alike}
 use Rattle.dv_flat.proofs.Copies.{copies, copies_counted, copies_union}
 use Rattle.dv_flat.proofs.Sources.{AllSilent, IsSilent, all_left, all_outputs, all_ports, alone_are_bags, sent_are_bags, unite_left}
-use Rattle.dv_flat.proofs.Sums.{sum_by-filter_map, sum_by-flat_map, sums_none, sums_same, sums_united}
+use Rattle.dv_flat.proofs.LinkTotals.{links_sum}
+use Rattle.dv_flat.proofs.Sums.{sums_none, sums_united}
 use Rattle.dv_flat.proofs.Trees.{one_at_each, one_value}
-
--- ---- Links as copies
-
-direct_counted : (from to : ComponentPort) (n : ℕ) (rest : List DirectLink) →
-    sum_by (λ (l : DirectLink). l.copies) (cons_option (direct_link from to n) rest) ≡ n + sum_by (λ (l : DirectLink). l.copies) rest
-direct_counted from to zero rest = omega arith
-direct_counted from to (suc n) rest = sum_by-cons (λ (l : DirectLink). l.copies) (record { from = from; to = to; copies = suc n }) rest
-
-entry_counted : (from : ℕ) (to : ComponentPort) (n : ℕ) (rest : List EntryLink) →
-    sum_by (λ (l : EntryLink). l.copies) (cons_option (entry_link from to n) rest) ≡ n + sum_by (λ (l : EntryLink). l.copies) rest
-entry_counted from to zero rest = omega arith
-entry_counted from to (suc n) rest = sum_by-cons (λ (l : EntryLink). l.copies) (record { from = from; to = to; copies = suc n }) rest
-
-exit_counted : (from : ComponentPort) (to n : ℕ) (rest : List ExitLink) →
-    sum_by (λ (l : ExitLink). l.copies) (cons_option (exit_link from to n) rest) ≡ n + sum_by (λ (l : ExitLink). l.copies) rest
-exit_counted from to zero rest = omega arith
-exit_counted from to (suc n) rest = sum_by-cons (λ (l : ExitLink). l.copies) (record { from = from; to = to; copies = suc n }) rest
 
 -- ---- What arrives and what leaves, in all
 
@@ -134,57 +117,40 @@ silence_leaves f sent all =
 pub direct_sum : (f : FileTree) →
     Alike (sum_by (λ (l : DirectLink). l.copies) (direct_links f)) (arrival_count f (one_at_each (instances f)) [])
 direct_sum f =
-    let g : DirectLink → ℕ = λ l. l.copies in
-    let links : ComponentPort → List DirectLink =
-    λ from. filter_map (λ to. direct_link from to (direct_copies f from to)) (input_ports f) in
-    let alone : ComponentPort → ℕ = λ from. arrival_count f (sent_alone from) [] in
-    let each = sums_same (λ from. sum_by g (links from)) alone
-    (λ from.
-    sum_by-filter_map g (λ to. direct_link from to (direct_copies f from to)) (direct_copies f from)
-    (λ to. direct_counted from to (direct_copies f from to)) (input_ports f)
-    ∙ sums_same (direct_copies f from) (arrival_at (arrives f (sent_alone from) []))
-    (λ to. copies_counted _ (bags_arrive f (sent_alone from) [] (sent_are_bags from.component from.port) (λ port. tt) to.component to.port))
-    (input_ports f)) (output_ports f) in
-    let apart = sum_by-flat_map g links (output_ports f) in
+    let each =
+    links_sum direct_link (λ from to n. record { from = from; to = to; copies = n }) (direct_copies f) (λ (l : DirectLink). l.copies)
+    (λ from to n. n) (λ from to. refl) (λ from to n. refl) (λ from to. refl) (λ from to n. refl)
+    (λ from. arrival_at (arrives f (sent_alone from) []))
+    (λ from to. copies_counted _ (bags_arrive f (sent_alone from) [] (sent_are_bags from.component from.port) (λ port. tt)
+    to.component to.port))
+    (output_ports f) (input_ports f) in
     let all =
     all_outputs (λ sent. arrival_count f sent []) (λ a b c both. arrivals_unite f [] [] [] a b c (unite_left [] (λ port. tt)) both)
     (λ sent none. silence_arrives f sent [] none (λ port. refl)) (instances f) in
-    omega (arith, each, apart, all)
+    omega (arith, each, all)
 
 pub entry_sum : (f : FileTree) →
     Alike (sum_by (λ (l : EntryLink). l.copies) (entry_links f)) (arrival_count f [] (replicate (length (root_inputs f)) one_value))
 entry_sum f =
-    let g : EntryLink → ℕ = λ l. l.copies in
-    let links : ℕ → List EntryLink =
-    λ from. filter_map (λ to. entry_link from to (entry_copies f from to)) (input_ports f) in
-    let alone : ℕ → ℕ = λ from. arrival_count f [] (alone_at from) in
-    let each = sums_same (λ from. sum_by g (links from)) alone
-    (λ from.
-    sum_by-filter_map g (λ to. entry_link from to (entry_copies f from to)) (entry_copies f from)
-    (λ to. entry_counted from to (entry_copies f from to)) (input_ports f)
-    ∙ sums_same (entry_copies f from) (arrival_at (arrives f [] (alone_at from)))
-    (λ to. copies_counted _ (bags_arrive f [] (alone_at from) (λ k port. tt) (alone_are_bags from) to.component to.port))
-    (input_ports f)) (root_ports (root_inputs f)) in
-    let apart = sum_by-flat_map g links (root_ports (root_inputs f)) in
+    let each =
+    links_sum entry_link (λ from to n. record { from = from; to = to; copies = n }) (entry_copies f) (λ (l : EntryLink). l.copies)
+    (λ from to n. n) (λ from to. refl) (λ from to n. refl) (λ from to. refl) (λ from to n. refl)
+    (λ from. arrival_at (arrives f [] (alone_at from)))
+    (λ from to. copies_counted _ (bags_arrive f [] (alone_at from) (λ k port. tt) (alone_are_bags from) to.component to.port))
+    (root_ports (root_inputs f)) (input_ports f) in
     let all =
     all_ports (λ input. arrival_count f [] input) (λ a b c both. arrivals_unite f a b c [] [] [] both (λ k. unite_left [] (λ port. tt)))
     (λ input none. silence_arrives f [] input (λ k port. refl) none) (length (root_inputs f)) in
-    omega (arith, each, apart, all)
+    omega (arith, each, all)
 
 pub exit_sum : (f : FileTree) → Alike (sum_by (λ (l : ExitLink). l.copies) (exit_links f)) (exit_count f (one_at_each (instances f)))
 exit_sum f =
-    let g : ExitLink → ℕ = λ l. l.copies in
-    let ports = root_ports (root_outputs f) in
-    let links : ComponentPort → List ExitLink =
-    λ from. filter_map (λ to. exit_link from to (exit_copies f from to)) ports in
-    let alone : ComponentPort → ℕ = λ from. exit_count f (sent_alone from) in
-    let each = sums_same (λ from. sum_by g (links from)) alone
-    (λ from.
-    sum_by-filter_map g (λ to. exit_link from to (exit_copies f from to)) (exit_copies f from)
-    (λ to. exit_counted from to (exit_copies f from to)) ports
-    ∙ sums_same (exit_copies f from) (exit_at f (sent_alone from))
-    (λ to. copies_counted _ (bags_leave f (sent_alone from) (sent_are_bags from.component from.port) to)) ports) (output_ports f) in
-    let apart = sum_by-flat_map g links (output_ports f) in
+    let each =
+    links_sum exit_link (λ from to n. record { from = from; to = to; copies = n }) (exit_copies f) (λ (l : ExitLink). l.copies)
+    (λ from to n. n) (λ from to. refl) (λ from to n. refl) (λ from to. refl) (λ from to n. refl)
+    (λ from. exit_at f (sent_alone from))
+    (λ from to. copies_counted _ (bags_leave f (sent_alone from) (sent_are_bags from.component from.port) to))
+    (output_ports f) (root_ports (root_outputs f)) in
     let all =
     all_outputs (exit_count f) (λ a b c both. exits_unite f a b c both) (λ sent none. silence_leaves f sent none) (instances f) in
-    omega (arith, each, apart, all)
+    omega (arith, each, all)

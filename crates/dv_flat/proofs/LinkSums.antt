@@ -1,7 +1,7 @@
 -- What links carry, as sums over the ports from which they lead.
-use Rattle.std.proofs.Common.{◌≡◌, ℕ, zero, suc, ◌+◌, ◌*◌, ◌<◌, ◌≤◌, Bool, true, false, cond, eqb, ltb, List, [], ◌∷◌, length, map, get_or, ℤ, refl, ap, sym, ◌∙◌, subst, arith, ⊎_elim}
+use Rattle.std.proofs.Common.{◌≡◌, ℕ, zero, suc, ◌+◌, ◌*◌, ◌<◌, ◌≤◌, Bool, true, false, cond, eqb, ltb, List, [], ◌∷◌, length, map, get_or, Option, Some, None, ℤ, refl, ap, sym, ◌∙◌, subst, arith, ⊎_elim}
 use Rattle.std.specs.Prelude.{fold, filter}
-use Rattle.std.specs.List.{cons_option, filter_map}
+use Rattle.std.specs.List.{filter_map, flat_map}
 use Rattle.std.specs.Ordering.{int_cmp, match_ordering}
 use Rattle.std.specs.declared.cmp.Ordering.{Ordering}
 use Rattle.std.specs.declared.cmp.Ordering.TheVariants.{Less, Equal, Greater}
@@ -24,7 +24,8 @@ use Rattle.dv_flat.specs.declared.link.ComponentPort.{ComponentPort}
 use Rattle.dv_flat.specs.declared.link.DirectLink.{DirectLink}
 use Rattle.dv_flat.specs.declared.link.EntryLink.{EntryLink}
 use Rattle.dv_flat.specs.declared.link.ExitLink.{ExitLink}
-use Rattle.dv_flat.proofs.Capped.{total_by, total_by-flat_map, total_by-same, total_by-times}
+use Rattle.dv_flat.proofs.Capped.{total_by, total_by-same, total_by-times}
+use Rattle.dv_flat.proofs.LinkTotals.{links_total}
 use Rattle.dv_flat.proofs.Picked.{occurs_once, picked, same_port-true, tick, ticks_within}
 use Rattle.dv_flat.proofs.Superposed.{everybody, arrives_superposed, leaves_superposed}
 
@@ -113,111 +114,51 @@ module _ {L : Type 0} (copies : L → ℕ) (carries : L → Counts) (are_bags : 
   carried [] a h = record { bag = h; counts = λ v. let kept = count_kept v a h in omega arith }
   carried (l ∷ links) a h = carried_first (test l) l links a refl h (carried links)
 
--- links from one port, to all that it reaches
-direct_first : (test : ComponentPort → Bool) (from to : ComponentPort) (w n : ℕ) (links : List DirectLink) (count : DirectLink → ℕ) →
-    ((m : ℕ) → count (record { from = from; to = to; copies = m }) ≡ tick (test to) * (m * w)) →
-    total_by count (cons_option (direct_link from to n) links) ≡ tick (test to) * (n * w) + total_by count links
-direct_first test from to w zero links count e = omega arith
-direct_first test from to w (suc n) links count e = ap (λ k. k + total_by count links) (e (suc n))
+-- the sum over links to a port is one over the ports from which they lead
+module _ {P Q L : Type 0} (link : P → Q → ℕ → Option L) (made : P → Q → ℕ → L) (number : P → Q → ℕ) (count : L → ℕ)
+    (weight : P → ℕ) (test : Q → Bool) (none : (from : P) (x : Q) → link from x 0 ≡ None)
+    (some : (from : P) (x : Q) (n : ℕ) → link from x (suc n) ≡ Some (made from x (suc n)))
+    (counted : (from : P) (x : Q) (n : ℕ) → count (made from x n) ≡ tick (test x) * (n * weight from)) where
+  sum_of_links : (to : Q) → ((x : Q) → test x ≡ true → x ≡ to) → (froms : List P) (tos : List Q)
+      → total_by count (flat_map (λ from. filter_map (λ x. link from x (number from x)) tos) froms)
+      ≡ total_by (λ x. tick (test x)) tos * total_by (λ from. number from to * weight from) froms
+  sum_of_links to is froms tos =
+      let ticks = total_by (λ x. tick (test x)) tos in
+      links_total link made number count (λ from x n. tick (test x) * (n * weight from)) none some (λ from x. omega arith) counted
+      froms tos
+      ∙ total_by-same (λ from. total_by (λ x. tick (test x) * (number from x * weight from)) tos)
+      (λ from. ticks * (number from to * weight from))
+      (λ from. picked test to is (λ x. number from x * weight from) tos) froms
+      ∙ total_by-times ticks (λ from. number from to * weight from) froms
 
-entry_first : (test : ComponentPort → Bool) (from : ℕ) (to : ComponentPort) (w n : ℕ) (links : List EntryLink) (count : EntryLink → ℕ) →
-    ((m : ℕ) → count (record { from = from; to = to; copies = m }) ≡ tick (test to) * (m * w)) →
-    total_by count (cons_option (entry_link from to n) links) ≡ tick (test to) * (n * w) + total_by count links
-entry_first test from to w zero links count e = omega arith
-entry_first test from to w (suc n) links count e = ap (λ k. k + total_by count links) (e (suc n))
-
-exit_first : (test : ℕ → Bool) (from : ComponentPort) (to w n : ℕ) (links : List ExitLink) (count : ExitLink → ℕ) →
-    ((m : ℕ) → count (record { from = from; to = to; copies = m }) ≡ tick (test to) * (m * w)) →
-    total_by count (cons_option (exit_link from to n) links) ≡ tick (test to) * (n * w) + total_by count links
-exit_first test from to w zero links count e = omega arith
-exit_first test from to w (suc n) links count e = ap (λ k. k + total_by count links) (e (suc n))
-
--- the sum over links is one over the ports from which they lead
 module _ (f : FileTree) (by_output : ComponentPort → ℕ) where
-  module _ (to : ComponentPort) where
-    abbrev test_to : ComponentPort → Bool
-    test_to x = same_port x to
+  direct_sum : (to : ComponentPort)
+      → total_by (λ (l : DirectLink). tick (same_port l.to to) * (l.copies * by_output l.from)) (direct_links f)
+      ≡ total_by (λ x. tick (same_port x to)) (input_ports f) * total_by (λ from. direct_copies f from to * by_output from) (output_ports f)
+  direct_sum to =
+      sum_of_links direct_link (λ from x n. record { from = from; to = x; copies = n }) (direct_copies f)
+      (λ (l : DirectLink). tick (same_port l.to to) * (l.copies * by_output l.from)) by_output (λ x. same_port x to)
+      (λ from x. refl) (λ from x n. refl) (λ from x n. refl) to (λ x e. same_port-true x to e) (output_ports f) (input_ports f)
 
-    abbrev by_direct : DirectLink → ℕ
-    by_direct l = tick (test_to l.to) * (l.copies * by_output l.from)
+  exit_sum : (to : ℕ)
+      → total_by (λ (l : ExitLink). tick (eqb l.to to) * (l.copies * by_output l.from)) (exit_links f)
+      ≡ total_by (λ x. tick (eqb x to)) (root_ports (root_outputs f))
+      * total_by (λ from. exit_copies f from to * by_output from) (output_ports f)
+  exit_sum to =
+      sum_of_links exit_link (λ from x n. record { from = from; to = x; copies = n }) (exit_copies f)
+      (λ (l : ExitLink). tick (eqb l.to to) * (l.copies * by_output l.from)) by_output (λ x. eqb x to)
+      (λ from x. refl) (λ from x n. refl) (λ from x n. refl) to (λ x e. eqb-true x to e) (output_ports f)
+      (root_ports (root_outputs f))
 
-    direct_from : (from : ComponentPort) (tos : List ComponentPort) →
-        total_by by_direct (filter_map (λ x. direct_link from x (direct_copies f from x)) tos)
-        ≡ total_by (λ x. tick (test_to x) * (direct_copies f from x * by_output from)) tos
-    direct_from from [] = refl
-    direct_from from (x ∷ tos) =
-        direct_first test_to from x (by_output from) (direct_copies f from x)
-        (filter_map (λ y. direct_link from y (direct_copies f from y)) tos) by_direct (λ m. refl)
-        ∙ ap (λ n. tick (test_to x) * (direct_copies f from x * by_output from) + n) (direct_from from tos)
-
-    pub direct_sum : total_by by_direct (direct_links f)
-        ≡ total_by (λ x. tick (test_to x)) (input_ports f) * total_by (λ from. direct_copies f from to * by_output from) (output_ports f)
-    direct_sum =
-        let ticks = total_by (λ x. tick (test_to x)) (input_ports f) in
-        total_by-flat_map by_direct (λ from. filter_map (λ x. direct_link from x (direct_copies f from x)) (input_ports f)) (output_ports f)
-        ∙ (total_by-same (λ from. total_by by_direct (filter_map (λ x. direct_link from x (direct_copies f from x)) (input_ports f)))
-        (λ from. ticks * (direct_copies f from to * by_output from))
-        (λ from. direct_from from (input_ports f)
-        ∙ picked test_to to (λ x e. same_port-true x to e) (λ x. direct_copies f from x * by_output from) (input_ports f)) (output_ports f)
-        ∙ total_by-times ticks (λ from. direct_copies f from to * by_output from) (output_ports f))
-
-  module _ (to : ℕ) where
-    abbrev test_out : ℕ → Bool
-    test_out x = eqb x to
-
-    abbrev by_exit : ExitLink → ℕ
-    by_exit l = tick (test_out l.to) * (l.copies * by_output l.from)
-
-    exit_from : (from : ComponentPort) (tos : List ℕ) →
-        total_by by_exit (filter_map (λ x. exit_link from x (exit_copies f from x)) tos)
-        ≡ total_by (λ x. tick (test_out x) * (exit_copies f from x * by_output from)) tos
-    exit_from from [] = refl
-    exit_from from (x ∷ tos) =
-        exit_first test_out from x (by_output from) (exit_copies f from x)
-        (filter_map (λ y. exit_link from y (exit_copies f from y)) tos) by_exit (λ m. refl)
-        ∙ ap (λ n. tick (test_out x) * (exit_copies f from x * by_output from) + n) (exit_from from tos)
-
-    pub exit_sum : total_by by_exit (exit_links f)
-        ≡ total_by (λ x. tick (test_out x)) (root_ports (root_outputs f))
-        * total_by (λ from. exit_copies f from to * by_output from) (output_ports f)
-    exit_sum =
-        let outs = root_ports (root_outputs f) in
-        let ticks = total_by (λ x. tick (test_out x)) outs in
-        total_by-flat_map by_exit (λ from. filter_map (λ x. exit_link from x (exit_copies f from x)) outs) (output_ports f)
-        ∙ (total_by-same (λ from. total_by by_exit (filter_map (λ x. exit_link from x (exit_copies f from x)) outs))
-        (λ from. ticks * (exit_copies f from to * by_output from))
-        (λ from. exit_from from outs
-        ∙ picked test_out to (λ x e. eqb-true x to e) (λ x. exit_copies f from x * by_output from) outs) (output_ports f)
-        ∙ total_by-times ticks (λ from. exit_copies f from to * by_output from) (output_ports f))
-
-module _ (f : FileTree) (by_entry : ℕ → ℕ) (to : ComponentPort) where
-  abbrev test_in : ComponentPort → Bool
-  test_in x = same_port x to
-
-  abbrev by_entry_link : EntryLink → ℕ
-  by_entry_link l = tick (test_in l.to) * (l.copies * by_entry l.from)
-
-  entry_from : (from : ℕ) (tos : List ComponentPort) →
-      total_by by_entry_link (filter_map (λ x. entry_link from x (entry_copies f from x)) tos)
-      ≡ total_by (λ x. tick (test_in x) * (entry_copies f from x * by_entry from)) tos
-  entry_from from [] = refl
-  entry_from from (x ∷ tos) =
-      entry_first test_in from x (by_entry from) (entry_copies f from x)
-      (filter_map (λ y. entry_link from y (entry_copies f from y)) tos) by_entry_link (λ m. refl)
-      ∙ ap (λ n. tick (test_in x) * (entry_copies f from x * by_entry from) + n) (entry_from from tos)
-
-  pub entry_sum : total_by by_entry_link (entry_links f)
-      ≡ total_by (λ x. tick (test_in x)) (input_ports f)
-      * total_by (λ from. entry_copies f from to * by_entry from) (root_ports (root_inputs f))
-  entry_sum =
-      let ins = root_ports (root_inputs f) in
-      let ticks = total_by (λ x. tick (test_in x)) (input_ports f) in
-      total_by-flat_map by_entry_link (λ from. filter_map (λ x. entry_link from x (entry_copies f from x)) (input_ports f)) ins
-      ∙ (total_by-same (λ from. total_by by_entry_link (filter_map (λ x. entry_link from x (entry_copies f from x)) (input_ports f)))
-      (λ from. ticks * (entry_copies f from to * by_entry from))
-      (λ from. entry_from from (input_ports f)
-      ∙ picked test_in to (λ x e. same_port-true x to e) (λ x. entry_copies f from x * by_entry from) (input_ports f)) ins
-      ∙ total_by-times ticks (λ from. entry_copies f from to * by_entry from) ins)
+entry_sum : (f : FileTree) (by_entry : ℕ → ℕ) (to : ComponentPort)
+    → total_by (λ (l : EntryLink). tick (same_port l.to to) * (l.copies * by_entry l.from)) (entry_links f)
+    ≡ total_by (λ x. tick (same_port x to)) (input_ports f)
+    * total_by (λ from. entry_copies f from to * by_entry from) (root_ports (root_inputs f))
+entry_sum f by_entry to =
+    sum_of_links entry_link (λ from x n. record { from = from; to = x; copies = n }) (entry_copies f)
+    (λ (l : EntryLink). tick (same_port l.to to) * (l.copies * by_entry l.from)) by_entry (λ x. same_port x to)
+    (λ from x. refl) (λ from x n. refl) (λ from x n. refl) to (λ x e. same_port-true x to e) (root_ports (root_inputs f))
+    (input_ports f)
 
 -- a test, by cases
 tick_cases : (p n : ℕ) {G : Type 0} → (p < n → tick (ltb p n) ≡ 1 → G) → (n ≤ p → tick (ltb p n) ≡ 0 → G) → G

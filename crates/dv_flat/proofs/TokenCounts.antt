@@ -27,7 +27,7 @@ lengths [] k = refl
 lengths (bags ∷ all) zero = refl
 lengths (bags ∷ all) (suc k) = lengths all k
 
-pub lengths_kept : (sent : List (List Counts)) (c p : ℕ) (b : Counts) →
+lengths_kept : (sent : List (List Counts)) (c p : ℕ) (b : Counts) →
     map length (set sent c (set (get_or sent c []) p b)) ≡ map length sent
 lengths_kept [] c p b = refl
 lengths_kept (bags ∷ rest) zero p b = ap (λ n. n ∷ map length rest) (length-set bags p b)
@@ -82,7 +82,7 @@ module _ (sent : List (List Counts)) (are_bags : AllAreBags sent) (s c p : ℕ) 
       (cases_Bool (eqb k c))
 
   -- what is sent are still bags
-  pub put_bags : AllAreBags (with_token sent s (port_at c p))
+  put_bags : AllAreBags (with_token sent s (port_at c p))
   put_bags k port =
       ⊎_elim
       (λ (e : same_port (port_at k port) (port_at c p) ≡ true).
@@ -107,7 +107,7 @@ module _ (sent : List (List Counts)) (are_bags : AllAreBags sent) (s c p : ℕ) 
       (cases_Bool (eqb s t))
 
   -- a token comes to its port once more
-  pub put_counted : (t k port : ℕ) →
+  put_counted : (t k port : ℕ) →
       count_of (pos t) (bag_at (get_or (with_token sent s (port_at c p)) k []) port)
       ≡ capped
       (count_of (pos t) (bag_at (get_or sent k []) port) + tick (eqb s t) * tick (same_port (port_at k port) (port_at c p)))
@@ -151,14 +151,14 @@ none_standing t x s (from ∷ froms) h =
     let other : tick (eqb s t) ≡ 0 = grind (arith, nat_tests) in
     omega (arith, ap (λ n. n * tick (same_port x from)) other, none_standing t x (suc s) froms (omega (arith, h)))
 
-pub standing_past : (t : ℕ) (x : ComponentPort) (s : ℕ) (froms : List ComponentPort) → s + length froms ≤ t →
+standing_past : (t : ℕ) (x : ComponentPort) (s : ℕ) (froms : List ComponentPort) → s + length froms ≤ t →
     standing t x s froms ≡ 0
 standing_past t x s [] h = refl
 standing_past t x s (from ∷ froms) h =
     let other : tick (eqb s t) ≡ 0 = grind (arith, nat_tests) in
     omega (arith, ap (λ n. n * tick (same_port x from)) other, standing_past t x (suc s) froms (omega (arith, h)))
 
-pub standing_at : (t : ℕ) (x : ComponentPort) (s j : ℕ) (froms : List ComponentPort) (d : ComponentPort) → t ≡ s + j →
+standing_at : (t : ℕ) (x : ComponentPort) (s j : ℕ) (froms : List ComponentPort) (d : ComponentPort) → t ≡ s + j →
     j < length froms →
     standing t x s froms ≡ tick (same_port x (get_or froms j d))
 standing_at t x s j [] d e within = absurd (omega (arith, within))

@@ -1,7 +1,7 @@
 -- Tokens at the ports of components, one after the other.
 use Rattle.std.proofs.Common.{◌≡◌, ℕ, suc, ◌+◌, ◌-◌, ◌<◌, List, [], ◌∷◌, ◌++◌, length, set, replicate, drop, ℤ, pos, refl, ap, sym, ◌∙◌, arith}
 use Rattle.std.proofs.Math.Seq.{get_or-append_seam}
-use Rattle.std.proofs.lemmas.List.{append-nil, append_assoc, length-append, length-replicate, set_at}
+use Rattle.std.proofs.lemmas.List.{append_assoc, length-append, length-replicate, set_at}
 use Rattle.std.proofs.lemmas.List.FromFn.{length-map-range_with_len, map-range_with_len_more}
 use Rattle.dv_eval.specs.Scope.{Scope}
 use Rattle.dv_bag.specs.Bag.{Counts, bag_at, with_copies}
@@ -41,17 +41,6 @@ port_within first port ports bags within is =
       length-map-range_with_len token first port,
       length-replicate {A = Counts} (ports - port) [],
     )
-
--- before the first port, and behind the last
-pub none_put : (first ports : ℕ) → replicate ports [] ≡ tokens_from first 0 ++ replicate (ports - 0) []
-none_put first ports = ap (λ n. replicate {A = Counts} n []) (let same : ports ≡ ports - 0 = omega arith in same)
-
-pub all_put : (first port ports : ℕ) (bags : List Counts) → port ≡ ports →
-    bags ≡ tokens_from first port ++ replicate (ports - port) [] → bags ≡ tokens_from first ports
-all_put first port ports bags e is =
-    is
-    ∙ (ap (λ n. tokens_from first port ++ replicate n []) (let none : ports - port ≡ 0 = omega (arith, e) in none)
-    ∙ (append-nil (tokens_from first port) ∙ ap (tokens_from first) e))
 
 -- the silence of one component more
 pub silence_step : {is : List Instance} {k : ℕ} {s : Scope} (at : IsAt is k s) (n : ℕ) (before after all : List (List Counts)) →

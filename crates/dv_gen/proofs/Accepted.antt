@@ -7,7 +7,9 @@ use Rattle.dv_syntax.specs.Trees.{AtomicTree, HoldTree, RuleTree, Expression, St
 use Rattle.dv_syntax.specs.declared.tree.Name.{Name}
 use Rattle.dv_bag.specs.declared.value.ValueType.TheVariants.{Number, Truth}
 use Rattle.dv_check.specs.Names.{refusal_if}
-use Rattle.dv_check.specs.Rules.{assignment_refusals, atomic_refusals, change_refusals, changed_bag_refusals, hold_refusals, is_output_rule, known_in, known_in_loop, known_in_rule, loop_variable_refusals, phase_refusals, rule_refusals, sent_port_refusals, statements_refusals, ticks_refusals}
+use Rattle.dv_check.specs.Rules.{assignment_refusals, atomic_refusals, change_refusals, changed_bag_refusals, hold_refusals}
+use Rattle.dv_check.specs.Rules.{is_output_rule, known_in, known_in_loop, known_in_rule, loop_variable_refusals, phase_refusals}
+use Rattle.dv_check.specs.Rules.{rule_refusals, sent_port_refusals, statements_refusals, ticks_refusals}
 use Rattle.dv_check.specs.Types.{Known, bag_name_refusals, is_bag, place_refusals, type_of_name, value_refusals}
 use Rattle.dv_check.proofs.Accepted.{both_nil, not_false, not_refused}
 use Rattle.dv_accepted.proofs.Fitting.{parts_of_none}

@@ -1,5 +1,5 @@
 -- A choice between blocks: where the second one is empty it is none.
-use Rattle.std.proofs.Common.{◌≡◌, ℕ, zero, suc, Bool, true, false, List, [], ◌∷◌, length, refl}
+use Rattle.std.proofs.Common.{◌≡◌, ℕ, Bool, true, false, List, [], ◌∷◌, length, refl}
 use Rattle.dv_syntax.specs.declared.tree.Stmt.{Stmt}
 use Rattle.dv_syntax.specs.declared.tree.Stmt as stmt
 use Rattle.dv_syntax.specs.Trees.{Statements as NamedStatements, row_statements, statement_before, statements_of}

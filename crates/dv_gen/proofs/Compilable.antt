@@ -1,11 +1,12 @@
 -- The models of a text that is accepted are compilable.
-use Rattle.std.proofs.Common.{◌≡◌, ℕ, ◌≤◌, List, [], ◌∷◌, map, Option, None, sym, ap, subst}
+use Rattle.std.proofs.Common.{◌≡◌, ℕ, ◌≤◌, List, [], ◌∷◌, map, None, sym, ap, subst}
 use Rattle.std.specs.List.{All, AllByRecursion}
 use Rattle.std.proofs.lemmas.List.Elements.{All-from_recursion}
 use Rattle.dv_syntax.specs.declared.tree.Name.{Name}
 use Rattle.dv_syntax.specs.Grammar.{IsItem, IsModel, loop_depth, the_limits}
-use Rattle.dv_syntax.specs.Trees.{AtomicTree, FileTree, ModelTree, RuleTree}
-use Rattle.dv_syntax.specs.Written.{AtomicItem, Declares, Lists, Starts, Holds, Rules, WrittenModel, WrittenAtomic, WrittenCoupled, sorted, sorted_items, sorted_model}
+use Rattle.dv_syntax.specs.Trees.{FileTree, ModelTree, RuleTree}
+use Rattle.dv_syntax.specs.Written.{AtomicItem, Declares, Lists, Starts, Holds, Rules, WrittenModel, WrittenAtomic}
+use Rattle.dv_syntax.specs.Written.{WrittenCoupled, sorted_items, sorted_model}
 use Rattle.dv_code.specs.declared.TheConstants.{DEEPEST_LOOPS}
 use Rattle.dv_check.specs.Accepted.{IsAcceptedModel}
 use Rattle.dv_check.specs.Refusals.{AreOfOneText, refusal_of}

@@ -1,10 +1,12 @@
 -- Programs that grow at their end: what an instruction more makes of them, and a jump whose aim is filled in.
-use Rattle.std.proofs.Common.{◌≡◌, ℕ, ◌+◌, ◌≤◌, ◌<◌, List, [], ◌∷◌, ◌++◌, length, refl, sym, ap, ◌∙◌, append_assoc, append-nil, length-append, length-set, arith}
+use Rattle.std.proofs.Common.{◌≡◌, ℕ, ◌+◌, ◌≤◌, ◌<◌, List, [], ◌∷◌, ◌++◌, length, refl, sym, ap, ◌∙◌, append_assoc, append-nil}
+use Rattle.std.proofs.Common.{length-append, length-set, arith}
 use Rattle.std.specs.Prelude.{slice_set}
 use Rattle.dv_code.specs.declared.instruction.Action.{Action}
 use Rattle.dv_code.specs.declared.instruction.Binary.{Binary}
 use Rattle.dv_code.specs.declared.instruction.Instruction.{Instruction}
-use Rattle.dv_code.specs.declared.instruction.Instruction.TheVariants.{Push, Apply, Combine, Perform, Go, Jump, JumpFalse, FalseKeep, TrueKeep, Loop, Next}
+use Rattle.dv_code.specs.declared.instruction.Instruction.TheVariants.{Push, Apply, Combine, Perform, Go, Jump, JumpFalse}
+use Rattle.dv_code.specs.declared.instruction.Instruction.TheVariants.{FalseKeep, TrueKeep, Loop, Next}
 use Rattle.dv_code.specs.declared.instruction.Leaf.{Leaf}
 use Rattle.dv_code.specs.declared.instruction.Source.{Source}
 use Rattle.dv_code.specs.declared.instruction.Unary.{Unary}
@@ -115,18 +117,26 @@ slice_set-between (x ∷ before) after i j = ap (λ xs. x ∷ xs) (slice_set-bet
 one_more : (code : List Instruction) (i : Instruction) → length (code ++ i ∷ []) ≡ length code + 1
 one_more code i = length-append code (i ∷ [])
 
--- a jump over an expression
+-- a jump over what is put behind it
+jump_over : (jump : ℕ → Instruction) (code : List Instruction) (i : Instruction) (put : List Instruction → List Instruction)
+    (written : ℕ → List Instruction) (end : ℕ → ℕ) → ((c : List Instruction) → put c ≡ c ++ written (length c))
+    → ((c : List Instruction) → length (put c) ≡ end (length c))
+    → slice_set (put (code ++ i ∷ [])) (length code) (jump (length (put (code ++ i ∷ []))))
+    ≡ code ++ jump (end (length code + 1)) ∷ written (length code + 1)
+jump_over jump code i put written end is long =
+    let opened = code ++ i ∷ [] in
+    let whole =
+    is opened ∙ ap (λ p. opened ++ written p) (one_more code i) ∙ append_assoc code (i ∷ []) (written (length code + 1)) in
+    ap (λ p. slice_set (put opened) (length code) (jump p)) (long opened ∙ ap end (one_more code i))
+    ∙ ap (λ xs. slice_set xs (length code) (jump (end (length code + 1)))) whole
+    ∙ slice_set-between code (written (length code + 1)) i (jump (end (length code + 1)))
+
 jump_over_expression : (jump : ℕ → Instruction) (code : List Instruction) (i : Instruction) (b : Expression)
     → slice_set (with_expression (code ++ i ∷ []) b) (length code) (jump (length (with_expression (code ++ i ∷ []) b)))
     ≡ code ++ jump (past (length code + 1) b) ∷ code_of (length code + 1) b
 unfolding with_expression
 jump_over_expression jump code i b =
-    let opened = code ++ i ∷ [] in
-    let aim = length-with_expression opened b ∙ ap (λ p. past p b) (one_more code i) in
-    ap (λ p. slice_set (opened ++ code_of (length opened) b) (length code) (jump p)) aim
-    ∙ ap (λ p. slice_set (opened ++ code_of p b) (length code) (jump (past (length code + 1) b))) (one_more code i)
-    ∙ ap (λ xs. slice_set xs (length code) (jump (past (length code + 1) b))) (append_assoc code (i ∷ []) (code_of (length code + 1) b))
-    ∙ slice_set-between code (code_of (length code + 1) b) i (jump (past (length code + 1) b))
+    jump_over jump code i (λ c. with_expression c b) (λ p. code_of p b) (λ p. past p b) (λ c. refl) (λ c. length-with_expression c b)
 
 -- ---- Expressions
 
@@ -207,19 +217,13 @@ with_statements-Act code a value rest =
     ∙ append_assoc (code ++ written) (Perform a ∷ []) (code_of_all after rest)
     ∙ append_assoc code written (Perform a ∷ code_of_all after rest)
 
--- a jump over a block
 jump_over_block : (jump : ℕ → Instruction) (code : List Instruction) (i : Instruction) (block : Statements)
     → slice_set (with_statements (code ++ i ∷ []) block) (length code) (jump (length (with_statements (code ++ i ∷ []) block)))
     ≡ code ++ jump (past_all (length code + 1) block) ∷ code_of_all (length code + 1) block
 unfolding with_statements
 jump_over_block jump code i block =
-    let begun = code ++ i ∷ [] in
-    let aim = length-with_statements begun block ∙ ap (λ p. past_all p block) (one_more code i) in
-    ap (λ p. slice_set (begun ++ code_of_all (length begun) block) (length code) (jump p)) aim
-    ∙ ap (λ p. slice_set (begun ++ code_of_all p block) (length code) (jump (past_all (length code + 1) block))) (one_more code i)
-    ∙ ap (λ xs. slice_set xs (length code) (jump (past_all (length code + 1) block)))
-    (append_assoc code (i ∷ []) (code_of_all (length code + 1) block))
-    ∙ slice_set-between code (code_of_all (length code + 1) block) i (jump (past_all (length code + 1) block))
+    jump_over jump code i (λ c. with_statements c block) (λ p. code_of_all p block) (λ p. past_all p block) (λ c. refl)
+    (λ c. length-with_statements c block)
 
 -- a jump over a block, whose place was kept
 jump_kept : (jump : ℕ → Instruction) (code begun inside whole : List Instruction) (place aim unknown : ℕ) (block : Statements)

@@ -1,8 +1,11 @@
 -- The effect of what is accepted is the same by places as by names, on a state that fits.
-use Rattle.std.proofs.Common.{◌≡◌, ℕ, ℤ, Bool, true, false, if◌then◌else◌, List, [], ◌∷◌, length, refl, sym, ap, ◌∙◌, Option, Some, None, Result, Ok, IfSome}
+use Rattle.std.proofs.Common.{◌≡◌, ℕ, ℤ, Bool, true, false, if◌then◌else◌, List, [], ◌∷◌, length, refl, sym, ap, ◌∙◌, Option}
+use Rattle.std.proofs.Common.{Some, None, Result, Ok, IfSome}
 use Rattle.std.specs.List.{All}
 use Rattle.std.proofs.lemmas.Bool.{lt-ltb}
-use Rattle.dv_syntax.specs.Trees.{AtomicTree, HoldTree, RuleTree, Expression as NamedExpression, Statements as NamedStatements, Done as Ended, Assign, Goto as GoTo, Send, If as IfOnly, IfElse, For as Each, Add as AddTo, Drop}
+use Rattle.dv_syntax.specs.Trees.{AtomicTree, HoldTree, RuleTree, Expression as NamedExpression, Statements as NamedStatements}
+use Rattle.dv_syntax.specs.Trees.{Done as Ended, Assign, Goto as GoTo, Send, If as IfOnly, IfElse, For as Each, Add as AddTo}
+use Rattle.dv_syntax.specs.Trees.{Drop}
 use Rattle.dv_syntax.specs.declared.tree.Name.{Name}
 use Rattle.dv_syntax.specs.declared.tree.RuleSort.{RuleSort}
 use Rattle.dv_bag.specs.Arrivals.{Arrivals, nothing_arrived}
@@ -14,14 +17,16 @@ use Rattle.dv_bag.specs.declared.state.Effect.{Effect}
 use Rattle.dv_bag.specs.declared.value.Value.{Value}
 use Rattle.dv_bag.specs.declared.value.ValueType.{ValueType}
 use Rattle.dv_bag.specs.declared.value.ValueType.TheVariants.{Number, Truth}
-use Rattle.dv_eval.specs.Meaning.{addition, assignment, bag_of_name, effect_of, meaning, moment_in, number_of, outermost, removal, repetition, run, sending, value_within, with_goto, truth_of as truth_in_text}
+use Rattle.dv_eval.specs.Meaning.{addition, assignment, bag_of_name, effect_of, meaning, moment_in, number_of, outermost, removal}
+use Rattle.dv_eval.specs.Meaning.{repetition, run, sending, value_within, with_goto, truth_of as truth_in_text}
 use Rattle.dv_eval.specs.Scope.{Scope, names_of, place_of, scope_of}
 use Rattle.dv_eval.specs.declared.scope.Domain.TheVariants as domain
 use Rattle.dv_check.specs.declared.declarations.NameSort.{NameSort}
 use Rattle.dv_check.specs.Rules.{atomic_refusals, known_in, known_in_rule, statements_refusals}
 use Rattle.dv_check.specs.Types.{Known, place_refusals, type_of_name, value_refusals}
 use Rattle.dv_accepted.specs.Fitting.{context_within, fits, is_of_type, known_within}
-use Rattle.dv_accepted.proofs.Effects.{Fits, addition_at_fits, assignment_at_fits, goto_fits, removal_at_fits, run_fits, same_fits, sending_fits, walk_fits}
+use Rattle.dv_accepted.proofs.Effects.{Fits, addition_at_fits, assignment_at_fits, goto_fits, removal_at_fits, run_fits}
+use Rattle.dv_accepted.proofs.Effects.{same_fits, sending_fits, walk_fits}
 use Rattle.dv_accepted.proofs.Fitting.{HasPlace}
 use Rattle.dv_accepted.proofs.Typed.{place_typed}
 use Rattle.dv_code.specs.Machine.{first_effect}
@@ -29,14 +34,18 @@ use Rattle.dv_code.specs.Operations.{action_effect}
 use Rattle.dv_code.specs.Shape.{Shape}
 use Rattle.dv_code.specs.declared.instruction.Action.{Action}
 use Rattle.dv_code.specs.declared.instruction.Action.TheVariants as action
-use Rattle.dv_gen.specs.Resolution.{all_resolved, assignment_at, choice, hold_tree, place_or_first, resolved, rule_shape, rule_tree, slot_place}
-use Rattle.dv_gen.specs.Resolved.{Act, Done, Expression, For, Goto, If, Statements, When, effect_from, for_each, or_same, rule_effect, truth_of, value_of, values_in}
-use Rattle.dv_gen.proofs.Accepted.{accepted_assignment, accepted_change, accepted_goto, accepted_if, accepted_if_else, accepted_loop, accepted_send, each_hold, each_rule}
+use Rattle.dv_gen.specs.Resolution.{all_resolved, assignment_at, choice, hold_tree, place_or_first, resolved, rule_shape}
+use Rattle.dv_gen.specs.Resolution.{rule_tree, slot_place}
+use Rattle.dv_gen.specs.Resolved.{Act, Done, Expression, For, Goto, If, Statements, When, effect_from, for_each, or_same}
+use Rattle.dv_gen.specs.Resolved.{rule_effect, truth_of, value_of, values_in}
+use Rattle.dv_gen.proofs.Accepted.{accepted_assignment, accepted_change, accepted_goto, accepted_if, accepted_if_else}
+use Rattle.dv_gen.proofs.Accepted.{accepted_loop, accepted_send, each_hold, each_rule}
 use Rattle.dv_gen.proofs.EqualOperators.{bind_agrees, on_number, on_truth}
 use Rattle.dv_gen.proofs.EqualValues.{bag_agrees, gives_type, value_agrees}
 use Rattle.dv_gen.proofs.FittingStates.{bag_there}
 use Rattle.dv_gen.proofs.LoopVariables.{items_within, knows_within, loops_of}
-use Rattle.dv_gen.proofs.KnownNames.{Assigned, Stands, StandsForBag, ToFlag, ToVariable, assigned_stands, assigned_type, changed_bag_stands, flag_assignment, sent_port_stands, slot_there, variable_assignment}
+use Rattle.dv_gen.proofs.KnownNames.{Assigned, Stands, StandsForBag, ToFlag, ToVariable, assigned_stands, assigned_type}
+use Rattle.dv_gen.proofs.KnownNames.{changed_bag_stands, flag_assignment, sent_port_stands, slot_there, variable_assignment}
 
 -- ---- Actions
 

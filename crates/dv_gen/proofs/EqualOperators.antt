@@ -89,25 +89,32 @@ module _ (arrivals : Arrivals) (items : List ℤ) (s : State) (a b : Expression)
   abbrev placed : Expression → Result Value Fault
   placed e = value_of arrivals items s e
 
+  -- where both are of a type, it is enough that the operation and the operator agree on the values of that type
+  values_agree : {V : Type 0} (t : ValueType) (value_with : V → Value)
+      → ((f g : Value → Result Value Fault) (v : Value) → is_of_type t v ≡ true
+      → ((c : V) → f (value_with c) ≡ g (value_with c)) → f v ≡ g v)
+      → (operation : Operation) (o : Operator) → GivesType t left → GivesType t right
+      → ((c d : V)
+      → or_zero (binary_value operation (value_with c) (value_with d)) ≡ operator_result o (value_with c) (value_with d))
+      → placed (Infix operation a b) ≡ (left >>= λ x. right >>= λ y. operator_result o x y)
+  values_agree t value_with on_type operation o left_typed right_typed same =
+      let by_places = λ (x y : Value). or_zero (binary_value operation x y) in
+      rw (is_left, is_right) (bind_agrees left _ _ (λ x is_x.
+      bind_agrees right _ _ (λ y is_y.
+      on_type (λ v. by_places v y) (λ v. operator_result o v y) x (left_typed x is_x) (λ c.
+      on_type (by_places (value_with c)) (operator_result o (value_with c)) y (right_typed y is_y) (same c)))))
+
   numbers_agree : (operation : Operation) (o : Operator) → GivesType Number left → GivesType Number right
       → ((n k : ℤ) → or_zero (of_numbers operation n k) ≡ operator_result o (value.Number n) (value.Number k))
       → placed (Infix operation a b) ≡ (left >>= λ x. right >>= λ y. operator_result o x y)
   numbers_agree operation o left_typed right_typed same =
-      let by_places = λ (x y : Value). or_zero (binary_value operation x y) in
-      rw (is_left, is_right) (bind_agrees left _ _ (λ x is_x.
-      bind_agrees right _ _ (λ y is_y.
-      on_number (λ v. by_places v y) (λ v. operator_result o v y) x (left_typed x is_x) (λ n.
-      on_number (by_places (value.Number n)) (operator_result o (value.Number n)) y (right_typed y is_y) (same n)))))
+      values_agree Number value.Number on_number operation o left_typed right_typed same
 
   truths_agree : (operation : Operation) (o : Operator) → GivesType Truth left → GivesType Truth right
       → ((c d : Bool) → or_zero (of_truths operation c d) ≡ operator_result o (value.Truth c) (value.Truth d))
       → placed (Infix operation a b) ≡ (left >>= λ x. right >>= λ y. operator_result o x y)
   truths_agree operation o left_typed right_typed same =
-      let by_places = λ (x y : Value). or_zero (binary_value operation x y) in
-      rw (is_left, is_right) (bind_agrees left _ _ (λ x is_x.
-      bind_agrees right _ _ (λ y is_y.
-      on_truth (λ v. by_places v y) (λ v. operator_result o v y) x (left_typed x is_x) (λ c.
-      on_truth (by_places (value.Truth c)) (operator_result o (value.Truth c)) y (right_typed y is_y) (same c)))))
+      values_agree Truth value.Truth on_truth operation o left_typed right_typed same
 
   equal_agrees : (u : ValueType) → GivesType u left → GivesType u right
       → placed (Infix (equal_of u) a b) ≡ (left >>= λ x. right >>= λ y. operator_result operator.Equal x y)
@@ -116,8 +123,10 @@ module _ (arrivals : Arrivals) (items : List ℤ) (s : State) (a b : Expression)
 
   unequal_agrees : (u : ValueType) → GivesType u left → GivesType u right
       → placed (Infix (unequal_of u) a b) ≡ (left >>= λ x. right >>= λ y. operator_result operator.Unequal x y)
-  unequal_agrees Number left_typed right_typed = numbers_agree binary.Unequal operator.Unequal left_typed right_typed (λ n k. refl)
-  unequal_agrees Truth left_typed right_typed = truths_agree binary.Different operator.Unequal left_typed right_typed different_truths
+  unequal_agrees Number left_typed right_typed =
+      numbers_agree binary.Unequal operator.Unequal left_typed right_typed (λ n k. refl)
+  unequal_agrees Truth left_typed right_typed =
+      truths_agree binary.Different operator.Unequal left_typed right_typed different_truths
 
   -- where each operand that has a type gives values of it
   module _ (p q : Option ValueType) (t : ValueType) (one : (u : ValueType) → p ≡ Some u → GivesType u left)

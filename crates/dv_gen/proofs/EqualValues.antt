@@ -1,6 +1,7 @@
 -- The value of what is accepted is the same by places as by names, in a state that fits.
 use Rattle.std.proofs.Common.{◌≡◌, ℕ, ℤ, pos, true, ◌&&◌, List, [], refl, ap, ◌∙◌, Option, Some, None, Result, Ok}
-use Rattle.dv_syntax.specs.Trees.{AtomicTree, Expression as NamedExpression, Literal, TruthValue, Named, Parens, Prefixed, Binary, Call, Elapsed, Times}
+use Rattle.dv_syntax.specs.Trees.{AtomicTree, Expression as NamedExpression, Literal, TruthValue, Named, Parens, Prefixed, Binary}
+use Rattle.dv_syntax.specs.Trees.{Call, Elapsed, Times}
 use Rattle.dv_syntax.specs.declared.tree.Name.{Name}
 use Rattle.dv_syntax.specs.declared.tree.Prefix.TheVariants as prefix
 use Rattle.dv_syntax.specs.declared.tree.RuleSort.{RuleSort}
@@ -16,7 +17,9 @@ use Rattle.dv_bag.specs.declared.value.ValueType.TheVariants.{Number, Truth}
 use Rattle.dv_eval.specs.Meaning.{Moment, bag_of_name, meaning, moment_in, number_of, prefix_result, value_of_name}
 use Rattle.dv_eval.specs.Scope.{Scope, scope_of}
 use Rattle.dv_check.specs.declared.declarations.NameSort.{NameSort}
-use Rattle.dv_check.specs.declared.declarations.NameSort.TheVariants.{Variable as ForVariable, Flag as ForFlag, Bag as ForBag, Input as ForInput, Output as ForOutput, LoopVariable as ForLoopVariable}
+use Rattle.dv_check.specs.declared.declarations.NameSort.TheVariants.{Variable as ForVariable, Flag as ForFlag, Bag as ForBag}
+use Rattle.dv_check.specs.declared.declarations.NameSort.TheVariants.{Input as ForInput, Output as ForOutput}
+use Rattle.dv_check.specs.declared.declarations.NameSort.TheVariants.{LoopVariable as ForLoopVariable}
 use Rattle.dv_check.specs.Rules.{atomic_refusals, known_in, known_in_rule}
 use Rattle.dv_check.specs.Types.{Known, is_bag, is_of, type_of_name, type_of as type_in_text}
 use Rattle.dv_accepted.specs.Fitting.{context_within, fits_in, known_within}
@@ -26,7 +29,8 @@ use Rattle.dv_code.specs.Operations.{bag_of, leaf_value, of_bag, unary_value}
 use Rattle.dv_code.specs.declared.instruction.Unary.TheVariants as unary
 use Rattle.dv_gen.specs.Resolution.{leaf_of, resolved, source_of}
 use Rattle.dv_gen.specs.Resolved.{or_zero, value_of}
-use Rattle.dv_gen.proofs.KnownNames.{InputPort, Readable, Stands, StateBag, flag_leaf, item_leaf, own_source, port_source, known_readable, variable_leaf}
+use Rattle.dv_gen.proofs.KnownNames.{InputPort, Readable, Stands, StateBag, flag_leaf, item_leaf, own_source, port_source}
+use Rattle.dv_gen.proofs.KnownNames.{known_readable, variable_leaf}
 use Rattle.dv_gen.proofs.OperandTypes.{operand_types, type_given, type_wanted}
 use Rattle.dv_gen.proofs.TypedTrees.{expression_typed}
 use Rattle.dv_gen.proofs.FittingStates.{bag_there, flag_there, number_there}

@@ -1,5 +1,6 @@
 -- The names of an accepted model: there are few of each kind, so that a place is small.
-use Rattle.std.proofs.Common.{◌≡◌, ℕ, zero, suc, ◌+◌, ◌^◌, ◌<◌, ◌≤◌, Bool, true, false, if◌then◌else◌, List, [], ◌∷◌, ◌++◌, length, slice_get, map, Option, Some, None, refl, sym, ◌∙◌, arith}
+use Rattle.std.proofs.Common.{◌≡◌, ℕ, zero, suc, ◌+◌, ◌^◌, ◌<◌, ◌≤◌, Bool, true, false, if◌then◌else◌, List, [], ◌∷◌, ◌++◌}
+use Rattle.std.proofs.Common.{length, slice_get, map, Option, Some, None, refl, sym, ◌∙◌, arith}
 use Rattle.std.specs.Prelude.{IfSome}
 use Rattle.std.proofs.lemmas.List.{length-append, length-map}
 use Rattle.dv_lex.specs.declared.error.RefusalNumber.TheVariants.{E6}
@@ -9,7 +10,8 @@ use Rattle.dv_syntax.specs.declared.tree.Declaration.{Declaration}
 use Rattle.dv_syntax.specs.declared.tree.Declaration.TheVariants.{In, Out, Var, Flag, Bag}
 use Rattle.dv_syntax.specs.declared.tree.RuleSort.TheVariants as rule
 use Rattle.dv_eval.specs.declared.scope.Domain.{Domain}
-use Rattle.dv_eval.specs.Scope.{Scope, inputs_in, is_declared, names_of, outputs_in, phases_in, place_from, place_of, scope_of, state_variables_in, with_name, with_names, with_variable, with_variables}
+use Rattle.dv_eval.specs.Scope.{Scope, inputs_in, is_declared, names_of, outputs_in, phases_in, place_from, place_of, scope_of}
+use Rattle.dv_eval.specs.Scope.{state_variables_in, with_name, with_names, with_variable, with_variables}
 use Rattle.dv_check.specs.declared.limits.TheConstants.{GREATEST_NAMES}
 use Rattle.dv_check.specs.Names.{excess, excess_of, excess_past, repeats}
 use Rattle.dv_check.specs.Rules.{atomic_refusals, name_of_declaration, name_of_state_variable, names_refusals, ports_in, ruled_phases}

@@ -6,13 +6,13 @@ use Rattle.dv_syntax.specs.Trees.{AtomicTree, Done, Expression, Statements}
 use Rattle.dv_syntax.specs.declared.tree.RuleSort.{RuleSort}
 use Rattle.dv_syntax.specs.declared.tree.RuleSort.TheVariants.{Output, Internal, External, Confluent}
 use Rattle.dv_code.specs.declared.shape.Slot.{Slot}
-use Rattle.dv_code.specs.Shape.{AreSmall, Tables}
+use Rattle.dv_code.specs.Shape.{AreSmall}
 use Rattle.dv_eval.specs.Scope.{Scope, hold_ticks, rule_of, scope_of}
 use Rattle.dv_gen.specs.Directories.{rule_found, ticks_found_in}
 use Rattle.dv_gen.specs.Emission.{IsHoldTicks, IsRuleBody, hold_code, rule_code}
 use Rattle.dv_gen.specs.Generators.{IsGeneratorOf, IsReady, code_of_phase}
 use Rattle.dv_gen.specs.ModelCode.{phase_code, phase_codes}
-use Rattle.dv_gen.specs.Resolution.{slot_of, tables_of}
+use Rattle.dv_gen.specs.Resolution.{tables_of}
 use Rattle.dv_gen.specs.declared.generator.Generator.{Generator}
 use Rattle.dv_gen.specs.declared.model_code.PhaseCode.{PhaseCode}
 

@@ -1,5 +1,6 @@
 -- What the names that are known in an accepted model stand for, by their places.
-use Rattle.std.proofs.Common.{◌≡◌, ℕ, ◌<◌, ◌==◌, Bool, true, false, if◌then◌else◌, List, [], ◌∷◌, length, refl, sym, ap, subst, ◌∙◌, Option, Some, None, option_map, arith}
+use Rattle.std.proofs.Common.{◌≡◌, ℕ, ◌<◌, ◌==◌, Bool, true, false, if◌then◌else◌, List, [], ◌∷◌, length, refl, sym, ap, subst}
+use Rattle.std.proofs.Common.{◌∙◌, Option, Some, None, option_map, arith}
 use Rattle.std.specs.Prelude.{slice_get}
 use Rattle.std.proofs.lemmas.Option.{slice_get-map}
 use Rattle.dv_syntax.specs.Trees.{AtomicTree}
@@ -10,11 +11,14 @@ use Rattle.dv_eval.specs.declared.scope.VariableRange.{VariableRange}
 use Rattle.dv_eval.specs.declared.scope.Domain.{Domain}
 use Rattle.dv_eval.specs.declared.scope.Domain.TheVariants as domain
 use Rattle.dv_check.specs.declared.declarations.NameSort.{NameSort}
-use Rattle.dv_check.specs.declared.declarations.NameSort.TheVariants.{Variable as ForVariable, Flag as ForFlag, Bag as ForBag, Input as ForInput, Output as ForOutput, LoopVariable as ForLoopVariable}
+use Rattle.dv_check.specs.declared.declarations.NameSort.TheVariants.{Variable as ForVariable, Flag as ForFlag, Bag as ForBag}
+use Rattle.dv_check.specs.declared.declarations.NameSort.TheVariants.{Input as ForInput, Output as ForOutput}
+use Rattle.dv_check.specs.declared.declarations.NameSort.TheVariants.{LoopVariable as ForLoopVariable}
 use Rattle.dv_check.specs.Couplings.{is_input, is_output}
 use Rattle.dv_bag.specs.declared.value.ValueType.{ValueType}
 use Rattle.dv_bag.specs.declared.value.ValueType.TheVariants.{Number, Truth}
-use Rattle.dv_check.specs.Rules.{assignment_refusals, atomic_refusals, changed_bag_refusals, is_output_rule, known_in, known_in_loop, known_in_rule, sent_port_refusals, sort_in}
+use Rattle.dv_check.specs.Rules.{assignment_refusals, atomic_refusals, changed_bag_refusals, is_output_rule, known_in}
+use Rattle.dv_check.specs.Rules.{known_in_loop, known_in_rule, sent_port_refusals, sort_in}
 use Rattle.dv_check.specs.Types.{Known, is_bag, sees_inputs, type_of_name}
 use Rattle.dv_check.proofs.Accepted.{not_refused}
 use Rattle.dv_check.proofs.Declared.{input_declared, output_declared}

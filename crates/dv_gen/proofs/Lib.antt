@@ -22,3 +22,4 @@ pub mod Programs
 pub mod Simulation
 pub mod TypedTrees
 pub mod Validity
+pub mod Trees

@@ -5,7 +5,7 @@ use Rattle.dv_syntax.specs.declared.tree.Stmt as stmt
 use Rattle.dv_syntax.specs.Grammar.{loop_depth}
 use Rattle.dv_code.specs.declared.TheConstants.{DEEPEST_LOOPS}
 use Rattle.dv_syntax.specs.declared.tree.Name.{Name}
-use Rattle.dv_syntax.specs.Trees.{Expression, Statements, Done, If, IfElse, For, row_statements, statement_before, statements_of}
+use Rattle.dv_syntax.specs.Trees.{Expression, Statements, Done, If, IfElse, For, statement_before, statements_of}
 
 -- of a statement and the rest the deeper one counts
 loop_depth-before : (s : Stmt) (rest : Statements)

@@ -12,16 +12,20 @@ use Rattle.dv_bag.specs.declared.value.Value.TheVariants.{Number, Truth}
 use Rattle.dv_bag.specs.declared.value.ValueType.{ValueType}
 use Rattle.dv_code.specs.Shape.{Fits, Shape}
 use Rattle.dv_code.specs.Operations.{action_effect, bag_of, binary_value, going, leaf_value, unary_value}
-use Rattle.dv_code.specs.Machine.{Turn, Configuration, Outcome, Goes, Faulted, Stuck, acted, and_then, begins, first_effect, items_of, opened, performed, pushed, run, step, turns_to}
+use Rattle.dv_code.specs.Machine.{Turn, Configuration, Outcome, Goes, Faulted, Stuck, acted, and_then, begins, first_effect}
+use Rattle.dv_code.specs.Machine.{items_of, opened, performed, pushed, run, step, turns_to}
 use Rattle.dv_code.specs.Valid.{Body}
 use Rattle.dv_code.specs.declared.instruction.Source.{Source}
 use Rattle.dv_code.specs.declared.instruction.Instruction.{Instruction}
 use Rattle.dv_code.specs.declared.instruction.Instruction.TheVariants as code
 use Rattle.dv_code.proofs.Endings.{never_stuck}
-use Rattle.dv_gen.specs.Resolved.{Expression, Read, Prefix, Infix, And, Or, Statements, Done, Act, Goto, When, If, For, AreTyped, IsTyped, effect_from, for_each, or_same, or_zero, rule_effect, truth_of, type_of, value_of, values_in}
+use Rattle.dv_gen.specs.Resolved.{Expression, Read, Prefix, Infix, And, Or, Statements, Done, Act, Goto, When, If, For, AreTyped}
+use Rattle.dv_gen.specs.Resolved.{IsTyped, effect_from, for_each, or_same, or_zero, rule_effect, truth_of, type_of, value_of}
+use Rattle.dv_gen.specs.Resolved.{values_in}
 use Rattle.dv_gen.specs.Generator.{ending, hold_ending, past, past_all}
 use Rattle.dv_gen.proofs.Marks.{MarkedInstruction, body_at, instruction_at, instructions}
-use Rattle.dv_gen.proofs.Places.{HasCode, HasCodeOfAll, IsAt, hold_program_stands, marked_hold_program_of, marked_program_of, program_stands}
+use Rattle.dv_gen.proofs.Places.{HasCode, HasCodeOfAll, IsAt, hold_program_stands, marked_hold_program_of, marked_program_of}
+use Rattle.dv_gen.proofs.Places.{program_stands}
 use Rattle.dv_gen.proofs.Validity.{hold_valid, rule_valid}
 
 -- the machine at a place

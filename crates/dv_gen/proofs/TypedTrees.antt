@@ -1,9 +1,12 @@
 -- What is accepted is well typed where its names are places.
-use Rattle.std.proofs.Common.{◌≡◌, ℕ, ◌+◌, ◌≤◌, true, false, ◌&&◌, List, [], ◌∷◌, length, refl, sym, ap, subst, ◌∙◌, Option, Some, None, IfSome, arith}
+use Rattle.std.proofs.Common.{◌≡◌, ℕ, ◌+◌, ◌≤◌, true, false, ◌&&◌, List, [], ◌∷◌, length, refl, sym, ap, subst, ◌∙◌, Option, Some}
+use Rattle.std.proofs.Common.{None, IfSome, arith}
 use Rattle.std.specs.Prelude.{IsTrue, slice_get}
 use Rattle.std.specs.List.{All}
 use Rattle.dv_syntax.specs.Grammar.{loop_depth}
-use Rattle.dv_syntax.specs.Trees.{AtomicTree, HoldTree, RuleTree, Expression as NamedExpression, Literal, TruthValue, Named, Parens, Prefixed, Binary, Call, Elapsed, Times, Statements as NamedStatements, Done as Ended, Assign, Goto as GoTo, Send, If as IfOnly, IfElse, For as Each, Add as AddTo, Drop}
+use Rattle.dv_syntax.specs.Trees.{AtomicTree, HoldTree, RuleTree, Expression as NamedExpression, Literal, TruthValue, Named}
+use Rattle.dv_syntax.specs.Trees.{Parens, Prefixed, Binary, Call, Elapsed, Times, Statements as NamedStatements, Done as Ended}
+use Rattle.dv_syntax.specs.Trees.{Assign, Goto as GoTo, Send, If as IfOnly, IfElse, For as Each, Add as AddTo, Drop}
 use Rattle.dv_syntax.specs.declared.tree.Name.{Name}
 use Rattle.dv_syntax.specs.declared.tree.BagCall.{BagCall}
 use Rattle.dv_syntax.specs.declared.tree.BagCall.TheVariants as call
@@ -17,9 +20,12 @@ use Rattle.dv_bag.specs.declared.value.ValueType.TheVariants.{Number, Truth}
 use Rattle.dv_eval.specs.Scope.{Scope, names_of, place_of, scope_of}
 use Rattle.dv_eval.specs.declared.scope.Domain.TheVariants as domain
 use Rattle.dv_check.specs.declared.declarations.NameSort.{NameSort}
-use Rattle.dv_check.specs.declared.declarations.NameSort.TheVariants.{Variable as ForVariable, Flag as ForFlag, Bag as ForBag, Input as ForInput, Output as ForOutput, LoopVariable as ForLoopVariable}
+use Rattle.dv_check.specs.declared.declarations.NameSort.TheVariants.{Variable as ForVariable, Flag as ForFlag, Bag as ForBag}
+use Rattle.dv_check.specs.declared.declarations.NameSort.TheVariants.{Input as ForInput, Output as ForOutput}
+use Rattle.dv_check.specs.declared.declarations.NameSort.TheVariants.{LoopVariable as ForLoopVariable}
 use Rattle.dv_check.specs.Rules.{atomic_refusals, is_output_rule, known_in, known_in_loop, known_in_rule, statements_refusals}
-use Rattle.dv_check.specs.Types.{Known, both_of, type_if, is_bag, is_of, knows_elapsed, place_refusals, sees_inputs, type_of_name, type_of_operator, value_refusals, type_of as type_in_text}
+use Rattle.dv_check.specs.Types.{Known, both_of, type_if, is_bag, is_of, knows_elapsed, place_refusals, sees_inputs, type_of_name}
+use Rattle.dv_check.specs.Types.{type_of_operator, value_refusals, type_of as type_in_text}
 use Rattle.dv_accepted.proofs.Fitting.{both_true}
 use Rattle.dv_accepted.proofs.Typed.{place_typed}
 use Rattle.dv_code.specs.Known.{IsBagOf, KnowsAction, action_type, operand_type, result_type}
@@ -30,11 +36,17 @@ use Rattle.dv_code.specs.declared.shape.ProgramSort.TheVariants as sort
 use Rattle.dv_code.specs.declared.instruction.Source.{Source}
 use Rattle.dv_code.specs.declared.instruction.Binary.{Binary as Operation}
 use Rattle.dv_code.specs.declared.instruction.Binary.TheVariants as binary
-use Rattle.dv_gen.specs.Resolution.{all_resolved, assignment_at, call_leaf, choice, equal_of, hold_shape, hold_tree, infix_of, leaf_of, program_sort, resolved, rule_shape, rule_tree, slot_place, source_of, tables_of, unequal_of}
+use Rattle.dv_gen.specs.Resolution.{all_resolved, assignment_at, call_leaf, choice, equal_of, hold_shape, hold_tree, infix_of}
+use Rattle.dv_gen.specs.Resolution.{leaf_of, program_sort, resolved, rule_shape, rule_tree, slot_place, source_of, tables_of}
+use Rattle.dv_gen.specs.Resolution.{unequal_of}
 use Rattle.dv_gen.specs.Resolved.{Act, AreTyped, Done, Expression, For, Goto, If, Infix, IsTyped, Read, Statements, When, type_of}
 use Rattle.dv_gen.proofs.OperandTypes.{alike_wanted, both_wanted, type_given, type_wanted}
-use Rattle.dv_gen.proofs.Accepted.{AcceptedChange, accepted_assignment, accepted_change, accepted_goto, accepted_if, accepted_if_else, accepted_loop, accepted_send, each_hold, each_rule}
-use Rattle.dv_gen.proofs.KnownNames.{Assigned, InputPort, Knows, Readable, Stands, StateBag, ToFlag, ToVariable, assigned_stands, assigned_type, changed_bag_stands, flag_assignment, flag_leaf, item_leaf, knows_inside, knows_outside, own_source, port_source, known_readable, sent_port_stands, slot_there, variable_assignment, variable_leaf}
+use Rattle.dv_gen.proofs.Accepted.{AcceptedChange, accepted_assignment, accepted_change, accepted_goto, accepted_if}
+use Rattle.dv_gen.proofs.Accepted.{accepted_if_else, accepted_loop, accepted_send, each_hold, each_rule}
+use Rattle.dv_gen.proofs.KnownNames.{Assigned, InputPort, Knows, Readable, Stands, StateBag, ToFlag, ToVariable, assigned_stands}
+use Rattle.dv_gen.proofs.KnownNames.{assigned_type, changed_bag_stands, flag_assignment, flag_leaf, item_leaf, knows_inside}
+use Rattle.dv_gen.proofs.KnownNames.{knows_outside, own_source, port_source, known_readable, sent_port_stands, slot_there}
+use Rattle.dv_gen.proofs.KnownNames.{variable_assignment, variable_leaf}
 
 -- ---- What a rule may do
 

@@ -8,10 +8,12 @@ use Rattle.dv_code.specs.Shape.{Shape}
 use Rattle.dv_code.specs.Known.{operand_type}
 use Rattle.dv_code.specs.Valid.{Agrees, Arrives, Body, IsFine, IsValid, LiesIn, Mark, mark}
 use Rattle.dv_code.specs.declared.instruction.Instruction.{Instruction}
-use Rattle.dv_gen.specs.Resolved.{Expression, Read, Prefix, Infix, And, Or, Statements, Done, Act, Goto, When, If, For, AreTyped, IsTyped, type_of}
+use Rattle.dv_gen.specs.Resolved.{Expression, Read, Prefix, Infix, And, Or, Statements, Done, Act, Goto, When, If, For, AreTyped}
+use Rattle.dv_gen.specs.Resolved.{IsTyped, type_of}
 use Rattle.dv_gen.specs.Generator.{past, past_all}
 use Rattle.dv_gen.proofs.Marks.{MarkedInstruction, body_at, instruction_at, instructions, marked_code_of, marked_code_of_all}
-use Rattle.dv_gen.proofs.Places.{HasCode, HasCodeOfAll, IsAt, hold_program_stands, marked_hold_program_of, marked_program_of, past_all_no_earlier, past_later, program_stands}
+use Rattle.dv_gen.proofs.Places.{HasCode, HasCodeOfAll, IsAt, hold_program_stands, marked_hold_program_of, marked_program_of}
+use Rattle.dv_gen.proofs.Places.{past_all_no_earlier, past_later, program_stands}
 
 -- what lies between two places of the same bodies lies in them
 lies_between : (end : ℕ) (nest : List Body) (p k q : ℕ) → LiesIn end p nest → LiesIn end q nest → p ≤ k → k ≤ q → LiesIn end k nest

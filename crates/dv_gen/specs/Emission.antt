@@ -1,5 +1,5 @@
 -- Programs that grow at their end, the loops around a statement, and how many names there are.
-use Rattle.std.specs.Prelude.{◌≡◌, ℕ, ◌+◌, ◌≤◌, List, [], ◌∷◌, ◌++◌, length, slice_set}
+use Rattle.std.specs.Prelude.{◌≡◌, ℕ, ◌≤◌, List, [], ◌∷◌, ◌++◌, length, slice_set}
 use Rattle.dv_syntax.specs.Grammar.{loop_depth}
 use Rattle.dv_syntax.specs.Trees.{Expression as NamedExpression, Statements as NamedStatements}
 use Rattle.dv_syntax.specs.declared.tree.Prefix.{Prefix}

@@ -1,6 +1,8 @@
 -- From the trees of a text, whose names a scope knows, to trees in which every name is a place.
 use Rattle.std.specs.Prelude.{ℕ, ◌==◌, pos, if◌then◌else◌, unwrap_or, List, [], ◌∷◌, length, map, option_map, slice_get, Option, Some, None}
-use Rattle.dv_syntax.specs.Trees.{AtomicTree, Expression as NamedExpression, Literal, TruthValue, Named, Parens, Prefixed, Binary, Call, Elapsed, Times, Statements as NamedStatements, Done as Ended, Assign, Goto as GoTo, Send, If as IfOnly, IfElse, For as Each, Add as AddTo, Drop}
+use Rattle.dv_syntax.specs.Trees.{AtomicTree, Expression as NamedExpression, Literal, TruthValue, Named, Parens, Prefixed, Binary}
+use Rattle.dv_syntax.specs.Trees.{Call, Elapsed, Times, Statements as NamedStatements, Done as Ended, Assign, Goto as GoTo, Send}
+use Rattle.dv_syntax.specs.Trees.{If as IfOnly, IfElse, For as Each, Add as AddTo, Drop}
 use Rattle.dv_syntax.specs.declared.tree.Prefix.TheVariants as prefix
 use Rattle.dv_syntax.specs.declared.tree.Operator.{Operator}
 use Rattle.dv_syntax.specs.declared.tree.Operator.TheVariants as operator

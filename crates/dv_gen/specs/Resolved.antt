@@ -13,7 +13,8 @@ use Rattle.dv_bag.specs.declared.value.ValueType.TheVariants.{Truth}
 use Rattle.dv_code.specs.Shape.{Shape}
 use Rattle.dv_code.specs.Operations.{action_effect, bag_of, binary_value, going, leaf_value, unary_value}
 use Rattle.dv_code.specs.Machine.{first_effect}
-use Rattle.dv_code.specs.Known.{IsBagOf, KnowsAction, KnowsLeaf, KnowsPhase, KnowsUnary, action_type, leaf_type, operand_type, result_type, unary_type}
+use Rattle.dv_code.specs.Known.{IsBagOf, KnowsAction, KnowsLeaf, KnowsPhase, KnowsUnary, action_type, leaf_type, operand_type}
+use Rattle.dv_code.specs.Known.{result_type, unary_type}
 use Rattle.dv_code.specs.declared.instruction.Action.{Action}
 use Rattle.dv_code.specs.declared.instruction.Binary.{Binary}
 use Rattle.dv_code.specs.declared.instruction.Leaf.{Leaf}

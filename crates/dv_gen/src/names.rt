@@ -3,7 +3,8 @@
 ghost use Rattle.std.specs.Prelude.{◌≡◌, ◌<◌, ◌≤◌, ◌^◌, length, IfSome};
 ghost use Rattle.dv_eval.specs.Scope.{names_of, place_of};
 ghost use Rattle.dv_gen.specs.Emission.{HasFewNames, loops_of};
-ghost use Rattle.dv_gen.specs.Resolution.{assignment_at, assignment_in, domain_at, leaf_at, leaf_by, leaf_in, leaf_of, place_or_first, slot_place, source_of};
+ghost use Rattle.dv_gen.specs.Resolution.{assignment_at, assignment_in, domain_at, leaf_at, leaf_by, leaf_in, leaf_of};
+ghost use Rattle.dv_gen.specs.Resolution.{place_or_first, slot_place, source_of};
 
 use crate::loops::Loops;
 use dv_code::{Action, DEEPEST_LOOPS, Leaf, Source};

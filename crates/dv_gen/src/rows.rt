@@ -7,7 +7,8 @@ ghost use Rattle.dv_bag.specs.declared.value.Value.TheVariants.{Truth};
 ghost use Rattle.dv_code.specs.Machine.{Faulted, Finished};
 ghost use Rattle.dv_gen.specs.Resolved.{AreTyped, rule_effect, value_of};
 ghost use Rattle.dv_gen.specs.Generator.{program_of};
-ghost use Rattle.dv_gen.specs.Rows.{even_delivery, false_before_fault, great_delivery, intake, intake_code, mixed_delivery, outcome_after, reset, reset_code, stock, store, to_second_phase};
+ghost use Rattle.dv_gen.specs.Rows.{even_delivery, false_before_fault, great_delivery, intake, intake_code, mixed_delivery};
+ghost use Rattle.dv_gen.specs.Rows.{outcome_after, reset, reset_code, stock, store, to_second_phase};
 
 /// A rule with a loop over an input port, a choice and an `and`: its program of 17 instructions,
 /// and what both do with three values, the program within 35 steps.

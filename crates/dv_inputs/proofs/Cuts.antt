@@ -1,5 +1,6 @@
 -- Texts cut into lines, and lines into fields.
-use Rattle.std.proofs.Common.{◌≡◌, inl, inr, ℕ, suc, ◌+◌, ◌-◌, ◌<◌, ◌≤◌, ◌==◌, Bool, true, false, not, cond, List, [], ◌∷◌, length, get_or, take, drop, filter, refl, sym, ap, ◌∙◌, subst, arith, nat_lt, Some, None, position}
+use Rattle.std.proofs.Common.{◌≡◌, inl, inr, ℕ, suc, ◌+◌, ◌-◌, ◌<◌, ◌≤◌, ◌==◌, Bool, true, false, not, cond, List, [], ◌∷◌}
+use Rattle.std.proofs.Common.{length, get_or, take, drop, filter, refl, sym, ap, ◌∙◌, subst, arith, nat_lt, Some, None, position}
 use Rattle.std.specs.List.{onto_first, position_or_len, prefix_len, slice_split, take_while}
 use Rattle.std.proofs.lemmas.Bool.{cases_Bool, eq-eqb, lt-ltb, ltb-false, ltb-true, ne_eqb}
 use Rattle.std.proofs.lemmas.List.Folds.{length-prefix_len}

@@ -1,5 +1,6 @@
 -- How digits read as a number.
-use Rattle.std.proofs.Common.{◌≡◌, inl, inr, ℕ, ◌<◌, ◌≤◌, ◌^◌, true, false, List, [], ◌∷◌, length, nat_lt, Some, None, Result, Err, OkIff, IsAscii, IsUtf8, refl, ap, subst, arith, rules, lit<}
+use Rattle.std.proofs.Common.{◌≡◌, inl, inr, ℕ, ◌<◌, ◌≤◌, ◌^◌, true, false, List, [], ◌∷◌, length, nat_lt, Some, None, Result}
+use Rattle.std.proofs.Common.{Err, OkIff, IsAscii, IsUtf8, refl, ap, subst, arith, rules, lit<}
 use Rattle.std.specs.Char.{is_ascii_digit}
 use Rattle.std.specs.List.{list_all}
 use Rattle.std.specs.Str.{is_utf8}

@@ -1,5 +1,7 @@
 -- Inputs that are written as a text are read from it.
-use Rattle.std.proofs.Common.{◌≡◌, ◌≢◌, ℕ, suc, ◌+◌, ◌<◌, ◌≤◌, ◌^◌, true, false, All, IsTrue, IsUtf8, List, [], ◌∷◌, ◌++◌, length, get_or, append-nil, append_assoc, length-append, ℤ, pos, negsuc, Option, Some, Result, Ok, refl, sym, ap, ◌∙◌, subst, arith}
+use Rattle.std.proofs.Common.{◌≡◌, ◌≢◌, ℕ, suc, ◌+◌, ◌<◌, ◌≤◌, ◌^◌, true, false, All, IsTrue, IsUtf8, List, [], ◌∷◌, ◌++◌, length}
+use Rattle.std.proofs.Common.{get_or, append-nil, append_assoc, length-append, ℤ, pos, negsuc, Option, Some, Result, Ok, refl}
+use Rattle.std.proofs.Common.{sym, ap, ◌∙◌, subst, arith}
 use Rattle.std.specs.Fmt.{decimal, signed_decimal}
 use Rattle.std.specs.Int.{IsInRange}
 use Rattle.std.specs.Str.{is_utf8}

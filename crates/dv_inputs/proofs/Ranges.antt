@@ -1,12 +1,14 @@
 -- The inputs of a text are at its root's ports.
-use Rattle.std.proofs.Common.{◌≡◌, All, bytes_eq, ℕ, ◌+◌, ◌<◌, Bool, true, false, cond, List, [], ◌∷◌, ◌++◌, length, Option, Some, None, Result, Ok, Err, refl, sym, ap, ◌∙◌, subst, arith}
+use Rattle.std.proofs.Common.{◌≡◌, All, bytes_eq, ℕ, ◌+◌, ◌<◌, Bool, true, false, cond, List, [], ◌∷◌, ◌++◌, length, Option, Some}
+use Rattle.std.proofs.Common.{None, Result, Ok, Err, refl, sym, ap, ◌∙◌, subst, arith}
 use Rattle.std.specs.Str.{is_utf8}
 use Rattle.std.proofs.lemmas.List.Elements.{All-push}
 use Rattle.dv_bag.specs.Inputs.{last_tick}
 use Rattle.dv_bag.specs.declared.inputs.Input.{Input}
 use Rattle.dv_inputs.specs.Lines.{fields_of, is_passed_over, lines_of, without_return}
 use Rattle.dv_inputs.specs.Numbers.{port_in, tick_in, value_in}
-use Rattle.dv_inputs.specs.Reading.{◌>>=◌, input_of, not_below, on_line, or_refused, reading_after, reading_of, tested_line, three_of, with_line}
+use Rattle.dv_inputs.specs.Reading.{◌>>=◌, input_of, not_below, on_line, or_refused, reading_after, reading_of, tested_line}
+use Rattle.dv_inputs.specs.Reading.{three_of, with_line}
 use Rattle.dv_inputs.specs.declared.error.InputRefusal.{InputRefusal}
 use Rattle.dv_inputs.specs.declared.error.InputRefusalNumber.{InputRefusalNumber}
 use Rattle.dv_inputs.specs.declared.error.InputRefusalNumber.TheVariants.{I1, I2, I3, I4}

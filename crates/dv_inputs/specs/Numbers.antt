@@ -1,5 +1,6 @@
 -- What a field says: a tick, a port, a value.
-use Rattle.std.specs.Prelude.{ℕ, ◌+◌, ◌^◌, ◌==◌, Bool, ◌&&◌, if◌then◌else◌, List, [], ◌∷◌, length, nat_lt, ℤ, pos, neg_ℤ, Option, Some, None, option_map, position, bytes_eq}
+use Rattle.std.specs.Prelude.{ℕ, ◌+◌, ◌^◌, ◌==◌, Bool, ◌&&◌, if◌then◌else◌, List, [], ◌∷◌, length, nat_lt, ℤ, pos, neg_ℤ, Option}
+use Rattle.std.specs.Prelude.{Some, None, option_map, position, bytes_eq}
 use Rattle.std.specs.Char.{is_ascii_digit}
 use Rattle.std.specs.List.{list_all}
 use Rattle.std.specs.Str.Parse.{digits_value}

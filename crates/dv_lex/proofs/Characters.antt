@@ -1,5 +1,6 @@
 -- Texts by their characters: runs of characters that pass a test, and what follows a run.
-use Rattle.std.proofs.Common.{◌≡◌, ℕ, ◌+◌, ◌<◌, ◌≤◌, Bool, true, false, not, ◌==◌, List, [], ◌∷◌, ◌++◌, length, take, drop, get_or, ap, refl, sym, ◌∙◌, subst, arith, IsUtf8, IsAscii, IsCharBoundary, Some, encode_utf8_all}
+use Rattle.std.proofs.Common.{◌≡◌, ℕ, ◌+◌, ◌<◌, ◌≤◌, Bool, true, false, not, ◌==◌, List, [], ◌∷◌, ◌++◌, length, take, drop}
+use Rattle.std.proofs.Common.{get_or, ap, refl, sym, ◌∙◌, subst, arith, IsUtf8, IsAscii, IsCharBoundary, Some, encode_utf8_all}
 use Rattle.std.specs.Prelude.{encode_utf8}
 use Rattle.std.specs.List.{list_all, take_while}
 use Rattle.std.specs.Char.{is_ascii_digit}
@@ -10,7 +11,9 @@ use Rattle.std.proofs.lemmas.Bool.Decides.{nat_tests}
 use Rattle.std.proofs.lemmas.List.{append_assoc, append-nil, length-append, drop_at, take-append-drop, get_or-append-add}
 use Rattle.std.proofs.lemmas.List.Folds.{length-prefix_len}
 use Rattle.std.proofs.lemmas.List.Sums.{prefix_len-le-length}
-use Rattle.std.proofs.lemmas.Str.{encode_same, encode_ascii, encodes-IsAscii, encodes-append, length-encode, len_utf8_bounds, IsUtf8-nil, IsUtf8-past_char, IsUtf8-drop, IsCharBoundary-before_ascii, IsCharBoundary-from_drop}
+use Rattle.std.proofs.lemmas.Str.{encode_same, encode_ascii, encodes-IsAscii, encodes-append, length-encode, len_utf8_bounds}
+use Rattle.std.proofs.lemmas.Str.{IsUtf8-nil, IsUtf8-past_char, IsUtf8-drop, IsCharBoundary-before_ascii}
+use Rattle.std.proofs.lemmas.Str.{IsCharBoundary-from_drop}
 use Rattle.dv_lex.specs.Steps.{BeginsWith, Ends, SplitsRun, SplitsCharacters}
 use Rattle.dv_lex.proofs.Ascii.{IsAscii-digits}
 

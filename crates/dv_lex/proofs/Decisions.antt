@@ -1,5 +1,6 @@
 -- What can be decided of bytes: which keyword or symbol they are, which symbol begins them, and how far they are UTF-8.
-use Rattle.std.proofs.Common.{◌≡◌, ◌≢◌, ℕ, ◌≤◌, ◌⊎◌, inl, inr, zero, suc, List, [], ◌∷◌, ◌++◌, length, take, drop, Option, None, Some, find, bytes_eq, IsUtf8, ap, refl, sym, ◌∙◌, arith}
+use Rattle.std.proofs.Common.{◌≡◌, ◌≢◌, ℕ, ◌≤◌, ◌⊎◌, inl, inr, zero, suc, List, [], ◌∷◌, ◌++◌, length, take, drop, Option, None}
+use Rattle.std.proofs.Common.{Some, find, bytes_eq, IsUtf8, ap, refl, sym, ◌∙◌, arith}
 use Rattle.std.specs.Prelude.{IfSome}
 use Rattle.std.specs.Str.{IsValidUpTo, is_utf8}
 use Rattle.std.proofs.lemmas.Bool.{cases_Bool, cases_eq, cases_lt, cond_both, both_ways}

@@ -1,5 +1,6 @@
 -- Each text has tokens or is refused: a lexeme begins what is left of it, or reading stops.
-use Rattle.std.proofs.Common.{◌≡◌, ◌≢◌, ℕ, ◌+◌, ◌<◌, ◌≤◌, ◌^◌, ◌⊎◌, inl, inr, zero, suc, true, false, not, ◌==◌, List, [], ◌∷◌, length, ap, refl, sym, ◌∙◌, subst, arith, IsUtf8, encode_utf8_all}
+use Rattle.std.proofs.Common.{◌≡◌, ◌≢◌, ℕ, ◌+◌, ◌<◌, ◌≤◌, ◌^◌, ◌⊎◌, inl, inr, zero, suc, true, false, not, ◌==◌, List, [], ◌∷◌}
+use Rattle.std.proofs.Common.{length, ap, refl, sym, ◌∙◌, subst, arith, IsUtf8, encode_utf8_all}
 use Rattle.std.specs.Char.{is_ascii_digit}
 use Rattle.std.specs.Str.Parse.{digits_value}
 use Rattle.std.proofs.lemmas.Bool.{cases_Bool, cases_eq, cases_lt}
@@ -7,7 +8,8 @@ use Rattle.std.proofs.lemmas.List.{length-append}
 use Rattle.dv_lex.specs.declared.token.Token.{Token}
 use Rattle.dv_lex.specs.declared.error.Refusal.{Refusal}
 use Rattle.dv_lex.specs.declared.error.RefusalNumber.TheVariants.{E1, E2, E3, E17}
-use Rattle.dv_lex.specs.Lexemes.{Lexeme, Blank, Comment, Identifier, Numeral, Reserved, Sign, Spells, IsWord, is_blank, starts_name, continues_name, symbol_text}
+use Rattle.dv_lex.specs.Lexemes.{Lexeme, Blank, Comment, Identifier, Numeral, Reserved, Sign, Spells, IsWord, is_blank}
+use Rattle.dv_lex.specs.Lexemes.{starts_name, continues_name, symbol_text}
 use Rattle.dv_lex.specs.Reading.{Placed, Reads, IsFirst, IsInRange, NoneBegins, LargeNumberBegins}
 use Rattle.dv_lex.specs.Numbering.{names_of, tokens_of}
 use Rattle.dv_lex.specs.Steps.{BeginsWith, SplitsRun, SplitsCharacters}
@@ -15,7 +17,8 @@ use Rattle.dv_lex.specs.Texts.{IsReadable, IsTokensOf, IsRefused, ReadsUpTo, gre
 use Rattle.dv_lex.proofs.Runs.{SplitsRun-cut}
 use Rattle.dv_lex.proofs.Characters.{some_text, BeginsWith-ascii, SplitsCharacters-encoded}
 use Rattle.dv_lex.proofs.Spellings.{is_blank-ascii, word_class}
-use Rattle.dv_lex.proofs.Firsts.{IsFirst-blank, IsFirst-comment, IsFirst-word, IsFirst-numeral, IsFirst-sign, IsWord-split, digits-split, NoneBegins-first, word_in_range, IsUtf8-behind_first}
+use Rattle.dv_lex.proofs.Firsts.{IsFirst-blank, IsFirst-comment, IsFirst-word, IsFirst-numeral, IsFirst-sign, IsWord-split}
+use Rattle.dv_lex.proofs.Firsts.{digits-split, NoneBegins-first, word_in_range, IsUtf8-behind_first}
 use Rattle.dv_lex.proofs.Readings.{Reads-end, some_byte}
 use Rattle.dv_lex.proofs.Decisions.{keyword_or_none, symbol_in_front, utf8_or_not}
 

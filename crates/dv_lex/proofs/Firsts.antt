@@ -1,5 +1,6 @@
 -- The longest lexeme at the front of bytes, by the first character.
-use Rattle.std.proofs.Common.{◌≡◌, ◌≢◌, ℕ, ◌<◌, ◌≤◌, suc, true, false, not, ◌==◌, List, [], ◌∷◌, ◌++◌, length, take, drop, ap, refl, sym, ◌∙◌, subst, arith, inl, inr, IsUtf8, encode_utf8_all}
+use Rattle.std.proofs.Common.{◌≡◌, ◌≢◌, ℕ, ◌<◌, ◌≤◌, suc, true, false, not, ◌==◌, List, [], ◌∷◌, ◌++◌, length, take, drop, ap}
+use Rattle.std.proofs.Common.{refl, sym, ◌∙◌, subst, arith, inl, inr, IsUtf8, encode_utf8_all}
 use Rattle.std.specs.List.{list_all}
 use Rattle.std.specs.Char.{is_ascii_digit}
 use Rattle.std.specs.Str.Parse.{digits_value}
@@ -9,13 +10,16 @@ use Rattle.std.proofs.lemmas.List.{take_at, drop_at, append_assoc, length-append
 use Rattle.std.proofs.lemmas.List.Folds.{list_all-append}
 use Rattle.std.proofs.lemmas.Str.{encode_ascii, IsUtf8-past_char}
 use Rattle.dv_lex.specs.declared.token.Symbol.{Symbol}
-use Rattle.dv_lex.specs.Lexemes.{Lexeme, Blank, Comment, Identifier, Numeral, Reserved, Sign, Spells, IsWord, is_blank, starts_name, continues_name, symbol_text}
+use Rattle.dv_lex.specs.Lexemes.{Lexeme, Blank, Comment, Identifier, Numeral, Reserved, Sign, Spells, IsWord, is_blank}
+use Rattle.dv_lex.specs.Lexemes.{starts_name, continues_name, symbol_text}
 use Rattle.dv_lex.specs.Reading.{IsFirst, IsInRange, NoneBegins}
 use Rattle.dv_lex.specs.Steps.{BeginsWith, Ends, SplitsRun, SplitsCharacters, IsLongestSymbol}
 use Rattle.dv_lex.proofs.Ascii.{is_ascii_digit-ascii, IsAscii-digits}
-use Rattle.dv_lex.proofs.Characters.{same_first, characters_longest, BeginsWith-append, BeginsWith-ascii, IsUtf8-behind, IsUtf8-behind_ascii, line_end_behind}
+use Rattle.dv_lex.proofs.Characters.{same_first, characters_longest, BeginsWith-append, BeginsWith-ascii, IsUtf8-behind}
+use Rattle.dv_lex.proofs.Characters.{IsUtf8-behind_ascii, line_end_behind}
 use Rattle.dv_lex.proofs.Runs.{run_longest}
-use Rattle.dv_lex.proofs.Spellings.{is_blank-ascii, IsUtf8-behind_symbol, class_of, lexeme_class, class_at, same_class, not_Spells-empty, IsWord-spelled, continues_name-from_start, same_spelling}
+use Rattle.dv_lex.proofs.Spellings.{is_blank-ascii, IsUtf8-behind_symbol, class_of, lexeme_class, class_at, same_class}
+use Rattle.dv_lex.proofs.Spellings.{not_Spells-empty, IsWord-spelled, continues_name-from_start, same_spelling}
 
 -- a blank
 blank_longest : (x : Lexeme) (front : List ℕ) → lexeme_class x ≡ 0 → Spells x front → length front ≤ 1

@@ -1,5 +1,6 @@
 -- How far a text has been read: what the loop keeps, and what it ends in.
-use Rattle.std.proofs.Common.{◌≡◌, ℕ, ◌+◌, ◌-◌, ◌<◌, ◌≤◌, true, not, List, [], ◌∷◌, ◌++◌, length, Option, Some, ap, refl, sym, ◌∙◌, subst, arith, option_map, ◌==◌, IsUtf8}
+use Rattle.std.proofs.Common.{◌≡◌, ℕ, ◌+◌, ◌-◌, ◌<◌, ◌≤◌, true, not, List, [], ◌∷◌, ◌++◌, length, Option, Some, ap, refl, sym}
+use Rattle.std.proofs.Common.{◌∙◌, subst, arith, option_map, ◌==◌, IsUtf8}
 use Rattle.std.specs.List.{cons_option}
 use Rattle.std.proofs.lemmas.Bool.{cond_both}
 use Rattle.std.proofs.lemmas.List.{append-nil, length-append, length_push}

@@ -1,5 +1,7 @@
 -- What the spellings of lexemes begin with, and that no two lexemes have one spelling.
-use Rattle.std.proofs.Common.{◌≡◌, ℕ, ◌<◌, ◌≤◌, Bool, true, false, cond, ◌&&◌, ◌||◌, ◌==◌, List, [], ◌∷◌, ◌++◌, length, drop, ap, refl, sym, ◌∙◌, subst, arith, encode_utf8_all, find, bytes_eq, Some, inl, inr, IsUtf8, IsAscii, IsCharBoundary, get_or}
+use Rattle.std.proofs.Common.{◌≡◌, ℕ, ◌<◌, ◌≤◌, Bool, true, false, cond, ◌&&◌, ◌||◌, ◌==◌, List, [], ◌∷◌, ◌++◌, length, drop, ap}
+use Rattle.std.proofs.Common.{refl, sym, ◌∙◌, subst, arith, encode_utf8_all, find, bytes_eq, Some, inl, inr, IsUtf8, IsAscii}
+use Rattle.std.proofs.Common.{IsCharBoundary, get_or}
 use Rattle.std.specs.List.{list_all}
 use Rattle.std.specs.Char.{is_ascii_alphabetic, is_ascii_digit}
 use Rattle.std.specs.Int.{is_in_range}
@@ -14,7 +16,8 @@ use Rattle.dv_lex.specs.declared.token.Keyword.{Keyword}
 use Rattle.dv_lex.specs.declared.token.Keyword.TheVariants as keyword
 use Rattle.dv_lex.specs.declared.token.Symbol.{Symbol}
 use Rattle.dv_lex.specs.declared.token.Symbol.TheVariants as symbol
-use Rattle.dv_lex.specs.Lexemes.{Lexeme, Blank, Comment, Identifier, Numeral, Reserved, Sign, Spells, IsWord, is_blank, starts_name, continues_name, keyword_text, symbol_text}
+use Rattle.dv_lex.specs.Lexemes.{Lexeme, Blank, Comment, Identifier, Numeral, Reserved, Sign, Spells, IsWord, is_blank}
+use Rattle.dv_lex.specs.Lexemes.{starts_name, continues_name, keyword_text, symbol_text}
 use Rattle.dv_lex.specs.Steps.{BeginsWith}
 use Rattle.dv_lex.proofs.Ascii.{IsAscii-run, is_ascii_digit-ascii}
 use Rattle.dv_lex.proofs.Characters.{not_begun, same_first, BeginsWith-append, IsUtf8-behind_ascii}
@@ -219,11 +222,19 @@ not_Spells-empty x h = let f = first_class x [] h in not_begun f.0 f.1
 -- no two keywords and no two symbols have one text: the first of all that has it is found again
 abbrev pub keywords : List Keyword
 keywords =
-    keyword.Atomic ∷ keyword.Coupled ∷ keyword.Root ∷ keyword.In ∷ keyword.Out ∷ keyword.Var ∷ keyword.Flag ∷ keyword.Bag ∷ keyword.Phases ∷ keyword.Start ∷ keyword.Hold ∷ keyword.Forever ∷ keyword.Output ∷ keyword.Internal ∷ keyword.External ∷ keyword.Confluent ∷ keyword.Part ∷ keyword.Link ∷ keyword.Itself ∷ keyword.If ∷ keyword.Else ∷ keyword.For ∷ keyword.Add ∷ keyword.To ∷ keyword.Drop ∷ keyword.From ∷ keyword.Send ∷ keyword.Goto ∷ keyword.True ∷ keyword.False ∷ keyword.Not ∷ keyword.And ∷ keyword.Or ∷ keyword.Elapsed ∷ keyword.Size ∷ keyword.Sum ∷ keyword.Least ∷ keyword.Most ∷ keyword.Times ∷ []
+    keyword.Atomic ∷ keyword.Coupled ∷ keyword.Root ∷ keyword.In ∷ keyword.Out ∷ keyword.Var ∷ keyword.Flag ∷ keyword.Bag
+    ∷ keyword.Phases ∷ keyword.Start ∷ keyword.Hold ∷ keyword.Forever ∷ keyword.Output ∷ keyword.Internal ∷ keyword.External
+    ∷ keyword.Confluent ∷ keyword.Part ∷ keyword.Link ∷ keyword.Itself ∷ keyword.If ∷ keyword.Else ∷ keyword.For ∷ keyword.Add
+    ∷ keyword.To ∷ keyword.Drop ∷ keyword.From ∷ keyword.Send ∷ keyword.Goto ∷ keyword.True ∷ keyword.False ∷ keyword.Not
+    ∷ keyword.And ∷ keyword.Or ∷ keyword.Elapsed ∷ keyword.Size ∷ keyword.Sum ∷ keyword.Least ∷ keyword.Most ∷ keyword.Times
+    ∷ []
 
 abbrev pub symbols : List Symbol
 symbols =
-    symbol.Assign ∷ symbol.Arrow ∷ symbol.Range ∷ symbol.Unequal ∷ symbol.AtMost ∷ symbol.AtLeast ∷ symbol.OpenBrace ∷ symbol.CloseBrace ∷ symbol.OpenParen ∷ symbol.CloseParen ∷ symbol.Semicolon ∷ symbol.Colon ∷ symbol.Comma ∷ symbol.Dot ∷ symbol.Equal ∷ symbol.Less ∷ symbol.Greater ∷ symbol.Plus ∷ symbol.Minus ∷ symbol.Star ∷ symbol.Slash ∷ symbol.Percent ∷ []
+    symbol.Assign ∷ symbol.Arrow ∷ symbol.Range ∷ symbol.Unequal ∷ symbol.AtMost ∷ symbol.AtLeast ∷ symbol.OpenBrace
+    ∷ symbol.CloseBrace ∷ symbol.OpenParen ∷ symbol.CloseParen ∷ symbol.Semicolon ∷ symbol.Colon ∷ symbol.Comma ∷ symbol.Dot
+    ∷ symbol.Equal ∷ symbol.Less ∷ symbol.Greater ∷ symbol.Plus ∷ symbol.Minus ∷ symbol.Star ∷ symbol.Slash ∷ symbol.Percent
+    ∷ []
 
 pub keyword_at : (k : Keyword) → find (λ other. bytes_eq (keyword_text other) (keyword_text k)) keywords ≡ Some k
 keyword_at keyword.Atomic = refl

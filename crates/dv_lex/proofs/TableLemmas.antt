@@ -1,5 +1,6 @@
 -- The table of names: how the numbers of names stay as it grows.
-use Rattle.std.proofs.Common.{◌≡◌, ℕ, ◌+◌, ◌<◌, Bool, true, not, cond, ◌||◌, List, [], ◌∷◌, ◌++◌, length, map, Some, ap, refl, sym, ◌∙◌, ltb, eqb, arith, bytes_eq, String, string_bytes, string_eq, inl, inr, suc}
+use Rattle.std.proofs.Common.{◌≡◌, ℕ, ◌+◌, ◌<◌, Bool, true, not, cond, ◌||◌, List, [], ◌∷◌, ◌++◌, length, map, Some, ap, refl}
+use Rattle.std.proofs.Common.{sym, ◌∙◌, ltb, eqb, arith, bytes_eq, String, string_bytes, string_eq, inl, inr, suc}
 use Rattle.std.specs.List.{list_any, position_or_len, position}
 use Rattle.std.proofs.lemmas.Option.{cond_some}
 use Rattle.std.proofs.lemmas.Bool.{eqb-true, cond_both, or_cases, cond-true, cond-false}

@@ -1,7 +1,8 @@
 -- Which of several refusals of a text is its answer: the one at the least place, and at one place the one of the least number.
 use Rattle.std.specs.Prelude.{ℕ, Bool, ◌&&◌, ◌||◌, nat_eq, nat_lt, if◌then◌else◌, List, [], ◌∷◌, Option, Some, None}
 use Rattle.dv_lex.specs.declared.error.RefusalNumber.{RefusalNumber}
-use Rattle.dv_lex.specs.declared.error.RefusalNumber.TheVariants.{E1, E2, E3, E4, E5, E6, E7, E8, E9, E10, E11, E12, E13, E14, E15, E16, E17}
+use Rattle.dv_lex.specs.declared.error.RefusalNumber.TheVariants.{E1, E2, E3, E4, E5, E6, E7, E8, E9, E10, E11, E12, E13, E14}
+use Rattle.dv_lex.specs.declared.error.RefusalNumber.TheVariants.{E15, E16, E17}
 use Rattle.dv_lex.specs.declared.error.Refusal.{Refusal}
 
 -- the number by which a refusal is told

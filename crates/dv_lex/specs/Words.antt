@@ -2,7 +2,8 @@
 use Rattle.std.specs.Prelude.{ℕ, List, ◌++◌, codes}
 use Rattle.std.specs.Fmt.{decimal}
 use Rattle.dv_lex.specs.declared.error.RefusalNumber.{RefusalNumber}
-use Rattle.dv_lex.specs.declared.error.RefusalNumber.TheVariants.{E1, E2, E3, E4, E5, E6, E7, E8, E9, E10, E11, E12, E13, E14, E15, E16, E17}
+use Rattle.dv_lex.specs.declared.error.RefusalNumber.TheVariants.{E1, E2, E3, E4, E5, E6, E7, E8, E9, E10, E11, E12, E13, E14}
+use Rattle.dv_lex.specs.declared.error.RefusalNumber.TheVariants.{E15, E16, E17}
 use Rattle.dv_lex.specs.declared.error.TextError.{TextError}
 
 abbrev pub refusal_word : RefusalNumber → List ℕ

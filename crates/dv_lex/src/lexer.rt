@@ -1,6 +1,7 @@
 //! From the bytes of a model text to its tokens.
 
-ghost use Rattle.std.specs.Prelude.{List, [], ◌++◌, ◌≡◌, ◌≢◌, ℕ, ◌+◌, ◌-◌, ◌^◌, ◌<◌, ◌≤◌, false, length, encode_utf8, IfOk, MatchOption, Some, Err, IsTrue, not, ◌==◌};
+ghost use Rattle.std.specs.Prelude.{List, [], ◌++◌, ◌≡◌, ◌≢◌, ℕ, ◌+◌, ◌-◌, ◌^◌, ◌<◌, ◌≤◌, false, length, encode_utf8, IfOk};
+ghost use Rattle.std.specs.Prelude.{MatchOption, Some, Err, IsTrue, not, ◌==◌};
 ghost use Rattle.std.specs.Char.{is_ascii_digit};
 ghost use Rattle.std.specs.List.{list_all, take_while};
 ghost use Rattle.std.specs.Str.Parse.{digits_value};

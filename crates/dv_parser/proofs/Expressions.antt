@@ -1,5 +1,6 @@
 -- What is read as an expression is spelled so, and what is spelled so is read.
-use Rattle.std.proofs.Common.{◌≡◌, ℕ, zero, suc, ◌+◌, ◌-◌, ◌<◌, ◌≤◌, Bool, true, false, ltb, leb, ◌&&◌, List, [], ◌∷◌, ◌++◌, Option, Some, None, Ok, Err, refl, ap, subst, ◌∙◌, inl, inr, arith}
+use Rattle.std.proofs.Common.{◌≡◌, ℕ, zero, suc, ◌+◌, ◌-◌, ◌<◌, ◌≤◌, Bool, true, false, ltb, leb, ◌&&◌, List, [], ◌∷◌, ◌++◌}
+use Rattle.std.proofs.Common.{Option, Some, None, Ok, Err, refl, ap, subst, ◌∙◌, inl, inr, arith}
 use Rattle.std.specs.Prelude.{IfSome}
 use Rattle.std.proofs.lemmas.Bool.{ltb-true, leb-true, lt-ltb, lt-leb, le-leb, le-ltb}
 use Rattle.dv_lex.specs.declared.token.Token.{Token}
@@ -18,9 +19,15 @@ use Rattle.dv_syntax.specs.declared.tree.Operator.TheVariants as operator
 use Rattle.dv_syntax.specs.declared.tree.BagCall.{BagCall}
 use Rattle.dv_syntax.specs.declared.tree.BagCall.TheVariants as call
 use Rattle.dv_syntax.specs.Trees.{Expression, Literal, TruthValue, Named, Parens, Prefixed, Binary, Call, Elapsed, Times}
-use Rattle.dv_syntax.specs.Grammar.{Spelled, At, Anywhere, Spells, sign, word_at, name, number, Limits, truth_word, call_word, prefix_kind, prefix_rank, operator_kind, operator_rank, left_rank, rank, depth, IsWellFormed, IsExpression, expression_spelling}
-use Rattle.dv_parser.specs.Reading.{Obstacle, TooDeep, Read, read_then, within, place_at, choose, maybe, begins, keyword_operator, symbol_operator, operator_of, goes_on, operator_at, call_at, elapsed_at, leaf_at, parens_at, prefixed_at, times_at, primary_at, turns, expression_at}
-use Rattle.dv_parser.proofs.Tokens.{then_ok, then_is, chosen, maybe_is, ok_is, err_ok, some_is, none_some, Spells-then, Spells-split, front, name_front, number_front, truth_front, call_front, unplaced, after_spells, after_spells_at, name_spells, number_spells, truth_spells, call_spells}
+use Rattle.dv_syntax.specs.Grammar.{Spelled, At, Anywhere, Spells, sign, word_at, name, number, Limits, truth_word, call_word}
+use Rattle.dv_syntax.specs.Grammar.{prefix_kind, prefix_rank, operator_kind, operator_rank, left_rank, rank, depth, IsWellFormed}
+use Rattle.dv_syntax.specs.Grammar.{IsExpression, expression_spelling}
+use Rattle.dv_parser.specs.Reading.{Obstacle, TooDeep, Read, read_then, within, place_at, choose, maybe, begins, keyword_operator}
+use Rattle.dv_parser.specs.Reading.{symbol_operator, operator_of, goes_on, operator_at, call_at, elapsed_at, leaf_at, parens_at}
+use Rattle.dv_parser.specs.Reading.{prefixed_at, times_at, primary_at, turns, expression_at}
+use Rattle.dv_parser.proofs.Tokens.{then_ok, then_is, chosen, maybe_is, ok_is, err_ok, some_is, none_some, Spells-then}
+use Rattle.dv_parser.proofs.Tokens.{Spells-split, front, name_front, number_front, truth_front, call_front, unplaced}
+use Rattle.dv_parser.proofs.Tokens.{after_spells, after_spells_at, name_spells, number_spells, truth_spells, call_spells}
 
 abbrev pub Reader : Type 0
 Reader = ℕ → List Token → Read (Expression × List Token)

@@ -1,5 +1,6 @@
 -- What is read as items, models and files is spelled so, and what is spelled so is read.
-use Rattle.std.proofs.Common.{◌≡◌, ℕ, ◌<◌, true, false, List, [], ◌∷◌, ◌++◌, length, Option, Some, None, Ok, Err, refl, sym, ap, subst, ◌∙◌, inl, inr, arith}
+use Rattle.std.proofs.Common.{◌≡◌, ℕ, ◌<◌, true, false, List, [], ◌∷◌, ◌++◌, length, Option, Some, None, Ok, Err, refl, sym, ap}
+use Rattle.std.proofs.Common.{subst, ◌∙◌, inl, inr, arith}
 use Rattle.std.specs.List.{flat_map, AllByRecursion}
 use Rattle.dv_lex.specs.declared.token.Token.{Token}
 use Rattle.dv_lex.specs.declared.token.TokenKind.TheVariants as kind
@@ -21,12 +22,23 @@ use Rattle.dv_syntax.specs.declared.tree.RuleSort.TheVariants as sort
 use Rattle.dv_syntax.specs.declared.tree.End.{End}
 use Rattle.dv_syntax.specs.declared.tree.Part.{Part}
 use Rattle.dv_syntax.specs.declared.tree.Link.{Link}
-use Rattle.dv_syntax.specs.Trees.{Expression, Statements, Literal, TruthValue, Named, Parens, Prefixed, Binary, Call, Elapsed, Times, FileTree}
-use Rattle.dv_syntax.specs.Written.{AtomicItem, Declares, Lists, Starts, Holds, Rules, CoupledItem, Inputs, Outputs, Contains, Couples, WrittenModel, WrittenAtomic, WrittenCoupled, WrittenFile, sorted}
-use Rattle.dv_syntax.specs.Grammar.{Spelled, Anywhere, Limits, the_limits, name, number, sign, word, braces, operator_kind, expression_spelling, minus_spelling, bound_spelling, variable_spelling, flag_spelling, bag_spelling, ticks_spelling, phases_spelling, rule_spelling, item_spelling, AreTicks, IsItem, part_name_spelling, end_spelling, coupled_item_spelling, model_spelling, IsModel, file_spelling, IsWritten, IsFileWithin, IsFileOf}
-use Rattle.dv_parser.specs.Reading.{Obstacle, read_then, choose, begins, operator_of, many_at, braces_at, bound_at, variable_at, flag_at, bag_at, further_name_at, phases_at, start_at, ticks_at, hold_at, rule_at, any_rule_at, port_at, item_at, atomic_at, end_at, part_at, link_at, coupled_item_at, coupled_at, model_at, is_end, file_at}
+use Rattle.dv_syntax.specs.Trees.{Expression, Statements, Literal, TruthValue, Named, Parens, Prefixed, Binary, Call, Elapsed}
+use Rattle.dv_syntax.specs.Trees.{Times, FileTree}
+use Rattle.dv_syntax.specs.Written.{AtomicItem, Declares, Lists, Starts, Holds, Rules, CoupledItem, Inputs, Outputs, Contains}
+use Rattle.dv_syntax.specs.Written.{Couples, WrittenModel, WrittenAtomic, WrittenCoupled, WrittenFile, sorted}
+use Rattle.dv_syntax.specs.Grammar.{Spelled, Anywhere, Limits, the_limits, name, number, sign, word, braces, operator_kind}
+use Rattle.dv_syntax.specs.Grammar.{expression_spelling, minus_spelling, bound_spelling, variable_spelling, flag_spelling}
+use Rattle.dv_syntax.specs.Grammar.{bag_spelling, ticks_spelling, phases_spelling, rule_spelling, item_spelling, AreTicks, IsItem}
+use Rattle.dv_syntax.specs.Grammar.{part_name_spelling, end_spelling, coupled_item_spelling, model_spelling, IsModel}
+use Rattle.dv_syntax.specs.Grammar.{file_spelling, IsWritten, IsFileWithin, IsFileOf}
+use Rattle.dv_parser.specs.Reading.{Obstacle, read_then, choose, begins, operator_of, many_at, braces_at, bound_at, variable_at}
+use Rattle.dv_parser.specs.Reading.{flag_at, bag_at, further_name_at, phases_at, start_at, ticks_at, hold_at, rule_at}
+use Rattle.dv_parser.specs.Reading.{any_rule_at, port_at, item_at, atomic_at, end_at, part_at, link_at, coupled_item_at}
+use Rattle.dv_parser.specs.Reading.{coupled_at, model_at, is_end, file_at}
 use Rattle.dv_parser.proofs.Tokens.{then_ok, chosen, ok_is, err_ok}
-use Rattle.dv_parser.proofs.Readers.{Spans, nothing, after_spans, after_spans_at, name_spans, number_spans, truth_spans, then_spans, split, first, first_name, first_number, first_truth, span_end, IsReader, IsListed, many_reader, braces_reader, shortens, Shortens}
+use Rattle.dv_parser.proofs.Readers.{Spans, nothing, after_spans, after_spans_at, name_spans, number_spans, truth_spans}
+use Rattle.dv_parser.proofs.Readers.{then_spans, split, first, first_name, first_number, first_truth, span_end, IsReader}
+use Rattle.dv_parser.proofs.Readers.{IsListed, many_reader, braces_reader, shortens, Shortens}
 use Rattle.dv_parser.proofs.Expressions.{IsClosed-front}
 use Rattle.dv_parser.proofs.Statements.{expression_reader, block_reader, IsBlock}
 

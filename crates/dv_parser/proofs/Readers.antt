@@ -1,5 +1,6 @@
 -- Readers, and lists of what one reader reads.
-use Rattle.std.proofs.Common.{◌≡◌, ℕ, zero, suc, ◌<◌, Bool, true, false, List, [], ◌∷◌, ◌++◌, length, Ok, Err, refl, sym, ap, subst, ◌∙◌, append_assoc, inl, inr, arith}
+use Rattle.std.proofs.Common.{◌≡◌, ℕ, zero, suc, ◌<◌, Bool, true, false, List, [], ◌∷◌, ◌++◌, length, Ok, Err, refl, sym, ap}
+use Rattle.std.proofs.Common.{subst, ◌∙◌, append_assoc, inl, inr, arith}
 use Rattle.std.specs.List.{flat_map, AllByRecursion}
 use Rattle.dv_lex.specs.declared.token.Token.{Token}
 use Rattle.dv_lex.specs.declared.token.TokenKind.{TokenKind}
@@ -10,8 +11,11 @@ use Rattle.dv_syntax.specs.declared.tree.Number.{Number}
 use Rattle.dv_syntax.specs.Grammar.{Spelled, At, Anywhere, Spells, name, number, sign, word, truth_word, braces}
 use Rattle.dv_parser.specs.declared.parse_error.ParseError.{ParseError}
 use Rattle.dv_parser.specs.declared.parse_error.ParseError.TheVariants as parse_error
-use Rattle.dv_parser.specs.Reading.{Obstacle, Read, Fails, read_then, becoming, choose, same_kind, begins, after, is_name, begins_name, name_at, number_at, truth_at, place_at, many, many_at, with_front, braces_at}
-use Rattle.dv_parser.proofs.Tokens.{then_ok, chosen, ok_is, err_ok, Spells-then, Spells-split, Spells-length, kind_of, AtPlace, front, name_front, number_front, truth_front, unplaced, after_spells, after_spells_at, name_spells, number_spells, truth_spells}
+use Rattle.dv_parser.specs.Reading.{Obstacle, Read, Fails, read_then, becoming, choose, same_kind, begins, after, is_name}
+use Rattle.dv_parser.specs.Reading.{begins_name, name_at, number_at, truth_at, place_at, many, many_at, with_front, braces_at}
+use Rattle.dv_parser.proofs.Tokens.{then_ok, chosen, ok_is, err_ok, Spells-then, Spells-split, Spells-length, kind_of, AtPlace}
+use Rattle.dv_parser.proofs.Tokens.{front, name_front, number_front, truth_front, unplaced, after_spells, after_spells_at}
+use Rattle.dv_parser.proofs.Tokens.{name_spells, number_spells, truth_spells}
 
 -- ---- Spellings, as records
 
@@ -60,7 +64,14 @@ pub record First (s : Spelled) (ss : List Spelled) (ts rest : List Token) : Type
 pub first : {s : Spelled} {ss : List Spelled} {ts rest : List Token} → Spans (s ∷ ss) ts rest → First s ss ts rest
 first {s = s} {ss = ss} {ts = ts} {rest = rest} h =
     let f = front s ss ts rest h.spells in
-    record { behind = f.behind; after = f.after; begins = f.begins; begins_name = f.begins_name; place = f.place; spelled = record { spells = f.spelled } }
+    record {
+      behind = f.behind;
+      after = f.after;
+      begins = f.begins;
+      begins_name = f.begins_name;
+      place = f.place;
+      spelled = record { spells = f.spelled };
+    }
 
 pub record FirstName (n : Name) (ss : List Spelled) (ts rest : List Token) : Type 0 where
   pub behind : List Token

@@ -1,5 +1,6 @@
 -- The code sorts the items of a model as it reads them: what it reads is what is written, sorted.
-use Rattle.std.proofs.Common.{◌≡◌, zero, suc, ℕ, ◌<◌, Bool, true, false, List, [], ◌∷◌, length, map, Ok, Err, refl, sym, ap, subst, ◌∙◌, append_assoc}
+use Rattle.std.proofs.Common.{◌≡◌, zero, suc, ℕ, ◌<◌, Bool, true, false, List, [], ◌∷◌, length, map, Ok, Err, refl, sym, ap}
+use Rattle.std.proofs.Common.{subst, ◌∙◌, append_assoc}
 use Rattle.std.proofs.lemmas.List.{append-nil}
 use Rattle.dv_lex.specs.declared.error.LoadError.{LoadError}
 use Rattle.dv_lex.specs.declared.error.LoadError.TheVariants as error
@@ -9,9 +10,13 @@ use Rattle.dv_lex.specs.declared.token.Keyword.TheVariants as keyword
 use Rattle.dv_lex.specs.declared.token.Symbol.TheVariants as symbol
 use Rattle.dv_syntax.specs.declared.tree.Name.{Name}
 use Rattle.dv_syntax.specs.Trees.{AtomicTree, CoupledTree, ModelTree, AtomicModel, CoupledModel, FileTree}
-use Rattle.dv_syntax.specs.Written.{AtomicItem, Declares, Lists, Starts, Holds, Rules, CoupledItem, Inputs, Outputs, Contains, Couples, WrittenModel, WrittenFile, sorted_items, sorted_coupled_items, sorted_model, sorted}
+use Rattle.dv_syntax.specs.Written.{AtomicItem, Declares, Lists, Starts, Holds, Rules, CoupledItem, Inputs, Outputs, Contains}
+use Rattle.dv_syntax.specs.Written.{Couples, WrittenModel, WrittenFile, sorted_items, sorted_coupled_items, sorted_model, sorted}
 use Rattle.dv_syntax.specs.Grammar.{the_limits, IsFileOf}
-use Rattle.dv_parser.specs.Reading.{Obstacle, Read, read_then, choose, begins, after, name_at, is_end, many, many_at, becoming, braces_at, item_at, coupled_item_at, atomic_at, coupled_at, model_at, file_at, with_items, with_item, with_coupled_items, with_coupled_item, empty_atomic, empty_coupled, atomic_tree_at, coupled_tree_at, tree_at, file_tree_at, refusal_of, refusal_in, IsRefused}
+use Rattle.dv_parser.specs.Reading.{Obstacle, Read, read_then, choose, begins, after, name_at, is_end, many, many_at, becoming}
+use Rattle.dv_parser.specs.Reading.{braces_at, item_at, coupled_item_at, atomic_at, coupled_at, model_at, file_at, with_items}
+use Rattle.dv_parser.specs.Reading.{with_item, with_coupled_items, with_coupled_item, empty_atomic, empty_coupled, atomic_tree_at}
+use Rattle.dv_parser.specs.Reading.{coupled_tree_at, tree_at, file_tree_at, refusal_of, refusal_in, IsRefused}
 use Rattle.dv_parser.proofs.Tokens.{then_ok, ok_is}
 use Rattle.dv_parser.proofs.Readers.{Shortens}
 use Rattle.dv_parser.proofs.Models.{model_shortens, file_sound}

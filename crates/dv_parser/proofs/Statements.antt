@@ -1,5 +1,6 @@
 -- What is read as statements and blocks is spelled so, and what is spelled so is read.
-use Rattle.std.proofs.Common.{◌≡◌, ℕ, zero, suc, ◌-◌, ◌<◌, ◌≤◌, true, false, List, [], ◌∷◌, ◌++◌, length, None, Ok, Err, refl, ap, subst, ◌∙◌, append_assoc, inl, inr, arith}
+use Rattle.std.proofs.Common.{◌≡◌, ℕ, zero, suc, ◌-◌, ◌<◌, ◌≤◌, true, false, List, [], ◌∷◌, ◌++◌, length, None, Ok, Err, refl, ap}
+use Rattle.std.proofs.Common.{subst, ◌∙◌, append_assoc, inl, inr, arith}
 use Rattle.std.specs.List.{flat_map, AllByRecursion}
 use Rattle.std.proofs.lemmas.List.{append-nil}
 use Rattle.dv_lex.specs.declared.token.Token.{Token}
@@ -10,13 +11,19 @@ use Rattle.dv_lex.specs.declared.token.Keyword.TheVariants as keyword
 use Rattle.dv_lex.specs.declared.token.Symbol.TheVariants as symbol
 use Rattle.dv_syntax.specs.declared.tree.Name.{Name}
 use Rattle.dv_syntax.specs.Trees.{Statements, Done, Assign, Goto, Send, If, IfElse, For, Add, Drop}
-use Rattle.dv_syntax.specs.Grammar.{Spelled, name, sign, word, word_at, braces, Limits, IsExpression, expression_spelling, statements_spelling, block_depth, loop_depth, AreStatements}
+use Rattle.dv_syntax.specs.Grammar.{Spelled, name, sign, word, word_at, braces, Limits, IsExpression, expression_spelling}
+use Rattle.dv_syntax.specs.Grammar.{statements_spelling, block_depth, loop_depth, AreStatements}
 use Rattle.dv_parser.specs.declared.parse_error.ParseError.{ParseError}
 use Rattle.dv_parser.specs.declared.parse_error.ParseError.TheVariants as parse_error
-use Rattle.dv_parser.specs.Reading.{Obstacle, Read, Fails, read_then, name_at, place_at, within, choose, same_kind, begins, keyword_operator, operator_of, expression_at, braces_at, Single, SingleAssign, SingleGoto, SingleSend, SingleIf, SingleIfElse, SingleFor, SingleAdd, SingleDrop, single_before, joined, assign_at, goto_at, send_at, add_at, drop_at, else_at, if_at, for_at, statement_at, block_at}
+use Rattle.dv_parser.specs.Reading.{Obstacle, Read, Fails, read_then, name_at, place_at, within, choose, same_kind, begins}
+use Rattle.dv_parser.specs.Reading.{keyword_operator, operator_of, expression_at, braces_at, Single, SingleAssign, SingleGoto}
+use Rattle.dv_parser.specs.Reading.{SingleSend, SingleIf, SingleIfElse, SingleFor, SingleAdd, SingleDrop, single_before, joined}
+use Rattle.dv_parser.specs.Reading.{assign_at, goto_at, send_at, add_at, drop_at, else_at, if_at, for_at, statement_at, block_at}
 use Rattle.dv_parser.proofs.Tokens.{then_ok, chosen, ok_is, err_ok, same_kind-true}
-use Rattle.dv_parser.proofs.Readers.{Spans, nothing, after_spans, after_spans_at, name_spans, then_spans, split, first, first_name, span_end, IsReader, IsListed, braces_reader, shortens, Shortens}
-use Rattle.dv_parser.proofs.Expressions.{within_ok, within_room, within_positive, IsClosed, IsClosed-front, expression_complete, expression_sound}
+use Rattle.dv_parser.proofs.Readers.{Spans, nothing, after_spans, after_spans_at, name_spans, then_spans, split, first}
+use Rattle.dv_parser.proofs.Readers.{first_name, span_end, IsReader, IsListed, braces_reader, shortens, Shortens}
+use Rattle.dv_parser.proofs.Expressions.{within_ok, within_room, within_positive, IsClosed, IsClosed-front, expression_complete}
+use Rattle.dv_parser.proofs.Expressions.{expression_sound}
 
 pub expression_reader : (limits : Limits) → IsReader (expression_at limits.expression 0) expression_spelling (IsExpression limits) IsClosed
 expression_reader limits = record {

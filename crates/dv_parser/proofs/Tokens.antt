@@ -1,5 +1,6 @@
 -- Spellings one after the other, and single tokens.
-use Rattle.std.proofs.Common.{◌≡◌, ℕ, ◌+◌, Bool, true, false, eqb, List, [], ◌∷◌, ◌++◌, length, get_or, Option, Some, None, Ok, Err, refl, sym, ap, subst, ◌∙◌, ◌⊎◌, inl, inr, arith}
+use Rattle.std.proofs.Common.{◌≡◌, ℕ, ◌+◌, Bool, true, false, eqb, List, [], ◌∷◌, ◌++◌, length, get_or, Option, Some, None, Ok}
+use Rattle.std.proofs.Common.{Err, refl, sym, ap, subst, ◌∙◌, ◌⊎◌, inl, inr, arith}
 use Rattle.std.specs.Prelude.{IsTrue, ◌↔◌}
 use Rattle.std.proofs.lemmas.Bool.{eqb-true, eq-eqb, false≢true}
 use Rattle.dv_lex.specs.declared.token.Token.{Token}
@@ -14,7 +15,9 @@ use Rattle.dv_syntax.specs.declared.tree.Number.{Number}
 use Rattle.dv_syntax.specs.declared.tree.BagCall.{BagCall}
 use Rattle.dv_syntax.specs.declared.tree.BagCall.TheVariants as call
 use Rattle.dv_syntax.specs.Grammar.{Spelled, At, Anywhere, Spells, name, number, word, word_at, truth_word, call_word}
-use Rattle.dv_parser.specs.Reading.{Obstacle, Read, read_then, choose, maybe, keyword_number, symbol_number, same_kind, begins, after, is_name, begins_name, name_of, name_at, number_of, number_at, truth_at, word_of_at, call_word_at, place_at}
+use Rattle.dv_parser.specs.Reading.{Obstacle, Read, read_then, choose, maybe, keyword_number, symbol_number, same_kind, begins}
+use Rattle.dv_parser.specs.Reading.{after, is_name, begins_name, name_of, name_at, number_of, number_at, truth_at, word_of_at}
+use Rattle.dv_parser.specs.Reading.{call_word_at, place_at}
 
 -- ---- What was read
 
@@ -79,10 +82,20 @@ Spells-length (s ∷ a) (t ∷ ts) rest h = omega (arith, Spells-length a ts res
 -- ---- Kinds
 
 keywords : List Keyword
-keywords = keyword.Atomic ∷ keyword.Coupled ∷ keyword.Root ∷ keyword.In ∷ keyword.Out ∷ keyword.Var ∷ keyword.Flag ∷ keyword.Bag ∷ keyword.Phases ∷ keyword.Start ∷ keyword.Hold ∷ keyword.Forever ∷ keyword.Output ∷ keyword.Internal ∷ keyword.External ∷ keyword.Confluent ∷ keyword.Part ∷ keyword.Link ∷ keyword.Itself ∷ keyword.If ∷ keyword.Else ∷ keyword.For ∷ keyword.Add ∷ keyword.To ∷ keyword.Drop ∷ keyword.From ∷ keyword.Send ∷ keyword.Goto ∷ keyword.True ∷ keyword.False ∷ keyword.Not ∷ keyword.And ∷ keyword.Or ∷ keyword.Elapsed ∷ keyword.Size ∷ keyword.Sum ∷ keyword.Least ∷ keyword.Most ∷ keyword.Times ∷ []
+keywords =
+    keyword.Atomic ∷ keyword.Coupled ∷ keyword.Root ∷ keyword.In ∷ keyword.Out ∷ keyword.Var ∷ keyword.Flag ∷ keyword.Bag
+    ∷ keyword.Phases ∷ keyword.Start ∷ keyword.Hold ∷ keyword.Forever ∷ keyword.Output ∷ keyword.Internal ∷ keyword.External
+    ∷ keyword.Confluent ∷ keyword.Part ∷ keyword.Link ∷ keyword.Itself ∷ keyword.If ∷ keyword.Else ∷ keyword.For ∷ keyword.Add
+    ∷ keyword.To ∷ keyword.Drop ∷ keyword.From ∷ keyword.Send ∷ keyword.Goto ∷ keyword.True ∷ keyword.False ∷ keyword.Not
+    ∷ keyword.And ∷ keyword.Or ∷ keyword.Elapsed ∷ keyword.Size ∷ keyword.Sum ∷ keyword.Least ∷ keyword.Most ∷ keyword.Times
+    ∷ []
 
 symbols : List Symbol
-symbols = symbol.Assign ∷ symbol.Arrow ∷ symbol.Range ∷ symbol.Unequal ∷ symbol.AtMost ∷ symbol.AtLeast ∷ symbol.OpenBrace ∷ symbol.CloseBrace ∷ symbol.OpenParen ∷ symbol.CloseParen ∷ symbol.Semicolon ∷ symbol.Colon ∷ symbol.Comma ∷ symbol.Dot ∷ symbol.Equal ∷ symbol.Less ∷ symbol.Greater ∷ symbol.Plus ∷ symbol.Minus ∷ symbol.Star ∷ symbol.Slash ∷ symbol.Percent ∷ []
+symbols =
+    symbol.Assign ∷ symbol.Arrow ∷ symbol.Range ∷ symbol.Unequal ∷ symbol.AtMost ∷ symbol.AtLeast ∷ symbol.OpenBrace
+    ∷ symbol.CloseBrace ∷ symbol.OpenParen ∷ symbol.CloseParen ∷ symbol.Semicolon ∷ symbol.Colon ∷ symbol.Comma ∷ symbol.Dot
+    ∷ symbol.Equal ∷ symbol.Less ∷ symbol.Greater ∷ symbol.Plus ∷ symbol.Minus ∷ symbol.Star ∷ symbol.Slash ∷ symbol.Percent
+    ∷ []
 
 keyword_again : (k : Keyword) → get_or keywords (keyword_number k) keyword.Atomic ≡ k
 unfolding keywords

@@ -1,6 +1,7 @@
 -- Reading from left to right: a reader answers with what stands at the front of the tokens and the tokens after it, or
 -- with what stops it.
-use Rattle.std.specs.Prelude.{◌≡◌, ℕ, zero, suc, ◌+◌, ◌-◌, List, [], ◌∷◌, ◌++◌, length, Bool, true, false, ◌&&◌, Option, Some, None, Result, Ok, Err, nat_lt, nat_le, ◌==◌, ◌||◌}
+use Rattle.std.specs.Prelude.{◌≡◌, ℕ, zero, suc, ◌+◌, ◌-◌, List, [], ◌∷◌, ◌++◌, length, Bool, true, false, ◌&&◌, Option, Some}
+use Rattle.std.specs.Prelude.{None, Result, Ok, Err, nat_lt, nat_le, ◌==◌, ◌||◌}
 use Rattle.dv_lex.specs.declared.token.Token.{Token}
 use Rattle.dv_lex.specs.declared.token.TokenKind.{TokenKind}
 use Rattle.dv_lex.specs.declared.token.TokenKind.TheVariants as kind
@@ -38,9 +39,14 @@ use Rattle.dv_lex.specs.declared.error.LoadError.{LoadError}
 use Rattle.dv_lex.specs.declared.error.LoadError.TheVariants as error
 use Rattle.dv_lex.specs.declared.error.Refusal.{Refusal}
 use Rattle.dv_lex.specs.declared.error.RefusalNumber.TheVariants.{E4, E5}
-use Rattle.dv_syntax.specs.Trees.{expression_of, row_statements, phases_of, hold_of, rule_of, Expression, Literal, TruthValue, Named, Parens, Prefixed, Binary, Call, Elapsed, Times, Statements, Done, Assign, Goto, Send, If, IfElse, For, Add, Drop, AtomicTree, CoupledTree, ModelTree, AtomicModel, CoupledModel, FileTree}
-use Rattle.dv_syntax.specs.Written.{AtomicItem, Declares, Lists, Starts, Holds, Rules, CoupledItem, Inputs, Outputs, Contains, Couples, WrittenModel, WrittenAtomic, WrittenCoupled, WrittenFile, sorted_items, sorted_coupled_items}
-use Rattle.dv_syntax.specs.Grammar.{Limits, the_limits, prefix_kind, prefix_rank, operator_rank, left_rank, rank, depth, call_word, sort_word}
+use Rattle.dv_syntax.specs.Trees.{expression_of, row_statements, phases_of, hold_of, rule_of, Expression, Literal, TruthValue}
+use Rattle.dv_syntax.specs.Trees.{Named, Parens, Prefixed, Binary, Call, Elapsed, Times, Statements, Done, Assign, Goto, Send, If}
+use Rattle.dv_syntax.specs.Trees.{IfElse, For, Add, Drop, AtomicTree, CoupledTree, ModelTree, AtomicModel, CoupledModel, FileTree}
+use Rattle.dv_syntax.specs.Written.{AtomicItem, Declares, Lists, Starts, Holds, Rules, CoupledItem, Inputs, Outputs, Contains}
+use Rattle.dv_syntax.specs.Written.{Couples, WrittenModel, WrittenAtomic, WrittenCoupled, WrittenFile, sorted_items}
+use Rattle.dv_syntax.specs.Written.{sorted_coupled_items}
+use Rattle.dv_syntax.specs.Grammar.{Limits, the_limits, prefix_kind, prefix_rank, operator_rank, left_rank, rank, depth}
+use Rattle.dv_syntax.specs.Grammar.{call_word, sort_word}
 
 -- What stops a reader: the token at a place can't stand there, or what begins with it, or what it joins, lies too deep; or
 -- more tokens have to follow.
@@ -323,7 +329,8 @@ times_at operand limit ts = do
 abbrev pub begins_prefix : Prefix → ℕ → List Token → Bool
 begins_prefix o level ts = begins (prefix_kind o) ts && nat_le level (prefix_rank o)
 
-unfoldable pub primary_at : (ℕ → List Token → Read (Expression × List Token)) → (limit level : ℕ) → List Token → Read (Expression × List Token)
+unfoldable pub primary_at : (ℕ → List Token → Read (Expression × List Token)) → (limit level : ℕ) → List Token
+    → Read (Expression × List Token)
 primary_at operand limit level ts =
     choose (begins (kind.Symbol symbol.OpenParen) ts) (parens_at operand limit ts)
     (choose (begins (kind.Keyword keyword.Times) ts) (times_at operand limit ts)
@@ -332,15 +339,19 @@ primary_at operand limit level ts =
     (leaf_at ts))))
 
 -- What follows a left operand, as long as an operator of the level goes on with it. `more` counts the turns that are left.
-abbrev pub turns : (ℕ → List Token → Read (Expression × List Token)) → (limit more level : ℕ) → Expression → List Token → Read (Expression × List Token)
+abbrev pub turns : (ℕ → List Token → Read (Expression × List Token)) → (limit more level : ℕ) → Expression → List Token
+    → Read (Expression × List Token)
 turns operand limit zero level left ts = maybe (operator_at level left ts) (Ok (left, ts)) (λ o. Err (TooDeep (place_at ts)))
 turns operand limit (suc more) level left ts = maybe (operator_at level left ts) (Ok (left, ts)) (λ o.
-    choose (nat_lt (depth left) limit) (operand (operator_rank o.0 + 1) o.1 >>= λ right. turns operand limit more level (Binary o.0 left right.0) right.1) (Err (TooDeep (place_at ts))))
+    choose (nat_lt (depth left) limit)
+    (operand (operator_rank o.0 + 1) o.1 >>= λ right. turns operand limit more level (Binary o.0 left right.0) right.1)
+    (Err (TooDeep (place_at ts))))
 
 -- An expression no deeper than the limit, at whose top no operator below the level stands
 unfoldable pub expression_at : ℕ → ℕ → List Token → Read (Expression × List Token)
 expression_at zero level ts = Err TooShort
-expression_at (suc limit) level ts = primary_at (expression_at limit) limit level ts >>= λ e. turns (expression_at limit) (suc limit) (suc limit) level e.0 e.1
+expression_at (suc limit) level ts =
+    primary_at (expression_at limit) limit level ts >>= λ e. turns (expression_at limit) (suc limit) (suc limit) level e.0 e.1
 
 -- what follows a left operand, within the limit
 unfoldable pub more_at : ℕ → ℕ → Expression → List Token → Read (Expression × List Token)
@@ -404,7 +415,8 @@ single_of (stmt.Assign n e) = SingleAssign n (expression_of e)
 single_of (stmt.Goto place p) = SingleGoto place p
 single_of (stmt.Send place p e) = SingleSend place p (expression_of e)
 single_of (stmt.If' place e shape block) = SingleIf place (expression_of e) (row_statements block)
-single_of (stmt.IfElse' place e shape block other_shape other) = SingleIfElse place (expression_of e) (row_statements block) (row_statements other)
+single_of (stmt.IfElse' place e shape block other_shape other) =
+    SingleIfElse place (expression_of e) (row_statements block) (row_statements other)
 single_of (stmt.For' place v b shape block) = SingleFor place v b (row_statements block)
 single_of (stmt.Add place e b) = SingleAdd place (expression_of e) b
 single_of (stmt.Drop place e b) = SingleDrop place (expression_of e) b
@@ -451,7 +463,8 @@ drop_at limits ts = do
   Ok (SingleDrop (place_at ts) e.0 bag.0, rest)
 
 -- what follows the block of an `if`
-unfoldable pub else_at : (List Token → Read (Statements × List Token)) → ℕ → Expression → Statements → List Token → Read (Single × List Token)
+unfoldable pub else_at : (List Token → Read (Statements × List Token)) → ℕ → Expression → Statements → List Token
+    → Read (Single × List Token)
 else_at block_at place e block ts = do
   behind ← after (kind.Keyword keyword.Else) ts
   other ← block_at behind
@@ -463,7 +476,8 @@ if_at limits block_at limit ts = do
   behind ← after (kind.Keyword keyword.If) ts
   e ← within limit (place_at ts) (expression_at limits.expression 0 behind)
   block ← block_at e.1
-  choose (begins (kind.Keyword keyword.Else) block.1) (else_at block_at (place_at ts) e.0 block.0 block.1) (Ok (SingleIf (place_at ts) e.0 block.0, block.1))
+  choose (begins (kind.Keyword keyword.Else) block.1) (else_at block_at (place_at ts) e.0 block.0 block.1)
+      (Ok (SingleIf (place_at ts) e.0 block.0, block.1))
 
 -- The limit is that of the blocks. `loops` is how many loops may lie in one another here; in the block it is one less.
 unfoldable pub for_at : (ℕ → List Token → Read (Statements × List Token)) → (limit loops : ℕ) → List Token → Read (Single × List Token)
@@ -496,7 +510,9 @@ block_at limits (suc limit) loops ts = braces_at (statement_at limits (block_at 
 
 unfoldable pub bound_at : List Token → Read (Bound × List Token)
 bound_at ts = choose (begins (kind.Symbol symbol.Minus) ts)
-    (after (kind.Symbol symbol.Minus) ts >>= λ behind. number_at behind >>= λ n. Ok (record { minus = Some (place_at ts); magnitude = n.0 }, n.1))
+    (after (kind.Symbol symbol.Minus) ts >>= λ behind.
+    number_at behind >>= λ n.
+    Ok (record { minus = Some (place_at ts); magnitude = n.0 }, n.1))
     (number_at ts >>= λ n. Ok (record { minus = None; magnitude = n.0 }, n.1))
 
 unfoldable pub variable_at : List Token → Read (Variable × List Token)
@@ -612,8 +628,14 @@ atomic_at limits ts = do
 
 unfoldable pub end_at : List Token → Read (End × List Token)
 end_at ts = choose (begins (kind.Keyword keyword.Itself) ts)
-    (after (kind.Keyword keyword.Itself) ts >>= λ behind. after (kind.Symbol symbol.Dot) behind >>= λ dot. name_at dot >>= λ port. Ok (record { part = None; port = port.0 }, port.1))
-    (name_at ts >>= λ part. after (kind.Symbol symbol.Dot) part.1 >>= λ dot. name_at dot >>= λ port. Ok (record { part = Some part.0; port = port.0 }, port.1))
+    (after (kind.Keyword keyword.Itself) ts >>= λ behind.
+    after (kind.Symbol symbol.Dot) behind >>= λ dot.
+    name_at dot >>= λ port.
+    Ok (record { part = None; port = port.0 }, port.1))
+    (name_at ts >>= λ part.
+    after (kind.Symbol symbol.Dot) part.1 >>= λ dot.
+    name_at dot >>= λ port.
+    Ok (record { part = Some part.0; port = port.0 }, port.1))
 
 unfoldable pub part_at : List Token → Read (Part × List Token)
 part_at ts = do

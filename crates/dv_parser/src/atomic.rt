@@ -3,7 +3,10 @@
 ghost use Rattle.std.specs.Prelude.{◌≡◌, [], OnOk, IfErr};
 ghost use Rattle.dv_syntax.specs.Trees.{ticks_of, atomic_of};
 ghost use Rattle.dv_syntax.specs.Grammar.{the_limits, sort_word};
-ghost use Rattle.dv_parser.specs.Reading.{Gives, with_front, many_at, braces_at, bound_at, variable_at, flag_at, bag_at, further_name_at, phases_at, start_at, ticks_at, hold_at, rule_at, begins_rule, any_rule_at, port_at, item_at, item_of, with_item, with_items, empty_atomic, becoming, atomic_tree_at};
+ghost use Rattle.dv_parser.specs.Reading.{Gives, with_front, many_at, braces_at, bound_at, variable_at, flag_at, bag_at};
+ghost use Rattle.dv_parser.specs.Reading.{further_name_at, phases_at, start_at, ticks_at, hold_at, rule_at, begins_rule};
+ghost use Rattle.dv_parser.specs.Reading.{any_rule_at, port_at, item_at, item_of, with_item, with_items, empty_atomic, becoming};
+ghost use Rattle.dv_parser.specs.Reading.{atomic_tree_at};
 
 use crate::expression::expression;
 use crate::parse_error::ParseError;

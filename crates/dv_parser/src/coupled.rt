@@ -2,7 +2,8 @@
 
 ghost use Rattle.std.specs.Prelude.{◌≡◌, OnOk, IfErr};
 ghost use Rattle.dv_syntax.specs.Trees.{coupled_of};
-ghost use Rattle.dv_parser.specs.Reading.{Gives, many_at, braces_at, end_at, part_at, link_at, coupled_item_at, coupled_item_of, with_coupled_item, with_coupled_items, empty_coupled, becoming, coupled_tree_at};
+ghost use Rattle.dv_parser.specs.Reading.{Gives, many_at, braces_at, end_at, part_at, link_at, coupled_item_at, coupled_item_of};
+ghost use Rattle.dv_parser.specs.Reading.{with_coupled_item, with_coupled_items, empty_coupled, becoming, coupled_tree_at};
 
 use crate::atomic::port;
 use crate::parse_error::ParseError;

@@ -3,7 +3,9 @@
 ghost use Rattle.std.specs.Prelude.{◌≡◌, ◌+◌, ◌-◌, ◌<◌, ◌≤◌, IfOk, MatchOption, None, Some};
 ghost use Rattle.dv_syntax.specs.Trees.{expression_of};
 ghost use Rattle.dv_syntax.specs.Grammar.{prefix_kind, prefix_rank, operator_rank, left_rank, rank, depth};
-ghost use Rattle.dv_parser.specs.Reading.{Gives, operator_of, keyword_operator, symbol_operator, goes_on, operator_at, place_at, call_at, elapsed_at, leaf_at, parens_at, prefixed_at, times_at, begins_prefix, primary_at, expression_at};
+ghost use Rattle.dv_parser.specs.Reading.{Gives, operator_of, keyword_operator, symbol_operator, goes_on, operator_at, place_at};
+ghost use Rattle.dv_parser.specs.Reading.{call_at, elapsed_at, leaf_at, parens_at, prefixed_at, times_at, begins_prefix};
+ghost use Rattle.dv_parser.specs.Reading.{primary_at, expression_at};
 
 use crate::parse_error::ParseError;
 use crate::token::{

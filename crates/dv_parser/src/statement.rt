@@ -3,7 +3,8 @@
 ghost use Rattle.std.specs.Prelude.{◌-◌, ◌<◌, ◌≤◌, map};
 ghost use Rattle.dv_syntax.specs.Trees.{block_of};
 ghost use Rattle.dv_syntax.specs.Grammar.{the_limits};
-ghost use Rattle.dv_parser.specs.Reading.{Gives, single_of, many_at, assign_at, goto_at, send_at, add_at, drop_at, if_at, for_at, statement_at, braces_at, block_at};
+ghost use Rattle.dv_parser.specs.Reading.{Gives, single_of, many_at, assign_at, goto_at, send_at, add_at, drop_at, if_at, for_at};
+ghost use Rattle.dv_parser.specs.Reading.{statement_at, braces_at, block_at};
 
 use crate::expression::expression;
 use crate::parse_error::ParseError;

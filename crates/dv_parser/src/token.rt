@@ -2,7 +2,9 @@
 
 ghost use Rattle.std.specs.Prelude.{◌≡◌};
 ghost use Rattle.dv_syntax.specs.Grammar.{call_word};
-ghost use Rattle.dv_parser.specs.Reading.{Gives, IsParseError, obstacle_at, same_kind, begins, begins_name, begins_truth, begins_word_of, begins_call, after, place_at, name_at, truth_at, number_at, word_of_at, call_word_at};
+ghost use Rattle.dv_parser.specs.Reading.{Gives, IsParseError, obstacle_at, same_kind, begins, begins_name, begins_truth};
+ghost use Rattle.dv_parser.specs.Reading.{begins_word_of, begins_call, after, place_at, name_at, truth_at, number_at, word_of_at};
+ghost use Rattle.dv_parser.specs.Reading.{call_word_at};
 
 use crate::parse_error::ParseError;
 use dv_lex::{Keyword, Symbol, Token, TokenKind};

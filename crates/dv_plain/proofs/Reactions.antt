@@ -7,7 +7,8 @@ use Rattle.dv_bag.specs.declared.entry.Kind.{Kind}
 use Rattle.dv_bag.specs.declared.entry.Kind.TheVariants.{Internal, External, Confluent}
 use Rattle.dv_bag.specs.declared.entry.What.TheVariants as what
 use Rattle.dv_bag.specs.declared.state.State.{State}
-use Rattle.dv_devs.specs.Behaviour.{Behaviour, Component, Reaction, Continues, all_empty, confluent_of, external_of, internal_of, is_imminent, kind_of, reaction_after_output, reaction_with, transition_of}
+use Rattle.dv_devs.specs.Behaviour.{Behaviour, Component, Reaction, Continues, all_empty, confluent_of, external_of, internal_of}
+use Rattle.dv_devs.specs.Behaviour.{is_imminent, kind_of, reaction_after_output, reaction_with, transition_of}
 use Rattle.dv_devs.specs.Network.{sent_by}
 use Rattle.dv_plain.specs.Transitions.{next_state}
 use Rattle.dv_plain.proofs.Times.{tick_of-rank}

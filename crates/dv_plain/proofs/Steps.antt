@@ -1,5 +1,6 @@
 -- One component after the other: what a loop over the components has of the definitions at each turn.
-use Rattle.std.proofs.Common.{◌≡◌, ℕ, zero, suc, ◌+◌, ◌<◌, ◌≤◌, true, List, [], ◌∷◌, ◌++◌, map, length, drop, take, set, get_or, Option, Some, None, Result, Ok, Err, refl, ap, sym, ◌∙◌, subst, arith, append_assoc, add-one}
+use Rattle.std.proofs.Common.{◌≡◌, ℕ, zero, suc, ◌+◌, ◌<◌, ◌≤◌, true, List, [], ◌∷◌, ◌++◌, map, length, drop, take, set, get_or}
+use Rattle.std.proofs.Common.{Option, Some, None, Result, Ok, Err, refl, ap, sym, ◌∙◌, subst, arith, append_assoc, add-one}
 use Rattle.std.specs.Prelude.{slice_get}
 use Rattle.std.specs.List.{All}
 use Rattle.std.proofs.lemmas.List.Elements.{All-get_or, All-set}
@@ -205,7 +206,9 @@ no_reactions limit now is rs received k h =
     ap (λ (js : List Instance). reactions limit (map (λ (i : Instance). behaviour_of i.model) js) now (components_from limit k rs)
     (drop k received)) (drop_all k is h)
 
-pub components-end : (limit now : ℕ) (is : List Instance) (rs xs : List Running) (received : List (List Counts)) (k : ℕ) (whole : List Component) → length xs ≤ k →
+pub components-end : (limit now : ℕ) (is : List Instance) (rs xs : List Running) (received : List (List Counts)) (k : ℕ)
+    (whole : List Component)
+    → length xs ≤ k →
     length is ≤ k →
     map (component_of limit) (take k xs) ++ map (λ (r : Reaction). r.component) (reactions_from limit is now rs received k) ≡ whole → map
     (component_of limit) xs ≡ whole
@@ -216,7 +219,9 @@ components-end limit now is rs xs received k whole h g kept =
     (sym (no_reactions limit now is rs received k g))
     ∙ kept
 
-pub entries-end : (limit now : ℕ) (is : List Instance) (rs : List Running) (received : List (List Counts)) (k : ℕ) (entries whole : List Entry) → length is ≤ k →
+pub entries-end : (limit now : ℕ) (is : List Instance) (rs : List Running) (received : List (List Counts)) (k : ℕ)
+    (entries whole : List Entry)
+    → length is ≤ k →
     entries ++ entries_from limit now k (reactions_from limit is now rs received k) ≡ whole → entries ≡ whole
 entries-end limit now is rs received k entries whole g kept =
     sym (append-nil entries)

@@ -4,7 +4,8 @@ ghost use Rattle.std.specs.Prelude.{◌≡◌, false, not, ◌&&◌, ◌||◌, I
 ghost use Rattle.dv_syntax.specs.Trees.{atomic_of};
 ghost use Rattle.dv_bag.specs.Bag.{Counts};
 ghost use Rattle.dv_bag.specs.Arrivals.{AreFew};
-ghost use Rattle.dv_devs.specs.Behaviour.{all_empty, emission, is_imminent, kind_of, next_of, reaction, reaction_after_output, transition_of};
+ghost use Rattle.dv_devs.specs.Behaviour.{all_empty, emission, is_imminent, kind_of, next_of, reaction, reaction_after_output};
+ghost use Rattle.dv_devs.specs.Behaviour.{transition_of};
 ghost use Rattle.dv_plain.specs.Components.{GivesTransition, GivesWait, IsWaitOfRun, component_of, is_quiet, next_of_wait, rank_of};
 ghost use Rattle.dv_plain.specs.Source.{behaviour_of, hold_end, start_of};
 ghost use Rattle.dv_plain.specs.Transitions.{GivesAs, IsOfTicks, held_of, hold_of, next_state};

@@ -1,7 +1,8 @@
 //! Rows of bags and loops: what they do, and how they are refused.
 
+use crate::frames::{ALONE, Frame, TAKEN, rows};
 use crate::models::{BENCH, PACK};
-use crate::runs::{Frame, rows, same_run};
+use crate::runs::same_run;
 
 #[test]
 fn a_bag_is_filled_past_its_capacity(rt: HostRuntime) {
@@ -10,7 +11,9 @@ fn a_bag_is_filled_past_its_capacity(rt: HostRuntime) {
         PACK,
         10,
         20,
-        "1.0 p i w b=[3] f=true\n3.0 p i w b=[2,3] f=false > y:3\n3.0 out o:3\n6.0 p i w b=[1,2,3] f=true > y:2,3\n6.0 out o:2,3\n10.0 p fault full > y:1,2,3\n10.0 out o:1,2,3\nwhole 10\nstatus 3",
+        "1.0 p i w b=[3] f=true\n3.0 p i w b=[2,3] f=false > y:3\n3.0 out o:3\n\
+            6.0 p i w b=[1,2,3] f=true > y:2,3\n6.0 out o:2,3\n10.0 p fault full > y:1,2,3\n10.0 out o:1,2,3\n\
+            whole 10\nstatus 3",
     );
 }
 
@@ -21,13 +24,16 @@ fn a_loop_walks_the_bag_as_it_stood(rt: HostRuntime) {
         BENCH,
         11,
         20,
-        "2.0 b i cut store=[1] length=8\n4.0 b i cut store=[1,8] length=7\n6.0 b i ship store=[1,7,8] length=10\n7.0 b i cut store=[] length=10 > rod:1,7,8\n7.0 out o:1,7,8\n9.0 b i cut store=[10] length=1\n11.0 b i cut store=[1,10] length=8\nwhole 11\nstatus 0",
+        "2.0 b i cut store=[1] length=8\n4.0 b i cut store=[1,8] length=7\n\
+            6.0 b i ship store=[1,7,8] length=10\n7.0 b i cut store=[] length=10 > rod:1,7,8\n7.0 out o:1,7,8\n\
+            9.0 b i cut store=[10] length=1\n11.0 b i cut store=[1,10] length=8\nwhole 11\nstatus 0",
     );
 }
 
 /// Rows of expressions over the bag [2,3,3], which are sent.
 const CALLS: Frame = Frame {
-    before: "atomic A { out y; bag b 4; phases z, s; start z; hold z: 1; hold s: 1; internal z { add 3 to b; add 2 to b; add 3 to b; goto s; } output s { send y ",
+    before: "atomic A { out y; bag b 4; phases z, s; start z; hold z: 1; hold s: 1; internal z { add 3 to b; \
+        add 2 to b; add 3 to b; goto s; } output s { send y ",
     after: "; } } coupled Top { part a: A; } root Top;",
     horizon: 2,
 };
@@ -106,7 +112,8 @@ fn calls_on_an_empty_bag(rt: HostRuntime) {
 
 /// Rows of statements of an internal rule, over the bags b, which is [2,3,3], and c, which is empty.
 const LOOPS: Frame = Frame {
-    before: "atomic A { bag b 4; bag c 4; var n: 0..999 = 0; phases z, s; start z; hold z: 1; hold s: 1; internal z { add 3 to b; add 2 to b; add 3 to b; goto s; } internal s { ",
+    before: "atomic A { bag b 4; bag c 4; var n: 0..999 = 0; phases z, s; start z; hold z: 1; hold s: 1; \
+        internal z { add 3 to b; add 2 to b; add 3 to b; goto s; } internal s { ",
     after: " } } coupled Top { part a: A; } root Top;",
     horizon: 2,
 };
@@ -165,13 +172,10 @@ fn loops_add_and_drop(rt: HostRuntime) {
     );
 }
 
-/// What comes of a text of this page that is taken, to the horizon 0.
-const FINE: &str = "whole 0\nstatus 0";
-
 /// Rows of items of an atomic model with a bag, a flag, a variable and a port.
 const ITEMS: Frame = Frame {
     before: "atomic A { out y; bag b 3; flag f = true; var v: 0..9 = 0; phases z; start z; hold z: 1;\n",
-    after: " } coupled Top { part a: A; } root Top;",
+    after: ALONE,
     horizon: 0,
 };
 
@@ -185,8 +189,8 @@ fn bags_are_refused(rt: HostRuntime) {
             ("bag v 1;", "E6 line 2"),
             ("flag b = true;", "E6 line 2"),
             ("bag c 0;", "E17 line 2"),
-            ("bag c 1;", FINE),
-            ("bag c 4096;", FINE),
+            ("bag c 1;", TAKEN),
+            ("bag c 4096;", TAKEN),
             ("bag c 4097;", "E17 line 2"),
             ("bag c;", "E4 line 2"),
             ("bag c -1;", "E4 line 2"),
@@ -195,7 +199,7 @@ fn bags_are_refused(rt: HostRuntime) {
             ("internal z { b := 1; }", "E8 line 2"),
             ("output z { send b 1; }", "E8 line 2"),
             ("output z { send y b; }", "E8 line 2"),
-            ("internal z { add 1 to b; drop 1 from b; }", FINE),
+            ("internal z { add 1 to b; drop 1 from b; }", TAKEN),
             ("output z { add 1 to b; }", "E9 line 2"),
             ("output z { drop 1 from b; }", "E9 line 2"),
             ("internal z { add f to b; }", "E8 line 2"),
@@ -214,7 +218,7 @@ fn calls_are_refused(rt: HostRuntime) {
         &rt,
         &ITEMS,
         &[
-            ("internal z { v := size(b) + sum(b) - times(v, b); }", FINE),
+            ("internal z { v := size(b) + sum(b) - times(v, b); }", TAKEN),
             ("internal z { v := size(v); }", "E8 line 2"),
             ("internal z { v := sum(y); }", "E8 line 2"),
             ("internal z { v := least(q); }", "E7 line 2"),
@@ -235,12 +239,12 @@ fn loops_are_refused(rt: HostRuntime) {
         &rt,
         &ITEMS,
         &[
-            ("output z { for x in b { send y x; } }", FINE),
+            ("output z { for x in b { send y x; } }", TAKEN),
             ("internal z { for x in b { x := 1; } }", "E9 line 2"),
             ("output z { for x in b { x := 1; } }", "E9 line 2"),
             ("internal z { for v in b { } }", "E6 line 2"),
             ("internal z { for x in b { for x in b { } } }", "E6 line 2"),
-            ("internal z { for x in b { } for x in b { } }", FINE),
+            ("internal z { for x in b { } for x in b { } }", TAKEN),
             ("internal z { for x in x { } }", "E7 line 2"),
             ("internal z { for b in\nb { } }", "E6 line 2"),
             ("internal z { for x in v { } }", "E8 line 2"),

@@ -45,7 +45,8 @@ fn faults_are_as_explained(rt: HostRuntime) {
 fn a_text_goes_its_way(rt: HostRuntime) {
     same_run(
         &rt,
-        "atomic A { out y; phases z; start z; hold z: 2; output z { send y 7; } }\ncoupled T { out o; part a: A; link a.y -> self.o; }\nroot T;\n",
+        "atomic A { out y; phases z; start z; hold z: 2; output z { send y 7; } }\ncoupled T { out o; \
+            part a: A; link a.y -> self.o; }\nroot T;\n",
         3,
         20,
         "2.0 a i z > y:7\n2.0 out o:7\nwhole 3\nstatus 0",

@@ -101,14 +101,16 @@ fn a_bag_takes_what_comes(rt: HostRuntime) {
 
 /// A component with a confluent rule.
 const CONFLUENT: &str =
-    "atomic C { in x; out y; var v: 0..99 = 0; phases w; start w; hold w: 5; output w { send y v; } internal w { v := v + 1; } external w { v := v + 10; } confluent w { v := 50; } }
+    "atomic C { in x; out y; var v: 0..99 = 0; phases w; start w; hold w: 5; output w { send y v; } \
+        internal w { v := v + 1; } external w { v := v + 10; } confluent w { v := 50; } }
 coupled Top { in x; part c: C; link self.x -> c.x; }
 root Top;
 ";
 
 /// The default confluent transition: the external rule is that of the phase which the internal rule reached.
 const BY_DEFAULT: &str =
-    "atomic C { in x; var v: 0..99 = 0; phases p, q; start p; hold p: 5; hold q: 3; internal p { v := v + 1; goto q; } external p { v := 90; } external q { v := v * 10 + elapsed; } internal q { goto p; } }
+    "atomic C { in x; var v: 0..99 = 0; phases p, q; start p; hold p: 5; hold q: 3; internal p { v := v + 1; \
+        goto q; } external p { v := 90; } external q { v := v * 10 + elapsed; } internal q { goto p; } }
 coupled Top { in x; part c: C; link self.x -> c.x; }
 root Top;
 ";
@@ -190,7 +192,8 @@ fn values_at_one_port(rt: HostRuntime) {
 fn rules_without_ports_never_run(rt: HostRuntime) {
     same_run(
         &rt,
-        "atomic A { var v: 0..9 = 0; phases z; start z; hold z: 2; external z { v := 1 / 0; } confluent z { v := 9; } internal z { v := v + 1; } } coupled Top { part a: A; } root Top;",
+        "atomic A { var v: 0..9 = 0; phases z; start z; hold z: 2; external z { v := 1 / 0; } \
+            confluent z { v := 9; } internal z { v := v + 1; } } coupled Top { part a: A; } root Top;",
         4,
         20,
         "2.0 a i z v=1\n4.0 a i z v=2\nwhole 4\nstatus 0",

@@ -7,6 +7,8 @@ mod bags;
 #[cfg(test)]
 mod documents;
 #[cfg(test)]
+mod frames;
+#[cfg(test)]
 mod inputs;
 #[cfg(test)]
 mod limits;

@@ -1,112 +1,111 @@
 //! The limits of the rule text, each at its value and one above.
 
+use crate::frames::{
+    ALONE, Frame, Nest, Numbered, TAKEN, nested, push_numbered, same_in, same_nested, same_numbered,
+};
 use crate::runs::{expect_same, run, same, same_bytes, same_run};
 use dv_job::Options;
 use std::alloc::AllocError;
 use std::process::Abort;
 
-/// What comes of a text of this page that is taken, to the horizon 0.
-const FINE: &str = "whole 0\nstatus 0";
-
-/// A text in which two pieces stand so many times around a third.
-struct Nest {
-    before: &'static str,
-    open: &'static str,
-    middle: &'static str,
-    close: &'static str,
-    after: &'static str,
-}
-
 /// A model whose start hold stands in parentheses.
 const PARENTHESES: Nest = Nest {
-    before: "atomic A { phases z; start z; hold z: ",
+    frame: Frame {
+        before: "atomic A { phases z; start z; hold z: ",
+        after: "; } coupled Top { part a: A; } root Top;",
+        horizon: 0,
+    },
     open: "(",
     middle: "1",
     close: ")",
-    after: "; } coupled Top { part a: A; } root Top;",
 };
 
 /// A model whose internal rule has blocks in one another.
 const BLOCKS: Nest = Nest {
-    before: "atomic A { phases z; start z; hold z: 9; internal z {",
+    frame: Frame {
+        before: "atomic A { phases z; start z; hold z: 9; internal z {",
+        after: "} } coupled Top { part a: A; } root Top;",
+        horizon: 0,
+    },
     open: "if 1 = 1 {",
     middle: "",
     close: "}",
-    after: "} } coupled Top { part a: A; } root Top;",
 };
 
 /// A model whose internal rule has a condition that is negated so often.
 const NEGATIONS: Nest = Nest {
-    before: "atomic A { phases z; start z; hold z: 9; internal z { if ",
+    frame: Frame {
+        before: "atomic A { phases z; start z; hold z: 9; internal z { if ",
+        after: " { } } } coupled Top { part a: A; } root Top;",
+        horizon: 0,
+    },
     open: "not ",
     middle: "1 = 1",
     close: "",
-    after: " { } } } coupled Top { part a: A; } root Top;",
 };
 
 /// A model whose start hold counts in an empty bag.
 const COUNTS: Nest = Nest {
-    before: "atomic A { bag b 1; phases z; start z; hold z: ",
+    frame: Frame {
+        before: "atomic A { bag b 1; phases z; start z; hold z: ",
+        after: "+ 1; } coupled Top { part a: A; } root Top;",
+        horizon: 0,
+    },
     open: "times(",
     middle: "1",
     close: ", b)",
-    after: "+ 1; } coupled Top { part a: A; } root Top;",
 };
 
 /// A model whose internal rule has a loop in a loop in a loop, and a fourth part there.
 const LOOPS: Nest = Nest {
-    before: "atomic A { bag b 1; phases z; start z; hold z: 9; internal z { for p in b { for q in b { for r in b {",
+    frame: Frame {
+        before: "atomic A { bag b 1; phases z; start z; hold z: 9; internal z { for p in b { for q in b { for r in b {",
+        after: "} } } } } coupled Top { part a: A; } root Top;",
+        horizon: 0,
+    },
     open: "for s in b {",
     middle: "",
     close: "}",
-    after: "} } } } } coupled Top { part a: A; } root Top;",
 };
 
 /// A model whose first rule adds to a bag.
 const ADDS: Nest = Nest {
-    before: "atomic A { bag b 4096; phases z, d; start z; hold z: 1; hold d: forever; internal z { goto d; ",
+    frame: Frame {
+        before: "atomic A { bag b 4096; phases z, d; start z; hold z: 1; hold d: forever; internal z { goto d; ",
+        after: "} } coupled Top { part a: A; } root Top;",
+        horizon: 1,
+    },
     open: "add 1 to b;",
     middle: "",
     close: "",
-    after: "} } coupled Top { part a: A; } root Top;",
 };
 
 /// A model whose first output sends.
 const SENDS: Nest = Nest {
-    before: "atomic A { out y; phases z, d; start z; hold z: 1; hold d: forever; internal z { goto d; } output z { ",
+    frame: Frame {
+        before: "atomic A { out y; phases z, d; start z; hold z: 1; hold d: forever; internal z { goto d; } output z { ",
+        after: "} } coupled Top { part a: A; } root Top;",
+        horizon: 1,
+    },
     open: "send y 1;",
     middle: "",
     close: "",
-    after: "} } coupled Top { part a: A; } root Top;",
 };
-
-fn nested<R: Abort + AllocGlobal>(rt: &R, nest: &Nest, times: usize) -> String {
-    let open = nest.open.repeat(rt.alloc(), times).expect(rt, "memory");
-    let close = nest.close.repeat(rt.alloc(), times).expect(rt, "memory");
-    format!(in rt.alloc(); "{}{open}{}{close}{}", nest.before, nest.middle, nest.after).expect(
-        rt, "memory",
-    )
-}
-
-fn same_nested<R: Abort + AllocGlobal>(rt: &R, nest: &Nest, times: usize, wanted: &str) {
-    let text = nested(rt, nest, times);
-    same_run(rt, text.as_str(), 0, 20, wanted);
-}
 
 #[test]
 fn nesting(rt: HostRuntime) {
-    same_nested(&rt, &PARENTHESES, 62, FINE);
-    same_nested(&rt, &PARENTHESES, 63, FINE);
+    same_nested(&rt, &PARENTHESES, 62, TAKEN);
+    same_nested(&rt, &PARENTHESES, 63, TAKEN);
     same_nested(&rt, &PARENTHESES, 64, "E5 line 1");
     // The comparison is two deep.
-    same_nested(&rt, &NEGATIONS, 62, FINE);
+    same_nested(&rt, &NEGATIONS, 62, TAKEN);
     same_nested(&rt, &NEGATIONS, 63, "E5 line 1");
     // The sum is one deeper than its operands.
-    same_nested(&rt, &COUNTS, 62, FINE);
+    same_nested(&rt, &COUNTS, 62, TAKEN);
     same_nested(&rt, &COUNTS, 63, "E5 line 1");
-    same_nested(&rt, &LOOPS, 0, FINE);
+    same_nested(&rt, &LOOPS, 0, TAKEN);
     same_nested(&rt, &LOOPS, 1, "E5 line 1");
-    same_nested(&rt, &BLOCKS, 15, FINE);
+    same_nested(&rt, &BLOCKS, 15, TAKEN);
     same_nested(&rt, &BLOCKS, 16, "E5 line 1");
 }
 
@@ -126,143 +125,134 @@ fn values_of_one_bag(rt: HostRuntime) {
     same!(rt; above.as_str(), "1.0 a fault full\nwhole 1\nstatus 3");
 }
 
-/// A model with numbered declarations between two texts.
-struct Numbered {
-    before: &'static str,
-    left: &'static str,
-    right: &'static str,
-    after: &'static str,
-}
+/// The end of a model with one phase, and a root of which it is the only part.
+const HELD: &str = "phases z; start z; hold z: 9; } coupled Top { part a: A; } root Top;";
 
 const OUTPUTS: Numbered = Numbered {
-    before: "atomic A { ",
+    frame: Frame {
+        before: "atomic A { ",
+        after: HELD,
+        horizon: 0,
+    },
     left: "out o",
     right: ";",
-    after: "phases z; start z; hold z: 9; } coupled Top { part a: A; } root Top;",
 };
 
 /// A model with an output port and these.
 const INPUTS: Numbered = Numbered {
-    before: "atomic A { out y; ",
+    frame: Frame {
+        before: "atomic A { out y; ",
+        after: HELD,
+        horizon: 0,
+    },
     left: "in i",
     right: ";",
-    after: "phases z; start z; hold z: 9; } coupled Top { part a: A; } root Top;",
 };
 
 const VARIABLES: Numbered = Numbered {
-    before: "atomic A { ",
+    frame: Frame {
+        before: "atomic A { ",
+        after: HELD,
+        horizon: 0,
+    },
     left: "var v",
     right: ": 0..1 = 0;",
-    after: "phases z; start z; hold z: 9; } coupled Top { part a: A; } root Top;",
 };
 
 /// A model with a variable and these flags.
 const FLAGS: Numbered = Numbered {
-    before: "atomic A { var v: 0..1 = 0; ",
+    frame: Frame {
+        before: "atomic A { var v: 0..1 = 0; ",
+        after: HELD,
+        horizon: 0,
+    },
     left: "flag f",
     right: " = true;",
-    after: "phases z; start z; hold z: 9; } coupled Top { part a: A; } root Top;",
 };
 
 /// A model with a variable and these bags.
 const BAGS: Numbered = Numbered {
-    before: "atomic A { var v: 0..1 = 0; ",
+    frame: Frame {
+        before: "atomic A { var v: 0..1 = 0; ",
+        after: HELD,
+        horizon: 0,
+    },
     left: "bag b",
     right: " 1;",
-    after: "phases z; start z; hold z: 9; } coupled Top { part a: A; } root Top;",
 };
 
 const PARTS: Numbered = Numbered {
-    before: "atomic A { phases z; start z; hold z: 9; } coupled Top { ",
+    frame: Frame {
+        before: "atomic A { phases z; start z; hold z: 9; } coupled Top { ",
+        after: "} root Top;",
+        horizon: 0,
+    },
     left: "part p",
     right: ": A;",
-    after: "} root Top;",
 };
 
 /// A root with an output port and these.
 const INPUTS_OF_THE_ROOT: Numbered = Numbered {
-    before: "atomic A { phases z; start z; hold z: 9; } coupled Top { ",
+    frame: Frame {
+        before: "atomic A { phases z; start z; hold z: 9; } coupled Top { ",
+        after: "out o; part a: A; } root Top;",
+        horizon: 0,
+    },
     left: "in i",
     right: ";",
-    after: "out o; part a: A; } root Top;",
 };
 
 const OUTPUTS_OF_THE_ROOT: Numbered = Numbered {
-    before: "atomic A { phases z; start z; hold z: 9; } coupled Top { ",
+    frame: Frame {
+        before: "atomic A { phases z; start z; hold z: 9; } coupled Top { ",
+        after: "part a: A; } root Top;",
+        horizon: 0,
+    },
     left: "out o",
     right: ";",
-    after: "part a: A; } root Top;",
 };
 
-/// A model whose phases are z and these.
-const PHASES: Numbered = Numbered {
+/// A model whose phases are z and these, each with its hold.
+const PHASES: Frame = Frame {
     before: "atomic A { start z; hold z: 9; phases z",
-    left: ", p",
-    right: "",
-    after: "; ",
+    after: ALONE,
+    horizon: 0,
 };
-
-/// The holds of the phases.
-const HOLDS: Numbered = Numbered {
-    before: "",
-    left: "hold p",
-    right: ": 1;",
-    after: "} coupled Top { part a: A; } root Top;",
-};
-
-fn push_numbered(text: &mut String, numbered: &Numbered, count: u32) -> Result<(), AllocError> {
-    text.push_str(numbered.before)?;
-    push_declarations(text, numbered.left, numbered.right, count)?;
-    text.push_str(numbered.after)
-}
-
-fn push_declarations(
-    text: &mut String,
-    left: &str,
-    right: &str,
-    count: u32,
-) -> Result<(), AllocError> {
-    for i in 0..count {
-        write!(text, "{left}{i}{right}")?;
-    }
-    Ok(())
-}
-
-fn same_numbered<R: Abort + AllocGlobal>(rt: &R, numbered: &Numbered, count: u32, wanted: &str) {
-    let mut text = String::new(rt.alloc());
-    push_numbered(&mut text, numbered, count).expect(rt, "memory");
-    same_run(rt, text.as_str(), 0, 20, wanted);
-}
 
 fn same_phases<R: Abort + AllocGlobal>(rt: &R, count: u32, wanted: &str) {
     let mut text = String::new(rt.alloc());
-    push_numbered(&mut text, &PHASES, count).expect(rt, "memory");
-    push_numbered(&mut text, &HOLDS, count).expect(rt, "memory");
-    same_run(rt, text.as_str(), 0, 20, wanted);
+    push_phases(&mut text, count).expect(rt, "memory");
+    same_in(rt, &PHASES, text.as_str(), wanted);
+}
+
+fn push_phases(text: &mut String, count: u32) -> Result<(), AllocError> {
+    push_numbered(text, ", p", "", count)?;
+    text.push_str("; ")?;
+    push_numbered(text, "hold p", ": 1;", count)
 }
 
 #[test]
 fn names_of_one_kind(rt: HostRuntime) {
-    same_numbered(&rt, &OUTPUTS, 4_096, FINE);
+    same_numbered(&rt, &OUTPUTS, 4_096, TAKEN);
     same_numbered(&rt, &OUTPUTS, 4_097, "E17 line 1");
     // With the output port these are 4,096 and 4,097.
-    same_numbered(&rt, &INPUTS, 4_095, FINE);
+    same_numbered(&rt, &INPUTS, 4_095, TAKEN);
     same_numbered(&rt, &INPUTS, 4_096, "E17 line 1");
-    same_numbered(&rt, &VARIABLES, 4_096, FINE);
+    same_numbered(&rt, &VARIABLES, 4_096, TAKEN);
     same_numbered(&rt, &VARIABLES, 4_097, "E17 line 1");
     // With the variable these are 4,096 and 4,097.
-    same_numbered(&rt, &FLAGS, 4_095, FINE);
+    same_numbered(&rt, &FLAGS, 4_095, TAKEN);
     same_numbered(&rt, &FLAGS, 4_096, "E17 line 1");
-    same_numbered(&rt, &BAGS, 4_095, FINE);
+    same_numbered(&rt, &BAGS, 4_095, TAKEN);
     same_numbered(&rt, &BAGS, 4_096, "E17 line 1");
-    same_numbered(&rt, &PARTS, 4_096, FINE);
+    same_numbered(&rt, &PARTS, 4_096, TAKEN);
     same_numbered(&rt, &PARTS, 4_097, "E17 line 1");
-    same_numbered(&rt, &OUTPUTS_OF_THE_ROOT, 4_096, FINE);
+    same_numbered(&rt, &OUTPUTS_OF_THE_ROOT, 4_096, TAKEN);
     same_numbered(&rt, &OUTPUTS_OF_THE_ROOT, 4_097, "E17 line 1");
-    same_numbered(&rt, &INPUTS_OF_THE_ROOT, 4_095, FINE);
+    same_numbered(&rt, &INPUTS_OF_THE_ROOT, 4_095, TAKEN);
     same_numbered(&rt, &INPUTS_OF_THE_ROOT, 4_096, "E17 line 1");
     // With z these are 4,096 and 4,097.
-    same_phases(&rt, 4_095, FINE);
+    same_phases(&rt, 4_095, TAKEN);
     same_phases(&rt, 4_096, "E17 line 1");
 }
 
@@ -291,7 +281,7 @@ fn same_length<R: Abort + AllocGlobal>(
 // 79 + 64 * 262,142 + 49 = 16,777,216
 #[test]
 fn bytes_of_a_text(rt: HostRuntime) {
-    same_length(&rt, 262_142, 49, 16_777_216, FINE);
+    same_length(&rt, 262_142, 49, 16_777_216, TAKEN);
     same_length(&rt, 262_142, 50, 16_777_217, "E17 line 1");
 }
 

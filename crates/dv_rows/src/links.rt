@@ -1,11 +1,9 @@
 //! The limit on links, each counted as often as it has copies.
 
+use crate::frames::TAKEN;
 use crate::runs::same_run;
 use std::alloc::{AllocError, Global};
 use std::process::Abort;
-
-/// What comes of a text of this page that is taken, to the horizon 0.
-const TAKEN: &str = "whole 0\nstatus 0";
 
 /// A model that never sends, and one that is fed.
 const ENDS: &str = "atomic S { out y; phases z; start z; hold z: forever; }\

@@ -1,7 +1,8 @@
 //! Models in models: how values travel, what contains itself, and the limits on the whole tree.
 
+use crate::frames::{Frame, TAKEN, rows};
 use crate::models::{CLOCKS_AND_CELL, NODES, TWO_WAYS};
-use crate::runs::{Frame, rows, same_run, same_with_inputs};
+use crate::runs::{same_run, same_with_inputs};
 use std::alloc::{AllocError, Global};
 use std::process::Abort;
 
@@ -12,7 +13,8 @@ fn values_meet(rt: HostRuntime) {
         CLOCKS_AND_CELL,
         10,
         20,
-        "5.0 a i run n=1 > beat:0\n5.0 b i run n=1 > beat:0\n5.0 c c w v=1 > y:0\n10.0 a i run n=2 > beat:1\n10.0 b i run n=2 > beat:1\n10.0 c c w v=4 > y:1\nwhole 10\nstatus 0",
+        "5.0 a i run n=1 > beat:0\n5.0 b i run n=1 > beat:0\n5.0 c c w v=1 > y:0\n10.0 a i run n=2 > beat:1\n\
+            10.0 b i run n=2 > beat:1\n10.0 c c w v=4 > y:1\nwhole 10\nstatus 0",
     );
     same_run(
         &rt,
@@ -32,19 +34,20 @@ fn values_go_through_nodes(rt: HostRuntime) {
         20,
         &[(
             "1 i 7\n",
-            "1.0 n.r e g v=7\n3.0 n.r i z v=7 > y:7\n3.0 n.s e g v=7\n5.0 n.s i z v=7 > y:7\n5.0 m.r e g v=7\n5.0 out o:7\n7.0 m.r i z v=7 > y:7\n7.0 m.s e g v=7\n9.0 m.s i z v=7 > y:7\n9.0 out o:7\nwhole 9\nstatus 0",
+            "1.0 n.r e g v=7\n3.0 n.r i z v=7 > y:7\n3.0 n.s e g v=7\n5.0 n.s i z v=7 > y:7\n5.0 m.r e g v=7\n\
+                5.0 out o:7\n7.0 m.r i z v=7 > y:7\n7.0 m.s e g v=7\n9.0 m.s i z v=7 > y:7\n9.0 out o:7\n\
+                whole 9\nstatus 0",
         )],
     );
 }
 
 /// Rows of coupled models behind an atomic one with an input and an output.
 const MODELS: Frame = Frame {
-    before: "atomic A { in x; out y; phases z; start z; hold z: 1; }\ncoupled B { in i; out o; part a: A; link self.i -> a.x; link a.y -> self.o; }\n",
+    before: "atomic A { in x; out y; phases z; start z; hold z: 1; }\ncoupled B { in i; out o; part a: A; \
+        link self.i -> a.x; link a.y -> self.o; }\n",
     after: "\nroot Top;",
     horizon: 0,
 };
-
-const TAKEN: &str = "whole 0\nstatus 0";
 
 #[test]
 fn coupled_parts_show_their_ports(rt: HostRuntime) {

@@ -1,6 +1,7 @@
 //! Which of two refusals of one text is its answer, on one line and on two.
 
-use crate::runs::{Frame, rows, same_bytes, same_run};
+use crate::frames::{ALONE, Frame, rows};
+use crate::runs::{same_bytes, same_run};
 use std::alloc::{AllocError, Global};
 use std::process::Abort;
 
@@ -201,7 +202,7 @@ fn bytes_come_before_all(rt: HostRuntime) {
 /// Rows of items of an atomic model.
 const ITEMS: Frame = Frame {
     before: "atomic A { ",
-    after: " } coupled Top { part a: A; } root Top;",
+    after: ALONE,
     horizon: 0,
 };
 

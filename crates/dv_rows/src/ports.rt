@@ -1,15 +1,13 @@
 //! Rows of input ports, external and confluent rules, and links between parts: what is taken, and what is refused.
 
-use crate::runs::{Frame, rows, same};
+use crate::frames::{ALONE, Frame, TAKEN, rows};
+use crate::runs::same;
 use dv_job::{JobError, check_bytes};
-
-/// What comes of a text that is taken, to the horizon 0.
-const TAKEN: &str = "whole 0\nstatus 0";
 
 /// Rows of items of an atomic model with an input port, an output port, a bag and a variable.
 const ITEMS: Frame = Frame {
     before: "atomic A { in x; out y; bag b 3; var v: 0..9 = 0; phases z; start z; hold z: 1;\n",
-    after: " } coupled Top { part a: A; } root Top;",
+    after: ALONE,
     horizon: 0,
 };
 

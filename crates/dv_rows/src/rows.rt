@@ -1,7 +1,8 @@
 //! Rows: a model, a horizon, a microstep limit, and what comes of them.
 
+use crate::frames::{ALONE, Frame, rows};
 use crate::models::{CLOCK, DIVISION, EFFECTS, FAULT_AFTER_OUTPUT, LAMP, SPIN};
-use crate::runs::{Frame, rows, same, same_bytes, same_run};
+use crate::runs::{same, same_bytes, same_run};
 use dv_job::{JobError, check_bytes};
 use std::process::Abort;
 
@@ -47,7 +48,8 @@ fn faults_are_quiet(rt: HostRuntime) {
         FAULT_AFTER_OUTPUT,
         6,
         20,
-        "2.0 f fault range > y:1\n2.0 out a:1\n3.0 t i w n=1 > beat:0\n3.0 out a:0 b:0\n6.0 t i w n=2 > beat:1\n6.0 out a:1 b:1\nwhole 6\nstatus 3",
+        "2.0 f fault range > y:1\n2.0 out a:1\n3.0 t i w n=1 > beat:0\n3.0 out a:0 b:0\n6.0 t i w n=2 > beat:1\n\
+            6.0 out a:1 b:1\nwhole 6\nstatus 3",
     );
     same_run(
         &rt,
@@ -224,7 +226,8 @@ fn flags_are_set_and_printed(rt: HostRuntime) {
         LAMP,
         10,
         20,
-        "3.0 l i off lit=false hours=3\n5.0 l i on lit=true hours=3\n8.0 l i off lit=false hours=6 > wear:3\n8.0 out o:3\n10.0 l i on lit=true hours=6\nwhole 10\nstatus 0",
+        "3.0 l i off lit=false hours=3\n5.0 l i on lit=true hours=3\n8.0 l i off lit=false hours=6 > wear:3\n\
+            8.0 out o:3\n10.0 l i on lit=true hours=6\nwhole 10\nstatus 0",
     );
 }
 
@@ -294,7 +297,7 @@ fn conditions_of_wrong_types(rt: HostRuntime) {
 /// Rows of items of an atomic model with a flag, a variable and a port.
 const FLAGS: Frame = Frame {
     before: "atomic A { out y; flag f = true; var v: 0..9 = 0; phases z; start z; hold z: 1;\n",
-    after: " } coupled Top { part a: A; } root Top;",
+    after: ALONE,
     horizon: 0,
 };
 

@@ -108,20 +108,3 @@ pub fn same_with_inputs<R: Abort + AllocGlobal>(
         assert_eq!(rt; got.as_str(), *wanted, "inputs {inputs:?}, {model}");
     }
 }
-
-/// What stands around the texts of rows, and how far they run.
-pub struct Frame {
-    pub before: &'static str,
-    pub after: &'static str,
-    pub horizon: u64,
-}
-
-/// Runs the text of each row in its frame, and fails the test where something else comes of it than the row wants.
-pub fn rows<R: Abort + AllocGlobal>(rt: &R, frame: &Frame, rows: &[(&str, &str)]) {
-    for (text, wanted) in rows {
-        let model = format!(in rt.alloc(); "{}{text}{}", frame.before, frame.after).expect(
-            rt, "memory",
-        );
-        same_run(rt, model.as_str(), frame.horizon, 20, wanted);
-    }
-}

@@ -4,7 +4,8 @@ use mathlib.Core.Former.{Count}
 use Rattle.dv_syntax.specs.declared.tree.Name.{Name}
 use Rattle.dv_syntax.specs.declared.tree.Expr.{Expr}
 use Rattle.dv_syntax.specs.declared.tree.Block.{Block}
-use Rattle.dv_syntax.specs.declared.tree.Stmt.{Stmt, Row_of-Stmt, end_of-Stmt, more_of-Stmt, items-the_row-Stmt, items_hidden-the_row-Stmt-0}
+use Rattle.dv_syntax.specs.declared.tree.Stmt.{Stmt, Row_of-Stmt, end_of-Stmt, more_of-Stmt, items-the_row-Stmt}
+use Rattle.dv_syntax.specs.declared.tree.Stmt.{items_hidden-the_row-Stmt-0}
 use Rattle.dv_syntax.specs.declared.tree.Stmt as stmt
 use Rattle.dv_syntax.specs.Trees.{Statements, If, IfElse, For, block_of, expression_of, statement_before, row_statements, statements_of}
 
@@ -22,19 +23,27 @@ abbrev else_row : Stmt → (n : Count) × Row_of-Stmt n
 else_row (stmt.IfElse' place e shape block other_shape other) = (_, other)
 else_row _ = (_, end_of-Stmt)
 
-pub tree_of_if : (place : ℕ) (e : Expr) (block : Block) (rest : Statements) → statement_before (stmt.If place e block) rest ≡ If place (expression_of e) (block_of block) rest
+pub tree_of_if : (place : ℕ) (e : Expr) (block : Block) (rest : Statements)
+    → statement_before (stmt.If place e block) rest ≡ If place (expression_of e) (block_of block) rest
 tree_of_if place e block rest =
     let row = then_row (stmt.If place e block) in
-    ap (λ b. If place (expression_of e) b rest) (sym (statements_of-row row.0 row.1) ∙ ap statements_of (items_hidden-the_row-Stmt-0 block.statements))
+    ap (λ b. If place (expression_of e) b rest)
+    (sym (statements_of-row row.0 row.1) ∙ ap statements_of (items_hidden-the_row-Stmt-0 block.statements))
 
-pub tree_of_if_else : (place : ℕ) (e : Expr) (block other : Block) (rest : Statements) → statement_before (stmt.IfElse place e block other) rest ≡ IfElse place (expression_of e) (block_of block) (block_of other) rest
+pub tree_of_if_else : (place : ℕ) (e : Expr) (block other : Block) (rest : Statements)
+    → statement_before (stmt.IfElse place e block other) rest
+    ≡ IfElse place (expression_of e) (block_of block) (block_of other) rest
 tree_of_if_else place e block other rest =
     let row = then_row (stmt.IfElse place e block other) in
     let other_row = else_row (stmt.IfElse place e block other) in
-    ap (λ b. IfElse place (expression_of e) b (row_statements other_row.1) rest) (sym (statements_of-row row.0 row.1) ∙ ap statements_of (items_hidden-the_row-Stmt-0 block.statements))
-    ∙ ap (λ b. IfElse place (expression_of e) (statements_of block.statements.items) b rest) (sym (statements_of-row other_row.0 other_row.1) ∙ ap statements_of (items_hidden-the_row-Stmt-0 other.statements))
+    ap (λ b. IfElse place (expression_of e) b (row_statements other_row.1) rest)
+    (sym (statements_of-row row.0 row.1) ∙ ap statements_of (items_hidden-the_row-Stmt-0 block.statements))
+    ∙ ap (λ b. IfElse place (expression_of e) (statements_of block.statements.items) b rest)
+    (sym (statements_of-row other_row.0 other_row.1) ∙ ap statements_of (items_hidden-the_row-Stmt-0 other.statements))
 
-pub tree_of_loop : (place : ℕ) (v b : Name) (block : Block) (rest : Statements) → statement_before (stmt.For place v b block) rest ≡ For place v b (block_of block) rest
+pub tree_of_loop : (place : ℕ) (v b : Name) (block : Block) (rest : Statements)
+    → statement_before (stmt.For place v b block) rest ≡ For place v b (block_of block) rest
 tree_of_loop place v b block rest =
     let row = then_row (stmt.For place v b block) in
-    ap (λ inside. For place v b inside rest) (sym (statements_of-row row.0 row.1) ∙ ap statements_of (items_hidden-the_row-Stmt-0 block.statements))
+    ap (λ inside. For place v b inside rest)
+    (sym (statements_of-row row.0 row.1) ∙ ap statements_of (items_hidden-the_row-Stmt-0 block.statements))

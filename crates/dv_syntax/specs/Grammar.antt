@@ -28,8 +28,11 @@ use Rattle.dv_syntax.specs.declared.tree.Start.{Start}
 use Rattle.dv_syntax.specs.declared.tree.RuleSort.{RuleSort}
 use Rattle.dv_syntax.specs.declared.tree.RuleSort.TheVariants as sort
 use Rattle.dv_syntax.specs.declared.tree.End.{End}
-use Rattle.dv_syntax.specs.Trees.{Expression, Literal, TruthValue, Named, Parens, Prefixed, Binary, Call, Elapsed, Times, Statements, Done, Assign, Goto, Send, If, IfElse, For, Add, Drop, PhasesTree, HoldTree, RuleTree, FileTree}
-use Rattle.dv_syntax.specs.Written.{AtomicItem, Declares, Lists, Starts, Holds, Rules, CoupledItem, Inputs, Outputs, Contains, Couples, WrittenModel, WrittenAtomic, WrittenCoupled, WrittenFile, sorted}
+use Rattle.dv_syntax.specs.Trees.{Expression, Literal, TruthValue, Named, Parens, Prefixed, Binary, Call, Elapsed, Times}
+use Rattle.dv_syntax.specs.Trees.{Statements, Done, Assign, Goto, Send, If, IfElse, For, Add, Drop, PhasesTree, HoldTree}
+use Rattle.dv_syntax.specs.Trees.{RuleTree, FileTree}
+use Rattle.dv_syntax.specs.Written.{AtomicItem, Declares, Lists, Starts, Holds, Rules, CoupledItem, Inputs, Outputs, Contains}
+use Rattle.dv_syntax.specs.Written.{Couples, WrittenModel, WrittenAtomic, WrittenCoupled, WrittenFile, sorted}
 
 -- ---- Spellings
 
@@ -119,7 +122,9 @@ expression_spelling (Prefixed o place e) = At (prefix_kind o) place ∷ expressi
 expression_spelling (Binary o a b) = expression_spelling a ++ Anywhere (operator_kind o) ∷ expression_spelling b
 expression_spelling (Elapsed place) = word_at keyword.Elapsed place ∷ []
 expression_spelling (Call c place b) = word_at (call_word c) place ∷ sign symbol.OpenParen ∷ name b ∷ sign symbol.CloseParen ∷ []
-expression_spelling (Times place e b) = word_at keyword.Times place ∷ sign symbol.OpenParen ∷ (expression_spelling e ++ sign symbol.Comma ∷ name b ∷ sign symbol.CloseParen ∷ [])
+expression_spelling (Times place e b) =
+    word_at keyword.Times place ∷ sign symbol.OpenParen
+    ∷ (expression_spelling e ++ sign symbol.Comma ∷ name b ∷ sign symbol.CloseParen ∷ [])
 
 -- how tightly an operator before its operand binds
 abbrev pub prefix_rank : Prefix → ℕ
@@ -201,14 +206,27 @@ pub record IsExpression (limits : Limits) (e : Expression) : Type 0 where
 
 abbrev pub statements_spelling : Statements → List Spelled
 statements_spelling Done = []
-statements_spelling (Assign n e rest) = name n ∷ sign symbol.Assign ∷ (expression_spelling e ++ sign symbol.Semicolon ∷ statements_spelling rest)
+statements_spelling (Assign n e rest) =
+    name n ∷ sign symbol.Assign ∷ (expression_spelling e ++ sign symbol.Semicolon ∷ statements_spelling rest)
 statements_spelling (Goto place p rest) = word_at keyword.Goto place ∷ name p ∷ sign symbol.Semicolon ∷ statements_spelling rest
-statements_spelling (Send place p e rest) = word_at keyword.Send place ∷ name p ∷ (expression_spelling e ++ sign symbol.Semicolon ∷ statements_spelling rest)
-statements_spelling (If place e block rest) = word_at keyword.If place ∷ (expression_spelling e ++ (braces (statements_spelling block) ++ statements_spelling rest))
-statements_spelling (IfElse place e block other rest) = word_at keyword.If place ∷ (expression_spelling e ++ (braces (statements_spelling block) ++ (word keyword.Else ∷ (braces (statements_spelling other) ++ statements_spelling rest))))
-statements_spelling (For place v b block rest) = word_at keyword.For place ∷ name v ∷ word keyword.In ∷ name b ∷ (braces (statements_spelling block) ++ statements_spelling rest)
-statements_spelling (Add place e b rest) = word_at keyword.Add place ∷ (expression_spelling e ++ word keyword.To ∷ name b ∷ sign symbol.Semicolon ∷ statements_spelling rest)
-statements_spelling (Drop place e b rest) = word_at keyword.Drop place ∷ (expression_spelling e ++ word keyword.From ∷ name b ∷ sign symbol.Semicolon ∷ statements_spelling rest)
+statements_spelling (Send place p e rest) =
+    word_at keyword.Send place ∷ name p ∷ (expression_spelling e ++ sign symbol.Semicolon ∷ statements_spelling rest)
+statements_spelling (If place e block rest) =
+    word_at keyword.If place ∷ (expression_spelling e ++ (braces (statements_spelling block) ++ statements_spelling rest))
+statements_spelling (IfElse place e block other rest) =
+    word_at keyword.If place
+    ∷ (expression_spelling e
+    ++ (braces (statements_spelling block)
+    ++ (word keyword.Else ∷ (braces (statements_spelling other) ++ statements_spelling rest))))
+statements_spelling (For place v b block rest) =
+    word_at keyword.For place ∷ name v ∷ word keyword.In ∷ name b
+    ∷ (braces (statements_spelling block) ++ statements_spelling rest)
+statements_spelling (Add place e b rest) =
+    word_at keyword.Add place
+    ∷ (expression_spelling e ++ word keyword.To ∷ name b ∷ sign symbol.Semicolon ∷ statements_spelling rest)
+statements_spelling (Drop place e b rest) =
+    word_at keyword.Drop place
+    ∷ (expression_spelling e ++ word keyword.From ∷ name b ∷ sign symbol.Semicolon ∷ statements_spelling rest)
 
 -- how many blocks lie in one another here, the one that holds these statements counted
 abbrev pub block_depth : Statements → ℕ
@@ -240,7 +258,8 @@ AreStatements limits (Assign n e rest) = IsExpression limits e × AreStatements 
 AreStatements limits (Goto place p rest) = AreStatements limits rest
 AreStatements limits (Send place p e rest) = IsExpression limits e × AreStatements limits rest
 AreStatements limits (If place e block rest) = IsExpression limits e × AreStatements limits block × AreStatements limits rest
-AreStatements limits (IfElse place e block other rest) = IsExpression limits e × AreStatements limits block × AreStatements limits other × AreStatements limits rest
+AreStatements limits (IfElse place e block other rest) =
+    IsExpression limits e × AreStatements limits block × AreStatements limits other × AreStatements limits rest
 AreStatements limits (For place v b block rest) = AreStatements limits block × AreStatements limits rest
 AreStatements limits (Add place e b rest) = IsExpression limits e × AreStatements limits rest
 AreStatements limits (Drop place e b rest) = IsExpression limits e × AreStatements limits rest
@@ -255,7 +274,11 @@ abbrev pub bound_spelling : Bound → List Spelled
 bound_spelling b = minus_spelling b.minus ++ number b.magnitude ∷ []
 
 abbrev pub variable_spelling : Variable → List Spelled
-variable_spelling v = word keyword.Var ∷ name v.name ∷ sign symbol.Colon ∷ (bound_spelling v.low ++ (sign symbol.Range ∷ (bound_spelling v.high ++ (sign symbol.Equal ∷ (bound_spelling v.start ++ sign symbol.Semicolon ∷ [])))))
+variable_spelling v =
+    word keyword.Var ∷ name v.name ∷ sign symbol.Colon
+    ∷ (bound_spelling v.low
+    ++ (sign symbol.Range
+    ∷ (bound_spelling v.high ++ (sign symbol.Equal ∷ (bound_spelling v.start ++ sign symbol.Semicolon ∷ [])))))
 
 abbrev pub flag_spelling : Flag → List Spelled
 flag_spelling f = word keyword.Flag ∷ name f.name ∷ sign symbol.Equal ∷ word (truth_word f.start) ∷ sign symbol.Semicolon ∷ []
@@ -334,7 +357,9 @@ abbrev pub part_spelling : Part → List Spelled
 part_spelling p = word keyword.Part ∷ name p.name ∷ sign symbol.Colon ∷ name p.model ∷ sign symbol.Semicolon ∷ []
 
 abbrev pub link_spelling : Link → List Spelled
-link_spelling l = word_at keyword.Link l.place ∷ (end_spelling l.from ++ (sign symbol.Arrow ∷ (end_spelling l.to ++ sign symbol.Semicolon ∷ [])))
+link_spelling l =
+    word_at keyword.Link l.place
+    ∷ (end_spelling l.from ++ (sign symbol.Arrow ∷ (end_spelling l.to ++ sign symbol.Semicolon ∷ [])))
 
 abbrev pub coupled_item_spelling : CoupledItem → List Spelled
 coupled_item_spelling (Inputs n) = input_spelling n

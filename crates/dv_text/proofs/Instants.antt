@@ -1,5 +1,6 @@
 -- The lines of a trace, instant by instant.
-use Rattle.std.proofs.Common.{◌≡◌, ℕ, suc, zero, ◌+◌, ◌<◌, Bool, true, false, cond, nat_eq, List, [], ◌∷◌, ◌++◌, Option, Some, None, refl, sym, ap, ◌∙◌, append_assoc, append-nil, arith}
+use Rattle.std.proofs.Common.{◌≡◌, ℕ, suc, zero, Bool, true, false, cond, List, [], ◌∷◌, ◌++◌}
+use Rattle.std.proofs.Common.{refl, sym, ap, ◌∙◌, append_assoc, append-nil, arith}
 use Rattle.std.specs.List.{All, AllByRecursion as AllOf, flat_map}
 use Rattle.std.proofs.lemmas.List.Elements.{All-head, All-tail}
 use Rattle.std.proofs.lemmas.List.Concat.{flat_map-append}
@@ -9,13 +10,10 @@ use Rattle.std.specs.declared.cmp.Ordering.TheVariants.{Less}
 use Rattle.std.proofs.lemmas.Bool.Decides.{nat_tests}
 use Rattle.dv_time.specs.declared.time.Time.{Time}
 use Rattle.dv_time.specs.Time.{time_cmp, time_of}
-use Rattle.dv_bag.specs.Bag.{Counts, size}
 use Rattle.dv_bag.specs.Part.{PartOf, joined}
 use Rattle.dv_time.specs.Time.{is_before}
 use Rattle.dv_bag.specs.declared.entry.Entry.{Entry}
 use Rattle.dv_bag.specs.declared.entry.Outer.{Outer}
-use Rattle.dv_bag.specs.declared.entry.What.{What}
-use Rattle.dv_devs.specs.Behaviour.{Reaction}
 use Rattle.dv_devs.specs.Cuts.{IsAllAt, IsAllBefore}
 use Rattle.dv_devs.specs.Network.{Network, components_at, part_of_instant, trace_at, trace_before}
 use Rattle.dv_text.specs.Merging.{group_text, groups_before, groups_from, groups_of, lines_by_time, trace_text, with_text}

@@ -1,5 +1,6 @@
 -- What was sent, and the variables of a state.
-use Rattle.std.proofs.Common.{◌≡◌, ◌⊎◌, inl, inr, nat_eq, cond, subst, ℕ, Bool, true, false, List, [], ◌∷◌, ◌++◌, refl, sym, ap, ◌∙◌, append_assoc, append-nil}
+use Rattle.std.proofs.Common.{◌≡◌, ◌⊎◌, inl, inr, nat_eq, cond, subst, ℕ, Bool, true, false, List, [], ◌∷◌, ◌++◌, refl, sym, ap}
+use Rattle.std.proofs.Common.{◌∙◌, append_assoc, append-nil}
 use Rattle.dv_bag.specs.Bag.{Counts, size}
 use Rattle.dv_bag.specs.declared.state.Datum.{Datum}
 use Rattle.dv_tree.specs.Paths.{name_at, texts_of}

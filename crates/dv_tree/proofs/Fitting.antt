@@ -1,5 +1,6 @@
 -- The couplings of a model begin at ports that its parts have, and lead to as many inputs as they have.
-use Rattle.std.proofs.Common.{◌≡◌, ℕ, zero, suc, ◌+◌, ◌<◌, Bool, true, false, cond, eqb, List, [], ◌∷◌, length, map, get_or, drop, refl, sym, subst, arith}
+use Rattle.std.proofs.Common.{◌≡◌, ℕ, zero, suc, ◌+◌, ◌<◌, Bool, true, false, cond, eqb, List, [], ◌∷◌, length, map, get_or, drop}
+use Rattle.std.proofs.Common.{refl, sym, subst, arith}
 use Rattle.std.specs.Prelude.{Option, Some, None, option_map, IfSome}
 use Rattle.std.specs.List.{AllByRecursion, cons_option, filter_map, range_with_len}
 use Rattle.std.proofs.lemmas.Bool.{eqb-true}
@@ -11,7 +12,9 @@ use Rattle.dv_eval.specs.Scope.{scope_of, place_of}
 use Rattle.dv_check.specs.Names.{model_named}
 use Rattle.dv_check.specs.Tree.{PartTree, NoParts, AtomicPart, CoupledPart, with_part, parts_by, parts_to}
 use Rattle.dv_tree.specs.Instances.{numbers}
-use Rattle.dv_tree.specs.Couplings.{Shown, shown_by, shown_of, shown_parts, place_in, place_at, source_of, target_of, placed_between, placed_link, placed_links, coupling_from_own, coupling_from_part, part_couplings, couplings_of_inputs, couplings_of_parts}
+use Rattle.dv_tree.specs.Couplings.{Shown, shown_by, shown_of, shown_parts, place_in, place_at, source_of, target_of}
+use Rattle.dv_tree.specs.Couplings.{placed_between, placed_link, placed_links, coupling_from_own, coupling_from_part}
+use Rattle.dv_tree.specs.Couplings.{part_couplings, couplings_of_inputs, couplings_of_parts}
 use Rattle.dv_tree.specs.declared.couplings.Target.{Target}
 use Rattle.dv_tree.specs.declared.couplings.Target.TheVariants.{Own, OfPart}
 use Rattle.dv_tree.specs.declared.couplings.Coupling.{Coupling}

@@ -1,10 +1,12 @@
 -- Routing keeps what unions keep. Of several lists of what is sent, one for each w of W, there stands a bag at each port for each
 -- w. Where a relation between such bags holds at the ports from which values come, it holds at those to which they come.
-use Rattle.std.proofs.Common.{◌≡◌, ℕ, zero, suc, ◌+◌, ◌-◌, ◌<◌, ◌≤◌, Bool, true, false, cond, List, [], ◌∷◌, ◌++◌, length, map, get_or, take, drop, refl, ap, sym, ◌∙◌, subst, arith, ⊎_elim}
+use Rattle.std.proofs.Common.{◌≡◌, ℕ, zero, suc, ◌+◌, ◌-◌, ◌<◌, ◌≤◌, Bool, true, false, cond, List, [], ◌∷◌, ◌++◌, length, map}
+use Rattle.std.proofs.Common.{get_or, take, drop, refl, ap, sym, ◌∙◌, subst, arith, ⊎_elim}
 use Rattle.std.specs.Prelude.{Option, Some, None, ◌&&◌}
 use Rattle.std.specs.List.{AllByRecursion}
 use Rattle.std.proofs.lemmas.Bool.{cases_lt}
-use Rattle.std.proofs.lemmas.List.{get_or-drop, get_or-take, get_or_past, get_or_append_left, get_or-append-add, get_or-append_right, length-map, map-append}
+use Rattle.std.proofs.lemmas.List.{get_or-drop, get_or-take, get_or_past, get_or_append_left, get_or-append-add}
+use Rattle.std.proofs.lemmas.List.{get_or-append_right, length-map, map-append}
 use mathlib.Core.Path.{fun_ext}
 use Rattle.dv_syntax.specs.Trees.{ModelTree, CoupledTree, FileTree}
 use Rattle.dv_eval.specs.Scope.{scope_of}
@@ -13,7 +15,8 @@ use Rattle.dv_check.specs.Tree.{PartTree, NoParts, AtomicPart, CoupledPart, comp
 use Rattle.dv_check.specs.declared.limits.TheConstants.{GREATEST_DEPTH}
 use Rattle.dv_tree.specs.Instances.{Instance, instances_in, instances, root_of, root_inputs, tree_in, inputs_in, numbers}
 use Rattle.dv_tree.specs.Couplings.{couplings_of_inputs, couplings_of_parts}
-use Rattle.dv_tree.specs.Routing.{Arrived, with_values, with_coupling, along, along_all, nothing_at, from_parts, to_parts, first_bags, leaving, arriving, leaves_root, arrives_in_root, leaves, arrives}
+use Rattle.dv_tree.specs.Routing.{Arrived, with_values, with_coupling, along, along_all, nothing_at, from_parts, to_parts}
+use Rattle.dv_tree.specs.Routing.{first_bags, leaving, arriving, leaves_root, arrives_in_root, leaves, arrives}
 use Rattle.dv_tree.specs.declared.couplings.Target.{Target}
 use Rattle.dv_tree.specs.declared.couplings.Target.TheVariants.{Own, OfPart}
 use Rattle.dv_tree.specs.declared.couplings.Coupling.{Coupling}

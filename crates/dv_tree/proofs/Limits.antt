@@ -31,7 +31,11 @@ few_inputs f h =
 few_outputs : (f : FileTree) → IsAcceptedFile f → length (root_outputs f) ≤ GREATEST_NAMES
 few_outputs f h =
     let Few : Option ModelTree → Type 0 = λ o. length (outputs_in (coupled_model o)) ≤ GREATEST_NAMES in
-    omega (arith, length-map (outputs_in (root_of f)) (λ (n : Name). n.number), subst Few (sym h.named) (omega (arith, h.coupled.few_ports)))
+    omega (
+      arith,
+      length-map (outputs_in (root_of f)) (λ (n : Name). n.number),
+      subst Few (sym h.named) (omega (arith, h.coupled.few_ports)),
+    )
 
 length-with_values : (t : Target) (more : Counts) (a : Arrived) → length (with_values t more a).own ≡ length a.own
 length-with_values (Own port) more a = length-set a.own port _

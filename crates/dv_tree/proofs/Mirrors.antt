@@ -1,5 +1,6 @@
 -- The parts of a text and those of its tables: what leaves them and what arrives in them is the same.
-use Rattle.std.proofs.Common.{◌≡◌, ℕ, zero, suc, ◌+◌, List, [], ◌∷◌, ◌++◌, length, map, replicate, take, drop, refl, ap, sym, ◌∙◌, subst, arith}
+use Rattle.std.proofs.Common.{◌≡◌, ℕ, zero, suc, ◌+◌, List, [], ◌∷◌, ◌++◌, length, map, replicate, take, drop, refl, ap, sym, ◌∙◌}
+use Rattle.std.proofs.Common.{subst, arith}
 use Rattle.std.specs.Prelude.{Option, Some, option_map, slice_get}
 use Rattle.std.specs.List.{filter_map, cons_option}
 use Rattle.std.proofs.lemmas.List.{append_assoc, length-append, take-take, drop-take, drop_at}
@@ -11,7 +12,8 @@ use Rattle.dv_check.specs.Tree.{PartTree, NoParts, AtomicPart, CoupledPart, with
 use Rattle.dv_tree.specs.Couplings.{Shown, shown_parts, couplings_of_parts}
 use Rattle.dv_tree.specs.Routing.{Arrived, along_all, from_parts, to_parts, first_bags, leaving, arriving}
 use Rattle.dv_tree.specs.Tables.{LevelTable, model_names, entry_at, entry_of, level_of, levels_of}
-use Rattle.dv_tree.specs.Nodes.{Nodes, NoNodes, AtomicNode, CoupledNode, with_node, nodes_by, nodes_to, atomic_count, coupled_count, from_level, to_level, leaving_nodes, kept_nodes, arriving_nodes}
+use Rattle.dv_tree.specs.Nodes.{Nodes, NoNodes, AtomicNode, CoupledNode, with_node, nodes_by, nodes_to, atomic_count}
+use Rattle.dv_tree.specs.Nodes.{coupled_count, from_level, to_level, leaving_nodes, kept_nodes, arriving_nodes}
 use Rattle.dv_tree.specs.declared.entries.Entry.{Entry}
 use Rattle.dv_tree.proofs.Placed.{IsPlaced, nowhere, somewhere, is_placed, level_placed}
 
@@ -138,7 +140,8 @@ pub same_arriving : {models : List ModelTree} {t : PartTree} {n : Nodes} → Mir
 same_arriving none comes sent more = refl
 same_arriving (atomic name m place there rest) comes sent more =
     ap (λ xs. first_bags comes ∷ xs) (same_arriving rest (drop 1 comes) (drop 1 sent) more)
-same_arriving {models = models} (coupled name m {inside = inside} {rest = rest} {within = within} {others = others} h others_h) comes sent more =
+same_arriving {models = models} (coupled name m {inside = inside} {rest = rest} {within = within} {others = others} h others_h)
+    comes sent more =
     let l = level_of models m in
     let k = component_count inside in
     let a = from_level l (leaving_nodes within sent) in

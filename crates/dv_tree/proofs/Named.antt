@@ -181,6 +181,9 @@ module _ {file : File} {names : List (List ℕ)} {is : List Instance} {component
   pub component_read : (x : List ℕ × ℕ) → x ≡ get_or components k x → x ≡ (h.text, h.place)
   component_read x read = read_is components k _ x h.component read
 
+  pub place_read : (x : List ℕ × ℕ) (place : ℕ) → x ≡ get_or components k x → place ≡ x.1 → place ≡ h.place
+  place_read x place read is = is ∙ ap (λ (y : List ℕ × ℕ). y.1) (component_read x read)
+
   pub within_models : h.place < length file.models.items
   within_models = slice_get_within file.models.items h.place _ h.there
 

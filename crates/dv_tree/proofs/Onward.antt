@@ -1,10 +1,12 @@
 -- In an accepted text no link of a coupled model leads from a part to itself, and so nothing that a component sends comes to it.
-use Rattle.std.proofs.Common.{◌≡◌, ◌≢◌, ℕ, zero, suc, ◌+◌, ◌-◌, ◌<◌, ◌≤◌, Bool, true, false, cond, eqb, ltb, List, [], ◌∷◌, length, map, get_or, take, drop, refl, ap, sym, ◌∙◌, subst, arith, ⊎_elim}
+use Rattle.std.proofs.Common.{◌≡◌, ◌≢◌, ℕ, zero, suc, ◌+◌, ◌-◌, ◌<◌, ◌≤◌, Bool, true, false, cond, eqb, ltb, List, [], ◌∷◌}
+use Rattle.std.proofs.Common.{length, map, get_or, take, drop, refl, ap, sym, ◌∙◌, subst, arith, ⊎_elim}
 use Rattle.std.specs.Prelude.{Option, Some, None, option_map, IfSome}
 use Rattle.std.specs.List.{AllByRecursion}
 use Rattle.std.proofs.lemmas.Bool.{cases_Bool, cases_lt, eqb-false, eqb-true}
 use Rattle.std.proofs.lemmas.Bool.Decides.{nat_tests}
-use Rattle.std.proofs.lemmas.List.{get_or-drop, get_or-set_other, get_or-take, get_or_append_left, get_or-append_right, get_or_past, length-take}
+use Rattle.std.proofs.lemmas.List.{get_or-drop, get_or-set_other, get_or-take, get_or_append_left, get_or-append_right}
+use Rattle.std.proofs.lemmas.List.{get_or_past, length-take}
 use Rattle.std.proofs.lemmas.List.FromFn.{get_or-map-range_with_len, length-map-range_with_len}
 use Rattle.dv_syntax.specs.Trees.{ModelTree, AtomicModel, CoupledModel, CoupledTree, FileTree}
 use Rattle.dv_syntax.specs.declared.tree.Name.{Name}
@@ -18,8 +20,10 @@ use Rattle.dv_check.specs.Names.{model_named, name_of_model}
 use Rattle.dv_check.specs.Tree.{PartTree, NoParts, AtomicPart, CoupledPart, component_count, parts_by, parts_to, tree_of, with_part}
 use Rattle.dv_check.specs.declared.limits.TheConstants.{GREATEST_DEPTH}
 use Rattle.dv_tree.specs.Instances.{coupled_model, numbers, root_of}
-use Rattle.dv_tree.specs.Couplings.{Shown, coupling_from_part, couplings_of_inputs, couplings_of_parts, part_couplings, place_at, place_in, placed_between, placed_link, placed_links, shown_parts}
-use Rattle.dv_tree.specs.Routing.{Arrived, along, along_all, arrives, arrives_in_root, arriving, first_bags, from_parts, joined_at, leaving, nothing_at, to_parts, with_coupling, with_values}
+use Rattle.dv_tree.specs.Couplings.{Shown, coupling_from_part, couplings_of_inputs, couplings_of_parts, part_couplings, place_at}
+use Rattle.dv_tree.specs.Couplings.{place_in, placed_between, placed_link, placed_links, shown_parts}
+use Rattle.dv_tree.specs.Routing.{Arrived, along, along_all, arrives, arrives_in_root, arriving, first_bags, from_parts}
+use Rattle.dv_tree.specs.Routing.{joined_at, leaving, nothing_at, to_parts, with_coupling, with_values}
 use Rattle.dv_tree.specs.declared.couplings.Target.{Target}
 use Rattle.dv_tree.specs.declared.couplings.Target.TheVariants.{Own, OfPart}
 use Rattle.dv_tree.specs.declared.couplings.Coupling.{Coupling}

@@ -1,5 +1,6 @@
 -- The tables of coupled models, made from the names of the models and of their ports, are those of their text.
-use Rattle.std.proofs.Common.{◌≡◌, ℕ, suc, Bool, true, false, cond, eqb, List, [], ◌∷◌, length, map, get_or, refl, ap, sym, ◌∙◌, subst, arith}
+use Rattle.std.proofs.Common.{◌≡◌, ℕ, suc, Bool, true, false, cond, eqb, List, [], ◌∷◌, length, map, get_or, refl, ap, sym, ◌∙◌}
+use Rattle.std.proofs.Common.{subst, arith}
 use Rattle.std.specs.Prelude.{Option, Some, None, option_map, slice_get}
 use Rattle.std.specs.List.{filter_map, cons_option, range_with_len}
 use Rattle.std.proofs.lemmas.List.{length-map}
@@ -8,10 +9,13 @@ use Rattle.dv_syntax.specs.Trees.{ModelTree, AtomicModel, CoupledModel, CoupledT
 use Rattle.dv_syntax.specs.declared.tree.Part.{Part}
 use Rattle.dv_syntax.specs.declared.tree.Link.{Link}
 use Rattle.dv_eval.specs.Scope.{place_of}
+use Rattle.dv_check.specs.Accepted.{shown_inputs, shown_outputs}
 use Rattle.dv_check.specs.Names.{name_of_model, model_named}
 use Rattle.dv_tree.specs.Instances.{numbers, coupled_model}
-use Rattle.dv_tree.specs.Couplings.{Shown, inputs_of, outputs_of, shown_by, shown_of, shown_parts, part_couplings, own_couplings, placed_links}
-use Rattle.dv_tree.specs.Tables.{model_names, entry_at, entry_of, entries_of, entry_names, ports_at, placed_by, links_by, level_of, level_of_model, level_by, level_by_model, levels_of, root_table}
+use Rattle.dv_tree.specs.Couplings.{Shown, shown_by, shown_of, shown_parts, part_couplings, own_couplings}
+use Rattle.dv_tree.specs.Couplings.{placed_links}
+use Rattle.dv_tree.specs.Tables.{model_names, entry_at, entry_of, entries_of, entry_names, ports_at, placed_by, links_by}
+use Rattle.dv_tree.specs.Tables.{level_of, level_of_model, level_by, level_by_model, levels_of, root_table}
 use Rattle.dv_tree.specs.Nodes.{level_at, root_level}
 use Rattle.dv_tree.specs.declared.entries.Entry.{Entry}
 use Rattle.dv_tree.proofs.PlaceLemmas.{place_of-cons}
@@ -49,21 +53,22 @@ table_at f models place m d there =
 -- what parts show, by their entries
 pub record ShownAs (models : List ModelTree) (shown : List Shown) (entries : List Entry) : Type 0 where
   pub names : map (λ (s : Shown). s.name) shown ≡ entry_names entries
-  pub inputs : map (λ (s : Shown). s.inputs) shown ≡ ports_at (map inputs_of models) entries
-  pub outputs : map (λ (s : Shown). s.outputs) shown ≡ ports_at (map outputs_of models) entries
+  pub inputs : map (λ (s : Shown). s.inputs) shown ≡ ports_at (map shown_inputs models) entries
+  pub outputs : map (λ (s : Shown). s.outputs) shown ≡ ports_at (map shown_outputs models) entries
 
-shown_first : (models : List ModelTree) (p : Part) (shown : List Shown) (entries : List Entry) {o : Option ModelTree} {place : Option ℕ} →
+shown_first : (models : List ModelTree) (p : Part) (shown : List Shown) (entries : List Entry) {o : Option ModelTree}
+    {place : Option ℕ} →
     IsPlaced models o place → ShownAs models shown entries →
     ShownAs models (cons_option (option_map (shown_by p) o) shown) (cons_option (option_map (entry_at p.name) place) entries)
 shown_first models p shown entries nowhere rest = rest
 shown_first models p shown entries (somewhere m place there) rest = record {
   names = ap (λ xs. p.name.number ∷ xs) rest.names;
   inputs =
-      ap (λ x. x ∷ map (λ (s : Shown). s.inputs) shown) (sym (table_at inputs_of models place m [] there))
-      ∙ ap (λ xs. get_or (map inputs_of models) place [] ∷ xs) rest.inputs;
+      ap (λ x. x ∷ map (λ (s : Shown). s.inputs) shown) (sym (table_at shown_inputs models place m [] there))
+      ∙ ap (λ xs. get_or (map shown_inputs models) place [] ∷ xs) rest.inputs;
   outputs =
-      ap (λ x. x ∷ map (λ (s : Shown). s.outputs) shown) (sym (table_at outputs_of models place m [] there))
-      ∙ ap (λ xs. get_or (map outputs_of models) place [] ∷ xs) rest.outputs;
+      ap (λ x. x ∷ map (λ (s : Shown). s.outputs) shown) (sym (table_at shown_outputs models place m [] there))
+      ∙ ap (λ xs. get_or (map shown_outputs models) place [] ∷ xs) rest.outputs;
 }
 
 pub shown_as : (models : List ModelTree) (parts : List Part) →
@@ -75,15 +80,15 @@ shown_as models (p ∷ parts) =
 
 -- links by the parts that are shown
 links_made : (models : List ModelTree) (m : CoupledTree) →
-    links_by (map inputs_of models) (map outputs_of models) (entries_of models m) m ≡ placed_links models m
+    links_by (map shown_inputs models) (map shown_outputs models) (entries_of models m) m ≡ placed_links models m
 links_made models m =
     let h = shown_as models m.parts in
     let inputs = numbers m.inputs in
     let outputs = numbers m.outputs in
-    ap (λ xs. filter_map (placed_by inputs outputs xs (ports_at (map inputs_of models) (entries_of models m))
-    (ports_at (map outputs_of models) (entries_of models m))) m.links) (sym h.names)
+    ap (λ xs. filter_map (placed_by inputs outputs xs (ports_at (map shown_inputs models) (entries_of models m))
+    (ports_at (map shown_outputs models) (entries_of models m))) m.links) (sym h.names)
     ∙ (ap (λ xs. filter_map (placed_by inputs outputs (map (λ (s : Shown). s.name) (shown_parts models m)) xs
-    (ports_at (map outputs_of models) (entries_of models m))) m.links) (sym h.inputs)
+    (ports_at (map shown_outputs models) (entries_of models m))) m.links) (sym h.inputs)
     ∙ ap (λ xs. filter_map (placed_by inputs outputs (map (λ (s : Shown). s.name) (shown_parts models m))
     (map (λ (s : Shown). s.inputs) (shown_parts models m)) xs) m.links) (sym h.outputs))
 
@@ -102,14 +107,14 @@ shown_count models m =
     )
 
 level_made : (models : List ModelTree) (m : CoupledTree) →
-    level_by (model_names models) (map inputs_of models) (map outputs_of models) m ≡ level_of models m
+    level_by (model_names models) (map shown_inputs models) (map shown_outputs models) m ≡ level_of models m
 level_made models m =
     let entries = entries_of models m in
     let counts = ap (map length) (sym (shown_as models m.parts).inputs) ∙ lengths (shown_parts models m) in
     ap (λ links. record {
       parts = entries;
       outputs = length m.outputs;
-      inputs = map length (ports_at (map inputs_of models) entries);
+      inputs = map length (ports_at (map shown_inputs models) entries);
       of_inputs = own_couplings links;
       of_parts = map (part_couplings links) (range_with_len 0 (length entries));
     }) (links_made models m)
@@ -129,23 +134,26 @@ level_made models m =
     }) (shown_count models m))
 
 level_made_of : (models : List ModelTree) (m : ModelTree) →
-    level_by_model (model_names models) (map inputs_of models) (map outputs_of models) m ≡ level_of_model models m
+    level_by_model (model_names models) (map shown_inputs models) (map shown_outputs models) m ≡ level_of_model models m
 level_made_of models (AtomicModel m) = refl
 level_made_of models (CoupledModel m) = ap Some (level_made models m)
 
 made_of_each : (models each : List ModelTree) →
-    map (level_by_model (model_names models) (map inputs_of models) (map outputs_of models)) each ≡ map (level_of_model models) each
+    map (level_by_model (model_names models) (map shown_inputs models) (map shown_outputs models)) each
+    ≡ map (level_of_model models) each
 made_of_each models [] = refl
 made_of_each models (m ∷ each) =
-    ap (λ x. x ∷ map (level_by_model (model_names models) (map inputs_of models) (map outputs_of models)) each) (level_made_of models m)
+    ap (λ x. x ∷ map (level_by_model (model_names models) (map shown_inputs models) (map shown_outputs models)) each)
+    (level_made_of models m)
     ∙ ap (λ xs. level_of_model models m ∷ xs) (made_of_each models each)
 
 pub levels_made : (models : List ModelTree) (names : List ℕ) (inputs outputs : List (List ℕ)) → names ≡ model_names models →
-    inputs ≡ map inputs_of models → outputs ≡ map outputs_of models → map (level_by_model names inputs outputs) models ≡ levels_of models
+    inputs ≡ map shown_inputs models → outputs ≡ map shown_outputs models
+    → map (level_by_model names inputs outputs) models ≡ levels_of models
 levels_made models names inputs outputs names_are inputs_are outputs_are =
     ap (λ x. map (level_by_model x inputs outputs) models) names_are
     ∙ (ap (λ x. map (level_by_model (model_names models) x outputs) models) inputs_are
-    ∙ (ap (λ x. map (level_by_model (model_names models) (map inputs_of models) x) models) outputs_are ∙ made_of_each models models))
+    ∙ (ap (λ x. map (level_by_model (model_names models) (map shown_inputs models) x) models) outputs_are ∙ made_of_each models models))
 
 -- the table of a model at its place
 pub level_placed : (models : List ModelTree) (place : ℕ) (m : ModelTree) → slice_get models place ≡ Some m →

@@ -1,5 +1,6 @@
 -- Each component receives, and what it receives has a bag for each of its input ports.
-use Rattle.std.proofs.Common.{◌≡◌, ℕ, suc, List, [], ◌∷◌, ◌++◌, length, map, get_or, take, drop, replicate, refl, ap, sym, ◌∙◌, subst, arith}
+use Rattle.std.proofs.Common.{◌≡◌, ℕ, suc, List, [], ◌∷◌, ◌++◌, length, map, get_or, take, drop, replicate, refl, ap, sym, ◌∙◌}
+use Rattle.std.proofs.Common.{subst, arith}
 use Rattle.std.specs.Prelude.{Option, Some, None}
 use Rattle.std.proofs.Math.Seq.{map-set_same}
 use Rattle.std.proofs.lemmas.List.{length-append, length-replicate, length-set, map-append}
@@ -10,7 +11,8 @@ use Rattle.dv_check.specs.Tree.{PartTree, NoParts, AtomicPart, CoupledPart, comp
 use Rattle.dv_check.specs.declared.limits.TheConstants.{GREATEST_DEPTH}
 use Rattle.dv_tree.specs.Instances.{Instance, instances_in, instances, root_of, tree_in}
 use Rattle.dv_tree.specs.Couplings.{Shown, shown_parts, couplings_of_inputs, couplings_of_parts}
-use Rattle.dv_tree.specs.Routing.{Arrived, joined_at, with_values, with_coupling, along, along_all, nothing_at, from_parts, to_parts, first_bags, leaving, arriving, arrives_in_root, arrives}
+use Rattle.dv_tree.specs.Routing.{Arrived, joined_at, with_values, with_coupling, along, along_all, nothing_at, from_parts}
+use Rattle.dv_tree.specs.Routing.{to_parts, first_bags, leaving, arriving, arrives_in_root, arrives}
 use Rattle.dv_tree.specs.declared.couplings.Target.{Target}
 use Rattle.dv_tree.specs.declared.couplings.Target.TheVariants.{Own, OfPart}
 use Rattle.dv_tree.specs.declared.couplings.Coupling.{Coupling}

@@ -6,7 +6,8 @@ use Rattle.std.proofs.Math.ListN.{set}
 use Rattle.dv_bag.specs.Bag.{Counts}
 use Rattle.dv_tree.specs.Routing.{Arrived, along_all}
 use Rattle.dv_tree.specs.Tables.{LevelTable}
-use Rattle.dv_tree.specs.Nodes.{Nodes, NoNodes, nodes_by, nodes_to, atomic_count, coupled_count, nothing_in, from_level, leaving_nodes, kept_nodes, arriving_nodes}
+use Rattle.dv_tree.specs.Nodes.{Nodes, NoNodes, nodes_by, nodes_to, atomic_count, coupled_count, nothing_in, from_level}
+use Rattle.dv_tree.specs.Nodes.{leaving_nodes, kept_nodes, arriving_nodes}
 use Rattle.dv_tree.specs.declared.couplings.Coupling.{Coupling}
 use Rattle.dv_tree.specs.declared.entries.Entry.{Entry}
 use Rattle.dv_tree.proofs.Below.{nodes_of_table}

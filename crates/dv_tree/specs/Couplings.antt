@@ -1,27 +1,19 @@
 -- The links of a coupled model as places of ports.
 use Rattle.std.specs.Prelude.{ℕ, ◌==◌, if◌then◌else◌, slice_index_or, List, [], map, length, filter_map, Option, Some, None, option_map}
 use Rattle.std.specs.List.{range_with_len}
-use Rattle.dv_syntax.specs.Trees.{ModelTree, AtomicModel, CoupledModel, CoupledTree}
+use Rattle.dv_syntax.specs.Trees.{ModelTree, CoupledTree}
 use Rattle.dv_syntax.specs.declared.tree.Name.{Name}
 use Rattle.dv_syntax.specs.declared.tree.Part.{Part}
 use Rattle.dv_syntax.specs.declared.tree.Link.{Link}
 use Rattle.dv_syntax.specs.declared.tree.End.{End}
-use Rattle.dv_eval.specs.Scope.{scope_of, place_of}
+use Rattle.dv_eval.specs.Scope.{place_of}
+use Rattle.dv_check.specs.Accepted.{shown_inputs, shown_outputs}
 use Rattle.dv_check.specs.Names.{model_named}
 use Rattle.dv_tree.specs.Instances.{numbers}
 use Rattle.dv_tree.specs.declared.couplings.Target.{Target}
 use Rattle.dv_tree.specs.declared.couplings.Target.TheVariants.{Own, OfPart}
 use Rattle.dv_tree.specs.declared.couplings.Coupling.{Coupling}
 use Rattle.dv_tree.specs.declared.couplings.PlacedLink.{PlacedLink}
-
--- the names of a model's input ports, and of its output ports
-abbrev pub inputs_of : ModelTree → List ℕ
-inputs_of (AtomicModel m) = (scope_of m).inputs
-inputs_of (CoupledModel m) = numbers m.inputs
-
-abbrev pub outputs_of : ModelTree → List ℕ
-outputs_of (AtomicModel m) = (scope_of m).outputs
-outputs_of (CoupledModel m) = numbers m.outputs
 
 -- what a part shows to the links around it: its name, and the names of its ports
 pub record Shown : Type 0 where
@@ -30,7 +22,7 @@ pub record Shown : Type 0 where
   pub outputs : List ℕ
 
 abbrev pub shown_by : Part → ModelTree → Shown
-shown_by p m = record { name = p.name.number; inputs = inputs_of m; outputs = outputs_of m }
+shown_by p m = record { name = p.name.number; inputs = shown_inputs m; outputs = shown_outputs m }
 
 -- what the parts of a coupled model show; a part whose model is unknown is none
 abbrev pub shown_of : List ModelTree → Part → Option Shown

@@ -3,7 +3,8 @@
 -- Coupled models are taken level by level: what leaves each part goes along the links of the model around it, to the inputs of
 -- other parts and to the model's own outputs. So it goes up to the root; from there what has come to each model goes down into
 -- its parts.
-use Rattle.std.specs.Prelude.{ℕ, List, [], ◌∷◌, ◌++◌, map, length, replicate, take, drop, fold, slice_set, slice_index_or, Option, Some, None}
+use Rattle.std.specs.Prelude.{ℕ, List, [], ◌∷◌, ◌++◌, map, length, replicate, take, drop, fold, slice_set, slice_index_or, Option}
+use Rattle.std.specs.Prelude.{Some, None}
 use Rattle.dv_syntax.specs.Trees.{ModelTree, CoupledTree, FileTree}
 use Rattle.dv_bag.specs.Bag.{Counts, bag_at, union}
 use Rattle.dv_check.specs.Tree.{PartTree, NoParts, AtomicPart, CoupledPart, component_count, tree_of}

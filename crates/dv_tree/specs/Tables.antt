@@ -1,5 +1,6 @@
 -- What a tree keeps of a checked text, as tables of numbers.
-use Rattle.std.specs.Prelude.{ℕ, List, [], ◌∷◌, ◌++◌, map, length, filter_map, slice_index_or, slice_set, Option, Some, None, option_map, refl}
+use Rattle.std.specs.Prelude.{ℕ, List, [], ◌∷◌, ◌++◌, map, length, filter_map, slice_index_or, slice_set, Option, Some, None}
+use Rattle.std.specs.Prelude.{option_map, refl}
 use Rattle.std.specs.List.{range_with_len}
 use Rattle.std.specs.Coded.{Coded, code_by, coded×, coded_list, coded_ℕ}
 use Rattle.dv_syntax.specs.contracts.tree.File as file
@@ -11,7 +12,8 @@ use Rattle.dv_eval.specs.Scope.{Scope, scope_of, nothing_declared, place_of}
 use Rattle.dv_check.specs.Names.{name_of_model}
 use Rattle.dv_syntax.specs.declared.tree.Link.{Link}
 use Rattle.dv_tree.specs.Instances.{numbers, root_of}
-use Rattle.dv_tree.specs.Couplings.{Shown, shown_parts, place_at, placed_between, own_couplings, part_couplings, couplings_of_inputs, couplings_of_parts}
+use Rattle.dv_tree.specs.Couplings.{Shown, shown_parts, place_at, placed_between, own_couplings, part_couplings}
+use Rattle.dv_tree.specs.Couplings.{couplings_of_inputs, couplings_of_parts}
 use Rattle.dv_tree.specs.declared.couplings.PlacedLink.{PlacedLink}
 use Rattle.dv_tree.specs.declared.couplings.Target.{Target}
 use Rattle.dv_tree.specs.declared.couplings.Target.TheVariants.{Own, OfPart}

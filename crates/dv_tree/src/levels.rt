@@ -37,7 +37,13 @@ impl Model for Level {
 
     ghost coded = { level_code };
 
-    ghost view = { λ l. record { parts = l.parts.items; outputs = l.outputs; inputs = l.inputs.items; of_inputs = l.of_inputs.items; of_parts = map (λ list. list.items) l.of_parts.items } };
+    ghost view = { λ l. record {
+      parts = l.parts.items;
+      outputs = l.outputs;
+      inputs = l.inputs.items;
+      of_inputs = l.of_inputs.items;
+      of_parts = map (λ list. list.items) l.of_parts.items;
+    } };
 }
 
 impl Level {

@@ -2,7 +2,8 @@
 
 ghost use Rattle.std.specs.Prelude.{◌≡◌, ◌++◌, ◌∷◌, suc, drop, option_copied, OnOk, IfOk};
 ghost use Rattle.std.specs.Vec.Iter.{into_iter_items};
-ghost use Rattle.dv_tree.specs.Nodes.{arriving_nodes, atomic_count, coupled_count, from_level, kept_nodes, leaving_nodes, nodes_to, part_count, part_coupled, part_kept, part_leaving, part_received, through_level};
+ghost use Rattle.dv_tree.specs.Nodes.{arriving_nodes, atomic_count, coupled_count, from_level, kept_nodes, leaving_nodes};
+ghost use Rattle.dv_tree.specs.Nodes.{nodes_to, part_count, part_coupled, part_kept, part_leaving, part_received, through_level};
 ghost use Rattle.dv_tree.specs.Routing.{along, first_bags};
 
 use crate::arrived::Arrived;

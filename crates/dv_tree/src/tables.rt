@@ -4,7 +4,7 @@ ghost use Rattle.std.specs.Prelude.{◌≡◌, map, option_map, Some, IfOk};
 ghost use Rattle.std.specs.Option.{option_copied};
 ghost use Rattle.dv_syntax.specs.Trees.{coupled_of, file_of, model_of};
 ghost use Rattle.dv_check.specs.Names.{name_of_model};
-ghost use Rattle.dv_tree.specs.Couplings.{inputs_of, outputs_of};
+ghost use Rattle.dv_check.specs.Accepted.{shown_inputs, shown_outputs};
 ghost use Rattle.dv_tree.specs.Instances.{coupled_model, inputs_in, numbers, outputs_in, root_of};
 ghost use Rattle.dv_tree.specs.Tables.{model_names, scope_of_model};
 
@@ -62,7 +62,7 @@ pub(crate) fn numbers(alloc: Global, names: &[Name]) -> Result<Vec<u32>, AllocEr
 
 fn inputs_of(alloc: Global, model: &Model, scope: &Scope) -> Result<Vec<u32>, AllocError>
     requires { scope.now ≡ scope_of_model (model_of model.now) }
-    ensures { IfOk result (λ names. names.items ≡ inputs_of (model_of model.now)) }
+    ensures { IfOk result (λ names. names.items ≡ shown_inputs (model_of model.now)) }
 {
     match model {
         Model::Atomic(_) => Vec::from_slice(alloc, scope.inputs()),
@@ -72,7 +72,7 @@ fn inputs_of(alloc: Global, model: &Model, scope: &Scope) -> Result<Vec<u32>, Al
 
 fn outputs_of(alloc: Global, model: &Model, scope: &Scope) -> Result<Vec<u32>, AllocError>
     requires { scope.now ≡ scope_of_model (model_of model.now) }
-    ensures { IfOk result (λ names. names.items ≡ outputs_of (model_of model.now)) }
+    ensures { IfOk result (λ names. names.items ≡ shown_outputs (model_of model.now)) }
 {
     match model {
         Model::Atomic(_) => Vec::from_slice(alloc, scope.outputs()),
@@ -87,7 +87,7 @@ pub(crate) fn inputs(
     scopes: &[Scope],
 ) -> Result<Vec<Places>, AllocError>
     requires { scopes.now ≡ map scope_of_model (map model_of models.now) }
-    ensures { IfOk result (λ inputs. inputs.items ≡ map inputs_of (map model_of models.now)) }
+    ensures { IfOk result (λ inputs. inputs.items ≡ map shown_inputs (map model_of models.now)) }
 {
     let mut inputs = Vec::with_capacity(alloc, models.len())?;
     for (place, model) in models.iter().enumerate() {
@@ -104,7 +104,7 @@ pub(crate) fn outputs(
     scopes: &[Scope],
 ) -> Result<Vec<Places>, AllocError>
     requires { scopes.now ≡ map scope_of_model (map model_of models.now) }
-    ensures { IfOk result (λ outputs. outputs.items ≡ map outputs_of (map model_of models.now)) }
+    ensures { IfOk result (λ outputs. outputs.items ≡ map shown_outputs (map model_of models.now)) }
 {
     let mut outputs = Vec::with_capacity(alloc, models.len())?;
     for (place, model) in models.iter().enumerate() {

@@ -58,7 +58,13 @@ impl<'c> Model for Tree<'c> {
 
     ghost view = { λ t. record { file = t.checked.now.file; names = t.checked.now.names } };
 
-    ghost invariant = { λ t. (t.levels.items ≡ levels_of (file_of t.checked.now.file).models) × (root_level t.levels.items t.root ≡ root_table (file_of t.checked.now.file)) × (t.scopes.items ≡ scopes_of (file_of t.checked.now.file)) × (t.components.items ≡ components_of t.checked.now.names (file_of t.checked.now.file)) × (t.inputs.items ≡ root_inputs (file_of t.checked.now.file)) × (t.outputs.items ≡ root_outputs (file_of t.checked.now.file)) };
+    ghost invariant = { λ t.
+        (t.levels.items ≡ levels_of (file_of t.checked.now.file).models)
+        × (root_level t.levels.items t.root ≡ root_table (file_of t.checked.now.file))
+        × (t.scopes.items ≡ scopes_of (file_of t.checked.now.file))
+        × (t.components.items ≡ components_of t.checked.now.names (file_of t.checked.now.file))
+        × (t.inputs.items ≡ root_inputs (file_of t.checked.now.file))
+        × (t.outputs.items ≡ root_outputs (file_of t.checked.now.file)) };
 }
 
 impl<'c> Tree<'c> {

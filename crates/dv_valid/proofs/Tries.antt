@@ -1,5 +1,6 @@
 -- What the numbers of a trie's nodes stand for, and that equal stacks have one number.
-use Rattle.std.proofs.Common.{◌≡◌, ℕ, zero, suc, ◌<◌, ◌≤◌, List, ◌∷◌, [], length, get_or, Option, Some, None, MatchOption, refl, sym, ◌∙◌, ap, subst, arith}
+use Rattle.std.proofs.Common.{◌≡◌, ℕ, zero, suc, ◌<◌, ◌≤◌, List, ◌∷◌, [], length, get_or, Option, Some, None, MatchOption, refl}
+use Rattle.std.proofs.Common.{sym, ◌∙◌, ap, subst, arith}
 use Rattle.std.proofs.lemmas.List.{get_or_read}
 use Rattle.dv_bag.specs.declared.value.ValueType.{ValueType}
 use Rattle.dv_valid.specs.Stacks.{IsTrie, Keeps, Stacks, link, node_at, stack_types, stacks_of, types_at}

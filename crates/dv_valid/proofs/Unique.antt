@@ -10,7 +10,8 @@ use Rattle.dv_code.specs.Valid.{Agrees, Arrives, Body, IsFine, LiesIn, Mark as M
 use Rattle.dv_code.specs.declared.TheConstants.{DEEPEST_LOOPS}
 use Rattle.dv_code.specs.declared.shape.ProgramSort.{ProgramSort}
 use Rattle.dv_code.specs.declared.instruction.Instruction.{Instruction}
-use Rattle.dv_code.specs.declared.instruction.Instruction.TheVariants.{Push, Apply, Combine, Perform, Go, Jump, JumpFalse, FalseKeep, TrueKeep, Loop, Next, End}
+use Rattle.dv_code.specs.declared.instruction.Instruction.TheVariants.{Push, Apply, Combine, Perform, Go, Jump, JumpFalse}
+use Rattle.dv_code.specs.declared.instruction.Instruction.TheVariants.{FalseKeep, TrueKeep, Loop, Next, End}
 use Rattle.dv_valid.specs.Marks.{Fit, IsForced, Settles, settling_place, with_top}
 
 -- a mark with one more type on top than the mark behind it

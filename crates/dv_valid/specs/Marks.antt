@@ -7,7 +7,8 @@ use Rattle.dv_code.specs.Known.{action_type, leaf_type, operand_type, result_typ
 use Rattle.dv_code.specs.Valid.{Agrees, Arrives, Body, IsFine, Mark as Meant, mark}
 use Rattle.dv_code.specs.declared.TheConstants.{DEEPEST_LOOPS}
 use Rattle.dv_code.specs.declared.instruction.Instruction.{Instruction}
-use Rattle.dv_code.specs.declared.instruction.Instruction.TheVariants.{Push, Apply, Combine, Perform, Go, Jump, JumpFalse, FalseKeep, TrueKeep, Loop, Next, End}
+use Rattle.dv_code.specs.declared.instruction.Instruction.TheVariants.{Push, Apply, Combine, Perform, Go, Jump, JumpFalse}
+use Rattle.dv_code.specs.declared.instruction.Instruction.TheVariants.{FalseKeep, TrueKeep, Loop, Next, End}
 use Rattle.dv_valid.specs.Stacks.{Stacks, types_at}
 use Rattle.dv_valid.specs.Nests.{bodies}
 use Rattle.dv_valid.specs.declared.marks.Mark.{Mark}

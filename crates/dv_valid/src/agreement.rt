@@ -4,7 +4,8 @@ ghost use Rattle.std.specs.Prelude.{◌≡◌, ◌↔◌, ◌+◌, ◌<◌, [], 
 ghost use Rattle.dv_code.specs.Shape.{Shape, left_by};
 ghost use Rattle.dv_code.specs.Valid.{IsFine, mark};
 ghost use Rattle.dv_code.specs.declared.TheConstants.{DEEPEST_LOOPS};
-ghost use Rattle.dv_code.specs.declared.instruction.Instruction.TheVariants.{Push, Apply, Combine, Perform, JumpFalse, FalseKeep, TrueKeep, Loop, Next, End};
+ghost use Rattle.dv_code.specs.declared.instruction.Instruction.TheVariants.{Push, Apply, Combine, Perform, JumpFalse, FalseKeep};
+ghost use Rattle.dv_code.specs.declared.instruction.Instruction.TheVariants.{TrueKeep, Loop, Next, End};
 ghost use Rattle.dv_valid.specs.Stacks.{types_at};
 ghost use Rattle.dv_valid.specs.Marks.{AgreesAt, AreNumbered, ArrivesAt, Fit, IsNumbered, IsPlaced, mark_of, meaning, with_top};
 

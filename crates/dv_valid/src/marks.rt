@@ -2,7 +2,8 @@
 //! choice about the mark of its place once the marks behind it are known. So one pass from the last
 //! place to the first finds the only marks that can fit.
 
-ghost use Rattle.std.specs.Prelude.{◌≡◌, ◌≢◌, ℕ, ◌+◌, ◌<◌, ◌≤◌, List, [], ◌∷◌, length, slice_get, true, Some, IfOk, IfSome, MatchOption, OnOk};
+ghost use Rattle.std.specs.Prelude.{◌≡◌, ◌≢◌, ℕ, ◌+◌, ◌<◌, ◌≤◌, List, [], ◌∷◌, length, slice_get, true, Some, IfOk, IfSome};
+ghost use Rattle.std.specs.Prelude.{MatchOption, OnOk};
 ghost use Rattle.dv_bag.specs.declared.value.ValueType.{ValueType};
 ghost use Rattle.dv_code.specs.Known.{operand_type, result_type};
 ghost use Rattle.dv_code.specs.Shape.{Shape, left_by};
@@ -10,7 +11,8 @@ ghost use Rattle.dv_code.specs.Valid.{Body as MeantBody, Mark as Meant, mark};
 ghost use Rattle.dv_code.specs.declared.TheConstants.{DEEPEST_LOOPS};
 ghost use Rattle.dv_valid.specs.Nests.{bodies};
 ghost use Rattle.dv_valid.specs.Stacks.{Keeps, types_at};
-ghost use Rattle.dv_valid.specs.Marks.{AreNumbered, Fit, IsForcedAt, IsFound, IsNumbered, MayBeNumbered, Settles, mark_of, meaning, settling_place, with_top};
+ghost use Rattle.dv_valid.specs.Marks.{AreNumbered, Fit, IsForcedAt, IsFound, IsNumbered, MayBeNumbered, Settles, mark_of};
+ghost use Rattle.dv_valid.specs.Marks.{meaning, settling_place, with_top};
 
 use crate::nest::{Body, Nest};
 use crate::stacks::TypeStacks;

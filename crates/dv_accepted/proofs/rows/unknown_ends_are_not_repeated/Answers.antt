@@ -1,13 +1,7 @@
 use Rattle.std.proofs.Common.{refl}
-use Rattle.dv_check.specs.Names.{among, excess_past, no_number, with_number, within_limit}
-use Rattle.dv_check.specs.Tables.{first_of}
-use Rattle.dv_check.specs.LinkSets.{no_link, with_link}
-use Rattle.dv_check.specs.Models.{faces_in}
-use Rattle.dv_check.specs.Rules.{is_start_known}
-use Rattle.dv_check.specs.Cycles.{containment, cycle_refusals, position_of}
-use Rattle.dv_check.specs.Couplings.{parts_in}
+use Rattle.dv_accepted.proofs.Computing.{computing}
 use Rattle.dv_accepted.proofs.rows.unknown_ends_are_not_repeated.Goals as goal
 
 pub returns : goal.returns
-unfolding among excess_past within_limit no_number with_number first_of is_start_known no_link with_link faces_in parts_in containment cycle_refusals position_of
+unfolding computing
 returns c = refl

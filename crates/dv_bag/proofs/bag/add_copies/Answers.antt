@@ -7,7 +7,9 @@ use Rattle.dv_bag.proofs.bag.add_copies.Goals as goal
 pub returns-in-Ok-clause-ok : goal.returns-in-Ok-clause-ok
 returns-in-Ok-clause-ok c =
     let found = rw c.as_slice.ensures at c.in-Ok.ensures.found in
-    more_copies _ _ c.args.pairs.now.items _ _ _ _ (to_z-of_z _ _ c.ranges.value) refl c.deref_mut.ensures.value c.deref.ensures _ _ found c.saturating_add.ensures ∙ sym (some_copies c.args.value c.args.copies c.args.pairs.now.items c.requires.some)
+    more_copies _ _ c.args.pairs.now.items _ _ _ _ (to_z-of_z _ _ c.ranges.value) refl c.deref_mut.ensures.value c.deref.ensures _
+    _ found c.saturating_add.ensures
+    ∙ sym (some_copies c.args.value c.args.copies c.args.pairs.now.items c.requires.some)
 
 pub returns-in-Ok-clause-bag : goal.returns-in-Ok-clause-bag
 returns-in-Ok-clause-bag c = subst IsBag (sym (returns-in-Ok-clause-ok c)) (with_copies_bag _ _ _ c.requires.bag)
@@ -16,7 +18,10 @@ pub returns-in_ok-insert-in-Err-clause-ok : goal.returns-in_ok-insert-in-Err-cla
 returns-in_ok-insert-in-Err-clause-ok c =
     let items = c.args.pairs.now.items in
     let absent = rw c.as_slice.ensures at c.in-Err.ensures.absent in
-    first_copies _ _ items items items items _ (to_z-of_z _ _ c.ranges.value) refl refl refl _ _ c.requires.bag c.ranges.copies.fits absent c.in_ok-insert-in-Err.ensures.ok ∙ sym (some_copies c.args.value c.args.copies items c.requires.some)
+    first_copies _ _ items items items items _ (to_z-of_z _ _ c.ranges.value) refl refl refl _ _ c.requires.bag
+    c.ranges.copies.fits absent c.in_ok-insert-in-Err.ensures.ok
+    ∙ sym (some_copies c.args.value c.args.copies items c.requires.some)
 
 pub returns-in_ok-insert-in-Err-clause-bag : goal.returns-in_ok-insert-in-Err-clause-bag
-returns-in_ok-insert-in-Err-clause-bag c = subst IsBag (sym (returns-in_ok-insert-in-Err-clause-ok c)) (with_copies_bag _ _ _ c.requires.bag)
+returns-in_ok-insert-in-Err-clause-bag c =
+    subst IsBag (sym (returns-in_ok-insert-in-Err-clause-ok c)) (with_copies_bag _ _ _ c.requires.bag)

@@ -9,4 +9,6 @@ pub returns : goal.returns
 returns c =
     let known = known_by c.args.declarations.now in
     c.is_empty.ensures
-    ∙ nothing_in_both c.check_phase.new.found c.check_found_ticks.new.found (phase_refusals known c.args.phase.now) (ticks_refusals known (ticks_found (option_copied c.args.ticks))) (rw (← c.new-wrong.ensures) c.check_phase.ensures) c.check_found_ticks.ensures
+    ∙ nothing_in_both c.check_phase.new.found c.check_found_ticks.new.found (phase_refusals known c.args.phase.now)
+    (ticks_refusals known (ticks_found (option_copied c.args.ticks))) (rw (← c.new-wrong.ensures) c.check_phase.ensures)
+    c.check_found_ticks.ensures

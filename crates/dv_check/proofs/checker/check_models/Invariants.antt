@@ -6,4 +6,6 @@ use Rattle.dv_check.specs.Refusals.{model_refusals}
 use Rattle.dv_check.proofs.checker.check_models.Given as goal
 
 abbrev pub invariant-loop-model : goal.invariant-loop-model
-invariant-loop-model l = with_refusals l.found (flat_map (model_refusals (file_of l.file).models) (map model_of (drop l.model-index l.model-items))) ≡ with_refusals l.initial.found (flat_map (model_refusals (file_of l.file).models) (file_of l.file).models)
+invariant-loop-model l =
+    with_refusals l.found (flat_map (model_refusals (file_of l.file).models) (map model_of (drop l.model-index l.model-items)))
+    ≡ with_refusals l.initial.found (flat_map (model_refusals (file_of l.file).models) (file_of l.file).models)

@@ -5,4 +5,6 @@ use Rattle.dv_check.specs.Names.{repeats, repeats_after}
 use Rattle.dv_check.proofs.repeats.find_repeats.Given as goal
 
 abbrev pub invariant-loop-name : goal.invariant-loop-name
-invariant-loop-name l = with_refusals l.found (repeats_after (has l.seen) l.number (drop l.name-index l.names)) ≡ with_refusals l.initial.found (repeats l.number l.names)
+invariant-loop-name l =
+    with_refusals l.found (repeats_after (has l.seen) l.number (drop l.name-index l.names))
+    ≡ with_refusals l.initial.found (repeats l.number l.names)

@@ -4,4 +4,5 @@ use Rattle.dv_check.specs.Rules.{domain_of_state_variable, number_of_state_varia
 use Rattle.dv_check.proofs.starts.directory_of.Given as goal
 
 abbrev pub invariant-loop-variable : goal.invariant-loop-variable
-invariant-loop-variable l = value_for l.directory ≡ first_of number_of_state_variable domain_of_state_variable (take l.variable-index l.variables)
+invariant-loop-variable l =
+    value_for l.directory ≡ first_of number_of_state_variable domain_of_state_variable (take l.variable-index l.variables)

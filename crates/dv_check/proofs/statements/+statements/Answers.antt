@@ -12,7 +12,8 @@ check_statement-returns-in-If t c = λ rest.
     ap (λ s. statement_before s rest) c.in-If.is
     ∙ c.trees_keep_blocks.ensures.alone place e c.in-If.then_block rest
     ∙ ap (λ items. If place (expression_of e) (statements_of items) rest) (sym c.deref.ensures.value) in
-    with_refusals-If (known_at c.args.environment.now) c.args.found.now _ _ c.args.statement.now place (expression_of e) (statements_of c.deref.result.now) rest tree c.check_place-in-If.ensures c.check_statements.ensures
+    with_refusals-If (known_at c.args.environment.now) c.args.found.now _ _ c.args.statement.now place (expression_of e)
+    (statements_of c.deref.result.now) rest tree c.check_place-in-If.ensures c.check_statements.ensures
 
 pub check_statement-returns-in-IfElse : goal.check_statement-returns-in-IfElse
 check_statement-returns-in-IfElse t c = λ rest.
@@ -21,9 +22,15 @@ check_statement-returns-in-IfElse t c = λ rest.
     let tree =
     ap (λ s. statement_before s rest) c.in-IfElse.is
     ∙ c.trees_keep_blocks.ensures.with_else place e c.in-IfElse.then_block c.in-IfElse.else_block rest
-    ∙ ap (λ items. IfElse place (expression_of e) (statements_of items) (statements_of c.in-IfElse.else_block.statements.items) rest) (sym c.deref-in-IfElse.ensures.value)
-    ∙ ap (λ items. IfElse place (expression_of e) (statements_of c.deref-in-IfElse.result.now) (statements_of items) rest) (sym c.deref-in-IfElse-2.ensures.value) in
-    with_refusals-IfElse (known_at c.args.environment.now) c.args.found.now _ _ c.args.statement.now place (expression_of e) (statements_of c.deref-in-IfElse.result.now) rest (statements_of c.deref-in-IfElse-2.result.now) _ tree c.check_place-in-IfElse.ensures c.check_statements-in-IfElse.ensures c.check_statements-in-IfElse-2.ensures
+    ∙ ap
+    (λ items.
+    IfElse place (expression_of e) (statements_of items) (statements_of c.in-IfElse.else_block.statements.items) rest)
+    (sym c.deref-in-IfElse.ensures.value)
+    ∙ ap (λ items. IfElse place (expression_of e) (statements_of c.deref-in-IfElse.result.now) (statements_of items) rest)
+    (sym c.deref-in-IfElse-2.ensures.value) in
+    with_refusals-IfElse (known_at c.args.environment.now) c.args.found.now _ _ c.args.statement.now place (expression_of e)
+    (statements_of c.deref-in-IfElse.result.now) rest (statements_of c.deref-in-IfElse-2.result.now) _ tree
+    c.check_place-in-IfElse.ensures c.check_statements-in-IfElse.ensures c.check_statements-in-IfElse-2.ensures
 
 pub check_statement-returns-in-For : goal.check_statement-returns-in-For
 check_statement-returns-in-For t c = λ rest.
@@ -34,4 +41,6 @@ check_statement-returns-in-For t c = λ rest.
     ap (λ s. statement_before s rest) c.in-For.is
     ∙ c.trees_keep_blocks.ensures.repeated place v bag c.in-For.block rest
     ∙ ap (λ items. For place v bag (statements_of items) rest) (sym c.deref-in-For.ensures.value) in
-    with_refusals-For (known_at c.args.environment.now) c.args.found.now _ _ _ c.args.statement.now place v bag (statements_of c.deref-in-For.result.now) rest tree c.check_loop_variable.ensures c.check_bag.ensures.found (rw (known_at-Loop v c.args.environment) at c.check_statements-in-For.ensures)
+    with_refusals-For (known_at c.args.environment.now) c.args.found.now _ _ _ c.args.statement.now place v bag
+    (statements_of c.deref-in-For.result.now) rest tree c.check_loop_variable.ensures c.check_bag.ensures.found
+    (rw (known_at-Loop v c.args.environment) at c.check_statements-in-For.ensures)

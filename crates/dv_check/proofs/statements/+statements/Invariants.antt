@@ -7,4 +7,5 @@ use Rattle.dv_check.proofs.statements.+statements.Given as goal
 abbrev pub invariant-check_statements-loop-statement :
     goal.invariant-check_statements-loop-statement
 invariant-check_statements-loop-statement l =
-    with_refusals l.found (statements_refusals (known_at l.environment) (statements_of (drop l.statement-index l.statements))) ≡ with_refusals l.initial.found (statements_refusals (known_at l.environment) (statements_of l.statements))
+    with_refusals l.found (statements_refusals (known_at l.environment) (statements_of (drop l.statement-index l.statements)))
+    ≡ with_refusals l.initial.found (statements_refusals (known_at l.environment) (statements_of l.statements))

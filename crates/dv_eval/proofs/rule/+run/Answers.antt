@@ -7,15 +7,17 @@ use Rattle.dv_bag.specs.Outcome.{Fails, Gives}
 use Rattle.dv_eval.specs.Copies.{repeated}
 use Rattle.dv_eval.specs.Contexts.{context_of}
 use Rattle.dv_eval.specs.Meaning.{addition, bag_of_name, in_loop, moment_in, repetition, run}
-use Rattle.dv_eval.proofs.Rules.{run-drop_ok, run-drop_err, run-If, run-IfElse, run-For, run-Assign, run-Add, repeated_fails, repeated_next, repetition_fails, repetition_next}
+use Rattle.dv_eval.proofs.Rules.{run-drop_ok, run-drop_err, run-If, run-IfElse, run-For, run-Assign, run-Add, repeated_fails}
+use Rattle.dv_eval.proofs.Rules.{repeated_next, repetition_fails, repetition_next}
 use Rattle.dv_eval.proofs.rule.+run.Goals as goal
 
 pub run-returns-in_err-effect : goal.run-returns-in_err-effect
 run-returns-in_err-effect t c =
     let p = err_from_is_err_and c.from_residual.result c.from_residual.ensures.1 in
     let at = c.loop-statement in
-    let fails = run-drop_err c.args.scope.now (context_of c.args.context.now) c.args.statements.now at.statement-index c.statement-item.result
-    at.effect _ c.in_err-effect.field-0.0 c.loop-statement-test.true c.statement-item.is at.invariant c.in_err-effect.ensures in
+    let fails = run-drop_err c.args.scope.now (context_of c.args.context.now) c.args.statements.now at.statement-index
+    c.statement-item.result at.effect _ c.in_err-effect.field-0.0 c.loop-statement-test.true c.statement-item.is at.invariant
+    c.in_err-effect.ensures in
     rw (p.1, p.2) fails
 
 pub run-loop-statement-preserved : goal.run-loop-statement-preserved
@@ -82,12 +84,16 @@ run_copies-returns-in_err-effect t c =
 pub run_copies-loop-preserved : goal.run_copies-loop-preserved
 run_copies-loop-preserved t c =
     let step = run c.args.scope.now (context_of c.args.context.now) (statements_of c.args.block.now) in
-    repeated_next step c.args.copies c.loop.counter c.loop.effect _ c.loop-test.true c.loop.invariant c.in_ok-effect.effect c.in_ok-effect.ensures
+    repeated_next step c.args.copies c.loop.counter c.loop.effect _ c.loop-test.true c.loop.invariant c.in_ok-effect.effect
+    c.in_ok-effect.ensures
 
 pub run_loop-returns-in_err-effect : goal.run_loop-returns-in_err-effect
 run_loop-returns-in_err-effect t c =
     let p = err_from_is_err_and c.from_residual.result c.from_residual.ensures.1 in
-    let step = λ (n : ℤ). run c.args.scope.now (in_loop (c.args.variable, n) (context_of c.args.context.now)) (statements_of c.args.block.now) in
+    let step =
+    λ (n : ℤ).
+    run c.args.scope.now (in_loop (c.args.variable, n) (context_of c.args.context.now))
+    (statements_of c.args.block.now) in
     let at = c.loop-pair in
     let pair = get_or c.args.pairs.now at.pair-index (pos 0, 0) in
     let error = c.in_err-effect.field-0.0 in
@@ -98,7 +104,10 @@ run_loop-returns-in_err-effect t c =
 
 pub run_loop-loop-pair-preserved : goal.run_loop-loop-pair-preserved
 run_loop-loop-pair-preserved t c =
-    let step = λ (n : ℤ). run c.args.scope.now (in_loop (c.args.variable, n) (context_of c.args.context.now)) (statements_of c.args.block.now) in
+    let step =
+    λ (n : ℤ).
+    run c.args.scope.now (in_loop (c.args.variable, n) (context_of c.args.context.now))
+    (statements_of c.args.block.now) in
     let at = c.loop-pair in
     let pair = get_or c.args.pairs.now at.pair-index (pos 0, 0) in
     let next = c.in_ok-effect.effect in

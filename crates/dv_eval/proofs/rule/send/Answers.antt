@@ -13,6 +13,10 @@ returns c =
       | then-port-len+in_ok-insert w ↦
           let n = w.number_of.result in
           let fits : FitsSigned w64 n = search rules in
-          sending-some c.args.scope.now c.args.name c.args.value c.args.effect c.in-Some.port (to_z w64 (of_z w64 n)) w.insert.new.self few at (to_z-of_z w64 n fits ∙ w.number_of.ensures) w.in_ok-insert.ensures.ok ∙ ap Ok (sym w.effect-is)
-      | else-port-len w ↦ sending-past c.args.scope.now c.args.name c.args.value c.args.effect c.in-Some.port few at (omega arith) ∙ ap Ok (sym w.effect-is)
+          sending-some c.args.scope.now c.args.name c.args.value c.args.effect c.in-Some.port (to_z w64 (of_z w64 n))
+          w.insert.new.self few at (to_z-of_z w64 n fits ∙ w.number_of.ensures) w.in_ok-insert.ensures.ok
+          ∙ ap Ok (sym w.effect-is)
+      | else-port-len w ↦
+          sending-past c.args.scope.now c.args.name c.args.value c.args.effect c.in-Some.port few at (omega arith)
+          ∙ ap Ok (sym w.effect-is)
     ]

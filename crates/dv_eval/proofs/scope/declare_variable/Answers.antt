@@ -14,4 +14,7 @@ returns-in_ok-insert c =
     c.in_ok-insert.ensures.entries ∙ (added ∙ sym (with_variable-absent m.entries (name, domain) absent))
 
 pub returns-else-not-contains_key : goal.returns-else-not-contains_key
-returns-else-not-contains_key c = sym (with_variable-present c.args.variables.now.entries (c.args.name, c.args.domain) (sym c.contains_key.ensures ∙ c.if-not-contains_key.false))
+returns-else-not-contains_key c =
+    sym
+    (with_variable-present c.args.variables.now.entries (c.args.name, c.args.domain)
+    (sym c.contains_key.ensures ∙ c.if-not-contains_key.false))

@@ -3,15 +3,18 @@ use Rattle.std.proofs.lemmas.List.{drop_all}
 use Rattle.std.proofs.lemmas.Bool.{eqb-false, eqb-true}
 use Rattle.dv_syntax.specs.declared.tree.Stmt.{the_lemmas}
 use Rattle.dv_syntax.specs.Grammar.{loop_depth}
-use Rattle.dv_syntax.specs.Trees.{Done, For, If, IfElse, block_of, expression_of, statement_before, statements_of}
+use Rattle.dv_syntax.specs.Trees.{Done, expression_of, statement_before, statements_of}
 use Rattle.dv_code.specs.declared.instruction.Instruction.TheVariants.{Go}
 use Rattle.dv_eval.specs.Scope.{place_of}
 use Rattle.dv_gen.specs.Emission.{loops_of, with_statements}
 use Rattle.dv_gen.specs.Resolution.{all_resolved, place_or_first, resolved}
 use Rattle.dv_gen.specs.Resolved.{For as Each}
 use Rattle.dv_gen.proofs.Choices.{choice_of_none, choice_of_some}
-use Rattle.dv_gen.proofs.Emission.{jump_behind_within, jump_within_block, jump_within_more, still_within, with_branch-is, with_statements-Done, with_statements-For, with_statements-Goto, with_statements-If, with_statements-When}
+use Rattle.dv_gen.proofs.Emission.{jump_behind_within, jump_within_block, jump_within_more, still_within, with_branch-is}
+use Rattle.dv_gen.proofs.Emission.{with_statements-Done, with_statements-For, with_statements-Goto, with_statements-If}
+use Rattle.dv_gen.proofs.Emission.{with_statements-When}
 use Rattle.dv_gen.proofs.LoopDepth.{block_shallow, first_shallow, loop_depth-at, loop_shallow, other_shallow}
+use Rattle.dv_gen.proofs.Trees.{choice_tree, loop_tree, when_tree}
 use Rattle.dv_gen.proofs.statement.+statements.Goals as goal
 
 pub emit_when-emit_statements-requires : goal.emit_when-emit_statements-requires
@@ -26,7 +29,8 @@ pub emit_when-returns : goal.emit_when-returns
 emit_when-returns t c =
     let condition = resolved c.args.names.now (loops_of c.args.loops.now) (expression_of c.args.condition.now) in
     let block = all_resolved c.args.names.now (loops_of c.args.loops.now) (statements_of c.args.block.now) in
-    with_statements-When c.args.draft.now c.emit_expression.new.draft c.push.new.self c.emit_statements.new.draft _ _ _ _ condition block
+    with_statements-When c.args.draft.now c.emit_expression.new.draft c.push.new.self c.emit_statements.new.draft _ _ _ _
+    condition block
     c.in_ok-emit_expression.ensures.code c.place-test.ensures c.in_ok-push.ensures c.in_ok-emit_statements.ensures c.place.ensures
     c.replace.ensures
 
@@ -53,19 +57,23 @@ pub emit_first_block-returns-clause-code : goal.emit_first_block-returns-clause-
 emit_first_block-returns-clause-code t c =
     let condition = resolved c.args.names.now (loops_of c.args.loops.now) (expression_of c.args.condition.now) in
     let block = all_resolved c.args.names.now (loops_of c.args.loops.now) (statements_of c.args.block.now) in
-    with_statements-If c.args.draft.now c.emit_expression.new.draft c.push.new.self c.emit_statements.new.draft c.push-2.new.self _ _ _ _
+    with_statements-If c.args.draft.now c.emit_expression.new.draft c.push.new.self c.emit_statements.new.draft c.push-2.new.self
+    _ _ _ _
     _ _ condition block
-    c.in_ok-emit_expression.ensures.code c.place-test.ensures c.in_ok-push.ensures c.in_ok-emit_statements.ensures c.place-jump.ensures
+    c.in_ok-emit_expression.ensures.code c.place-test.ensures c.in_ok-push.ensures c.in_ok-emit_statements.ensures
+    c.place-jump.ensures
     c.in_ok-push-2.ensures
     c.place.ensures c.replace.ensures
 
 pub emit_first_block-returns-clause-within : goal.emit_first_block-returns-clause-within
 emit_first_block-returns-clause-within t c =
-    jump_behind_within c.emit_statements.new.draft c.push-2.new.self _ _ _ _ _ c.place-jump.ensures c.in_ok-push-2.ensures c.replace.ensures
+    jump_behind_within c.emit_statements.new.draft c.push-2.new.self _ _ _ _ _ c.place-jump.ensures c.in_ok-push-2.ensures
+    c.replace.ensures
 
 pub emit_other_block-returns : goal.emit_other_block-returns
 emit_other_block-returns t c =
-    with_branch-is c.args.draft.now c.emit_statements.new.draft _ _ _ _ c.in_ok-emit_statements.ensures c.place.ensures c.replace.ensures
+    with_branch-is c.args.draft.now c.emit_statements.new.draft _ _ _ _ c.in_ok-emit_statements.ensures c.place.ensures
+    c.replace.ensures
 
 pub emit_other_block-replace-requires : goal.emit_other_block-replace-requires
 emit_other_block-replace-requires t c =
@@ -73,67 +81,38 @@ emit_other_block-replace-requires t c =
 
 pub emit_statement-emit_when-requires : goal.emit_statement-emit_when-requires
 emit_statement-emit_when-requires t c =
-    let place = c.in-If.place in
-    let e = c.in-If.condition in
     let tree =
-    ap (λ s. statement_before s Done) c.in-If.is
-    ∙ c.trees_keep_blocks.ensures.alone place e c.in-If.then_block Done
-    ∙ ap (λ items. If place (expression_of e) (statements_of items) Done) (sym c.deref.ensures.value) in
-    (search (rules, the_lemmas), block_shallow _ _ place (expression_of e) c.requires (statements_of c.deref.result.now) tree)
+    when_tree c.args.statement.now Done _ _ _ _ c.in-If.is (c.trees_keep_blocks.ensures.alone _ _ _ Done)
+    c.deref.ensures.value in
+    (search (rules, the_lemmas), block_shallow _ _ _ _ c.requires _ tree)
 
 pub emit_statement-emit_when-requires-then-is_empty : goal.emit_statement-emit_when-requires-then-is_empty
 emit_statement-emit_when-requires-then-is_empty t c =
-    let place = c.in-IfElse.place in
-    let e = c.in-IfElse.condition in
-    let first = c.deref-first.result.now in
-    let other = c.deref-other.result.now in
     let tree =
-    ap (λ s. statement_before s Done) c.in-IfElse.is
-    ∙ c.trees_keep_blocks.ensures.with_else place e c.in-IfElse.then_block c.in-IfElse.else_block Done
-    ∙ ap (λ items. IfElse place (expression_of e) (statements_of items) (block_of c.in-IfElse.else_block) Done)
-    (sym c.deref-first.ensures.value)
-    ∙ ap (λ items. IfElse place (expression_of e) (statements_of first) (statements_of items) Done) (sym c.deref-other.ensures.value) in
-    (search (rules, the_lemmas), first_shallow _ _ place (expression_of e) c.requires (statements_of first) (statements_of other) tree)
+    choice_tree c.args.statement.now Done _ _ _ _ _ _ c.in-IfElse.is (c.trees_keep_blocks.ensures.with_else _ _ _ _ Done)
+    c.deref-first.ensures.value c.deref-other.ensures.value in
+    (search (rules, the_lemmas), first_shallow _ _ _ _ c.requires _ _ tree)
 
 pub emit_statement-emit_first_block-requires : goal.emit_statement-emit_first_block-requires
 emit_statement-emit_first_block-requires t c =
-    let place = c.in-IfElse.place in
-    let e = c.in-IfElse.condition in
-    let first = c.deref-first.result.now in
-    let other = c.deref-other.result.now in
     let tree =
-    ap (λ s. statement_before s Done) c.in-IfElse.is
-    ∙ c.trees_keep_blocks.ensures.with_else place e c.in-IfElse.then_block c.in-IfElse.else_block Done
-    ∙ ap (λ items. IfElse place (expression_of e) (statements_of items) (block_of c.in-IfElse.else_block) Done)
-    (sym c.deref-first.ensures.value)
-    ∙ ap (λ items. IfElse place (expression_of e) (statements_of first) (statements_of items) Done) (sym c.deref-other.ensures.value) in
-    (search (rules, the_lemmas), first_shallow _ _ place (expression_of e) c.requires (statements_of first) (statements_of other) tree)
+    choice_tree c.args.statement.now Done _ _ _ _ _ _ c.in-IfElse.is (c.trees_keep_blocks.ensures.with_else _ _ _ _ Done)
+    c.deref-first.ensures.value c.deref-other.ensures.value in
+    (search (rules, the_lemmas), first_shallow _ _ _ _ c.requires _ _ tree)
 
 pub emit_statement-emit_other_block-requires : goal.emit_statement-emit_other_block-requires
 emit_statement-emit_other_block-requires t c =
-    let place = c.in-IfElse.place in
-    let e = c.in-IfElse.condition in
-    let first = c.deref-first.result.now in
-    let other = c.deref-other.result.now in
     let tree =
-    ap (λ s. statement_before s Done) c.in-IfElse.is
-    ∙ c.trees_keep_blocks.ensures.with_else place e c.in-IfElse.then_block c.in-IfElse.else_block Done
-    ∙ ap (λ items. IfElse place (expression_of e) (statements_of items) (block_of c.in-IfElse.else_block) Done)
-    (sym c.deref-first.ensures.value)
-    ∙ ap (λ items. IfElse place (expression_of e) (statements_of first) (statements_of items) Done) (sym c.deref-other.ensures.value) in
-    let shallow = other_shallow _ _ place (expression_of e) c.requires (statements_of first) (statements_of other) tree in
-    (search (rules, the_lemmas), (shallow, c.in_ok-jump-in-IfElse.ensures.within))
+    choice_tree c.args.statement.now Done _ _ _ _ _ _ c.in-IfElse.is (c.trees_keep_blocks.ensures.with_else _ _ _ _ Done)
+    c.deref-first.ensures.value c.deref-other.ensures.value in
+    (search (rules, the_lemmas), (other_shallow _ _ _ _ c.requires _ _ tree, c.in_ok-jump-in-IfElse.ensures.within))
 
 pub emit_statement-emit_loop-requires : goal.emit_statement-emit_loop-requires
 emit_statement-emit_loop-requires t c =
-    let place = c.in-For.place in
-    let v = c.in-For.variable in
-    let b = c.in-For.bag in
     let tree =
-    ap (λ s. statement_before s Done) c.in-For.is
-    ∙ c.trees_keep_blocks.ensures.repeated place v b c.in-For.block Done
-    ∙ ap (λ items. For place v b (statements_of items) Done) (sym c.deref-in-For.ensures.value) in
-    (search (rules, the_lemmas), loop_shallow _ _ place v b (statements_of c.deref-in-For.result.now) c.requires tree)
+    loop_tree c.args.statement.now Done _ _ _ _ _ c.in-For.is (c.trees_keep_blocks.ensures.repeated _ _ _ _ Done)
+    c.deref-in-For.ensures.value in
+    (search (rules, the_lemmas), loop_shallow _ _ _ _ _ _ c.requires tree)
 
 pub emit_statements-emit_statement-requires : goal.emit_statements-emit_statement-requires
 emit_statements-emit_statement-requires t c =
@@ -158,7 +137,8 @@ emit_statement-returns-in_ok-push-in-Goto t c = λ rest.
     let loops = loops_of c.args.loops.now in
     let phase = c.in-Goto.phase in
     let after = all_resolved scope loops rest in
-    ap (λ code. with_statements code after) (c.in_ok-push-in-Goto.ensures ∙ ap (λ place. c.args.draft.now ++ Go place ∷ []) c.phase.ensures)
+    ap (λ code. with_statements code after)
+    (c.in_ok-push-in-Goto.ensures ∙ ap (λ place. c.args.draft.now ++ Go place ∷ []) c.phase.ensures)
     ∙ with_statements-Goto c.args.draft.now (place_or_first (place_of phase.number scope.phases)) after
     ∙ ap (λ s. with_statements c.args.draft.now (all_resolved scope loops (statement_before s rest))) (sym c.in-Goto.is)
 
@@ -166,12 +146,9 @@ pub emit_statement-returns-in_ok-emit_when-in-If : goal.emit_statement-returns-i
 emit_statement-returns-in_ok-emit_when-in-If t c = λ rest.
     let scope = c.args.names.now in
     let loops = loops_of c.args.loops.now in
-    let place = c.in-If.place in
-    let e = c.in-If.condition in
     let tree =
-    ap (λ s. statement_before s rest) c.in-If.is
-    ∙ c.trees_keep_blocks.ensures.alone place e c.in-If.then_block rest
-    ∙ ap (λ items. If place (expression_of e) (statements_of items) rest) (sym c.deref.ensures.value) in
+    when_tree c.args.statement.now rest _ _ _ _ c.in-If.is (c.trees_keep_blocks.ensures.alone _ _ _ rest)
+    c.deref.ensures.value in
     c.in_ok-emit_when-in-If.ensures (all_resolved scope loops rest)
     ∙ ap (λ s. with_statements c.args.draft.now (all_resolved scope loops s)) (sym tree)
 
@@ -179,14 +156,11 @@ pub emit_statement-returns-in_ok-emit_loop-in-For : goal.emit_statement-returns-
 emit_statement-returns-in_ok-emit_loop-in-For t c = λ rest.
     let scope = c.args.names.now in
     let loops = loops_of c.args.loops.now in
-    let place = c.in-For.place in
     let v = c.in-For.variable in
-    let b = c.in-For.bag in
     let block = statements_of c.deref-in-For.result.now in
     let tree =
-    ap (λ s. statement_before s rest) c.in-For.is
-    ∙ c.trees_keep_blocks.ensures.repeated place v b c.in-For.block rest
-    ∙ ap (λ items. For place v b (statements_of items) rest) (sym c.deref-in-For.ensures.value) in
+    loop_tree c.args.statement.now rest _ _ _ _ _ c.in-For.is (c.trees_keep_blocks.ensures.repeated _ _ _ _ rest)
+    c.deref-in-For.ensures.value in
     c.in_ok-emit_loop-in-For.ensures (all_resolved scope loops rest)
     ∙ ap (λ source. with_statements c.args.draft.now
     (Each source (all_resolved scope (v.number ∷ loops) block) (all_resolved scope loops rest))) c.source.ensures
@@ -197,17 +171,12 @@ emit_statement-returns-in_ok-emit_when-in-IfElse t c = λ rest.
     let scope = c.args.names.now in
     let loops = loops_of c.args.loops.now in
     let old = c.args.draft.now in
-    let place = c.in-IfElse.place in
-    let e = c.in-IfElse.condition in
     let first = c.deref-first.result.now in
     let other = c.deref-other.result.now in
     let tree =
-    ap (λ s. statement_before s rest) c.in-IfElse.is
-    ∙ c.trees_keep_blocks.ensures.with_else place e c.in-IfElse.then_block c.in-IfElse.else_block rest
-    ∙ ap (λ items. IfElse place (expression_of e) (statements_of items) (block_of c.in-IfElse.else_block) rest)
-    (sym c.deref-first.ensures.value)
-    ∙ ap (λ items. IfElse place (expression_of e) (statements_of first) (statements_of items) rest) (sym c.deref-other.ensures.value) in
-    let condition = resolved scope loops (expression_of e) in
+    choice_tree c.args.statement.now rest _ _ _ _ _ _ c.in-IfElse.is (c.trees_keep_blocks.ensures.with_else _ _ _ _ rest)
+    c.deref-first.ensures.value c.deref-other.ensures.value in
+    let condition = resolved scope loops (expression_of c.in-IfElse.condition) in
     let block = all_resolved scope loops (statements_of first) in
     let after = all_resolved scope loops rest in
     let none = eqb-true (length other) 0 (sym c.is_empty.ensures ∙ c.if-is_empty.true) in
@@ -220,17 +189,12 @@ emit_statement-returns-in_ok-emit_other_block-in-IfElse t c = λ rest.
     let scope = c.args.names.now in
     let loops = loops_of c.args.loops.now in
     let old = c.args.draft.now in
-    let place = c.in-IfElse.place in
-    let e = c.in-IfElse.condition in
     let first = c.deref-first.result.now in
     let other = c.deref-other.result.now in
     let tree =
-    ap (λ s. statement_before s rest) c.in-IfElse.is
-    ∙ c.trees_keep_blocks.ensures.with_else place e c.in-IfElse.then_block c.in-IfElse.else_block rest
-    ∙ ap (λ items. IfElse place (expression_of e) (statements_of items) (block_of c.in-IfElse.else_block) rest)
-    (sym c.deref-first.ensures.value)
-    ∙ ap (λ items. IfElse place (expression_of e) (statements_of first) (statements_of items) rest) (sym c.deref-other.ensures.value) in
-    let condition = resolved scope loops (expression_of e) in
+    choice_tree c.args.statement.now rest _ _ _ _ _ _ c.in-IfElse.is (c.trees_keep_blocks.ensures.with_else _ _ _ _ rest)
+    c.deref-first.ensures.value c.deref-other.ensures.value in
+    let condition = resolved scope loops (expression_of c.in-IfElse.condition) in
     let block = all_resolved scope loops (statements_of first) in
     let after = all_resolved scope loops rest in
     let some = eqb-false (length other) 0 (sym c.is_empty.ensures ∙ c.if-is_empty.false) in

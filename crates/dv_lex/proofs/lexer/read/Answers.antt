@@ -29,7 +29,8 @@ loop-first-preserved c =
     let token : ReadsToken _ c.loop-first.rest.now c.loop-first.names c.token.new.names c.in-Ok.read.0 c.in-Ok.read.1.now =
     rw c.place_of-place.ensures at c.in-Ok.ensures.token in
     let read = subst (λ (ts : List Token). HasRead c.args.text.now c.token.new.names ts c.in-Ok.read.1.now) (sym c.in_ok-push.ensures.items)
-    (HasRead-token c.args.text.now c.loop-first.names c.loop-first.tokens.items c.loop-first.rest.now c.loop-first.invariant.0 c.token.new.names c.in-Ok.read.0 c.in-Ok.read.1.now token) in
+    (HasRead-token c.args.text.now c.loop-first.names c.loop-first.tokens.items c.loop-first.rest.now c.loop-first.invariant.0
+    c.token.new.names c.in-Ok.read.0 c.in-Ok.read.1.now token) in
     (read, read.utf8)
 
 pub returns-in-Err-clause-refused : goal.returns-in-Err-clause-refused

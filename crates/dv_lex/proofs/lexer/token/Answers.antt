@@ -25,7 +25,8 @@ returns-then-starts_name-clause-token c =
       lexeme = c.in_ok-kind.ensures.0;
       front = c.split_word.result.0.now;
       first =
-          IsFirst-word c.args.text.now c.split_word.result.0.now c.split_word.result.1.now c.in_ok-kind.ensures.0 c.split_word.ensures class c.in_ok-kind.ensures.1;
+          IsFirst-word c.args.text.now c.split_word.result.0.now c.split_word.result.1.now c.in_ok-kind.ensures.0
+          c.split_word.ensures class c.in_ok-kind.ensures.1;
       range = word_in_range c.in_ok-kind.ensures.0 class;
       table = c.in_ok-kind.ensures.2;
       kind = c.in_ok-kind.ensures.3;

@@ -24,7 +24,9 @@ loop-rest-preserved c =
     let front : List Name = c.loop-rest.names.items in
     let e : c.push.new.self.items ≡ front ++ c.in_ok-name.name ∷ [] = c.in_ok-push.ensures.items in
     rw e (turn_some further_name_at (kind.Symbol symbol.Semicolon) (λ (xs : List Name). front ++ xs)
-    (λ (xs : List Name). (front ++ c.in_ok-name.name ∷ []) ++ xs) c.loop-rest.rest.now c.in_ok-name.name c.in_ok-name.after.now further_name_shortens (front_more front c.in_ok-name.name) (search rules) c.in_ok-name.ensures ∙ c.loop-rest.invariant)
+    (λ (xs : List Name). (front ++ c.in_ok-name.name ∷ []) ++ xs) c.loop-rest.rest.now c.in_ok-name.name c.in_ok-name.after.now
+    further_name_shortens (front_more front c.in_ok-name.name) (search rules) c.in_ok-name.ensures
+    ∙ c.loop-rest.invariant)
 
 pub returns : goal.returns
 returns c = rw (← c.loop-rest.invariant)

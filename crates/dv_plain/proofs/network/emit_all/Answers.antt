@@ -21,7 +21,8 @@ loop-k-preserved c =
     let within : k < length rs = omega arith in
     let step =
     outputs_from-step limit is now rs k
-    (atomic_of c.of.result.model.now) c.index-components-k.result c.in_ok-output.output c.of.ensures within c.index-components-k.is c.in_ok-output.ensures in
+    (atomic_of c.of.result.model.now) c.index-components-k.result c.in_ok-output.output c.of.ensures within
+    c.index-components-k.is c.in_ok-output.ensures in
     let rest = outputs_from limit is now rs (k + 1) in
     record {
       sent =

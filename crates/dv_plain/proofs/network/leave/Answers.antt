@@ -26,7 +26,10 @@ loop-port-preserved c =
                 (c.args.trace.now.outer ++ outer_from c.args.instant.now.limit
                 (rank_of c.args.instant.now) 0 bags) c.args.instant.now.of_run within here some
                 (ap (λ (p : PartOf). p.outer) pushed ∙ ap
-                (λ (v : Counts). let o : Outer = record { time = c.args.instant.now.time; port = k; values = v } in c.loop-port.trace.outer ++ o ∷ []) w.in_ok-clone.ensures.cases)
+                (λ (v : Counts).
+                let o : Outer = record { time = c.args.instant.now.time; port = k; values = v } in
+                c.loop-port.trace.outer ++ o ∷ [])
+                w.in_ok-clone.ensures.cases)
                 c.loop-port.invariant.outer;
           }
       | else-not-is_empty w ↦

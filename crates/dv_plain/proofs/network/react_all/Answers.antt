@@ -1,4 +1,5 @@
-use Rattle.std.proofs.Common.{◌<◌, ◌≤◌, ℕ, ◌≡◌, ◌+◌, ◌++◌, List, Option, None, [], drop, length, length-drop, get_or, map, ap, sym, ◌∙◌, arith}
+use Rattle.std.proofs.Common.{◌<◌, ◌≤◌, ℕ, ◌≡◌, ◌+◌, ◌++◌, List, Option, None, [], drop, length, length-drop, get_or, map, ap}
+use Rattle.std.proofs.Common.{sym, ◌∙◌, arith}
 use Rattle.std.proofs.lemmas.List.{get_or_default, length-map}
 use Rattle.dv_syntax.specs.Trees.{atomic_of, file_of}
 use Rattle.dv_devs.specs.Behaviour.{Reaction, reaction}
@@ -11,7 +12,9 @@ use Rattle.dv_tree.specs.Instances.{Instance, instances}
 use Rattle.dv_plain.specs.Outputs.{fault_of, output_from, sent_of}
 use Rattle.dv_plain.specs.Components.{component_of, rank_of}
 use Rattle.dv_plain.specs.Source.{behaviour_of, network_of}
-use Rattle.dv_plain.proofs.Steps.{entries-counted, entries_from, reactions-short, components-end, components-turn, entries-end, entries-turn, length-outputs, reactions_from, reactions_from-step, rest-turn, same_at, same_behind, same_from_drop, output-at, outputs_from, waits-turn}
+use Rattle.dv_plain.proofs.Steps.{entries-counted, entries_from, reactions-short, components-end, components-turn, entries-end}
+use Rattle.dv_plain.proofs.Steps.{entries-turn, length-outputs, reactions_from, reactions_from-step, rest-turn, same_at}
+use Rattle.dv_plain.proofs.Steps.{same_behind, same_from_drop, output-at, outputs_from, waits-turn}
 use Rattle.dv_plain.proofs.network.react_all.Goals as goal
 
 -- as many outputs as components, of which those from k on are left
@@ -25,7 +28,13 @@ take-requires-clause-sent c =
     let now = rank_of c.args.instant.now in
     let gave = outputs_from limit is now c.args.components.now 0 in
     let within : c.loop-k.k < length c.args.emitted.now.sent.items =
-    omega (arith, ap length c.requires.sent, length-map gave sent_of, length-outputs limit is now c.args.components.now c.requires.matched, c.component_count-k-end.ensures.value) in
+    omega (
+      arith,
+      ap length c.requires.sent,
+      length-map gave sent_of,
+      length-outputs limit is now c.args.components.now c.requires.matched,
+      c.component_count-k-end.ensures.value,
+    ) in
     let there = left-length c.loop-k.emitted.sent.items c.args.emitted.now.sent.items c.loop-k.k within c.loop-k.invariant.sent in
     omega (arith, c.loop-k.emitted.sent.ok.0, there)
 
@@ -35,7 +44,15 @@ take-requires-clause-faults c =
     let limit = c.args.instant.now.limit in
     let now = rank_of c.args.instant.now in
     let gave = outputs_from limit is now c.args.components.now 0 in
-    omega (arith, c.loop-k.emitted.faults.ok.0, ap length c.loop-k.invariant.faults, ap length c.requires.faults, length-map gave fault_of, length-outputs limit is now c.args.components.now c.requires.matched, c.component_count-k-end.ensures.value)
+    omega (
+      arith,
+      c.loop-k.emitted.faults.ok.0,
+      ap length c.loop-k.invariant.faults,
+      ap length c.requires.faults,
+      length-map gave fault_of,
+      length-outputs limit is now c.args.components.now c.requires.matched,
+      c.component_count-k-end.ensures.value,
+    )
 
 pub react-requires-clause-emitted : goal.react-requires-clause-emitted
 react-requires-clause-emitted c =
@@ -52,7 +69,13 @@ react-requires-clause-emitted c =
     let within : k < length xs = omega (arith, c.loop-k.auto.components, c.requires.matched, c.component_count-k-end.ensures.value) in
     let within_first : k < length first = omega (arith, c.requires.matched, c.component_count-k-end.ensures.value) in
     let within_sent : k < length sent =
-    omega (arith, ap length c.requires.sent, length-map gave sent_of, length-outputs limit is now first c.requires.matched, c.component_count-k-end.ensures.value) in
+    omega (
+      arith,
+      ap length c.requires.sent,
+      length-map gave sent_of,
+      length-outputs limit is now first c.requires.matched,
+      c.component_count-k-end.ensures.value,
+    ) in
     let same =
     same_from_drop xs first k r within within_first c.loop-k.invariant.rest
     (get_or_default xs k c.index-components-k.result r within) in
@@ -63,7 +86,8 @@ react-requires-clause-emitted c =
     (same_at c.loop-k.emitted.sent.items sent k []
     (left-length c.loop-k.emitted.sent.items sent k within_sent c.loop-k.invariant.sent) within_sent c.loop-k.invariant.sent) in
     output-at limit is now first k
-    (atomic_of c.of-atom.result.model.now) r sent faults c.in_ok-output.output c.of-atom.ensures within_first same.0 c.requires.sent c.requires.faults given
+    (atomic_of c.of-atom.result.model.now) r sent faults c.in_ok-output.output c.of-atom.ensures within_first same.0
+    c.requires.sent c.requires.faults given
 
 pub loop-k-preserved : goal.loop-k-preserved
 loop-k-preserved c =
@@ -83,19 +107,29 @@ loop-k-preserved c =
     let within_received : k < length received = omega (arith, c.requires.received, c.component_count-k-end.ensures.value) in
     let step =
     reactions_from-step limit is now first received k
-    (atomic_of c.of-atom.result.model.now) r c.index-received-k.result c.of-atom.ensures within_first same.0 within_received c.index-received-k.is in
+    (atomic_of c.of-atom.result.model.now) r c.index-received-k.result c.of-atom.ensures within_first same.0 within_received
+    c.index-received-k.is in
     let sent = c.args.emitted.now.sent.items in
     let gave = outputs_from limit is now first 0 in
     let within_sent : k < length sent =
-    omega (arith, ap length c.requires.sent, length-map gave sent_of, length-outputs limit is now first c.requires.matched, c.component_count-k-end.ensures.value) in
+    omega (
+      arith,
+      ap length c.requires.sent,
+      length-map gave sent_of,
+      length-outputs limit is now first c.requires.matched,
+      c.component_count-k-end.ensures.value,
+    ) in
     let left = c.loop-k.emitted.sent.items in
-    let happened = reaction limit (behaviour_of (atomic_of c.of-atom.result.model.now)) now (component_of limit r) c.index-received-k.result in
+    let happened =
+    reaction limit (behaviour_of (atomic_of c.of-atom.result.model.now)) now (component_of limit r)
+    c.index-received-k.result in
     record {
       waits = waits-turn limit xs k c.react.new.self c.loop-k.invariant.waits c.in_ok-event.ensures.wait;
       rest = rest-turn xs first k c.react.new.self same.1;
       components =
           components-turn limit xs k c.react.new.self happened (reactions_from limit is now first received k)
-          (reactions_from limit is now first received (k + 1)) (map (λ (q : Reaction). q.component) (reactions_from limit is now first received 0)) within
+          (reactions_from limit is now first received (k + 1))
+          (map (λ (q : Reaction). q.component) (reactions_from limit is now first received 0)) within
           (sym (ap (λ (q : Reaction). q.component) c.in_ok-event.ensures.reaction)) step c.loop-k.invariant.components;
       entries =
           entries-turn limit now k c.loop-k.trace.entries c.push_event.new.trace.entries
@@ -147,4 +181,9 @@ returns-clause-entries c =
     ∙ ap (λ (es : List Entry). c.args.trace.now.entries ++ es) (sym (entries-counted limit now 0 (length is) happened short))
     in
     ap (λ (es : List Entry). let p : PartOf = record { entries = es; outer = c.loop-k.trace.outer } in p) entries
-    ∙ ap (λ os. let p : PartOf = record { entries = c.args.trace.now.entries ++ entries_by limit now net.numbers happened; outer = os } in p) c.loop-k.invariant.outer
+    ∙ ap
+    (λ os.
+    let p : PartOf =
+    record { entries = c.args.trace.now.entries ++ entries_by limit now net.numbers happened; outer = os } in
+    p)
+    c.loop-k.invariant.outer

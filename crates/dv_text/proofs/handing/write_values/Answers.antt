@@ -4,7 +4,8 @@ use mir.Syntax.{w64}
 use mir.Val.{SFits}
 use Rattle.dv_bag.specs.Bag.{IsBag}
 use Rattle.dv_text.proofs.Values.{values_left, no_values_left, values_text-pairs}
-use Rattle.dv_text.proofs.Taking.{TakesFront-more, TakesFront-rest, TakesFront-text, AppendsBeginning-more, AppendsBeginning-text, OnErr-always}
+use Rattle.dv_text.proofs.Taking.{TakesFront-more, TakesFront-rest, TakesFront-text, AppendsBeginning-more, AppendsBeginning-text}
+use Rattle.dv_text.proofs.Taking.{OnErr-always}
 use Rattle.dv_text.proofs.handing.write_values.Goals as goal
 
 pub returns-in_err-write_copies-clause-err : goal.returns-in_err-write_copies-clause-err

@@ -1,6 +1,5 @@
-use Rattle.std.proofs.Common.{◌≡◌, ◌<◌, ◌++◌, ℕ, subst, sym, ap}
-use Rattle.std.specs.declared.cmp.Ordering.TheVariants.{Less}
-use Rattle.dv_time.specs.Time.{end_of, rank, time_cmp, time_of}
+use Rattle.std.proofs.Common.{◌++◌, ap}
+use Rattle.dv_time.specs.Time.{end_of}
 use Rattle.dv_devs.specs.Network.{components_at}
 use Rattle.dv_text.specs.Texts.{ending_text}
 use Rattle.dv_text.specs.declared.writing.Ending.TheVariants.{Horizon}

@@ -1,16 +1,19 @@
-use Rattle.std.proofs.Common.{List, ◌<◌, length, ◌+◌, ◌++◌, [], drop, string_bytes, refl, sym, ap, ◌∙◌, append-nil, arith}
+use Rattle.std.proofs.Common.{List, ◌<◌, length, ◌++◌, [], drop, string_bytes, refl, sym, ap, ◌∙◌, append-nil, arith}
 use Rattle.dv_bag.specs.declared.entry.Entry.{Entry}
 use Rattle.dv_bag.specs.declared.entry.Outer.{Outer}
 use Rattle.std.specs.List.{flat_map}
 use Rattle.std.proofs.lemmas.Result.{on_err_weaker}
-use Rattle.dv_text.specs.Merging.{group_text, groups_before, groups_from, groups_of, lines_by_time, text_of}
+use Rattle.dv_text.specs.Merging.{group_text, groups_of, lines_by_time, text_of}
 use Rattle.dv_text.specs.Names.{tree_names, tree_ports}
-use Rattle.dv_text.specs.Texts.{ending_text, entry_text, names_at}
+use Rattle.dv_text.specs.Texts.{ending_text}
 use Rattle.dv_text.specs.Writing.{StopsShort}
 use Rattle.dv_text.specs.declared.writing.Ending.{Ending}
 use Rattle.dv_text.specs.declared.writing.Ending.TheVariants.{Horizon}
-use Rattle.dv_text.proofs.Merging.{next_entry, last_groups}
-use Rattle.dv_text.proofs.Taking.{TakesFront-nothing, TakesFront-left, TakesFront-more, TakesFront-pushed, TakesFront-handed, TakesFront-rest, AppendsBeginning-short, StopsShort-from, StopsShort-after, StopsShort-more, StopsShort-handed, some-behind, OnErr-always}
+use Rattle.dv_text.proofs.Merging.{last_groups}
+use Rattle.dv_text.proofs.Taking.{TakesFront-nothing, TakesFront-left, TakesFront-more, TakesFront-pushed}
+use Rattle.dv_text.proofs.Taking.{TakesFront-rest, AppendsBeginning-short, StopsShort-from, StopsShort-after, StopsShort-more}
+use Rattle.dv_text.proofs.Taking.{some-behind, OnErr-always}
+use Rattle.dv_text.proofs.Rounds.{entry_handed, stops_at_entry, stops_before_entry, stops_behind_entry}
 use Rattle.dv_text.proofs.writing.write_trace.Goals as goal
 
 pub loop-entry-init : goal.loop-entry-init
@@ -33,85 +36,41 @@ ending-some (Horizon horizon) = omega arith
 
 pub returns-in_err-outer-clause-err : goal.returns-in_err-outer-clause-err
 returns-in_err-outer-clause-err g c =
-    let all = tree_names c.args.tree.now in
-    let e = c.entry-item.result in
-    let items = c.entries_of-entry-items.result.now in
-    let i = c.loop-entry.entry-index in
-    let groups = groups_of (tree_ports c.args.tree.now) c.loop-entry.outer.now in
-    let left = groups_from e.time groups in
-    let ending = ending_text c.args.ending.now in
-    let behind = lines_by_time all (drop (i + 1) items) left ++ ending in
-    let some =
-    some-behind (entry_text (names_at all e.component) e) behind
-    (some-behind (lines_by_time all (drop (i + 1) items) left) ending (ending-some c.args.ending.now)) in
-    OnErr-always _ (StopsShort-more (string_bytes c.loop-entry.line) (lines_by_time all (drop i items) groups ++ ending)
-    (groups_before e.time groups) (entry_text (names_at all e.component) e ++ behind) c.loop-entry.invariant
-    (next_entry all items i e groups left ending (omega arith) c.entry-item.is refl) some c.in_err-outer.ensures.err)
+    OnErr-always _
+    (stops_before_entry (tree_names c.args.tree.now) c.entries_of-entry-items.result.now c.loop-entry.entry-index c.entry-item.result
+    (groups_of (tree_ports c.args.tree.now) c.loop-entry.outer.now) _ (ending_text c.args.ending.now)
+    (omega arith) c.entry-item.is refl (ending-some c.args.ending.now) (string_bytes c.loop-entry.line) c.loop-entry.invariant
+    c.in_err-outer.ensures.err)
 
 pub returns-in_err-push_entry-clause-err : goal.returns-in_err-push_entry-clause-err
 returns-in_err-push_entry-clause-err g c =
-    let all = tree_names c.args.tree.now in
-    let e = c.entry-item.result in
-    let items = c.entries_of-entry-items.result.now in
-    let i = c.loop-entry.entry-index in
-    let groups = groups_of (tree_ports c.args.tree.now) c.loop-entry.outer.now in
-    let left = groups_of (tree_ports c.args.tree.now) c.in_ok-outer.outer.now in
-    let ending = ending_text c.args.ending.now in
-    let text = entry_text (names_at all e.component) e in
-    let more = lines_by_time all (drop (i + 1) items) left ++ ending in
-    let some =
-    some-behind (string_bytes c.write_before.new.line) (text ++ more)
-    (some-behind text more (some-behind (lines_by_time all (drop (i + 1) items) left) ending (ending-some c.args.ending.now))) in
-    OnErr-always _ (StopsShort-from
-    (TakesFront-more (string_bytes c.loop-entry.line) (string_bytes c.write_before.new.line)
-    (lines_by_time all (drop i items) groups ++ ending) (groups_before e.time groups) (text ++ more) c.loop-entry.invariant
-    (next_entry all items i e groups left ending
-    (omega arith) c.entry-item.is c.in_ok-outer.ensures.left) c.in_ok-outer.ensures.ok) some)
+    OnErr-always _
+    (stops_at_entry (tree_names c.args.tree.now) c.entries_of-entry-items.result.now c.loop-entry.entry-index c.entry-item.result
+    (groups_of (tree_ports c.args.tree.now) c.loop-entry.outer.now) _ (ending_text c.args.ending.now)
+    (omega arith) c.entry-item.is c.in_ok-outer.ensures.left (ending-some c.args.ending.now) (string_bytes c.loop-entry.line)
+    c.loop-entry.invariant
+    (string_bytes c.write_before.new.line) c.in_ok-outer.ensures.ok)
 
 pub returns-in_err-hand_over_if_long-clause-err : goal.returns-in_err-hand_over_if_long-clause-err
 returns-in_err-hand_over_if_long-clause-err g c =
-    let all = tree_names c.args.tree.now in
-    let e = c.entry-item.result in
-    let items = c.entries_of-entry-items.result.now in
-    let i = c.loop-entry.entry-index in
-    let groups = groups_of (tree_ports c.args.tree.now) c.loop-entry.outer.now in
-    let left = groups_of (tree_ports c.args.tree.now) c.in_ok-outer.outer.now in
-    let ending = ending_text c.args.ending.now in
-    let text = entry_text (names_at all e.component) e in
-    let more = lines_by_time all (drop (i + 1) items) left ++ ending in
-    let before =
-    TakesFront-more (string_bytes c.loop-entry.line) (string_bytes c.write_before.new.line)
-    (lines_by_time all (drop i items) groups ++ ending) (groups_before e.time groups) (text ++ more) c.loop-entry.invariant
-    (next_entry all items i e groups left ending
-    (omega arith) c.entry-item.is c.in_ok-outer.ensures.left) c.in_ok-outer.ensures.ok in
-    let pushed =
-    TakesFront-pushed (string_bytes c.write_before.new.line) (string_bytes c.push_entry.new.line)
-    (text ++ more) text more before refl c.in_ok-push_entry.ensures in
-    OnErr-always _ (StopsShort-handed (string_bytes c.push_entry.new.line) more pushed
-    (some-behind (lines_by_time all (drop (i + 1) items) left) ending (ending-some c.args.ending.now))
+    OnErr-always _
+    (stops_behind_entry (tree_names c.args.tree.now) c.entries_of-entry-items.result.now c.loop-entry.entry-index c.entry-item.result
+    (groups_of (tree_ports c.args.tree.now) c.loop-entry.outer.now) _ (ending_text c.args.ending.now)
+    (omega arith) c.entry-item.is c.in_ok-outer.ensures.left (ending-some c.args.ending.now) (string_bytes c.loop-entry.line)
+    c.loop-entry.invariant
+    (string_bytes c.write_before.new.line) c.in_ok-outer.ensures.ok
+    (string_bytes c.push_entry.new.line) c.in_ok-push_entry.ensures
     (AppendsBeginning-short c.in_err-hand_over_if_long.ensures.err))
 
 pub loop-entry-preserved : goal.loop-entry-preserved
 loop-entry-preserved g c =
-    let all = tree_names c.args.tree.now in
-    let e = c.entry-item.result in
-    let items = c.entries_of-entry-items.result.now in
-    let i = c.loop-entry.entry-index in
-    let groups = groups_of (tree_ports c.args.tree.now) c.loop-entry.outer.now in
-    let left = groups_of (tree_ports c.args.tree.now) c.in_ok-outer.outer.now in
-    let ending = ending_text c.args.ending.now in
-    let text = entry_text (names_at all e.component) e in
-    let more = lines_by_time all (drop (i + 1) items) left ++ ending in
-    let before =
-    TakesFront-more (string_bytes c.loop-entry.line) (string_bytes c.write_before.new.line)
-    (lines_by_time all (drop i items) groups ++ ending) (groups_before e.time groups) (text ++ more) c.loop-entry.invariant
-    (next_entry all items i e groups left ending
-    (omega arith) c.entry-item.is c.in_ok-outer.ensures.left) c.in_ok-outer.ensures.ok in
-    let pushed =
-    TakesFront-pushed (string_bytes c.write_before.new.line) (string_bytes c.push_entry.new.line)
-    (text ++ more) text more before refl c.in_ok-push_entry.ensures in
-    TakesFront-handed (string_bytes c.push_entry.new.line)
-    (string_bytes c.hand_over_if_long.new.line) more pushed c.in_ok-hand_over_if_long.ensures.ok
+    entry_handed (tree_names c.args.tree.now) c.entries_of-entry-items.result.now c.loop-entry.entry-index c.entry-item.result
+    (groups_of (tree_ports c.args.tree.now) c.loop-entry.outer.now) _ (ending_text c.args.ending.now)
+    (omega arith) c.entry-item.is c.in_ok-outer.ensures.left (ending-some c.args.ending.now) (string_bytes c.loop-entry.line)
+    c.loop-entry.invariant
+    (string_bytes c.write_before.new.line) c.in_ok-outer.ensures.ok
+    (string_bytes c.push_entry.new.line) c.in_ok-push_entry.ensures
+    (string_bytes c.hand_over_if_long.new.line) c.in_ok-hand_over_if_long.ensures.ok
 
 pub returns-in_err-write_groups-clause-err : goal.returns-in_err-write_groups-clause-err
 returns-in_err-write_groups-clause-err g c =

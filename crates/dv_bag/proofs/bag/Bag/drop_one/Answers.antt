@@ -12,12 +12,14 @@ overflow_sub-present c =
 pub returns-then-present-eq1 : goal.returns-then-present-eq1
 returns-then-present-eq1 c =
     let found = rw (c.as_slice.ensures, c.self.view_is) at c.in-Ok.ensures.found in
-    last_copy _ _ c.args.self.now _ _ _ _ (to_z-of_z _ _ c.ranges.value) c.self.view_is c.deref.ensures c.deref.ensures _ found c.if-present-eq1.true c.remove.ensures.items
+    last_copy _ _ c.args.self.now _ _ _ _ (to_z-of_z _ _ c.ranges.value) c.self.view_is c.deref.ensures c.deref.ensures _ found
+    c.if-present-eq1.true c.remove.ensures.items
 
 pub returns-else-present-eq1 : goal.returns-else-present-eq1
 returns-else-present-eq1 c =
     let found = rw (c.as_slice.ensures, c.self.view_is) at c.in-Ok.ensures.found in
-    one_copy_less _ _ c.args.self.now _ _ _ _ (to_z-of_z _ _ c.ranges.value) c.self.view_is c.deref_mut.ensures.value c.deref.ensures found c.if-present-eq1.false
+    one_copy_less _ _ c.args.self.now _ _ _ _ (to_z-of_z _ _ c.ranges.value) c.self.view_is c.deref_mut.ensures.value
+    c.deref.ensures found c.if-present-eq1.false
 
 pub returns-in_default : goal.returns-in_default
 returns-in_default c =
@@ -29,4 +31,5 @@ pub invariant_of-self : goal.invariant_of-self
 invariant_of-self c = subst IsBag (sym (returns-then-present-eq1 c)) (without_one_bag _ _ (subst IsBag c.self.view_is c.self.invariant))
 
 pub invariant_of-self-else-present-eq1 : goal.invariant_of-self-else-present-eq1
-invariant_of-self-else-present-eq1 c = subst IsBag (sym (returns-else-present-eq1 c)) (without_one_bag _ _ (subst IsBag c.self.view_is c.self.invariant))
+invariant_of-self-else-present-eq1 c =
+    subst IsBag (sym (returns-else-present-eq1 c)) (without_one_bag _ _ (subst IsBag c.self.view_is c.self.invariant))

@@ -10,4 +10,5 @@ pub returns-in-len1-up : goal.returns-in-len1-up
 returns-in-len1-up c =
     let items = c.as_slice.result.now in
     let number : SFits w64 (value_at items (length items - 1)) = search rules in
-    ap (λ (v : ℤ). Some v) (to_z-of_z w64 _ number) ∙ sym (most_last items c.in-len1-up.len_at_least) ∙ ap most (c.as_slice.ensures ∙ c.self.view_is)
+    ap (λ (v : ℤ). Some v) (to_z-of_z w64 _ number) ∙ sym (most_last items c.in-len1-up.len_at_least)
+    ∙ ap most (c.as_slice.ensures ∙ c.self.view_is)

@@ -7,7 +7,9 @@ use mir.Val.{SFits}
 use Rattle.dv_bag.proofs.bag.Bag.union.Goals as goal
 
 pub add_copies-requires-clause-some : goal.add_copies-requires-clause-some
-add_copies-requires-clause-some c = copies_above_0 c.as_slice-pair-items.result.now (subst IsBag (sym c.as_slice-pair-items.ensures) c.other.invariant) c.loop-pair.pair-index (omega arith)
+add_copies-requires-clause-some c =
+    copies_above_0 c.as_slice-pair-items.result.now (subst IsBag (sym c.as_slice-pair-items.ensures) c.other.invariant)
+    c.loop-pair.pair-index (omega arith)
 
 -- there is room for each pair that is left, so the capacity stays
 pub loop-pair-preserved : goal.loop-pair-preserved
@@ -18,6 +20,8 @@ loop-pair-preserved c =
     let number : SFits w64 (value_at items index) = search rules in
     let added = simp to_z-of_z at c.in_ok-add_copies.ensures.ok in
     let step = union_step pairs.items c.add_copies.new.pairs.items items index c.loop-pair-test.true added in
-    let room = room_after pairs.items c.add_copies.new.pairs.items items index c.loop-pair-test.true added pairs.capacity c.loop-pair.invariant.room in
+    let room =
+    room_after pairs.items c.add_copies.new.pairs.items items index c.loop-pair-test.true added pairs.capacity
+    c.loop-pair.invariant.room in
     let capacity = c.add_copies.ensures.had_room (omega arith) in
     record { bag = c.add_copies.ensures.bag; so_far = step ∙ c.loop-pair.invariant.so_far; room = omega arith }

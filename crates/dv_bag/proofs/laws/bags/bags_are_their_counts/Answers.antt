@@ -1,4 +1,5 @@
-use Rattle.dv_bag.proofs.Monoid.{count_union, count_with_other, count_with_same, count_without_other, count_without_same, same_counts_same_bag}
+use Rattle.dv_bag.proofs.Monoid.{count_union, count_with_other, count_with_same, count_without_other, count_without_same}
+use Rattle.dv_bag.proofs.Monoid.{same_counts_same_bag}
 use Rattle.dv_bag.proofs.laws.bags.bags_are_their_counts.Goals as goal
 
 pub returns-clause-equal : goal.returns-clause-equal

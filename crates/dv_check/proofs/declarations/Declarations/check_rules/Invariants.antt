@@ -6,4 +6,6 @@ use Rattle.dv_check.specs.Rules.{known_by, rule_refusals}
 use Rattle.dv_check.proofs.declarations.Declarations.check_rules.Given as goal
 
 abbrev pub invariant-loop-rule : goal.invariant-loop-rule
-invariant-loop-rule l = with_refusals l.found (flat_map (rule_refusals (known_by l.self)) (map rule_of (drop l.rule-index l.rules))) ≡ with_refusals l.initial.found (flat_map (rule_refusals (known_by l.self)) (map rule_of l.rules))
+invariant-loop-rule l =
+    with_refusals l.found (flat_map (rule_refusals (known_by l.self)) (map rule_of (drop l.rule-index l.rules)))
+    ≡ with_refusals l.initial.found (flat_map (rule_refusals (known_by l.self)) (map rule_of l.rules))

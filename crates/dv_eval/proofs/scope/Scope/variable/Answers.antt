@@ -4,4 +4,7 @@ use Rattle.dv_eval.specs.Scope.{place_of, names_of}
 use Rattle.dv_eval.proofs.scope.Scope.variable.Goals as goal
 
 pub returns : goal.returns
-returns c = c.get_index_of.ensures.index ∙ (place_of-position c.args.name (names_of c.self.inside.variables.entries) ∙ ap (λ s. place_of c.args.name (names_of s.variables)) c.self.view_is)
+returns c =
+    c.get_index_of.ensures.index
+    ∙ (place_of-position c.args.name (names_of c.self.inside.variables.entries)
+    ∙ ap (λ s. place_of c.args.name (names_of s.variables)) c.self.view_is)

@@ -16,7 +16,8 @@ returns-in_ok-entered-in-Ok-clause-reaction c = λ sent.
     let kind = c.kind-kind.result in
     let next = next_of_wait limit c.in-Ok.wait in
     reaction-given limit
-    (behaviour_of (atomic_of c.args.atom.now.model.now)) time before c.args.received.now sent kind c.in-Ok.state next c.args.instant.now.of_run c.kind-kind.ensures c.in-Ok.ensures.0
+    (behaviour_of (atomic_of c.args.atom.now.model.now)) time before c.args.received.now sent kind c.in-Ok.state next
+    c.args.instant.now.of_run c.kind-kind.ensures c.in-Ok.ensures.0
     ∙ ap (λ (s : State). let r : Reaction = record {
       event = Some
           (what.Transition kind s, sent);

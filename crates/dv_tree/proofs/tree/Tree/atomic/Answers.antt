@@ -1,45 +1,34 @@
-use Rattle.std.proofs.Common.{◌≡◌, arith, ap, ◌∙◌, List, ℕ}
+use Rattle.std.proofs.Common.{◌≡◌, arith, ap, ◌∙◌}
 use Rattle.std.specs.Prelude.{Some}
 use Rattle.dv_syntax.specs.Trees.{atomic_of}
 use Rattle.dv_syntax.specs.declared.tree.Model.TheVariants as model
 use Rattle.dv_tree.specs.Instances.{Instance}
-use Rattle.dv_tree.proofs.Named.{found, within_components, within_models, component_read, model_read, view_shown}
+use Rattle.dv_tree.proofs.Named.{found, within_components, within_models, place_read, model_read, view_shown}
 use Rattle.dv_tree.proofs.tree.Tree.atomic.Goals as goal
 
 pub index-requires : goal.index-requires
 index-requires c =
-    let f =
-    found c.self.inside.checked.now c.args.self.now c.self.inside.components.items c.self.inside.scopes.items c.args.component
-    c.self.view_is c.self.invariant.3 c.self.invariant.2 c.requires in
+    let f = found c.self.inside.checked.now _ _ _ _ c.self.view_is c.self.invariant.3 c.self.invariant.2 c.requires in
     omega (arith, within_components f, c.self.inside.components.ok.0)
 
 pub index-requires-2 : goal.index-requires-2
 index-requires-2 c =
-    let f =
-    found c.self.inside.checked.now c.args.self.now c.self.inside.components.items c.self.inside.scopes.items c.args.component
-    c.self.view_is c.self.invariant.3 c.self.invariant.2 c.requires in
-    let at : c.model-place.result ≡ f.place =
-    c.model-place.ensures ∙ ap (λ (x : List ℕ × ℕ). x.1) (component_read f c.index.result.now c.index.ensures) in
+    let f = found c.self.inside.checked.now _ _ _ _ c.self.view_is c.self.invariant.3 c.self.invariant.2 c.requires in
+    let at = place_read f _ _ c.index.ensures c.model-place.ensures in
     omega (arith, at, within_models f, c.self.inside.checked.now.file.models.ok.0)
 
 pub unreachable-requires : goal.unreachable-requires
 unreachable-requires c =
-    let f =
-    found c.self.inside.checked.now c.args.self.now c.self.inside.components.items c.self.inside.scopes.items c.args.component
-    c.self.view_is c.self.invariant.3 c.self.invariant.2 c.requires in
-    let at : c.model-place.result ≡ f.place =
-    c.model-place.ensures ∙ ap (λ (x : List ℕ × ℕ). x.1) (component_read f c.index.result.now c.index.ensures) in
+    let f = found c.self.inside.checked.now _ _ _ _ c.self.view_is c.self.invariant.3 c.self.invariant.2 c.requires in
+    let at = place_read f _ _ c.index.ensures c.model-place.ensures in
     let is : c.index-2.result.now ≡ model.Atomic f.atomic =
     model_read f c.model-place.result c.index-2.result.now at c.index-2.ensures in
     cc
 
 pub returns : goal.returns
 returns c =
-    let f =
-    found c.self.inside.checked.now c.args.self.now c.self.inside.components.items c.self.inside.scopes.items c.args.component
-    c.self.view_is c.self.invariant.3 c.self.invariant.2 c.requires in
-    let at : c.model-place.result ≡ f.place =
-    c.model-place.ensures ∙ ap (λ (x : List ℕ × ℕ). x.1) (component_read f c.index.result.now c.index.ensures) in
+    let f = found c.self.inside.checked.now _ _ _ _ c.self.view_is c.self.invariant.3 c.self.invariant.2 c.requires in
+    let at = place_read f _ _ c.index.ensures c.model-place.ensures in
     let is : c.index-2.result.now ≡ model.Atomic f.atomic =
     model_read f c.model-place.result c.index-2.result.now at c.index-2.ensures in
     let same : f.atomic ≡ c.in-Atomic.model = cc in

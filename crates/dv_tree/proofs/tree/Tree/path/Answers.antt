@@ -7,15 +7,11 @@ use Rattle.dv_tree.proofs.tree.Tree.path.Goals as goal
 
 pub index-requires : goal.index-requires
 index-requires c =
-    let f =
-    found c.self.inside.checked.now c.args.self.now c.self.inside.components.items c.self.inside.scopes.items c.args.component
-    c.self.view_is c.self.invariant.3 c.self.invariant.2 c.requires in
+    let f = found c.self.inside.checked.now _ _ _ _ c.self.view_is c.self.invariant.3 c.self.invariant.2 c.requires in
     omega (arith, within_components f, c.self.inside.components.ok.0)
 
 pub returns : goal.returns
 returns c =
-    let f =
-    found c.self.inside.checked.now c.args.self.now c.self.inside.components.items c.self.inside.scopes.items c.args.component
-    c.self.view_is c.self.invariant.3 c.self.invariant.2 c.requires in
+    let f = found c.self.inside.checked.now _ _ _ _ c.self.view_is c.self.invariant.3 c.self.invariant.2 c.requires in
     view_shown f (λ (i : Instance). with_dots (texts_of c.args.self.now.names i.path))
     ∙ ap Some (sym (c.path.ensures ∙ (ap (λ (x : List ℕ × ℕ). x.0) (component_read f c.index.result.now c.index.ensures) ∙ f.named)))

@@ -1,32 +1,24 @@
-use Rattle.std.proofs.Common.{◌≡◌, arith, ap, sym, ◌∙◌, List, ℕ}
+use Rattle.std.proofs.Common.{arith, ap, sym, ◌∙◌}
 use Rattle.std.specs.Prelude.{Some}
 use Rattle.dv_eval.specs.Scope.{scope_of}
 use Rattle.dv_tree.specs.Instances.{Instance}
-use Rattle.dv_tree.proofs.Named.{found, within_components, within_scopes, component_read, scope_read, view_shown}
+use Rattle.dv_tree.proofs.Named.{found, within_components, within_scopes, place_read, scope_read, view_shown}
 use Rattle.dv_tree.proofs.tree.Tree.scope.Goals as goal
 
 pub index-requires : goal.index-requires
 index-requires c =
-    let f =
-    found c.self.inside.checked.now c.args.self.now c.self.inside.components.items c.self.inside.scopes.items c.args.component
-    c.self.view_is c.self.invariant.3 c.self.invariant.2 c.requires in
+    let f = found c.self.inside.checked.now _ _ _ _ c.self.view_is c.self.invariant.3 c.self.invariant.2 c.requires in
     omega (arith, within_components f, c.self.inside.components.ok.0)
 
 pub index-requires-2 : goal.index-requires-2
 index-requires-2 c =
-    let f =
-    found c.self.inside.checked.now c.args.self.now c.self.inside.components.items c.self.inside.scopes.items c.args.component
-    c.self.view_is c.self.invariant.3 c.self.invariant.2 c.requires in
-    let at : c.model-place.result ≡ f.place =
-    c.model-place.ensures ∙ ap (λ (x : List ℕ × ℕ). x.1) (component_read f c.index.result.now c.index.ensures) in
+    let f = found c.self.inside.checked.now _ _ _ _ c.self.view_is c.self.invariant.3 c.self.invariant.2 c.requires in
+    let at = place_read f _ _ c.index.ensures c.model-place.ensures in
     omega (arith, at, within_scopes f, c.self.inside.scopes.ok.0)
 
 pub returns : goal.returns
 returns c =
-    let f =
-    found c.self.inside.checked.now c.args.self.now c.self.inside.components.items c.self.inside.scopes.items c.args.component
-    c.self.view_is c.self.invariant.3 c.self.invariant.2 c.requires in
-    let at : c.model-place.result ≡ f.place =
-    c.model-place.ensures ∙ ap (λ (x : List ℕ × ℕ). x.1) (component_read f c.index.result.now c.index.ensures) in
+    let f = found c.self.inside.checked.now _ _ _ _ c.self.view_is c.self.invariant.3 c.self.invariant.2 c.requires in
+    let at = place_read f _ _ c.index.ensures c.model-place.ensures in
     view_shown f (λ (i : Instance). scope_of i.model)
     ∙ ap Some (sym (scope_read f c.model-place.result c.index-2.result.now at c.index-2.ensures))
