@@ -2,7 +2,7 @@
 
 ghost use Rattle.std.specs.Prelude.{◌≤◌, IfOk, IfSome};
 
-use crate::request::{Check, Request, RequestError, Run, Usage};
+use crate::request::{Check, Code, Request, RequestError, Run, Usage};
 use clap::error::ErrorKind;
 use clap::{Arg, ArgAction, ArgMatches, Command};
 use dv_explain::{Explanation, FAULTS, INPUT_REFUSALS, REFUSALS, explanation_of};
@@ -21,6 +21,7 @@ pub fn request_of(alloc: Global, words: &[String]) -> Result<Request, RequestErr
     };
     match matches.subcommand() {
         Some(("check", check)) => Ok(Request::Check(check_of(alloc, check)?)),
+        Some(("code", code)) => Ok(Request::Code(code_of(alloc, code)?)),
         Some(("explain", explain)) => Ok(Request::Explain(explanation_for(alloc, explain)?)),
         Some((_, run)) => Ok(Request::Run(run_of(alloc, run)?)),
         None => Err(refused(alloc, "a subcommand is wanted")),
@@ -35,6 +36,7 @@ fn command<'a>(alloc: Global) -> Result<Command<'a>, AllocError> {
         .subcommand_required(true)
         .subcommand(check_command(alloc)?)?
         .subcommand(run_command(alloc)?)?
+        .subcommand(code_command(alloc)?)?
         .subcommand(explain_command(alloc)?)
 }
 
@@ -55,6 +57,13 @@ fn explain_argument<'a>(alloc: Global) -> Arg<'a> {
 fn check_command<'a>(alloc: Global) -> Result<Command<'a>, AllocError> {
     Command::new(alloc, "check")
         .about("Checks a model and prints the number of its components")
+        .arg(model_argument(alloc))?
+        .arg(explain_argument(alloc))
+}
+
+fn code_command<'a>(alloc: Global) -> Result<Command<'a>, AllocError> {
+    Command::new(alloc, "code")
+        .about("Prints the programs of a model, instruction by instruction")
         .arg(model_argument(alloc))?
         .arg(explain_argument(alloc))
 }
@@ -112,6 +121,13 @@ fn inputs_of(alloc: Global, matches: &ArgMatches) -> Result<Option<String>, Requ
 
 fn check_of(alloc: Global, matches: &ArgMatches) -> Result<Check, RequestError> {
     Ok(Check {
+        model: model_of(alloc, matches)?,
+        explained: matches.get_flag("explain"),
+    })
+}
+
+fn code_of(alloc: Global, matches: &ArgMatches) -> Result<Code, RequestError> {
+    Ok(Code {
         model: model_of(alloc, matches)?,
         explained: matches.get_flag("explain"),
     })

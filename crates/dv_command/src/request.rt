@@ -10,6 +10,7 @@ use std::alloc::AllocError;
 pub enum Request {
     Check(Check),
     Run(Run),
+    Code(Code),
     /// Print what a refusal or a fault means.
     Explain(&'static Explanation),
 }
@@ -17,6 +18,15 @@ pub enum Request {
 /// Check a model and print the number of its components.
 #[derive(Debug, Drop)]
 pub struct Check {
+    /// The file of the model.
+    pub model: String,
+    /// Whether a refusal is explained.
+    pub explained: bool,
+}
+
+/// Print the programs of a model.
+#[derive(Debug, Drop)]
+pub struct Code {
     /// The file of the model.
     pub model: String,
     /// Whether a refusal is explained.

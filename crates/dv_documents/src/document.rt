@@ -3,7 +3,7 @@
 //! A fenced block with a root is a model, and one that is marked `inputs` its inputs. Behind a model stand commands, each with
 //! the lines that it prints, or the answer to a refused text, as `E7 line 3` between backquotes.
 
-use crate::outcome::{checked, printed};
+use crate::outcome::{checked, listed, printed};
 use std::alloc::{AllocError, Global};
 use std::rt::Files;
 use std::{fs, io};
@@ -131,10 +131,13 @@ fn answer_in(line: &str) -> Option<&str> {
     }
 }
 
-/// What a command prints: `check`, or `run` with its options.
+/// What a command prints: `check`, `code`, or `run` with its options.
 fn outcome_of(alloc: Global, telling: &Telling, command: &str) -> Result<String, AllocError> {
     if command.starts_with("check ") {
         return checked(alloc, telling.model.as_str());
+    }
+    if command.starts_with("code ") {
+        return listed(alloc, telling.model.as_str());
     }
     if !command.starts_with("run ") {
         return Ok(String::new(alloc));

@@ -1,12 +1,21 @@
 //! What comes of a model.
 
-use dv_job::{JobError, Options, check_bytes, run_plain};
+use dv_job::{JobError, Options, check_bytes, list_code, run_plain};
 use std::alloc::{AllocError, Global};
 
 /// What `check` prints of a model.
 pub fn checked(alloc: Global, model: &str) -> Result<String, AllocError> {
     match check_bytes(alloc, model.as_bytes()) {
         Ok(components) => format!(in alloc; "accepted {components}\n"),
+        Err(error) => refused(alloc, &error),
+    }
+}
+
+/// What `code` prints of a model.
+pub fn listed(alloc: Global, model: &str) -> Result<String, AllocError> {
+    let mut listing = Vec::new(alloc);
+    match list_code(alloc, model.as_bytes(), &mut listing) {
+        Ok(()) => String::from_str(alloc, str::from_utf8(&listing).unwrap_or("not text\n")),
         Err(error) => refused(alloc, &error),
     }
 }

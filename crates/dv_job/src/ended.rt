@@ -18,16 +18,16 @@ pub enum JobEnded {
     Faulted,
 }
 
-/// Why there is no whole trace.
+/// Why there is no whole trace, or no whole listing.
 #[derive(Debug, Drop, Error)]
 pub enum JobError {
     /// The model text is refused, with this number on this line; nothing was written.
     Text(TextError),
     /// The text of the inputs is refused, with this number on this line; nothing was written.
     Inputs(InputRefusal),
-    /// A write failed; the writer holds a beginning of the trace's text, and not all of it.
+    /// A write failed; the writer holds a beginning of the text that was to be written, and not all of it.
     Write,
-    /// An allocation was refused; the writer holds nothing, or a beginning of the trace's text that is not all of it.
+    /// An allocation was refused; the writer holds nothing, or a beginning of the text that is not all of it.
     Memory,
 }
 

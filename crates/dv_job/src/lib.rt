@@ -1,8 +1,10 @@
-//! From the bytes of a model to the bytes of its trace.
+//! From the bytes of a model to the bytes of its trace, and to those of its listing.
 #![tactic(auto)]
 
 /// Whether a text is accepted.
 pub mod check;
+/// The programs of a text, as text.
+pub mod code;
 /// How a run ends.
 pub mod ended;
 /// Laws of texts and models.
@@ -15,6 +17,7 @@ pub mod options;
 pub mod plain;
 
 pub use check::check_bytes;
+pub use code::list_code;
 pub use ended::{JobEnded, JobError};
 pub use options::{GREATEST_CAPACITY, MOST_WORKERS, Options};
 pub use plain::run_plain;

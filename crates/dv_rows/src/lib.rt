@@ -15,6 +15,8 @@ mod limits;
 #[cfg(test)]
 mod links;
 #[cfg(test)]
+mod listings;
+#[cfg(test)]
 mod models;
 #[cfg(test)]
 mod nested;

@@ -1,8 +1,8 @@
 //! Writers that take little, or fail.
 
-use crate::models::NODES;
+use crate::models::{NODES, SPIN};
 use crate::runs::{expect_same, same};
-use dv_job::{JobEnded, JobError, Options, run_plain};
+use dv_job::{JobEnded, JobError, Options, list_code, run_plain};
 use std::alloc::Global;
 use std::io;
 use std::io::{ErrorKind, Write};
@@ -97,4 +97,27 @@ fn a_writer_that_fails_at_a_call(rt: HostRuntime) {
 fn a_writer_that_takes_nothing(rt: HostRuntime) {
     let ended = ended(&rt, &mut Full);
     same!(rt; matches!(ended, Err(JobError::Write)), true);
+}
+
+/// The listing of a hold of 0 without end.
+const SPIN_LISTING: &[u8; 118] =
+    b"atomic Spin\nphase 0 go\ngo output\n    0 end\ngo internal\n    0 end\ngo external\n    0 end\ngo hold\n    0 push 0\n    1 end\n";
+
+#[test]
+fn a_listing_fails_with_its_writer(rt: HostRuntime) {
+    let mut writer = failing_at(rt.alloc(), 50);
+    let listed = list_code(rt.alloc(), SPIN.as_bytes(), &mut writer);
+    same!(rt; matches!(listed, Err(JobError::Write)), true);
+    same!(rt; writer.calls, 50);
+    same!(rt; Some(writer.bytes.as_slice()), SPIN_LISTING.as_slice().get(..49));
+    let listed = list_code(rt.alloc(), SPIN.as_bytes(), &mut Full);
+    same!(rt; matches!(listed, Err(JobError::Write)), true);
+}
+
+#[test]
+fn a_listing_goes_out_byte_by_byte(rt: HostRuntime) {
+    let mut writer = failing_at(rt.alloc(), 0);
+    let listed = list_code(rt.alloc(), SPIN.as_bytes(), &mut writer);
+    same!(rt; matches!(listed, Ok(())), true);
+    same!(rt; writer.bytes.as_slice(), SPIN_LISTING.as_slice());
 }

@@ -16,4 +16,5 @@ mod pieces;
 /// The lines of entries, by the names of their components.
 mod words;
 
+pub use handing::{hand_over, hand_over_if_long};
 pub use writing::{Ending, WriteError, write_trace};

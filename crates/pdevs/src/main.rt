@@ -1,12 +1,13 @@
-//! The program: checks model texts, runs them and prints their traces, and explains refusals and faults.
+//! The program: checks model texts, runs them and prints their traces, prints their programs, and explains refusals and
+//! faults.
 #![tactic(auto)]
 
 mod report;
 #[cfg(test)]
 mod tests;
 
-use dv_command::{Check, Request, RequestError, Run, request_of};
-use dv_job::{JobError, Options, check_bytes, run_plain};
+use dv_command::{Check, Code, Request, RequestError, Run, request_of};
+use dv_job::{JobError, Options, check_bytes, list_code, run_plain};
 use report::{explained, explanation_text, line, status};
 use std::io::Write;
 use std::process::ExitCode;
@@ -33,6 +34,7 @@ fn main(rt: HostRuntime) -> io::Result<ExitCode> {
     match request_of(rt.alloc(), words.as_slice()) {
         Ok(Request::Check(check)) => Ok(ExitCode::from(check_model(&rt, &check)?)),
         Ok(Request::Run(run)) => Ok(ExitCode::from(run_model(&rt, &run)?)),
+        Ok(Request::Code(code)) => Ok(ExitCode::from(list_model(&rt, &code)?)),
         Ok(Request::Explain(explanation)) => {
             print!(rt; "{}", explanation_text(rt.alloc(), explanation)?)?;
             Ok(ExitCode::from(ACCEPTED))
@@ -86,6 +88,25 @@ fn check_model<R: AllocGlobal + Files + Print + Eprint>(rt: &R, check: &Check) -
         }
         Err(error) => {
             tell(rt, &model, &[], &error, check.explained)?;
+            Ok(REFUSED)
+        }
+    }
+}
+
+/// Prints the programs that were asked for, and answers the status.
+fn list_model<R: AllocGlobal + Files + Print + Eprint>(rt: &R, code: &Code) -> io::Result<u8> {
+    let Some(model) = bytes_of(rt, code.model.as_str())? else {
+        return Ok(REFUSED);
+    };
+    let mut writer = io::writer(rt);
+    let mut result = list_code(rt.alloc(), &model, &mut writer);
+    if writer.flush().is_err() {
+        result = Err(JobError::Write);
+    }
+    match result {
+        Ok(()) => Ok(ACCEPTED),
+        Err(error) => {
+            tell(rt, &model, &[], &error, code.explained)?;
             Ok(REFUSED)
         }
     }

@@ -37,7 +37,7 @@ fn run_text(alloc: Global, run: &Run) -> Result<String, AllocError> {
     Ok(text)
 }
 
-// What is asked for: a check, a run, or usage.
+// What is asked for: a check, a listing, a run, an explanation, or usage.
 fn summary(alloc: Global, words: &[String]) -> Result<String, AllocError> {
     match request_of(alloc, words) {
         Ok(Request::Check(check)) if check.explained => format!(in alloc;
@@ -45,6 +45,11 @@ fn summary(alloc: Global, words: &[String]) -> Result<String, AllocError> {
             check.model
         ),
         Ok(Request::Check(check)) => format!(in alloc; "check {}", check.model),
+        Ok(Request::Code(code)) if code.explained => format!(in alloc;
+            "explained code {}",
+            code.model
+        ),
+        Ok(Request::Code(code)) => format!(in alloc; "code {}", code.model),
         Ok(Request::Run(run)) => run_text(alloc, &run),
         Ok(Request::Explain(explanation)) => format!(in alloc; "explain {}", explanation.code),
         Err(RequestError::Usage(usage)) if usage.text.is_empty() => String::from_str(
@@ -77,6 +82,22 @@ fn a_check_is_asked_for(rt: HostRuntime) {
             (&["check"], "usage"),
             (&["check", "m.pd", "n.pd"], "usage"),
             (&["check", "m.pd", "--horizon", "5"], "usage"),
+        ],
+    );
+}
+
+#[test]
+fn a_listing_is_asked_for(rt: HostRuntime) {
+    rows(
+        &rt,
+        &[
+            (&["code", "m.pd"], "code m.pd"),
+            (&["code", "--explain", "m.pd"], "explained code m.pd"),
+            (&["code", "m.pd", "--explain"], "explained code m.pd"),
+            (&["code", "--", "--explain"], "code --explain"),
+            (&["code"], "usage"),
+            (&["code", "m.pd", "n.pd"], "usage"),
+            (&["code", "m.pd", "--horizon", "5"], "usage"),
         ],
     );
 }

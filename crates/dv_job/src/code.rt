@@ -1,0 +1,36 @@
+//! The programs of a text, as text.
+
+ghost use Rattle.std.specs.Prelude.{OnOk, IfErr};
+ghost use Rattle.dv_job.specs.Listed.{LeftByListing, ListsCode};
+
+use crate::ended::JobError;
+use crate::load::{load, load_links, unloaded};
+use dv_gen::laws::texts_are_compilable;
+use dv_listing::write_listing;
+use dv_tree::Tree;
+use std::alloc::Global;
+use std::io::Write;
+
+/// Writes the listing of a text: the programs of each of its atomic models.
+///
+/// # Errors
+///
+/// `Text` is the text's answer; nothing was written then. For `Write` and `Memory` the writer holds a beginning of the
+/// listing that is not all of it; for `Memory` perhaps nothing. It is never `Inputs`.
+pub fn list_code<W: Write>(alloc: Global, model: &[u8], writer: &mut W) -> Result<(), JobError>
+    ensures listed { OnOk result (ListsCode model.now (W.contents writer.old)
+        (W.contents writer.new)) }
+    ensures error { IfErr result (λ e. LeftByListing e model.now (W.contents writer.old)
+        (W.contents writer.new)) }
+{
+    // The atomic models of an accepted text have programs.
+    texts_are_compilable();
+    let checked = match load(alloc, model) {
+        Ok(checked) => checked,
+        Err(error) => return Err(unloaded(model, error)),
+    };
+    let tree = Tree::of(alloc, &checked)?;
+    load_links(alloc, model, &tree)?;
+    write_listing(alloc, &tree, writer)?;
+    Ok(())
+}

@@ -1,0 +1,3 @@
+pub mod Left
+pub mod Models
+pub mod Placed
