@@ -1,0 +1,2 @@
+mod FittingStates
+mod ModelsOfFiles

@@ -1,0 +1,2 @@
+-- What serves proofs of helpers.
+pub mod Fitting

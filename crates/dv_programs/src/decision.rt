@@ -1,0 +1,439 @@
+//! A slow decision whether instructions are a program, written from the definition: a mark for each place, by all ways
+//! from the first one, and an instruction at each place that agrees with the marks where it leads.
+
+use dv_bag::ValueType;
+use dv_code::{
+    Action, Binary, DEEPEST_LOOPS, Instruction, Leaf, ProgramSort, Shape, Slot, Source, Unary,
+};
+use std::alloc::{AllocError, Global};
+
+/// Types, the top last.
+type Types = &'static [ValueType];
+
+const NOTHING: Types = &[];
+
+const NUMBER: Types = &[ValueType::Number];
+
+const TRUTH: Types = &[ValueType::Truth];
+
+const NUMBERS: Types = &[ValueType::Number, ValueType::Number];
+
+const TRUTHS: Types = &[ValueType::Truth, ValueType::Truth];
+
+/// A loop's body: its first place, and the place past its end.
+#[derive(Clone, Copy, PartialEq, Eq)]
+struct Body {
+    first: usize,
+    past: usize,
+}
+
+/// What stands at a place: the types on the stack, the top last, and the bodies around, the innermost last.
+#[derive(Drop)]
+struct Mark {
+    types: Vec<ValueType>,
+    nest: Vec<Body>,
+}
+
+impl Mark {
+    fn of(alloc: Global, types: &[ValueType], nest: &[Body]) -> Result<Self, AllocError> {
+        Ok(Mark {
+            types: types.to_vec(alloc)?,
+            nest: nest.to_vec(alloc)?,
+        })
+    }
+
+    fn is_same(&self, other: &Mark) -> bool {
+        self.types.as_slice() == other.types.as_slice()
+            && self.nest.as_slice() == other.nest.as_slice()
+    }
+
+    /// The mark with other types in place of these on top, if these are on top.
+    fn with_top(&self, alloc: Global, off: Types, on: Types) -> Result<Option<Self>, AllocError> {
+        match self.types.as_slice().strip_suffix(off) {
+            None => Ok(None),
+            Some(below) => {
+                let mut mark = Mark::of(alloc, below, &self.nest)?;
+                for top in on {
+                    mark.types.push(*top)?;
+                }
+                Ok(Some(mark))
+            }
+        }
+    }
+}
+
+/// A place to which an instruction leads, and the mark with which it leads there.
+#[derive(Drop)]
+struct Way {
+    to: usize,
+    mark: Mark,
+}
+
+/// A place of a program of so many instructions.
+#[derive(Clone, Copy)]
+struct Case<'a> {
+    alloc: Global,
+    shape: &'a Shape,
+    end: usize,
+    place: usize,
+    next: usize,
+}
+
+/// Whether instructions are a program that is valid for a shape.
+pub fn is_valid(alloc: Global, shape: &Shape, code: &[Instruction]) -> Result<bool, AllocError> {
+    let mut marks = Vec::new(alloc);
+    for _ in code {
+        marks.push(None)?;
+    }
+    settle(&mut marks, 0, Mark::of(alloc, &[], &[])?);
+    walk_on(alloc, shape, code, &mut marks)?;
+    walk_back(alloc, shape, code, &mut marks)?;
+    all_agree(alloc, shape, code, &marks)
+}
+
+/// Marks the places to which ways lead from the first one. Jumps lead forward.
+fn walk_on(
+    alloc: Global,
+    shape: &Shape,
+    code: &[Instruction],
+    marks: &mut Vec<Option<Mark>>,
+) -> Result<(), AllocError> {
+    for (place, instruction) in code.iter().enumerate() {
+        let case = Case::new(alloc, shape, code.len(), place);
+        if let Some(ways) = case.ways_from(mark_at(marks, place), *instruction)? {
+            for way in ways {
+                settle(marks, way.to, way.mark);
+            }
+        }
+    }
+    Ok(())
+}
+
+/// Marks the places to which no way leads, by the places behind them.
+fn walk_back(
+    alloc: Global,
+    shape: &Shape,
+    code: &[Instruction],
+    marks: &mut Vec<Option<Mark>>,
+) -> Result<(), AllocError> {
+    for (place, instruction) in code.iter().enumerate().rev() {
+        let case = Case::new(alloc, shape, code.len(), place);
+        if let Some(mark) = case.mark_before(marks, *instruction)? {
+            settle(marks, place, mark);
+        }
+    }
+    Ok(())
+}
+
+/// Whether each place has a mark, and its instruction agrees with the marks where it leads.
+fn all_agree(
+    alloc: Global,
+    shape: &Shape,
+    code: &[Instruction],
+    marks: &[Option<Mark>],
+) -> Result<bool, AllocError> {
+    for (place, instruction) in code.iter().enumerate() {
+        let case = Case::new(alloc, shape, code.len(), place);
+        let Some(ways) = case.ways_from(mark_at(marks, place), *instruction)? else {
+            return Ok(false);
+        };
+        if !arrive(marks, &ways) {
+            return Ok(false);
+        }
+    }
+    Ok(!code.is_empty())
+}
+
+fn mark_at(marks: &[Option<Mark>], place: usize) -> Option<&Mark> {
+    marks.get(place)?.as_ref()
+}
+
+/// Marks a place of the program, unless it has a mark.
+fn settle(marks: &mut [Option<Mark>], place: usize, mark: Mark) {
+    if let Some(found) = marks.get_mut(place) {
+        if found.is_none() {
+            *found = Some(mark);
+        }
+    }
+}
+
+fn arrive(marks: &[Option<Mark>], ways: &[Way]) -> bool {
+    for way in ways {
+        let is_there = match mark_at(marks, way.to) {
+            None => false,
+            Some(mark) => mark.is_same(&way.mark),
+        };
+        if !is_there {
+            return false;
+        }
+    }
+    true
+}
+
+impl<'a> Case<'a> {
+    fn new(alloc: Global, shape: &'a Shape, end: usize, place: usize) -> Self {
+        Case {
+            alloc,
+            shape,
+            end,
+            place,
+            next: place.saturating_add(1),
+        }
+    }
+
+    /// Where an instruction leads with a mark. None, where there is no mark, or it does not agree with it.
+    fn ways_from(
+        self,
+        mark: Option<&Mark>,
+        instruction: Instruction,
+    ) -> Result<Option<Vec<Way>>, AllocError> {
+        let Some(mark) = mark else {
+            return Ok(None);
+        };
+        if !self.lies_in(&mark.nest) || !knows(self.shape, mark.nest.len(), instruction) {
+            return Ok(None);
+        }
+        match instruction {
+            Instruction::Jump(to) => self.jump(mark, to),
+            Instruction::JumpFalse(to) => self.decide(mark, to, NOTHING),
+            Instruction::FalseKeep(to) | Instruction::TrueKeep(to) => self.decide(mark, to, TRUTH),
+            Instruction::Loop(_, past) => self.enter(mark, past),
+            Instruction::Next(first) => self.turn(mark, first),
+            Instruction::End => self.end(mark),
+            straight => {
+                let (takes, gives) = taken_and_given(straight);
+                match mark.with_top(self.alloc, takes, gives)? {
+                    None => Ok(None),
+                    Some(mark) => self.one_way(self.next, mark),
+                }
+            }
+        }
+    }
+
+    /// Whether the place lies in the innermost body, each body in the next one, and the last in the program; they are
+    /// not too many.
+    fn lies_in(self, nest: &[Body]) -> bool {
+        let mut inner = self.place;
+        for body in nest.iter().rev() {
+            if inner < body.first || body.past <= inner {
+                return false;
+            }
+            inner = body.past;
+        }
+        inner < self.end && nest.len() as u64 <= DEEPEST_LOOPS
+    }
+
+    fn one_way(self, to: usize, mark: Mark) -> Result<Option<Vec<Way>>, AllocError> {
+        let mut ways = Vec::new(self.alloc);
+        ways.push(Way { to, mark })?;
+        Ok(Some(ways))
+    }
+
+    fn two_ways(self, mark: Mark, to: u32, there: Mark) -> Result<Option<Vec<Way>>, AllocError> {
+        let mut ways = Vec::new(self.alloc);
+        ways.push(Way {
+            to: self.next,
+            mark,
+        })?;
+        ways.push(Way {
+            to: to as usize,
+            mark: there,
+        })?;
+        Ok(Some(ways))
+    }
+
+    fn jump(self, mark: &Mark, to: u32) -> Result<Option<Vec<Way>>, AllocError> {
+        if to as usize <= self.place {
+            return Ok(None);
+        }
+        let mark = Mark::of(self.alloc, &mark.types, &mark.nest)?;
+        self.one_way(to as usize, mark)
+    }
+
+    /// The truth value on top goes, or is another one where it jumps.
+    fn decide(self, mark: &Mark, to: u32, keeps: Types) -> Result<Option<Vec<Way>>, AllocError> {
+        if to as usize <= self.place {
+            return Ok(None);
+        }
+        match (
+            mark.with_top(self.alloc, TRUTH, NOTHING)?,
+            mark.with_top(self.alloc, TRUTH, keeps)?,
+        ) {
+            (Some(below), Some(there)) => self.two_ways(below, to, there),
+            _ => Ok(None),
+        }
+    }
+
+    fn enter(self, mark: &Mark, past: u32) -> Result<Option<Vec<Way>>, AllocError> {
+        if !mark.types.is_empty() {
+            return Ok(None);
+        }
+        let mut inside = Mark::of(self.alloc, &[], &mark.nest)?;
+        inside.nest.push(Body {
+            first: self.next,
+            past: past as usize,
+        })?;
+        let behind = Mark::of(self.alloc, &[], &mark.nest)?;
+        self.two_ways(inside, past, behind)
+    }
+
+    fn turn(self, mark: &Mark, first: u32) -> Result<Option<Vec<Way>>, AllocError> {
+        match mark.nest.as_slice() {
+            [outer @ .., body]
+                if mark.types.is_empty()
+                    && body.first == first as usize
+                    && body.past == self.next => {
+                let behind = Mark::of(self.alloc, &[], outer)?;
+                let again = Mark::of(self.alloc, &[], &mark.nest)?;
+                self.two_ways(behind, first, again)
+            }
+            _ => Ok(None),
+        }
+    }
+
+    fn end(self, mark: &Mark) -> Result<Option<Vec<Way>>, AllocError> {
+        let is_end = mark.types.as_slice() == left_by(self.shape.sort())
+            && mark.nest.is_empty()
+            && self.next == self.end;
+        Ok(if is_end {
+            Some(Vec::new(self.alloc))
+        } else {
+            None
+        })
+    }
+
+    /// The only mark with which an instruction can lead to the marks behind it.
+    fn mark_before(
+        self,
+        marks: &[Option<Mark>],
+        instruction: Instruction,
+    ) -> Result<Option<Mark>, AllocError> {
+        match instruction {
+            Instruction::End => { Ok(Some(Mark::of(self.alloc, left_by(self.shape.sort()), &[])?)) }
+            Instruction::Jump(to) => match mark_at(marks, to as usize) {
+                None => Ok(None),
+                Some(mark) => mark.with_top(self.alloc, NOTHING, NOTHING),
+            },
+            other => match mark_at(marks, self.next) {
+                None => Ok(None),
+                Some(mark) => self.mark_above(mark, other),
+            },
+        }
+    }
+
+    /// The only mark with which an instruction can lead to the next place.
+    fn mark_above(
+        self,
+        behind: &Mark,
+        instruction: Instruction,
+    ) -> Result<Option<Mark>, AllocError> {
+        match instruction {
+            Instruction::JumpFalse(_) | Instruction::FalseKeep(_) | Instruction::TrueKeep(_) => {
+                behind.with_top(self.alloc, NOTHING, TRUTH)
+            }
+            Instruction::Loop(_, _) => match behind.nest.as_slice() {
+                [] => Ok(None),
+                [outer @ .., _] => Ok(Some(Mark::of(self.alloc, &[], outer)?)),
+            },
+            Instruction::Next(first) => {
+                let mut mark = Mark::of(self.alloc, &[], &behind.nest)?;
+                mark.nest.push(Body {
+                    first: first as usize,
+                    past: self.next,
+                })?;
+                Ok(Some(mark))
+            }
+            straight => {
+                let (takes, gives) = taken_and_given(straight);
+                behind.with_top(self.alloc, gives, takes)
+            }
+        }
+    }
+}
+
+/// What a program of a sort leaves on the stack.
+fn left_by(sort: ProgramSort) -> Types {
+    match sort {
+        ProgramSort::Hold => NUMBER,
+        _ => NOTHING,
+    }
+}
+
+/// What an instruction takes from the stack that leads to the next place alone, and what it leaves in its place.
+fn taken_and_given(instruction: Instruction) -> (Types, Types) {
+    match instruction {
+        Instruction::Push(Leaf::Truth(_) | Leaf::Flag(_)) => (NOTHING, TRUTH),
+        Instruction::Push(_) => (NOTHING, NUMBER),
+        Instruction::Apply(Unary::Not) => (TRUTH, TRUTH),
+        Instruction::Apply(_) => (NUMBER, NUMBER),
+        Instruction::Combine(Binary::Same | Binary::Different) => (TRUTHS, TRUTH),
+        Instruction::Combine(
+            Binary::Add | Binary::Subtract | Binary::Multiply | Binary::Divide | Binary::Remainder,
+        ) => (NUMBERS, NUMBER),
+        Instruction::Combine(_) => (NUMBERS, TRUTH),
+        Instruction::Perform(Action::SetFlag(_)) => (TRUTH, NOTHING),
+        Instruction::Perform(_) => (NUMBER, NOTHING),
+        _ => (NOTHING, NOTHING),
+    }
+}
+
+/// Whether a program of the shape may do what an instruction does, in so many loops.
+fn knows(shape: &Shape, inside: usize, instruction: Instruction) -> bool {
+    match instruction {
+        Instruction::Push(leaf) => knows_leaf(shape, inside, leaf),
+        Instruction::Apply(Unary::Times(source)) | Instruction::Loop(source, _) => {
+            knows_bag(shape, source)
+        }
+        Instruction::Perform(action) => knows_action(shape, action),
+        Instruction::Go(phase) => phase < shape.tables().phases() && changes(shape.sort()),
+        _ => true,
+    }
+}
+
+fn knows_leaf(shape: &Shape, inside: usize, leaf: Leaf) -> bool {
+    match leaf {
+        Leaf::Number(_) | Leaf::Truth(_) => true,
+        Leaf::Variable(place) => matches!(slot(shape, place), Some(Slot::Ranged { .. })),
+        Leaf::Flag(place) => matches!(slot(shape, place), Some(Slot::Flagged)),
+        Leaf::Item(number) => usize::from(number) < inside,
+        Leaf::Elapsed => shape.sort() == ProgramSort::External,
+        Leaf::Size(source) | Leaf::Sum(source) | Leaf::Least(source) | Leaf::Most(source) => {
+            knows_bag(shape, source)
+        }
+    }
+}
+
+fn knows_bag(shape: &Shape, source: Source) -> bool {
+    match source {
+        Source::Own(place) => matches!(slot(shape, place), Some(Slot::Holding { .. })),
+        Source::Port(port) => {
+            u32::from(port) < shape.tables().inputs()
+                && matches!(shape.sort(), ProgramSort::External | ProgramSort::Confluent)
+        }
+    }
+}
+
+fn knows_action(shape: &Shape, action: Action) -> bool {
+    match action {
+        Action::SetVariable(place) => {
+            matches!(slot(shape, place), Some(Slot::Ranged { .. })) && changes(shape.sort())
+        }
+        Action::SetFlag(place) => {
+            matches!(slot(shape, place), Some(Slot::Flagged)) && changes(shape.sort())
+        }
+        Action::AddTo(place) | Action::DropFrom(place) => {
+            matches!(slot(shape, place), Some(Slot::Holding { .. })) && changes(shape.sort())
+        }
+        Action::Send(port) => {
+            u32::from(port) < shape.tables().outputs() && shape.sort() == ProgramSort::Output
+        }
+    }
+}
+
+fn changes(sort: ProgramSort) -> bool {
+    !matches!(sort, ProgramSort::Output | ProgramSort::Hold)
+}
+
+fn slot(shape: &Shape, place: u16) -> Option<Slot> {
+    shape.tables().slots().get(usize::from(place)).copied()
+}

@@ -1,0 +1,144 @@
+//! The programs of the texts, and such with another instruction at a place, before the validator.
+
+use crate::compiled::{Compiled, checked, compile_at};
+use crate::decision::is_valid;
+use crate::texts::TEXTS;
+use dv_code::{Action, Binary, Instruction, Leaf, Shape, Source, Tables, Valid};
+use dv_valid::validate;
+use std::alloc::{AllocError, Global};
+use std::process::Abort;
+use std::sync::Arc;
+use std::test::Fail;
+
+/// How many programs were taken, and how many lists of instructions were no programs.
+#[derive(Clone, Copy, Debug, PartialEq, Eq)]
+struct Answers {
+    taken: u64,
+    refused: u64,
+}
+
+impl Answers {
+    fn count(&mut self, is_taken: bool) {
+        if is_taken {
+            self.taken = self.taken.saturating_add(1);
+        } else {
+            self.refused = self.refused.saturating_add(1);
+        }
+    }
+}
+
+fn shape_like(program: &Valid, tables: &Arc<Tables>) -> Result<Shape, AllocError> {
+    Ok(Shape::new(Arc::try_clone(tables)?, program.shape().sort()))
+}
+
+/// Whether the validator takes instructions.
+fn is_taken(
+    alloc: Global,
+    program: &Valid,
+    tables: &Arc<Tables>,
+    code: &[Instruction],
+) -> Result<bool, AllocError> {
+    match validate(alloc, shape_like(program, tables)?, code.to_vec(alloc)?)? {
+        None => Ok(false),
+        Some(found) => Ok(found.code() == code),
+    }
+}
+
+/// Other instructions for a place: most are those of no program there.
+fn others(place: u32, instruction: Instruction) -> [Instruction; 12] {
+    [
+        turned(instruction),
+        Instruction::Push(Leaf::Number(1)),
+        Instruction::Push(Leaf::Truth(true)),
+        Instruction::Push(Leaf::Item(0)),
+        Instruction::Push(Leaf::Size(Source::Own(0))),
+        Instruction::Combine(Binary::Add),
+        Instruction::Perform(Action::Send(0)),
+        Instruction::Perform(Action::SetVariable(0)),
+        Instruction::Go(0),
+        Instruction::Jump(place.saturating_add(2)),
+        Instruction::Next(place.saturating_sub(2)),
+        Instruction::End,
+    ]
+}
+
+/// The instruction with another aim, or another leaf.
+fn turned(instruction: Instruction) -> Instruction {
+    match instruction {
+        Instruction::Push(_) => Instruction::Push(Leaf::Elapsed),
+        Instruction::Jump(to) => Instruction::Jump(to.saturating_add(1)),
+        Instruction::JumpFalse(to) => Instruction::JumpFalse(to.saturating_add(1)),
+        Instruction::FalseKeep(to) => Instruction::TrueKeep(to),
+        Instruction::TrueKeep(to) => Instruction::FalseKeep(to.saturating_add(1)),
+        Instruction::Loop(source, past) => Instruction::Loop(source, past.saturating_add(1)),
+        Instruction::Next(first) => Instruction::Next(first.saturating_add(1)),
+        other => other,
+    }
+}
+
+/// Asks the validator about a program with each other instruction at each place, and fails the test where the slow
+/// decision differs.
+fn change_each<R: Abort + AllocGlobal>(
+    rt: &R,
+    program: &Valid,
+    tables: &Arc<Tables>,
+    answers: &mut Answers,
+) -> Result<(), Fail> {
+    for (place, instruction) in program.code().iter().enumerate() {
+        let mut code = program.code().to_vec(rt.alloc())?;
+        for other in others(place as u32, *instruction) {
+            if let Some(changed) = code.get_mut(place) {
+                *changed = other;
+            }
+            let taken = is_taken(rt.alloc(), program, tables, &code)?;
+            let wanted = is_valid(rt.alloc(), program.shape(), &code)?;
+            assert_eq!(rt; taken, wanted, "{other:?} at {place} of {code:?}");
+            answers.count(taken);
+        }
+    }
+    Ok(())
+}
+
+fn change_programs<R: Abort + AllocGlobal>(
+    rt: &R,
+    model: &Compiled,
+    answers: &mut Answers,
+) -> Result<(), Fail> {
+    let tables = &model.code.tables;
+    for pair in &model.pairs(rt.alloc())? {
+        let program = pair.program;
+        assert!(rt;
+            is_taken(rt.alloc(), program, tables, program.code())?,
+            "{:?}",
+            program.code()
+        );
+        assert!(rt;
+            is_valid(rt.alloc(), program.shape(), program.code())?,
+            "{:?}",
+            program.code()
+        );
+        change_each(rt, program, tables, answers)?;
+    }
+    Ok(())
+}
+
+#[test]
+fn programs_are_taken_and_changed_ones_as_the_definition_says(rt: HostRuntime) -> Result<(), Fail> {
+    let mut answers = Answers {
+        taken: 0,
+        refused: 0,
+    };
+    for text in TEXTS {
+        let checked = checked(rt.alloc(), text).expect(&rt, text);
+        for place in 0..checked.file.models.len() {
+            if let Some(model) = compile_at(rt.alloc(), &checked, place)? {
+                change_programs(&rt, &model, &mut answers)?;
+            }
+        }
+    }
+    assert!(rt;
+        answers.taken > 1_000 && answers.refused > 1_000,
+        "{answers:?}"
+    );
+    Ok(())
+}

@@ -1,0 +1,81 @@
+//! Rules and holds beside their programs: those of the texts, and random ones.
+
+ghost use Rattle.std.specs.Prelude.{◌≡◌, ◌<◌};
+
+use crate::beside::Endings;
+use crate::compiled::{checked, compile_at};
+use crate::random::Random;
+use crate::rule_texts::random_model;
+use crate::texts::TEXTS;
+use dv_code::Steps;
+use std::marker::Brand;
+use std::process::Abort;
+use std::sync::ledger::{Blank, Ledger};
+use std::test::Fail;
+
+fn compare_text<R: Abort + AllocGlobal, L: Ledger>(
+    rt: &R,
+    text: &str,
+    endings: &mut Endings,
+    steps: &mut Steps<L>,
+) -> Result<(), Fail> {
+    let checked = checked(rt.alloc(), text).expect(rt, text);
+    for place in 0..checked.file.models.len() {
+        if let Some(model) = compile_at(rt.alloc(), &checked, place)? {
+            endings.compare_model(rt, &model, steps)?;
+        }
+    }
+    Ok(())
+}
+
+fn compare_texts<R: Abort + AllocGlobal, L: Ledger>(rt: &R, blank: Blank) -> Result<Endings, Fail>
+    requires name { blank.name ≡ L.name }
+    requires parts { blank.parts ≡ L.parts }
+    requires some { 0 < blank.parts }
+{
+    let mut steps = Steps::<L>::new(blank);
+    let mut endings = Endings::none();
+    for text in TEXTS {
+        compare_text(rt, text, &mut endings, &mut steps)?;
+    }
+    Ok(endings)
+}
+
+fn compare_random<R: Abort + AllocGlobal, L: Ledger>(
+    rt: &R,
+    models: u32,
+    blank: Blank,
+) -> Result<Endings, Fail>
+    requires name { blank.name ≡ L.name }
+    requires parts { blank.parts ≡ L.parts }
+    requires some { 0 < blank.parts }
+{
+    let mut steps = Steps::<L>::new(blank);
+    let mut endings = Endings::none();
+    let mut random = Random::new(1);
+    for _ in 0..models {
+        let text = random_model(rt.alloc(), &mut random)?;
+        compare_text(rt, text.as_str(), &mut endings, &mut steps)?;
+    }
+    Ok(endings)
+}
+
+#[test]
+fn programs_do_what_their_rules_do(rt: HostRuntime) -> Result<(), Fail> {
+    let endings = compare_texts::<HostRuntime, Brand>(&rt, Blank::new(1))?;
+    assert!(rt;
+        endings.effects > 1_000 && endings.faults > 50,
+        "{endings:?}"
+    );
+    Ok(())
+}
+
+#[test]
+fn programs_of_random_rules_do_what_the_rules_do(rt: HostRuntime) -> Result<(), Fail> {
+    let endings = compare_random::<HostRuntime, Brand>(&rt, 400, Blank::new(1))?;
+    assert!(rt;
+        endings.effects > 10_000 && endings.faults > 10_000,
+        "{endings:?}"
+    );
+    Ok(())
+}
