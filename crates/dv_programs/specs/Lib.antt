@@ -1,2 +1,2 @@
--- What serves proofs of helpers.
+-- What serves proofs of the tests.
 pub mod Fitting
