@@ -1,6 +1,8 @@
 pub mod Fitting
 pub mod Bags
 pub mod Computing
+pub mod Outcomes
+pub mod Keeping
 pub mod Effects
 pub mod Known
 pub mod Inputs

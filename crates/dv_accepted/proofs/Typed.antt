@@ -1,6 +1,6 @@
 -- Accepted expressions have types, and their values are of these.
 use Rattle.std.proofs.Common.{◌≡◌, ℕ, ℤ, Bool, true, false, not, ◌==◌, if◌then◌else◌, List, [], ◌∷◌, ◌++◌, refl, sym, ap, ◌∙◌}
-use Rattle.std.proofs.Common.{Option, Some, None, Result, Ok, Err, pos, neg_ℤ, ◌+ℤ◌, ◌-ℤ◌, ◌*ℤ◌, int_div, int_rem}
+use Rattle.std.proofs.Common.{Option, Some, None, Result, Ok, Err, IfOk, pos, neg_ℤ, ◌+ℤ◌, ◌-ℤ◌, ◌*ℤ◌, int_div, int_rem}
 use Rattle.std.specs.Ordering.{int_eq}
 use Rattle.dv_lex.specs.declared.error.RefusalNumber.TheVariants.{E8}
 use Rattle.dv_syntax.specs.declared.tree.Prefix.{Prefix}
@@ -13,7 +13,7 @@ use Rattle.dv_syntax.specs.declared.tree.BagCall.{BagCall}
 use Rattle.dv_syntax.specs.declared.tree.BagCall.TheVariants.{Size, Sum, Least, Most}
 use Rattle.dv_syntax.specs.declared.tree.RuleSort.{RuleSort}
 use Rattle.dv_syntax.specs.Trees.{AtomicTree, Expression, Literal, TruthValue, Named, Parens, Prefixed, Binary, Call, Elapsed, Times}
-use Rattle.dv_bag.specs.Bag.{Counts, count_of, least, most, sum_or_overflow, total}
+use Rattle.dv_bag.specs.Bag.{Counts, least, most, sum_or_overflow}
 use Rattle.dv_bag.specs.Outcome.{◌>>=◌}
 use Rattle.dv_bag.specs.declared.fault.Fault.{Fault}
 use Rattle.dv_bag.specs.declared.fault.Fault.TheVariants as fault
@@ -25,7 +25,7 @@ use Rattle.dv_bag.specs.declared.state.State.{State}
 use Rattle.dv_eval.specs.declared.scope.Domain.{Domain}
 use Rattle.dv_eval.specs.declared.scope.Domain.TheVariants as domain
 use Rattle.dv_eval.specs.Scope.{Scope, scope_of}
-use Rattle.dv_bag.specs.Arithmetic.{is_kept, number_or_empty, number_or_overflow}
+use Rattle.dv_bag.specs.Arithmetic.{is_kept, number_or_empty, number_or_overflow, quotient, remainder}
 use Rattle.dv_bag.specs.Arrivals.{Arrivals}
 use Rattle.dv_eval.specs.Meaning.{bag_of_name, call_result, datum_at, datum_of_name, is_decided, loop_value, meaning, moment_in}
 use Rattle.dv_eval.specs.Meaning.{number_of, operator_result, prefix_result, truth_of, value_in_loop, value_of_datum}
@@ -44,7 +44,7 @@ use Rattle.dv_check.specs.Rules.{known_in, known_in_rule, sort_in}
 use Rattle.dv_accepted.specs.Fitting.{context_within, datum_fits, fits_in, HoldsDatum, is_of_type, known_within, values_within}
 use Rattle.dv_check.proofs.Accepted.{both_nil, not_false, not_refused}
 use Rattle.dv_accepted.proofs.Fitting.{and_true}
-use Rattle.dv_accepted.proofs.Effects.{gave}
+use Rattle.dv_accepted.proofs.Outcomes.{if_ok_after, if_ok_branch}
 use Rattle.dv_accepted.proofs.Known.{bag_name_known, datum_held, is_of_loop, is_stored, of_no_loop, sort_named, sort_of_domain}
 
 -- ---- An expression without refusals has a type
@@ -155,96 +155,87 @@ module _ (known : Known) where
 
 -- ---- Its values are of this type
 
-of_type_if : (b : Bool) (t u : ValueType) (v : Value) → type_if b t ≡ Some u → is_of_type t v ≡ true → is_of_type u v ≡ true
-of_type_if true t u v e h = let same : t ≡ u = cc in rw (← same) h
-of_type_if false t u v e h = absurd (cc)
+-- the type of a value
+abbrev pub OfType : ValueType → Value → Type 0
+OfType t v = is_of_type t v ≡ true
 
-number_if : (b : Bool) (n : ℤ) (f : Fault) (v : Value) → (if b then Ok (value.Number n) else Err f) ≡ Ok v → is_of_type Number v ≡ true
-number_if true n f v e = let same : value.Number n ≡ v = cc in rw (← same) refl
-number_if false n f v e = absurd (cc)
+of_type_if : (b : Bool) (t u : ValueType) (r : Result Value Fault) → type_if b t ≡ Some u → IfOk r (OfType t) → IfOk r (OfType u)
+of_type_if true t u r e h = let same : t ≡ u = cc in rw (← same) h
+of_type_if false t u r e h = absurd (cc)
 
-abbrev ok_number : ℤ → Result Value Fault
-ok_number n = Ok (value.Number n)
+kept_number : (n : ℤ) → IfOk (number_or_overflow n) (OfType Number)
+kept_number n = if_ok_branch (is_kept n) (Ok (value.Number n)) (Err fault.Overflow) (OfType Number) refl tt
 
-number : (n : ℤ) (v : Value) → ok_number n ≡ Ok v → is_of_type Number v ≡ true
-number n v e = let same : value.Number n ≡ v = cc in rw (← same) refl
+quotient_number : (a b : ℤ) → IfOk (quotient a b) (OfType Number)
+quotient_number a b =
+    if_ok_branch (int_eq b (pos 0)) (Err fault.Divide) (number_or_overflow (int_div a b)) (OfType Number) tt (kept_number (int_div a b))
 
-kept_number : (n : ℤ) (v : Value) → number_or_overflow n ≡ Ok v → is_of_type Number v ≡ true
-kept_number n v e = number_if (is_kept n) n fault.Overflow v e
+remainder_number : (a b : ℤ) → IfOk (remainder a b) (OfType Number)
+remainder_number a b =
+    if_ok_branch (int_eq b (pos 0)) (Err fault.Divide) (Ok (value.Number (int_rem a b))) (OfType Number) tt refl
 
-quotient_if : (b : Bool) (n : ℤ) (v : Value) → (if b then Err fault.Divide else number_or_overflow n) ≡ Ok v → is_of_type Number v ≡ true
-quotient_if true n v e = absurd (cc)
-quotient_if false n v e = kept_number n v e
-
-remainder_if : (b : Bool) (n : ℤ) (v : Value) → (if b then Err fault.Divide else Ok (value.Number n)) ≡ Ok v → is_of_type Number v ≡ true
-remainder_if true n v e = absurd (cc)
-remainder_if false n v e = let same : value.Number n ≡ v = cc in rw (← same) refl
+result_typed : (o : Operator) (a b : Option ValueType) (t : ValueType) (x y : Value) → type_of_operator o a b ≡ Some t
+    → IfOk (operator_result o x y) (OfType t)
+result_typed Or a b t x y typed = of_type_if _ Truth t (operator_result Or x y) typed refl
+result_typed And a b t x y typed = of_type_if _ Truth t (operator_result And x y) typed refl
+result_typed Add a b t x y typed = of_type_if _ Number t (operator_result Add x y) typed (kept_number (number_of x +ℤ number_of y))
+result_typed Subtract a b t x y typed =
+    of_type_if _ Number t (operator_result Subtract x y) typed (kept_number (number_of x -ℤ number_of y))
+result_typed Multiply a b t x y typed =
+    of_type_if _ Number t (operator_result Multiply x y) typed (kept_number (number_of x *ℤ number_of y))
+result_typed Divide a b t x y typed =
+    of_type_if _ Number t (operator_result Divide x y) typed (quotient_number (number_of x) (number_of y))
+result_typed Remainder a b t x y typed =
+    of_type_if _ Number t (operator_result Remainder x y) typed (remainder_number (number_of x) (number_of y))
+result_typed Equal a b t x y typed = of_type_if _ Truth t (operator_result Equal x y) typed refl
+result_typed Unequal a b t x y typed = of_type_if _ Truth t (operator_result Unequal x y) typed refl
+result_typed Less a b t x y typed = of_type_if _ Truth t (operator_result Less x y) typed refl
+result_typed AtMost a b t x y typed = of_type_if _ Truth t (operator_result AtMost x y) typed refl
+result_typed Greater a b t x y typed = of_type_if _ Truth t (operator_result Greater x y) typed refl
+result_typed AtLeast a b t x y typed = of_type_if _ Truth t (operator_result AtLeast x y) typed refl
 
 abbrev ok_truth : Bool → Result Value Fault
 ok_truth b = Ok (value.Truth b)
 
-truth : (b : Bool) (v : Value) → ok_truth b ≡ Ok v → is_of_type Truth v ≡ true
-truth b v e = let same : value.Truth b ≡ v = cc in rw (← same) refl
-
-result_typed : (o : Operator) (a b : Option ValueType) (t : ValueType) (x y v : Value) → type_of_operator o a b ≡ Some t
-    → operator_result o x y ≡ Ok v → is_of_type t v ≡ true
-result_typed Or a b t x y v typed e = of_type_if _ Truth t v typed (truth _ v e)
-result_typed And a b t x y v typed e = of_type_if _ Truth t v typed (truth _ v e)
-result_typed Add a b t x y v typed e = of_type_if _ Number t v typed (kept_number (number_of x +ℤ number_of y) v e)
-result_typed Subtract a b t x y v typed e = of_type_if _ Number t v typed (kept_number (number_of x -ℤ number_of y) v e)
-result_typed Multiply a b t x y v typed e = of_type_if _ Number t v typed (kept_number (number_of x *ℤ number_of y) v e)
-result_typed Divide a b t x y v typed e =
-    of_type_if _ Number t v typed (quotient_if (int_eq (number_of y) (pos 0)) (int_div (number_of x) (number_of y)) v e)
-result_typed Remainder a b t x y v typed e =
-    of_type_if _ Number t v typed (remainder_if (int_eq (number_of y) (pos 0)) (int_rem (number_of x) (number_of y)) v e)
-result_typed Equal a b t x y v typed e = of_type_if _ Truth t v typed (truth _ v e)
-result_typed Unequal a b t x y v typed e = of_type_if _ Truth t v typed (truth _ v e)
-result_typed Less a b t x y v typed e = of_type_if _ Truth t v typed (truth _ v e)
-result_typed AtMost a b t x y v typed e = of_type_if _ Truth t v typed (truth _ v e)
-result_typed Greater a b t x y v typed e = of_type_if _ Truth t v typed (truth _ v e)
-result_typed AtLeast a b t x y v typed e = of_type_if _ Truth t v typed (truth _ v e)
-
 -- where the left operand decides, the value is its truth value
-decided_typed : (o : Operator) (a b : Option ValueType) (t : ValueType) (x v : Value) → is_decided o x ≡ true
-    → type_of_operator o a b ≡ Some t → ok_truth (truth_of x) ≡ Ok v → is_of_type t v ≡ true
-decided_typed Or a b t x v decided typed e = of_type_if _ Truth t v typed (truth _ v e)
-decided_typed And a b t x v decided typed e = of_type_if _ Truth t v typed (truth _ v e)
-decided_typed Add a b t x v decided typed e = absurd (cc)
-decided_typed Subtract a b t x v decided typed e = absurd (cc)
-decided_typed Multiply a b t x v decided typed e = absurd (cc)
-decided_typed Divide a b t x v decided typed e = absurd (cc)
-decided_typed Remainder a b t x v decided typed e = absurd (cc)
-decided_typed Equal a b t x v decided typed e = absurd (cc)
-decided_typed Unequal a b t x v decided typed e = absurd (cc)
-decided_typed Less a b t x v decided typed e = absurd (cc)
-decided_typed AtMost a b t x v decided typed e = absurd (cc)
-decided_typed Greater a b t x v decided typed e = absurd (cc)
-decided_typed AtLeast a b t x v decided typed e = absurd (cc)
+decided_typed : (o : Operator) (a b : Option ValueType) (t : ValueType) (x : Value) → is_decided o x ≡ true
+    → type_of_operator o a b ≡ Some t → OfType t (value.Truth (truth_of x))
+decided_typed Or a b t x decided typed = of_type_if _ Truth t (ok_truth (truth_of x)) typed refl
+decided_typed And a b t x decided typed = of_type_if _ Truth t (ok_truth (truth_of x)) typed refl
+decided_typed Add a b t x decided typed = absurd (cc)
+decided_typed Subtract a b t x decided typed = absurd (cc)
+decided_typed Multiply a b t x decided typed = absurd (cc)
+decided_typed Divide a b t x decided typed = absurd (cc)
+decided_typed Remainder a b t x decided typed = absurd (cc)
+decided_typed Equal a b t x decided typed = absurd (cc)
+decided_typed Unequal a b t x decided typed = absurd (cc)
+decided_typed Less a b t x decided typed = absurd (cc)
+decided_typed AtMost a b t x decided typed = absurd (cc)
+decided_typed Greater a b t x decided typed = absurd (cc)
+decided_typed AtLeast a b t x decided typed = absurd (cc)
 
 -- the right operand is asked where the left one does not decide
-asked_typed : (c : Bool) (o : Operator) (a b : Option ValueType) (t : ValueType) (x v : Value) (right : Result Value Fault)
-    → is_decided o x ≡ c
-    → type_of_operator o a b ≡ Some t → (if c then ok_truth (truth_of x) else (right >>= λ y. operator_result o x y)) ≡ Ok v
-    → is_of_type t v ≡ true
-asked_typed true o a b t x v right decided typed e = decided_typed o a b t x v decided typed e
-asked_typed false o a b t x v right asked typed e =
-    let given = gave right (λ y. operator_result o x y) v e in
-    result_typed o a b t x given.value v typed given.then_
+asked_typed : (c : Bool) (o : Operator) (a b : Option ValueType) (t : ValueType) (x : Value) (right : Result Value Fault)
+    → is_decided o x ≡ c → type_of_operator o a b ≡ Some t
+    → IfOk (if c then ok_truth (truth_of x) else (right >>= λ y. operator_result o x y)) (OfType t)
+asked_typed true o a b t x right decided typed = decided_typed o a b t x decided typed
+asked_typed false o a b t x right asked typed =
+    if_ok_after right (operator_result o x) (OfType t) (λ y. result_typed o a b t x y typed)
 
-bag_end_typed : (o : Option ℤ) (v : Value) → number_or_empty o ≡ Ok v → is_of_type Number v ≡ true
-bag_end_typed None v e = absurd (cc)
-bag_end_typed (Some n) v e = number n v e
+bag_end_typed : (o : Option ℤ) → IfOk (number_or_empty o) (OfType Number)
+bag_end_typed None = tt
+bag_end_typed (Some n) = refl
 
-call_typed : (c : BagCall) (b : Counts) (v : Value) → call_result c b ≡ Ok v → is_of_type Number v ≡ true
-call_typed Size b v e = number (pos (total b)) v e
-call_typed Sum b v e = let sum = gave (sum_or_overflow b) ok_number v e in number sum.value v sum.then_
-call_typed Least b v e = bag_end_typed (least b) v e
-call_typed Most b v e = bag_end_typed (most b) v e
+call_typed : (c : BagCall) (b : Counts) → IfOk (call_result c b) (OfType Number)
+call_typed Size b = refl
+call_typed Sum b = if_ok_after (sum_or_overflow b) (λ n. Ok (value.Number n)) (OfType Number) (λ n. refl)
+call_typed Least b = bag_end_typed (least b)
+call_typed Most b = bag_end_typed (most b)
 
-prefix_typed : (o : Prefix) (b : Bool) (t : ValueType) (x v : Value) → type_if b (type_of_prefix o) ≡ Some t
-    → prefix_result o x ≡ Ok v → is_of_type t v ≡ true
-prefix_typed Minus b t x v typed e = of_type_if b Number t v typed (kept_number (neg_ℤ (number_of x)) v e)
-prefix_typed Not b t x v typed e = of_type_if b Truth t v typed (truth _ v e)
+prefix_typed : (o : Prefix) (b : Bool) (t : ValueType) (x : Value) → type_if b (type_of_prefix o) ≡ Some t
+    → IfOk (prefix_result o x) (OfType t)
+prefix_typed Minus b t x typed = of_type_if b Number t (prefix_result Minus x) typed (kept_number (neg_ℤ (number_of x)))
+prefix_typed Not b t x typed = of_type_if b Truth t (prefix_result Not x) typed refl
 
 name_stored : (o : Option NameSort) (t : ValueType) → is_of_loop o ≡ false → type_of_name o ≡ Some t → is_stored o ≡ true
 name_stored None t outside e = absurd (cc)
@@ -306,30 +297,20 @@ module _ (m : AtomicTree) (rule : Option RuleSort) (arrivals : Arrivals) (bound 
   abbrev given : Expression → Result Value Fault
   given e = meaning (scope_of m) (moment_in (context_within arrivals bound) s) e
 
-  pub value_typed : (e : Expression) (t : ValueType) (v : Value) → type_of known e ≡ Some t → given e ≡ Ok v → is_of_type t v ≡ true
-  value_typed (Literal n) t v typed is =
-      let same : Number ≡ t = cc in
-      let number : value.Number (pos n.value) ≡ v = cc in
-      rw (← same, ← number) refl
-  value_typed (TruthValue place b) t v typed is =
-      let same : Truth ≡ t = cc in
-      let truth_value : value.Truth b ≡ v = cc in
-      rw (← same, ← truth_value) refl
-  value_typed (Named name) t v typed is =
-      let same : value_of_name (scope_of m) (moment_in (context_within arrivals bound) s) name.number ≡ v = cc in
-      ap (is_of_type t) (sym same) ∙ name_typed m s fit rule arrivals bound name.number t typed
-  value_typed (Parens place e) t v typed is = value_typed e t v typed is
-  value_typed (Prefixed o place e) t v typed is =
-      let first = gave (given e) (λ x. prefix_result o x) v is in
-      prefix_typed o _ t first.value v typed first.then_
-  value_typed (Binary o a b) t v typed is =
-      let rest = λ (x : Value). if is_decided o x then ok_truth (truth_of x) else (given b >>= λ y. operator_result o x y) in
-      let first = gave (given a) rest v is in
-      asked_typed (is_decided o first.value) o (type_of known a) (type_of known b) t first.value v (given b) refl typed first.then_
-  value_typed (Call c place b) t v typed is =
-      of_type_if _ Number t v typed (call_typed c (bag_of_name (scope_of m) (moment_in (context_within arrivals bound) s) b.number) v is)
-  value_typed (Elapsed place) t v typed is = of_type_if _ Number t v typed (kept_number (pos arrivals.elapsed) v is)
-  value_typed (Times place e b) t v typed is =
-      let counted = bag_of_name (scope_of m) (moment_in (context_within arrivals bound) s) b.number in
-      let first = gave (given e) (λ x. ok_number (pos (count_of (number_of x) counted))) v is in
-      of_type_if _ Number t v typed (number (pos (count_of (number_of first.value) counted)) v first.then_)
+  pub value_typed : (e : Expression) (t : ValueType) → type_of known e ≡ Some t → IfOk (given e) (OfType t)
+  value_typed (Literal n) t typed = let same : Number ≡ t = cc in rw (← same) refl
+  value_typed (TruthValue place b) t typed = let same : Truth ≡ t = cc in rw (← same) refl
+  value_typed (Named name) t typed = name_typed m s fit rule arrivals bound name.number t typed
+  value_typed (Parens place e) t typed = value_typed e t typed
+  value_typed (Prefixed o place e) t typed =
+      if_ok_after (given e) (prefix_result o) (OfType t) (λ x. prefix_typed o _ t x typed)
+  value_typed (Binary o a b) t typed =
+      if_ok_after (given a) _ (OfType t) (λ x.
+      asked_typed (is_decided o x) o (type_of known a) (type_of known b) t x (given b) refl typed)
+  value_typed (Call c place b) t typed =
+      let asked = bag_of_name (scope_of m) (moment_in (context_within arrivals bound) s) b.number in
+      of_type_if _ Number t (call_result c asked) typed (call_typed c asked)
+  value_typed (Elapsed place) t typed =
+      of_type_if _ Number t (number_or_overflow (pos arrivals.elapsed)) typed (kept_number (pos arrivals.elapsed))
+  value_typed (Times place e b) t typed =
+      of_type_if _ Number t (given (Times place e b)) typed (if_ok_after (given e) _ (OfType Number) (λ x. refl))

@@ -1,5 +1,6 @@
--- What a reader believes: the states that fit a model, and what it is that an accepted model names.
+-- What a reader believes: the states that fit a model, what it is that an accepted model names, and where statements go.
 pub mod Fitting
+pub mod Gotos
 -- Worked rows.
 pub mod Clock
 pub mod Broken

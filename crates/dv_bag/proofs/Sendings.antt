@@ -1,5 +1,6 @@
 -- What is sent, as one list: what an edit of the list does to the bag of each port.
-use Rattle.std.proofs.Common.{◌≡◌, ◌⊎◌, inl, inr, ℕ, zero, suc, ◌+◌, ◌-◌, ◌<◌, ◌≤◌, Bool, true, false, cond, nat_eq, List, [], ◌∷◌, ◌++◌, length, get_or, set, take, drop, replicate, ℤ, pos, refl, sym, ap, ◌∙◌, subst, arith}
+use Rattle.std.proofs.Common.{◌≡◌, ◌⊎◌, inl, inr, ℕ, zero, suc, ◌+◌, ◌-◌, ◌<◌, ◌≤◌, Bool, true, false, cond, nat_eq, List, []}
+use Rattle.std.proofs.Common.{◌∷◌, ◌++◌, length, get_or, set, take, drop, replicate, ℤ, pos, refl, sym, ap, ◌∙◌, subst, arith}
 use Rattle.std.specs.List.{AllWithin, insert, refill, slice_range}
 use Rattle.std.specs.List.Sorted.{IsNonDecreasingBy}
 use Rattle.std.specs.Ordering.{int_eq}
@@ -13,7 +14,8 @@ use Rattle.dv_bag.specs.Same.{same_bags, same_bags-decides}
 use Rattle.dv_bag.specs.Sent.{AreWithin, GoAsOften, HasCopiesAt, IsPlaceOf, RiseFrom, by_port, copies_in, from_port, sent_at, sent_into}
 use Rattle.dv_bag.specs.declared.sent.Sending.{Sending}
 use Rattle.dv_bag.proofs.Pairs.{refill-set, with_copies_bag}
-use Rattle.dv_bag.proofs.Monoid.{copies_capped, copies_either, copies_join, count_kept, count_with_other, count_with_same, same_counts_same_bag, total_with}
+use Rattle.dv_bag.proofs.Monoid.{copies_capped, copies_either, copies_join, count_kept, count_with_other, count_with_same}
+use Rattle.dv_bag.proofs.Monoid.{same_counts_same_bag, total_with}
 
 -- copies of a value that go to a port
 abbrev pub sending : ℕ → ℤ → ℕ → Sending

@@ -1,7 +1,6 @@
 pub mod Names
 pub mod Soonest
 pub mod Tables
-pub mod Outcomes
 pub mod Gotos
 pub mod Numbers
 pub mod Values

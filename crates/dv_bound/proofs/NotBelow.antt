@@ -13,11 +13,12 @@ use Rattle.dv_eval.specs.Meaning.{effect_of, hold_of, outermost}
 use Rattle.dv_eval.specs.Scope.{hold_ticks, phase_name, place_of, rule_body, rule_of, same_sort, scope_of}
 use Rattle.dv_accepted.specs.Fitting.{HoldsDatum, domain_named, in_phase}
 use Rattle.dv_bag.specs.Numbers.{HoldsNumbers}
-use Rattle.dv_bound.specs.Response.{IsNotBelow, external_gotos, external_gotos_in, gotos_in, phase_response}
-use Rattle.dv_bound.specs.Response.{response_of, sooner}
+use Rattle.dv_accepted.specs.Gotos.{gotos_in}
+use Rattle.dv_accepted.proofs.Keeping.{all_parts}
+use Rattle.dv_bound.specs.Response.{IsNotBelow, external_gotos, external_gotos_in, phase_response, response_of, sooner}
 use Rattle.dv_bound.specs.Soonest.{soonest}
 use Rattle.dv_bound.proofs.Names.{name_at}
-use Rattle.dv_bound.proofs.Gotos.{all_parts, run_leaves}
+use Rattle.dv_bound.proofs.Gotos.{run_leaves}
 use Rattle.dv_bound.proofs.Values.{hold_not_below}
 
 -- ---- The soonest of responses

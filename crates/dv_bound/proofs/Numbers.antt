@@ -31,7 +31,7 @@ use Rattle.dv_eval.specs.Meaning.{bag_between, call_result, datum_at, is_decided
 use Rattle.dv_eval.specs.Meaning.{outermost, prefix_result, value_of_datum}
 use Rattle.dv_bag.specs.Numbers.{HoldsNumbers, IsBagOfNumbers, IsOfNumbers}
 use Rattle.dv_bound.specs.Response.{least_number}
-use Rattle.dv_bound.proofs.Outcomes.{if_ok_any, if_ok_then}
+use Rattle.dv_accepted.proofs.Outcomes.{if_ok_after, if_ok_then}
 
 -- a number that is not below the least one of the language
 abbrev pub IsNotUnder : ℤ → Type 0
@@ -166,13 +166,12 @@ module _ (scope : Scope) (s : State) (numbers : HoldsNumbers s.variables) where
   value_not_under (Named name) = name_not_under (place_of name.number (names_of scope.variables))
   value_not_under (Parens place e) = value_not_under e
   value_not_under (Prefixed o place e) =
-      if_ok_then (given e) (prefix_result o) (λ _. Unit {0}) _ (if_ok_any (given e)) (λ x _. prefix_not_under o x)
+      if_ok_after (given e) (prefix_result o) _ (λ x. prefix_not_under o x)
   value_not_under (Binary o a b) =
       if_ok_then (given a) _ (λ v. IsNotUnder (number_of v)) _ (value_not_under a) (λ x first.
-      decided_not_under (is_decided o x) _ _ (if_ok_then (given b) (operator_result o x) (λ _. Unit {0}) _ (if_ok_any (given b)) (λ y _.
-      operator_not_under o x y first)))
+      decided_not_under (is_decided o x) _ _ (if_ok_after (given b) (operator_result o x) _ (λ y. operator_not_under o x y first)))
   value_not_under (Call c place b) =
       call_not_under c _ (bag_between_numbers (place_of b.number (names_of scope.variables)) (place_of b.number scope.inputs))
   value_not_under (Elapsed place) = overflow_not_under (pos nothing_arrived.elapsed)
   value_not_under (Times place e b) =
-      if_ok_then (given e) _ (λ _. Unit {0}) _ (if_ok_any (given e)) (λ x _. natural_not_under _)
+      if_ok_after (given e) _ _ (λ x. natural_not_under _)

@@ -24,7 +24,7 @@ use Rattle.dv_bag.specs.Numbers.{HoldsNumbers}
 use Rattle.dv_bound.specs.Response.{IsNotBelow, greatest_number, hold_response, least_number, low, low_end}
 use Rattle.dv_bound.specs.Response.{ticks_in, within_numbers}
 use Rattle.dv_bound.proofs.Numbers.{name_not_under, not_less, value_not_under}
-use Rattle.dv_bound.proofs.Outcomes.{if_ok_any, if_ok_then}
+use Rattle.dv_accepted.proofs.Outcomes.{if_ok_after, if_ok_then}
 
 -- ---- Variables
 
@@ -93,7 +93,7 @@ module _ (scope : Scope) (s : State)
   value_at_least (Call c place b) = value_not_under scope s numbers (Call c place b)
   value_at_least (Elapsed place) = value_not_under scope s numbers (Elapsed place)
   value_at_least (Times place e b) =
-      if_ok_then (given e) _ (λ _. Unit {0}) _ (if_ok_any (given e)) (λ x _. omega (arith, ints))
+      if_ok_after (given e) _ _ (λ x. omega (arith, ints))
 
   -- a hold that ends is not below its response
   pub hold_not_below : (ticks : Option Expression) → IfOk (hold_of scope ticks s) (λ o. IfSome o (IsNotBelow (hold_response scope ticks)))

@@ -1,10 +1,9 @@
 -- The response of an atomic model, which is its lookahead (Chandy and Misra; Bryant): where an external rule goes to a phase, the
 -- hold that begins there is not below it.
-use Rattle.std.specs.Prelude.{ℕ, ℤ, pos, negsuc, neg_ℤ, ◌+ℤ◌, ◌^◌, ◌-◌, ◌≤◌, int_lt, min, if◌then◌else◌, List, [], ◌∷◌}
-use Rattle.std.specs.Prelude.{◌++◌, fold, map, Option, Some, None}
+use Rattle.std.specs.Prelude.{ℕ, ℤ, pos, negsuc, neg_ℤ, ◌+ℤ◌, ◌^◌, ◌-◌, ◌≤◌, int_lt, min, if◌then◌else◌, List, [], fold, map}
+use Rattle.std.specs.Prelude.{Option, Some, None}
 use Rattle.std.specs.List.{flat_map}
-use Rattle.dv_syntax.specs.Trees.{AtomicTree, RuleTree, Expression, Literal, Named, Parens, Binary, Call, Times, Statements, Done}
-use Rattle.dv_syntax.specs.Trees.{Assign, Goto, Send, If, IfElse, For, Add, Drop}
+use Rattle.dv_syntax.specs.Trees.{AtomicTree, RuleTree, Expression, Literal, Named, Parens, Binary, Call, Times}
 use Rattle.dv_syntax.specs.declared.tree.Operator.TheVariants as operator
 use Rattle.dv_syntax.specs.declared.tree.BagCall.TheVariants as call
 use Rattle.dv_syntax.specs.declared.tree.RuleSort.TheVariants.{External}
@@ -14,6 +13,7 @@ use Rattle.dv_eval.specs.declared.scope.Domain.TheVariants as domain
 use Rattle.dv_bag.specs.declared.response.Response.{Response}
 use Rattle.dv_bag.specs.declared.response.Response.TheVariants as response
 use Rattle.dv_accepted.specs.Fitting.{domain_named}
+use Rattle.dv_accepted.specs.Gotos.{gotos_in}
 
 -- the least and the greatest number of 64 bits
 abbrev pub least_number : ℤ
@@ -59,19 +59,7 @@ sooner None b = b
 sooner (Some a) None = Some a
 sooner (Some a) (Some b) = Some (min a b)
 
--- the names of the phases to which statements go, in the order of the text
-abbrev pub gotos_in : Statements → List ℕ
-gotos_in Done = []
-gotos_in (Assign variable e rest) = gotos_in rest
-gotos_in (Goto place phase rest) = phase.number ∷ gotos_in rest
-gotos_in (Send place port e rest) = gotos_in rest
-gotos_in (If place e block rest) = gotos_in block ++ gotos_in rest
-gotos_in (IfElse place e block other rest) = gotos_in block ++ (gotos_in other ++ gotos_in rest)
-gotos_in (For place v b block rest) = gotos_in block ++ gotos_in rest
-gotos_in (Add place e b rest) = gotos_in rest
-gotos_in (Drop place e b rest) = gotos_in rest
-
--- those of external rules
+-- the names of the phases to which external rules go, in the order of the text
 abbrev pub external_gotos_in : RuleTree → List ℕ
 external_gotos_in r = if same_sort r.sort External then gotos_in r.body else []
 

@@ -9,8 +9,9 @@ use Rattle.dv_syntax.specs.declared.tree.Name.{Name}
 use Rattle.dv_bag.specs.Bag.{Counts, bag_at, capped}
 use Rattle.dv_check.specs.Tree.{tree_of}
 use Rattle.dv_check.specs.declared.limits.TheConstants.{GREATEST_DEPTH}
+use Rattle.dv_check.specs.Accepted.{numbers_of}
 use Rattle.dv_tree.specs.Couplings.{couplings_of_inputs, couplings_of_parts}
-use Rattle.dv_tree.specs.Instances.{Instance, inputs_in, instances, instances_in, numbers, outputs_in, root_inputs, root_of, tree_in}
+use Rattle.dv_tree.specs.Instances.{Instance, inputs_in, instances, instances_in, outputs_in, root_inputs, root_of, tree_in}
 use Rattle.dv_tree.specs.Routing.{arrives, arrives_in_root, arriving, first_bags, from_parts, leaves_root, leaving, to_parts}
 use Rattle.dv_tree.specs.Tables.{LevelTable, level_of, root_table}
 use Rattle.dv_flat.specs.Ends.{input_count, port_at, ports_from}
@@ -65,7 +66,7 @@ all_sent models root = sent_by [] (tree_in models root)
 
 root_arrivals : (models : List ModelTree) (root : Option CoupledTree) →
     Alike (arrivals (instances_in [] (tree_in models root))
-    (arrives_in_root models root (all_sent models root) (replicate (length (numbers (inputs_in root))) one_value)))
+    (arrives_in_root models root (all_sent models root) (replicate (length (numbers_of (inputs_in root))) one_value)))
     (sum (root_ways models root).inputs + (root_ways models root).inside)
 root_arrivals models None = refl
 root_arrivals models (Some m) =
@@ -73,7 +74,7 @@ root_arrivals models (Some m) =
     let parts = tree_ways models t in
     let w = ways_of_model models m parts in
     let sent = sent_by [] t in
-    let n = length (numbers m.inputs) in
+    let n = length (numbers_of m.inputs) in
     let input = replicate n one_value in
     let leaves = leaving models t sent in
     let into = to_parts models m input leaves in
@@ -91,7 +92,7 @@ root_arrivals models (Some m) =
 
 root_left : (models : List ModelTree) (root : Option CoupledTree) →
     sum_by (λ port. copies (bag_at (leaves_root models root (all_sent models root)) port))
-    (range_with_len 0 (length (numbers (outputs_in root))))
+    (range_with_len 0 (length (numbers_of (outputs_in root))))
     ≡ sum (root_ways models root).outputs
 root_left models None = refl
 root_left models (Some m) =
@@ -100,7 +101,7 @@ root_left models (Some m) =
     let w = ways_of_model models m parts in
     let leaves = leaving models t (sent_by [] t) in
     let own = (from_parts models m leaves).own in
-    let n = length (numbers m.outputs) in
+    let n = length (numbers_of m.outputs) in
     let ports = range_with_len 0 n in
     let count = length-map m.outputs (λ (x : Name). x.number) in
     let within =
@@ -127,12 +128,12 @@ links_are_ways f =
 
 -- the root's ways by tables
 ways_by_table : (models : List ModelTree) (root : Option CoupledTree) (l : LevelTable) → Some l ≡ option_map (level_of models) root →
-    coupled_ways (length (numbers (inputs_in root))) l (part_ways (ways_below GREATEST_DEPTH models) l.parts) ≡ root_ways models root
+    coupled_ways (length (numbers_of (inputs_in root))) l (part_ways (ways_below GREATEST_DEPTH models) l.parts) ≡ root_ways models root
 ways_by_table models None l e = absurd (cc)
 ways_by_table models (Some m) l e =
     let same : l ≡ level_of models m = cc in
     let below = ways_below GREATEST_DEPTH models in
-    ap (λ x. coupled_ways (length (numbers m.inputs)) x (part_ways below x.parts)) same
+    ap (λ x. coupled_ways (length (numbers_of m.inputs)) x (part_ways below x.parts)) same
     ∙ (ap (λ n. coupled_ways n (level_of models m) (part_ways below (level_of models m).parts))
     (length-map m.inputs (λ (x : Name). x.number))
     ∙ levels_counted GREATEST_DEPTH models m)

@@ -12,7 +12,8 @@ use Rattle.dv_bag.specs.Bag.{Counts}
 use Rattle.dv_eval.specs.Scope.{scope_of}
 use Rattle.dv_check.specs.Names.{model_named}
 use Rattle.dv_check.specs.Tree.{PartTree, NoParts, AtomicPart, CoupledPart, component_count, parts_by, parts_to, with_part}
-use Rattle.dv_tree.specs.Instances.{Instance, instances_in, numbers}
+use Rattle.dv_check.specs.Accepted.{numbers_of}
+use Rattle.dv_tree.specs.Instances.{Instance, instances_in}
 use Rattle.dv_tree.specs.Couplings.{Shown, couplings_of_inputs, couplings_of_parts, shown_by, shown_of, shown_parts}
 use Rattle.dv_tree.specs.Routing.{along_all, arriving, first_bags, from_parts, leaving, nothing_at, to_parts}
 use Rattle.dv_tree.specs.Tables.{level_of}
@@ -235,7 +236,7 @@ module _ (models : List ModelTree) (inside : CoupledTree → PartTree) where
       one_more (length-quiet (input_count m) ∙ sym (length-replicate {A = ℕ} (input_count m) 1)) h
   covers_part p (Some (CoupledModel m)) shown rest h =
       one_more
-      (length-quiet (length (numbers m.inputs))
+      (length-quiet (length (numbers_of m.inputs))
       ∙ (length-map m.inputs (λ (n : Name). n.number)
       ∙ sym (length-input_ways (length m.inputs) (tree_ways models (inside m)) (couplings_of_inputs models m)))) h
 

@@ -1,11 +1,17 @@
 -- A choice between blocks: where the second one is empty it is none.
-use Rattle.std.proofs.Common.{◌≡◌, ℕ, Bool, true, false, List, [], ◌∷◌, length, refl}
+use Rattle.std.proofs.Common.{◌≡◌, ℕ, Bool, true, false, List, [], ◌∷◌, length, refl, sym, ap, ◌∙◌}
+use Rattle.dv_syntax.specs.declared.tree.Block.{Block}
+use Rattle.dv_syntax.specs.declared.tree.Expr.{Expr}
 use Rattle.dv_syntax.specs.declared.tree.Stmt.{Stmt}
 use Rattle.dv_syntax.specs.declared.tree.Stmt as stmt
-use Rattle.dv_syntax.specs.Trees.{Statements as NamedStatements, row_statements, statement_before, statements_of}
+use Rattle.dv_syntax.specs.Trees.{Statements as NamedStatements, IfElse, block_of, expression_of, row_statements}
+use Rattle.dv_syntax.specs.Trees.{statement_before, statements_of}
+use Rattle.dv_code.specs.declared.instruction.Instruction.{Instruction}
 use Rattle.dv_eval.specs.Scope.{Scope}
+use Rattle.dv_gen.specs.Emission.{with_statements}
 use Rattle.dv_gen.specs.Resolved.{Expression, Statements, Done, Act, Goto, When, If, For}
-use Rattle.dv_gen.specs.Resolution.{all_resolved, choice}
+use Rattle.dv_gen.specs.Resolution.{all_resolved, choice, resolved}
+use Rattle.dv_gen.proofs.Trees.{choice_tree}
 
 abbrev is_done : Statements → Bool
 is_done Done = true
@@ -55,3 +61,18 @@ module _ (scope : Scope) (loops : List ℕ) where
       rest
   choice_of_some e block [] rest some = absurd (some refl)
   choice_of_some e block (s ∷ other) rest some = choice-If e block _ rest (statement-some s (statements_of other))
+
+  -- a program with the code of a choice, whichever statements it comes to
+  pub with_statements-choice : (code : List Instruction) (s : Stmt) (rest : NamedStatements) (place : ℕ) (e : Expr) (block other : Block)
+      (first second : List Stmt) (chosen : Statements) → s ≡ stmt.IfElse place e block other
+      → statement_before (stmt.IfElse place e block other) rest
+      ≡ IfElse place (expression_of e) (block_of block) (block_of other) rest
+      → first ≡ block.statements.items → second ≡ other.statements.items
+      → choice (resolved scope loops (expression_of e)) (all_resolved scope loops (statements_of first))
+      (all_resolved scope loops (statements_of second)) (all_resolved scope loops rest)
+      ≡ chosen
+      → with_statements code chosen ≡ with_statements code (all_resolved scope loops (statement_before s rest))
+  with_statements-choice code s rest place e block other first second chosen is law same_first same_second comes =
+      ap (with_statements code) (sym comes)
+      ∙ ap (λ t. with_statements code (all_resolved scope loops t))
+      (sym (choice_tree s rest place e block other first second is law same_first same_second))

@@ -1,8 +1,9 @@
 -- The effect of what is accepted is the same by places as by names, on a state that fits.
 use Rattle.std.proofs.Common.{◌≡◌, ℕ, ℤ, Bool, true, false, if◌then◌else◌, List, [], ◌∷◌, length, refl, sym, ap, ◌∙◌, Option}
-use Rattle.std.proofs.Common.{Some, None, Result, Ok, IfSome}
+use Rattle.std.proofs.Common.{Some, None, Result, Ok, IfOk, IfSome}
 use Rattle.std.specs.List.{All}
 use Rattle.std.proofs.lemmas.Bool.{lt-ltb}
+use Rattle.std.proofs.lemmas.Result.{IfOk-at_ok}
 use Rattle.dv_syntax.specs.Trees.{AtomicTree, HoldTree, RuleTree, Expression as NamedExpression, Statements as NamedStatements}
 use Rattle.dv_syntax.specs.Trees.{Done as Ended, Assign, Goto as GoTo, Send, If as IfOnly, IfElse, For as Each, Add as AddTo}
 use Rattle.dv_syntax.specs.Trees.{Drop}
@@ -25,9 +26,10 @@ use Rattle.dv_check.specs.declared.declarations.NameSort.{NameSort}
 use Rattle.dv_check.specs.Rules.{atomic_refusals, known_in, known_in_rule, statements_refusals}
 use Rattle.dv_check.specs.Types.{Known, place_refusals, type_of_name, value_refusals}
 use Rattle.dv_accepted.specs.Fitting.{context_within, fits, is_of_type, known_within}
-use Rattle.dv_accepted.proofs.Effects.{Fits, addition_at_fits, assignment_at_fits, goto_fits, removal_at_fits, run_fits}
-use Rattle.dv_accepted.proofs.Effects.{same_fits, sending_fits, walk_fits}
+use Rattle.dv_accepted.proofs.Effects.{Fits, fits_kept, goto_fits, run_fits}
 use Rattle.dv_accepted.proofs.Fitting.{HasPlace}
+use Rattle.dv_accepted.proofs.Keeping.{Keeps, repetition_keeps, sending_keeps}
+use Rattle.dv_accepted.proofs.Outcomes.{if_ok_branch}
 use Rattle.dv_accepted.proofs.Typed.{place_typed}
 use Rattle.dv_code.specs.Machine.{first_effect}
 use Rattle.dv_code.specs.Operations.{action_effect}
@@ -100,22 +102,16 @@ branch_agrees : (b : Bool) (one two first second : Result Effect Fault) → one 
 branch_agrees true one two first second same same_other = same
 branch_agrees false one two first second same same_other = same_other
 
--- what follows from either branch
-after_branch : (b : Bool) (first second : Result Effect Fault) (next : Effect) (P : Type 0)
-    → (first ≡ Ok next → P) → (second ≡ Ok next → P) → (if b then first else second) ≡ Ok next → P
-after_branch true first second next P later later_other is = later is
-after_branch false first second next P later later_other is = later_other is
-
 -- the same steps for each of some values
 walk_agrees : (scope : Scope) (step named : ℤ → Effect → Result Effect Fault) (ns : List ℤ) (e : Effect)
     → ((n : ℤ) (now : Effect) → Fits scope now → step n now ≡ named n now)
-    → ((n : ℤ) (now later : Effect) → Fits scope now → named n now ≡ Ok later → Fits scope later)
+    → ((n : ℤ) (now : Effect) → Fits scope now → IfOk (named n now) (Fits scope))
     → Fits scope e → for_each step ns e ≡ repetition named ns e
 walk_agrees scope step named [] e same keeps fit = refl
 walk_agrees scope step named (n ∷ ns) e same keeps fit =
     ap (λ r. r >>= for_each step ns) (same n e fit)
     ∙ bind_agrees (named n e) (for_each step ns) (repetition named ns) (λ next is.
-    walk_agrees scope step named ns next same keeps (keeps n e next fit is))
+    walk_agrees scope step named ns next same keeps (IfOk-at_ok (Fits scope) is (keeps n e fit)))
 
 -- an empty second block is none
 choice_effect : (shape : Shape) (arrivals : Arrivals) (items : List ℤ) (condition : Expression) (block other rest : Statements) (e : Effect)
@@ -141,6 +137,10 @@ module _ (m : AtomicTree) (none : atomic_refusals m ≡ []) (s : RuleSort) (arri
   abbrev by_names : List (Name × ℤ) → NamedStatements → Effect → Result Effect Fault
   by_names bound body = run (scope_of m) (context_within arrivals bound) body
 
+  -- what statements keep
+  kept : Keeps (scope_of m) (λ phase. Unit {0}) (Fits (scope_of m))
+  kept = fits_kept (scope_of m)
+
   module _ (bound : List (Name × ℤ)) (e : Effect) (fit : Fits (scope_of m) e) where
     abbrev value_by_names : NamedExpression → Result Value Fault
     value_by_names x = value_within (scope_of m) (context_within arrivals bound) e x
@@ -151,28 +151,29 @@ module _ (m : AtomicTree) (none : atomic_refusals m ≡ []) (s : RuleSort) (arri
     -- the same value, something that is done alike with each value of its type, and what follows
     value_follows : (t : ValueType) (x : NamedExpression) (f g : Value → Result Effect Fault) (go on : Effect → Result Effect Fault)
         → place_refusals t (known bound) x ≡ [] → ((v : Value) → is_of_type t v ≡ true → f v ≡ g v)
-        → ((v : Value) (next : Effect) → g v ≡ Ok next → go next ≡ on next)
+        → ((v : Value) → IfOk (g v) (Fits (scope_of m))) → ((next : Effect) → Fits (scope_of m) next → go next ≡ on next)
         → (value_of arrivals (items_within bound) e.state (resolved (scope_of m) (loops_of bound) x) >>= λ v. f v >>= go)
         ≡ (value_by_names x >>= λ v. g v >>= on)
-    value_follows t x f g go on accepted step later =
+    value_follows t x f g go on accepted step fits later =
         let typed = place_typed (known bound) t x accepted in
         ap (λ r. r >>= λ v. f v >>= go) (value_agrees m none (Some s) arrivals bound e.state fit.state x t typed)
         ∙ bind_agrees (value_by_names x) _ _ (λ v is.
         ap (λ r. r >>= go) (step v (gives_type m none (Some s) arrivals bound e.state fit.state x t typed v is))
-        ∙ bind_agrees (g v) go on (later v))
+        ∙ bind_agrees (g v) go on (λ next gave. later next (IfOk-at_ok (Fits (scope_of m)) gave (fits v))))
 
     -- a condition, and a block for each of its two values
     choice_follows : (x : NamedExpression) (one two first second : Result Effect Fault) (go on : Effect → Result Effect Fault)
         → place_refusals Truth (known bound) x ≡ [] → one ≡ first → two ≡ second
-        → ((next : Effect) → first ≡ Ok next → go next ≡ on next) → ((next : Effect) → second ≡ Ok next → go next ≡ on next)
+        → IfOk first (Fits (scope_of m)) → IfOk second (Fits (scope_of m))
+        → ((next : Effect) → Fits (scope_of m) next → go next ≡ on next)
         → (value_of arrivals (items_within bound) e.state (resolved (scope_of m) (loops_of bound) x)
         >>= λ v. (if truth_of v then one else two) >>= go)
         ≡ (value_by_names x >>= λ v. (if truth_in_text v then first else second) >>= on)
-    choice_follows x one two first second go on accepted same same_other later later_other =
+    choice_follows x one two first second go on accepted same same_other fits fits_other later =
         value_follows Truth x (λ v. if truth_of v then one else two) (λ v. if truth_in_text v then first else second) go on accepted
         (λ v is. on_truth (λ y. if truth_of y then one else two) (λ y. if truth_in_text y then first else second) v is
         (λ b. branch_agrees b one two first second same same_other))
-        (λ v next is. after_branch (truth_in_text v) first second next (go next ≡ on next) (later next) (later_other next) is)
+        (λ v. if_ok_branch (truth_in_text v) first second (Fits (scope_of m)) fits fits_other) later
 
   effects_agree : (bound : List (Name × ℤ)) (body : NamedStatements) → statements_refusals (known bound) body ≡ [] → (e : Effect)
       → Fits (scope_of m) e → by_places bound body e ≡ by_names bound body e
@@ -186,8 +187,7 @@ module _ (m : AtomicTree) (none : atomic_refusals m ≡ []) (s : RuleSort) (arri
       let value = ap (λ o. value_refusals o k x) (sym type.1) ∙ parts.value in
       value_follows bound e fit type.0 x _ (λ v. assignment (scope_of m) n.number v e) (by_places bound rest) (by_names bound rest) value
       (λ v is. assignment_agrees (scope_of m) s e fit n.number (loops_of bound) type.0 v target.0 type.1 is)
-      (λ v next is. effects_agree bound rest parts.rest next
-      (assignment_at_fits (scope_of m) (place_of n.number (names_of (scope_of m).variables)) v e next fit is))
+      (λ v. kept.assigned n.number v e fit) (effects_agree bound rest parts.rest)
   effects_agree bound (GoTo place phase rest) accepted e fit =
       let parts = accepted_goto (known bound) place phase rest accepted in
       let there = (knows_within m none (Some s) bound).phase phase.number parts.there in
@@ -200,15 +200,14 @@ module _ (m : AtomicTree) (none : atomic_refusals m ≡ []) (s : RuleSort) (arri
       let there = sent_port_stands (scope_of m) (loops_of bound) port.number (k.sort port.number) port.place stands_for parts.target in
       value_follows bound e fit Number x _ (λ v. sending (scope_of m) port.number v e) (by_places bound rest) (by_names bound rest)
       parts.value (λ v is. sending_agrees (scope_of m) s e fit port.number v there is)
-      (λ v next is. effects_agree bound rest parts.rest next
-      (sending_fits (scope_of m) _ (place_of port.number (scope_of m).outputs) (number_of v) e next fit is))
+      (λ v. sending_keeps (scope_of m) (λ phase. Unit {0}) (Fits (scope_of m)) kept port.number v e fit)
+      (effects_agree bound rest parts.rest)
   effects_agree bound (IfOnly place x block rest) accepted e fit =
       let parts = accepted_if (known bound) place x block rest accepted in
       let context = context_within arrivals bound in
       choice_follows bound e fit x (by_places bound block e) (Ok e) (by_names bound block e) (Ok e)
       (by_places bound rest) (by_names bound rest) parts.condition (effects_agree bound block parts.first e fit) refl
-      (λ next is. effects_agree bound rest parts.rest next (run_fits (scope_of m) context block e next fit is))
-      (λ next is. effects_agree bound rest parts.rest next (same_fits (scope_of m) e next fit is))
+      (run_fits (scope_of m) context block e fit) fit (effects_agree bound rest parts.rest)
   effects_agree bound (IfElse place x block other rest) accepted e fit =
       let parts = accepted_if_else (known bound) place x block other rest accepted in
       let context = context_within arrivals bound in
@@ -218,20 +217,20 @@ module _ (m : AtomicTree) (none : atomic_refusals m ≡ []) (s : RuleSort) (arri
       ∙ choice_follows bound e fit x (by_places bound block e) (by_places bound other e) (by_names bound block e) (by_names bound other e)
       (by_places bound rest) (by_names bound rest) parts.condition (effects_agree bound block parts.first e fit)
       (effects_agree bound other parts.second e fit)
-      (λ next is. effects_agree bound rest parts.rest next (run_fits (scope_of m) context block e next fit is))
-      (λ next is. effects_agree bound rest parts.rest next (run_fits (scope_of m) context other e next fit is))
+      (run_fits (scope_of m) context block e fit) (run_fits (scope_of m) context other e fit) (effects_agree bound rest parts.rest)
   effects_agree bound (Each place v b block rest) accepted e fit =
       let parts = accepted_loop (known bound) place v b block rest accepted in
       let bag = bag_agrees m none (Some s) arrivals bound e.state fit.state b.number parts.readable in
       let values = values_of (bag_of_name (scope_of m) (moment_in (context_within arrivals bound) e.state) b.number) in
       let step = λ (n : ℤ). by_places ((v, n) ∷ bound) block in
       let named = λ (n : ℤ). by_names ((v, n) ∷ bound) block in
-      let keeps = λ (n : ℤ) (now next : Effect). run_fits (scope_of m) (context_within arrivals ((v, n) ∷ bound)) block now next in
+      let keeps = λ (n : ℤ) (now : Effect). run_fits (scope_of m) (context_within arrivals ((v, n) ∷ bound)) block now in
       let same = walk_agrees (scope_of m) step named values e (λ n now. effects_agree ((v, n) ∷ bound) block parts.inside now) keeps fit in
       ap (λ o. for_each step (values_in o) e >>= by_places bound rest) bag
       ∙ (ap (λ r. r >>= by_places bound rest) same
       ∙ bind_agrees (repetition named values e) (by_places bound rest) (by_names bound rest) (λ next is.
-      effects_agree bound rest parts.rest next (walk_fits (scope_of m) named values e next keeps fit is)))
+      effects_agree bound rest parts.rest next
+      (IfOk-at_ok (Fits (scope_of m)) is (repetition_keeps (Fits (scope_of m)) named values e keeps fit))))
   effects_agree bound (AddTo place x b rest) accepted e fit =
       let k = known bound in
       let parts = accepted_change k place x b rest accepted in
@@ -239,8 +238,7 @@ module _ (m : AtomicTree) (none : atomic_refusals m ≡ []) (s : RuleSort) (arri
       let bag = changed_bag_stands (scope_of m) (loops_of bound) b.number (k.sort b.number) b.place stands_for parts.bag in
       value_follows bound e fit Number x _ (λ v. addition (scope_of m) b.number (number_of v) e)
       (by_places bound rest) (by_names bound rest) parts.value (λ v is. addition_agrees (scope_of m) s e fit b.number v bag is)
-      (λ v next is. effects_agree bound rest parts.rest next
-      (addition_at_fits (scope_of m) (place_of b.number (names_of (scope_of m).variables)) (number_of v) e next fit is))
+      (λ v. kept.added b.number (number_of v) e fit) (effects_agree bound rest parts.rest)
   effects_agree bound (Drop place x b rest) accepted e fit =
       let k = known bound in
       let parts = accepted_change k place x b rest accepted in
@@ -248,9 +246,7 @@ module _ (m : AtomicTree) (none : atomic_refusals m ≡ []) (s : RuleSort) (arri
       let bag = changed_bag_stands (scope_of m) (loops_of bound) b.number (k.sort b.number) b.place stands_for parts.bag in
       value_follows bound e fit Number x _ (λ v. Ok (removal (scope_of m) b.number (number_of v) e))
       (by_places bound rest) (by_names bound rest) parts.value (λ v is. removal_agrees (scope_of m) s e fit b.number v bag is)
-      (λ v next is. effects_agree bound rest parts.rest next
-      (same_fits (scope_of m) (removal (scope_of m) b.number (number_of v) e) next
-      (removal_at_fits (scope_of m) (place_of b.number (names_of (scope_of m).variables)) (number_of v) e fit) is))
+      (λ v. kept.removed b.number (number_of v) e fit) (effects_agree bound rest parts.rest)
 
 -- ---- Rules and holds
 

@@ -1,5 +1,6 @@
 -- The value of what is accepted is the same by places as by names, in a state that fits.
 use Rattle.std.proofs.Common.{◌≡◌, ℕ, ℤ, pos, true, ◌&&◌, List, [], refl, ap, ◌∙◌, Option, Some, None, Result, Ok}
+use Rattle.std.proofs.lemmas.Result.{IfOk-at_ok}
 use Rattle.dv_syntax.specs.Trees.{AtomicTree, Expression as NamedExpression, Literal, TruthValue, Named, Parens, Prefixed, Binary}
 use Rattle.dv_syntax.specs.Trees.{Call, Elapsed, Times}
 use Rattle.dv_syntax.specs.declared.tree.Name.{Name}
@@ -24,7 +25,7 @@ use Rattle.dv_check.specs.Rules.{atomic_refusals, known_in, known_in_rule}
 use Rattle.dv_check.specs.Types.{Known, is_bag, is_of, type_of_name, type_of as type_in_text}
 use Rattle.dv_accepted.specs.Fitting.{context_within, fits_in, known_within}
 use Rattle.dv_accepted.proofs.Fitting.{both_true}
-use Rattle.dv_accepted.proofs.Typed.{value_typed}
+use Rattle.dv_accepted.proofs.Typed.{OfType, value_typed}
 use Rattle.dv_code.specs.Operations.{bag_of, leaf_value, of_bag, unary_value}
 use Rattle.dv_code.specs.declared.instruction.Unary.TheVariants as unary
 use Rattle.dv_gen.specs.Resolution.{leaf_of, resolved, source_of}
@@ -88,7 +89,7 @@ module _ (m : AtomicTree) (none : atomic_refusals m ≡ []) (rule : Option RuleS
   by_places e = value_of arrivals (items_within bound) s (resolved (scope_of m) (loops_of bound) e)
 
   pub gives_type : (e : NamedExpression) (t : ValueType) → type_in_text known e ≡ Some t → GivesType t (by_names e)
-  gives_type e t typed v is = value_typed m rule arrivals bound s fit e t v typed is
+  gives_type e t typed v is = IfOk-at_ok (OfType t) is (value_typed m rule arrivals bound s fit e t typed)
 
   pub bag_agrees : (q : ℕ) → is_bag known.rule (known.sort q) ≡ true
       → bag_of arrivals s (source_of (scope_of m) q) ≡ Some (bag_of_name (scope_of m) (moment_in (context_within arrivals bound) s) q)

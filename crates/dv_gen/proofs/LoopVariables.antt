@@ -1,5 +1,6 @@
 -- The variables of the loops around, by name and by number.
-use Rattle.std.proofs.Common.{◌≡◌, ℕ, ◌<◌, ◌==◌, ℤ, Bool, true, false, if◌then◌else◌, List, [], ◌∷◌, length, refl, Option, Some, None, Ok, arith}
+use Rattle.std.proofs.Common.{◌≡◌, ℕ, ◌<◌, ◌==◌, ℤ, Bool, true, false, if◌then◌else◌, List, [], ◌∷◌, length, refl, Option, Some}
+use Rattle.std.proofs.Common.{None, Ok, arith}
 use Rattle.std.proofs.lemmas.Bool.{eq-eqb, ne_eqb}
 use Rattle.dv_syntax.specs.Trees.{AtomicTree}
 use Rattle.dv_syntax.specs.declared.tree.Name.{Name}

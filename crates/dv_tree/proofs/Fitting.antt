@@ -11,7 +11,7 @@ use Rattle.dv_syntax.specs.declared.tree.Link.{Link}
 use Rattle.dv_eval.specs.Scope.{scope_of, place_of}
 use Rattle.dv_check.specs.Names.{model_named}
 use Rattle.dv_check.specs.Tree.{PartTree, NoParts, AtomicPart, CoupledPart, with_part, parts_by, parts_to}
-use Rattle.dv_tree.specs.Instances.{numbers}
+use Rattle.dv_check.specs.Accepted.{numbers_of}
 use Rattle.dv_tree.specs.Couplings.{Shown, shown_by, shown_of, shown_parts, place_in, place_at, source_of, target_of}
 use Rattle.dv_tree.specs.Couplings.{placed_between, placed_link, placed_links, coupling_from_own, coupling_from_part}
 use Rattle.dv_tree.specs.Couplings.{part_couplings, couplings_of_inputs, couplings_of_parts}
@@ -132,19 +132,19 @@ abbrev outputs_shown : List ModelTree → List Part → List (List ℕ)
 outputs_shown models parts = map (λ (s : Shown). s.outputs) (filter_map (shown_of models) parts)
 
 link_begins : (models : List ModelTree) (m : CoupledTree) (l : Link) →
-    Begins (numbers m.inputs) (map (λ (s : Shown). s.name) (shown_parts models m)) (outputs_shown models m.parts)
+    Begins (numbers_of m.inputs) (map (λ (s : Shown). s.name) (shown_parts models m)) (outputs_shown models m.parts)
     (source_of m (shown_parts models m) l.from)
 link_begins models m l =
-    begins (numbers m.inputs) (map (λ (s : Shown). s.name) (shown_parts models m)) (outputs_shown models m.parts) l.from.part
+    begins (numbers_of m.inputs) (map (λ (s : Shown). s.name) (shown_parts models m)) (outputs_shown models m.parts) l.from.part
     l.from.port.number
 
 -- the couplings from a model's own inputs begin at ports that it has
 pub own_begin : (models : List ModelTree) (m : CoupledTree) →
-    AllByRecursion (λ (c : Coupling). c.port < length (numbers m.inputs)) (couplings_of_inputs models m)
+    AllByRecursion (λ (c : Coupling). c.port < length (numbers_of m.inputs)) (couplings_of_inputs models m)
 own_begin models m =
     let IsOwn : PlacedLink → Type 0 =
-    λ l. IfSome (coupling_from_own l.from l.to) (λ (c : Coupling). c.port < length (numbers m.inputs)) in
-    all_made (λ (c : Coupling). c.port < length (numbers m.inputs)) (λ (l : PlacedLink). coupling_from_own l.from l.to)
+    λ l. IfSome (coupling_from_own l.from l.to) (λ (c : Coupling). c.port < length (numbers_of m.inputs)) in
+    all_made (λ (c : Coupling). c.port < length (numbers_of m.inputs)) (λ (l : PlacedLink). coupling_from_own l.from l.to)
     (placed_links models m)
     (all_made IsOwn (placed_link m (shown_parts models m)) m.links
     (all_items (λ l. IfSome (placed_link m (shown_parts models m) l) IsOwn)

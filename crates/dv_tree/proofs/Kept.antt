@@ -13,7 +13,8 @@ use Rattle.dv_eval.specs.Scope.{scope_of}
 use Rattle.dv_bag.specs.Bag.{Counts, bag_at, union}
 use Rattle.dv_check.specs.Tree.{PartTree, NoParts, AtomicPart, CoupledPart, component_count, tree_of}
 use Rattle.dv_check.specs.declared.limits.TheConstants.{GREATEST_DEPTH}
-use Rattle.dv_tree.specs.Instances.{Instance, instances_in, instances, root_of, root_inputs, tree_in, inputs_in, numbers}
+use Rattle.dv_check.specs.Accepted.{numbers_of}
+use Rattle.dv_tree.specs.Instances.{Instance, instances_in, instances, root_of, root_inputs, tree_in, inputs_in}
 use Rattle.dv_tree.specs.Couplings.{couplings_of_inputs, couplings_of_parts}
 use Rattle.dv_tree.specs.Routing.{Arrived, with_values, with_coupling, along, along_all, nothing_at, from_parts, to_parts}
 use Rattle.dv_tree.specs.Routing.{first_bags, leaving, arriving, leaves_root, arrives_in_root, leaves, arrives}
@@ -218,7 +219,7 @@ module _ {W : Type 0} (R : (W → Counts) → Type 0) (none : R (λ w. []))
       (alike_from models m (tree_of models m) sent fits.ports fits.inside (sent_in [] (tree_of models m) sent h)).holds (Own port)
 
   root_arrives_kept : (models : List ModelTree) (root : Option CoupledTree) (sent : W → List (List Counts)) (input : W → List Counts) →
-      AtOutputs R (instances_in [] (tree_in models root)) sent → AtPorts R (length (numbers (inputs_in root))) input →
+      AtOutputs R (instances_in [] (tree_in models root)) sent → AtPorts R (length (numbers_of (inputs_in root))) input →
       AtAllPorts R (λ w. arrives_in_root models root (sent w) (input w))
   root_arrives_kept models None sent input h comes k port = none
   root_arrives_kept models (Some m) sent input h comes k port =
@@ -227,7 +228,7 @@ module _ {W : Type 0} (R : (W → Counts) → Type 0) (none : R (λ w. []))
       let s = sent_in [] t sent h in
       arriving_kept models t (λ w. to_parts models m (input w) (leaving models t (sent w))) sent fits.inside
       (alike_to models m t sent input fits.ports fits.inside s
-      (first_carried R (length (numbers m.inputs)) input comes (couplings_of_inputs models m) (own_begin models m))) s k port
+      (first_carried R (length (numbers_of m.inputs)) input comes (couplings_of_inputs models m) (own_begin models m))) s k port
 
   -- a relation that holds at the components' outputs holds at the root's outputs
   pub leaves_kept : (f : FileTree) (sent : W → List (List Counts)) → AtOutputs R (instances f) sent → (port : ℕ) →

@@ -14,12 +14,12 @@ use Rattle.dv_syntax.specs.declared.tree.Part.{Part}
 use Rattle.dv_syntax.specs.declared.tree.Link.{Link}
 use Rattle.dv_eval.specs.Scope.{place_of}
 use Rattle.dv_bag.specs.Bag.{Counts, bag_at, total}
-use Rattle.dv_check.specs.Accepted.{IsAcceptedCoupled, IsAcceptedFile, IsAcceptedModel, LeadsOn}
+use Rattle.dv_check.specs.Accepted.{IsAcceptedCoupled, IsAcceptedFile, IsAcceptedModel, LeadsOn, numbers_of}
 use Rattle.dv_check.specs.Couplings.{same_part}
 use Rattle.dv_check.specs.Names.{model_named, name_of_model}
 use Rattle.dv_check.specs.Tree.{PartTree, NoParts, AtomicPart, CoupledPart, component_count, parts_by, parts_to, tree_of, with_part}
 use Rattle.dv_check.specs.declared.limits.TheConstants.{GREATEST_DEPTH}
-use Rattle.dv_tree.specs.Instances.{coupled_model, numbers, root_of}
+use Rattle.dv_tree.specs.Instances.{coupled_model, root_of}
 use Rattle.dv_tree.specs.Couplings.{Shown, coupling_from_part, couplings_of_inputs, couplings_of_parts, part_couplings, place_at}
 use Rattle.dv_tree.specs.Couplings.{place_in, placed_between, placed_link, placed_links, shown_parts}
 use Rattle.dv_tree.specs.Routing.{Arrived, along, along_all, arrives, arrives_in_root, arriving, first_bags, from_parts}
@@ -163,7 +163,7 @@ module _ (models : List ModelTree) (m : CoupledTree) where
   unfolding LeadsAway
   links_away j [] h = tt
   links_away j (l ∷ links) h = (
-    away_link names_shown j (numbers m.inputs) (numbers m.outputs) (map (λ (s : Shown). s.inputs) (shown_parts models m))
+    away_link names_shown j (numbers_of m.inputs) (numbers_of m.outputs) (map (λ (s : Shown). s.inputs) (shown_parts models m))
         (map (λ (s : Shown). s.outputs) (shown_parts models m)) l.from.part l.to.part l.from.port.number l.to.port.number h.0.onward,
     links_away j links h.1,
   )

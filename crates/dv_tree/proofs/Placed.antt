@@ -9,9 +9,9 @@ use Rattle.dv_syntax.specs.Trees.{ModelTree, AtomicModel, CoupledModel, CoupledT
 use Rattle.dv_syntax.specs.declared.tree.Part.{Part}
 use Rattle.dv_syntax.specs.declared.tree.Link.{Link}
 use Rattle.dv_eval.specs.Scope.{place_of}
-use Rattle.dv_check.specs.Accepted.{shown_inputs, shown_outputs}
+use Rattle.dv_check.specs.Accepted.{numbers_of, shown_inputs, shown_outputs}
 use Rattle.dv_check.specs.Names.{name_of_model, model_named}
-use Rattle.dv_tree.specs.Instances.{numbers, coupled_model}
+use Rattle.dv_tree.specs.Instances.{coupled_model}
 use Rattle.dv_tree.specs.Couplings.{Shown, shown_by, shown_of, shown_parts, part_couplings, own_couplings}
 use Rattle.dv_tree.specs.Couplings.{placed_links}
 use Rattle.dv_tree.specs.Tables.{model_names, entry_at, entry_of, entries_of, entry_names, ports_at, placed_by, links_by}
@@ -83,8 +83,8 @@ links_made : (models : List ModelTree) (m : CoupledTree) →
     links_by (map shown_inputs models) (map shown_outputs models) (entries_of models m) m ≡ placed_links models m
 links_made models m =
     let h = shown_as models m.parts in
-    let inputs = numbers m.inputs in
-    let outputs = numbers m.outputs in
+    let inputs = numbers_of m.inputs in
+    let outputs = numbers_of m.outputs in
     ap (λ xs. filter_map (placed_by inputs outputs xs (ports_at (map shown_inputs models) (entries_of models m))
     (ports_at (map shown_outputs models) (entries_of models m))) m.links) (sym h.names)
     ∙ (ap (λ xs. filter_map (placed_by inputs outputs (map (λ (s : Shown). s.name) (shown_parts models m)) xs
@@ -173,13 +173,13 @@ root_made f = root_at f.models (is_placed f.root.number f.models)
 -- the links of a coupled model, from tables that are equal to these
 pub links_from : (inputs outputs : List (List ℕ)) (entries : List Entry) (m : CoupledTree) (own_inputs own_outputs names : List ℕ)
     (links : List Link) →
-    own_inputs ≡ numbers m.inputs → own_outputs ≡ numbers m.outputs → names ≡ entry_names entries → links ≡ m.links →
+    own_inputs ≡ numbers_of m.inputs → own_outputs ≡ numbers_of m.outputs → names ≡ entry_names entries → links ≡ m.links →
     filter_map (placed_by own_inputs own_outputs names (ports_at inputs entries)
     (ports_at outputs entries)) links ≡ links_by inputs outputs entries m
 links_from inputs outputs entries m own_inputs own_outputs names links a b c d =
     ap (λ x. filter_map (placed_by x own_outputs names (ports_at inputs entries) (ports_at outputs entries)) links) a
-    ∙ (ap (λ x. filter_map (placed_by (numbers m.inputs) x names (ports_at inputs entries) (ports_at outputs entries)) links) b
-    ∙ (ap (λ x. filter_map (placed_by (numbers m.inputs) (numbers m.outputs) x (ports_at inputs entries)
+    ∙ (ap (λ x. filter_map (placed_by (numbers_of m.inputs) x names (ports_at inputs entries) (ports_at outputs entries)) links) b
+    ∙ (ap (λ x. filter_map (placed_by (numbers_of m.inputs) (numbers_of m.outputs) x (ports_at inputs entries)
     (ports_at outputs entries)) links) c
-    ∙ ap (filter_map (placed_by (numbers m.inputs) (numbers m.outputs) (entry_names entries) (ports_at inputs entries)
+    ∙ ap (filter_map (placed_by (numbers_of m.inputs) (numbers_of m.outputs) (entry_names entries) (ports_at inputs entries)
     (ports_at outputs entries))) d))

@@ -7,9 +7,8 @@ use Rattle.dv_syntax.specs.declared.tree.Part.{Part}
 use Rattle.dv_syntax.specs.declared.tree.Link.{Link}
 use Rattle.dv_syntax.specs.declared.tree.End.{End}
 use Rattle.dv_eval.specs.Scope.{place_of}
-use Rattle.dv_check.specs.Accepted.{shown_inputs, shown_outputs}
+use Rattle.dv_check.specs.Accepted.{numbers_of, shown_inputs, shown_outputs}
 use Rattle.dv_check.specs.Names.{model_named}
-use Rattle.dv_tree.specs.Instances.{numbers}
 use Rattle.dv_tree.specs.declared.couplings.Target.{Target}
 use Rattle.dv_tree.specs.declared.couplings.Target.TheVariants.{Own, OfPart}
 use Rattle.dv_tree.specs.declared.couplings.Coupling.{Coupling}
@@ -44,11 +43,11 @@ place_at own parts ports (Some part) port = place_in ports port (place_of part.n
 -- where a link begins, at an input of the model itself or an output of a part, and where it ends
 abbrev pub source_of : CoupledTree → List Shown → End → Option Target
 source_of m parts e =
-    place_at (numbers m.inputs) (map (λ (s : Shown). s.name) parts) (map (λ (s : Shown). s.outputs) parts) e.part e.port.number
+    place_at (numbers_of m.inputs) (map (λ (s : Shown). s.name) parts) (map (λ (s : Shown). s.outputs) parts) e.part e.port.number
 
 abbrev pub target_of : CoupledTree → List Shown → End → Option Target
 target_of m parts e =
-    place_at (numbers m.outputs) (map (λ (s : Shown). s.name) parts) (map (λ (s : Shown). s.inputs) parts) e.part e.port.number
+    place_at (numbers_of m.outputs) (map (λ (s : Shown). s.name) parts) (map (λ (s : Shown). s.inputs) parts) e.part e.port.number
 
 -- a link, where both of its ends have a place
 abbrev pub placed_between : Option Target → Option Target → Option PlacedLink

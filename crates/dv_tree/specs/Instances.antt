@@ -1,10 +1,11 @@
 -- The components of a text: the atomic models in the tree of its root, in the order of the text, those of a coupled part in its
 -- place.
-use Rattle.std.specs.Prelude.{ℕ, List, [], ◌∷◌, ◌++◌, map, Option, Some, None}
+use Rattle.std.specs.Prelude.{ℕ, List, [], ◌∷◌, ◌++◌, Option, Some, None}
 use Rattle.dv_syntax.specs.Trees.{ModelTree, CoupledModel, AtomicTree, CoupledTree, FileTree}
 use Rattle.dv_syntax.specs.declared.tree.Name.{Name}
 use Rattle.dv_check.specs.Names.{model_named}
 use Rattle.dv_check.specs.Tree.{PartTree, NoParts, AtomicPart, CoupledPart, tree_of}
+use Rattle.dv_check.specs.Accepted.{numbers_of}
 
 -- a component: the names of the parts that lead to it from below the root, and its model
 pub record Instance : Type 0 where
@@ -38,9 +39,6 @@ root_tree f = tree_in f.models (root_of f)
 abbrev pub instances : FileTree → List Instance
 instances f = instances_in [] (root_tree f)
 
-abbrev pub numbers : List Name → List ℕ
-numbers names = map (λ (n : Name). n.number) names
-
 abbrev pub inputs_in : Option CoupledTree → List Name
 inputs_in None = []
 inputs_in (Some m) = m.inputs
@@ -51,8 +49,8 @@ outputs_in (Some m) = m.outputs
 
 -- the names of the root's input ports
 abbrev pub root_inputs : FileTree → List ℕ
-root_inputs f = numbers (inputs_in (root_of f))
+root_inputs f = numbers_of (inputs_in (root_of f))
 
 -- the names of the root's output ports
 abbrev pub root_outputs : FileTree → List ℕ
-root_outputs f = numbers (outputs_in (root_of f))
+root_outputs f = numbers_of (outputs_in (root_of f))

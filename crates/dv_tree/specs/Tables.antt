@@ -10,8 +10,9 @@ use Rattle.dv_syntax.specs.declared.tree.Part.{Part}
 use Rattle.dv_syntax.specs.Trees.{ModelTree, AtomicModel, CoupledModel, CoupledTree, FileTree}
 use Rattle.dv_eval.specs.Scope.{Scope, scope_of, nothing_declared, place_of}
 use Rattle.dv_check.specs.Names.{name_of_model}
+use Rattle.dv_check.specs.Accepted.{numbers_of}
 use Rattle.dv_syntax.specs.declared.tree.Link.{Link}
-use Rattle.dv_tree.specs.Instances.{numbers, root_of}
+use Rattle.dv_tree.specs.Instances.{root_of}
 use Rattle.dv_tree.specs.Couplings.{Shown, shown_parts, place_at, placed_between, own_couplings, part_couplings}
 use Rattle.dv_tree.specs.Couplings.{couplings_of_inputs, couplings_of_parts}
 use Rattle.dv_tree.specs.declared.couplings.PlacedLink.{PlacedLink}
@@ -108,7 +109,7 @@ placed_by inputs outputs names part_inputs part_outputs l =
 
 abbrev pub links_by : List (List ℕ) → List (List ℕ) → List Entry → CoupledTree → List PlacedLink
 links_by inputs outputs entries m =
-    filter_map (placed_by (numbers m.inputs) (numbers m.outputs) (entry_names entries) (ports_at inputs entries)
+    filter_map (placed_by (numbers_of m.inputs) (numbers_of m.outputs) (entry_names entries) (ports_at inputs entries)
     (ports_at outputs entries)) m.links
 
 abbrev pub level_with : List (List ℕ) → List (List ℕ) → List Entry → CoupledTree → LevelTable

@@ -4,8 +4,8 @@ ghost use Rattle.std.specs.Prelude.{◌≡◌, map, option_map, Some, IfOk};
 ghost use Rattle.std.specs.Option.{option_copied};
 ghost use Rattle.dv_syntax.specs.Trees.{coupled_of, file_of, model_of};
 ghost use Rattle.dv_check.specs.Names.{name_of_model};
-ghost use Rattle.dv_check.specs.Accepted.{shown_inputs, shown_outputs};
-ghost use Rattle.dv_tree.specs.Instances.{coupled_model, inputs_in, numbers, outputs_in, root_of};
+ghost use Rattle.dv_check.specs.Accepted.{numbers_of, shown_inputs, shown_outputs};
+ghost use Rattle.dv_tree.specs.Instances.{coupled_model, inputs_in, outputs_in, root_of};
 ghost use Rattle.dv_tree.specs.Tables.{model_names, scope_of_model};
 
 use crate::places::Places;
@@ -55,7 +55,7 @@ fn scope_of(alloc: Global, model: &Model) -> Result<Scope, AllocError>
 
 /// The numbers of names.
 pub(crate) fn numbers(alloc: Global, names: &[Name]) -> Result<Vec<u32>, AllocError>
-    ensures { IfOk result (λ found. found.items ≡ numbers names.now) }
+    ensures { IfOk result (λ found. found.items ≡ numbers_of names.now) }
 {
     names.iter().map(|name| name.number).collect(alloc)
 }

@@ -1,12 +1,15 @@
 use Rattle.std.specs.Prelude.{[]}
-use Rattle.dv_accepted.proofs.Typed.{place_typed, value_typed}
+use Rattle.std.proofs.lemmas.Result.{IfOk-at_ok}
+use Rattle.dv_accepted.proofs.Typed.{OfType, place_typed, value_typed}
 use Rattle.dv_accepted.proofs.laws.accepted_values_are_of_their_types.Goals as goal
 
 pub returns-clause-typed : goal.returns-clause-typed
 returns-clause-typed c = place_typed
 
 pub returns-clause-value : goal.returns-clause-value
-returns-clause-value c = λ m rule arrivals s e t v fit typed is. value_typed m rule arrivals [] s fit e t v typed is
+returns-clause-value c = λ m rule arrivals s e t v fit typed is.
+    IfOk-at_ok (OfType t) is (value_typed m rule arrivals [] s fit e t typed)
 
 pub returns-clause-in_loops : goal.returns-clause-in_loops
-returns-clause-in_loops c = λ m rule arrivals bound s e t v fit typed is. value_typed m rule arrivals bound s fit e t v typed is
+returns-clause-in_loops c = λ m rule arrivals bound s e t v fit typed is.
+    IfOk-at_ok (OfType t) is (value_typed m rule arrivals bound s fit e t typed)

@@ -9,7 +9,7 @@ use Rattle.dv_eval.specs.Scope.{place_of}
 use Rattle.dv_gen.specs.Emission.{loops_of, with_statements}
 use Rattle.dv_gen.specs.Resolution.{all_resolved, place_or_first, resolved}
 use Rattle.dv_gen.specs.Resolved.{For as Each}
-use Rattle.dv_gen.proofs.Choices.{choice_of_none, choice_of_some}
+use Rattle.dv_gen.proofs.Choices.{choice_of_none, choice_of_some, with_statements-choice}
 use Rattle.dv_gen.proofs.Emission.{jump_behind_within, jump_within_block, jump_within_more, still_within, with_branch-is}
 use Rattle.dv_gen.proofs.Emission.{with_statements-Done, with_statements-For, with_statements-Goto, with_statements-If}
 use Rattle.dv_gen.proofs.Emission.{with_statements-When}
@@ -170,35 +170,21 @@ pub emit_statement-returns-in_ok-emit_when-in-IfElse : goal.emit_statement-retur
 emit_statement-returns-in_ok-emit_when-in-IfElse t c = λ rest.
     let scope = c.args.names.now in
     let loops = loops_of c.args.loops.now in
-    let old = c.args.draft.now in
-    let first = c.deref-first.result.now in
-    let other = c.deref-other.result.now in
-    let tree =
-    choice_tree c.args.statement.now rest _ _ _ _ _ _ c.in-IfElse.is (c.trees_keep_blocks.ensures.with_else _ _ _ _ rest)
-    c.deref-first.ensures.value c.deref-other.ensures.value in
-    let condition = resolved scope loops (expression_of c.in-IfElse.condition) in
-    let block = all_resolved scope loops (statements_of first) in
-    let after = all_resolved scope loops rest in
-    let none = eqb-true (length other) 0 (sym c.is_empty.ensures ∙ c.if-is_empty.true) in
-    c.in_ok-emit_when-in-IfElse.ensures after
-    ∙ ap (with_statements old) (sym (choice_of_none scope loops condition block other after none))
-    ∙ ap (λ s. with_statements old (all_resolved scope loops s)) (sym tree)
+    let none = eqb-true (length c.deref-other.result.now) 0 (sym c.is_empty.ensures ∙ c.if-is_empty.true) in
+    c.in_ok-emit_when-in-IfElse.ensures (all_resolved scope loops rest)
+    ∙ with_statements-choice scope loops c.args.draft.now c.args.statement.now rest _ _ _ _ _ _ _ c.in-IfElse.is
+    (c.trees_keep_blocks.ensures.with_else _ _ _ _ rest) c.deref-first.ensures.value c.deref-other.ensures.value
+    (choice_of_none scope loops _ _ _ _ none)
 
 pub emit_statement-returns-in_ok-emit_other_block-in-IfElse : goal.emit_statement-returns-in_ok-emit_other_block-in-IfElse
 emit_statement-returns-in_ok-emit_other_block-in-IfElse t c = λ rest.
     let scope = c.args.names.now in
     let loops = loops_of c.args.loops.now in
-    let old = c.args.draft.now in
-    let first = c.deref-first.result.now in
     let other = c.deref-other.result.now in
-    let tree =
-    choice_tree c.args.statement.now rest _ _ _ _ _ _ c.in-IfElse.is (c.trees_keep_blocks.ensures.with_else _ _ _ _ rest)
-    c.deref-first.ensures.value c.deref-other.ensures.value in
-    let condition = resolved scope loops (expression_of c.in-IfElse.condition) in
-    let block = all_resolved scope loops (statements_of first) in
     let after = all_resolved scope loops rest in
     let some = eqb-false (length other) 0 (sym c.is_empty.ensures ∙ c.if-is_empty.false) in
     ap (λ code. with_statements code after) c.in_ok-emit_other_block-in-IfElse.ensures
     ∙ c.in_ok-jump-in-IfElse.ensures.code (all_resolved scope loops (statements_of other)) after
-    ∙ ap (with_statements old) (sym (choice_of_some scope loops condition block other after some))
-    ∙ ap (λ s. with_statements old (all_resolved scope loops s)) (sym tree)
+    ∙ with_statements-choice scope loops c.args.draft.now c.args.statement.now rest _ _ _ _ _ _ _ c.in-IfElse.is
+    (c.trees_keep_blocks.ensures.with_else _ _ _ _ rest) c.deref-first.ensures.value c.deref-other.ensures.value
+    (choice_of_some scope loops _ _ _ _ some)

@@ -1,7 +1,7 @@
 use Rattle.std.proofs.Common.{◌≡◌, List, ap, ◌∙◌, subst}
 use Rattle.std.specs.Prelude.{IfOk}
 use Rattle.dv_syntax.specs.Trees.{coupled_of}
-use Rattle.dv_tree.specs.Instances.{numbers}
+use Rattle.dv_check.specs.Accepted.{numbers_of}
 use Rattle.dv_tree.specs.declared.couplings.PlacedLink.{PlacedLink}
 use Rattle.dv_tree.proofs.Placed.{links_from}
 use Rattle.dv_tree.proofs.levels.links_by.Goals as goal
@@ -12,6 +12,6 @@ returns c =
     subst Made
     (links_from c.args.inputs.now c.args.outputs.now c.args.parts.now
     (coupled_of c.args.coupled.now) c.in_ok-own_inputs.own_inputs c.in_ok-own_outputs.own_outputs c.in_ok-names.names c.deref-3.result.now
-    (c.in_ok-own_inputs.ensures ∙ (c.in_ok-numbers.ensures ∙ ap numbers c.deref.ensures.value))
-    (c.in_ok-own_outputs.ensures ∙ (c.in_ok-numbers-2.ensures ∙ ap numbers c.deref-2.ensures.value))
+    (c.in_ok-own_inputs.ensures ∙ (c.in_ok-numbers.ensures ∙ ap numbers_of c.deref.ensures.value))
+    (c.in_ok-own_outputs.ensures ∙ (c.in_ok-numbers-2.ensures ∙ ap numbers_of c.deref-2.ensures.value))
     (c.in_ok-names.ensures ∙ c.in_ok-entry_names.ensures) c.deref-3.ensures.value) c.placed_links.ensures

@@ -1,7 +1,8 @@
 use Rattle.std.proofs.Common.{◌≡◌, ◌∙◌, ap, sym, map}
 use Rattle.dv_syntax.specs.Trees.{file_of, model_of}
 use Rattle.dv_eval.specs.Scope.{place_of}
-use Rattle.dv_tree.specs.Instances.{inputs_in, numbers, outputs_in}
+use Rattle.dv_check.specs.Accepted.{numbers_of}
+use Rattle.dv_tree.specs.Instances.{inputs_in, outputs_in}
 use Rattle.dv_tree.specs.Tables.{levels_of, model_names, scope_of_model}
 use Rattle.dv_tree.specs.Nodes.{components_of_root, root_level}
 use Rattle.dv_tree.proofs.Placed.{root_made}
@@ -28,6 +29,6 @@ invariant_of-result c =
       root_is,
       scopes_are,
       components_are,
-      c.in_ok-inputs.ensures ∙ ap numbers (c.root_inputs.ensures ∙ ap inputs_in c.root-coupled.ensures),
-      c.in_ok-outputs.ensures ∙ ap numbers (c.root_outputs.ensures ∙ ap outputs_in c.root-coupled.ensures),
+      c.in_ok-inputs.ensures ∙ ap numbers_of (c.root_inputs.ensures ∙ ap inputs_in c.root-coupled.ensures),
+      c.in_ok-outputs.ensures ∙ ap numbers_of (c.root_outputs.ensures ∙ ap outputs_in c.root-coupled.ensures),
     )
