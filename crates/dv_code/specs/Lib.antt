@@ -11,5 +11,4 @@ pub mod Listing
 pub mod Rows
 -- What serves proofs.
 pub mod Performing
-pub mod Samples
 pub mod Turns

@@ -33,11 +33,11 @@ impl<'a> Model for Draft<'a> {
 
 impl<'a> Draft<'a> {
     /// Nothing was done to the state yet.
-    pub(crate) fn new(state: &'a State, sent: Sent) -> Self
-        ensures { result ≡ record { state = state.now; sent = sent; goto = None } }
+    pub(crate) fn new(state: Cow<'a, State>, sent: Sent) -> Self
+        ensures { result ≡ record { state = cow_value state.entry; sent = sent; goto = None } }
     {
         Draft {
-            state: Cow::Borrowed(state),
+            state,
             sent,
             goto: None,
         }
@@ -156,6 +156,14 @@ impl<'a> Draft<'a> {
         ensures { self.new ≡ going phase self.old }
     {
         self.goto = Some(phase);
+    }
+
+    /// What was sent.
+    pub(crate) fn into_sent(self) -> Sent
+        ensures { result ≡ self.entry.sent }
+    {
+        let Draft { sent, .. } = self;
+        sent
     }
 
     /// The effect, with a state of its own.

@@ -2,12 +2,13 @@
 
 ghost use Rattle.std.specs.Prelude.{◌≡◌, ◌≢◌, ℕ, ℤ, ◌*◌, ◌^◌, ◌≤◌, List, length, Ok, Err};
 ghost use Rattle.dv_bag.specs.Arrivals.{AreFew, Arrivals};
+ghost use Rattle.dv_bag.specs.Bag.{Counts};
 ghost use Rattle.dv_bag.specs.declared.TheConstants.{GREATEST_COUNT};
 ghost use Rattle.dv_bag.specs.declared.state.State.{State};
 ghost use Rattle.dv_bag.specs.declared.value.ValueType.{ValueType};
 ghost use Rattle.dv_code.specs.Shape.{AreSmall, Fits, Shape};
 ghost use Rattle.dv_code.specs.Machine.{Outcome, Stuck, begins, run};
-ghost use Rattle.dv_code.specs.Runs.{Ends, GivesEffect, GivesNumber, IsOver};
+ghost use Rattle.dv_code.specs.Runs.{Ends, GivesEffect, GivesNumber, GivesSent, IsOver};
 ghost use Rattle.dv_code.specs.Outcomes.{effect_by, number_by, outcome_of};
 ghost use Rattle.dv_code.specs.Valid.{EndsWell, IsSafe, IsValid, Program};
 ghost use Rattle.dv_bag.specs.declared.fault.Fault.{Fault};
@@ -63,6 +64,14 @@ pub fn the_machine_gives_what_programs_give()
     ensures fault { (p : Program) → IsSafe p → (arrivals : Arrivals)
         → AreFew arrivals.received → (s : State) → Fits p.shape.slots s.variables
         → (n : ℕ) (f : Fault) → GivesEffect p arrivals s n (Err (error.Fault f))
+        → effect_by p arrivals s ≡ Err f }
+    ensures sent { (p : Program) → IsSafe p → (arrivals : Arrivals)
+        → AreFew arrivals.received → (s : State) → Fits p.shape.slots s.variables
+        → (n : ℕ) (sent : List Counts) → GivesSent p arrivals s n (Ok sent)
+        → (e : Effect) × (effect_by p arrivals s ≡ Ok e) × (sent ≡ e.sent) }
+    ensures output_fault { (p : Program) → IsSafe p → (arrivals : Arrivals)
+        → AreFew arrivals.received → (s : State) → Fits p.shape.slots s.variables
+        → (n : ℕ) (f : Fault) → GivesSent p arrivals s n (Err (error.Fault f))
         → effect_by p arrivals s ≡ Err f }
     ensures number { (p : Program) → IsSafe p → (arrivals : Arrivals)
         → AreFew arrivals.received → (s : State) → Fits p.shape.slots s.variables

@@ -23,6 +23,8 @@ mod open_loop;
 mod operators;
 /// Worked rows.
 pub mod rows;
+/// A program's run.
+mod run;
 /// What a program may speak of.
 pub mod shape;
 /// The bags that a program reads.
@@ -31,13 +33,11 @@ mod source;
 mod stack;
 /// A count of steps.
 pub mod steps;
-#[cfg(test)]
-mod tests;
 /// Valid programs.
 pub mod valid;
 
 pub use instruction::{Action, Binary, Instruction, Leaf, Source, Unary};
-pub use machine::{run_hold, run_rule};
+pub use machine::Machine;
 pub use shape::{ProgramSort, Shape, Slot, Tables};
 pub use steps::Steps;
 pub use valid::Valid;

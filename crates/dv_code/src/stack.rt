@@ -3,37 +3,13 @@
 ghost use Rattle.std.specs.Prelude.{◌≡◌, ◌<◌, [], ◌∷◌, length, OnErr, OnOk};
 
 use dv_bag::Value;
-use smallvec::SmallVec;
 use std::alloc::{AllocError, Global};
-use std::default::MadeWith;
 use std::marker::Model;
 
-// A value on the stack.
-#[derive(Drop)]
-struct Operand {
-    value: Value,
-}
-
-impl Model for Operand {
-    ghost use Rattle.dv_bag.specs.declared.value.Value.{Value as Meant};
-
-    ghost Value = { Meant };
-
-    ghost view = { λ o. o.value };
-}
-
-impl MadeWith<Global> for Operand {
-    fn made_with(_alloc: Global) -> Self {
-        Operand {
-            value: Value::Truth(false),
-        }
-    }
-}
-
-/// Values, of which the last to come is the first to go. Eight lie inline.
+/// Values, of which the last to come is the first to go.
 #[derive(Drop)]
 pub(crate) struct Stack {
-    operands: SmallVec<Operand, 8>,
+    operands: Vec<Value>,
 }
 
 impl Model for Stack {
@@ -46,13 +22,20 @@ impl Model for Stack {
 }
 
 impl Stack {
-    /// No values.
+    /// No values. It takes no memory yet.
     pub(crate) fn new(alloc: Global) -> Self
         ensures { result ≡ [] }
     {
         Stack {
-            operands: SmallVec::new(alloc),
+            operands: Vec::new(alloc),
         }
+    }
+
+    /// No values, in the memory that the stack has.
+    pub(crate) fn clear(&mut self)
+        ensures { self.new ≡ [] }
+    {
+        self.operands.clear();
     }
 
     /// One more value, on top.
@@ -60,20 +43,22 @@ impl Stack {
     /// # Errors
     ///
     /// No memory for one more. The stack is as before.
+    #[inline]
     pub(crate) fn push(&mut self, value: Value) -> Result<(), AllocError>
         ensures ok { OnOk result (self.new ≡ value ∷ self.old) }
         ensures err { OnErr result (self.new ≡ self.old) }
     {
-        Ok(self.operands.push(Operand { value })?)
+        Ok(self.operands.push(value)?)
     }
 
     /// The value on top, which goes.
+    #[inline]
     pub(crate) fn pop(&mut self) -> Value
         requires { 0 < length self.old }
         ensures { self.old ≡ result ∷ self.new }
     {
         match self.operands.pop() {
-            Some(operand) => operand.value,
+            Some(value) => value,
             None => unreachable!(),
         }
     }

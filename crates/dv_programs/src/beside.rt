@@ -1,11 +1,9 @@
 //! A program beside the tree that it was made from.
 
-ghost use Rattle.std.specs.Prelude.{◌≡◌, ◌<◌};
-
 use crate::compiled::{Compiled, Pair, Tree};
-use crate::fitting::{Level, are_few, deliveries, fits, state_at};
-use dv_bag::{Arrivals, Effect, RuleError, State, Value};
-use dv_code::{ProgramSort, Steps, Valid};
+use crate::fitting::{Level, are_few, deliveries, state_at};
+use crate::runs::Runs;
+use dv_bag::{Arrivals, Effect, RuleError, Sent, State, Value};
 use dv_eval::{Context, Moment, Scope, eval, run_rule};
 use dv_syntax::{Expr, Stmt};
 use std::alloc::{AllocError, Global};
@@ -40,41 +38,11 @@ fn likeness_of<T: PartialEq>(
     }
 }
 
-/// What a rule's program does, unless the state does not fit it.
-fn rule_by_code<L: Ledger>(
-    alloc: Global,
-    program: &Valid,
-    state: &State,
-    arrivals: &Arrivals,
-    steps: &mut Steps<L>,
-) -> Option<Result<Effect, RuleError>> {
-    if !fits(program.shape().tables().slots(), &state.variables) {
-        return None;
-    }
-    match program.shape().sort() {
-        ProgramSort::Hold => None,
-        ProgramSort::Output
-        | ProgramSort::Internal
-        | ProgramSort::External
-        | ProgramSort::Confluent => {
-            Some(dv_code::run_rule(alloc, program, state, arrivals, steps))
-        }
-    }
-}
-
-/// What a hold's program gives, unless the state does not fit it.
-fn hold_by_code<L: Ledger>(
-    alloc: Global,
-    program: &Valid,
-    state: &State,
-    steps: &mut Steps<L>,
-) -> Option<Result<i64, RuleError>> {
-    if !fits(program.shape().tables().slots(), &state.variables) {
-        return None;
-    }
-    match program.shape().sort() {
-        ProgramSort::Hold => Some(dv_code::run_hold(alloc, program, state, steps)),
-        _ => None,
+/// What is sent by an effect, or its fault.
+fn sent_by(effect: &Result<Effect, RuleError>) -> Result<Result<Sent, RuleError>, AllocError> {
+    match effect {
+        Ok(effect) => Ok(Ok(effect.sent.clone()?)),
+        Err(error) => Ok(Err(*error)),
     }
 }
 
@@ -105,25 +73,31 @@ impl Endings {
     fn compare<R: Abort + AllocGlobal, L: Ledger>(
         &mut self,
         rt: &R,
+        runs: &mut Runs<L>,
         pair: &Pair,
         state: &State,
         arrivals: &Arrivals,
         scope: &Scope,
-        steps: &mut Steps<L>,
-    ) {
+    ) -> Result<(), AllocError> {
         let program = pair.program;
         let found = match pair.tree {
             Tree::Rule(statements) => {
                 let by_tree = run_rule(rt.alloc(), statements, state, arrivals, scope);
-                rule_by_code(rt.alloc(), program, state, arrivals, steps).map(|by_code| likeness_of(
-                    &by_code, &by_tree,
-                ))
+                let by_code = runs.rule(program, state.clone()?, arrivals);
+                if let Some(sent) = runs.output(program, state) {
+                    let likeness = likeness_of(&sent, &sent_by(&by_tree)?);
+                    assert!(rt;
+                        likeness != Likeness::Different,
+                        "{:?} at {state:?}",
+                        program.code()
+                    );
+                }
+                by_code.map(|by_code| likeness_of(&by_code, &by_tree))
             }
             Tree::Hold(ticks) => {
                 let by_tree = hold_by_tree(ticks, state, scope);
-                hold_by_code(rt.alloc(), program, state, steps).map(|by_code| likeness_of(
-                    &by_code, &by_tree,
-                ))
+                let by_code = runs.hold(program, state);
+                by_code.map(|by_code| likeness_of(&by_code, &by_tree))
             }
         };
         match found {
@@ -131,14 +105,15 @@ impl Endings {
             Some(Likeness::SameFault) => self.faults = self.faults.saturating_add(1),
             _ => assert!(rt; false, "{found:?} of {:?} at {state:?}", program.code()),
         }
+        Ok(())
     }
 
     /// Compares the programs of a model with its rules and holds, from some states, with some arrivals.
     pub fn compare_model<R: Abort + AllocGlobal, L: Ledger>(
         &mut self,
         rt: &R,
+        runs: &mut Runs<L>,
         model: &Compiled,
-        steps: &mut Steps<L>,
     ) -> Result<(), AllocError> {
         let slots = model.code.tables.slots();
         let states = [
@@ -149,7 +124,7 @@ impl Endings {
         ];
         for pair in &model.pairs(rt.alloc())? {
             for state in &states {
-                self.compare_deliveries(rt, pair, state, &model.scope, steps)?;
+                self.compare_deliveries(rt, runs, pair, state, &model.scope)?;
             }
         }
         Ok(())
@@ -158,15 +133,15 @@ impl Endings {
     fn compare_deliveries<R: Abort + AllocGlobal, L: Ledger>(
         &mut self,
         rt: &R,
+        runs: &mut Runs<L>,
         pair: &Pair,
         state: &State,
         scope: &Scope,
-        steps: &mut Steps<L>,
     ) -> Result<(), AllocError> {
         for received in &deliveries(rt.alloc(), scope.inputs().len())? {
             if are_few(received) {
                 let arrivals = Arrivals::new(received, 3);
-                self.compare(rt, pair, state, &arrivals, scope, steps);
+                self.compare(rt, runs, pair, state, &arrivals, scope)?;
             }
         }
         Ok(())

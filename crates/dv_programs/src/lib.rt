@@ -13,6 +13,8 @@ mod fitting;
 #[cfg(test)]
 mod lists;
 #[cfg(test)]
+mod machine;
+#[cfg(test)]
 mod programs;
 #[cfg(test)]
 mod random;
@@ -20,5 +22,7 @@ mod random;
 mod rule_texts;
 #[cfg(test)]
 mod rules;
+#[cfg(test)]
+mod runs;
 #[cfg(test)]
 mod texts;

@@ -3,12 +3,12 @@
 ghost use Rattle.std.specs.Prelude.{◌≡◌, ◌<◌};
 
 use crate::decision::is_valid;
-use crate::fitting::{Level, are_few, deliveries, fits, state_at};
+use crate::fitting::{Level, are_few, deliveries, state_at};
 use crate::random::Random;
+use crate::runs::Runs;
 use dv_bag::{Arrivals, RuleError, State};
 use dv_code::{
-    Action, Binary, Instruction, Leaf, ProgramSort, Shape, Slot, Source, Steps, Tables, Unary,
-    Valid, run_hold, run_rule,
+    Action, Binary, Instruction, Leaf, ProgramSort, Shape, Slot, Source, Tables, Unary, Valid,
 };
 use dv_valid::validate;
 use std::alloc::{AllocError, Global};
@@ -124,27 +124,22 @@ fn random_list(alloc: Global, random: &mut Random) -> Result<Vec<Instruction>, A
 
 /// How a run of a program ends, from a state that fits it.
 fn ending<L: Ledger>(
-    alloc: Global,
+    runs: &mut Runs<L>,
     program: &Valid,
-    state: &State,
+    state: State,
     arrivals: &Arrivals,
-    steps: &mut Steps<L>,
 ) -> Result<(), RuleError> {
-    if !fits(program.shape().tables().slots(), &state.variables) {
-        return Err(RuleError::Memory);
+    if let Some(ticks) = runs.hold(program, &state) {
+        ticks?;
+        return Ok(());
     }
-    match program.shape().sort() {
-        ProgramSort::Hold => {
-            run_hold(alloc, program, state, steps)?;
+    match runs.rule(program, state, arrivals) {
+        Some(effect) => {
+            effect?;
+            Ok(())
         }
-        ProgramSort::Output
-        | ProgramSort::Internal
-        | ProgramSort::External
-        | ProgramSort::Confluent => {
-            run_rule(alloc, program, state, arrivals, steps)?;
-        }
+        None => Err(RuleError::Memory),
     }
-    Ok(())
 }
 
 impl Found {
@@ -161,8 +156,8 @@ impl Found {
     fn run<R: Abort + AllocGlobal, L: Ledger>(
         &mut self,
         rt: &R,
+        runs: &mut Runs<L>,
         program: &Valid,
-        steps: &mut Steps<L>,
     ) -> Result<(), AllocError> {
         let slots = program.shape().tables().slots();
         for level in [Level::Low, Level::Middle, Level::High] {
@@ -170,7 +165,7 @@ impl Found {
             for received in &deliveries(rt.alloc(), 1)? {
                 if are_few(received) {
                     let arrivals = Arrivals::new(received, 3);
-                    let ending = ending(rt.alloc(), program, &state, &arrivals, steps);
+                    let ending = ending(runs, program, state.clone()?, &arrivals);
                     self.count_run(rt, ending);
                 }
             }
@@ -182,9 +177,9 @@ impl Found {
     fn try_list<R: Abort + AllocGlobal, L: Ledger>(
         &mut self,
         rt: &R,
+        runs: &mut Runs<L>,
         shape: Shape,
         code: Vec<Instruction>,
-        steps: &mut Steps<L>,
     ) -> Result<(), AllocError> {
         let wanted = is_valid(rt.alloc(), &shape, &code)?;
         let text = format!(in rt.alloc(); "{code:?}")?;
@@ -194,7 +189,7 @@ impl Found {
             None => self.refused = self.refused.saturating_add(1),
             Some(program) => {
                 self.programs = self.programs.saturating_add(1);
-                self.run(rt, &program, steps)?;
+                self.run(rt, runs, &program)?;
             }
         }
         Ok(())
@@ -210,7 +205,7 @@ fn try_lists<R: Abort + AllocGlobal, L: Ledger>(
     requires parts { blank.parts ≡ L.parts }
     requires some { 0 < blank.parts }
 {
-    let mut steps = Steps::<L>::new(blank);
+    let mut runs = Runs::<L>::new(rt.alloc(), blank);
     let mut random = Random::new(7);
     let tables = tables(rt.alloc())?;
     let mut found = Found {
@@ -222,7 +217,7 @@ fn try_lists<R: Abort + AllocGlobal, L: Ledger>(
     for _ in 0..count {
         let shape = Shape::new(Arc::try_clone(&tables)?, random_sort(&mut random));
         let code = random_list(rt.alloc(), &mut random)?;
-        found.try_list(rt, shape, code, &mut steps)?;
+        found.try_list(rt, &mut runs, shape, code)?;
     }
     Ok(found)
 }

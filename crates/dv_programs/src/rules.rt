@@ -6,8 +6,8 @@ use crate::beside::Endings;
 use crate::compiled::{checked, compile_at};
 use crate::random::Random;
 use crate::rule_texts::random_model;
+use crate::runs::Runs;
 use crate::texts::TEXTS;
-use dv_code::Steps;
 use std::marker::Brand;
 use std::process::Abort;
 use std::sync::ledger::{Blank, Ledger};
@@ -16,13 +16,13 @@ use std::test::Fail;
 fn compare_text<R: Abort + AllocGlobal, L: Ledger>(
     rt: &R,
     text: &str,
+    runs: &mut Runs<L>,
     endings: &mut Endings,
-    steps: &mut Steps<L>,
 ) -> Result<(), Fail> {
     let checked = checked(rt.alloc(), text).expect(rt, text);
     for place in 0..checked.file.models.len() {
         if let Some(model) = compile_at(rt.alloc(), &checked, place)? {
-            endings.compare_model(rt, &model, steps)?;
+            endings.compare_model(rt, runs, &model)?;
         }
     }
     Ok(())
@@ -33,10 +33,10 @@ fn compare_texts<R: Abort + AllocGlobal, L: Ledger>(rt: &R, blank: Blank) -> Res
     requires parts { blank.parts ≡ L.parts }
     requires some { 0 < blank.parts }
 {
-    let mut steps = Steps::<L>::new(blank);
+    let mut runs = Runs::<L>::new(rt.alloc(), blank);
     let mut endings = Endings::none();
     for text in TEXTS {
-        compare_text(rt, text, &mut endings, &mut steps)?;
+        compare_text(rt, text, &mut runs, &mut endings)?;
     }
     Ok(endings)
 }
@@ -50,12 +50,12 @@ fn compare_random<R: Abort + AllocGlobal, L: Ledger>(
     requires parts { blank.parts ≡ L.parts }
     requires some { 0 < blank.parts }
 {
-    let mut steps = Steps::<L>::new(blank);
+    let mut runs = Runs::<L>::new(rt.alloc(), blank);
     let mut endings = Endings::none();
     let mut random = Random::new(1);
     for _ in 0..models {
         let text = random_model(rt.alloc(), &mut random)?;
-        compare_text(rt, text.as_str(), &mut endings, &mut steps)?;
+        compare_text(rt, text.as_str(), &mut runs, &mut endings)?;
     }
     Ok(endings)
 }
