@@ -11,6 +11,3 @@ mod low;
 pub mod rows;
 
 pub use lookahead::response;
-
-#[cfg(test)]
-mod tests;

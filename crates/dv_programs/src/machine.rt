@@ -4,6 +4,7 @@ ghost use Rattle.std.specs.Prelude.{◌≡◌, ◌<◌};
 
 use crate::fitting::are_few;
 use crate::runs::Runs;
+use crate::shapes::shape_of_one_bag;
 use dv_bag::{
     Arrivals, Bag, Bags, Datum, DatumView, Effect, Fault, HeldBag, RuleError, Sent, State,
     Variables,
@@ -79,8 +80,7 @@ fn divider<R: Abort + AllocGlobal>(rt: &R) -> Result<Valid, AllocError> {
 
 /// Sends each value of a bag of the state.
 fn each_sent<R: Abort + AllocGlobal>(rt: &R) -> Result<Valid, AllocError> {
-    let slots = vec![in rt.alloc(); Slot::Holding { capacity: 8 }]?;
-    let tables = Arc::new(rt.alloc(), Tables::new(slots, 0, 1, 1))?;
+    let shape = shape_of_one_bag(rt.alloc(), ProgramSort::Output)?;
     let code = vec![in rt.alloc();
         Instruction::Loop(Source::Own(0), 4),
         Instruction::Push(Leaf::Item(0)),
@@ -88,8 +88,7 @@ fn each_sent<R: Abort + AllocGlobal>(rt: &R) -> Result<Valid, AllocError> {
         Instruction::Next(1),
         Instruction::End,
     ]?;
-    let program = validate(rt.alloc(), Shape::new(tables, ProgramSort::Output), code)?;
-    Ok(program.expect(rt, "a program"))
+    Ok(validate(rt.alloc(), shape, code)?.expect(rt, "a program"))
 }
 
 fn counted(alloc: Global, number: i64, flag: bool) -> Result<State, AllocError> {

@@ -1,47 +1,16 @@
 //! The programs of the texts, and such with another instruction at a place, before the validator.
 
 use crate::compiled::{Compiled, checked, compile_at};
-use crate::decision::is_valid;
+use crate::taken::{Answers, taken};
 use crate::texts::TEXTS;
 use dv_code::{Action, Binary, Instruction, Leaf, Shape, Source, Tables, Valid};
-use dv_valid::validate;
-use std::alloc::{AllocError, Global};
+use std::alloc::AllocError;
 use std::process::Abort;
 use std::sync::Arc;
 use std::test::Fail;
 
-/// How many programs were taken, and how many lists of instructions were no programs.
-#[derive(Clone, Copy, Debug, PartialEq, Eq)]
-struct Answers {
-    taken: u64,
-    refused: u64,
-}
-
-impl Answers {
-    fn count(&mut self, is_taken: bool) {
-        if is_taken {
-            self.taken = self.taken.saturating_add(1);
-        } else {
-            self.refused = self.refused.saturating_add(1);
-        }
-    }
-}
-
 fn shape_like(program: &Valid, tables: &Arc<Tables>) -> Result<Shape, AllocError> {
     Ok(Shape::new(Arc::try_clone(tables)?, program.shape().sort()))
-}
-
-/// Whether the validator takes instructions.
-fn is_taken(
-    alloc: Global,
-    program: &Valid,
-    tables: &Arc<Tables>,
-    code: &[Instruction],
-) -> Result<bool, AllocError> {
-    match validate(alloc, shape_like(program, tables)?, code.to_vec(alloc)?)? {
-        None => Ok(false),
-        Some(found) => Ok(found.code() == code),
-    }
 }
 
 /// Other instructions for a place: most are those of no program there.
@@ -76,24 +45,21 @@ fn turned(instruction: Instruction) -> Instruction {
     }
 }
 
-/// Asks the validator about a program with each other instruction at each place, and fails the test where the slow
-/// decision differs.
+/// Asks the validator about a program with each other instruction at each place.
 fn change_each<R: Abort + AllocGlobal>(
     rt: &R,
     program: &Valid,
     tables: &Arc<Tables>,
     answers: &mut Answers,
-) -> Result<(), Fail> {
+) -> Result<(), AllocError> {
     for (place, instruction) in program.code().iter().enumerate() {
-        let mut code = program.code().to_vec(rt.alloc())?;
+        let mut list = program.code().to_vec(rt.alloc())?;
         for other in others(place as u32, *instruction) {
-            if let Some(changed) = code.get_mut(place) {
+            if let Some(changed) = list.get_mut(place) {
                 *changed = other;
             }
-            let taken = is_taken(rt.alloc(), program, tables, &code)?;
-            let wanted = is_valid(rt.alloc(), program.shape(), &code)?;
-            assert_eq!(rt; taken, wanted, "{other:?} at {place} of {code:?}");
-            answers.count(taken);
+            let found = taken(rt, shape_like(program, tables)?, &list)?;
+            answers.count(found.is_some());
         }
     }
     Ok(())
@@ -103,20 +69,12 @@ fn change_programs<R: Abort + AllocGlobal>(
     rt: &R,
     model: &Compiled,
     answers: &mut Answers,
-) -> Result<(), Fail> {
+) -> Result<(), AllocError> {
     let tables = &model.code.tables;
     for pair in &model.pairs(rt.alloc())? {
         let program = pair.program;
-        assert!(rt;
-            is_taken(rt.alloc(), program, tables, program.code())?,
-            "{:?}",
-            program.code()
-        );
-        assert!(rt;
-            is_valid(rt.alloc(), program.shape(), program.code())?,
-            "{:?}",
-            program.code()
-        );
+        let found = taken(rt, shape_like(program, tables)?, program.code())?;
+        assert!(rt; found.is_some(), "{:?}", program.code());
         change_each(rt, program, tables, answers)?;
     }
     Ok(())
@@ -124,10 +82,7 @@ fn change_programs<R: Abort + AllocGlobal>(
 
 #[test]
 fn programs_are_taken_and_changed_ones_as_the_definition_says(rt: HostRuntime) -> Result<(), Fail> {
-    let mut answers = Answers {
-        taken: 0,
-        refused: 0,
-    };
+    let mut answers = Answers::none();
     for text in TEXTS {
         let checked = checked(rt.alloc(), text).expect(&rt, text);
         for place in 0..checked.file.models.len() {

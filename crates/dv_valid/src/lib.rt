@@ -17,8 +17,3 @@ mod types;
 pub mod validator;
 
 pub use validator::validate;
-
-#[cfg(test)]
-mod short_programs;
-#[cfg(test)]
-mod tests;

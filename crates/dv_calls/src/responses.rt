@@ -1,7 +1,8 @@
 //! Models whose responses are known.
 
-use crate::response;
+use crate::compare::{expect_same, same};
 use dv_bag::Response;
+use dv_bound::response;
 use dv_eval::Scope;
 use dv_lex::Numeral;
 use dv_syntax::{
@@ -22,6 +23,39 @@ fn ticks(value: u64) -> Ticks {
     }
 }
 
+/// A phase for each of some holds.
+fn phases_of(alloc: Global, holds: &[u64]) -> Result<Phases, AllocError> {
+    let mut names = Vec::new(alloc);
+    for (phase, _) in (0u32..).zip(holds) {
+        names.push(name(phase))?;
+    }
+    Ok(Phases { place: 0, names })
+}
+
+fn holds_of(alloc: Global, holds: &[u64]) -> Result<Vec<Hold>, AllocError> {
+    let mut items = Vec::new(alloc);
+    for (phase, hold) in (0u32..).zip(holds) {
+        items.push(Hold {
+            place: 0,
+            phase: name(phase),
+            ticks: ticks(*hold),
+        })?;
+    }
+    Ok(items)
+}
+
+/// A block that goes to some phases.
+fn block_of(alloc: Global, gotos: &[u32]) -> Result<Block, AllocError> {
+    let mut statements = Vec::new(alloc);
+    for phase in gotos {
+        statements.push(Stmt::Goto {
+            place: 0,
+            phase: name(*phase),
+        })?;
+    }
+    Ok(Block { statements })
+}
+
 /// A model with a phase for each of the holds, which starts in phase 0, and whose only rule goes from there to some
 /// phases.
 fn model(
@@ -30,42 +64,28 @@ fn model(
     holds: &[u64],
     gotos: &[u32],
 ) -> Result<Atomic, AllocError> {
-    let mut names = Vec::new(alloc);
-    let mut items = Vec::new(alloc);
-    for (phase, hold) in (0u32..).zip(holds) {
-        names.push(name(phase))?;
-        items.push(Hold {
-            place: 0,
-            phase: name(phase),
-            ticks: ticks(*hold),
-        })?;
-    }
-    let mut statements = Vec::new(alloc);
-    for phase in gotos {
-        statements.push(Stmt::Goto {
-            place: 0,
-            phase: name(*phase),
-        })?;
-    }
+    let start = Start {
+        place: 0,
+        phase: name(0),
+    };
+    let rule = Rule {
+        sort,
+        phase: name(0),
+        body: block_of(alloc, gotos)?,
+    };
     Ok(Atomic {
         name: name(0),
         declarations: Vec::new(alloc),
-        phases: vec![in alloc; Phases { place: 0, names }]?,
-        starts: vec![in alloc;
-            Start {
-                place: 0,
-                phase: name(0)
-            },
-        ]?,
-        holds: items,
-        rules: vec![in alloc;
-            Rule {
-                sort,
-                phase: name(0),
-                body: Block { statements }
-            },
-        ]?,
+        phases: vec![in alloc; phases_of(alloc, holds)?]?,
+        starts: vec![in alloc; start]?,
+        holds: holds_of(alloc, holds)?,
+        rules: vec![in alloc; rule]?,
     })
+}
+
+fn response_of(alloc: Global, model: &Atomic) -> Result<Response, AllocError> {
+    let scope = Scope::of(alloc, model)?;
+    response(alloc, model, &scope)
 }
 
 #[test]
@@ -110,8 +130,7 @@ fn the_soonest_of_the_holds_gone_to(rt: HostRuntime) -> Result<(), Fail> {
     ];
     for (row, sort, holds, gotos, expected) in rows {
         let model = model(rt.alloc(), sort, holds, gotos)?;
-        let scope = Scope::of(rt.alloc(), &model)?;
-        assert_eq!(rt; response(rt.alloc(), &model, &scope)?, expected, "{row}");
+        expect_same(&rt, row, response_of(rt.alloc(), &model)?, expected);
     }
     Ok(())
 }
@@ -125,10 +144,6 @@ fn thousands_of_holds_and_gotos(rt: HostRuntime) -> Result<(), Fail> {
         gotos.push(phase)?;
     }
     let model = model(rt.alloc(), RuleSort::External, &holds, &gotos)?;
-    let scope = Scope::of(rt.alloc(), &model)?;
-    assert_eq!(rt;
-        response(rt.alloc(), &model, &scope)?,
-        Response::Ticks(50_001)
-    );
+    same!(rt; response_of(rt.alloc(), &model)?, Response::Ticks(50_001));
     Ok(())
 }

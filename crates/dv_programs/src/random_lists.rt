@@ -2,15 +2,15 @@
 
 ghost use Rattle.std.specs.Prelude.{◌≡◌, ◌<◌};
 
-use crate::decision::is_valid;
 use crate::fitting::{Level, are_few, deliveries, state_at};
 use crate::random::Random;
 use crate::runs::Runs;
+use crate::shapes::tables_of_each_slot;
+use crate::taken::{Answers, taken};
 use dv_bag::{Arrivals, RuleError, State};
 use dv_code::{
-    Action, Binary, Instruction, Leaf, ProgramSort, Shape, Slot, Source, Tables, Unary, Valid,
+    Action, Binary, Instruction, Leaf, ProgramSort, Shape, Source, Unary, Valid,
 };
-use dv_valid::validate;
 use std::alloc::{AllocError, Global};
 use std::marker::Brand;
 use std::process::Abort;
@@ -24,19 +24,9 @@ const LONGEST: u32 = 9;
 /// How many lists were programs, and how many of their runs ended without a fault.
 #[derive(Clone, Copy, Debug, PartialEq, Eq)]
 struct Found {
-    programs: u64,
-    refused: u64,
+    answers: Answers,
     whole_runs: u64,
     faults: u64,
-}
-
-fn tables(alloc: Global) -> Result<Arc<Tables>, AllocError> {
-    let slots = vec![in alloc;
-        Slot::Ranged { low: -20, high: 50 },
-        Slot::Flagged,
-        Slot::Holding { capacity: 4 },
-    ]?;
-    Ok(Arc::new(alloc, Tables::new(slots, 1, 1, 2))?)
 }
 
 fn random_sort(random: &mut Random) -> ProgramSort {
@@ -179,18 +169,12 @@ impl Found {
         rt: &R,
         runs: &mut Runs<L>,
         shape: Shape,
-        code: Vec<Instruction>,
+        list: &[Instruction],
     ) -> Result<(), AllocError> {
-        let wanted = is_valid(rt.alloc(), &shape, &code)?;
-        let text = format!(in rt.alloc(); "{code:?}")?;
-        let taken = validate(rt.alloc(), shape, code)?;
-        assert_eq!(rt; taken.is_some(), wanted, "{text}");
-        match taken {
-            None => self.refused = self.refused.saturating_add(1),
-            Some(program) => {
-                self.programs = self.programs.saturating_add(1);
-                self.run(rt, runs, &program)?;
-            }
+        let found = taken(rt, shape, list)?;
+        self.answers.count(found.is_some());
+        if let Some(program) = found {
+            self.run(rt, runs, &program)?;
         }
         Ok(())
     }
@@ -207,17 +191,16 @@ fn try_lists<R: Abort + AllocGlobal, L: Ledger>(
 {
     let mut runs = Runs::<L>::new(rt.alloc(), blank);
     let mut random = Random::new(7);
-    let tables = tables(rt.alloc())?;
+    let tables = tables_of_each_slot(rt.alloc())?;
     let mut found = Found {
-        programs: 0,
-        refused: 0,
+        answers: Answers::none(),
         whole_runs: 0,
         faults: 0,
     };
     for _ in 0..count {
         let shape = Shape::new(Arc::try_clone(&tables)?, random_sort(&mut random));
-        let code = random_list(rt.alloc(), &mut random)?;
-        found.try_list(rt, &mut runs, shape, code)?;
+        let list = random_list(rt.alloc(), &mut random)?;
+        found.try_list(rt, &mut runs, shape, &list)?;
     }
     Ok(found)
 }
@@ -225,7 +208,8 @@ fn try_lists<R: Abort + AllocGlobal, L: Ledger>(
 #[test]
 fn what_is_taken_of_random_lists_runs(rt: HostRuntime) -> Result<(), Fail> {
     let found = try_lists::<HostRuntime, Brand>(&rt, 10_000, Blank::new(1))?;
-    assert!(rt; found.programs > 500 && found.refused > 500, "{found:?}");
+    let answers = found.answers;
+    assert!(rt; answers.taken > 500 && answers.refused > 500, "{found:?}");
     assert!(rt; found.whole_runs > 1_000 && found.faults > 0, "{found:?}");
     Ok(())
 }

@@ -1,0 +1,107 @@
+//! Graphs whose components are known.
+
+use crate::compare::{expect_same, same};
+use dv_cycles::{Graph, strong_components};
+use std::alloc::{AllocError, Global};
+use std::process::Abort;
+use std::test::Fail;
+
+/// A graph by the edges of each node.
+fn graph_of(alloc: Global, lists: &[&[usize]]) -> Result<Graph, AllocError> {
+    let mut graph = Graph::new(alloc);
+    for targets in lists {
+        graph.push_node(targets)?;
+    }
+    Ok(graph)
+}
+
+/// A path of so many nodes, closed to a cycle or not.
+fn chain(alloc: Global, nodes: usize, is_cycle: bool) -> Result<Graph, AllocError> {
+    let mut graph = Graph::new(alloc);
+    for node in 1..nodes {
+        graph.push_node(&[node])?;
+    }
+    if is_cycle {
+        graph.push_node(&[0])?;
+    } else {
+        graph.push_node(&[])?;
+    }
+    Ok(graph)
+}
+
+/// The components of a graph, and the test fails where an edge leads out of it.
+fn components_of<R: Abort + AllocGlobal>(
+    rt: &R,
+    name: &str,
+    graph: &Graph,
+) -> Result<Vec<usize>, AllocError> {
+    assert!(rt; graph.is_closed(), "{name}");
+    strong_components(rt.alloc(), graph)
+}
+
+/// Graphs by the edges of each node, and the number of each node's component.
+const GRAPHS: [(&str, &[&[usize]], &[usize]); 9] = [
+    ("no node", &[], &[]),
+    ("a node alone", &[&[]], &[0]),
+    ("a node that leads to itself", &[&[0]], &[0]),
+    ("a path", &[&[1], &[2], &[]], &[2, 1, 0]),
+    ("a path backwards", &[&[], &[0], &[1]], &[0, 1, 2]),
+    (
+        "two cycles joined by an edge",
+        &[&[1], &[0, 2], &[3], &[2]],
+        &[1, 1, 0, 0],
+    ),
+    (
+        "a chain between two cycles",
+        &[&[1], &[0, 2], &[3], &[4], &[3]],
+        &[2, 2, 1, 0, 0],
+    ),
+    (
+        "every edge",
+        &[&[0, 1, 2], &[0, 1, 2], &[0, 1, 2]],
+        &[0, 0, 0],
+    ),
+    (
+        "cycles within a cycle",
+        &[&[1, 4], &[2], &[1, 3], &[0], &[]],
+        &[1, 1, 1, 1, 0],
+    ),
+];
+
+#[test]
+fn components_are_numbered_as_they_are_done(rt: HostRuntime) -> Result<(), Fail> {
+    for (name, lists, numbers) in GRAPHS {
+        let graph = graph_of(rt.alloc(), lists)?;
+        let found = components_of(&rt, name, &graph)?;
+        expect_same(&rt, name, found.as_slice(), numbers);
+    }
+    Ok(())
+}
+
+#[test]
+fn an_edge_may_lead_out_of_the_graph(rt: HostRuntime) -> Result<(), Fail> {
+    let mut graph = Graph::new(rt.alloc());
+    graph.push_node(&[1])?;
+    same!(rt; graph.is_closed(), false);
+    graph.push_node(&[])?;
+    same!(rt; graph.is_closed(), true);
+    Ok(())
+}
+
+#[test]
+fn a_long_path_is_found_without_recursion(rt: HostRuntime) -> Result<(), Fail> {
+    let graph = chain(rt.alloc(), 700_000, false)?;
+    let numbers = components_of(&rt, "a long path", &graph)?;
+    same!(rt; numbers.first(), Some(&699_999));
+    same!(rt; numbers.last(), Some(&0));
+    Ok(())
+}
+
+#[test]
+fn a_long_cycle_is_one_component(rt: HostRuntime) -> Result<(), Fail> {
+    let graph = chain(rt.alloc(), 100_000, true)?;
+    let numbers = components_of(&rt, "a long cycle", &graph)?;
+    let zeros = vec![in rt.alloc(); 0; 100_000]?;
+    same!(rt; numbers.as_slice() == zeros.as_slice(), true);
+    Ok(())
+}
