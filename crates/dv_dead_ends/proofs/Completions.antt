@@ -1,26 +1,39 @@
 -- Tokens that end too early can go on: a reader completes them.
-use Rattle.std.proofs.Common.{◌≡◌, ℕ, zero, suc, ◌<◌, Bool, true, false, List, [], ◌∷◌, ◌++◌, length, Ok, Err, refl, sym, ap}
-use Rattle.std.proofs.Common.{subst, ◌∙◌, ◌⊎◌, inl, inr, append_assoc, arith}
+use Rattle.std.proofs.Common.{◌≡◌, ℕ, zero, suc, ◌<◌, Bool, true, false, List, [], ◌∷◌, ◌++◌, length, Ok, Err, refl, ap, subst}
+use Rattle.std.proofs.Common.{◌∙◌, ◌⊎◌, inl, inr, append_assoc, arith}
 use Rattle.std.proofs.lemmas.Bool.{cases_Bool}
 use Rattle.dv_lex.specs.declared.token.Token.{Token}
 use Rattle.dv_lex.specs.declared.token.TokenKind.{TokenKind}
 use Rattle.dv_lex.specs.declared.token.TokenKind.TheVariants as kind
-use Rattle.dv_lex.specs.declared.token.Keyword.TheVariants as keyword
+use Rattle.dv_lex.specs.declared.token.Keyword.{Keyword}
+use Rattle.dv_lex.specs.declared.token.Symbol.{Symbol}
 use Rattle.dv_lex.specs.declared.token.Symbol.TheVariants as symbol
-use Rattle.dv_syntax.specs.declared.tree.BagCall.{BagCall}
-use Rattle.dv_syntax.specs.declared.tree.BagCall.TheVariants as call
-use Rattle.dv_syntax.specs.Grammar.{call_word}
 use Rattle.dv_parser.specs.Reading.{Obstacle, Unexpected, TooDeep, TooShort, Read, read_then, choose, same_kind, begins, after}
-use Rattle.dv_parser.specs.Reading.{place_at, name_of, name_at, number_of, number_at, truth_at, word_of_at, call_word_at, many_at}
-use Rattle.dv_parser.specs.Reading.{braces_at}
-use Rattle.dv_parser.proofs.Tokens.{ok_is, err_ok, same_kind-same}
-use Rattle.dv_parser.proofs.Readers.{Shortens}
-use Rattle.dv_dead_ends.proofs.Steady.{Reader, IsAt, SteadyAt, IsSteady, IsOfFirst, begins_of_first, ok_err, err_is, same_place}
-use Rattle.dv_dead_ends.proofs.Steady.{many_step, many_steady}
+use Rattle.dv_parser.specs.Reading.{Reader, place_at, name_of, name_at, number_of, number_at, many_at, braces_at}
+use Rattle.dv_parser.proofs.Tokens.{ok_is, err_ok, then_is, same_kind-same, err_is}
+use Rattle.dv_parser.proofs.Readers.{Shortens, Always}
+use Rattle.dv_dead_ends.proofs.Steady.{IsAt, SteadyAt, IsSteady, ByFirst, ReadsOn, Leaves, StopsThere, known_by_first, AtEnd}
+use Rattle.dv_dead_ends.proofs.Steady.{by_first, itself_to, one_then, behind_read, then_steady, choose_at as choose_steady}
+use Rattle.dv_dead_ends.proofs.Steady.{IsOfFirst, begins_of_first, ok_err, many_step, many_steady}
 
 -- a token of a kind
 abbrev pub of_kind : TokenKind → Token
 of_kind k = record { kind = k; place = 0 }
+
+abbrev pub a_number : Token
+a_number = of_kind (kind.Number 0)
+
+abbrev pub a_name : Token
+a_name = of_kind (kind.Name 0)
+
+abbrev pub a_sign : Symbol → Token
+a_sign s = of_kind (kind.Symbol s)
+
+abbrev pub a_word : Keyword → Token
+a_word k = of_kind (kind.Keyword k)
+
+abbrev pub empty_braces : List Token
+empty_braces = a_sign symbol.OpenBrace ∷ a_sign symbol.CloseBrace ∷ []
 
 -- the tokens end before what is read does, or with it
 abbrev pub Unfinished : {A : Type 0} → Read (A × List Token) → Type 0
@@ -34,25 +47,27 @@ pub record Completion {A : Type 0} (read : Reader A) (Ends : List Token → Type
 pub record CompletesAt {A : Type 0} (read : Reader A) (Ends : List Token → Type 0) (ts : List Token) : Type 0 where
   pub completion : Unfinished (read ts) → Completion read Ends ts
 
--- The tokens of `fill` are read, and those that begin with any token are completed.
-pub record Completes {A : Type 0} (read : Reader A) (Ends : List Token → Type 0) (fill : List Token) : Type 0 where
-  pub filled : (rest : List Token) → Ends rest → (x : A) × (read (fill ++ rest) ≡ Ok (x, rest))
+-- a steady reader, which completes tokens of which there are some
+pub record CompletesSome {A : Type 0} (read : Reader A) (Ends : List Token → Type 0) : Type 0 where
+  pub steady : IsSteady read
   pub behind : (t : Token) (us : List Token) → CompletesAt read Ends (t ∷ us)
 
-abbrev pub Always : List Token → Type 0
-Always rest = Unit {0}
+-- the same, and the tokens of `fill` are read, so it completes any tokens
+pub record Completes {A : Type 0} (read : Reader A) (Ends : List Token → Type 0) (fill : List Token) : Type 0 where
+  pub some : CompletesSome read Ends
+  pub filled : (rest : List Token) → Ends rest → (x : A) × (read (fill ++ rest) ≡ Ok (x, rest))
 
 abbrev pub Begins : TokenKind → List Token → Type 0
 Begins k rest = begins k rest ≡ true
 
-pub each : {A : Type 0} {read : Reader A} {Ends : List Token → Type 0} {fill : List Token} → Completes read Ends fill → (ts : List Token) →
-    CompletesAt read Ends ts
+pub each : {A : Type 0} {read : Reader A} {Ends : List Token → Type 0} {fill : List Token} → Completes read Ends fill
+    → (ts : List Token) → CompletesAt read Ends ts
 each {fill = fill} c [] = record { completion = λ u. record { more = fill; reads = c.filled } }
-each c (t ∷ us) = c.behind t us
+each c (t ∷ us) = c.some.behind t us
 
 -- a reader that answers the same where this token comes first
-pub agree : {A : Type 0} (f g : Reader A) (Ends : List Token → Type 0) (t : Token) → ((us : List Token) → f (t ∷ us) ≡ g (t ∷ us)) →
-    (us : List Token) → CompletesAt g Ends (t ∷ us) → CompletesAt f Ends (t ∷ us)
+agree : {A : Type 0} (f g : Reader A) (Ends : List Token → Type 0) (t : Token) → ((us : List Token) → f (t ∷ us) ≡ g (t ∷ us))
+    → (us : List Token) → CompletesAt g Ends (t ∷ us) → CompletesAt f Ends (t ∷ us)
 agree f g Ends t h us c = record {
   completion = λ u.
       let m = c.completion (subst Unfinished (h us) u) in
@@ -61,12 +76,9 @@ agree f g Ends t h us c = record {
 
 -- ---- By the first token
 
--- what a reader does with tokens that begin with this one: it reads on, leaves them as they are, or stops
-pub data OnFirst {A : Type 0} (read : Reader A) (Ends : List Token → Type 0) (t : Token) : Type 0 where
-  ReadsOn : (next : Reader A) → ((ts : List Token) → CompletesAt next Ends ts) → ((ts : List Token) → read (t ∷ ts) ≡ next ts) →
-      OnFirst read Ends t
-  Leaves : (x : A) → ((ts : List Token) → read (t ∷ ts) ≡ Ok (x, t ∷ ts)) → OnFirst read Ends t
-  StopsThere : (o : Obstacle) → IsAt o t.place → ((ts : List Token) → read (t ∷ ts) ≡ Err o) → OnFirst read Ends t
+-- what a reader does with tokens that begin with this one, where those behind it are completed
+abbrev pub OnFirst : {A : Type 0} → Reader A → (List Token → Type 0) → Token → Type 0
+OnFirst read Ends t = ByFirst (λ next. (fill : List Token) × Completes next Ends fill) read t
 
 cons_nil : (t : Token) (ts : List Token) → t ∷ ts ≡ [] → ⊥
 cons_nil t ts e = cc
@@ -79,19 +91,29 @@ stopped : {A : Type 0} (o : Obstacle) (n : ℕ) → IsAt o n → Unfinished {A =
 stopped o n at (inl e) = subst (λ (p : Obstacle). IsAt p n) (err_is _ _ e) at
 stopped o n at (inr f) = err_ok _ _ f.1
 
-pub on_first : {A : Type 0} (read : Reader A) (Ends : List Token → Type 0) (t : Token) → OnFirst read Ends t → (us : List Token) →
-    CompletesAt read Ends (t ∷ us)
+on_first : {A : Type 0} (read : Reader A) (Ends : List Token → Type 0) (t : Token) → OnFirst read Ends t → (us : List Token)
+    → CompletesAt read Ends (t ∷ us)
 on_first read Ends t (ReadsOn next c h) us = record {
   completion = λ u.
-      let m = (c us).completion (subst Unfinished (h us) u) in
+      let m = (each c.1 us).completion (subst Unfinished (h us) u) in
       record { more = m.more; reads = λ rest e. let r = m.reads rest e in (r.0, h (us ++ (m.more ++ rest)) ∙ r.1) };
 }
 on_first read Ends t (Leaves x h) us = record { completion = λ u. absurd (left_over x t us (subst Unfinished (h us) u)) }
 on_first read Ends t (StopsThere o at h) us = record { completion = λ u. absurd (stopped o t.place at (subst Unfinished (h us) u)) }
 
+pub some_by_first : {A : Type 0} (read : Reader A) (Ends : List Token → Type 0) → AtEnd read → ((t : Token) → OnFirst read Ends t)
+    → CompletesSome read Ends
+some_by_first read Ends at_end h = record {
+  steady = by_first read at_end (λ t. known_by_first (λ next c. c.1.some.steady) (h t));
+  behind = λ t. on_first read Ends t (h t);
+}
+
 -- what reads nothing
 pub leaves_complete : {A : Type 0} (x : A) (Ends : List Token → Type 0) → Completes (λ ts. Ok (x, ts)) Ends []
-leaves_complete x Ends = record { filled = λ rest h. (x, refl); behind = λ t us. record { completion = λ u. absurd (left_over x t us u) } }
+leaves_complete x Ends = record {
+  some = some_by_first _ Ends (inr (x, refl)) (λ t. Leaves x (λ ts. refl));
+  filled = λ rest h. (x, refl);
+}
 
 -- ---- One reader after another
 
@@ -99,45 +121,30 @@ leaves_complete x Ends = record { filled = λ rest h. (x, refl); behind = λ t u
 Parted : {A B : Type 0} → Read (A × List Token) → (A × List Token → Read (B × List Token)) → Type 0
 Parted {A = A} r f = Unfinished r ⊎ ((x : A) × (u : Token) × (us : List Token) × (r ≡ Ok (x, u ∷ us)) × Unfinished (f (x, u ∷ us)))
 
-parted_ok : {A B : Type 0} (f : A × List Token → Read (B × List Token)) (x : A) (rest : List Token) → Unfinished (f (x, rest)) → Parted
-    (Ok (x, rest)) f
+parted_ok : {A B : Type 0} (f : A × List Token → Read (B × List Token)) (x : A) (rest : List Token) → Unfinished (f (x, rest))
+    → Parted (Ok (x, rest)) f
 unfolding Parted
 parted_ok f x [] h = inl (inr (x, refl))
 parted_ok f x (u ∷ us) h = inr (x, u, us, refl, h)
 
-parted_err : {A B : Type 0} (o : Obstacle) (f : A × List Token → Read (B × List Token)) → Unfinished {A = B} (Err o) → Parted {A = A}
-    (Err o) f
+parted_err : {A B : Type 0} (o : Obstacle) (f : A × List Token → Read (B × List Token)) → Unfinished {A = B} (Err o)
+    → Parted {A = A} (Err o) f
 unfolding Parted
 parted_err o f (inl e) = inl (inl (ap Err (err_is _ _ e)))
 parted_err o f (inr g) = absurd (err_ok _ _ g.1)
 
-parted_unfinished : {A B : Type 0} (r : Read (A × List Token)) (f : A × List Token → Read (B × List Token)) → Unfinished (read_then r f) →
-    Parted r f
+parted_unfinished : {A B : Type 0} (r : Read (A × List Token)) (f : A × List Token → Read (B × List Token))
+    → Unfinished (read_then r f) → Parted r f
 unfolding read_then
 parted_unfinished (Ok x) f h = parted_ok f x.0 x.1 h
 parted_unfinished (Err o) f h = parted_err o f h
 
-reads_both : {A B : Type 0} (first : Reader A) (second : ℕ → A → Reader B) (ts rest : List Token) (place : ℕ) (x : A)
-    (answer : Read (B × List Token)) → first ts ≡ Ok (x, rest) → place_at ts ≡ place → second place x rest ≡ answer → read_then (first ts)
-    (λ y. second (place_at ts) y.0 y.1) ≡ answer
-unfolding read_then
-reads_both first second ts rest place x answer f p s = rw (f, p) s
-
--- what is read before a token stays, with any tokens behind all
-kept_on : {A : Type 0} (first : Reader A) (ts : List Token) (x : A) (u : Token) (us tail : List Token) → SteadyAt first ts → first ts ≡ Ok
-    (x, u ∷ us) → (first (ts ++ tail) ≡ Ok (x, u ∷ (us ++ tail))) × (place_at (ts ++ tail) ≡ place_at ts)
-kept_on first ts x u us tail s e =
-    let g = s.goes_on x u us e in
-    let whole : ts ++ tail ≡ g.front ++ u ∷ (us ++ tail) =
-    ap (λ (v : List Token). v ++ tail) g.whole ∙ append_assoc g.front (u ∷ us) tail in
-    (ap first whole ∙ g.steady (us ++ tail), ap place_at whole ∙ same_place g.front u (us ++ tail) us ∙ ap place_at (sym g.whole))
-
 -- the second reader reads what fills it behind a completion of the first
-filled_behind : {A B : Type 0} (first : Reader A) (second : ℕ → A → Reader B) (Ends1 Ends2 : List Token → Type 0) (fill2 ts : List Token) →
-    Completion first Ends1 ts
-    → ((place : ℕ) (x : A) (rest : List Token) → Ends2 rest → (y : B) × (second place x (fill2 ++ rest) ≡ Ok (y, rest))) →
-    ((rest : List Token) → Ends2 rest → Ends1 (fill2 ++ rest))
-    → Completion (λ us. read_then (first us) (λ x. second (place_at us) x.0 x.1)) Ends2 ts
+filled_behind : {A B : Type 0} (first : Reader A) (second : ℕ → A → Reader B) (Ends1 Ends2 : List Token → Type 0) (fill2 ts : List Token)
+    → Completion first Ends1 ts
+    → ((place : ℕ) (x : A) (rest : List Token) → Ends2 rest → (y : B) × (second place x (fill2 ++ rest) ≡ Ok (y, rest)))
+    → ((rest : List Token) → Ends2 rest → Ends1 (fill2 ++ rest))
+    → Completion (one_then first second) Ends2 ts
 filled_behind first second Ends1 Ends2 fill2 ts c filled follows = record {
   more = c.more ++ fill2;
   reads = λ rest h.
@@ -145,52 +152,55 @@ filled_behind first second Ends1 Ends2 fill2 ts c filled follows = record {
       let r = c.reads (fill2 ++ rest) (follows rest h) in
       let here : first us ≡ Ok (r.0, fill2 ++ rest) = ap (λ (v : List Token). first (ts ++ v)) (append_assoc c.more fill2 rest) ∙ r.1 in
       let f = filled (place_at us) r.0 rest h in
-      (f.0, reads_both first second us (fill2 ++ rest) (place_at us) r.0 (Ok (f.0, rest)) here refl f.1);
+      (f.0, then_is (first us) _ (r.0, fill2 ++ rest) here ∙ f.1);
 }
 
-pub then_at : {A B : Type 0} (first : Reader A) (second : ℕ → A → Reader B) (Ends1 Ends2 : List Token → Type 0) (fill2 ts : List Token) →
-    SteadyAt first ts → CompletesAt first Ends1 ts
-    → ((place : ℕ) (x : A) (rest : List Token) → Ends2 rest → (y : B) × (second place x (fill2 ++ rest) ≡ Ok (y, rest))) →
-    ((rest : List Token) → Ends2 rest → Ends1 (fill2 ++ rest))
+then_at : {A B : Type 0} (first : Reader A) (second : ℕ → A → Reader B) (Ends1 Ends2 : List Token → Type 0) (fill2 ts : List Token)
+    → SteadyAt first ts → CompletesAt first Ends1 ts
+    → ((place : ℕ) (x : A) (rest : List Token) → Ends2 rest → (y : B) × (second place x (fill2 ++ rest) ≡ Ok (y, rest)))
+    → ((rest : List Token) → Ends2 rest → Ends1 (fill2 ++ rest))
     → ((x : A) (rest : List Token) → first ts ≡ Ok (x, rest) → CompletesAt (second (place_at ts) x) Ends2 rest)
-    → CompletesAt (λ us. read_then (first us) (λ x. second (place_at us) x.0 x.1)) Ends2 ts
+    → CompletesAt (one_then first second) Ends2 ts
 unfolding Parted
 then_at first second Ends1 Ends2 fill2 ts s c filled follows each2 = record {
   completion = λ u. elim (parted_unfinished (first ts) (λ x. second (place_at ts) x.0 x.1) u) [
     | inl f ↦ filled_behind first second Ends1 Ends2 fill2 ts (c.completion f) filled follows
     | inr a ↦
         let m = (each2 a.0 (a.1 ∷ a.2) a.3).completion a.4 in
+        let on = itself_to (second (place_at ts) a.0) [] a.1 a.2 refl in
+        let g = behind_read first second ts (a.1 ∷ a.2) a.0 a.1 a.2 _ s a.3 on in
         record {
           more = m.more;
           reads = λ rest h.
               let r = m.reads rest h in
-              let k = kept_on first ts a.0 a.1 a.2 (m.more ++ rest) s a.3 in (
-                r.0,
-                reads_both first second (ts ++ (m.more ++ rest)) (a.1 ∷ (a.2 ++ (m.more ++ rest))) (place_at ts) a.0
-                    (Ok (r.0, rest)) k.0 k.1 r.1,
-              );
+              let last : List Token = m.more ++ rest in
+              let whole : ts ++ last ≡ g.front ++ a.1 ∷ (a.2 ++ last) =
+              ap (λ (us : List Token). us ++ last) g.whole ∙ append_assoc g.front (a.1 ∷ a.2) last in
+              (r.0, ap (one_then first second) whole ∙ g.steady (a.2 ++ last) ∙ r.1);
         }
   ];
 }
 
-pub then_completes : {A B : Type 0} (first : Reader A)
-    (second : ℕ → A → Reader B) {Ends1 Ends2 : List Token → Type 0} {fill1 fill2 : List Token} → IsSteady first →
-    Completes first Ends1 fill1
+pub then_completes : {A B : Type 0} {first : Reader A} (second : ℕ → A → Reader B) {Ends1 Ends2 : List Token → Type 0}
+    {fill1 fill2 : List Token} → Completes first Ends1 fill1
     → ((rest : List Token) → Ends2 rest → Ends1 (fill2 ++ rest)) → ((place : ℕ) (x : A) → Completes (second place x) Ends2 fill2)
-    → Completes (λ us. read_then (first us) (λ x. second (place_at us) x.0 x.1)) Ends2 (fill1 ++ fill2)
+    → Completes (one_then first second) Ends2 (fill1 ++ fill2)
 unfolding filled_behind
-then_completes first second {Ends1 = Ends1} {Ends2 = Ends2} {fill1 = fill1} {fill2 = fill2} s c follows c2 = record {
+then_completes {first = first} second {Ends1 = Ends1} {Ends2 = Ends2} {fill1 = fill1} {fill2 = fill2} c follows c2 = record {
+  some = record {
+    steady = then_steady first second c.some.steady (λ place x. (c2 place x).some.steady);
+    behind = λ t us. then_at first second Ends1 Ends2 fill2 (t ∷ us) (c.some.steady (t ∷ us)) (c.some.behind t us)
+        (λ place x. (c2 place x).filled) follows (λ x rest e. each (c2 (place_at (t ∷ us)) x) rest);
+  };
   filled = (filled_behind first second Ends1 Ends2 fill2 [] (record { more = fill1; reads = c.filled })
       (λ place x. (c2 place x).filled) follows).reads;
-  behind = λ t us. then_at first second Ends1 Ends2 fill2 (t ∷ us) (s (t ∷ us)) (c.behind t us) (λ place x. (c2 place x).filled) follows
-      (λ x rest e. each (c2 (place_at (t ∷ us)) x) rest);
 }
 
 -- ---- A choice by the first token
 
-pub choose_at : {A : Type 0} (test : List Token → Bool) (one two : Reader A) (Ends : List Token → Type 0) (t : Token) (us : List Token) →
-    IsOfFirst test → CompletesAt one Ends (t ∷ us) → CompletesAt two Ends (t ∷ us) → CompletesAt
-    (λ ts. choose (test ts) (one ts) (two ts)) Ends (t ∷ us)
+choose_at : {A : Type 0} (test : List Token → Bool) (one two : Reader A) (Ends : List Token → Type 0) (t : Token) (us : List Token)
+    → IsOfFirst test → CompletesAt one Ends (t ∷ us) → CompletesAt two Ends (t ∷ us)
+    → CompletesAt (λ ts. choose (test ts) (one ts) (two ts)) Ends (t ∷ us)
 unfolding choose
 choose_at test one two Ends t us of_first c d =
     elim (cases_Bool (test (t ∷ us))) [
@@ -199,93 +209,70 @@ choose_at test one two Ends t us of_first c d =
     ]
 
 -- Where nothing stands, the second of the two is filled.
-pub choose_completes_by : {A : Type 0} (test : List Token → Bool) (one two : Reader A) {Ends : List Token → Type 0} {fill : List Token} →
-    IsOfFirst test → ((t : Token) (us : List Token) → CompletesAt one Ends (t ∷ us)) →
-    ((rest : List Token) → Ends rest → test (fill ++ rest) ≡ false) → Completes two Ends fill
-    → Completes (λ ts. choose (test ts) (one ts) (two ts)) Ends fill
+pub choose_completes_by : {A : Type 0} {one two : Reader A} (test : List Token → Bool) {Ends : List Token → Type 0} {fill : List Token}
+    → IsOfFirst test → CompletesSome one Ends → ((rest : List Token) → Ends rest → test (fill ++ rest) ≡ false)
+    → Completes two Ends fill → Completes (λ ts. choose (test ts) (one ts) (two ts)) Ends fill
 unfolding choose
-choose_completes_by test one two {Ends = Ends} of_first c other d = record {
+choose_completes_by {one = one} {two = two} test {Ends = Ends} of_first c other d = record {
+  some = record {
+    steady = λ ts. choose_steady test one two ts of_first (c.steady ts) (d.some.steady ts);
+    behind = λ t us. choose_at test one two Ends t us of_first (c.behind t us) (d.some.behind t us);
+  };
   filled = λ rest h. rw (other rest h) (d.filled rest h);
-  behind = λ t us. choose_at test one two Ends t us of_first (c t us) (d.behind t us);
 }
 
-pub choose_completes : {A : Type 0} (k : TokenKind) (one two : Reader A) {Ends : List Token → Type 0} {fill : List Token} →
-    ((t : Token) (us : List Token) → CompletesAt one Ends (t ∷ us)) → ((rest : List Token) → Ends rest → begins k (fill ++ rest) ≡ false) →
-    Completes two Ends fill
-    → Completes (λ ts. choose (begins k ts) (one ts) (two ts)) Ends fill
-choose_completes k one two c other d = choose_completes_by (begins k) one two (begins_of_first k) c other d
+pub choose_completes : {A : Type 0} {one two : Reader A} (k : TokenKind) {Ends : List Token → Type 0} {fill : List Token}
+    → CompletesSome one Ends → ((rest : List Token) → Ends rest → begins k (fill ++ rest) ≡ false)
+    → Completes two Ends fill → Completes (λ ts. choose (begins k ts) (one ts) (two ts)) Ends fill
+choose_completes k c other d = choose_completes_by (begins k) (begins_of_first k) c other d
 
 -- ---- Single tokens
 
-pub after_completes : {B : Type 0} (k : TokenKind) (second : ℕ → Reader B) {Ends : List Token → Type 0} {fill : List Token} →
-    ((place : ℕ) → Completes (second place) Ends fill) → Completes (λ us. read_then (after k us) (λ rest. second (place_at us) rest)) Ends
-    (of_kind k ∷ fill)
+pub after_completes : {B : Type 0} (k : TokenKind) (second : ℕ → Reader B) {Ends : List Token → Type 0} {fill : List Token}
+    → ((place : ℕ) → Completes (second place) Ends fill)
+    → Completes (λ us. read_then (after k us) (λ rest. second (place_at us) rest)) Ends (of_kind k ∷ fill)
 unfolding after place_at choose read_then
-after_completes k second {Ends = Ends} c = record {
-  filled = λ rest h. rw (same_kind-same k) ((c 0).filled rest h);
-  behind = λ t. on_first _ Ends t (elim (cases_Bool (same_kind t.kind k)) [
-    | inl e ↦ ReadsOn (second t.place) (each (c t.place)) (λ ts. rw e refl)
+after_completes k second {Ends = Ends} {fill = fill} c = record {
+  some = some_by_first _ Ends (inl refl) (λ t. elim (cases_Bool (same_kind t.kind k)) [
+    | inl e ↦ ReadsOn (second t.place) (fill, c t.place) (λ ts. rw e refl)
     | inr e ↦ StopsThere (Unexpected t.place) refl (λ ts. rw e refl)
   ]);
+  filled = λ rest h. rw (same_kind-same k) ((c 0).filled rest h);
 }
 
 -- where there is no room behind a token
-pub deep_completes : {B : Type 0} (k : TokenKind) (Ends : List Token → Type 0) (t : Token) (us : List Token) → CompletesAt {A = B}
-    (λ us. read_then (after k us) (λ rest. Err (TooDeep (place_at us)))) Ends (t ∷ us)
+pub deep_completes : {B : Type 0} (k : TokenKind) (Ends : List Token → Type 0)
+    → CompletesSome {A = B} (λ us. read_then (after k us) (λ rest. Err (TooDeep (place_at us)))) Ends
 unfolding after place_at choose read_then
-deep_completes k Ends t =
-    on_first _ Ends t (elim (cases_Bool (same_kind t.kind k)) [
+deep_completes k Ends =
+    some_by_first _ Ends (inl refl) (λ t. elim (cases_Bool (same_kind t.kind k)) [
       | inl e ↦ StopsThere (TooDeep t.place) refl (λ ts. rw e refl)
       | inr e ↦ StopsThere (Unexpected t.place) refl (λ ts. rw e refl)
     ])
 
-pub name_completes : Completes name_at Always (of_kind (kind.Name 0) ∷ [])
+pub name_completes : Completes name_at Always (a_name ∷ [])
 unfolding name_at
 name_completes = record {
+  some = some_by_first name_at Always (inl refl) (λ t. one t.kind t.place t (λ ts. refl) refl);
   filled = λ rest h. (record { number = 0; place = 0 }, refl);
-  behind = λ t. on_first name_at Always t
-      (one t.kind t.place t (λ ts. refl) refl);
 }
   where
-    one : (k : TokenKind) (place : ℕ) (t : Token) → ((ts : List Token) → name_at (t ∷ ts) ≡ name_of k place ts) → t.place ≡ place →
-        OnFirst name_at Always t
-    one (kind.Name n) place t h at =
-        ReadsOn (λ ts. Ok (record { number = n; place = place }, ts))
-        (each (leaves_complete (record { number = n; place = place }) Always)) h
+    one : (k : TokenKind) (place : ℕ) (t : Token) → ((ts : List Token) → name_at (t ∷ ts) ≡ name_of k place ts) → t.place ≡ place
+        → OnFirst name_at Always t
+    one (kind.Name n) place t h at = ReadsOn _ ([], leaves_complete (record { number = n; place = place }) Always) h
     one _ place t h at = StopsThere (Unexpected place) at h
 
-pub number_completes : Completes number_at Always (of_kind (kind.Number 0) ∷ [])
+pub number_completes : Completes number_at Always (a_number ∷ [])
 unfolding number_at
 number_completes = record {
+  some = some_by_first number_at Always (inl refl) (λ t. one t.kind t.place t (λ ts. refl) refl);
   filled = λ rest h. (record { value = 0; place = 0 }, refl);
-  behind = λ t. on_first number_at Always t
-      (one t.kind t.place t (λ ts. refl) refl);
 }
   where
-    one : (k : TokenKind) (place : ℕ) (t : Token) → ((ts : List Token) → number_at (t ∷ ts) ≡ number_of k place ts) → t.place ≡ place →
-        OnFirst number_at Always t
-    one (kind.Number n) place t h at =
-        ReadsOn (λ ts. Ok (record { value = n; place = place }, ts)) (each (leaves_complete (record { value = n; place = place }) Always)) h
+    one : (k : TokenKind) (place : ℕ) (t : Token) → ((ts : List Token) → number_at (t ∷ ts) ≡ number_of k place ts) → t.place ≡ place
+        → OnFirst number_at Always t
+    one (kind.Number n) place t h at = ReadsOn _ ([], leaves_complete (record { value = n; place = place }) Always) h
     one _ place t h at = StopsThere (Unexpected place) at h
-
-pub truth_completes : Completes truth_at Always (of_kind (kind.Keyword keyword.False) ∷ [])
-unfolding truth_at
-truth_completes =
-    choose_completes (kind.Keyword keyword.True) _ _
-    (after_completes (kind.Keyword keyword.True) _ (λ _. leaves_complete true Always)).behind (λ rest h. refl)
-    (after_completes (kind.Keyword keyword.False) _ (λ _. leaves_complete false Always))
-
-word_of_completes : (c : BagCall) → Completes (word_of_at c) Always (of_kind (kind.Keyword (call_word c)) ∷ [])
-unfolding word_of_at
-word_of_completes c = after_completes (kind.Keyword (call_word c)) _ (λ _. leaves_complete c Always)
-
-pub call_word_completes : Completes call_word_at Always (of_kind (kind.Keyword keyword.Most) ∷ [])
-unfolding call_word_at
-call_word_completes =
-    choose_completes (kind.Keyword keyword.Size) _ _ (word_of_completes call.Size).behind (λ rest h. refl)
-    (choose_completes (kind.Keyword keyword.Sum) _ _ (word_of_completes call.Sum).behind (λ rest h. refl)
-    (choose_completes (kind.Keyword keyword.Least) _ _ (word_of_completes call.Least).behind (λ rest h. refl)
-    (word_of_completes call.Most)))
 
 -- ---- Lists
 
@@ -293,41 +280,43 @@ many_stops : {A : Type 0} (one : Reader A) (stop : TokenKind) (rest : List Token
 unfolding many_at choose
 many_stops one stop rest h = rw h refl
 
-one_read : {A : Type 0} (one : Reader A) (stop : TokenKind) (x : A) (rest : List Token) → Begins stop rest →
-    read_then {B = List A × List Token} (many_at one stop rest) (λ xs. Ok (x ∷ xs.0, xs.1)) ≡ Ok (x ∷ [], rest)
+one_read : {A : Type 0} (one : Reader A) (stop : TokenKind) (x : A) (rest : List Token) → Begins stop rest
+    → read_then {B = List A × List Token} (many_at one stop rest) (λ xs. Ok (x ∷ xs.0, xs.1)) ≡ Ok (x ∷ [], rest)
 unfolding read_then
 one_read one stop x rest h = rw (many_stops one stop rest h) refl
 
-many_within : {A : Type 0} (one : Reader A) (stop : TokenKind) (Ends : List Token → Type 0) → Shortens one → IsSteady one →
-    ((ts : List Token) → CompletesAt one Ends ts) → ((rest : List Token) → Begins stop rest → Ends rest)
+many_within : {A : Type 0} (one : Reader A) (stop : TokenKind) (Ends : List Token → Type 0) (fill : List Token) → Shortens one
+    → Completes one Ends fill → ((rest : List Token) → Begins stop rest → Ends rest)
     → (n : ℕ) (ts : List Token) → length ts < n → CompletesAt (many_at one stop) (Begins stop) ts
-many_within one stop Ends short s c ends zero ts lt = absurd (omega (arith, lt))
-many_within {A = A} one stop Ends short s c ends (suc n) [] lt =
+many_within one stop Ends fill short c ends zero ts lt = absurd (omega (arith, lt))
+many_within {A = A} one stop Ends fill short c ends (suc n) [] lt =
     record { completion = λ u. record { more = []; reads = λ rest h. ([], many_stops one stop rest h) } }
-many_within {A = A} one stop Ends short s c ends (suc n) (t ∷ us) lt =
+many_within {A = A} one stop Ends fill short c ends (suc n) (t ∷ us) lt =
     agree (many_at one stop) _ (Begins stop) t (λ other. many_step one stop short (t ∷ other)) us
     (choose_at (begins stop) (λ ts. Ok ([], ts)) _ (Begins stop) t us (begins_of_first stop)
-    ((leaves_complete [] (Begins stop)).behind t us)
-    (then_at one (λ place x ts. read_then (many_at one stop ts) (λ xs. Ok (x ∷ xs.0, xs.1))) Ends (Begins stop) [] (t ∷ us) (s (t ∷ us))
-    (c (t ∷ us)) (λ place x rest h. (x ∷ [], one_read one stop x rest h)) ends (λ x rest e.
-    then_at (many_at one stop) (λ place xs ts. Ok (x ∷ xs, ts)) (Begins stop) (Begins stop) [] rest (many_steady one stop short s rest)
-    (many_within one stop Ends short s c ends n rest (omega (arith, short (t ∷ us) (x, rest) e, lt)))
+    ((leaves_complete [] (Begins stop)).some.behind t us)
+    (then_at one (λ place x ts. read_then (many_at one stop ts) (λ xs. Ok (x ∷ xs.0, xs.1))) Ends (Begins stop) [] (t ∷ us)
+    (c.some.steady (t ∷ us)) (c.some.behind t us) (λ place x rest h. (x ∷ [], one_read one stop x rest h)) ends (λ x rest e.
+    then_at (many_at one stop) (λ place xs ts. Ok (x ∷ xs, ts)) (Begins stop) (Begins stop) [] rest
+    (many_steady one stop short c.some.steady rest)
+    (many_within one stop Ends fill short c ends n rest (omega (arith, short (t ∷ us) (x, rest) e, lt)))
     (λ place xs last h. (x ∷ xs, refl)) (λ last h. h) (λ xs last f. each (leaves_complete (x ∷ xs) (Begins stop)) last))))
 
-pub many_completes : {A : Type 0} (one : Reader A) (stop : TokenKind) {Ends : List Token → Type 0} {fill : List Token} → Shortens one →
-    IsSteady one → Completes one Ends fill → ((rest : List Token) → Begins stop rest → Ends rest) → Completes (many_at one stop)
-    (Begins stop) []
-many_completes one stop {Ends = Ends} short s c ends = record {
+pub many_completes : {A : Type 0} {one : Reader A} (stop : TokenKind) {Ends : List Token → Type 0} {fill : List Token} → Shortens one
+    → Completes one Ends fill → ((rest : List Token) → Begins stop rest → Ends rest) → Completes (many_at one stop) (Begins stop) []
+many_completes {one = one} stop {Ends = Ends} {fill = fill} short c ends = record {
+  some = record {
+    steady = many_steady one stop short c.some.steady;
+    behind = λ t us. many_within one stop Ends fill short c ends (suc (length (t ∷ us))) (t ∷ us) (omega arith);
+  };
   filled = λ rest h. ([], many_stops one stop rest h);
-  behind = λ t us. many_within one stop Ends short s (each c) ends (suc (length (t ∷ us))) (t ∷ us) (omega arith);
 }
 
-pub braces_complete : {A : Type 0} (one : Reader A) {Ends : List Token → Type 0} {fill : List Token} (Behind : List Token → Type 0) →
-    Shortens one → IsSteady one → Completes one Ends fill → ((rest : List Token) → Begins (kind.Symbol symbol.CloseBrace) rest → Ends rest)
-    → Completes (braces_at one) Behind (of_kind (kind.Symbol symbol.OpenBrace) ∷ of_kind (kind.Symbol symbol.CloseBrace) ∷ [])
+pub braces_complete : {A : Type 0} {one : Reader A} {Ends : List Token → Type 0} {fill : List Token} → Shortens one
+    → Completes one Ends fill → ((rest : List Token) → Begins (kind.Symbol symbol.CloseBrace) rest → Ends rest)
+    → Completes (braces_at one) Always empty_braces
 unfolding braces_at
-braces_complete one Behind short s c ends =
+braces_complete short c ends =
     after_completes (kind.Symbol symbol.OpenBrace) _ (λ _.
-    then_completes (many_at one (kind.Symbol symbol.CloseBrace)) _ (many_steady one (kind.Symbol symbol.CloseBrace) short s)
-    (many_completes one (kind.Symbol symbol.CloseBrace) short s c ends) (λ rest h. refl) (λ _ xs.
-    after_completes (kind.Symbol symbol.CloseBrace) _ (λ _. leaves_complete xs Behind)))
+    then_completes _ (many_completes (kind.Symbol symbol.CloseBrace) short c ends) (λ rest h. refl) (λ _ xs.
+    after_completes (kind.Symbol symbol.CloseBrace) _ (λ _. leaves_complete xs Always)))

@@ -1,25 +1,24 @@
 -- The token that a refusal names is the first with which no file goes on.
-use Rattle.std.proofs.Common.{◌≡◌, ℕ, zero, suc, ◌+◌, ◌<◌, ◌≤◌, All, arith, List, [], ◌∷◌, ◌++◌, length, Some, Ok, Err, refl, sym}
+use Rattle.std.proofs.Common.{◌≡◌, ℕ, zero, suc, ◌<◌, ◌≤◌, All, arith, List, [], ◌∷◌, ◌++◌, length, Some, Ok, Err, refl, sym}
 use Rattle.std.proofs.Common.{ap, subst, ◌∙◌, inl, inr, append_assoc}
 use Rattle.dv_lex.specs.declared.error.Refusal.{Refusal}
 use Rattle.dv_lex.specs.declared.token.Token.{Token}
 use Rattle.dv_syntax.specs.Written.{WrittenFile}
 use Rattle.dv_syntax.specs.Grammar.{Limits, the_limits, IsFileWithin}
-use Rattle.dv_parser.specs.Reading.{Obstacle, Unexpected, TooDeep, TooShort, Read, file_at, refusal_of, refusal_in, refusal_of_tokens}
+use Rattle.dv_parser.specs.Reading.{Obstacle, Unexpected, TooDeep, TooShort, Read, file_at, refusal_of, refusal_in}
+use Rattle.dv_parser.specs.Reading.{refusal_of_tokens}
 use Rattle.dv_dead_ends.specs.Refusals.{BeginsFileWithin, BeginsFile, BeginsFileAtAnyDepth, NoneBeginsAt, IsNumberOf, IsDeadEnd}
-use Rattle.dv_parser.proofs.Tokens.{some_is}
+use Rattle.dv_parser.proofs.Tokens.{some_is, err_is}
 use Rattle.dv_parser.proofs.Models.{file_refused}
-use Rattle.dv_dead_ends.proofs.Steady.{IsAt, Stops, err_is, ok_err}
-use Rattle.dv_dead_ends.proofs.SteadyReaders.{whole_at, whole_steady, whole_err, file_err}
+use Rattle.dv_dead_ends.proofs.Depths.{HaveRoom, AreWidened, our_room, wide_room, above, above_theirs, above_ours, file_within}
+use Rattle.dv_dead_ends.proofs.Steady.{IsAt, Stops, stops_as, ok_err}
 use Rattle.dv_dead_ends.proofs.Completions.{Unfinished}
-use Rattle.dv_dead_ends.proofs.Beginnings.{HaveRoom, begins_file}
-use Rattle.dv_dead_ends.proofs.Depths.{AreGreater, file_within}
 use Rattle.dv_dead_ends.proofs.Widening.{WidensAt, AnswersSame, GoesPast, unexpected_deep}
-use Rattle.dv_dead_ends.proofs.WideningReaders.{AreWidened, whole_widens}
+use Rattle.dv_dead_ends.proofs.ModelReaders.{whole_at, whole_widens, whole_steady, whole_err, file_err, begins_file}
 
 -- where a reader of files stops at a token, no file goes on
-none_begins : (limits : Limits) (ts : List Token) (o : Obstacle) (g : Stops (whole_at limits) ts o) → ¬ BeginsFileWithin limits
-    (g.front ++ g.token ∷ [])
+none_begins : (limits : Limits) (ts : List Token) (o : Obstacle) (g : Stops (whole_at limits) ts o)
+    → ¬ BeginsFileWithin limits (g.front ++ g.token ∷ [])
 none_begins limits ts o g b =
     let is : IsFileWithin limits (g.front ++ g.token ∷ b.0) b.1 =
     subst (λ (us : List Token). IsFileWithin limits us b.1) (append_assoc g.front (g.token ∷ []) b.0) b.2 in
@@ -35,16 +34,16 @@ record StopsFirst (limits : Limits) (ts : List Token) (o : Obstacle) : Type 0 wh
   stops : Stops (whole_at limits) ts o
   begun : BeginsFileWithin limits stops.front
 
-same_stop : (limits : Limits) (ts : List Token) (o p : Obstacle) (g : Stops (whole_at limits) ts o) → Stops (whole_at limits) g.front p → p
-    ≡ o
+same_stop : (limits : Limits) (ts : List Token) (o p : Obstacle) (g : Stops (whole_at limits) ts o)
+    → Stops (whole_at limits) g.front p → p ≡ o
 same_stop limits ts o p g h =
     let whole : g.front ++ g.token ∷ g.behind ≡ h.front ++ h.token ∷ (h.behind ++ g.token ∷ g.behind) =
     ap (λ (us : List Token). us ++ g.token ∷ g.behind) h.whole ∙ append_assoc h.front (h.token ∷ h.behind) (g.token ∷ g.behind) in
     err_is _ _ (sym (h.steady (h.behind ++ g.token ∷ g.behind)) ∙ ap (whole_at limits) (sym whole) ∙ g.steady g.behind)
 
 -- a stop among the tokens before a stop
-earlier : (limits : Limits) (ts : List Token) (o p : Obstacle) (g : Stops (whole_at limits) ts o) → Stops (whole_at limits) g.front p →
-    Stops (whole_at limits) ts o
+earlier : (limits : Limits) (ts : List Token) (o p : Obstacle) (g : Stops (whole_at limits) ts o)
+    → Stops (whole_at limits) g.front p → Stops (whole_at limits) ts o
 earlier limits ts o p g h =
     let same : p ≡ o = same_stop limits ts o p g h in
     record {
@@ -58,11 +57,11 @@ earlier limits ts o p g h =
     }
 
 -- what is read of the tokens before a stop leaves none of them
-read_before : (limits : Limits) (ts : List Token) (o : Obstacle) (g : Stops (whole_at limits) ts o) (x : WrittenFile) (rest : List Token) →
-    whole_at limits g.front ≡ Ok (x, rest) → Unfinished (whole_at limits g.front)
-read_before limits ts o g x [] e = inr (x, e)
-read_before limits ts o g x (u ∷ us) e =
-    let h = (whole_steady limits g.front).goes_on x u us e in
+read_before : (limits : Limits) → HaveRoom limits → (ts : List Token) (o : Obstacle) (g : Stops (whole_at limits) ts o)
+    (x : WrittenFile) (rest : List Token) → whole_at limits g.front ≡ Ok (x, rest) → Unfinished (whole_at limits g.front)
+read_before limits room ts o g x [] e = inr (x, e)
+read_before limits room ts o g x (u ∷ us) e =
+    let h = (whole_steady limits room g.front).goes_on x u us e in
     let whole : g.front ++ g.token ∷ g.behind ≡ h.front ++ u ∷ (us ++ g.token ∷ g.behind) =
     ap (λ (v : List Token). v ++ g.token ∷ g.behind) h.whole ∙ append_assoc h.front (u ∷ us) (g.token ∷ g.behind) in
     absurd (ok_err _ _ (sym (h.steady (us ++ g.token ∷ g.behind)) ∙ ap (whole_at limits) (sym whole) ∙ g.steady g.behind))
@@ -72,21 +71,21 @@ shorter_front [] t behind = omega arith
 shorter_front (u ∷ front) t behind = omega (arith, shorter_front front t behind)
 
 -- by what is read of the tokens before a stop, where a stop among those leads to the first
-stop_by : (limits : Limits) → HaveRoom limits → (ts : List Token) (o : Obstacle) (g : Stops (whole_at limits) ts o) →
-    ((h : Stops (whole_at limits) ts o) → length h.front < length g.front → StopsFirst limits ts o) →
-    (a : Read (WrittenFile × List Token)) → whole_at limits g.front ≡ a → StopsFirst limits ts o
+stop_by : (limits : Limits) → HaveRoom limits → (ts : List Token) (o : Obstacle) (g : Stops (whole_at limits) ts o)
+    → ((h : Stops (whole_at limits) ts o) → length h.front < length g.front → StopsFirst limits ts o)
+    → (a : Read (WrittenFile × List Token)) → whole_at limits g.front ≡ a → StopsFirst limits ts o
 unfolding earlier
 stop_by limits room ts o g again (Ok x) e =
-    record { stops = g; begun = begins_file limits room g.front (read_before limits ts o g x.0 x.1 e) }
+    record { stops = g; begun = begins_file limits room g.front (read_before limits room ts o g x.0 x.1 e) }
 stop_by limits room ts o g again (Err p) e =
-    elim ((whole_steady limits g.front).stops p e) [
+    elim ((whole_steady limits room g.front).stops p e) [
       | inl short ↦ record { stops = g; begun = begins_file limits room g.front (inl (e ∙ ap Err short)) }
       | inr h ↦ again (earlier limits ts o p g h)
           (subst (λ (us : List Token). length h.front < length us) (sym h.whole) (shorter_front h.front h.token h.behind))
     ]
 
-first_stop : (limits : Limits) → HaveRoom limits → (n : ℕ) (ts : List Token) (o : Obstacle) (g : Stops (whole_at limits) ts o) →
-    length g.front < n → StopsFirst limits ts o
+first_stop : (limits : Limits) → HaveRoom limits → (n : ℕ) (ts : List Token) (o : Obstacle) (g : Stops (whole_at limits) ts o)
+    → length g.front < n → StopsFirst limits ts o
 first_stop limits room zero ts o g lt = absurd (omega (arith, lt))
 first_stop limits room (suc n) ts o g lt =
     stop_by limits room ts o g (λ h less. first_stop limits room n ts o h (omega (arith, less, lt))) (whole_at limits g.front) refl
@@ -124,40 +123,12 @@ head_is (x ∷ front) t u c d e = head_is front t u c d (tail_is _ _ _ _ e).1
 
 -- ---- The number of the refusal
 
-room : HaveRoom the_limits
-room = record { expression = omega arith; block = omega arith }
-
--- limits greater than those of the language, and than others
-above : Limits → Limits
-above limits = record {
-  expression = suc (the_limits.expression + limits.expression);
-  block = suc (the_limits.block + limits.block);
-  loop = suc (the_limits.loop + limits.loop);
-}
-
-above_theirs : (limits : Limits) → AreGreater limits (above limits)
-unfolding above
-above_theirs limits = record { expression = omega arith; block = omega arith; loop = omega arith }
-
-above_ours : (limits : Limits) → AreWidened the_limits (above limits)
-unfolding above
-above_ours limits = record { room = room; greater = record { expression = omega arith; block = omega arith; loop = omega arith } }
-
-greater_room : (narrow wide : Limits) → AreGreater narrow wide → HaveRoom wide
-greater_room narrow wide g = record { expression = omega (arith, g.expression); block = omega (arith, g.block) }
-
 -- a token that can't stand there stops the reader within greater limits too
 still_stops : (wide : Limits) → AreWidened the_limits wide → (ts : List Token) (place : ℕ)
     → Stops (whole_at the_limits) ts (Unexpected place) → Stops (whole_at wide) ts (Unexpected place)
-still_stops wide g ts place s = record {
-  front = s.front;
-  token = s.token;
-  behind = s.behind;
-  whole = s.whole;
-  at = s.at;
-  steady = λ other. let us : List Token =
-      s.front ++ s.token ∷ other in by_answer us ((whole_widens the_limits wide g).each us) (s.steady other);
-}
+still_stops wide g ts place s = stops_as s (λ other.
+    let us : List Token = s.front ++ s.token ∷ other in
+    by_answer us ((whole_widens the_limits wide g).each us) (s.steady other))
   where
     by_answer : (us : List Token) → WidensAt (whole_at the_limits) (whole_at wide) us → whole_at the_limits us ≡ Err (Unexpected place)
         → whole_at wide us ≡ Err (Unexpected place)
@@ -165,8 +136,8 @@ still_stops wide g ts place s = record {
     by_answer us (GoesPast n d u) stop =
         absurd (unexpected_deep place n (err_is _ _ (sym stop ∙ ap (whole_at the_limits) d.whole ∙ d.steady d.behind)))
 
-none_deeper : (ts : List Token) (place : ℕ) (s : Stops (whole_at the_limits) ts (Unexpected place)) → ¬ BeginsFileAtAnyDepth
-    (s.front ++ s.token ∷ [])
+none_deeper : (ts : List Token) (place : ℕ) (s : Stops (whole_at the_limits) ts (Unexpected place))
+    → ¬ BeginsFileAtAnyDepth (s.front ++ s.token ∷ [])
 unfolding still_stops
 none_deeper ts place s b =
     let wide : Limits = above b.0 in
@@ -198,7 +169,7 @@ begins_deeper wide g ts place s begun = by_answer ((whole_widens the_limits wide
     by_answer : WidensAt (whole_at the_limits) (whole_at wide) ts → BeginsFileWithin wide (s.front ++ s.token ∷ [])
     by_answer (AnswersSame e shallow) = absurd (shallow.never place (ap (whole_at the_limits) s.whole ∙ s.steady s.behind))
     by_answer (GoesPast n d u) =
-        past n d (begins_file wide (greater_room the_limits wide g.greater) (d.front ++ d.token ∷ []) u)
+        past n d (begins_file wide (wide_room the_limits wide g.greater) (d.front ++ d.token ∷ []) u)
         (fronts d.front d.token d.behind s.front s.token s.behind (sym d.whole ∙ s.whole))
 
 number_is : (ts : List Token) (o : Obstacle) (end : ℕ) (s : Stops (whole_at the_limits) ts o) → BeginsFile s.front
@@ -211,18 +182,18 @@ number_is ts TooShort end s begun = absurd s.at
 
 stopped : (ts : List Token) (end : ℕ) (o : Obstacle) → file_at the_limits ts ≡ Err o → IsDeadEnd ts end (refusal_of o end)
 stopped ts end o e =
-    elim ((whole_steady the_limits ts).stops o (whole_err the_limits ts o e)) [
+    elim ((whole_steady the_limits our_room ts).stops o (whole_err the_limits ts o e)) [
       | inl short ↦ inr (
         ap
             (λ (p : Obstacle). refusal_of p end) short,
         record {
-          begun = begins_file the_limits room ts
+          begun = begins_file the_limits our_room ts
               (inl (whole_err the_limits ts o e ∙ ap Err short));
           none = λ f is. file_refused the_limits ts o e f is;
         },
       )
       | inr s ↦
-          let first = first_stop the_limits room (suc (length s.front)) ts o s (omega arith) in
+          let first = first_stop the_limits our_room (suc (length s.front)) ts o s (omega arith) in
           let g = first.stops in
           inl (record {
             first = record {
@@ -250,8 +221,8 @@ token_among : (P : Token → Type 0) (before : List Token) (t : Token) (behind :
 token_among P [] t behind h = h 0 t (omega arith)
 token_among P (u ∷ before) t behind h = token_among P before t behind (λ k d lt. h (suc k) d (omega (arith, lt)))
 
-pub within_text : (ts : List Token) (end : ℕ) (r : Refusal) → All (λ (t : Token). t.place < end) ts → refusal_of_tokens ts end ≡ Some r →
-    r.place ≤ end
+pub within_text : (ts : List Token) (end : ℕ) (r : Refusal) → All (λ (t : Token). t.place < end) ts → refusal_of_tokens ts end ≡ Some r
+    → r.place ≤ end
 within_text ts end r all h =
     elim (dead_end ts end r h) [
       | inl w ↦

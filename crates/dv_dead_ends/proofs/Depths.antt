@@ -1,15 +1,53 @@
--- What is within limits on depth is within greater ones.
-use Rattle.std.proofs.Common.{◌<◌, List, [], ◌∷◌, Option, Some, None, arith}
+-- Limits on depth and greater ones: what is within the ones is within the others.
+use Rattle.std.proofs.Common.{◌<◌, suc, ◌+◌, List, [], ◌∷◌, Option, Some, None, arith}
 use Rattle.std.specs.List.{AllByRecursion}
 use Rattle.dv_lex.specs.declared.token.Token.{Token}
 use Rattle.dv_syntax.specs.Trees.{Expression, Statements, Done, Assign, Goto, Send, If, IfElse, For, Add, Drop, FileTree}
-use Rattle.dv_syntax.specs.Written.{AtomicItem, Declares, Lists, Starts, Holds, Rules, WrittenModel, WrittenAtomic, WrittenCoupled}
-use Rattle.dv_syntax.specs.Grammar.{Limits, IsExpression, AreStatements, AreTicks, IsItem, IsModel, IsFileWithin}
+use Rattle.dv_syntax.specs.Written.{AtomicItem, Declares, Lists, Starts, Holds, Rules, WrittenModel, WrittenAtomic}
+use Rattle.dv_syntax.specs.Written.{WrittenCoupled}
+use Rattle.dv_syntax.specs.Grammar.{Limits, the_limits, IsExpression, AreStatements, AreTicks, IsItem, IsModel, IsFileWithin}
 
 pub record AreGreater (narrow wide : Limits) : Type 0 where
   pub expression : narrow.expression < wide.expression
   pub block : narrow.block < wide.block
   pub loop : narrow.loop < wide.loop
+
+-- an expression and a block can be within the limits, with no loop
+pub record HaveRoom (limits : Limits) : Type 0 where
+  pub expression : 0 < limits.expression
+  pub block : 0 < limits.block
+
+-- limits that leave room, and greater ones
+pub record AreWidened (narrow wide : Limits) : Type 0 where
+  pub room : HaveRoom narrow
+  pub greater : AreGreater narrow wide
+
+pub wide_room : (narrow wide : Limits) → AreGreater narrow wide → HaveRoom wide
+wide_room narrow wide g = record { expression = omega (arith, g.expression); block = omega (arith, g.block) }
+
+-- limits greater than those of the language, and than others
+pub above : Limits → Limits
+above limits = record {
+  expression = suc (the_limits.expression + limits.expression);
+  block = suc (the_limits.block + limits.block);
+  loop = suc (the_limits.loop + limits.loop);
+}
+
+pub above_theirs : (limits : Limits) → AreGreater limits (above limits)
+unfolding above
+above_theirs limits = record { expression = omega arith; block = omega arith; loop = omega arith }
+
+pub our_room : HaveRoom the_limits
+our_room = record { expression = omega arith; block = omega arith }
+
+pub above_ours : (limits : Limits) → AreWidened the_limits (above limits)
+unfolding above
+above_ours limits = record { room = our_room; greater = record { expression = omega arith; block = omega arith; loop = omega arith } }
+
+pub widened : (limits : Limits) → HaveRoom limits → AreWidened limits (above limits)
+widened limits room = record { room = room; greater = above_theirs limits }
+
+-- ---- What is within them
 
 expression_within : (n w : Limits) → AreGreater n w → (e : Expression) → IsExpression n e → IsExpression w e
 expression_within n w g e is = record { formed = is.formed; within = omega (arith, is.within, g.expression) }

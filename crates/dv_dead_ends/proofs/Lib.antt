@@ -1,8 +1,8 @@
 pub mod Steady
-pub mod SteadyReaders
 pub mod Completions
-pub mod Beginnings
 pub mod Depths
 pub mod Widening
-pub mod WideningReaders
+pub mod ExpressionReaders
+pub mod StatementReaders
+pub mod ModelReaders
 pub mod DeadEnds

@@ -4,26 +4,27 @@ use Rattle.std.proofs.Common.{subst, ◌∙◌, ◌⊎◌, inl, inr, append_asso
 use Rattle.std.proofs.lemmas.Bool.{cases_Bool}
 use Rattle.dv_lex.specs.declared.token.Token.{Token}
 use Rattle.dv_lex.specs.declared.token.TokenKind.{TokenKind}
-use Rattle.dv_lex.specs.declared.token.TokenKind.TheVariants as kind
-use Rattle.dv_lex.specs.declared.token.Keyword.TheVariants as keyword
-use Rattle.dv_lex.specs.declared.token.Symbol.TheVariants as symbol
-use Rattle.dv_syntax.specs.declared.tree.BagCall.{BagCall}
-use Rattle.dv_syntax.specs.declared.tree.BagCall.TheVariants as call
-use Rattle.dv_syntax.specs.Grammar.{call_word}
-use Rattle.dv_parser.specs.Reading.{Obstacle, Unexpected, TooDeep, TooShort, Read, read_then, choose, same_kind, begins}
-use Rattle.dv_parser.specs.Reading.{begins_name, begins_truth, begins_call, truth_at, word_of_at, call_word_at, after, place_at}
-use Rattle.dv_parser.specs.Reading.{name_of, name_at, number_of, number_at, many, many_at, braces_at}
-use Rattle.dv_parser.proofs.Tokens.{then_ok, ok_is, err_ok}
-use Rattle.dv_parser.proofs.Readers.{Shortens, same_after, same_many}
-
-abbrev pub Reader : Type 0 → Type 0
-Reader A = List Token → Read (A × List Token)
+use Rattle.dv_parser.specs.Reading.{Obstacle, Unexpected, TooDeep, TooShort, Read, read_then, choose, begins, Reader}
+use Rattle.dv_parser.specs.Reading.{begins_name, begins_truth, begins_call, place_at, many, many_at}
+use Rattle.dv_parser.proofs.Tokens.{then_ok, ok_is, err_ok, err_is, same_after, then_err}
+use Rattle.dv_parser.proofs.Readers.{Shortens, same_many}
 
 -- an obstacle at the token of a place
 abbrev pub IsAt : Obstacle → ℕ → Type 0
 IsAt (Unexpected place) n = n ≡ place
 IsAt (TooDeep place) n = n ≡ place
 IsAt TooShort n = ⊥
+
+-- up to a token the reader answers this, whatever follows that token
+pub record UpTo {A : Type 0} (read : Reader A) (ts : List Token) (t : Token) (more : List Token)
+    (answer : List Token → Read (A × List Token)) : Type 0 where
+  pub front : List Token
+  pub whole : ts ≡ front ++ t ∷ more
+  pub steady : (other : List Token) → read (front ++ t ∷ other) ≡ answer other
+
+-- the reader reads what is before a token, whatever follows that one
+abbrev pub GoesOn : {A : Type 0} → Reader A → List Token → A → Token → List Token → Type 0
+GoesOn read ts x t more = UpTo read ts t more (λ other. Ok (x, t ∷ other))
 
 -- the reader stops at a token, whatever follows that one
 pub record Stops {A : Type 0} (read : Reader A) (ts : List Token) (o : Obstacle) : Type 0 where
@@ -34,11 +35,18 @@ pub record Stops {A : Type 0} (read : Reader A) (ts : List Token) (o : Obstacle)
   pub at : IsAt o token.place
   pub steady : (other : List Token) → read (front ++ token ∷ other) ≡ Err o
 
--- the reader reads what is before a token, whatever follows that one
-pub record GoesOn {A : Type 0} (read : Reader A) (ts : List Token) (x : A) (t : Token) (more : List Token) : Type 0 where
-  pub front : List Token
-  pub whole : ts ≡ front ++ t ∷ more
-  pub steady : (other : List Token) → read (front ++ t ∷ other) ≡ Ok (x, t ∷ other)
+-- another reader stops at the same token
+abbrev pub stops_as : {A B : Type 0} {read : Reader A} {again : Reader B} {ts : List Token} {o : Obstacle} (g : Stops read ts o)
+    → ((other : List Token) → again (g.front ++ g.token ∷ other) ≡ Err o) → Stops again ts o
+stops_as g h = record { front = g.front; token = g.token; behind = g.behind; whole = g.whole; at = g.at; steady = h }
+
+abbrev pub to_stop : {A : Type 0} {read : Reader A} {ts : List Token} {o : Obstacle} (g : Stops read ts o)
+    → UpTo read ts g.token g.behind (λ other. Err o)
+to_stop g = record { front = g.front; whole = g.whole; steady = g.steady }
+
+abbrev pub stop_at : {A : Type 0} {read : Reader A} {ts : List Token} {o : Obstacle} (t : Token) (more : List Token) → IsAt o t.place
+    → UpTo read ts t more (λ other. Err o) → Stops read ts o
+stop_at t more at g = record { front = g.front; token = t; behind = more; whole = g.whole; at = at; steady = g.steady }
 
 pub record SteadyAt {A : Type 0} (read : Reader A) (ts : List Token) : Type 0 where
   pub goes_on : (x : A) (t : Token) (more : List Token) → read ts ≡ Ok (x, t ∷ more) → GoesOn read ts x t more
@@ -46,9 +54,6 @@ pub record SteadyAt {A : Type 0} (read : Reader A) (ts : List Token) : Type 0 wh
 
 abbrev pub IsSteady : {A : Type 0} → Reader A → Type 0
 IsSteady read = (ts : List Token) → SteadyAt read ts
-
-pub err_is : {A : Type 0} (p o : Obstacle) → ◌≡◌ {A = Read A} (Err p) (Err o) → p ≡ o
-err_is p o e = cc
 
 pub ok_err : {A : Type 0} (x : A) (o : Obstacle) → ◌≡◌ {A = Read A} (Ok x) (Err o) → ⊥
 ok_err x o e = cc
@@ -59,22 +64,32 @@ same_steady {A = A} f g h ts s = subst (λ (r : Reader A). SteadyAt r ts) (λ i 
 
 -- ---- By the first token
 
--- what a reader does with tokens that begin with this one: it reads on, leaves them as they are, or stops
-pub data ByFirst {A : Type 0} (read : Reader A) (t : Token) : Type 0 where
-  ReadsOn : (next : Reader A) → IsSteady next → ((ts : List Token) → read (t ∷ ts) ≡ next ts) → ByFirst read t
-  Leaves : (x : A) → ((ts : List Token) → read (t ∷ ts) ≡ Ok (x, t ∷ ts)) → ByFirst read t
-  StopsThere : (o : Obstacle) → IsAt o t.place → ((ts : List Token) → read (t ∷ ts) ≡ Err o) → ByFirst read t
+-- What a reader does with tokens that begin with this one: it reads on by a reader of which this is known, leaves them as
+-- they are, or stops.
+pub data ByFirst {A : Type 0} (Known : Reader A → Type 0) (read : Reader A) (t : Token) : Type 0 where
+  ReadsOn : (next : Reader A) → Known next → ((ts : List Token) → read (t ∷ ts) ≡ next ts) → ByFirst Known read t
+  Leaves : (x : A) → ((ts : List Token) → read (t ∷ ts) ≡ Ok (x, t ∷ ts)) → ByFirst Known read t
+  StopsThere : (o : Obstacle) → IsAt o t.place → ((ts : List Token) → read (t ∷ ts) ≡ Err o) → ByFirst Known read t
 
-first_goes_on : {A : Type 0} (read : Reader A) (u : Token) (us : List Token) (x : A) (t : Token) (more : List Token) → ByFirst read u → read
-    (u ∷ us) ≡ Ok (x, t ∷ more) → GoesOn read (u ∷ us) x t more
-first_goes_on read u us x t more (ReadsOn next s h) e =
-    let g = (s us).goes_on x t more (sym (h us) ∙ e) in
-    record {
-      front = u ∷ g.front;
-      whole = ap (λ (ts : List Token). u ∷ ts) g.whole;
-      steady = λ other. h (g.front ++ t ∷ other)
-          ∙ g.steady other;
-    }
+pub known_by_first : {A : Type 0} {P Q : Reader A → Type 0} {read : Reader A} {t : Token} → ((next : Reader A) → P next → Q next)
+    → ByFirst P read t → ByFirst Q read t
+known_by_first f (ReadsOn next known h) = ReadsOn next (f next known) h
+known_by_first f (Leaves x h) = Leaves x h
+known_by_first f (StopsThere o at h) = StopsThere o at h
+
+-- what another reader answers behind the first token
+abbrev pub behind_first : {A : Type 0} {read next : Reader A} (u : Token) {us more : List Token} {t : Token}
+    {answer : List Token → Read (A × List Token)} → ((ts : List Token) → read (u ∷ ts) ≡ next ts) → UpTo next us t more answer
+    → UpTo read (u ∷ us) t more answer
+behind_first u {t = t} h g = record {
+  front = u ∷ g.front;
+  whole = ap (λ (ts : List Token). u ∷ ts) g.whole;
+  steady = λ other. h (g.front ++ t ∷ other) ∙ g.steady other;
+}
+
+first_goes_on : {A : Type 0} (read : Reader A) (u : Token) (us : List Token) (x : A) (t : Token) (more : List Token)
+    → ByFirst IsSteady read u → read (u ∷ us) ≡ Ok (x, t ∷ more) → GoesOn read (u ∷ us) x t more
+first_goes_on read u us x t more (ReadsOn next s h) e = behind_first u h ((s us).goes_on x t more (sym (h us) ∙ e))
 first_goes_on {A = A} read u us x t more (Leaves y h) e =
     let p : ◌≡◌ {A = A × List Token} (y, u ∷ us) (x, t ∷ more) = ok_is _ _ (sym (h us) ∙ e) in
     let value : y ≡ x = ap (λ (z : A × List Token). z.0) p in
@@ -88,33 +103,18 @@ first_goes_on {A = A} read u us x t more (Leaves y h) e =
     }
 first_goes_on read u us x t more (StopsThere o at h) e = absurd (err_ok _ _ (sym (h us) ∙ e))
 
-first_stops : {A : Type 0} (read : Reader A) (u : Token) (us : List Token) (o : Obstacle) → ByFirst read u → read (u ∷ us) ≡ Err o →
-    (o ≡ TooShort) ⊎ Stops read (u ∷ us) o
+first_stops : {A : Type 0} (read : Reader A) (u : Token) (us : List Token) (o : Obstacle) → ByFirst IsSteady read u
+    → read (u ∷ us) ≡ Err o → (o ≡ TooShort) ⊎ Stops read (u ∷ us) o
 first_stops read u us o (ReadsOn next s h) e =
     elim ((s us).stops o (sym (h us) ∙ e)) [
       | inl short ↦ inl short
-      | inr g ↦ inr (record {
-        front = u ∷ g.front;
-        token = g.token;
-        behind = g.behind;
-        whole = ap
-            (λ (ts : List Token). u ∷ ts) g.whole;
-        at = g.at;
-        steady = λ other. h (g.front ++ g.token ∷ other) ∙ g.steady other;
-      })
+      | inr g ↦ inr (stop_at g.token g.behind g.at (behind_first u h (to_stop g)))
     ]
 first_stops read u us o (Leaves y h) e = absurd (ok_err _ _ (sym (h us) ∙ e))
 first_stops read u us o (StopsThere p at h) e =
     let same : p ≡ o = err_is _ _ (sym (h us) ∙ e) in
-    inr (record {
-      front = [];
-      token = u;
-      behind = us;
-      whole = refl;
-      at = subst
-          (λ (q : Obstacle). IsAt q u.place) same at;
-      steady = λ other. h other ∙ ap Err same;
-    })
+    inr (stop_at u us (subst (λ (q : Obstacle). IsAt q u.place) same at)
+    (record { front = []; whole = refl; steady = λ other. h other ∙ ap Err same }))
 
 -- at the end, a reader stops or has read
 abbrev pub AtEnd : {A : Type 0} → Reader A → Type 0
@@ -133,7 +133,7 @@ end_steady {A = A} read (inr found) = record {
   stops = λ o e. absurd (ok_err _ _ (sym found.1 ∙ e));
 }
 
-pub by_first : {A : Type 0} (read : Reader A) → AtEnd read → ((t : Token) → ByFirst read t) → IsSteady read
+pub by_first : {A : Type 0} (read : Reader A) → AtEnd read → ((t : Token) → ByFirst IsSteady read t) → IsSteady read
 by_first read at_end h [] = end_steady read at_end
 by_first read at_end h (u ∷ us) = record {
   goes_on = λ x t more e. first_goes_on read u us x t more (h u) e;
@@ -142,22 +142,19 @@ by_first read at_end h (u ∷ us) = record {
 
 -- ---- What reads nothing
 
-pub leaves_steady : {A : Type 0} (x : A) → IsSteady (λ ts. Ok (x, ts))
+leaves_steady : {A : Type 0} (x : A) → IsSteady (λ ts. Ok (x, ts))
 leaves_steady x = by_first _ (inr (x, refl)) (λ t. Leaves x (λ ts. refl))
-
-pub short_steady : {A : Type 0} → IsSteady {A = A} (λ ts. Err TooShort)
-short_steady ts = record { goes_on = λ x t more e. absurd (err_ok _ _ e); stops = λ o e. inl (sym (err_is _ _ e)) }
 
 -- ---- One reader after another
 
-pub same_place : (front : List Token) (t : Token) (more other : List Token) → place_at (front ++ t ∷ more) ≡ place_at (front ++ t ∷ other)
+same_place : (front : List Token) (t : Token) (more other : List Token) → place_at (front ++ t ∷ more) ≡ place_at (front ++ t ∷ other)
 unfolding place_at
 same_place [] t more other = refl
 same_place (u ∷ front) t more other = refl
 
 -- what is read stays, also where more is kept behind it
-pub wider : {A : Type 0} (read : Reader A) (ts : List Token) (x : A) (kept : List Token) (t : Token) (more : List Token) →
-    SteadyAt read ts → read ts ≡ Ok (x, kept ++ t ∷ more)
+wider : {A : Type 0} (read : Reader A) (ts : List Token) (x : A) (kept : List Token) (t : Token) (more : List Token)
+    → SteadyAt read ts → read ts ≡ Ok (x, kept ++ t ∷ more)
     → (front : List Token) × (ts ≡ front ++ (kept ++ t ∷ more)) ×
     ((other : List Token) → read (front ++ (kept ++ t ∷ other)) ≡ Ok (x, kept ++ t ∷ other))
 wider read ts x [] t more s e = let g = s.goes_on x t more e in (g.front, g.whole, g.steady)
@@ -165,76 +162,57 @@ wider read ts x (u ∷ kept) t more s e =
     let g = s.goes_on x u (kept ++ t ∷ more) e in
     (g.front, g.whole, λ other. g.steady (kept ++ t ∷ other))
 
-pub after_both : {A B : Type 0} (first : Reader A) (second : ℕ → A → Reader B) (front kept : List Token) (t : Token) (other : List Token)
-    (place : ℕ) (x : A) (answer : Read (B × List Token)) → first (front ++ (kept ++ t ∷ other)) ≡ Ok (x, kept ++ t ∷ other) → place_at
-    ((front ++ kept) ++ t ∷ other) ≡ place → second place x (kept ++ t ∷ other) ≡ answer
-    → read_then (first ((front ++ kept) ++ t ∷ other)) (λ y. second (place_at ((front ++ kept) ++ t ∷ other)) y.0 y.1) ≡ answer
-unfolding read_then
-after_both {A = A} first second front kept t other place x answer f p s =
-    let here : first ((front ++ kept) ++ t ∷ other) ≡ Ok (x, kept ++ t ∷ other) = ap first (append_assoc front kept (t ∷ other)) ∙ f in
-    rw (here, p) s
+-- a reader, and one behind it
+abbrev pub one_then : {A B : Type 0} → Reader A → (ℕ → A → Reader B) → Reader B
+one_then first second us = read_then (first us) (λ x. second (place_at us) x.0 x.1)
 
-parted : {A B : Type 0} (r : Read A) (f : A → Read B) (o : Obstacle) → read_then r f ≡ Err o → (r ≡ Err o) ⊎
-    ((x : A) × (r ≡ Ok x) × (f x ≡ Err o))
+-- up to any token a reader answers what it answers
+abbrev pub itself_to : {A : Type 0} (read : Reader A) {ts : List Token} (front : List Token) (t : Token) (more : List Token)
+    → ts ≡ front ++ t ∷ more → UpTo read ts t more (λ other. read (front ++ t ∷ other))
+itself_to read front t more whole = record { front = front; whole = whole; steady = λ other. refl }
+
+-- what the second reader answers up to a token, the two answer
+pub behind_read : {A B : Type 0} (first : Reader A) (second : ℕ → A → Reader B) (ts rest : List Token) (x : A) (t : Token)
+    (more : List Token) (answer : List Token → Read (B × List Token)) → SteadyAt first ts → first ts ≡ Ok (x, rest)
+    → UpTo (second (place_at ts) x) rest t more answer → UpTo (one_then first second) ts t more answer
+unfolding read_then
+behind_read {A = A} first second ts rest x t more answer s e g =
+    let w = wider first ts x g.front t more s (e ∙ ap (λ (us : List Token). Ok (x, us)) g.whole) in
+    let whole : ts ≡ (w.0 ++ g.front) ++ t ∷ more = w.1 ∙ sym (append_assoc w.0 g.front (t ∷ more)) in
+    let read_first : (other : List Token) → first ((w.0 ++ g.front) ++ t ∷ other) ≡ Ok (x, g.front ++ t ∷ other) =
+    λ other. ap first (append_assoc w.0 g.front (t ∷ other)) ∙ w.2 other in
+    let place_is : (other : List Token) → place_at ((w.0 ++ g.front) ++ t ∷ other) ≡ place_at ts =
+    λ other. same_place (w.0 ++ g.front) t other more ∙ ap place_at (sym whole) in
+    record { front = w.0 ++ g.front; whole = whole; steady = λ other. rw (read_first other, place_is other) (g.steady other) }
+
+parted : {A B : Type 0} (r : Read A) (f : A → Read B) (o : Obstacle) → read_then r f ≡ Err o
+    → (r ≡ Err o) ⊎ ((x : A) × (r ≡ Ok x) × (f x ≡ Err o))
 unfolding read_then
 parted (Ok x) f o e = inr (x, refl, e)
 parted (Err p) f o e = inl (ap Err (err_is p o e))
 
-pub then_err : {A B : Type 0} (r : Read A) (f : A → Read B) (o : Obstacle) → r ≡ Err o → read_then r f ≡ Err o
-unfolding read_then
-then_err r f o e = rw e refl
-
-pub then_at : {A B : Type 0} (first : Reader A) (second : ℕ → A → Reader B) (ts : List Token) → SteadyAt first ts →
-    ((x : A) (rest : List Token) → first ts ≡ Ok (x, rest) → SteadyAt (second (place_at ts) x) rest)
-    → SteadyAt (λ us. read_then (first us) (λ x. second (place_at us) x.0 x.1)) ts
-unfolding read_then
-then_at {A = A} {B = B} first second ts s h = record {
+then_at : {A B : Type 0} (first : Reader A) (second : ℕ → A → Reader B) (ts : List Token) → SteadyAt first ts
+    → ((x : A) (rest : List Token) → first ts ≡ Ok (x, rest) → SteadyAt (second (place_at ts) x) rest)
+    → SteadyAt (one_then first second) ts
+then_at first second ts s h = record {
   goes_on = λ y t more e.
       let a = then_ok (first ts) (λ x. second (place_at ts) x.0 x.1) (y, t ∷ more) e in
-      let g = (h a.0.0 a.0.1 a.1).goes_on y t more a.2 in
-      let w = wider first ts a.0.0 g.front t more s (a.1 ∙ ap (λ (us : List Token). Ok (a.0.0, us)) g.whole) in
-      let whole : ts ≡ (w.0 ++ g.front) ++ t ∷ more = w.1 ∙ sym (append_assoc w.0 g.front (t ∷ more)) in
-      record {
-        front = w.0 ++ g.front;
-        whole = whole;
-        steady = λ other. after_both first second w.0 g.front t other (place_at ts) a.0.0 (Ok (y, t ∷ other)) (w.2 other)
-            (same_place (w.0 ++ g.front) t other more ∙ ap place_at (sym whole)) (g.steady other);
-      };
+      behind_read first second ts a.0.1 a.0.0 t more _ s a.1 ((h a.0.0 a.0.1 a.1).goes_on y t more a.2);
   stops = λ o e.
       elim (parted (first ts) (λ x. second (place_at ts) x.0 x.1) o e) [
         | inl f ↦ elim (s.stops o f) [
           | inl short ↦ inl short
-          | inr g ↦
-              inr
-              (record {
-                front = g.front;
-                token = g.token;
-                behind = g.behind;
-                whole = g.whole;
-                at = g.at;
-                steady = λ other. then_err (first (g.front ++ g.token ∷ other)) _ o (g.steady other);
-              })
+          | inr g ↦ inr (stops_as g (λ other. then_err (first (g.front ++ g.token ∷ other)) _ o (g.steady other)))
         ]
         | inr a ↦ elim ((h a.0.0 a.0.1 a.1).stops o a.2) [
           | inl short ↦ inl short
-          | inr g ↦
-              let w = wider first ts a.0.0 g.front g.token g.behind s (a.1 ∙ ap (λ (us : List Token). Ok (a.0.0, us)) g.whole) in
-              let whole : ts ≡ (w.0 ++ g.front) ++ g.token ∷ g.behind = w.1 ∙ sym (append_assoc w.0 g.front (g.token ∷ g.behind)) in
-              inr (record {
-                front = w.0 ++ g.front;
-                token = g.token;
-                behind = g.behind;
-                whole = whole;
-                at = g.at;
-                steady = λ other. after_both first second w.0 g.front g.token other (place_at ts) a.0.0 (Err o) (w.2 other)
-                    (same_place (w.0 ++ g.front) g.token other g.behind ∙ ap place_at (sym whole)) (g.steady other);
-              })
+          | inr g ↦ inr (stop_at g.token g.behind g.at (behind_read first second ts a.0.1 a.0.0 g.token g.behind _ s a.1 (to_stop g)))
         ]
       ];
 }
 
-pub then_steady : {A B : Type 0} (first : Reader A) (second : ℕ → A → Reader B) → IsSteady first →
-    ((place : ℕ) (x : A) → IsSteady (second place x)) → IsSteady (λ us. read_then (first us) (λ x. second (place_at us) x.0 x.1))
+pub then_steady : {A B : Type 0} (first : Reader A) (second : ℕ → A → Reader B) → IsSteady first
+    → ((place : ℕ) (x : A) → IsSteady (second place x)) → IsSteady (one_then first second)
 then_steady first second s h ts = then_at first second ts (s ts) (λ x rest e. h (place_at ts) x rest)
 
 -- ---- A choice by the first token
@@ -258,8 +236,8 @@ pub begins_call_of_first : IsOfFirst begins_call
 begins_call_of_first [] t more other = refl
 begins_call_of_first (u ∷ front) t more other = refl
 
-pub choose_at : {A : Type 0} (test : List Token → Bool) (one two : Reader A) (ts : List Token) → IsOfFirst test → SteadyAt one ts →
-    SteadyAt two ts → SteadyAt (λ us. choose (test us) (one us) (two us)) ts
+pub choose_at : {A : Type 0} (test : List Token → Bool) (one two : Reader A) (ts : List Token) → IsOfFirst test → SteadyAt one ts
+    → SteadyAt two ts → SteadyAt (λ us. choose (test us) (one us) (two us)) ts
 unfolding choose
 choose_at {A = A} test one two ts of_first y n =
     elim (cases_Bool (test ts)) [
@@ -267,96 +245,24 @@ choose_at {A = A} test one two ts of_first y n =
       | inr e ↦ branch false e two (λ us h. rw h refl) n
     ]
   where
-    branch : (b : Bool) → test ts ≡ b → (read : Reader A) →
-        ((us : List Token) → test us ≡ b → choose (test us) (one us) (two us) ≡ read us) → SteadyAt read ts → SteadyAt
-        (λ us. choose (test us) (one us) (two us)) ts
+    branch : (b : Bool) → test ts ≡ b → (read : Reader A)
+        → ((us : List Token) → test us ≡ b → choose (test us) (one us) (two us) ≡ read us) → SteadyAt read ts
+        → SteadyAt (λ us. choose (test us) (one us) (two us)) ts
     branch b e read h s = record {
       goes_on = λ x t more f.
           let g = s.goes_on x t more (sym (h ts e) ∙ f) in
-          record {
-            front = g.front;
-            whole = g.whole;
-            steady = λ other. h (g.front ++ t ∷ other)
-                (of_first g.front t other more ∙ ap test (sym g.whole) ∙ e) ∙ g.steady other;
-          };
+          let test_is : (other : List Token) → test (g.front ++ t ∷ other) ≡ b =
+          λ other. of_first g.front t other more ∙ ap test (sym g.whole) ∙ e in
+          record { front = g.front; whole = g.whole; steady = λ other. h (g.front ++ t ∷ other) (test_is other) ∙ g.steady other };
       stops = λ o f.
           elim (s.stops o (sym (h ts e) ∙ f)) [
             | inl short ↦ inl short
-            | inr g ↦ inr (record {
-              front = g.front;
-              token = g.token;
-              behind = g.behind;
-              whole = g.whole;
-              at = g.at;
-              steady = λ other. h
-                  (g.front ++ g.token ∷ other) (of_first g.front g.token other g.behind ∙ ap test (sym g.whole) ∙ e) ∙ g.steady other;
-            })
+            | inr g ↦
+                let test_is : (other : List Token) → test (g.front ++ g.token ∷ other) ≡ b =
+                λ other. of_first g.front g.token other g.behind ∙ ap test (sym g.whole) ∙ e in
+                inr (stops_as g (λ other. h (g.front ++ g.token ∷ other) (test_is other) ∙ g.steady other))
           ];
     }
-
-pub choose_steady : {A : Type 0} (k : TokenKind) (one two : Reader A) → IsSteady one → IsSteady two → IsSteady
-    (λ us. choose (begins k us) (one us) (two us))
-choose_steady k one two y n ts = choose_at (begins k) one two ts (begins_of_first k) (y ts) (n ts)
-
--- ---- Single tokens
-
-pub after_steady : {B : Type 0} (k : TokenKind) (second : ℕ → Reader B) → ((place : ℕ) → IsSteady (second place)) → IsSteady
-    (λ us. read_then (after k us) (λ rest. second (place_at us) rest))
-unfolding after place_at choose read_then
-after_steady k second s =
-    by_first _ (inl refl) (λ t.
-    elim (cases_Bool (same_kind t.kind k)) [
-      | inl e ↦ ReadsOn (second t.place) (s t.place) (λ ts. rw e refl)
-      | inr e ↦ StopsThere (Unexpected t.place) refl (λ ts. rw e refl)
-    ])
-
--- where there is no room behind a token
-pub deep_steady : {B : Type 0} (k : TokenKind) → IsSteady {A = B} (λ us. read_then (after k us) (λ rest. Err (TooDeep (place_at us))))
-unfolding after place_at choose read_then
-deep_steady k =
-    by_first _ (inl refl) (λ t.
-    elim (cases_Bool (same_kind t.kind k)) [
-      | inl e ↦ StopsThere (TooDeep t.place) refl (λ ts. rw e refl)
-      | inr e ↦ StopsThere (Unexpected t.place) refl (λ ts. rw e refl)
-    ])
-
-pub name_steady : IsSteady name_at
-unfolding name_at
-name_steady = by_first name_at (inl refl) (λ t. one t.kind t.place t (λ ts. refl) refl)
-  where
-    one : (k : TokenKind) (place : ℕ) (t : Token) → ((ts : List Token) → name_at (t ∷ ts) ≡ name_of k place ts) → t.place ≡ place →
-        ByFirst name_at t
-    one (kind.Name n) place t h at =
-        ReadsOn (λ ts. Ok (record { number = n; place = place }, ts)) (leaves_steady (record { number = n; place = place })) h
-    one _ place t h at = StopsThere (Unexpected place) at h
-
-pub number_steady : IsSteady number_at
-unfolding number_at
-number_steady = by_first number_at (inl refl) (λ t. one t.kind t.place t (λ ts. refl) refl)
-  where
-    one : (k : TokenKind) (place : ℕ) (t : Token) → ((ts : List Token) → number_at (t ∷ ts) ≡ number_of k place ts) → t.place ≡ place →
-        ByFirst number_at t
-    one (kind.Number n) place t h at =
-        ReadsOn (λ ts. Ok (record { value = n; place = place }, ts)) (leaves_steady (record { value = n; place = place })) h
-    one _ place t h at = StopsThere (Unexpected place) at h
-
-pub truth_steady : IsSteady truth_at
-unfolding truth_at
-truth_steady =
-    choose_steady (kind.Keyword keyword.True) _ _
-    (after_steady (kind.Keyword keyword.True) _ (λ _. leaves_steady true))
-    (after_steady (kind.Keyword keyword.False) _ (λ _. leaves_steady false))
-
-word_of_steady : (c : BagCall) → IsSteady (word_of_at c)
-unfolding word_of_at
-word_of_steady c = after_steady (kind.Keyword (call_word c)) _ (λ _. leaves_steady c)
-
-pub call_word_steady : IsSteady call_word_at
-unfolding call_word_at
-call_word_steady =
-    choose_steady (kind.Keyword keyword.Size) _ _ (word_of_steady call.Size)
-    (choose_steady (kind.Keyword keyword.Sum) _ _ (word_of_steady call.Sum)
-    (choose_steady (kind.Keyword keyword.Least) _ _ (word_of_steady call.Least) (word_of_steady call.Most)))
 
 -- ---- Lists
 
@@ -370,8 +276,8 @@ many_step {A = A} one stop s ts =
     (λ x e. ap (λ (r : Read (List A × List Token)). read_then r (λ xs. Ok (x.0 ∷ xs.0, xs.1)))
     (same_many one stop s (length ts) (suc (length x.1)) x.1 (omega (arith, s ts x e)) (omega arith))))
 
-many_within : {A : Type 0} (one : Reader A) (stop : TokenKind) → Shortens one → IsSteady one → (n : ℕ) (ts : List Token) → length ts < n →
-    SteadyAt (many_at one stop) ts
+many_within : {A : Type 0} (one : Reader A) (stop : TokenKind) → Shortens one → IsSteady one → (n : ℕ) (ts : List Token)
+    → length ts < n → SteadyAt (many_at one stop) ts
 many_within one stop short s zero ts lt = absurd (omega (arith, lt))
 many_within {A = A} one stop short s (suc n) ts lt =
     same_steady (many_at one stop) _ (many_step one stop short) ts
@@ -382,10 +288,3 @@ many_within {A = A} one stop short s (suc n) ts lt =
 
 pub many_steady : {A : Type 0} (one : Reader A) (stop : TokenKind) → Shortens one → IsSteady one → IsSteady (many_at one stop)
 many_steady one stop short s ts = many_within one stop short s (suc (length ts)) ts (omega arith)
-
-pub braces_steady : {A : Type 0} (one : Reader A) → Shortens one → IsSteady one → IsSteady (braces_at one)
-unfolding braces_at
-braces_steady one short s =
-    after_steady (kind.Symbol symbol.OpenBrace) _ (λ _.
-    then_steady (many_at one (kind.Symbol symbol.CloseBrace)) _ (many_steady one (kind.Symbol symbol.CloseBrace) short s) (λ _ xs.
-    after_steady (kind.Symbol symbol.CloseBrace) _ (λ _. leaves_steady xs)))

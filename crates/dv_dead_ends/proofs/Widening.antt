@@ -1,7 +1,7 @@
 -- A narrow and a wide reader, to which less is too deep: the wide one answers the same, or goes past the token that is too
 -- deep to the narrow one.
 use Rattle.std.proofs.Common.{◌≡◌, ℕ, zero, suc, ◌<◌, Bool, true, false, List, [], ◌∷◌, ◌++◌, length, Ok, Err, refl, sym, ap}
-use Rattle.std.proofs.Common.{subst, ◌∙◌, inl, inr, append_assoc, arith}
+use Rattle.std.proofs.Common.{subst, ◌∙◌, inl, inr, arith}
 use Rattle.std.proofs.lemmas.Bool.{cases_Bool}
 use Rattle.std.proofs.lemmas.List.{append_cancel_right}
 use Rattle.dv_lex.specs.declared.token.Token.{Token}
@@ -12,21 +12,16 @@ use Rattle.dv_lex.specs.declared.token.Symbol.TheVariants as symbol
 use Rattle.dv_syntax.specs.declared.tree.BagCall.{BagCall}
 use Rattle.dv_syntax.specs.declared.tree.BagCall.TheVariants as call
 use Rattle.dv_syntax.specs.Grammar.{call_word}
-use Rattle.dv_syntax.specs.declared.tree.Name.{Name}
-use Rattle.dv_syntax.specs.declared.tree.Number.{Number}
 use Rattle.dv_parser.specs.Reading.{Unexpected, TooDeep, TooShort, Read, read_then, choose, same_kind, begins, after, place_at}
-use Rattle.dv_parser.specs.Reading.{name_of, name_at, number_of, number_at, truth_at, word_of_at, call_word_at, many_at}
+use Rattle.dv_parser.specs.Reading.{Reader, name_of, name_at, number_of, number_at, truth_at, word_of_at, call_word_at, many_at}
 use Rattle.dv_parser.specs.Reading.{braces_at}
-use Rattle.dv_parser.proofs.Tokens.{then_is}
-use Rattle.dv_parser.proofs.Readers.{Shortens}
-use Rattle.dv_dead_ends.proofs.Steady.{Reader, Stops, SteadyAt, IsSteady, IsOfFirst, begins_of_first, ok_err, err_is, same_place}
-use Rattle.dv_dead_ends.proofs.Steady.{wider, after_both, then_err, leaves_steady, after_steady, then_steady}
-use Rattle.dv_dead_ends.proofs.Steady.{choose_at as choose_steady_at, name_steady, number_steady, many_step, many_steady}
-use Rattle.dv_dead_ends.proofs.Completions.{Unfinished}
-
--- a reader, and one behind it
-abbrev pub one_then : {A B : Type 0} → Reader A → (ℕ → A → Reader B) → Reader B
-one_then first second us = read_then (first us) (λ x. second (place_at us) x.0 x.1)
+use Rattle.dv_parser.proofs.Tokens.{then_is, err_is, then_err}
+use Rattle.dv_parser.proofs.Readers.{Shortens, Always}
+use Rattle.dv_dead_ends.proofs.Steady.{itself_to, Stops, to_stop, stop_at, stops_as, SteadyAt, IsSteady, IsOfFirst}
+use Rattle.dv_dead_ends.proofs.Steady.{begins_of_first, ok_err, behind_first, one_then, behind_read, many_step, many_steady}
+use Rattle.dv_dead_ends.proofs.Completions.{of_kind, a_number, a_name, a_word, empty_braces, Unfinished, Completes, Begins}
+use Rattle.dv_dead_ends.proofs.Completions.{leaves_complete, then_completes, choose_completes_by, after_completes}
+use Rattle.dv_dead_ends.proofs.Completions.{name_completes, number_completes, many_completes}
 
 -- a token of a kind, and a reader behind it
 abbrev pub token_then : {B : Type 0} → TokenKind → (ℕ → Reader B) → Reader B
@@ -46,9 +41,10 @@ pub data WidensAt {A : Type 0} (narrow wide : Reader A) (ts : List Token) : Type
   GoesPast : (place : ℕ) → (stop : Stops narrow ts (TooDeep place))
       → Unfinished (wide (stop.front ++ stop.token ∷ [])) → WidensAt narrow wide ts
 
-pub record Widens {A : Type 0} (narrow wide : Reader A) : Type 0 where
-  pub narrow_steady : IsSteady narrow
-  pub wide_steady : IsSteady wide
+-- Both readers complete tokens, and the wide one goes past what is too deep to the narrow one.
+pub record Widens {A : Type 0} (narrow wide : Reader A) (Ends : List Token → Type 0) (fill : List Token) : Type 0 where
+  pub narrow_completes : Completes narrow Ends fill
+  pub wide_completes : Completes wide Ends fill
   pub each : (ts : List Token) → WidensAt narrow wide ts
 
 -- readers that answer the same
@@ -87,14 +83,7 @@ by_token narrow wide t (ReadOn n w c h k) us =
     elim (c us) [
       | AnswersSame e s ↦ AnswersSame (h us ∙ e ∙ sym (k us)) (record { never = λ place f. s.never place (sym (h us) ∙ f) })
       | GoesPast place s u ↦
-          GoesPast place (record {
-            front = t ∷ s.front;
-            token = s.token;
-            behind = s.behind;
-            whole = ap (λ (ts : List Token). t ∷ ts) s.whole;
-            at = s.at;
-            steady = λ other. h (s.front ++ s.token ∷ other) ∙ s.steady other;
-          })
+          GoesPast place (stop_at s.token s.behind s.at (behind_first t h (to_stop s)))
           (subst Unfinished (sym (k (s.front ++ s.token ∷ []))) u)
     ]
 by_token narrow wide t (Leave x h k) us = alike narrow wide (t ∷ us) (Ok (x, t ∷ us)) (λ place. ok_err _ _) (h us) (k us)
@@ -114,12 +103,16 @@ both_short narrow wide n w = alike narrow wide [] (Err TooShort) (λ place e. sh
 
 -- ---- What reads nothing
 
-pub leaves_at : {A : Type 0} (narrow wide : Reader A) (ts : List Token) (x : A) → narrow ts ≡ Ok (x, ts) → wide ts ≡ Ok (x, ts) →
-    WidensAt narrow wide ts
+pub leaves_at : {A : Type 0} (narrow wide : Reader A) (ts : List Token) (x : A) → narrow ts ≡ Ok (x, ts) → wide ts ≡ Ok (x, ts)
+    → WidensAt narrow wide ts
 leaves_at narrow wide ts x n w = alike narrow wide ts (Ok (x, ts)) (λ place. ok_err _ _) n w
 
-pub leaves_widens : {A : Type 0} (x : A) → Widens (λ ts. Ok (x, ts)) (λ ts. Ok (x, ts))
-leaves_widens x = record { narrow_steady = leaves_steady x; wide_steady = leaves_steady x; each = λ ts. leaves_at _ _ ts x refl refl }
+pub leaves_widens : {A : Type 0} (x : A) (Ends : List Token → Type 0) → Widens (λ ts. Ok (x, ts)) (λ ts. Ok (x, ts)) Ends []
+leaves_widens x Ends = record {
+  narrow_completes = leaves_complete x Ends;
+  wide_completes = leaves_complete x Ends;
+  each = λ ts. leaves_at _ _ ts x refl refl;
+}
 
 -- ---- One reader after another
 
@@ -157,14 +150,7 @@ pub then_at : {A B : Type 0} (narrow wide : Reader A) (n w : ℕ → A → Reade
     → ((x : A) (rest : List Token) → narrow ts ≡ Ok (x, rest) → WidensAt (n (place_at ts) x) (w (place_at ts) x) rest)
     → WidensAt (one_then narrow n) (one_then wide w) ts
 then_at narrow wide n w ts ns ws ends (GoesPast place s u) h =
-    GoesPast place (record {
-      front = s.front;
-      token = s.token;
-      behind = s.behind;
-      whole = s.whole;
-      at = s.at;
-      steady = λ other. then_err (narrow (s.front ++ s.token ∷ other)) _ (TooDeep place) (s.steady other);
-    })
+    GoesPast place (stops_as s (λ other. then_err (narrow (s.front ++ s.token ∷ other)) _ (TooDeep place) (s.steady other)))
     (unfinished_then (wide (s.front ++ s.token ∷ [])) _ u (ends (place_at (s.front ++ s.token ∷ []))))
 then_at {A = A} {B = B} narrow wide n w ts ns ws ends (AnswersSame e s) h = by_answer (narrow ts) refl
   where
@@ -178,50 +164,31 @@ then_at {A = A} {B = B} narrow wide n w ts ns ws ends (AnswersSame e s) h = by_a
         elim (h x.0 x.1 f) [
           | AnswersSame d r ↦ AnswersSame (there ∙ d ∙ sym here) (record { never = λ place g. r.never place (sym there ∙ g) })
           | GoesPast place g u ↦
-              let rest : narrow ts ≡ Ok (x.0, g.front ++ g.token ∷ g.behind) = f ∙ ap (λ (us : List Token). Ok (x.0, us)) g.whole in
-              let a = wider narrow ts x.0 g.front g.token g.behind ns rest in
-              let b = wider wide ts x.0 g.front g.token g.behind ws (sym e ∙ rest) in
-              let front : b.0 ≡ a.0 = same_front ts a.0 b.0 (g.front ++ g.token ∷ g.behind) a.1 b.1 in
-              let whole : ts ≡ (a.0 ++ g.front) ++ g.token ∷ g.behind = a.1 ∙ sym (append_assoc a.0 g.front (g.token ∷ g.behind)) in
-              let place_is : (other : List Token) → place_at ((a.0 ++ g.front) ++ g.token ∷ other) ≡ place_at ts =
-              λ other. same_place (a.0 ++ g.front) g.token other g.behind ∙ ap place_at (sym whole) in
-              let last : List Token = g.front ++ g.token ∷ [] in
-              let there_too : wide (a.0 ++ last) ≡ Ok (x.0, last) =
-              subst (λ (v : List Token). wide (v ++ last) ≡ Ok (x.0, last)) front (b.2 []) in
-              let answer : Read (B × List Token) = w (place_at ts) x.0 last in
-              GoesPast place (record {
-                front = a.0 ++ g.front;
-                token = g.token;
-                behind = g.behind;
-                whole = whole;
-                at = g.at;
-                steady = λ other.
-                    after_both narrow n a.0 g.front g.token other (place_at ts) x.0 (Err (TooDeep place)) (a.2 other) (place_is other)
-                    (g.steady other);
-              })
-              (subst Unfinished (sym (after_both wide w a.0 g.front g.token [] (place_at ts) x.0 answer there_too (place_is []) refl)) u)
+              let past = behind_read narrow n ts x.1 x.0 g.token g.behind _ ns f (to_stop g) in
+              let on = itself_to (w (place_at ts) x.0) g.front g.token g.behind g.whole in
+              let over = behind_read wide w ts x.1 x.0 g.token g.behind _ ws (sym e ∙ f) on in
+              let front : over.front ≡ past.front = same_front ts past.front over.front (g.token ∷ g.behind) past.whole over.whole in
+              GoesPast place (stop_at g.token g.behind g.at past)
+              (subst (λ (us : List Token). Unfinished (one_then wide w (us ++ g.token ∷ []))) front
+              (subst Unfinished (sym (over.steady [])) u))
         ]
 
-then_each : {A B : Type 0} {narrow wide : Reader A} (n w : ℕ → A → Reader B) → Widens narrow wide
-    → ((place : ℕ) (x : A) → Unfinished (w place x [])) → ((place : ℕ) (x : A) (ts : List Token) → WidensAt (n place x) (w place x) ts)
-    → (ts : List Token) → WidensAt (one_then narrow n) (one_then wide w) ts
-then_each {narrow = narrow} {wide = wide} n w a ends h ts =
-    then_at narrow wide n w ts (a.narrow_steady ts) (a.wide_steady ts) ends (a.each ts) (λ x rest e. h (place_at ts) x rest)
-
-pub then_widens : {A B : Type 0} {narrow wide : Reader A} (n w : ℕ → A → Reader B) → Widens narrow wide
-    → ((place : ℕ) (x : A) → Widens (n place x) (w place x))
-    → Widens (one_then narrow n) (one_then wide w)
-then_widens {narrow = narrow} {wide = wide} n w a h = record {
-  narrow_steady = then_steady narrow n a.narrow_steady (λ place x. (h place x).narrow_steady);
-  wide_steady = then_steady wide w a.wide_steady (λ place x. (h place x).wide_steady);
-  each = then_each n w a (λ place x. at_end (w place x) (h place x).wide_steady) (λ place x. (h place x).each);
+pub then_widens : {A B : Type 0} {narrow wide : Reader A} (n w : ℕ → A → Reader B) {Ends1 Ends2 : List Token → Type 0}
+    {fill1 fill2 : List Token} → Widens narrow wide Ends1 fill1 → ((rest : List Token) → Ends2 rest → Ends1 (fill2 ++ rest))
+    → ((place : ℕ) (x : A) → Widens (n place x) (w place x) Ends2 fill2)
+    → Widens (one_then narrow n) (one_then wide w) Ends2 (fill1 ++ fill2)
+then_widens {narrow = narrow} {wide = wide} n w a follows h = record {
+  narrow_completes = then_completes n a.narrow_completes follows (λ place x. (h place x).narrow_completes);
+  wide_completes = then_completes w a.wide_completes follows (λ place x. (h place x).wide_completes);
+  each = λ ts.
+      then_at narrow wide n w ts (a.narrow_completes.some.steady ts) (a.wide_completes.some.steady ts)
+      (λ place x. at_end (w place x) (h place x).wide_completes.some.steady) (a.each ts) (λ x rest e. (h (place_at ts) x).each rest);
 }
 
 -- ---- A choice by the first token
 
-pub choose_at : {A : Type 0} (test : List Token → Bool) (n w m v : Reader A) (ts : List Token) → IsOfFirst test → WidensAt n w ts →
-    WidensAt m v ts
-    → WidensAt (either test n m) (either test w v) ts
+pub choose_at : {A : Type 0} (test : List Token → Bool) (n w m v : Reader A) (ts : List Token) → IsOfFirst test → WidensAt n w ts
+    → WidensAt m v ts → WidensAt (either test n m) (either test w v) ts
 unfolding choose
 choose_at {A = A} test n w m v ts of_first y z =
     elim (cases_Bool (test ts)) [
@@ -237,27 +204,24 @@ choose_at {A = A} test n w m v ts of_first y z =
     branch b e narrow wide h k (GoesPast place s u) =
         let test_is : (other : List Token) → test (s.front ++ s.token ∷ other) ≡ b =
         λ other. of_first s.front s.token other s.behind ∙ ap test (sym s.whole) ∙ e in
-        GoesPast place (record {
-          front = s.front;
-          token = s.token;
-          behind = s.behind;
-          whole = s.whole;
-          at = s.at;
-          steady = λ other. h (s.front ++ s.token ∷ other) (test_is other) ∙ s.steady other;
-        })
+        GoesPast place (stops_as s (λ other. h (s.front ++ s.token ∷ other) (test_is other) ∙ s.steady other))
         (subst Unfinished (sym (k (s.front ++ s.token ∷ []) (test_is []))) u)
 
-pub choose_widens_by : {A : Type 0} {n w m v : Reader A} (test : List Token → Bool) → IsOfFirst test → Widens n w → Widens m v
-    → Widens (either test n m) (either test w v)
-choose_widens_by {n = n} {w = w} {m = m} {v = v} test of_first a b = record {
-  narrow_steady = λ ts. choose_steady_at test n m ts of_first (a.narrow_steady ts) (b.narrow_steady ts);
-  wide_steady = λ ts. choose_steady_at test w v ts of_first (a.wide_steady ts) (b.wide_steady ts);
+-- Where nothing stands, the second of the two is filled.
+pub choose_widens_by : {A : Type 0} {n w m v : Reader A} (test : List Token → Bool) {Ends : List Token → Type 0}
+    {other fill : List Token} → IsOfFirst test → Widens n w Ends other
+    → ((rest : List Token) → Ends rest → test (fill ++ rest) ≡ false) → Widens m v Ends fill
+    → Widens (either test n m) (either test w v) Ends fill
+choose_widens_by {n = n} {w = w} {m = m} {v = v} test of_first a without b = record {
+  narrow_completes = choose_completes_by test of_first a.narrow_completes.some without b.narrow_completes;
+  wide_completes = choose_completes_by test of_first a.wide_completes.some without b.wide_completes;
   each = λ ts. choose_at test n w m v ts of_first (a.each ts) (b.each ts);
 }
 
-pub choose_widens : {A : Type 0} {n w m v : Reader A} (k : TokenKind) → Widens n w → Widens m v → Widens (either (begins k) n m)
-    (either (begins k) w v)
-choose_widens k a b = choose_widens_by (begins k) (begins_of_first k) a b
+pub choose_widens : {A : Type 0} {n w m v : Reader A} (k : TokenKind) {Ends : List Token → Type 0} {other fill : List Token}
+    → Widens n w Ends other → ((rest : List Token) → Ends rest → begins k (fill ++ rest) ≡ false) → Widens m v Ends fill
+    → Widens (either (begins k) n m) (either (begins k) w v) Ends fill
+choose_widens k a without b = choose_widens_by (begins k) (begins_of_first k) a without b
 
 -- ---- Single tokens
 
@@ -271,11 +235,11 @@ after_each k n w h =
       | inr e ↦ Refuse t.place (λ ts. rw e refl) (λ ts. rw e refl)
     ])
 
-pub after_widens : {B : Type 0} (k : TokenKind) (n w : ℕ → Reader B) → ((place : ℕ) → Widens (n place) (w place)) → Widens (token_then k n)
-    (token_then k w)
+pub after_widens : {B : Type 0} (k : TokenKind) (n w : ℕ → Reader B) {Ends : List Token → Type 0} {fill : List Token}
+    → ((place : ℕ) → Widens (n place) (w place) Ends fill) → Widens (token_then k n) (token_then k w) Ends (of_kind k ∷ fill)
 after_widens k n w h = record {
-  narrow_steady = after_steady k n (λ place. (h place).narrow_steady);
-  wide_steady = after_steady k w (λ place. (h place).wide_steady);
+  narrow_completes = after_completes k n (λ place. (h place).narrow_completes);
+  wide_completes = after_completes k w (λ place. (h place).wide_completes);
   each = after_each k n w (λ place. (h place).each);
 }
 
@@ -293,84 +257,85 @@ deep_each narrow wide k n w deep on refuses also =
       | inr e ↦ Refuse t.place (λ ts. refuses t ts e) (λ ts. also t ts e)
     ])
 
-pub name_widens : Widens name_at name_at
+pub name_widens : Widens name_at name_at Always (a_name ∷ [])
 unfolding name_at
 name_widens = record {
-  narrow_steady = name_steady;
-  wide_steady = name_steady;
+  narrow_completes = name_completes;
+  wide_completes = name_completes;
   each = by_first name_at name_at (both_short _ _ refl refl) (λ t. one t.kind t.place t (λ ts. refl));
 }
   where
     one : (k : TokenKind) (place : ℕ) (t : Token) → ((ts : List Token) → name_at (t ∷ ts) ≡ name_of k place ts) → WidensBy name_at name_at t
-    one (kind.Name n) place t h =
-        let x : Name = record { number = n; place = place } in
-        ReadOn (λ ts. Ok (x, ts)) (λ ts. Ok (x, ts)) (leaves_widens x).each h h
+    one (kind.Name n) place t h = ReadOn _ _ (leaves_widens (record { number = n; place = place }) Always).each h h
     one _ place t h = Refuse place h h
 
-pub number_widens : Widens number_at number_at
+pub number_widens : Widens number_at number_at Always (a_number ∷ [])
 unfolding number_at
 number_widens = record {
-  narrow_steady = number_steady;
-  wide_steady = number_steady;
+  narrow_completes = number_completes;
+  wide_completes = number_completes;
   each = by_first number_at number_at (both_short _ _ refl refl) (λ t. one t.kind t.place t (λ ts. refl));
 }
   where
-    one : (k : TokenKind) (place : ℕ) (t : Token) → ((ts : List Token) → number_at (t ∷ ts) ≡ number_of k place ts) →
-        WidensBy number_at number_at t
-    one (kind.Number n) place t h =
-        let x : Number = record { value = n; place = place } in
-        ReadOn (λ ts. Ok (x, ts)) (λ ts. Ok (x, ts)) (leaves_widens x).each h h
+    one : (k : TokenKind) (place : ℕ) (t : Token) → ((ts : List Token) → number_at (t ∷ ts) ≡ number_of k place ts)
+        → WidensBy number_at number_at t
+    one (kind.Number n) place t h = ReadOn _ _ (leaves_widens (record { value = n; place = place }) Always).each h h
     one _ place t h = Refuse place h h
 
-pub truth_widens : Widens truth_at truth_at
+pub truth_widens : Widens truth_at truth_at Always (a_word keyword.False ∷ [])
 unfolding truth_at
 truth_widens =
     choose_widens (kind.Keyword keyword.True)
-    (after_widens (kind.Keyword keyword.True) _ _ (λ _. leaves_widens true))
-    (after_widens (kind.Keyword keyword.False) _ _ (λ _. leaves_widens false))
+    (after_widens (kind.Keyword keyword.True) _ _ (λ _. leaves_widens true Always)) (λ rest h. refl)
+    (after_widens (kind.Keyword keyword.False) _ _ (λ _. leaves_widens false Always))
 
-word_of_widens : (c : BagCall) → Widens (word_of_at c) (word_of_at c)
+word_of_widens : (c : BagCall) → Widens (word_of_at c) (word_of_at c) Always (a_word (call_word c) ∷ [])
 unfolding word_of_at
-word_of_widens c = after_widens (kind.Keyword (call_word c)) _ _ (λ _. leaves_widens c)
+word_of_widens c = after_widens (kind.Keyword (call_word c)) _ _ (λ _. leaves_widens c Always)
 
-pub call_word_widens : Widens call_word_at call_word_at
+pub call_word_widens : Widens call_word_at call_word_at Always (a_word keyword.Most ∷ [])
 unfolding call_word_at
 call_word_widens =
-    choose_widens (kind.Keyword keyword.Size) (word_of_widens call.Size)
-    (choose_widens (kind.Keyword keyword.Sum) (word_of_widens call.Sum)
-    (choose_widens (kind.Keyword keyword.Least) (word_of_widens call.Least) (word_of_widens call.Most)))
+    choose_widens (kind.Keyword keyword.Size) (word_of_widens call.Size) (λ rest h. refl)
+    (choose_widens (kind.Keyword keyword.Sum) (word_of_widens call.Sum) (λ rest h. refl)
+    (choose_widens (kind.Keyword keyword.Least) (word_of_widens call.Least) (λ rest h. refl) (word_of_widens call.Most)))
 
 -- ---- Lists
 
-many_within : {A : Type 0} (narrow wide : Reader A) (stop : TokenKind) → Shortens narrow → Shortens wide → Widens narrow wide
+many_within : {A : Type 0} (narrow wide : Reader A) (stop : TokenKind) → Shortens narrow → Shortens wide → IsSteady narrow
+    → IsSteady wide → ((ts : List Token) → WidensAt narrow wide ts)
     → (n : ℕ) (ts : List Token) → length ts < n → WidensAt (many_at narrow stop) (many_at wide stop) ts
-many_within narrow wide stop ns ws a zero ts lt = absurd (omega (arith, lt))
-many_within {A = A} narrow wide stop ns ws a (suc n) ts lt =
-    let ends : Unfinished (many_at wide stop []) = at_end (many_at wide stop) (many_steady wide stop ws a.wide_steady) in
+many_within narrow wide stop ns ws sn sw each zero ts lt = absurd (omega (arith, lt))
+many_within {A = A} narrow wide stop ns ws sn sw each (suc n) ts lt =
+    let ends : Unfinished (many_at wide stop []) = at_end (many_at wide stop) (many_steady wide stop ws sw) in
     same_widens (many_at narrow stop) (many_at wide stop) _ _ (many_step narrow stop ns) (many_step wide stop ws) ts
     (choose_at (begins stop) (λ us. Ok ([], us)) (λ us. Ok ([], us)) _ _ ts (begins_of_first stop) (leaves_at _ _ ts [] refl refl)
     (then_at narrow wide
     (λ _ x us. read_then (many_at narrow stop us) (λ xs. Ok (x ∷ xs.0, xs.1)))
     (λ _ x us. read_then (many_at wide stop us) (λ xs. Ok (x ∷ xs.0, xs.1))) ts
-    (a.narrow_steady ts) (a.wide_steady ts) (λ _ x. unfinished_then (many_at wide stop []) _ ends (λ xs. inr (x ∷ xs, refl))) (a.each ts)
+    (sn ts) (sw ts) (λ _ x. unfinished_then (many_at wide stop []) _ ends (λ xs. inr (x ∷ xs, refl))) (each ts)
     (λ x rest e.
     then_at (many_at narrow stop) (many_at wide stop) (λ _ xs us. Ok (x ∷ xs, us)) (λ _ xs us. Ok (x ∷ xs, us)) rest
-    (many_steady narrow stop ns a.narrow_steady rest) (many_steady wide stop ws a.wide_steady rest) (λ _ xs. inr (x ∷ xs, refl))
-    (many_within narrow wide stop ns ws a n rest (omega (arith, ns ts (x, rest) e, lt)))
+    (many_steady narrow stop ns sn rest) (many_steady wide stop ws sw rest) (λ _ xs. inr (x ∷ xs, refl))
+    (many_within narrow wide stop ns ws sn sw each n rest (omega (arith, ns ts (x, rest) e, lt)))
     (λ xs last f. leaves_at _ _ last (x ∷ xs) refl refl))))
 
-pub many_widens : {A : Type 0} {narrow wide : Reader A} (stop : TokenKind) → Shortens narrow → Shortens wide → Widens narrow wide
-    → Widens (many_at narrow stop) (many_at wide stop)
-many_widens {narrow = narrow} {wide = wide} stop ns ws a = record {
-  narrow_steady = many_steady narrow stop ns a.narrow_steady;
-  wide_steady = many_steady wide stop ws a.wide_steady;
-  each = λ ts. many_within narrow wide stop ns ws a (suc (length ts)) ts (omega arith);
+pub many_widens : {A : Type 0} {narrow wide : Reader A} (stop : TokenKind) {Ends : List Token → Type 0} {fill : List Token}
+    → Shortens narrow → Shortens wide → Widens narrow wide Ends fill → ((rest : List Token) → Begins stop rest → Ends rest)
+    → Widens (many_at narrow stop) (many_at wide stop) (Begins stop) []
+many_widens {narrow = narrow} {wide = wide} stop ns ws a ends = record {
+  narrow_completes = many_completes stop ns a.narrow_completes ends;
+  wide_completes = many_completes stop ws a.wide_completes ends;
+  each = λ ts.
+      many_within narrow wide stop ns ws a.narrow_completes.some.steady a.wide_completes.some.steady a.each (suc (length ts)) ts
+      (omega arith);
 }
 
-pub braces_widens : {A : Type 0} {narrow wide : Reader A} → Shortens narrow → Shortens wide → Widens narrow wide → Widens (braces_at narrow)
-    (braces_at wide)
+pub braces_widens : {A : Type 0} {narrow wide : Reader A} {Ends : List Token → Type 0} {fill : List Token} → Shortens narrow
+    → Shortens wide → Widens narrow wide Ends fill → ((rest : List Token) → Begins (kind.Symbol symbol.CloseBrace) rest → Ends rest)
+    → Widens (braces_at narrow) (braces_at wide) Always empty_braces
 unfolding braces_at
-braces_widens ns ws a =
+braces_widens ns ws a ends =
     after_widens (kind.Symbol symbol.OpenBrace) _ _ (λ _.
-    then_widens _ _ (many_widens (kind.Symbol symbol.CloseBrace) ns ws a) (λ _ xs.
-    after_widens (kind.Symbol symbol.CloseBrace) _ _ (λ _. leaves_widens xs)))
+    then_widens _ _ (many_widens (kind.Symbol symbol.CloseBrace) ns ws a ends) (λ rest h. refl) (λ _ xs.
+    after_widens (kind.Symbol symbol.CloseBrace) _ _ (λ _. leaves_widens xs Always)))

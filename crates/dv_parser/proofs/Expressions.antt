@@ -1,6 +1,6 @@
 -- What is read as an expression is spelled so, and what is spelled so is read.
-use Rattle.std.proofs.Common.{◌≡◌, ℕ, zero, suc, ◌+◌, ◌-◌, ◌<◌, ◌≤◌, Bool, true, false, ltb, leb, ◌&&◌, List, [], ◌∷◌, ◌++◌}
-use Rattle.std.proofs.Common.{Option, Some, None, Ok, Err, refl, ap, subst, ◌∙◌, inl, inr, arith}
+use Rattle.std.proofs.Common.{◌≡◌, ℕ, zero, suc, ◌+◌, ◌-◌, ◌<◌, ◌≤◌, Bool, true, false, ltb, leb, ◌&&◌, List, [], ◌∷◌, Option}
+use Rattle.std.proofs.Common.{Some, None, Ok, Err, refl, ap, subst, ◌∙◌, inl, inr, arith}
 use Rattle.std.specs.Prelude.{IfSome}
 use Rattle.std.proofs.lemmas.Bool.{ltb-true, leb-true, lt-ltb, lt-leb, le-leb, le-ltb}
 use Rattle.dv_lex.specs.declared.token.Token.{Token}
@@ -19,94 +19,84 @@ use Rattle.dv_syntax.specs.declared.tree.Operator.TheVariants as operator
 use Rattle.dv_syntax.specs.declared.tree.BagCall.{BagCall}
 use Rattle.dv_syntax.specs.declared.tree.BagCall.TheVariants as call
 use Rattle.dv_syntax.specs.Trees.{Expression, Literal, TruthValue, Named, Parens, Prefixed, Binary, Call, Elapsed, Times}
-use Rattle.dv_syntax.specs.Grammar.{Spelled, At, Anywhere, Spells, sign, word_at, name, number, Limits, truth_word, call_word}
-use Rattle.dv_syntax.specs.Grammar.{prefix_kind, prefix_rank, operator_kind, operator_rank, left_rank, rank, depth, IsWellFormed}
+use Rattle.dv_syntax.specs.Grammar.{Spelled, Anywhere, Spells, sign, word_at, name, number, Limits, truth_word, call_word}
+use Rattle.dv_syntax.specs.Grammar.{prefix_rank, operator_kind, operator_rank, left_rank, rank, depth, IsWellFormed}
 use Rattle.dv_syntax.specs.Grammar.{IsExpression, expression_spelling}
-use Rattle.dv_parser.specs.Reading.{Obstacle, TooDeep, Read, read_then, within, place_at, choose, maybe, begins, keyword_operator}
-use Rattle.dv_parser.specs.Reading.{symbol_operator, operator_of, goes_on, operator_at, call_at, elapsed_at, leaf_at, parens_at}
-use Rattle.dv_parser.specs.Reading.{prefixed_at, times_at, primary_at, turns, expression_at}
-use Rattle.dv_parser.proofs.Tokens.{then_ok, then_is, chosen, maybe_is, ok_is, err_ok, some_is, none_some, Spells-then}
-use Rattle.dv_parser.proofs.Tokens.{Spells-split, front, name_front, number_front, truth_front, call_front, unplaced}
-use Rattle.dv_parser.proofs.Tokens.{after_spells, after_spells_at, name_spells, number_spells, truth_spells, call_spells}
+use Rattle.dv_parser.specs.Reading.{Obstacle, TooDeep, Read, read_then, within, place_at, choose, maybe, begins, begins_truth}
+use Rattle.dv_parser.specs.Reading.{Reader, begins_call, keyword_operator, symbol_operator, operator_of, goes_on, operator_at}
+use Rattle.dv_parser.specs.Reading.{call_at, elapsed_at, leaf_at, parens_at, prefixed_at, times_at, primary_at, turns}
+use Rattle.dv_parser.specs.Reading.{expression_at}
+use Rattle.dv_parser.proofs.Tokens.{then_ok, then_is, here, past, chosen, maybe_is, ok_is, err_ok, some_is, none_some}
+use Rattle.dv_parser.proofs.Tokens.{same_after, Spans, nothing, span_end, then_spans, split, first, first_name, first_number}
+use Rattle.dv_parser.proofs.Tokens.{first_truth, first_call, unplaced, after_spans, after_spans_at, name_spans, number_spans}
+use Rattle.dv_parser.proofs.Tokens.{truth_spans, call_spans}
+use Rattle.dv_parser.proofs.Readers.{IsReader}
 
-abbrev pub Reader : Type 0
-Reader = ℕ → List Token → Read (Expression × List Token)
+-- readers of operands, by the level
+abbrev Operands : Type 0
+Operands = ℕ → Reader Expression
 
 -- an expression that was read, and what is known of it
 pub record IsRead (limit level : ℕ) (e : Expression) (ts rest : List Token) : Type 0 where
-  pub spelled : Spells (expression_spelling e) ts rest
+  pub spelled : Spans (expression_spelling e) ts rest
   pub formed : IsWellFormed e
   pub within : depth e ≤ limit
   pub ranked : level ≤ rank e
 
-abbrev IsSound : Reader → ℕ → Type 0
+abbrev pub Reads : (limit level : ℕ) → List Token → Expression × List Token → Type 0
+Reads limit level ts x = IsRead limit level x.0 ts x.1
+
+abbrev IsSound : Operands → ℕ → Type 0
 IsSound operand limit =
-    (level : ℕ) (ts : List Token) (x : Expression × List Token) → level ≤ 7 → operand level ts ≡ Ok x → IsRead limit level x.0 ts x.1
+    (level : ℕ) (ts : List Token) (x : Expression × List Token) → level ≤ 7 → operand level ts ≡ Ok x → Reads limit level ts x
 
 prefix_rank-le : (o : Prefix) → prefix_rank o ≤ 7
 prefix_rank-le prefix.Minus = omega arith
 prefix_rank-le prefix.Not = omega arith
 
+-- what is no deeper than one
+leaf_is : {limit level : ℕ} {e : Expression} {ts rest : List Token} → level ≤ 7 → depth e ≡ 1 → rank e ≡ 8 → IsWellFormed e
+    → Spans (expression_spelling e) ts rest → IsRead (suc limit) level e ts rest
+leaf_is low deep ranked formed spelled =
+    record { spelled = spelled; formed = formed; within = omega (arith, deep); ranked = omega (arith, low, ranked) }
+
 call_read : (limit level : ℕ) → level ≤ 7 → (ts : List Token) (x : Expression × List Token) → call_at ts ≡ Ok x
-    → IsRead (suc limit) level x.0 ts x.1
+    → Reads (suc limit) level ts x
 unfolding call_at
 call_read limit level low ts x e =
     let a = then_ok _ _ _ e in
     let b = then_ok _ _ _ a.2 in
     let c = then_ok _ _ _ b.2 in
     let d = then_ok _ _ _ c.2 in
-    let last : List Spelled = sign symbol.CloseParen ∷ [] in
-    let close = after_spells (kind.Symbol symbol.CloseParen) [] c.0.1 d.0 d.0 d.1 refl in
-    let bag = name_spells last b.0 d.0 c.0 c.1 close in
-    let opened = after_spells (kind.Symbol symbol.OpenParen) (name c.0.0 ∷ last) a.0.1 b.0 d.0 b.1 bag in
-    subst (λ (y : Expression × List Token). IsRead (suc limit) level y.0 ts y.1) (ok_is _ _ d.2)
-    (record {
-      spelled = call_spells (sign symbol.OpenParen ∷ name c.0.0 ∷ last) ts d.0 a.0 a.1 opened;
-      formed = tt;
-      within = omega arith;
-      ranked = omega (arith, low);
-    })
+    subst (Reads (suc limit) level ts) (ok_is _ _ d.2)
+    (leaf_is low refl refl tt (call_spans a.1 (after_spans b.1 (name_spans c.1 (after_spans d.1 nothing)))))
 
 elapsed_read : (limit level : ℕ) → level ≤ 7 → (ts : List Token) (x : Expression × List Token) → elapsed_at ts ≡ Ok x
-    → IsRead (suc limit) level x.0 ts x.1
+    → Reads (suc limit) level ts x
 unfolding elapsed_at
 elapsed_read limit level low ts x e =
     let a = then_ok _ _ _ e in
-    subst (λ (y : Expression × List Token). IsRead (suc limit) level y.0 ts y.1) (ok_is _ _ a.2)
-    (record {
-      spelled = after_spells_at (kind.Keyword keyword.Elapsed) [] ts a.0 a.0 a.1 refl;
-      formed = tt;
-      within = omega arith;
-      ranked = omega (arith, low);
-    })
+    subst (Reads (suc limit) level ts) (ok_is _ _ a.2) (leaf_is low refl refl tt (after_spans_at a.1 nothing))
 
-leaf_read : (limit level : ℕ) → level ≤ 7 → (ts : List Token) (x : Expression × List Token) → leaf_at ts ≡ Ok x → IsRead
-    (suc limit) level x.0 ts x.1
+leaf_read : (limit level : ℕ) → level ≤ 7 → (ts : List Token) (x : Expression × List Token) → leaf_at ts ≡ Ok x
+    → Reads (suc limit) level ts x
 unfolding leaf_at
 leaf_read limit level low ts x e =
     elim (chosen _ _ _ _ e) [
       | inl p ↦
           let a = then_ok _ _ _ p.1 in
-          subst (λ (y : Expression × List Token). IsRead (suc limit) level y.0 ts y.1) (ok_is _ _ a.2)
-          (record { spelled = name_spells [] ts a.0.1 a.0 a.1 refl; formed = tt; within = omega arith; ranked = omega (arith, low) })
+          subst (Reads (suc limit) level ts) (ok_is _ _ a.2) (leaf_is low refl refl tt (name_spans a.1 nothing))
       | inr p ↦ elim (chosen _ _ _ _ p.1) [
         | inl q ↦
             let a = then_ok _ _ _ q.1 in
-            subst (λ (y : Expression × List Token). IsRead (suc limit) level y.0 ts y.1) (ok_is _ _ a.2)
-            (record { spelled = truth_spells [] ts a.0.1 a.0 a.1 refl; formed = tt; within = omega arith; ranked = omega (arith, low) })
+            subst (Reads (suc limit) level ts) (ok_is _ _ a.2) (leaf_is low refl refl tt (truth_spans a.1 nothing))
         | inr q ↦ elim (chosen _ _ _ _ q.1) [
           | inl r ↦ call_read limit level low ts x r.1
           | inr r ↦ elim (chosen _ _ _ _ r.1) [
             | inl u ↦ elapsed_read limit level low ts x u.1
             | inr u ↦
                 let a = then_ok _ _ _ u.1 in
-                subst (λ (y : Expression × List Token). IsRead (suc limit) level y.0 ts y.1) (ok_is _ _ a.2)
-                (record {
-                  spelled = number_spells [] ts a.0.1 a.0 a.1 refl;
-                  formed = tt;
-                  within = omega arith;
-                  ranked = omega (arith, low);
-                })
+                subst (Reads (suc limit) level ts) (ok_is _ _ a.2) (leaf_is low refl refl tt (number_spans a.1 nothing))
           ]
         ]
       ]
@@ -127,44 +117,37 @@ unfolding within
 within_positive zero place read lt = absurd (omega (arith, lt))
 within_positive (suc limit) place read lt = refl
 
-parens_read : (operand : Reader) (limit level : ℕ) → IsSound operand limit → level ≤ 7 → (ts : List Token) (x : Expression × List Token) →
-    parens_at operand limit ts ≡ Ok x → IsRead (suc limit) level x.0 ts x.1
+parens_read : (operand : Operands) (limit level : ℕ) → IsSound operand limit → level ≤ 7 → (ts : List Token)
+    (x : Expression × List Token) → parens_at operand limit ts ≡ Ok x → Reads (suc limit) level ts x
 unfolding parens_at
 parens_read operand limit level sound low ts x e =
     let a = then_ok _ _ _ e in
     let b = then_ok _ _ _ a.2 in
     let c = then_ok _ _ _ b.2 in
     let r = sound 0 a.0 b.0 (omega arith) (within_ok _ _ _ _ b.1) in
-    let close = after_spells (kind.Symbol symbol.CloseParen) [] b.0.1 c.0 c.0 c.1 refl in
-    let inside = Spells-then (expression_spelling b.0.0) (sign symbol.CloseParen ∷ []) a.0 b.0.1 c.0 r.spelled close in
-    subst (λ (y : Expression × List Token). IsRead (suc limit) level y.0 ts y.1) (ok_is _ _ c.2)
-    (record {
-      spelled = after_spells_at (kind.Symbol symbol.OpenParen)
-          (expression_spelling b.0.0 ++ sign symbol.CloseParen ∷ []) ts a.0 c.0 a.1 inside;
-      formed =
-          r.formed;
+    subst (Reads (suc limit) level ts) (ok_is _ _ c.2) (record {
+      spelled = after_spans_at a.1 (then_spans r.spelled (after_spans c.1 nothing));
+      formed = r.formed;
       within = omega (arith, r.within);
       ranked = omega (arith, low);
     })
 
-prefixed_read : (o : Prefix) (operand : Reader) (limit level : ℕ) → IsSound operand limit → level ≤ prefix_rank o → (ts : List Token)
-    (x : Expression × List Token) → prefixed_at o operand limit ts ≡ Ok x → IsRead (suc limit) level x.0 ts x.1
+prefixed_read : (o : Prefix) (operand : Operands) (limit level : ℕ) → IsSound operand limit → level ≤ prefix_rank o → (ts : List Token)
+    (x : Expression × List Token) → prefixed_at o operand limit ts ≡ Ok x → Reads (suc limit) level ts x
 unfolding prefixed_at
 prefixed_read o operand limit level sound low ts x e =
     let a = then_ok _ _ _ e in
     let b = then_ok _ _ _ a.2 in
     let r = sound (prefix_rank o) a.0 b.0 (prefix_rank-le o) (within_ok _ _ _ _ b.1) in
-    subst (λ (y : Expression × List Token). IsRead (suc limit) level y.0 ts y.1) (ok_is _ _ b.2)
-    (record {
-      spelled = after_spells_at (prefix_kind o) (expression_spelling b.0.0) ts a.0 b.0.1 a.1 r.spelled;
-      formed =
-          (r.formed, r.ranked);
+    subst (Reads (suc limit) level ts) (ok_is _ _ b.2) (record {
+      spelled = after_spans_at a.1 r.spelled;
+      formed = (r.formed, r.ranked);
       within = omega (arith, r.within);
       ranked = low;
     })
 
-times_read : (operand : Reader) (limit level : ℕ) → IsSound operand limit → level ≤ 7 → (ts : List Token) (x : Expression × List Token)
-    → times_at operand limit ts ≡ Ok x → IsRead (suc limit) level x.0 ts x.1
+times_read : (operand : Operands) (limit level : ℕ) → IsSound operand limit → level ≤ 7 → (ts : List Token) (x : Expression × List Token)
+    → times_at operand limit ts ≡ Ok x → Reads (suc limit) level ts x
 unfolding times_at
 times_read operand limit level sound low ts x e =
     let a = then_ok _ _ _ e in
@@ -174,17 +157,9 @@ times_read operand limit level sound low ts x e =
     let f = then_ok _ _ _ d.2 in
     let g = then_ok _ _ _ f.2 in
     let r = sound 0 b.0 c.0 (omega arith) c.1 in
-    let close = after_spells (kind.Symbol symbol.CloseParen) [] f.0.1 g.0 g.0 g.1 refl in
-    let bag = name_spells (sign symbol.CloseParen ∷ []) d.0 g.0 f.0 f.1 close in
-    let last : List Spelled = sign symbol.Comma ∷ name f.0.0 ∷ sign symbol.CloseParen ∷ [] in
-    let comma = after_spells (kind.Symbol symbol.Comma) (name f.0.0 ∷ sign symbol.CloseParen ∷ []) c.0.1 d.0 g.0 d.1 bag in
-    let inside = Spells-then (expression_spelling c.0.0) last b.0 c.0.1 g.0 r.spelled comma in
-    let here = within_ok _ _ _ _ b.1 in
-    let opened = after_spells (kind.Symbol symbol.OpenParen) (expression_spelling c.0.0 ++ last) a.0 b.0 g.0 here inside in
-    let spelling : List Spelled = sign symbol.OpenParen ∷ (expression_spelling c.0.0 ++ last) in
-    subst (λ (y : Expression × List Token). IsRead (suc limit) level y.0 ts y.1) (ok_is _ _ g.2)
-    (record {
-      spelled = after_spells_at (kind.Keyword keyword.Times) spelling ts a.0 g.0 a.1 opened;
+    let behind = after_spans d.1 (name_spans f.1 (after_spans g.1 nothing)) in
+    subst (Reads (suc limit) level ts) (ok_is _ _ g.2) (record {
+      spelled = after_spans_at a.1 (after_spans (within_ok _ _ _ _ b.1) (then_spans r.spelled behind));
       formed = r.formed;
       within = omega (arith, r.within);
       ranked = omega (arith, low);
@@ -194,8 +169,8 @@ pub and_true : (a b : Bool) → (a && b) ≡ true → (a ≡ true) × (b ≡ tru
 and_true true b e = (refl, e)
 and_true false b e = absurd cc
 
-primary_read : (operand : Reader) (limit level : ℕ) → IsSound operand limit → level ≤ 7 → (ts : List Token) (x : Expression × List Token) →
-    primary_at operand limit level ts ≡ Ok x → IsRead (suc limit) level x.0 ts x.1
+primary_read : (operand : Operands) (limit level : ℕ) → IsSound operand limit → level ≤ 7 → (ts : List Token)
+    (x : Expression × List Token) → primary_at operand limit level ts ≡ Ok x → Reads (suc limit) level ts x
 unfolding primary_at
 primary_read operand limit level sound low ts x e =
     elim (chosen _ _ _ _ e) [
@@ -239,12 +214,12 @@ operator_of-is _ o e = absurd (none_some _ e)
 
 -- what an operator that goes on with an expression tells
 record IsNext (level : ℕ) (left : Expression) (ts : List Token) (o : Operator) (rest : List Token) : Type 0 where
-  pub spelled : Spells (Anywhere (operator_kind o) ∷ []) ts rest
+  pub spelled : Spans (Anywhere (operator_kind o) ∷ []) ts rest
   pub above : level ≤ operator_rank o
   pub fits : left_rank o ≤ rank left
 
-operator_at-next : (level : ℕ) (left : Expression) (ts : List Token) (x : Operator × List Token) → operator_at level left ts ≡ Some x →
-    IsNext level left ts x.0 x.1
+operator_at-next : (level : ℕ) (left : Expression) (ts : List Token) (x : Operator × List Token) → operator_at level left ts ≡ Some x
+    → IsNext level left ts x.0 x.1
 unfolding operator_at goes_on
 operator_at-next level left [] x e = absurd (none_some _ e)
 operator_at-next level left (t ∷ ts) x e =
@@ -254,7 +229,11 @@ operator_at-next level left (t ∷ ts) x e =
         | inl p ↦
             let both = and_true _ _ p.0 in
             subst (λ (y : Operator × List Token). IsNext level left (t ∷ ts) y.0 y.1) (some_is _ _ p.1)
-            (record { spelled = (operator_of-is t.kind a.0 a.1, refl); above = leb-true _ _ both.0; fits = leb-true _ _ both.1 })
+            (record {
+              spelled = record { spells = (operator_of-is t.kind a.0 a.1, refl) };
+              above = leb-true _ _ both.0;
+              fits = leb-true _ _ both.1;
+            })
         | inr p ↦ absurd (none_some _ p.1)
       ]
     ]
@@ -289,17 +268,17 @@ operator_rank-left operator.AtMost = omega arith
 operator_rank-left operator.Greater = omega arith
 operator_rank-left operator.AtLeast = omega arith
 
-turns_read : (operand : Reader) (limit : ℕ) → IsSound operand limit → (more level : ℕ) (left : Expression) (ts mid : List Token)
+turns_read : (operand : Operands) (limit : ℕ) → IsSound operand limit → (more level : ℕ) (left : Expression) (ts mid : List Token)
     (x : Expression × List Token)
-    → IsRead (suc limit) level left ts mid → turns operand (suc limit) more level left mid ≡ Ok x → IsRead (suc limit) level x.0 ts x.1
+    → IsRead (suc limit) level left ts mid → turns operand (suc limit) more level left mid ≡ Ok x → Reads (suc limit) level ts x
 turns_read operand limit sound zero level left ts mid x so_far e =
     elim (maybe_is _ _ _ _ e) [
-      | inl p ↦ subst (λ (y : Expression × List Token). IsRead (suc limit) level y.0 ts y.1) (ok_is _ _ p.1) so_far
+      | inl p ↦ subst (Reads (suc limit) level ts) (ok_is _ _ p.1) so_far
       | inr p ↦ absurd (err_ok _ _ p.2)
     ]
 turns_read operand limit sound (suc more) level left ts mid x so_far e =
     elim (maybe_is _ _ _ _ e) [
-      | inl p ↦ subst (λ (y : Expression × List Token). IsRead (suc limit) level y.0 ts y.1) (ok_is _ _ p.1) so_far
+      | inl p ↦ subst (Reads (suc limit) level ts) (ok_is _ _ p.1) so_far
       | inr p ↦
           let o = p.0 in
           let next = operator_at-next level left mid o p.1 in
@@ -309,12 +288,9 @@ turns_read operand limit sound (suc more) level left ts mid x so_far e =
                 let a = then_ok _ _ _ q.1 in
                 let right = a.0 in
                 let r = sound (operator_rank o.0 + 1) o.1 right (omega (arith, operator_rank-le o.0)) a.1 in
-                let operator_first = Spells-then (Anywhere (operator_kind o.0) ∷ [])
-                (expression_spelling right.0) mid o.1 right.1 next.spelled r.spelled in
                 turns_read operand limit sound more level (Binary o.0 left right.0) ts right.1 x
                 (record {
-                  spelled = Spells-then (expression_spelling left)
-                      (Anywhere (operator_kind o.0) ∷ expression_spelling right.0) ts mid right.1 so_far.spelled operator_first;
+                  spelled = then_spans so_far.spelled (then_spans next.spelled r.spelled);
                   formed = (so_far.formed, r.formed, next.fits, omega (arith, r.ranked));
                   within = omega (arith, r.within, shallow);
                   ranked = next.above;
@@ -323,8 +299,8 @@ turns_read operand limit sound (suc more) level left ts mid x so_far e =
           ]
     ]
 
-pub expression_read : (limit level : ℕ) (ts : List Token) (x : Expression × List Token) → level ≤ 7 → expression_at limit level ts ≡ Ok x →
-    IsRead limit level x.0 ts x.1
+pub expression_read : (limit level : ℕ) (ts : List Token) (x : Expression × List Token) → level ≤ 7 → expression_at limit level ts ≡ Ok x
+    → Reads limit level ts x
 unfolding expression_at
 expression_read zero level ts x low e = absurd (err_ok _ _ e)
 expression_read (suc limit) level ts x low e =
@@ -334,8 +310,8 @@ expression_read (suc limit) level ts x low e =
     (primary_read (expression_at limit) limit level sound low ts a.0 a.1) a.2
 
 -- at any level
-primary_within : (operand : Reader) (limit level : ℕ) → IsSound operand limit → (ts : List Token) (x : Expression × List Token) →
-    primary_at operand limit level ts ≡ Ok x → depth x.0 ≤ suc limit
+primary_within : (operand : Operands) (limit level : ℕ) → IsSound operand limit → (ts : List Token) (x : Expression × List Token)
+    → primary_at operand limit level ts ≡ Ok x → depth x.0 ≤ suc limit
 unfolding primary_at
 primary_within operand limit level sound ts x e =
     elim (chosen _ _ _ _ e) [
@@ -352,8 +328,8 @@ primary_within operand limit level sound ts x e =
       ]
     ]
 
-pub primary_depth : (limit level : ℕ) (ts : List Token) (x : Expression × List Token) → primary_at (expression_at limit) limit level ts
-    ≡ Ok x → depth x.0 ≤ suc limit
+pub primary_depth : (limit level : ℕ) (ts : List Token) (x : Expression × List Token)
+    → primary_at (expression_at limit) limit level ts ≡ Ok x → depth x.0 ≤ suc limit
 primary_depth limit level ts x e = primary_within (expression_at limit) limit level (λ l us y h f. expression_read limit l us y h f) ts x e
 
 -- ---- What is spelled so is read
@@ -380,8 +356,8 @@ operator_of-kind operator.Greater = refl
 operator_of-kind operator.AtLeast = refl
 
 -- above what comes first no operator goes on
-stops_below : (level : ℕ) (left : Expression) (o : Option Operator) (r : ℕ) (ts : List Token) → IfSome o (λ o. operator_rank o ≤ r) →
-    r < level → maybe {B = Option (Operator × List Token)} o None (λ o. choose (goes_on level left o) (Some (o, ts)) None) ≡ None
+stops_below : (level : ℕ) (left : Expression) (o : Option Operator) (r : ℕ) (ts : List Token) → IfSome o (λ o. operator_rank o ≤ r)
+    → r < level → maybe {B = Option (Operator × List Token)} o None (λ o. choose (goes_on level left o) (Some (o, ts)) None) ≡ None
 unfolding maybe goes_on choose
 stops_below level left None r ts h lt = refl
 stops_below level left (Some o) r ts h lt =
@@ -393,8 +369,8 @@ unfolding operator_at
 operator_at-none level left r [] h lt = refl
 operator_at-none level left r (t ∷ ts) h lt = stops_below level left (operator_of t.kind) r ts h lt
 
-operator_at-some : (level : ℕ) (left : Expression) (o : Operator) (t : Token) (ts : List Token) → t.kind ≡ operator_kind o →
-    level ≤ operator_rank o → left_rank o ≤ rank left → operator_at level left (t ∷ ts) ≡ Some (o, ts)
+operator_at-some : (level : ℕ) (left : Expression) (o : Operator) (t : Token) (ts : List Token) → t.kind ≡ operator_kind o
+    → level ≤ operator_rank o → left_rank o ≤ rank left → operator_at level left (t ∷ ts) ≡ Some (o, ts)
 unfolding operator_at goes_on choose maybe
 operator_at-some level left o t ts k above fits =
     let is : operator_of t.kind ≡ Some o = ap operator_of k ∙ operator_of-kind o in
@@ -414,18 +390,13 @@ unfolding maybe
 same_maybe None n f g h = refl
 same_maybe (Some x) n f g h = h x
 
-same_then : {A B : Type 0} (r : Read A) (f g : A → Read B) → ((x : A) → f x ≡ g x) → read_then r f ≡ read_then r g
-unfolding read_then
-same_then (Ok x) f g h = h x
-same_then (Err o) f g h = refl
-
 weaker : (o : Option Operator) (r s : ℕ) → r ≤ s → IfSome o (λ o. operator_rank o ≤ r) → IfSome o (λ o. operator_rank o ≤ s)
 weaker None r s le h = tt
 weaker (Some o) r s le h = omega (arith, h)
 
 -- turns beyond what the limit allows change nothing
-same_turns : (operand : Reader) (limit a b level : ℕ) (left : Expression) (ts : List Token) → limit ≤ a + depth left →
-    limit ≤ b + depth left → turns operand limit a level left ts ≡ turns operand limit b level left ts
+same_turns : (operand : Operands) (limit a b level : ℕ) (left : Expression) (ts : List Token) → limit ≤ a + depth left
+    → limit ≤ b + depth left → turns operand limit a level left ts ≡ turns operand limit b level left ts
 unfolding maybe choose read_then
 same_turns operand limit zero zero level left ts ha hb = refl
 same_turns operand limit zero (suc b) level left ts ha hb =
@@ -446,25 +417,25 @@ same_turns operand limit (suc a) (suc b) level left ts ha hb =
     (λ right. same_turns operand limit a b level (Binary o.0 left right.0) right.1 (omega arith) (omega arith)) in
     same_maybe (operator_at level left ts) _ _ _ each
 
-pub turns_stop : (operand : Reader) (limit more level : ℕ) (left : Expression) (ts : List Token) → operator_at level left ts ≡ None →
-    turns operand limit more level left ts ≡ Ok (left, ts)
+pub turns_stop : (operand : Operands) (limit more level : ℕ) (left : Expression) (ts : List Token) → operator_at level left ts ≡ None
+    → turns operand limit more level left ts ≡ Ok (left, ts)
 unfolding maybe
 turns_stop operand limit zero level left ts e = rw e refl
 turns_stop operand limit (suc more) level left ts e = rw e refl
 
-pub turns_step : (operand : Reader) (limit level : ℕ) (left : Expression) (ts : List Token) (o : Operator × List Token) →
-    operator_at level left ts ≡ Some o → depth left < limit
+pub turns_step : (operand : Operands) (limit level : ℕ) (left : Expression) (ts : List Token) (o : Operator × List Token)
+    → operator_at level left ts ≡ Some o → depth left < limit
     → turns operand limit limit level left ts ≡ read_then (operand (operator_rank o.0 + 1) o.1)
     (λ right. turns operand limit limit level (Binary o.0 left right.0) right.1)
 unfolding maybe choose read_then
 turns_step operand zero level left ts o e lt = absurd (omega (arith, lt))
 turns_step operand (suc m) level left ts o e lt =
     let shallow : ltb (depth left) (suc m) ≡ true = lt-ltb _ _ lt in
-    rw (e, shallow) (same_then (operand (operator_rank o.0 + 1) o.1) _ _
-    (λ right. same_turns operand (suc m) m (suc m) level (Binary o.0 left right.0) right.1 (omega arith) (omega arith)))
+    rw (e, shallow) (same_after (operand (operator_rank o.0 + 1) o.1) _ _
+    (λ right _. same_turns operand (suc m) m (suc m) level (Binary o.0 left right.0) right.1 (omega arith) (omega arith)))
 
-pub turns_deep : (operand : Reader) (limit more level : ℕ) (left : Expression) (ts : List Token) (o : Operator × List Token) →
-    operator_at level left ts ≡ Some o → limit ≤ depth left → turns operand limit more level left ts ≡ Err (TooDeep (place_at ts))
+pub turns_deep : (operand : Operands) (limit more level : ℕ) (left : Expression) (ts : List Token) (o : Operator × List Token)
+    → operator_at level left ts ≡ Some o → limit ≤ depth left → turns operand limit more level left ts ≡ Err (TooDeep (place_at ts))
 unfolding maybe choose
 turns_deep operand limit zero level left ts o e le = rw e refl
 turns_deep operand limit (suc more) level left ts o e le =
@@ -476,42 +447,41 @@ abbrev pub IsClosed : List Token → Type 0
 IsClosed [] = Unit {0}
 IsClosed (t ∷ ts) = operator_of t.kind ≡ None
 
-pub IsClosed-front : (k : TokenKind) (ss : List Spelled) (ts rest : List Token) → operator_of k ≡ None → Spells (Anywhere k ∷ ss) ts rest →
-    IsClosed ts
-IsClosed-front k ss [] rest e h = absurd h
-IsClosed-front k ss (t ∷ ts) rest e h = ap operator_of h.0 ∙ e
+closed_spells : (k : TokenKind) (ss : List Spelled) (ts rest : List Token) → operator_of k ≡ None → Spells (Anywhere k ∷ ss) ts rest
+    → IsClosed ts
+closed_spells k ss [] rest e h = absurd h
+closed_spells k ss (t ∷ ts) rest e h = ap operator_of h.0 ∙ e
+
+pub closed_front : {k : TokenKind} {ss : List Spelled} {ts rest : List Token} → operator_of k ≡ None → Spans (Anywhere k ∷ ss) ts rest
+    → IsClosed ts
+closed_front {k = k} {ss = ss} {ts = ts} {rest = rest} e h = closed_spells k ss ts rest e h.spells
 
 IsLoose-closed : (r : ℕ) (ts : List Token) → IsClosed ts → IsLoose r ts
 IsLoose-closed r [] h = tt
 IsLoose-closed r (t ∷ ts) h = rw h tt
 
-IsLoose-front : (r : ℕ) (o : Operator) (ss : List Spelled) (ts rest : List Token) → operator_rank o ≤ r → Spells
-    (Anywhere (operator_kind o) ∷ ss) ts rest → IsLoose r ts
-IsLoose-front r o ss [] rest le h = absurd h
-IsLoose-front r o ss (t ∷ ts) rest le h = let e : operator_of t.kind ≡ Some o = ap operator_of h.0 ∙ operator_of-kind o in rw e le
+IsLoose-front : (r : ℕ) (o : Operator) (ss : List Spelled) (ts rest : List Token) → operator_rank o ≤ r
+    → Spans (Anywhere (operator_kind o) ∷ ss) ts rest → IsLoose r ts
+IsLoose-front r o ss [] rest le h = absurd h.spells
+IsLoose-front r o ss (t ∷ ts) rest le h =
+    let e : operator_of t.kind ≡ Some o = ap operator_of h.spells.0 ∙ operator_of-kind o in
+    rw e le
 
 IsLoose-weaker : (r s : ℕ) (ts : List Token) → r ≤ s → IsLoose r ts → IsLoose s ts
 IsLoose-weaker r s [] le h = tt
 IsLoose-weaker r s (t ∷ ts) le h = weaker (operator_of t.kind) r s le h
 
-below_six : (o : Option Operator) → IfSome o (λ o. operator_rank o ≤ 6)
-below_six None = tt
-below_six (Some o) = operator_rank-le o
-
-IsLoose-six : (ts : List Token) → IsLoose 6 ts
-IsLoose-six [] = tt
-IsLoose-six (t ∷ ts) = below_six (operator_of t.kind)
-
-operator_at-closed : (level : ℕ) (left : Expression) (ts : List Token) → IsClosed ts → operator_at level left ts ≡ None
+pub operator_at-closed : (level : ℕ) (left : Expression) (ts : List Token) → IsClosed ts → operator_at level left ts ≡ None
 unfolding operator_at maybe
 operator_at-closed level left [] h = refl
 operator_at-closed level left (t ∷ ts) h = rw h refl
 
-operator_at-front : (level : ℕ) (left : Expression) (o : Operator) (ss : List Spelled) (ts rest : List Token) → level ≤ operator_rank o →
-    left_rank o ≤ rank left → Spells (Anywhere (operator_kind o) ∷ ss) ts rest
-    → (behind : List Token) × (operator_at level left ts ≡ Some (o, behind)) × Spells ss behind rest
-operator_at-front level left o ss [] rest above fits h = absurd h
-operator_at-front level left o ss (t ∷ ts) rest above fits h = (ts, operator_at-some level left o t ts h.0 above fits, h.1)
+operator_at-front : (level : ℕ) (left : Expression) (o : Operator) (ss : List Spelled) (ts rest : List Token) → level ≤ operator_rank o
+    → left_rank o ≤ rank left → Spans (Anywhere (operator_kind o) ∷ ss) ts rest
+    → (behind : List Token) × (operator_at level left ts ≡ Some (o, behind)) × Spans ss behind rest
+operator_at-front level left o ss [] rest above fits h = absurd h.spells
+operator_at-front level left o ss (t ∷ ts) rest above fits h =
+    (ts, operator_at-some level left o t ts h.spells.0 above fits, record { spells = h.spells.1 })
 
 pub positive_depth : (e : Expression) → 0 < depth e
 positive_depth (Literal n) = omega arith
@@ -524,199 +494,148 @@ positive_depth (Call c place b) = omega arith
 positive_depth (Elapsed place) = omega arith
 positive_depth (Times place e b) = omega arith
 
-primary_leaf : (operand : Reader) (limit level : ℕ) (ts : List Token) → begins (kind.Symbol symbol.OpenParen) ts ≡ false
-    → begins (kind.Keyword keyword.Times) ts ≡ false → begins (kind.Symbol symbol.Minus) ts ≡ false
-    → begins (kind.Keyword keyword.Not) ts ≡ false
-    → primary_at operand limit level ts ≡ leaf_at ts
-unfolding primary_at choose
-primary_leaf operand limit level ts a b c d = rw (a, b, c, d) refl
+-- what begins with no sign or word of another operand is a leaf
+primary_leaf : (operand : Operands) (limit level : ℕ) (ts : List Token) {read : Read (Expression × List Token)}
+    → begins (kind.Symbol symbol.OpenParen) ts ≡ false → begins (kind.Keyword keyword.Times) ts ≡ false
+    → begins (kind.Symbol symbol.Minus) ts ≡ false → begins (kind.Keyword keyword.Not) ts ≡ false → leaf_at ts ≡ read
+    → primary_at operand limit level ts ≡ read
+unfolding primary_at
+primary_leaf operand limit level ts a b c d h = past _ a (past _ b (past _ (rw c refl) (past _ (rw d refl) h)))
 
-number_again : (operand : Reader) (limit level : ℕ) (n : Number) (ts rest : List Token) → Spells (number n ∷ []) ts rest →
-    primary_at operand limit level ts ≡ Ok (Literal n, rest)
-unfolding leaf_at choose read_then
-number_again operand limit level n ts rest h =
-    let f = front (number n) [] ts rest h in
-    let g = number_front n [] ts rest h in
-    let size = f.begins (kind.Keyword keyword.Size) in
-    let sum = f.begins (kind.Keyword keyword.Sum) in
-    let least = f.begins (kind.Keyword keyword.Least) in
-    let most = f.begins (kind.Keyword keyword.Most) in
-    primary_leaf operand limit level ts (f.begins _) (f.begins _) (f.begins _) (f.begins _)
-    ∙ rw (
-      f.begins_name,
-      f.begins (kind.Keyword keyword.True),
-      f.begins (kind.Keyword keyword.False),
-      size,
-      sum,
-      least,
-      most,
-      f.begins (kind.Keyword keyword.Elapsed),
-      g.1,
-      g.2,
-    ) refl
+no_truth : (ts : List Token) → begins (kind.Keyword keyword.True) ts ≡ false → begins (kind.Keyword keyword.False) ts ≡ false
+    → begins_truth ts ≡ false
+no_truth ts a b = rw (a, b) refl
 
-elapsed_again : (operand : Reader) (limit level place : ℕ) (ts rest : List Token) → Spells (word_at keyword.Elapsed place ∷ []) ts rest
+no_call : (ts : List Token) → begins (kind.Keyword keyword.Size) ts ≡ false → begins (kind.Keyword keyword.Sum) ts ≡ false
+    → begins (kind.Keyword keyword.Least) ts ≡ false → begins (kind.Keyword keyword.Most) ts ≡ false → begins_call ts ≡ false
+no_call ts a b c d = rw (a, b, c, d) refl
+
+number_again : (operand : Operands) (limit level : ℕ) (n : Number) {ts rest : List Token} → Spans (number n ∷ []) ts rest
+    → primary_at operand limit level ts ≡ Ok (Literal n, rest)
+unfolding leaf_at read_then
+number_again operand limit level n {ts = ts} h =
+    let b = (first h).begins in
+    let g = first_number n h in
+    primary_leaf operand limit level _ (b _) (b _) (b _) (b _)
+    (past _ (first h).begins_name (past _ (no_truth ts (b _) (b _)) (past _ (no_call ts (b _) (b _) (b _) (b _)) (past _ (b _)
+    (rw (g.read, span_end g.spelled) refl)))))
+
+elapsed_again : (operand : Operands) (limit level place : ℕ) {ts rest : List Token} → Spans (word_at keyword.Elapsed place ∷ []) ts rest
     → primary_at operand limit level ts ≡ Ok (Elapsed place, rest)
-unfolding leaf_at elapsed_at choose read_then
-elapsed_again operand limit level place ts rest h =
-    let f = front (word_at keyword.Elapsed place) [] ts rest h in
-    primary_leaf operand limit level ts (f.begins _) (f.begins _) (f.begins _) (f.begins _)
-    ∙ rw (
-      f.begins_name,
-      f.begins (kind.Keyword keyword.True),
-      f.begins (kind.Keyword keyword.False),
-      f.begins (kind.Keyword keyword.Size),
-      f.begins (kind.Keyword keyword.Sum),
-      f.begins (kind.Keyword keyword.Least),
-      f.begins (kind.Keyword keyword.Most),
-      f.begins (kind.Keyword keyword.Elapsed),
-      f.after,
-      f.place,
-      f.spelled,
-    ) refl
+unfolding leaf_at elapsed_at read_then
+elapsed_again operand limit level place {ts = ts} h =
+    let f = first h in
+    let b = f.begins in
+    primary_leaf operand limit level _ (b _) (b _) (b _) (b _)
+    (past _ f.begins_name (past _ (no_truth ts (b _) (b _)) (past _ (no_call ts (b _) (b _) (b _) (b _)) (here _ (b _)
+    (rw (f.after, f.place, span_end f.spelled) refl)))))
 
-truth_again : (operand : Reader) (limit level place : ℕ) (value : Bool) (ts rest : List Token) → Spells
-    (word_at (truth_word value) place ∷ []) ts rest → primary_at operand limit level ts ≡ Ok (TruthValue place value, rest)
-unfolding leaf_at choose read_then
-truth_again operand limit level place true ts rest h =
-    let f = front (word_at keyword.True place) [] ts rest h in
-    let g = truth_front true [] ts rest (unplaced _ place [] ts rest h) in
-    primary_leaf operand limit level ts (f.begins _) (f.begins _) (f.begins _) (f.begins _)
-    ∙ rw (f.begins_name, f.begins (kind.Keyword keyword.True), g.1, g.2, f.place) refl
-truth_again operand limit level place false ts rest h =
-    let f = front (word_at keyword.False place) [] ts rest h in
-    let g = truth_front false [] ts rest (unplaced _ place [] ts rest h) in
-    primary_leaf operand limit level ts (f.begins _) (f.begins _) (f.begins _) (f.begins _)
-    ∙ rw (f.begins_name, f.begins (kind.Keyword keyword.True), f.begins (kind.Keyword keyword.False), g.1, g.2, f.place) refl
+truth_again : (operand : Operands) (limit level place : ℕ) (value : Bool) {ts rest : List Token}
+    → Spans (word_at (truth_word value) place ∷ []) ts rest → primary_at operand limit level ts ≡ Ok (TruthValue place value, rest)
+unfolding leaf_at read_then
+truth_again operand limit level place true h =
+    let f = first h in
+    let b = f.begins in
+    let g = first_truth true (unplaced h) in
+    primary_leaf operand limit level _ (b _) (b _) (b _) (b _)
+    (past _ f.begins_name (here _ (rw (b (kind.Keyword keyword.True)) refl) (rw (g.read, f.place, span_end g.spelled) refl)))
+truth_again operand limit level place false h =
+    let f = first h in
+    let b = f.begins in
+    let g = first_truth false (unplaced h) in
+    primary_leaf operand limit level _ (b _) (b _) (b _) (b _)
+    (past _ f.begins_name (here _ (rw (b (kind.Keyword keyword.True), b (kind.Keyword keyword.False)) refl)
+    (rw (g.read, f.place, span_end g.spelled) refl)))
 
-name_again : (operand : Reader) (limit level : ℕ) (n : Name) (ts rest : List Token) → Spells (name n ∷ []) ts rest →
-    primary_at operand limit level ts ≡ Ok (Named n, rest)
-unfolding leaf_at choose read_then
-name_again operand limit level n ts rest h =
-    let f = front (name n) [] ts rest h in
-    let g = name_front n [] ts rest h in
-    primary_leaf operand limit level ts (f.begins _) (f.begins _) (f.begins _) (f.begins _) ∙ rw (f.begins_name, g.1, g.2) refl
+name_again : (operand : Operands) (limit level : ℕ) (n : Name) {ts rest : List Token} → Spans (name n ∷ []) ts rest
+    → primary_at operand limit level ts ≡ Ok (Named n, rest)
+unfolding leaf_at read_then
+name_again operand limit level n h =
+    let b = (first h).begins in
+    let g = first_name n h in
+    primary_leaf operand limit level _ (b _) (b _) (b _) (b _) (here _ (first h).begins_name (rw (g.read, span_end g.spelled) refl))
 
 -- what begins with the word of a call and is read as a call
-call_leaf : (operand : Reader) (limit level : ℕ) (c : BagCall) (place : ℕ) (ss : List Spelled) (ts rest : List Token)
-    → Spells (word_at (call_word c) place ∷ ss) ts rest → primary_at operand limit level ts ≡ call_at ts
-unfolding leaf_at choose
-call_leaf operand limit level call.Size place ss ts rest h =
-    let f = front (word_at keyword.Size place) ss ts rest h in
-    primary_leaf operand limit level ts (f.begins _) (f.begins _) (f.begins _) (f.begins _)
-    ∙ rw (
-      f.begins_name,
-      f.begins (kind.Keyword keyword.True),
-      f.begins (kind.Keyword keyword.False),
-      f.begins (kind.Keyword keyword.Size),
-    ) refl
-call_leaf operand limit level call.Sum place ss ts rest h =
-    let f = front (word_at keyword.Sum place) ss ts rest h in
-    let size = f.begins (kind.Keyword keyword.Size) in
-    primary_leaf operand limit level ts (f.begins _) (f.begins _) (f.begins _) (f.begins _)
-    ∙ rw (
-      f.begins_name,
-      f.begins (kind.Keyword keyword.True),
-      f.begins (kind.Keyword keyword.False),
-      size,
-      f.begins (kind.Keyword keyword.Sum),
-    ) refl
-call_leaf operand limit level call.Least place ss ts rest h =
-    let f = front (word_at keyword.Least place) ss ts rest h in
-    let size = f.begins (kind.Keyword keyword.Size) in
-    let sum = f.begins (kind.Keyword keyword.Sum) in
-    let least = f.begins (kind.Keyword keyword.Least) in
-    primary_leaf operand limit level ts (f.begins _) (f.begins _) (f.begins _) (f.begins _)
-    ∙ rw (f.begins_name, f.begins (kind.Keyword keyword.True), f.begins (kind.Keyword keyword.False), size, sum, least) refl
-call_leaf operand limit level call.Most place ss ts rest h =
-    let f = front (word_at keyword.Most place) ss ts rest h in
-    let size = f.begins (kind.Keyword keyword.Size) in
-    let sum = f.begins (kind.Keyword keyword.Sum) in
-    let least = f.begins (kind.Keyword keyword.Least) in
-    let most = f.begins (kind.Keyword keyword.Most) in
-    primary_leaf operand limit level ts (f.begins _) (f.begins _) (f.begins _) (f.begins _)
-    ∙ rw (f.begins_name, f.begins (kind.Keyword keyword.True), f.begins (kind.Keyword keyword.False), size, sum, least, most) refl
+call_leaf : (operand : Operands) (limit level : ℕ) (c : BagCall) {place : ℕ} {ss : List Spelled} {ts rest : List Token}
+    → Spans (word_at (call_word c) place ∷ ss) ts rest → primary_at operand limit level ts ≡ call_at ts
+unfolding leaf_at
+call_leaf operand limit level call.Size {ts = ts} h =
+    let b = (first h).begins in
+    primary_leaf operand limit level _ (b _) (b _) (b _) (b _)
+    (past _ (first h).begins_name (past _ (no_truth ts (b _) (b _)) (here _ (rw (b (kind.Keyword keyword.Size)) refl) refl)))
+call_leaf operand limit level call.Sum {ts = ts} h =
+    let b = (first h).begins in
+    primary_leaf operand limit level _ (b _) (b _) (b _) (b _)
+    (past _ (first h).begins_name (past _ (no_truth ts (b _) (b _))
+    (here _ (rw (b (kind.Keyword keyword.Size), b (kind.Keyword keyword.Sum)) refl) refl)))
+call_leaf operand limit level call.Least {ts = ts} h =
+    let b = (first h).begins in
+    let least = b (kind.Keyword keyword.Least) in
+    primary_leaf operand limit level _ (b _) (b _) (b _) (b _)
+    (past _ (first h).begins_name (past _ (no_truth ts (b _) (b _))
+    (here _ (rw (b (kind.Keyword keyword.Size), b (kind.Keyword keyword.Sum), least) refl) refl)))
+call_leaf operand limit level call.Most {ts = ts} h =
+    let b = (first h).begins in
+    let least = b (kind.Keyword keyword.Least) in
+    let most = b (kind.Keyword keyword.Most) in
+    primary_leaf operand limit level _ (b _) (b _) (b _) (b _)
+    (past _ (first h).begins_name (past _ (no_truth ts (b _) (b _))
+    (here _ (rw (b (kind.Keyword keyword.Size), b (kind.Keyword keyword.Sum), least, most) refl) refl)))
 
-call_again : (operand : Reader) (limit level : ℕ) (c : BagCall) (place : ℕ) (b : Name) (ts rest : List Token)
-    → Spells (expression_spelling (Call c place b)) ts rest → primary_at operand limit level ts ≡ Ok (Call c place b, rest)
+call_again : (operand : Operands) (limit level : ℕ) (c : BagCall) (place : ℕ) (b : Name) {ts rest : List Token}
+    → Spans (expression_spelling (Call c place b)) ts rest → primary_at operand limit level ts ≡ Ok (Call c place b, rest)
 unfolding call_at read_then
-call_again operand limit level c place b ts rest h =
-    let last : List Spelled = sign symbol.CloseParen ∷ [] in
-    let ss : List Spelled = sign symbol.OpenParen ∷ name b ∷ last in
-    let f = front (word_at (call_word c) place) ss ts rest h in
-    let g = call_front c ss ts rest (unplaced _ place ss ts rest h) in
-    let opened = front (sign symbol.OpenParen) (name b ∷ last) g.0 rest g.2 in
-    let bag = name_front b last opened.behind rest opened.spelled in
-    let close = front (sign symbol.CloseParen) [] bag.0 rest bag.2 in
-    call_leaf operand limit level c place ss ts rest h ∙ rw (g.1, opened.after, bag.1, close.after, f.place, close.spelled) refl
+call_again operand limit level c place b h =
+    let g = first_call c (unplaced h) in
+    let opened = first g.spelled in
+    let bag = first_name b opened.spelled in
+    let close = first bag.spelled in
+    call_leaf operand limit level c h ∙ rw (g.read, opened.after, bag.read, close.after, (first h).place, span_end close.spelled) refl
 
-times_again : (operand : Reader) (limit level place : ℕ) (e : Expression) (b : Name) (ts rest : List Token)
-    → Spells (expression_spelling (Times place e b)) ts rest
-    → ((us vs : List Token) → Spells (expression_spelling e) us vs → IsClosed vs → operand 0 us ≡ Ok (e, vs))
+times_again : (operand : Operands) (limit level place : ℕ) (e : Expression) (b : Name) (ts rest : List Token)
+    → Spans (expression_spelling (Times place e b)) ts rest
+    → ((us vs : List Token) → Spans (expression_spelling e) us vs → IsClosed vs → operand 0 us ≡ Ok (e, vs))
     → primary_at operand (suc limit) level ts ≡ Ok (Times place e b, rest)
-unfolding primary_at times_at within choose read_then operator_of
+unfolding primary_at times_at within read_then operator_of
 times_again operand limit level place e b ts rest h inner =
-    let last : List Spelled = name b ∷ sign symbol.CloseParen ∷ [] in
-    let tail : List Spelled = sign symbol.Comma ∷ last in
-    let f = front (word_at keyword.Times place) (sign symbol.OpenParen ∷ (expression_spelling e ++ tail)) ts rest h in
-    let opened = front (sign symbol.OpenParen) (expression_spelling e ++ tail) f.behind rest f.spelled in
-    let s = Spells-split (expression_spelling e) tail opened.behind rest opened.spelled in
-    let comma = front (sign symbol.Comma) last s.0 rest s.2 in
-    let bag = name_front b (sign symbol.CloseParen ∷ []) comma.behind rest comma.spelled in
-    let close = front (sign symbol.CloseParen) [] bag.0 rest bag.2 in
-    let i = inner opened.behind s.0 s.1 (IsClosed-front (kind.Symbol symbol.Comma) last s.0 rest refl s.2) in
-    let word = f.begins (kind.Keyword keyword.Times) in
-    rw (
-      f.begins (kind.Symbol symbol.OpenParen),
-      word,
-      f.after,
-      opened.after,
-      i,
-      comma.after,
-      bag.1,
-      close.after,
-      f.place,
-      close.spelled,
-    ) refl
+    let f = first h in
+    let opened = first f.spelled in
+    let s = split (expression_spelling e) (sign symbol.Comma ∷ name b ∷ sign symbol.CloseParen ∷ []) opened.spelled in
+    let i = inner opened.behind s.0 s.1 (closed_front refl s.2) in
+    let comma = first s.2 in
+    let bag = first_name b comma.spelled in
+    let close = first bag.spelled in
+    past _ (f.begins _) (here _ (f.begins _)
+    (rw (f.after, opened.after, i, comma.after, bag.read, close.after, f.place, span_end close.spelled) refl))
 
-parens_again : (operand : Reader) (limit level place : ℕ) (e : Expression) (ts rest : List Token) → Spells
-    (expression_spelling (Parens place e)) ts rest
-    → ((us vs : List Token) → Spells (expression_spelling e) us vs → IsClosed vs → operand 0 us ≡ Ok (e, vs)) → primary_at operand
-    (suc limit) level ts ≡ Ok (Parens place e, rest)
-unfolding primary_at parens_at within choose read_then operator_of
+parens_again : (operand : Operands) (limit level place : ℕ) (e : Expression) (ts rest : List Token)
+    → Spans (expression_spelling (Parens place e)) ts rest
+    → ((us vs : List Token) → Spans (expression_spelling e) us vs → IsClosed vs → operand 0 us ≡ Ok (e, vs))
+    → primary_at operand (suc limit) level ts ≡ Ok (Parens place e, rest)
+unfolding primary_at parens_at within read_then operator_of
 parens_again operand limit level place e ts rest h inner =
-    let f = front (At (kind.Symbol symbol.OpenParen) place) (expression_spelling e ++ sign symbol.CloseParen ∷ []) ts rest h in
-    let s = Spells-split (expression_spelling e) (sign symbol.CloseParen ∷ []) f.behind rest f.spelled in
-    let c = front (sign symbol.CloseParen) [] s.0 rest s.2 in
-    let i = inner f.behind s.0 s.1 (IsClosed-front (kind.Symbol symbol.CloseParen) [] s.0 rest refl s.2) in
-    rw (f.begins (kind.Symbol symbol.OpenParen), f.after, i, c.after, f.place, c.spelled) refl
+    let f = first h in
+    let s = split (expression_spelling e) (sign symbol.CloseParen ∷ []) f.spelled in
+    let i = inner f.behind s.0 s.1 (closed_front refl s.2) in
+    let c = first s.2 in
+    here _ (f.begins _) (rw (f.after, i, c.after, f.place, span_end c.spelled) refl)
 
-prefixed_again : (o : Prefix) (operand : Reader) (limit level place : ℕ) (e : Expression) (ts rest : List Token) → level ≤ prefix_rank o →
-    Spells (expression_spelling (Prefixed o place e)) ts rest
-    → ((us : List Token) → Spells (expression_spelling e) us rest → operand (prefix_rank o) us ≡ Ok (e, rest)) → primary_at operand
-    (suc limit) level ts ≡ Ok (Prefixed o place e, rest)
-unfolding primary_at prefixed_at within choose read_then
+prefixed_again : (o : Prefix) (operand : Operands) (limit level place : ℕ) (e : Expression) (ts rest : List Token) → level ≤ prefix_rank o
+    → Spans (expression_spelling (Prefixed o place e)) ts rest
+    → ((us : List Token) → Spans (expression_spelling e) us rest → operand (prefix_rank o) us ≡ Ok (e, rest))
+    → primary_at operand (suc limit) level ts ≡ Ok (Prefixed o place e, rest)
+unfolding primary_at prefixed_at within read_then
 prefixed_again prefix.Minus operand limit level place e ts rest low h inner =
-    let f = front (At (kind.Symbol symbol.Minus) place) (expression_spelling e) ts rest h in
+    let f = first h in
     let i = inner f.behind f.spelled in
     let l : leb level 7 ≡ true = le-leb _ _ low in
-    let times = f.begins (kind.Keyword keyword.Times) in
-    rw (f.begins (kind.Symbol symbol.OpenParen), times, f.begins (kind.Symbol symbol.Minus), l, f.after, i, f.place) refl
+    past _ (f.begins _) (past _ (f.begins _) (here _ (rw (f.begins (kind.Symbol symbol.Minus), l) refl) (rw (f.after, i, f.place) refl)))
 prefixed_again prefix.Not operand limit level place e ts rest low h inner =
-    let f = front (At (kind.Keyword keyword.Not) place) (expression_spelling e) ts rest h in
+    let f = first h in
     let i = inner f.behind f.spelled in
     let l : leb level 3 ≡ true = le-leb _ _ low in
-    let times = f.begins (kind.Keyword keyword.Times) in
-    rw (
-      f.begins (kind.Symbol symbol.OpenParen),
-      times,
-      f.begins (kind.Symbol symbol.Minus),
-      f.begins (kind.Keyword keyword.Not),
-      l,
-      f.after,
-      i,
-      f.place,
-    ) refl
+    past _ (f.begins _) (past _ (f.begins _) (past _ (rw (f.begins (kind.Symbol symbol.Minus)) refl)
+    (here _ (rw (f.begins (kind.Keyword keyword.Not), l) refl) (rw (f.after, i, f.place) refl))))
 
 -- no operator between two operands binds as tightly as one before its operand
 apart : (p : Prefix) (o : Operator) → operator_rank o ≤ prefix_rank p → operator_rank o < prefix_rank p
@@ -735,8 +654,8 @@ apart prefix.Not operator.AtMost le = omega (arith, le)
 apart prefix.Not operator.Greater le = omega (arith, le)
 apart prefix.Not operator.AtLeast le = omega (arith, le)
 
-below_prefix : (p : Prefix) (o : Option Operator) → IfSome o (λ o. operator_rank o ≤ prefix_rank p) → IfSome o
-    (λ o. operator_rank o ≤ prefix_rank p - 1)
+below_prefix : (p : Prefix) (o : Option Operator) → IfSome o (λ o. operator_rank o ≤ prefix_rank p)
+    → IfSome o (λ o. operator_rank o ≤ prefix_rank p - 1)
 below_prefix p None h = tt
 below_prefix p (Some o) h = omega (arith, apart p o h)
 
@@ -750,20 +669,20 @@ prefixed_stops p e [] h = operator_at-none (prefix_rank p) e (prefix_rank p - 1)
 prefixed_stops p e (t ∷ ts) h =
     operator_at-none (prefix_rank p) e (prefix_rank p - 1) (t ∷ ts) (below_prefix p (operator_of t.kind) h) (positive_rank p)
 
-then_turns : (limit level : ℕ) (e : Expression) (ts rest : List Token) → primary_at (expression_at limit) limit level ts ≡ Ok (e, rest) →
-    expression_at (suc limit) level ts ≡ turns (expression_at limit) (suc limit) (suc limit) level e rest
+then_turns : (limit level : ℕ) (e : Expression) (ts rest : List Token) → primary_at (expression_at limit) limit level ts ≡ Ok (e, rest)
+    → expression_at (suc limit) level ts ≡ turns (expression_at limit) (suc limit) (suc limit) level e rest
 unfolding expression_at read_then
 then_turns limit level e ts rest h = rw h refl
 
-expression_again : (e : Expression) (limit level : ℕ) (ts rest : List Token) → IsWellFormed e → depth e ≤ suc limit → level ≤ rank e →
-    level ≤ 7 → IsLoose (rank e) rest → Spells (expression_spelling e) ts rest
+expression_again : (e : Expression) (limit level : ℕ) (ts rest : List Token) → IsWellFormed e → depth e ≤ suc limit → level ≤ rank e
+    → level ≤ 7 → IsLoose (rank e) rest → Spans (expression_spelling e) ts rest
     → expression_at (suc limit) level ts ≡ turns (expression_at limit) (suc limit) (suc limit) level e rest
 expression_again (Literal n) limit level ts rest formed within ranked low loose h =
-    then_turns limit level (Literal n) ts rest (number_again (expression_at limit) limit level n ts rest h)
+    then_turns limit level (Literal n) ts rest (number_again (expression_at limit) limit level n h)
 expression_again (TruthValue place value) limit level ts rest formed within ranked low loose h =
-    then_turns limit level (TruthValue place value) ts rest (truth_again (expression_at limit) limit level place value ts rest h)
+    then_turns limit level (TruthValue place value) ts rest (truth_again (expression_at limit) limit level place value h)
 expression_again (Named n) limit level ts rest formed within ranked low loose h =
-    then_turns limit level (Named n) ts rest (name_again (expression_at limit) limit level n ts rest h)
+    then_turns limit level (Named n) ts rest (name_again (expression_at limit) limit level n h)
 expression_again (Parens place e) zero level ts rest formed within ranked low loose h = absurd (omega (arith, within, positive_depth e))
 expression_again (Parens place e) (suc limit) level ts rest formed within ranked low loose h =
     then_turns (suc limit) level (Parens place e) ts rest
@@ -780,7 +699,7 @@ expression_again (Prefixed o place e) (suc limit) level ts rest formed within ra
 expression_again (Binary o a b) zero level ts rest formed within ranked low loose h = absurd (omega (arith, within, positive_depth a))
 expression_again (Binary o a b) (suc limit) level ts rest formed within ranked low loose h =
     let k : ℕ = suc limit in
-    let s = Spells-split (expression_spelling a) (Anywhere (operator_kind o) ∷ expression_spelling b) ts rest h in
+    let s = split (expression_spelling a) (Anywhere (operator_kind o) ∷ expression_spelling b) h in
     let tight : operator_rank o ≤ rank a = omega (arith, operator_rank-left o, formed.2) in
     let left = expression_again a k level ts s.0 formed.0 (omega (arith, within)) (omega (arith, ranked, tight)) low
     (IsLoose-front (rank a) o (expression_spelling b) s.0 rest tight s.2) s.1 in
@@ -794,9 +713,9 @@ expression_again (Binary o a b) (suc limit) level ts rest formed within ranked l
     left ∙ step ∙ then_is (expression_at k (operator_rank o + 1) next.0)
     (λ right. turns (expression_at k) (suc k) (suc k) level (Binary o a right.0) right.1) (b, rest) right
 expression_again (Call c place b) limit level ts rest formed within ranked low loose h =
-    then_turns limit level (Call c place b) ts rest (call_again (expression_at limit) limit level c place b ts rest h)
+    then_turns limit level (Call c place b) ts rest (call_again (expression_at limit) limit level c place b h)
 expression_again (Elapsed place) limit level ts rest formed within ranked low loose h =
-    then_turns limit level (Elapsed place) ts rest (elapsed_again (expression_at limit) limit level place ts rest h)
+    then_turns limit level (Elapsed place) ts rest (elapsed_again (expression_at limit) limit level place h)
 expression_again (Times place e b) zero level ts rest formed within ranked low loose h = absurd (omega (arith, within, positive_depth e))
 expression_again (Times place e b) (suc limit) level ts rest formed within ranked low loose h =
     then_turns (suc limit) level (Times place e b) ts rest
@@ -804,18 +723,17 @@ expression_again (Times place e b) (suc limit) level ts rest formed within ranke
     expression_again e limit 0 us vs formed (omega (arith, within)) (omega arith) (omega arith) (IsLoose-closed (rank e) vs closed) k
     ∙ turns_stop (expression_at limit) (suc limit) (suc limit) 0 e vs (operator_at-closed 0 e vs closed)))
 
-all_read : (limit : ℕ) (e : Expression) (ts rest : List Token) → IsWellFormed e → depth e ≤ limit → Spells (expression_spelling e) ts rest →
-    IsClosed rest → expression_at limit 0 ts ≡ Ok (e, rest)
+all_read : (limit : ℕ) (e : Expression) (ts rest : List Token) → IsWellFormed e → depth e ≤ limit
+    → Spans (expression_spelling e) ts rest → IsClosed rest → expression_at limit 0 ts ≡ Ok (e, rest)
 all_read zero e ts rest formed within h closed = absurd (omega (arith, within, positive_depth e))
 all_read (suc limit) e ts rest formed within h closed =
     expression_again e limit 0 ts rest formed within (omega arith) (omega arith) (IsLoose-closed (rank e) rest closed) h
     ∙ turns_stop (expression_at limit) (suc limit) (suc limit) 0 e rest (operator_at-closed 0 e rest closed)
 
-pub expression_complete : (limits : Limits) (e : Expression) (ts rest : List Token) → IsExpression limits e → Spells
-    (expression_spelling e) ts rest → IsClosed rest → expression_at limits.expression 0 ts ≡ Ok (e, rest)
-expression_complete limits e ts rest is h closed = all_read limits.expression e ts rest is.formed is.within h closed
-
-pub expression_sound : (limits : Limits) (ts : List Token) (x : Expression × List Token) → expression_at limits.expression 0 ts ≡ Ok x →
-    Spells (expression_spelling x.0) ts x.1 × IsExpression limits x.0
-expression_sound limits ts x e =
-    let r = expression_read limits.expression 0 ts x (omega arith) e in (r.spelled, record { formed = r.formed; within = r.within })
+pub expression_reader : (limits : Limits) → IsReader (expression_at limits.expression 0) expression_spelling (IsExpression limits) IsClosed
+expression_reader limits = record {
+  sound = λ ts x e.
+      let r = expression_read limits.expression 0 ts x (omega arith) e in
+      (r.spelled, record { formed = r.formed; within = r.within });
+  complete = λ x ts rest is h closed. all_read limits.expression x ts rest is.formed is.within h closed;
+}

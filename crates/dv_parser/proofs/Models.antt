@@ -23,35 +23,29 @@ use Rattle.dv_syntax.specs.declared.tree.End.{End}
 use Rattle.dv_syntax.specs.declared.tree.Part.{Part}
 use Rattle.dv_syntax.specs.declared.tree.Link.{Link}
 use Rattle.dv_syntax.specs.Trees.{Expression, Statements, Literal, TruthValue, Named, Parens, Prefixed, Binary, Call, Elapsed}
-use Rattle.dv_syntax.specs.Trees.{Times, FileTree}
+use Rattle.dv_syntax.specs.Trees.{Times, HoldTree, FileTree}
 use Rattle.dv_syntax.specs.Written.{AtomicItem, Declares, Lists, Starts, Holds, Rules, CoupledItem, Inputs, Outputs, Contains}
 use Rattle.dv_syntax.specs.Written.{Couples, WrittenModel, WrittenAtomic, WrittenCoupled, WrittenFile, sorted}
 use Rattle.dv_syntax.specs.Grammar.{Spelled, Anywhere, Limits, the_limits, name, number, sign, word, braces, operator_kind}
 use Rattle.dv_syntax.specs.Grammar.{expression_spelling, minus_spelling, bound_spelling, variable_spelling, flag_spelling}
-use Rattle.dv_syntax.specs.Grammar.{bag_spelling, ticks_spelling, phases_spelling, rule_spelling, item_spelling, AreTicks, IsItem}
-use Rattle.dv_syntax.specs.Grammar.{part_name_spelling, end_spelling, coupled_item_spelling, model_spelling, IsModel}
+use Rattle.dv_syntax.specs.Grammar.{bag_spelling, ticks_spelling, phases_spelling, rule_spelling, item_spelling, AreTicks}
+use Rattle.dv_syntax.specs.Grammar.{IsItem, part_name_spelling, end_spelling, coupled_item_spelling, model_spelling, IsModel}
 use Rattle.dv_syntax.specs.Grammar.{file_spelling, IsWritten, IsFileWithin, IsFileOf}
-use Rattle.dv_parser.specs.Reading.{Obstacle, read_then, choose, begins, operator_of, many_at, braces_at, bound_at, variable_at}
-use Rattle.dv_parser.specs.Reading.{flag_at, bag_at, further_name_at, phases_at, start_at, ticks_at, hold_at, rule_at}
-use Rattle.dv_parser.specs.Reading.{any_rule_at, port_at, item_at, atomic_at, end_at, part_at, link_at, coupled_item_at}
-use Rattle.dv_parser.specs.Reading.{coupled_at, model_at, is_end, file_at}
-use Rattle.dv_parser.proofs.Tokens.{then_ok, chosen, ok_is, err_ok}
-use Rattle.dv_parser.proofs.Readers.{Spans, nothing, after_spans, after_spans_at, name_spans, number_spans, truth_spans}
-use Rattle.dv_parser.proofs.Readers.{then_spans, split, first, first_name, first_number, first_truth, span_end, IsReader}
-use Rattle.dv_parser.proofs.Readers.{IsListed, many_reader, braces_reader, shortens, Shortens}
-use Rattle.dv_parser.proofs.Expressions.{IsClosed-front}
-use Rattle.dv_parser.proofs.Statements.{expression_reader, block_reader, IsBlock}
-
-abbrev Always : List Token → Type 0
-Always rest = Unit {0}
-
-abbrev semicolon : List Spelled
-semicolon = sign symbol.Semicolon ∷ []
+use Rattle.dv_parser.specs.Reading.{Obstacle, Read, read_then, choose, begins, operator_of, many_at, braces_at, bound_at}
+use Rattle.dv_parser.specs.Reading.{variable_at, flag_at, bag_at, further_name_at, phases_at, start_at, ticks_at, hold_at}
+use Rattle.dv_parser.specs.Reading.{rule_at, any_rule_at, port_at, item_at, atomic_at, end_at, part_at, link_at}
+use Rattle.dv_parser.specs.Reading.{coupled_item_at, coupled_at, model_at, is_end, file_at}
+use Rattle.dv_parser.proofs.Tokens.{then_ok, here, past, chosen, ok_is, err_ok, Spans, nothing, span_end, then_spans, split}
+use Rattle.dv_parser.proofs.Tokens.{first, first_name, first_number, first_truth, unplaced, after_spans, after_spans_at}
+use Rattle.dv_parser.proofs.Tokens.{name_spans, number_spans, truth_spans}
+use Rattle.dv_parser.proofs.Readers.{IsReader, IsListed, many_reader, braces_reader, shortens, Shortens, Always, all_any}
+use Rattle.dv_parser.proofs.Expressions.{closed_front, expression_reader}
+use Rattle.dv_parser.proofs.Statements.{semicolon, block_reader, IsBlock}
 
 -- ---- Bounds and variables
 
-bound_complete : (minus : Option ℕ) (n : Number) (ts rest : List Token) → Spans (minus_spelling minus ++ number n ∷ []) ts rest →
-    bound_at ts ≡ Ok (record { minus = minus; magnitude = n }, rest)
+bound_complete : (minus : Option ℕ) (n : Number) (ts rest : List Token) → Spans (minus_spelling minus ++ number n ∷ []) ts rest
+    → bound_at ts ≡ Ok (record { minus = minus; magnitude = n }, rest)
 unfolding bound_at choose read_then
 bound_complete None n ts rest h =
     let f = first h in
@@ -130,7 +124,7 @@ flag_sound ts x e =
     let start = then_ok _ _ _ c.2 in
     let d = then_ok _ _ _ start.2 in
     subst (λ (y : Flag × List Token). Spans (flag_spelling y.0) ts y.1) (ok_is _ _ d.2)
-    (after_spans a.1 (name_spans b.1 (after_spans c.1 (truth_spans start.1 (after_spans d.1 nothing)))))
+    (after_spans a.1 (name_spans b.1 (after_spans c.1 (unplaced (truth_spans start.1 (after_spans d.1 nothing))))))
 
 flag_complete : (f : Flag) (ts rest : List Token) → Spans (flag_spelling f) ts rest → flag_at ts ≡ Ok (f, rest)
 unfolding flag_at read_then
@@ -204,8 +198,8 @@ start_sound limits ts x e =
     let c = then_ok _ _ _ b.2 in
     subst (ReadsItem limits ts) (ok_is _ _ c.2) (after_spans_at a.1 (name_spans b.1 (after_spans c.1 nothing)), tt)
 
-ticks_sound : (limits : Limits) (ts : List Token) (x : Option Expression × List Token) → ticks_at limits ts ≡ Ok x → Spans
-    (ticks_spelling x.0) ts x.1 × AreTicks limits x.0
+ticks_sound : (limits : Limits) (ts : List Token) (x : Option Expression × List Token) → ticks_at limits ts ≡ Ok x
+    → Spans (ticks_spelling x.0) ts x.1 × AreTicks limits x.0
 unfolding ticks_at
 ticks_sound limits ts x e =
     elim (chosen _ _ _ _ e) [
@@ -231,8 +225,8 @@ hold_sound limits ts x e =
     subst (ReadsItem limits ts) (ok_is _ _ f.2)
     (after_spans_at a.1 (name_spans b.1 (after_spans c.1 (then_spans s.0 (after_spans f.1 nothing)))), s.1)
 
-rule_sound : (limits : Limits) (sort : RuleSort) (ts : List Token) (x : AtomicItem × List Token) → rule_at limits sort ts ≡ Ok x →
-    ReadsItem limits ts x
+rule_sound : (limits : Limits) (sort : RuleSort) (ts : List Token) (x : AtomicItem × List Token) → rule_at limits sort ts ≡ Ok x
+    → ReadsItem limits ts x
 unfolding rule_at
 rule_sound limits sort ts x e =
     let a = then_ok _ _ _ e in
@@ -318,8 +312,8 @@ rule_complete limits sort p body ts rest is h =
     rw (a.after, b.read, c) refl
 
 -- no expression begins with `forever`
-expression_no_word : (e : Expression) (ts rest : List Token) → Spans (expression_spelling e) ts rest → begins
-    (kind.Keyword keyword.Forever) ts ≡ false
+expression_no_word : (e : Expression) (ts rest : List Token) → Spans (expression_spelling e) ts rest
+    → begins (kind.Keyword keyword.Forever) ts ≡ false
 expression_no_word (Literal n) ts rest h = (first h).begins _
 expression_no_word (TruthValue place true) ts rest h = (first h).begins _
 expression_no_word (TruthValue place false) ts rest h = (first h).begins _
@@ -336,12 +330,8 @@ expression_no_word (Times place e b) ts rest h = (first h).begins _
 expression_no_word (Binary o a b) ts rest h =
     expression_no_word a ts _ (split (expression_spelling a) (Anywhere (operator_kind o) ∷ expression_spelling b) h).1
 
-all_names : (ns : List Name) → AllByRecursion (λ n. Unit {0}) ns
-all_names [] = tt
-all_names (n ∷ ns) = (tt, all_names ns)
-
-ticks_complete : (limits : Limits) (ticks : Option Expression) (ts rest : List Token) → AreTicks limits ticks → Spans
-    (ticks_spelling ticks ++ semicolon) ts rest
+ticks_complete : (limits : Limits) (ticks : Option Expression) (ts rest : List Token) → AreTicks limits ticks
+    → Spans (ticks_spelling ticks ++ semicolon) ts rest
     → (mid : List Token) × (ticks_at limits ts ≡ Ok (ticks, mid)) × Spans semicolon mid rest
 unfolding ticks_at choose read_then operator_of
 ticks_complete limits None ts rest is h =
@@ -349,47 +339,43 @@ ticks_complete limits None ts rest is h =
     (a.behind, rw (a.begins (kind.Keyword keyword.Forever), a.after) refl, a.spelled)
 ticks_complete limits (Some e) ts rest is h =
     let s = split (expression_spelling e) semicolon h in
-    let v = (expression_reader limits).complete e ts s.0 is s.1
-    (IsClosed-front (kind.Symbol symbol.Semicolon) [] s.0 rest refl s.2.spells) in
+    let v = (expression_reader limits).complete e ts s.0 is s.1 (closed_front refl s.2) in
     (s.0, rw (expression_no_word e ts s.0 s.1, v) refl, s.2)
 
 -- what begins with no word of another item is read as a rule
-item_rule : (limits : Limits) (ts : List Token) → begins (kind.Keyword keyword.In) ts ≡ false
+item_rule : (limits : Limits) (ts : List Token) {read : Read (AtomicItem × List Token)} → begins (kind.Keyword keyword.In) ts ≡ false
     → begins (kind.Keyword keyword.Out) ts ≡ false
     → begins (kind.Keyword keyword.Var) ts ≡ false → begins (kind.Keyword keyword.Flag) ts ≡ false
     → begins (kind.Keyword keyword.Bag) ts ≡ false → begins (kind.Keyword keyword.Phases) ts ≡ false
     → begins (kind.Keyword keyword.Start) ts ≡ false → begins (kind.Keyword keyword.Hold) ts ≡ false
-    → item_at limits ts ≡ any_rule_at limits ts
-unfolding item_at choose
-item_rule limits ts a b c d e f g h = rw (a, b, c, d, e, f, g, h) refl
+    → any_rule_at limits ts ≡ read → item_at limits ts ≡ read
+unfolding item_at
+item_rule limits ts a b c d e f g h r = past _ a (past _ b (past _ c (past _ d (past _ e (past _ f (past _ g (past _ h r)))))))
 
 rule_item_complete : (limits : Limits) (sort : RuleSort) (p : Name) (body : Statements) (ts rest : List Token)
     → IsBlock limits limits.block limits.loop body → Spans (rule_spelling (record { sort = sort; phase = p; body = body })) ts rest
     → item_at limits ts ≡ Ok (Rules (record { sort = sort; phase = p; body = body }), rest)
-unfolding any_rule_at choose
+unfolding any_rule_at
 rule_item_complete limits sort.Output p body ts rest is h =
     let b = (first h).begins in
-    let r = rule_complete limits sort.Output p body ts rest is h in
-    item_rule limits ts (b _) (b _) (b _) (b _) (b _) (b _) (b _) (b _) ∙ rw (b (kind.Keyword keyword.Output), r) refl
+    item_rule limits ts (b _) (b _) (b _) (b _) (b _) (b _) (b _) (b _)
+    (here _ (b _) (rule_complete limits sort.Output p body ts rest is h))
 rule_item_complete limits sort.Internal p body ts rest is h =
     let b = (first h).begins in
-    let r = rule_complete limits sort.Internal p body ts rest is h in
     item_rule limits ts (b _) (b _) (b _) (b _) (b _) (b _) (b _) (b _)
-    ∙ rw (b (kind.Keyword keyword.Output), b (kind.Keyword keyword.Internal), r) refl
+    (past _ (b _) (here _ (b _) (rule_complete limits sort.Internal p body ts rest is h)))
 rule_item_complete limits sort.External p body ts rest is h =
     let b = (first h).begins in
-    let r = rule_complete limits sort.External p body ts rest is h in
     item_rule limits ts (b _) (b _) (b _) (b _) (b _) (b _) (b _) (b _)
-    ∙ rw (b (kind.Keyword keyword.Output), b (kind.Keyword keyword.Internal), b (kind.Keyword keyword.External), r) refl
+    (past _ (b _) (past _ (b _) (here _ (b _) (rule_complete limits sort.External p body ts rest is h))))
 rule_item_complete limits sort.Confluent p body ts rest is h =
     let b = (first h).begins in
-    let r = rule_complete limits sort.Confluent p body ts rest is h in
     item_rule limits ts (b _) (b _) (b _) (b _) (b _) (b _) (b _) (b _)
-    ∙ rw (b (kind.Keyword keyword.Output), b (kind.Keyword keyword.Internal), b (kind.Keyword keyword.External), r) refl
+    (past _ (b _) (past _ (b _) (past _ (b _) (rule_complete limits sort.Confluent p body ts rest is h))))
 
-phases_complete : (place : ℕ) (names : List Name) (ts rest : List Token) → 0 < length names → Spans
-    (phases_spelling (record { place = place; names = names })) ts rest → phases_at ts ≡ Ok
-    (Lists (record { place = place; names = names }), rest)
+phases_complete : (place : ℕ) (names : List Name) (ts rest : List Token) → 0 < length names
+    → Spans (phases_spelling (record { place = place; names = names })) ts rest
+    → phases_at ts ≡ Ok (Lists (record { place = place; names = names }), rest)
 unfolding phases_at read_then
 phases_complete place [] ts rest is h = absurd (omega (arith, is))
 phases_complete place (n ∷ ns) ts rest is h =
@@ -398,98 +384,58 @@ phases_complete place (n ∷ ns) ts rest is h =
     let b = first_name n a.spelled in
     let s = split (flat_map (λ n. sign symbol.Comma ∷ name n ∷ []) ns) semicolon b.spelled in
     let c = first s.2 in
-    let m = r.complete ns b.behind s.0 (all_names ns) s.1 (c.begins (kind.Symbol symbol.Semicolon)) in
+    let m = r.complete ns b.behind s.0 (all_any ns) s.1 (c.begins (kind.Symbol symbol.Semicolon)) in
     rw (a.after, b.read, m, c.after, a.place, span_end c.spelled) refl
 
-item_complete : (limits : Limits) (x : AtomicItem) (ts rest : List Token) → IsItem limits x → Spans (item_spelling x) ts rest →
-    item_at limits ts ≡ Ok (x, rest)
-unfolding item_at start_at hold_at choose read_then
-item_complete limits (Declares (declaration.In n)) ts rest is h =
+start_complete : (place : ℕ) (p : Name) (ts rest : List Token)
+    → Spans (item_spelling (Starts (record { place = place; phase = p }))) ts rest
+    → start_at ts ≡ Ok (Starts (record { place = place; phase = p }), rest)
+unfolding start_at read_then
+start_complete place p ts rest h =
     let a = first h in
-    let o = (port_reader keyword.In).complete n ts rest tt h tt in
-    rw (a.begins (kind.Keyword keyword.In), o) refl
-item_complete limits (Declares (declaration.Out n)) ts rest is h =
-    let a = first h in
-    let o = (port_reader keyword.Out).complete n ts rest tt h tt in
-    rw (a.begins (kind.Keyword keyword.In), a.begins (kind.Keyword keyword.Out), o) refl
-item_complete limits (Declares (declaration.Var v)) ts rest is h =
-    let a = first h in
-    let o = variable_complete v ts rest h in
-    rw (a.begins (kind.Keyword keyword.In), a.begins (kind.Keyword keyword.Out), a.begins (kind.Keyword keyword.Var), o) refl
-item_complete limits (Declares (declaration.Flag f)) ts rest is h =
-    let a = first h in
-    let o = flag_complete f ts rest h in
-    rw (
-      a.begins (kind.Keyword keyword.In),
-      a.begins (kind.Keyword keyword.Out),
-      a.begins (kind.Keyword keyword.Var),
-      a.begins (kind.Keyword keyword.Flag),
-      o,
-    ) refl
-item_complete limits (Declares (declaration.Bag b)) ts rest is h =
-    let a = first h in
-    let o = bag_complete b ts rest h in
-    rw (
-      a.begins (kind.Keyword keyword.In),
-      a.begins (kind.Keyword keyword.Out),
-      a.begins (kind.Keyword keyword.Var),
-      a.begins (kind.Keyword keyword.Flag),
-      a.begins (kind.Keyword keyword.Bag),
-      o,
-    ) refl
-item_complete limits (Lists p) ts rest is h =
-    let a = first h in
-    let o = phases_complete p.place p.names ts rest is h in
-    rw (
-      a.begins (kind.Keyword keyword.In),
-      a.begins (kind.Keyword keyword.Out),
-      a.begins (kind.Keyword keyword.Var),
-      a.begins (kind.Keyword keyword.Flag),
-      a.begins (kind.Keyword keyword.Bag),
-      a.begins (kind.Keyword keyword.Phases),
-      o,
-    ) refl
-item_complete limits (Starts s) ts rest is h =
-    let a = first h in
-    let b = first_name s.phase a.spelled in
+    let b = first_name p a.spelled in
     let c = first b.spelled in
-    rw (
-      a.begins (kind.Keyword keyword.In),
-      a.begins (kind.Keyword keyword.Out),
-      a.begins (kind.Keyword keyword.Var),
-      a.begins (kind.Keyword keyword.Flag),
-      a.begins (kind.Keyword keyword.Bag),
-      a.begins (kind.Keyword keyword.Phases),
-      a.begins (kind.Keyword keyword.Start),
-      a.after,
-      b.read,
-      c.after,
-      a.place,
-      span_end c.spelled,
-    ) refl
-item_complete limits (Holds d) ts rest is h =
+    rw (a.after, b.read, c.after, a.place, span_end c.spelled) refl
+
+hold_complete : (limits : Limits) (d : HoldTree) (ts rest : List Token) → AreTicks limits d.ticks → Spans (item_spelling (Holds d)) ts rest
+    → hold_at limits ts ≡ Ok (Holds d, rest)
+unfolding hold_at read_then
+hold_complete limits d ts rest is h =
     let a = first h in
     let b = first_name d.phase a.spelled in
     let c = first b.spelled in
     let t = ticks_complete limits d.ticks c.behind rest is c.spelled in
     let e = first t.2 in
-    rw (
-      a.begins (kind.Keyword keyword.In),
-      a.begins (kind.Keyword keyword.Out),
-      a.begins (kind.Keyword keyword.Var),
-      a.begins (kind.Keyword keyword.Flag),
-      a.begins (kind.Keyword keyword.Bag),
-      a.begins (kind.Keyword keyword.Phases),
-      a.begins (kind.Keyword keyword.Start),
-      a.begins (kind.Keyword keyword.Hold),
-      a.after,
-      b.read,
-      c.after,
-      t.1,
-      e.after,
-      a.place,
-      span_end e.spelled,
-    ) refl
+    rw (a.after, b.read, c.after, t.1, e.after, a.place, span_end e.spelled) refl
+
+item_complete : (limits : Limits) (x : AtomicItem) (ts rest : List Token) → IsItem limits x → Spans (item_spelling x) ts rest
+    → item_at limits ts ≡ Ok (x, rest)
+unfolding item_at read_then
+item_complete limits (Declares (declaration.In n)) ts rest is h =
+    here _ ((first h).begins _) (rw ((port_reader keyword.In).complete n ts rest tt h tt) refl)
+item_complete limits (Declares (declaration.Out n)) ts rest is h =
+    let b = (first h).begins in
+    past _ (b _) (here _ (b _) (rw ((port_reader keyword.Out).complete n ts rest tt h tt) refl))
+item_complete limits (Declares (declaration.Var v)) ts rest is h =
+    let b = (first h).begins in
+    past _ (b _) (past _ (b _) (here _ (b _) (rw (variable_complete v ts rest h) refl)))
+item_complete limits (Declares (declaration.Flag f)) ts rest is h =
+    let b = (first h).begins in
+    past _ (b _) (past _ (b _) (past _ (b _) (here _ (b _) (rw (flag_complete f ts rest h) refl))))
+item_complete limits (Declares (declaration.Bag s)) ts rest is h =
+    let b = (first h).begins in
+    past _ (b _) (past _ (b _) (past _ (b _) (past _ (b _) (here _ (b _) (rw (bag_complete s ts rest h) refl)))))
+item_complete limits (Lists p) ts rest is h =
+    let b = (first h).begins in
+    past _ (b _) (past _ (b _) (past _ (b _) (past _ (b _) (past _ (b _) (here _ (b _) (phases_complete p.place p.names ts rest is h))))))
+item_complete limits (Starts s) ts rest is h =
+    let b = (first h).begins in
+    past _ (b _) (past _ (b _) (past _ (b _) (past _ (b _) (past _ (b _) (past _ (b _) (here _ (b _)
+    (start_complete s.place s.phase ts rest h)))))))
+item_complete limits (Holds d) ts rest is h =
+    let b = (first h).begins in
+    past _ (b _) (past _ (b _) (past _ (b _) (past _ (b _) (past _ (b _) (past _ (b _) (past _ (b _) (here _ (b _)
+    (hold_complete limits d ts rest is h))))))))
 item_complete limits (Rules r) ts rest is h = rule_item_complete limits r.sort r.phase r.body ts rest is h
 
 item_opens : (k : Symbol) (x : AtomicItem) (ts rest : List Token) → Spans (item_spelling x) ts rest → begins (kind.Symbol k) ts ≡ false
@@ -533,8 +479,8 @@ items_reader : (limits : Limits) → IsReader (braces_at (item_at limits)) (λ i
     (AllByRecursion (IsItem limits)) Always
 items_reader limits = braces_reader (item_at limits) item_spelling (IsItem limits) Always (item_reader limits) item_listed
 
-atomic_sound : (limits : Limits) (ts : List Token) (x : (Name × List AtomicItem) × List Token) → atomic_at limits ts ≡ Ok x → Spans
-    (model_spelling (WrittenAtomic x.0.0 x.0.1)) ts x.1 × AllByRecursion (IsItem limits) x.0.1
+atomic_sound : (limits : Limits) (ts : List Token) (x : (Name × List AtomicItem) × List Token) → atomic_at limits ts ≡ Ok x
+    → Spans (model_spelling (WrittenAtomic x.0.0 x.0.1)) ts x.1 × AllByRecursion (IsItem limits) x.0.1
 unfolding atomic_at
 atomic_sound limits ts x e =
     let a = then_ok _ _ _ e in
@@ -544,8 +490,8 @@ atomic_sound limits ts x e =
     subst (λ (y : (Name × List AtomicItem) × List Token). Spans (model_spelling (WrittenAtomic y.0.0 y.0.1)) ts y.1 × AllByRecursion
     (IsItem limits) y.0.1) (ok_is _ _ c.2) (after_spans a.1 (name_spans b.1 s.0), s.1)
 
-atomic_complete : (limits : Limits) (n : Name) (items : List AtomicItem) (ts rest : List Token) → AllByRecursion (IsItem limits) items →
-    Spans (model_spelling (WrittenAtomic n items)) ts rest → atomic_at limits ts ≡ Ok ((n, items), rest)
+atomic_complete : (limits : Limits) (n : Name) (items : List AtomicItem) (ts rest : List Token) → AllByRecursion (IsItem limits) items
+    → Spans (model_spelling (WrittenAtomic n items)) ts rest → atomic_at limits ts ≡ Ok ((n, items), rest)
 unfolding atomic_at read_then
 atomic_complete limits n items ts rest is h =
     let a = first h in
@@ -573,8 +519,9 @@ end_sound ts x e =
           (name_spans a.1 (after_spans b.1 (name_spans c.1 nothing)))
     ]
 
-end_complete : (part : Option Name) (port : Name) (ts rest : List Token) → Spans
-    (part_name_spelling part ∷ sign symbol.Dot ∷ name port ∷ []) ts rest → end_at ts ≡ Ok (record { part = part; port = port }, rest)
+end_complete : (part : Option Name) (port : Name) (ts rest : List Token)
+    → Spans (part_name_spelling part ∷ sign symbol.Dot ∷ name port ∷ []) ts rest
+    → end_at ts ≡ Ok (record { part = part; port = port }, rest)
 unfolding end_at choose read_then
 end_complete None port ts rest h =
     let a = first h in
@@ -636,35 +583,19 @@ coupled_item_sound ts x e =
       ]
     ]
 
-coupled_item_complete : (x : CoupledItem) (ts rest : List Token) → Spans (coupled_item_spelling x) ts rest → coupled_item_at ts ≡ Ok
-    (x, rest)
-unfolding coupled_item_at part_at link_at choose read_then
-coupled_item_complete (Inputs n) ts rest h =
-    let a = first h in
-    let o = (port_reader keyword.In).complete n ts rest tt h tt in
-    rw (a.begins (kind.Keyword keyword.In), o) refl
-coupled_item_complete (Outputs n) ts rest h =
-    let a = first h in
-    let o = (port_reader keyword.Out).complete n ts rest tt h tt in
-    rw (a.begins (kind.Keyword keyword.In), a.begins (kind.Keyword keyword.Out), o) refl
-coupled_item_complete (Contains p) ts rest h =
+part_complete : (p : Part) (ts rest : List Token) → Spans (coupled_item_spelling (Contains p)) ts rest → part_at ts ≡ Ok (p, rest)
+unfolding part_at read_then
+part_complete p ts rest h =
     let a = first h in
     let b = first_name p.name a.spelled in
     let c = first b.spelled in
     let d = first_name p.model c.spelled in
     let f = first d.spelled in
-    rw (
-      a.begins (kind.Keyword keyword.In),
-      a.begins (kind.Keyword keyword.Out),
-      a.begins (kind.Keyword keyword.Part),
-      a.after,
-      b.read,
-      c.after,
-      d.read,
-      f.after,
-      span_end f.spelled,
-    ) refl
-coupled_item_complete (Couples l) ts rest h =
+    rw (a.after, b.read, c.after, d.read, f.after, span_end f.spelled) refl
+
+link_complete : (l : Link) (ts rest : List Token) → Spans (coupled_item_spelling (Couples l)) ts rest → link_at ts ≡ Ok (l, rest)
+unfolding link_at read_then
+link_complete l ts rest h =
     let a = first h in
     let s = split (end_spelling l.from) (sign symbol.Arrow ∷ (end_spelling l.to ++ semicolon)) a.spelled in
     let source = end_complete l.from.part l.from.port a.behind s.0 s.1 in
@@ -672,21 +603,25 @@ coupled_item_complete (Couples l) ts rest h =
     let t = split (end_spelling l.to) semicolon b.spelled in
     let target = end_complete l.to.part l.to.port b.behind t.0 t.1 in
     let c = first t.2 in
-    rw (
-      a.begins (kind.Keyword keyword.In),
-      a.begins (kind.Keyword keyword.Out),
-      a.begins (kind.Keyword keyword.Part),
-      a.after,
-      source,
-      b.after,
-      target,
-      c.after,
-      a.place,
-      span_end c.spelled,
-    ) refl
+    rw (a.after, source, b.after, target, c.after, a.place, span_end c.spelled) refl
 
-coupled_item_opens : (x : CoupledItem) (ts rest : List Token) → Spans (coupled_item_spelling x) ts rest → begins
-    (kind.Symbol symbol.CloseBrace) ts ≡ false
+coupled_item_complete : (x : CoupledItem) (ts rest : List Token) → Spans (coupled_item_spelling x) ts rest
+    → coupled_item_at ts ≡ Ok (x, rest)
+unfolding coupled_item_at read_then
+coupled_item_complete (Inputs n) ts rest h =
+    here _ ((first h).begins _) (rw ((port_reader keyword.In).complete n ts rest tt h tt) refl)
+coupled_item_complete (Outputs n) ts rest h =
+    let b = (first h).begins in
+    past _ (b _) (here _ (b _) (rw ((port_reader keyword.Out).complete n ts rest tt h tt) refl))
+coupled_item_complete (Contains p) ts rest h =
+    let b = (first h).begins in
+    past _ (b _) (past _ (b _) (here _ (b _) (rw (part_complete p ts rest h) refl)))
+coupled_item_complete (Couples l) ts rest h =
+    let b = (first h).begins in
+    past _ (b _) (past _ (b _) (past _ (b _) (rw (link_complete l ts rest h) refl)))
+
+coupled_item_opens : (x : CoupledItem) (ts rest : List Token) → Spans (coupled_item_spelling x) ts rest
+    → begins (kind.Symbol symbol.CloseBrace) ts ≡ false
 coupled_item_opens (Inputs n) ts rest h = (first h).begins _
 coupled_item_opens (Outputs n) ts rest h = (first h).begins _
 coupled_item_opens (Contains p) ts rest h = (first h).begins _
@@ -713,12 +648,8 @@ coupled_items_reader : IsReader (braces_at coupled_item_at) (λ items. braces (f
     (AllByRecursion (λ x. Unit {0})) Always
 coupled_items_reader = braces_reader coupled_item_at coupled_item_spelling (λ x. Unit {0}) Always coupled_item_reader coupled_item_listed
 
-all_coupled : (items : List CoupledItem) → AllByRecursion (λ x. Unit {0}) items
-all_coupled [] = tt
-all_coupled (x ∷ items) = (tt, all_coupled items)
-
-coupled_sound : (ts : List Token) (x : (Name × List CoupledItem) × List Token) → coupled_at ts ≡ Ok x → Spans
-    (model_spelling (WrittenCoupled x.0.0 x.0.1)) ts x.1
+coupled_sound : (ts : List Token) (x : (Name × List CoupledItem) × List Token) → coupled_at ts ≡ Ok x
+    → Spans (model_spelling (WrittenCoupled x.0.0 x.0.1)) ts x.1
 unfolding coupled_at
 coupled_sound ts x e =
     let a = then_ok _ _ _ e in
@@ -728,19 +659,19 @@ coupled_sound ts x e =
     subst (λ (y : (Name × List CoupledItem) × List Token). Spans (model_spelling (WrittenCoupled y.0.0 y.0.1)) ts y.1) (ok_is _ _ c.2)
     (after_spans a.1 (name_spans b.1 s.0))
 
-coupled_complete : (n : Name) (items : List CoupledItem) (ts rest : List Token) → Spans (model_spelling (WrittenCoupled n items)) ts rest →
-    coupled_at ts ≡ Ok ((n, items), rest)
+coupled_complete : (n : Name) (items : List CoupledItem) (ts rest : List Token) → Spans (model_spelling (WrittenCoupled n items)) ts rest
+    → coupled_at ts ≡ Ok ((n, items), rest)
 unfolding coupled_at read_then
 coupled_complete n items ts rest h =
     let a = first h in
     let b = first_name n a.spelled in
-    let c = coupled_items_reader.complete items b.behind rest (all_coupled items) b.spelled tt in
+    let c = coupled_items_reader.complete items b.behind rest (all_any items) b.spelled tt in
     rw (a.after, b.read, c) refl
 
 -- ---- Files
 
-model_sound : (limits : Limits) (ts : List Token) (x : WrittenModel × List Token) → model_at limits ts ≡ Ok x → Spans
-    (model_spelling x.0) ts x.1 × IsModel limits x.0
+model_sound : (limits : Limits) (ts : List Token) (x : WrittenModel × List Token) → model_at limits ts ≡ Ok x
+    → Spans (model_spelling x.0) ts x.1 × IsModel limits x.0
 unfolding model_at
 model_sound limits ts x e =
     elim (chosen _ _ _ _ e) [
@@ -754,8 +685,8 @@ model_sound limits ts x e =
           (atomic_sound limits ts a.0 a.1)
     ]
 
-model_complete : (limits : Limits) (x : WrittenModel) (ts rest : List Token) → IsModel limits x → Spans (model_spelling x) ts rest →
-    model_at limits ts ≡ Ok (x, rest)
+model_complete : (limits : Limits) (x : WrittenModel) (ts rest : List Token) → IsModel limits x → Spans (model_spelling x) ts rest
+    → model_at limits ts ≡ Ok (x, rest)
 unfolding model_at choose read_then
 model_complete limits (WrittenAtomic n items) ts rest is h =
     rw ((first h).begins (kind.Keyword keyword.Coupled), atomic_complete limits n items ts rest is h) refl
@@ -822,6 +753,6 @@ file_unique ts f g p q =
     ok_is _ _ (sym (file_complete the_limits ts p.written p.read) ∙ file_complete the_limits ts q.written q.read) in
     p.tree ∙ ap sorted same ∙ sym q.tree
 
-pub file_refused : (limits : Limits) (ts : List Token) (o : Obstacle) → file_at limits ts ≡ Err o → (f : FileTree) →
-    IsFileWithin limits ts f → ⊥
+pub file_refused : (limits : Limits) (ts : List Token) (o : Obstacle) → file_at limits ts ≡ Err o → (f : FileTree)
+    → IsFileWithin limits ts f → ⊥
 file_refused limits ts o e f is = err_ok o is.written (sym e ∙ file_complete limits ts is.written is.read)

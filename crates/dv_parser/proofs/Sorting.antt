@@ -11,13 +11,14 @@ use Rattle.dv_lex.specs.declared.token.Symbol.TheVariants as symbol
 use Rattle.dv_syntax.specs.declared.tree.Name.{Name}
 use Rattle.dv_syntax.specs.Trees.{AtomicTree, CoupledTree, ModelTree, AtomicModel, CoupledModel, FileTree}
 use Rattle.dv_syntax.specs.Written.{AtomicItem, Declares, Lists, Starts, Holds, Rules, CoupledItem, Inputs, Outputs, Contains}
-use Rattle.dv_syntax.specs.Written.{Couples, WrittenModel, WrittenFile, sorted_items, sorted_coupled_items, sorted_model, sorted}
+use Rattle.dv_syntax.specs.Written.{Couples, WrittenModel, WrittenFile, sorted_items, sorted_coupled_items, sorted_model}
+use Rattle.dv_syntax.specs.Written.{sorted}
 use Rattle.dv_syntax.specs.Grammar.{the_limits, IsFileOf}
 use Rattle.dv_parser.specs.Reading.{Obstacle, Read, read_then, choose, begins, after, name_at, is_end, many, many_at, becoming}
-use Rattle.dv_parser.specs.Reading.{braces_at, item_at, coupled_item_at, atomic_at, coupled_at, model_at, file_at, with_items}
-use Rattle.dv_parser.specs.Reading.{with_item, with_coupled_items, with_coupled_item, empty_atomic, empty_coupled, atomic_tree_at}
-use Rattle.dv_parser.specs.Reading.{coupled_tree_at, tree_at, file_tree_at, refusal_of, refusal_in, IsRefused}
-use Rattle.dv_parser.proofs.Tokens.{then_ok, ok_is}
+use Rattle.dv_parser.specs.Reading.{Reader, braces_at, item_at, coupled_item_at, atomic_at, coupled_at, model_at, file_at}
+use Rattle.dv_parser.specs.Reading.{with_items, with_item, with_coupled_items, with_coupled_item, empty_atomic, empty_coupled}
+use Rattle.dv_parser.specs.Reading.{atomic_tree_at, coupled_tree_at, tree_at, file_tree_at, refusal_of, refusal_in, IsRefused}
+use Rattle.dv_parser.proofs.Tokens.{then_ok, ok_is, err_is}
 use Rattle.dv_parser.proofs.Readers.{Shortens}
 use Rattle.dv_parser.proofs.Models.{model_shortens, file_sound}
 
@@ -30,8 +31,8 @@ items_more m (Starts s) items = simp append_assoc
 items_more m (Holds h) items = simp append_assoc
 items_more m (Rules r) items = simp append_assoc
 
-pub coupled_items_more : (m : CoupledTree) (i : CoupledItem) (items : List CoupledItem) → with_coupled_items m (i ∷ items)
-    ≡ with_coupled_items (with_coupled_item m i) items
+pub coupled_items_more : (m : CoupledTree) (i : CoupledItem) (items : List CoupledItem)
+    → with_coupled_items m (i ∷ items) ≡ with_coupled_items (with_coupled_item m i) items
 coupled_items_more m (Inputs port) items = simp append_assoc
 coupled_items_more m (Outputs port) items = simp append_assoc
 coupled_items_more m (Contains part) items = simp append_assoc
@@ -80,21 +81,21 @@ all_coupled_sorted n items = λ i. record (sorted_coupled_items n items) { name 
 -- ---- Readers one after the other
 
 -- what the second reader gives comes later
-pub later : {A B C : Type 0} (r : Read A) (f : A → Read C) (g : A → Read B) (h : B → Read C) → ((x : A) → f x ≡ read_then (g x) h) →
-    read_then r f ≡ read_then (read_then r g) h
+pub later : {A B C : Type 0} (r : Read A) (f : A → Read C) (g : A → Read B) (h : B → Read C) → ((x : A) → f x ≡ read_then (g x) h)
+    → read_then r f ≡ read_then (read_then r g) h
 unfolding read_then
 later (Ok x) f g h e = e x
 later (Err o) f g h e = refl
 
 later_list : {A B C D : Type 0} (r : Read (List A × List Token)) (k : List A → D) (f : D × List Token → Read C)
-    (g : List A × List Token → Read B) (h : B → Read C) → ((x : List A × List Token) → f (k x.0, x.1) ≡ read_then (g x) h) → read_then
-    (becoming k r) f ≡ read_then (read_then r g) h
+    (g : List A × List Token → Read B) (h : B → Read C) → ((x : List A × List Token) → f (k x.0, x.1) ≡ read_then (g x) h)
+    → read_then (becoming k r) f ≡ read_then (read_then r g) h
 unfolding read_then
 later_list (Ok x) k f g h e = e x
 later_list (Err o) k f g h e = refl
 
 -- a list in braces that becomes something else as it is read
-braced : {A B : Type 0} (one : List Token → Read (A × List Token)) (k : List A → B) (ts : List Token) → read_then
+braced : {A B : Type 0} (one : Reader A) (k : List A → B) (ts : List Token) → read_then
     (after (kind.Symbol symbol.OpenBrace) ts)
     (λ inside. read_then (becoming k (many_at one (kind.Symbol symbol.CloseBrace) inside))
     (λ m. read_then (after (kind.Symbol symbol.CloseBrace) m.1) (λ rest. Ok (m.0, rest)))) ≡ becoming k (braces_at one ts)
@@ -104,25 +105,14 @@ braced one k ts =
     later_list (many_at one (kind.Symbol symbol.CloseBrace) inside) k _ _ _ (λ m.
     later (after (kind.Symbol symbol.CloseBrace) m.1) _ _ _ (λ rest. refl)))
 
-pub same_chosen : {A B : Type 0} (b : Bool) (x y : Read A) (f : A → Read B) (u v : Read B) → u ≡ read_then x f → v ≡ read_then y f →
-    choose b u v ≡ read_then (choose b x y) f
+pub same_chosen : {A B : Type 0} (b : Bool) (x y : Read A) (f : A → Read B) (u v : Read B) → u ≡ read_then x f → v ≡ read_then y f
+    → choose b u v ≡ read_then (choose b x y) f
 unfolding choose
 same_chosen true x y f u v p q = p
 same_chosen false x y f u v p q = q
 
-becoming_twice : {A B C : Type 0} (r : Read (List A × List Token)) (k : List A → B) (f : B × List Token → Read C)
-    (g : List A × List Token → Read C) → ((x : List A × List Token) → f (k x.0, x.1) ≡ g x) → read_then (becoming k r) f ≡ read_then r g
-unfolding read_then
-becoming_twice (Ok x) k f g e = e x
-becoming_twice (Err o) k f g e = refl
-
 abbrev as_atomic : (Name × List AtomicItem) × List Token → Read (AtomicTree × List Token)
 as_atomic m = Ok (sorted_items m.0.0 m.0.1, m.1)
-
-then_same : {A B : Type 0} (r : Read A) (f g : A → Read B) → ((x : A) → f x ≡ g x) → read_then r f ≡ read_then r g
-unfolding read_then
-then_same (Ok x) f g e = e x
-then_same (Err o) f g e = refl
 
 atomic_trees : (ts : List Token) → atomic_tree_at ts ≡ read_then (atomic_at the_limits ts) as_atomic
 unfolding atomic_tree_at atomic_at read_then
@@ -211,9 +201,6 @@ file_tree_sound ts f e =
     let a = then_ok _ _ _ (sym (file_trees ts) ∙ e) in
     subst (IsFileOf ts) (ok_is _ _ a.2) (record { written = a.0; read = file_sound the_limits ts a.0 a.1; tree = refl })
 
-err_is : {A : Type 0} (p o : Obstacle) → ◌≡◌ {A = Read A} (Err p) (Err o) → p ≡ o
-err_is p o e = cc
-
 pub err_kept : {A B : Type 0} (r : Read A) (f : A → B) (o : Obstacle) → read_then r (λ x. Ok (f x)) ≡ Err o → r ≡ Err o
 unfolding read_then
 err_kept (Ok x) f o e = absurd cc
@@ -222,7 +209,7 @@ err_kept (Err p) f o e = ap Err (err_is p o e)
 pub file_tree_err : (ts : List Token) (o : Obstacle) → file_tree_at ts ≡ Err o → file_at the_limits ts ≡ Err o
 file_tree_err ts o e = err_kept (file_at the_limits ts) sorted o (sym (file_trees ts) ∙ e)
 
-pub refused_as : (e : LoadError) (ts : List Token) (end : ℕ) (o : Obstacle) → e ≡ error.Refused (refusal_of o end) → file_tree_at ts
-    ≡ Err o → IsRefused e ts end
+pub refused_as : (e : LoadError) (ts : List Token) (end : ℕ) (o : Obstacle) → e ≡ error.Refused (refusal_of o end) → file_tree_at ts ≡ Err o
+    → IsRefused e ts end
 refused_as e ts end o is f =
     subst (λ (x : LoadError). IsRefused x ts end) (sym is) (ap (λ (r : Read WrittenFile). refusal_in r end) (file_tree_err ts o f))

@@ -1,8 +1,7 @@
 -- What is read as statements and blocks is spelled so, and what is spelled so is read.
-use Rattle.std.proofs.Common.{◌≡◌, ℕ, zero, suc, ◌-◌, ◌<◌, ◌≤◌, true, false, List, [], ◌∷◌, ◌++◌, length, None, Ok, Err, refl, ap}
+use Rattle.std.proofs.Common.{◌≡◌, ℕ, zero, suc, ◌-◌, ◌<◌, ◌≤◌, true, false, List, [], ◌∷◌, ◌++◌, length, None, Ok, refl, ap}
 use Rattle.std.proofs.Common.{subst, ◌∙◌, append_assoc, inl, inr, arith}
 use Rattle.std.specs.List.{flat_map, AllByRecursion}
-use Rattle.std.proofs.lemmas.List.{append-nil}
 use Rattle.dv_lex.specs.declared.token.Token.{Token}
 use Rattle.dv_lex.specs.declared.token.TokenKind.{TokenKind}
 use Rattle.dv_lex.specs.declared.token.TokenKind.TheVariants as kind
@@ -10,26 +9,20 @@ use Rattle.dv_lex.specs.declared.token.Keyword.{Keyword}
 use Rattle.dv_lex.specs.declared.token.Keyword.TheVariants as keyword
 use Rattle.dv_lex.specs.declared.token.Symbol.TheVariants as symbol
 use Rattle.dv_syntax.specs.declared.tree.Name.{Name}
-use Rattle.dv_syntax.specs.Trees.{Statements, Done, Assign, Goto, Send, If, IfElse, For, Add, Drop}
+use Rattle.dv_syntax.specs.Trees.{Expression, Statements, Done, Assign, Goto, Send, If, IfElse, For, Add, Drop}
 use Rattle.dv_syntax.specs.Grammar.{Spelled, name, sign, word, word_at, braces, Limits, IsExpression, expression_spelling}
 use Rattle.dv_syntax.specs.Grammar.{statements_spelling, block_depth, loop_depth, AreStatements}
 use Rattle.dv_parser.specs.declared.parse_error.ParseError.{ParseError}
-use Rattle.dv_parser.specs.declared.parse_error.ParseError.TheVariants as parse_error
-use Rattle.dv_parser.specs.Reading.{Obstacle, Read, Fails, read_then, name_at, place_at, within, choose, same_kind, begins}
+use Rattle.dv_parser.specs.Reading.{Fails, read_then, after, name_at, place_at, within, same_kind, begins, Reader, becoming}
 use Rattle.dv_parser.specs.Reading.{keyword_operator, operator_of, expression_at, braces_at, Single, SingleAssign, SingleGoto}
 use Rattle.dv_parser.specs.Reading.{SingleSend, SingleIf, SingleIfElse, SingleFor, SingleAdd, SingleDrop, single_before, joined}
-use Rattle.dv_parser.specs.Reading.{assign_at, goto_at, send_at, add_at, drop_at, else_at, if_at, for_at, statement_at, block_at}
-use Rattle.dv_parser.proofs.Tokens.{then_ok, chosen, ok_is, err_ok, same_kind-true}
-use Rattle.dv_parser.proofs.Readers.{Spans, nothing, after_spans, after_spans_at, name_spans, then_spans, split, first}
-use Rattle.dv_parser.proofs.Readers.{first_name, span_end, IsReader, IsListed, braces_reader, shortens, Shortens}
-use Rattle.dv_parser.proofs.Expressions.{within_ok, within_room, within_positive, IsClosed, IsClosed-front, expression_complete}
-use Rattle.dv_parser.proofs.Expressions.{expression_sound}
-
-pub expression_reader : (limits : Limits) → IsReader (expression_at limits.expression 0) expression_spelling (IsExpression limits) IsClosed
-expression_reader limits = record {
-  sound = λ ts x e. let s = expression_sound limits ts x e in (record { spells = s.0 }, s.1);
-  complete = λ x ts rest is h ends. expression_complete limits x ts rest is h.spells ends;
-}
+use Rattle.dv_parser.specs.Reading.{assign_at, goto_at, send_at, add_at, drop_at, else_at, if_at, for_at, statement_at}
+use Rattle.dv_parser.specs.Reading.{block_at}
+use Rattle.dv_parser.proofs.Tokens.{then_ok, here, past, chosen, ok_is, err_ok, same_kind-true, Spans, nothing, span_end}
+use Rattle.dv_parser.proofs.Tokens.{then_spans, then_is, then_err, split, first, first_name, after_spans, after_spans_at}
+use Rattle.dv_parser.proofs.Tokens.{name_spans}
+use Rattle.dv_parser.proofs.Readers.{IsReader, IsListed, braces_reader, shortens, Shortens, Always, fails_as}
+use Rattle.dv_parser.proofs.Expressions.{within_ok, within_room, within_positive, closed_front, expression_reader}
 
 -- ---- Single statements
 
@@ -68,12 +61,12 @@ IsSingle limits limit loops (SingleDrop place e b) = IsExpression limits e
 abbrev pub block_spelling : Statements → List Spelled
 block_spelling s = braces (statements_spelling s)
 
-abbrev pub BlockReader : Limits → (limit loops : ℕ) → (List Token → Read (Statements × List Token)) → Type 0
-BlockReader limits limit loops block = IsReader block block_spelling (IsBlock limits limit loops) (λ rest. Unit {0})
+abbrev pub BlockReader : Limits → (limit loops : ℕ) → Reader Statements → Type 0
+BlockReader limits limit loops block = IsReader block block_spelling (IsBlock limits limit loops) Always
 
 -- blocks, by how many loops may lie in one another in them
 abbrev Blocks : Type 0
-Blocks = ℕ → List Token → Read (Statements × List Token)
+Blocks = ℕ → Reader Statements
 
 abbrev BlockReaders : Limits → ℕ → Blocks → Type 0
 BlockReaders limits limit blocks = (loops : ℕ) → BlockReader limits limit loops (blocks loops)
@@ -118,7 +111,7 @@ send_sound limits limit loops ts x e =
     subst (Reads limits limit loops ts) (ok_is _ _ d.2)
     (after_spans_at a.1 (name_spans b.1 (then_spans s.0 (after_spans d.1 nothing))), s.1)
 
-if_sound : (limits : Limits) (limit loops : ℕ) (block : List Token → Read (Statements × List Token))
+if_sound : (limits : Limits) (limit loops : ℕ) (block : Reader Statements)
     → BlockReader limits limit loops block → (ts : List Token) (x : Single × List Token) → if_at limits block limit ts ≡ Ok x
     → Reads limits limit loops ts x
 unfolding if_at else_at
@@ -138,31 +131,42 @@ if_sound limits limit loops block r ts x e =
       | inr p ↦ subst (Reads limits limit loops ts) (ok_is _ _ p.1) (after_spans_at a.1 (then_spans s.0 t.0), (s.1, t.1))
     ]
 
-add_sound : (limits : Limits) (limit loops : ℕ) (ts : List Token) (x : Single × List Token) → add_at limits ts ≡ Ok x
-    → Reads limits limit loops ts x
-unfolding add_at
-add_sound limits limit loops ts x e =
+-- a word, a value, another word, and a bag
+abbrev pub bag_statement_at : Keyword → Keyword → (ℕ → Expression → Name → Single) → Limits → Reader Single
+bag_statement_at k j make limits ts =
+    read_then (after (kind.Keyword k) ts) (λ behind.
+    read_then (expression_at limits.expression 0 behind) (λ e.
+    read_then (after (kind.Keyword j) e.1) (λ word.
+    read_then (name_at word) (λ bag.
+    read_then (after (kind.Symbol symbol.Semicolon) bag.1) (λ rest. Ok (make (place_at ts) e.0 bag.0, rest))))))
+
+bag_statement_sound : (k j : Keyword) (make : ℕ → Expression → Name → Single) (limits : Limits) (ts : List Token)
+    (Is : Single × List Token → Type 0)
+    → ((e : Expression) (b : Name) (rest : List Token)
+    → Spans (word_at k (place_at ts) ∷ (expression_spelling e ++ bag_behind j b)) ts rest → IsExpression limits e
+    → Is (make (place_at ts) e b, rest))
+    → (x : Single × List Token) → bag_statement_at k j make limits ts ≡ Ok x → Is x
+bag_statement_sound k j make limits ts Is is x e =
     let a = then_ok _ _ _ e in
     let b = then_ok _ _ _ a.2 in
     let c = then_ok _ _ _ b.2 in
     let d = then_ok _ _ _ c.2 in
     let f = then_ok _ _ _ d.2 in
     let s = (expression_reader limits).sound a.0 b.0 b.1 in
-    subst (Reads limits limit loops ts) (ok_is _ _ f.2)
-    (after_spans_at a.1 (then_spans s.0 (after_spans c.1 (name_spans d.1 (after_spans f.1 nothing)))), s.1)
+    let spelled = after_spans_at a.1 (then_spans s.0 (after_spans c.1 (name_spans d.1 (after_spans f.1 nothing)))) in
+    subst Is (ok_is _ _ f.2) (is b.0.0 d.0.0 f.0 spelled s.1)
+
+add_sound : (limits : Limits) (limit loops : ℕ) (ts : List Token) (x : Single × List Token) → add_at limits ts ≡ Ok x
+    → Reads limits limit loops ts x
+unfolding add_at
+add_sound limits limit loops ts x e =
+    bag_statement_sound keyword.Add keyword.To SingleAdd limits ts (Reads limits limit loops ts) (λ v b rest h is. (h, is)) x e
 
 drop_sound : (limits : Limits) (limit loops : ℕ) (ts : List Token) (x : Single × List Token) → drop_at limits ts ≡ Ok x
     → Reads limits limit loops ts x
 unfolding drop_at
 drop_sound limits limit loops ts x e =
-    let a = then_ok _ _ _ e in
-    let b = then_ok _ _ _ a.2 in
-    let c = then_ok _ _ _ b.2 in
-    let d = then_ok _ _ _ c.2 in
-    let f = then_ok _ _ _ d.2 in
-    let s = (expression_reader limits).sound a.0 b.0 b.1 in
-    subst (Reads limits limit loops ts) (ok_is _ _ f.2)
-    (after_spans_at a.1 (then_spans s.0 (after_spans c.1 (name_spans d.1 (after_spans f.1 nothing)))), s.1)
+    bag_statement_sound keyword.Drop keyword.From SingleDrop limits ts (Reads limits limit loops ts) (λ v b rest h is. (h, is)) x e
 
 for_sound : (limits : Limits) (limit loops : ℕ) (blocks : Blocks) → BlockReaders limits limit blocks
     → (ts : List Token) (x : Single × List Token)
@@ -205,21 +209,8 @@ statement_sound limits limit loops blocks r ts x e =
       ]
     ]
 
-abbrev semicolon : List Spelled
+abbrev pub semicolon : List Spelled
 semicolon = sign symbol.Semicolon ∷ []
-
-semicolon_closed : (ts rest : List Token) → Spans semicolon ts rest → IsClosed ts
-unfolding operator_of
-semicolon_closed ts rest h = IsClosed-front (kind.Symbol symbol.Semicolon) [] ts rest refl h.spells
-
-word_closed : (k : Keyword) (ss : List Spelled) (ts rest : List Token) → keyword_operator k ≡ None → Spans (word k ∷ ss) ts rest
-    → IsClosed ts
-unfolding operator_of
-word_closed k ss ts rest none h = IsClosed-front (kind.Keyword k) ss ts rest none h.spells
-
-braces_closed : (s : Statements) (ss : List Spelled) (ts rest : List Token) → Spans (block_spelling s ++ ss) ts rest → IsClosed ts
-unfolding operator_of
-braces_closed s ss ts rest h = IsClosed-front (kind.Symbol symbol.OpenBrace) _ ts rest refl h.spells
 
 positive_block : (s : Statements) → 0 < block_depth s
 positive_block Done = omega arith
@@ -232,102 +223,73 @@ positive_block (For place v b block rest) = omega arith
 positive_block (Add place e b rest) = positive_block rest
 positive_block (Drop place e b rest) = positive_block rest
 
-statement_complete : (limits : Limits) (limit loops : ℕ) (blocks : Blocks) → BlockReaders limits limit blocks
-    → (x : Single) (ts rest : List Token)
-    → IsSingle limits limit loops x → Spans (single_spelling x) ts rest → NoElse rest
-    → statement_at limits blocks limit loops ts ≡ Ok (x, rest)
-unfolding statement_at assign_at goto_at send_at add_at drop_at if_at else_at for_at choose read_then
-statement_complete limits limit loops blocks r (SingleAssign n e) ts rest is h ends =
-    let f = first h in
-    let n' = first_name n h in
-    let b = first n'.spelled in
-    let s = split (expression_spelling e) semicolon b.spelled in
-    let v = (expression_reader limits).complete e b.behind s.0 is s.1 (semicolon_closed s.0 rest s.2) in
+assign_complete : (limits : Limits) (n : Name) (e : Expression) (ts rest : List Token) → IsExpression limits e
+    → Spans (single_spelling (SingleAssign n e)) ts rest → assign_at limits ts ≡ Ok (SingleAssign n e, rest)
+unfolding assign_at read_then operator_of
+assign_complete limits n e ts rest is h =
+    let v = first_name n h in
+    let f = first v.spelled in
+    let s = split (expression_spelling e) semicolon f.spelled in
+    let value = (expression_reader limits).complete e f.behind s.0 is s.1 (closed_front refl s.2) in
     let c = first s.2 in
-    let no_if = f.begins (kind.Keyword keyword.If) in
-    let no_for = f.begins (kind.Keyword keyword.For) in
-    let no_add = f.begins (kind.Keyword keyword.Add) in
-    let no_drop = f.begins (kind.Keyword keyword.Drop) in
-    let no_goto = f.begins (kind.Keyword keyword.Goto) in
-    rw (
-      no_goto,
-      f.begins (kind.Keyword keyword.Send),
-      no_if,
-      no_for,
-      no_add,
-      no_drop,
-      n'.read,
-      b.after,
-      v,
-      c.after,
-      span_end c.spelled,
-    ) refl
-statement_complete limits limit loops blocks r (SingleGoto place p) ts rest is h ends =
+    rw (v.read, f.after, value, c.after, span_end c.spelled) refl
+
+goto_complete : (place : ℕ) (p : Name) (ts rest : List Token) → Spans (single_spelling (SingleGoto place p)) ts rest
+    → goto_at ts ≡ Ok (SingleGoto place p, rest)
+unfolding goto_at read_then
+goto_complete place p ts rest h =
     let f = first h in
-    let n' = first_name p f.spelled in
-    let c = first n'.spelled in
-    rw (f.begins (kind.Keyword keyword.Goto), f.after, n'.read, c.after, f.place, span_end c.spelled) refl
-statement_complete limits limit loops blocks r (SingleSend place p e) ts rest is h ends =
+    let n = first_name p f.spelled in
+    let c = first n.spelled in
+    rw (f.after, n.read, c.after, f.place, span_end c.spelled) refl
+
+send_complete : (limits : Limits) (place : ℕ) (p : Name) (e : Expression) (ts rest : List Token) → IsExpression limits e
+    → Spans (single_spelling (SingleSend place p e)) ts rest → send_at limits ts ≡ Ok (SingleSend place p e, rest)
+unfolding send_at read_then operator_of
+send_complete limits place p e ts rest is h =
     let f = first h in
-    let n' = first_name p f.spelled in
-    let s = split (expression_spelling e) semicolon n'.spelled in
-    let v = (expression_reader limits).complete e n'.behind s.0 is s.1 (semicolon_closed s.0 rest s.2) in
+    let n = first_name p f.spelled in
+    let s = split (expression_spelling e) semicolon n.spelled in
+    let value = (expression_reader limits).complete e n.behind s.0 is s.1 (closed_front refl s.2) in
     let c = first s.2 in
-    rw (
-      f.begins (kind.Keyword keyword.Goto),
-      f.begins
-          (kind.Keyword keyword.Send),
-      f.after,
-      n'.read,
-      v,
-      c.after,
-      f.place,
-      span_end c.spelled,
-    ) refl
-statement_complete limits limit loops blocks r (SingleIf place e b) ts rest is h ends =
+    rw (f.after, n.read, value, c.after, f.place, span_end c.spelled) refl
+
+if_complete : (limits : Limits) (limit loops : ℕ) (block : Reader Statements)
+    → BlockReader limits limit loops block → (place : ℕ) (e : Expression) (b : Statements) (ts rest : List Token)
+    → IsSingle limits limit loops (SingleIf place e b) → Spans (single_spelling (SingleIf place e b)) ts rest → NoElse rest
+    → if_at limits block limit ts ≡ Ok (SingleIf place e b, rest)
+unfolding if_at read_then operator_of
+if_complete limits limit loops block r place e b ts rest is h ends =
     let f = first h in
     let s = split (expression_spelling e) (block_spelling b) f.spelled in
-    let closed : Spans (block_spelling b ++ []) s.0 rest = rw append-nil s.2 in
-    let v = (expression_reader limits).complete e f.behind s.0 is.0 s.1 (braces_closed b [] s.0 rest closed) in
-    let c = (r loops).complete b s.0 rest is.1 s.2 tt in
+    let condition = (expression_reader limits).complete e f.behind s.0 is.0 s.1 (closed_front refl s.2) in
+    let c = r.complete b s.0 rest is.1 s.2 tt in
     let room = within_positive limit (place_at ts) (expression_at limits.expression 0 f.behind) (omega (arith, is.1.1, positive_block b)) in
-    rw (
-      f.begins (kind.Keyword keyword.Goto),
-      f.begins (kind.Keyword keyword.Send),
-      f.begins
-          (kind.Keyword keyword.If),
-      f.after,
-      room,
-      v,
-      c,
-      ends,
-      f.place,
-    ) refl
-statement_complete limits limit loops blocks r (SingleIfElse place e b o) ts rest is h ends =
+    rw (f.after, room, condition, c) (past _ ends (rw f.place refl))
+
+if_else_complete : (limits : Limits) (limit loops : ℕ) (block : Reader Statements)
+    → BlockReader limits limit loops block → (place : ℕ) (e : Expression) (b o : Statements) (ts rest : List Token)
+    → IsSingle limits limit loops (SingleIfElse place e b o) → Spans (single_spelling (SingleIfElse place e b o)) ts rest
+    → if_at limits block limit ts ≡ Ok (SingleIfElse place e b o, rest)
+unfolding if_at else_at read_then operator_of
+if_else_complete limits limit loops block r place e b o ts rest is h =
     let f = first h in
     let tail : List Spelled = word keyword.Else ∷ block_spelling o in
     let s = split (expression_spelling e) (block_spelling b ++ tail) f.spelled in
-    let v = (expression_reader limits).complete e f.behind s.0 is.0 s.1 (braces_closed b tail s.0 rest s.2) in
+    let condition = (expression_reader limits).complete e f.behind s.0 is.0 s.1 (closed_front refl s.2) in
     let t = split (block_spelling b) tail s.2 in
-    let c = (r loops).complete b s.0 t.0 is.1 t.1 tt in
+    let c = r.complete b s.0 t.0 is.1 t.1 tt in
     let w = first t.2 in
-    let d = (r loops).complete o w.behind rest is.2 w.spelled tt in
+    let d = r.complete o w.behind rest is.2 w.spelled tt in
     let room = within_positive limit (place_at ts) (expression_at limits.expression 0 f.behind) (omega (arith, is.1.1, positive_block b)) in
-    rw (
-      f.begins (kind.Keyword keyword.Goto),
-      f.begins (kind.Keyword keyword.Send),
-      f.begins
-          (kind.Keyword keyword.If),
-      f.after,
-      room,
-      v,
-      c,
-      w.begins (kind.Keyword keyword.Else),
-      w.after,
-      d,
-      f.place,
-    ) refl
-statement_complete limits limit loops blocks r (SingleFor place v b block) ts rest is h ends =
+    rw (f.after, room, condition, c) (here _ (w.begins _) (rw (w.after, d, f.place) refl))
+
+for_complete : (limits : Limits) (limit loops : ℕ) (blocks : Blocks) → BlockReaders limits limit blocks
+    → (place : ℕ) (v b : Name) (block : Statements) (ts rest : List Token)
+    → IsSingle limits limit loops (SingleFor place v b block) → Spans (single_spelling (SingleFor place v b block)) ts rest
+    → for_at blocks limit loops ts ≡ Ok (SingleFor place v b block, rest)
+unfolding for_at read_then
+for_complete limits limit loops blocks r place v b block ts rest is h =
     let f = first h in
     let n = first_name v f.spelled in
     let w = first n.spelled in
@@ -336,62 +298,53 @@ statement_complete limits limit loops blocks r (SingleFor place v b block) ts re
     let inner = within_positive loops (place_at ts) (name_at f.behind) is.0 in
     let some : 0 < limit = omega (arith, is.1.1, positive_block block) in
     let room = within_positive limit (place_at ts) (within loops (place_at ts) (name_at f.behind)) some in
-    let no_goto = f.begins (kind.Keyword keyword.Goto) in
-    let no_if = f.begins (kind.Keyword keyword.If) in
-    let here = f.begins (kind.Keyword keyword.For) in
-    rw (no_goto, f.begins (kind.Keyword keyword.Send), no_if, here, f.after, room, inner, n.read, w.after, m.read, c, f.place) refl
-statement_complete limits limit loops blocks r (SingleAdd place e b) ts rest is h ends =
+    rw (f.after, room, inner, n.read, w.after, m.read, c, f.place) refl
+
+bag_statement_complete : (k j : Keyword) (make : ℕ → Expression → Name → Single) (limits : Limits) (place : ℕ) (e : Expression) (b : Name)
+    (ts rest : List Token) → keyword_operator j ≡ None → IsExpression limits e
+    → Spans (word_at k place ∷ (expression_spelling e ++ bag_behind j b)) ts rest
+    → bag_statement_at k j make limits ts ≡ Ok (make place e b, rest)
+unfolding read_then operator_of
+bag_statement_complete k j make limits place e b ts rest none is h =
     let f = first h in
-    let s = split (expression_spelling e) (bag_behind keyword.To b) f.spelled in
-    let v = (expression_reader limits).complete e f.behind s.0 is s.1 (word_closed keyword.To _ s.0 rest refl s.2) in
+    let s = split (expression_spelling e) (bag_behind j b) f.spelled in
+    let value = (expression_reader limits).complete e f.behind s.0 is s.1 (closed_front none s.2) in
     let w = first s.2 in
     let n = first_name b w.spelled in
     let c = first n.spelled in
-    let no_goto = f.begins (kind.Keyword keyword.Goto) in
-    let no_if = f.begins (kind.Keyword keyword.If) in
-    let no_for = f.begins (kind.Keyword keyword.For) in
-    let here = f.begins (kind.Keyword keyword.Add) in
-    rw (
-      no_goto,
-      f.begins (kind.Keyword keyword.Send),
-      no_if,
-      no_for,
-      here,
-      f.after,
-      v,
-      w.after,
-      n.read,
-      c.after,
-      f.place,
-      span_end c.spelled,
-    ) refl
-statement_complete limits limit loops blocks r (SingleDrop place e b) ts rest is h ends =
-    let f = first h in
-    let s = split (expression_spelling e) (bag_behind keyword.From b) f.spelled in
-    let v = (expression_reader limits).complete e f.behind s.0 is s.1 (word_closed keyword.From _ s.0 rest refl s.2) in
-    let w = first s.2 in
-    let n = first_name b w.spelled in
-    let c = first n.spelled in
-    let no_goto = f.begins (kind.Keyword keyword.Goto) in
-    let no_if = f.begins (kind.Keyword keyword.If) in
-    let no_for = f.begins (kind.Keyword keyword.For) in
-    let no_add = f.begins (kind.Keyword keyword.Add) in
-    let here = f.begins (kind.Keyword keyword.Drop) in
-    rw (
-      no_goto,
-      f.begins (kind.Keyword keyword.Send),
-      no_if,
-      no_for,
-      no_add,
-      here,
-      f.after,
-      v,
-      w.after,
-      n.read,
-      c.after,
-      f.place,
-      span_end c.spelled,
-    ) refl
+    rw (f.after, value, w.after, n.read, c.after, f.place, span_end c.spelled) refl
+
+statement_complete : (limits : Limits) (limit loops : ℕ) (blocks : Blocks) → BlockReaders limits limit blocks
+    → (x : Single) (ts rest : List Token)
+    → IsSingle limits limit loops x → Spans (single_spelling x) ts rest → NoElse rest
+    → statement_at limits blocks limit loops ts ≡ Ok (x, rest)
+unfolding statement_at add_at drop_at
+statement_complete limits limit loops blocks r (SingleAssign n e) ts rest is h ends =
+    let b = (first h).begins in
+    past _ (b _) (past _ (b _) (past _ (b _) (past _ (b _) (past _ (b _) (past _ (b _) (assign_complete limits n e ts rest is h))))))
+statement_complete limits limit loops blocks r (SingleGoto place p) ts rest is h ends =
+    here _ ((first h).begins _) (goto_complete place p ts rest h)
+statement_complete limits limit loops blocks r (SingleSend place p e) ts rest is h ends =
+    let b = (first h).begins in
+    past _ (b _) (here _ (b _) (send_complete limits place p e ts rest is h))
+statement_complete limits limit loops blocks r (SingleIf place e block) ts rest is h ends =
+    let b = (first h).begins in
+    past _ (b _) (past _ (b _) (here _ (b _) (if_complete limits limit loops (blocks loops) (r loops) place e block ts rest is h ends)))
+statement_complete limits limit loops blocks r (SingleIfElse place e block other) ts rest is h ends =
+    let b = (first h).begins in
+    past _ (b _) (past _ (b _) (here _ (b _)
+    (if_else_complete limits limit loops (blocks loops) (r loops) place e block other ts rest is h)))
+statement_complete limits limit loops blocks r (SingleFor place v bag block) ts rest is h ends =
+    let b = (first h).begins in
+    past _ (b _) (past _ (b _) (past _ (b _) (here _ (b _) (for_complete limits limit loops blocks r place v bag block ts rest is h))))
+statement_complete limits limit loops blocks r (SingleAdd place e bag) ts rest is h ends =
+    let b = (first h).begins in
+    past _ (b _) (past _ (b _) (past _ (b _) (past _ (b _) (here _ (b _)
+    (bag_statement_complete keyword.Add keyword.To SingleAdd limits place e bag ts rest refl is h)))))
+statement_complete limits limit loops blocks r (SingleDrop place e bag) ts rest is h ends =
+    let b = (first h).begins in
+    past _ (b _) (past _ (b _) (past _ (b _) (past _ (b _) (past _ (b _) (here _ (b _)
+    (bag_statement_complete keyword.Drop keyword.From SingleDrop limits place e bag ts rest refl is h))))))
 
 pub statement_reader : (limits : Limits) (limit loops : ℕ) (blocks : Blocks) → BlockReaders limits limit blocks
     → IsReader (statement_at limits blocks limit loops) single_spelling (IsSingle limits limit loops) NoElse
@@ -400,8 +353,8 @@ statement_reader limits limit loops blocks r = record {
   complete = statement_complete limits limit loops blocks r;
 }
 
-single_opens : (x : Single) (ts rest : List Token) → Spans (single_spelling x) ts rest → (begins (kind.Symbol symbol.CloseBrace) ts ≡ false)
-    × (begins (kind.Keyword keyword.Else) ts ≡ false)
+single_opens : (x : Single) (ts rest : List Token) → Spans (single_spelling x) ts rest
+    → (begins (kind.Symbol symbol.CloseBrace) ts ≡ false) × (begins (kind.Keyword keyword.Else) ts ≡ false)
 single_opens (SingleAssign n e) ts rest h = let f = first h in (f.begins _, f.begins _)
 single_opens (SingleGoto place p) ts rest h = let f = first h in (f.begins _, f.begins _)
 single_opens (SingleSend place p e) ts rest h = let f = first h in (f.begins _, f.begins _)
@@ -423,8 +376,8 @@ single_some (SingleDrop place e b) = omega arith
 
 -- ---- Statements as a list of single ones
 
-single_before-spelling : (s : Single) (rest : Statements) → statements_spelling (single_before s rest)
-    ≡ single_spelling s ++ statements_spelling rest
+single_before-spelling : (s : Single) (rest : Statements)
+    → statements_spelling (single_before s rest) ≡ single_spelling s ++ statements_spelling rest
 single_before-spelling (SingleAssign n e) rest = simp append_assoc
 single_before-spelling (SingleGoto place p) rest = refl
 single_before-spelling (SingleSend place p e) rest = simp append_assoc
@@ -501,7 +454,7 @@ are_apart limits limit loops (Drop place e b rest) is = (is.0.0, are_apart limit
 
 -- ---- Blocks
 
-brace_no_else : (ts : List Token) → begins (kind.Symbol symbol.CloseBrace) ts ≡ true → begins (kind.Keyword keyword.Else) ts ≡ false
+pub brace_no_else : (ts : List Token) → begins (kind.Symbol symbol.CloseBrace) ts ≡ true → begins (kind.Keyword keyword.Else) ts ≡ false
 brace_no_else [] e = refl
 brace_no_else (t ∷ ts) e =
     ap (λ (k : TokenKind). same_kind k (kind.Keyword keyword.Else)) (same_kind-true t.kind (kind.Symbol symbol.CloseBrace) e)
@@ -542,32 +495,22 @@ statement_shortens limits limit loops =
     shortens (statement_at limits (block_at limits limit) limit loops) single_spelling (IsSingle limits limit loops) _ _ r single_listed
 
 -- a statement of a block within the limit
-abbrev pub inside_at : Limits → (limit loops : ℕ) → List Token → Read (Single × List Token)
+abbrev pub inside_at : Limits → (limit loops : ℕ) → Reader Single
 inside_at limits limit loops = statement_at limits (block_at limits (limit - 1)) (limit - 1) loops
+
+block_is : (limits : Limits) (limit loops : ℕ) (ts : List Token) → 0 < limit
+    → block_at limits limit loops ts ≡ becoming joined (braces_at (inside_at limits limit loops) ts)
+unfolding block_at
+block_is limits zero loops ts lt = absurd (omega (arith, lt))
+block_is limits (suc limit) loops ts lt =
+    let less : limit ≡ suc limit - 1 = omega arith in
+    ap (λ (n : ℕ). becoming joined (braces_at (statement_at limits (block_at limits n) n loops) ts)) less
 
 pub block_some : (limits : Limits) (limit loops : ℕ) (ts : List Token) (ss : List Single) (rest : List Token) → 0 < limit
     → braces_at (inside_at limits limit loops) ts ≡ Ok (ss, rest) → block_at limits limit loops ts ≡ Ok (joined ss, rest)
-unfolding block_at read_then
-block_some limits zero loops ts ss rest lt e = absurd (omega (arith, lt))
-block_some limits (suc limit) loops ts ss rest lt e =
-    let k : suc limit - 1 ≡ limit = omega arith in
-    let f : braces_at (statement_at limits (block_at limits limit) limit loops) ts ≡ Ok (ss, rest) =
-    subst (λ (n : ℕ). braces_at (statement_at limits (block_at limits n) n loops) ts ≡ Ok (ss, rest)) k e in
-    rw f refl
-
-block_err : (limits : Limits) (limit loops : ℕ) (ts : List Token) (o : Obstacle) → 0 < limit
-    → braces_at (inside_at limits limit loops) ts ≡ Err o → block_at limits limit loops ts ≡ Err o
-unfolding block_at read_then
-block_err limits zero loops ts o lt e = absurd (omega (arith, lt))
-block_err limits (suc limit) loops ts o lt e =
-    let k : suc limit - 1 ≡ limit = omega arith in
-    let f : braces_at (statement_at limits (block_at limits limit) limit loops) ts ≡ Err o =
-    subst (λ (n : ℕ). braces_at (statement_at limits (block_at limits n) n loops) ts ≡ Err o) k e in
-    rw f refl
+block_some limits limit loops ts ss rest lt e = block_is limits limit loops ts lt ∙ then_is _ _ (ss, rest) e
 
 pub block_fails : (e : ParseError) (limits : Limits) (limit loops : ℕ) (ts : List Token) → 0 < limit
     → Fails e (braces_at (inside_at limits limit loops) ts) → Fails e (block_at limits limit loops ts)
-block_fails parse_error.Memory limits limit loops ts lt f = tt
-block_fails (parse_error.Unexpected place) limits limit loops ts lt f = block_err limits limit loops ts _ lt f
-block_fails (parse_error.TooDeep place) limits limit loops ts lt f = block_err limits limit loops ts _ lt f
-block_fails parse_error.TooShort limits limit loops ts lt f = block_err limits limit loops ts _ lt f
+block_fails e limits limit loops ts lt f =
+    fails_as e _ _ (λ o g. block_is limits limit loops ts lt ∙ then_err (braces_at (inside_at limits limit loops) ts) _ o g) f

@@ -16,8 +16,8 @@ use Rattle.dv_syntax.specs.declared.tree.BagCall.{BagCall}
 use Rattle.dv_syntax.specs.declared.tree.BagCall.TheVariants as call
 use Rattle.dv_syntax.specs.Grammar.{Spelled, At, Anywhere, Spells, name, number, word, word_at, truth_word, call_word}
 use Rattle.dv_parser.specs.Reading.{Obstacle, Read, read_then, choose, maybe, keyword_number, symbol_number, same_kind, begins}
-use Rattle.dv_parser.specs.Reading.{after, is_name, begins_name, name_of, name_at, number_of, number_at, truth_at, word_of_at}
-use Rattle.dv_parser.specs.Reading.{call_word_at, place_at}
+use Rattle.dv_parser.specs.Reading.{Reader, after, is_name, begins_name, name_of, name_at, number_of, number_at, truth_at}
+use Rattle.dv_parser.specs.Reading.{word_of_at, call_word_at, place_at}
 
 -- ---- What was read
 
@@ -30,21 +30,27 @@ pub then_is : {A B : Type 0} (r : Read A) (f : A → Read B) (x : A) → r ≡ O
 unfolding read_then
 then_is r f x e = rw e refl
 
-pub choose_true : {A : Type 0} (b : Bool) (x y : A) → b ≡ true → choose b x y ≡ x
-unfolding choose
-choose_true b x y e = rw e refl
+pub then_err : {A B : Type 0} (r : Read A) (f : A → Read B) (o : Obstacle) → r ≡ Err o → read_then r f ≡ Err o
+unfolding read_then
+then_err r f o e = rw e refl
 
-pub choose_false : {A : Type 0} (b : Bool) (x y : A) → b ≡ false → choose b x y ≡ y
+-- where a test holds, its first branch is taken
+pub here : {A : Type 0} {b : Bool} {x z : A} (y : A) → b ≡ true → x ≡ z → choose b x y ≡ z
 unfolding choose
-choose_false b x y e = rw e refl
+here y e h = rw e h
+
+-- where it does not, its second
+pub past : {A : Type 0} {b : Bool} {y z : A} (x : A) → b ≡ false → y ≡ z → choose b x y ≡ z
+unfolding choose
+past x e h = rw e h
 
 pub chosen : {A : Type 0} (b : Bool) (x y z : A) → choose b x y ≡ z → ((b ≡ true) × (x ≡ z)) ⊎ ((b ≡ false) × (y ≡ z))
 unfolding choose
 chosen true x y z e = inl (refl, e)
 chosen false x y z e = inr (refl, e)
 
-pub maybe_is : {A B : Type 0} (o : Option A) (n : B) (s : A → B) (z : B) → maybe o n s ≡ z → ((o ≡ None) × (n ≡ z)) ⊎
-    ((x : A) × (o ≡ Some x) × (s x ≡ z))
+pub maybe_is : {A B : Type 0} (o : Option A) (n : B) (s : A → B) (z : B) → maybe o n s ≡ z
+    → ((o ≡ None) × (n ≡ z)) ⊎ ((x : A) × (o ≡ Some x) × (s x ≡ z))
 unfolding maybe
 maybe_is None n s z e = inl (refl, e)
 maybe_is (Some x) n s z e = inr (x, refl, e)
@@ -58,21 +64,45 @@ ok_is x y e = cc
 pub err_ok : {A : Type 0} (o : Obstacle) (x : A) → ◌≡◌ {A = Read A} (Err o) (Ok x) → ⊥
 err_ok o x e = cc
 
+pub err_is : {A : Type 0} (p o : Obstacle) → ◌≡◌ {A = Read A} (Err p) (Err o) → p ≡ o
+err_is p o e = cc
+
 pub none_some : {A : Type 0} (x : A) → None ≡ Some x → ⊥
 none_some x e = cc
 
+-- two readers that answer the same behind what a first one read
+pub same_after : {A B : Type 0} (r : Read A) (f g : A → Read B) → ((x : A) → r ≡ Ok x → f x ≡ g x) → read_then r f ≡ read_then r g
+unfolding read_then
+same_after (Ok x) f g h = h x refl
+same_after (Err o) f g h = refl
+
 -- ---- Spellings one after the other
 
-pub Spells-then : (a b : List Spelled) (ts mid rest : List Token) → Spells a ts mid → Spells b mid rest → Spells (a ++ b) ts rest
-Spells-then [] b ts mid rest h k = subst (λ (x : List Token). Spells b x rest) (sym h) k
-Spells-then (s ∷ a) b [] mid rest h k = absurd h
-Spells-then (s ∷ a) b (t ∷ ts) mid rest h k = (h.0, Spells-then a b ts mid rest h.1 k)
+pub record Spans (ss : List Spelled) (ts rest : List Token) : Type 0 where
+  pub spells : Spells ss ts rest
 
-pub Spells-split : (a b : List Spelled) (ts rest : List Token) → Spells (a ++ b) ts rest → (mid : List Token) × Spells a ts mid
-    × Spells b mid rest
-Spells-split [] b ts rest h = (ts, refl, h)
-Spells-split (s ∷ a) b [] rest h = absurd h
-Spells-split (s ∷ a) b (t ∷ ts) rest h = let r = Spells-split a b ts rest h.1 in (r.0, (h.0, r.1), r.2)
+pub nothing : {ts : List Token} → Spans [] ts ts
+nothing = record { spells = refl }
+
+pub span_end : {ts rest : List Token} → Spans [] ts rest → ts ≡ rest
+span_end h = h.spells
+
+spells_both : (a b : List Spelled) (ts mid rest : List Token) → Spells a ts mid → Spells b mid rest → Spells (a ++ b) ts rest
+spells_both [] b ts mid rest h k = subst (λ (x : List Token). Spells b x rest) (sym h) k
+spells_both (s ∷ a) b [] mid rest h k = absurd h
+spells_both (s ∷ a) b (t ∷ ts) mid rest h k = (h.0, spells_both a b ts mid rest h.1 k)
+
+pub then_spans : {a b : List Spelled} {ts mid rest : List Token} → Spans a ts mid → Spans b mid rest → Spans (a ++ b) ts rest
+then_spans {a = a} {b = b} {ts = ts} {mid = mid} {rest = rest} h k = record { spells = spells_both a b ts mid rest h.spells k.spells }
+
+spells_each : (a b : List Spelled) (ts rest : List Token) → Spells (a ++ b) ts rest
+    → (mid : List Token) × Spans a ts mid × Spans b mid rest
+spells_each [] b ts rest h = (ts, nothing, record { spells = h })
+spells_each (s ∷ a) b [] rest h = absurd h
+spells_each (s ∷ a) b (t ∷ ts) rest h = let r = spells_each a b ts rest h.1 in (r.0, record { spells = (h.0, r.1.spells) }, r.2)
+
+pub split : (a b : List Spelled) {ts rest : List Token} → Spans (a ++ b) ts rest → (mid : List Token) × Spans a ts mid × Spans b mid rest
+split a b {ts = ts} {rest = rest} h = spells_each a b ts rest h.spells
 
 pub Spells-length : (a : List Spelled) (ts rest : List Token) → Spells a ts rest → length ts ≡ length a + length rest
 Spells-length [] ts rest h = rw h (omega arith)
@@ -204,15 +234,15 @@ AtPlace (At k place) n = n ≡ place
 AtPlace (Anywhere k) n = Unit {0}
 
 -- what is known of tokens that begin with a token so spelled
-pub record Front (s : Spelled) (ss : List Spelled) (ts rest : List Token) : Type 0 where
+pub record First (s : Spelled) (ss : List Spelled) (ts rest : List Token) : Type 0 where
   pub behind : List Token
   pub after : after (kind_of s) ts ≡ Ok behind
   pub begins : (k : TokenKind) → begins k ts ≡ same_kind (kind_of s) k
   pub begins_name : begins_name ts ≡ is_name (kind_of s)
   pub place : AtPlace s (place_at ts)
-  pub spelled : Spells ss behind rest
+  pub spelled : Spans ss behind rest
 
-pub front : (s : Spelled) (ss : List Spelled) (ts rest : List Token) → Spells (s ∷ ss) ts rest → Front s ss ts rest
+front : (s : Spelled) (ss : List Spelled) (ts rest : List Token) → Spells (s ∷ ss) ts rest → First s ss ts rest
 unfolding after choose place_at
 front s ss [] rest h = absurd h
 front (At k place) ss (t ∷ ts) rest h = record {
@@ -221,7 +251,7 @@ front (At k place) ss (t ∷ ts) rest h = record {
   begins = λ j. ap (λ (i : TokenKind). same_kind i j) h.0.0;
   begins_name = ap is_name h.0.0;
   place = h.0.1;
-  spelled = h.1;
+  spelled = record { spells = h.1 };
 }
 front (Anywhere k) ss (t ∷ ts) rest h = record {
   behind = ts;
@@ -229,142 +259,160 @@ front (Anywhere k) ss (t ∷ ts) rest h = record {
   begins = λ j. ap (λ (i : TokenKind). same_kind i j) h.0;
   begins_name = ap is_name h.0;
   place = tt;
-  spelled = h.1;
+  spelled = record { spells = h.1 };
 }
 
-pub name_front : (n : Name) (ss : List Spelled) (ts rest : List Token) → Spells (name n ∷ ss) ts rest → (behind : List Token) ×
-    (name_at ts ≡ Ok (n, behind)) × Spells ss behind rest
+pub first : {s : Spelled} {ss : List Spelled} {ts rest : List Token} → Spans (s ∷ ss) ts rest → First s ss ts rest
+first {s = s} {ss = ss} {ts = ts} {rest = rest} h = front s ss ts rest h.spells
+
+-- the tokens begin with what the reader reads as this
+pub record FirstRead {A : Type 0} (reader : Reader A) (x : A) (ss : List Spelled) (ts rest : List Token) : Type 0 where
+  pub behind : List Token
+  pub read : reader ts ≡ Ok (x, behind)
+  pub spelled : Spans ss behind rest
+
+name_front : (n : Name) (ss : List Spelled) (ts rest : List Token) → Spells (name n ∷ ss) ts rest → FirstRead name_at n ss ts rest
 unfolding name_at
 name_front n ss [] rest h = absurd h
-name_front n ss (t ∷ ts) rest h = (ts, rw (h.0.0, h.0.1) refl, h.1)
+name_front n ss (t ∷ ts) rest h = record { behind = ts; read = rw (h.0.0, h.0.1) refl; spelled = record { spells = h.1 } }
 
-pub number_front : (n : Number) (ss : List Spelled) (ts rest : List Token) → Spells (number n ∷ ss) ts rest → (behind : List Token) ×
-    (number_at ts ≡ Ok (n, behind)) × Spells ss behind rest
+pub first_name : (n : Name) {ss : List Spelled} {ts rest : List Token} → Spans (name n ∷ ss) ts rest → FirstRead name_at n ss ts rest
+first_name n {ss = ss} {ts = ts} {rest = rest} h = name_front n ss ts rest h.spells
+
+number_front : (n : Number) (ss : List Spelled) (ts rest : List Token) → Spells (number n ∷ ss) ts rest → FirstRead number_at n ss ts rest
 unfolding number_at
 number_front n ss [] rest h = absurd h
-number_front n ss (t ∷ ts) rest h = (ts, rw (h.0.0, h.0.1) refl, h.1)
+number_front n ss (t ∷ ts) rest h = record { behind = ts; read = rw (h.0.0, h.0.1) refl; spelled = record { spells = h.1 } }
 
-pub truth_front : (b : Bool) (ss : List Spelled) (ts rest : List Token) → Spells (word (truth_word b) ∷ ss) ts rest → (behind : List Token)
-    × (truth_at ts ≡ Ok (b, behind)) × Spells ss behind rest
-unfolding truth_at choose read_then
-truth_front true ss ts rest h =
-    let f = front (word keyword.True) ss ts rest h in (f.behind, rw (f.begins (kind.Keyword keyword.True), f.after) refl, f.spelled)
-truth_front false ss ts rest h =
-    let f = front (word keyword.False) ss ts rest h in (f.behind, rw (f.begins (kind.Keyword keyword.True), f.after) refl, f.spelled)
+pub first_number : (n : Number) {ss : List Spelled} {ts rest : List Token} → Spans (number n ∷ ss) ts rest
+    → FirstRead number_at n ss ts rest
+first_number n {ss = ss} {ts = ts} {rest = rest} h = number_front n ss ts rest h.spells
 
-pub call_front : (c : BagCall) (ss : List Spelled) (ts rest : List Token) → Spells (word (call_word c) ∷ ss) ts rest
-    → (behind : List Token) × (call_word_at ts ≡ Ok (c, behind)) × Spells ss behind rest
-unfolding call_word_at word_of_at choose read_then
-call_front call.Size ss ts rest h =
-    let f = front (word keyword.Size) ss ts rest h in
-    (f.behind, rw (f.begins (kind.Keyword keyword.Size), f.after) refl, f.spelled)
-call_front call.Sum ss ts rest h =
-    let f = front (word keyword.Sum) ss ts rest h in
-    (f.behind, rw (f.begins (kind.Keyword keyword.Size), f.begins (kind.Keyword keyword.Sum), f.after) refl, f.spelled)
-call_front call.Least ss ts rest h =
-    let f = front (word keyword.Least) ss ts rest h in
-    let sum = f.begins (kind.Keyword keyword.Sum) in
-    (f.behind, rw (f.begins (kind.Keyword keyword.Size), sum, f.begins (kind.Keyword keyword.Least), f.after) refl, f.spelled)
-call_front call.Most ss ts rest h =
-    let f = front (word keyword.Most) ss ts rest h in
-    let sum = f.begins (kind.Keyword keyword.Sum) in
-    (f.behind, rw (f.begins (kind.Keyword keyword.Size), sum, f.begins (kind.Keyword keyword.Least), f.after) refl, f.spelled)
+pub first_truth : (b : Bool) {ss : List Spelled} {ts rest : List Token} → Spans (word (truth_word b) ∷ ss) ts rest
+    → FirstRead truth_at b ss ts rest
+unfolding truth_at read_then
+first_truth true h =
+    let f = first h in
+    record { behind = f.behind; read = here _ (f.begins _) (rw f.after refl); spelled = f.spelled }
+first_truth false h =
+    let f = first h in
+    record { behind = f.behind; read = past _ (f.begins _) (rw f.after refl); spelled = f.spelled }
+
+pub first_call : (c : BagCall) {ss : List Spelled} {ts rest : List Token} → Spans (word (call_word c) ∷ ss) ts rest
+    → FirstRead call_word_at c ss ts rest
+unfolding call_word_at word_of_at read_then
+first_call call.Size h =
+    let f = first h in
+    record { behind = f.behind; read = here _ (f.begins _) (rw f.after refl); spelled = f.spelled }
+first_call call.Sum h =
+    let f = first h in
+    record { behind = f.behind; read = past _ (f.begins _) (here _ (f.begins _) (rw f.after refl)); spelled = f.spelled }
+first_call call.Least h =
+    let f = first h in
+    let b = f.begins in
+    record { behind = f.behind; read = past _ (b _) (past _ (b _) (here _ (b _) (rw f.after refl))); spelled = f.spelled }
+first_call call.Most h =
+    let f = first h in
+    let b = f.begins in
+    record { behind = f.behind; read = past _ (b _) (past _ (b _) (past _ (b _) (rw f.after refl))); spelled = f.spelled }
+
+unplaced_spells : (k : TokenKind) (place : ℕ) (ss : List Spelled) (ts rest : List Token) → Spells (At k place ∷ ss) ts rest
+    → Spells (Anywhere k ∷ ss) ts rest
+unplaced_spells k place ss [] rest h = absurd h
+unplaced_spells k place ss (t ∷ ts) rest h = (h.0.0, h.1)
 
 -- a token whose place is kept is one that stands anywhere
-pub unplaced : (k : TokenKind) (place : ℕ) (ss : List Spelled) (ts rest : List Token) → Spells (At k place ∷ ss) ts rest → Spells
-    (Anywhere k ∷ ss) ts rest
-unplaced k place ss [] rest h = absurd h
-unplaced k place ss (t ∷ ts) rest h = (h.0.0, h.1)
+pub unplaced : {k : TokenKind} {place : ℕ} {ss : List Spelled} {ts rest : List Token} → Spans (At k place ∷ ss) ts rest
+    → Spans (Anywhere k ∷ ss) ts rest
+unplaced {k = k} {place = place} {ss = ss} {ts = ts} {rest = rest} h = record { spells = unplaced_spells k place ss ts rest h.spells }
 
--- the other way: a token that was read, before what is spelled
-pub after_spells : (k : TokenKind) (ss : List Spelled) (ts mid rest : List Token) → after k ts ≡ Ok mid → Spells ss mid rest → Spells
-    (Anywhere k ∷ ss) ts rest
-unfolding after
+-- ---- The other way: a token that was read, before what is spelled
+
+after_spells : (k : TokenKind) (ss : List Spelled) (ts mid rest : List Token) → after k ts ≡ Ok mid → Spells ss mid rest
+    → Spells (At k (place_at ts) ∷ ss) ts rest
+unfolding after place_at
 after_spells k ss [] mid rest e h = absurd cc
 after_spells k ss (t ∷ ts) mid rest e h =
     elim (chosen _ _ _ _ e) [
-      | inl p ↦ (same_kind-true _ _ p.0, subst (λ (x : List Token). Spells ss x rest) (sym (ok_is _ _ p.1)) h)
+      | inl p ↦ ((same_kind-true _ _ p.0, refl), subst (λ (x : List Token). Spells ss x rest) (sym (ok_is _ _ p.1)) h)
       | inr p ↦ absurd (err_ok _ _ p.1)
     ]
 
-pub after_spells_at : (k : TokenKind) (ss : List Spelled) (ts mid rest : List Token) → after k ts ≡ Ok mid → Spells ss mid rest → Spells
-    (At k (place_at ts) ∷ ss) ts rest
-unfolding after place_at
-after_spells_at k ss [] mid rest e h = absurd cc
-after_spells_at k ss (t ∷ ts) mid rest e h = let s = after_spells k ss (t ∷ ts) mid rest e h in ((s.0, refl), s.1)
+pub after_spans_at : {k : TokenKind} {ss : List Spelled} {ts mid rest : List Token} → after k ts ≡ Ok mid → Spans ss mid rest
+    → Spans (At k (place_at ts) ∷ ss) ts rest
+after_spans_at {k = k} {ss = ss} {ts = ts} {mid = mid} {rest = rest} e h = record { spells = after_spells k ss ts mid rest e h.spells }
 
-name_of-name : (k : TokenKind) (place : ℕ) (ts : List Token) (x : Name × List Token) → name_of k place ts ≡ Ok x →
-    (k ≡ kind.Name x.0.number) × (place ≡ x.0.place) × (ts ≡ x.1)
+pub after_spans : {k : TokenKind} {ss : List Spelled} {ts mid rest : List Token} → after k ts ≡ Ok mid → Spans ss mid rest
+    → Spans (Anywhere k ∷ ss) ts rest
+after_spans e h = unplaced (after_spans_at e h)
+
+name_of-name : (k : TokenKind) (place : ℕ) (ts : List Token) (x : Name × List Token) → name_of k place ts ≡ Ok x
+    → (k ≡ kind.Name x.0.number) × (place ≡ x.0.place) × (ts ≡ x.1)
 name_of-name (kind.Name n) place ts x e =
-    let p = ok_is _ _ e in (
-      ap (λ (y : Name × List Token). kind.Name y.0.number) p,
-      ap (λ (y : Name × List Token). y.0.place) p,
-      ap
-          (λ (y : Name × List Token). y.1) p,
-    )
+    let p = ok_is _ _ e in
+    let number = ap (λ (y : Name × List Token). kind.Name y.0.number) p in
+    (number, ap (λ (y : Name × List Token). y.0.place) p, ap (λ (y : Name × List Token). y.1) p)
 name_of-name _ place ts x e = absurd (err_ok _ _ e)
 
-pub name_spells : (ss : List Spelled) (ts rest : List Token) (x : Name × List Token) → name_at ts ≡ Ok x → Spells ss x.1 rest → Spells
-    (name x.0 ∷ ss) ts rest
+name_spells : (ss : List Spelled) (ts rest : List Token) (x : Name × List Token) → name_at ts ≡ Ok x → Spells ss x.1 rest
+    → Spells (name x.0 ∷ ss) ts rest
 unfolding name_at
 name_spells ss [] rest x e h = absurd (err_ok _ _ e)
 name_spells ss (t ∷ ts) rest x e h =
     let p = name_of-name t.kind t.place ts x e in ((p.0, p.1), subst (λ (y : List Token). Spells ss y rest) (sym p.2) h)
 
-number_of-number : (k : TokenKind) (place : ℕ) (ts : List Token) (x : Number × List Token) → number_of k place ts ≡ Ok x →
-    (k ≡ kind.Number x.0.value) × (place ≡ x.0.place) × (ts ≡ x.1)
+pub name_spans : {ss : List Spelled} {ts rest : List Token} {x : Name × List Token} → name_at ts ≡ Ok x → Spans ss x.1 rest
+    → Spans (name x.0 ∷ ss) ts rest
+name_spans {ss = ss} {ts = ts} {rest = rest} {x = x} e h = record { spells = name_spells ss ts rest x e h.spells }
+
+number_of-number : (k : TokenKind) (place : ℕ) (ts : List Token) (x : Number × List Token) → number_of k place ts ≡ Ok x
+    → (k ≡ kind.Number x.0.value) × (place ≡ x.0.place) × (ts ≡ x.1)
 number_of-number (kind.Number n) place ts x e =
-    let p = ok_is _ _ e in (
-      ap (λ (y : Number × List Token). kind.Number y.0.value) p,
-      ap (λ (y : Number × List Token). y.0.place) p,
-      ap
-          (λ (y : Number × List Token). y.1) p,
-    )
+    let p = ok_is _ _ e in
+    let value = ap (λ (y : Number × List Token). kind.Number y.0.value) p in
+    (value, ap (λ (y : Number × List Token). y.0.place) p, ap (λ (y : Number × List Token). y.1) p)
 number_of-number _ place ts x e = absurd (err_ok _ _ e)
 
-pub number_spells : (ss : List Spelled) (ts rest : List Token) (x : Number × List Token) → number_at ts ≡ Ok x → Spells ss x.1 rest → Spells
-    (number x.0 ∷ ss) ts rest
+number_spells : (ss : List Spelled) (ts rest : List Token) (x : Number × List Token) → number_at ts ≡ Ok x → Spells ss x.1 rest
+    → Spells (number x.0 ∷ ss) ts rest
 unfolding number_at
 number_spells ss [] rest x e h = absurd (err_ok _ _ e)
 number_spells ss (t ∷ ts) rest x e h =
     let p = number_of-number t.kind t.place ts x e in ((p.0, p.1), subst (λ (y : List Token). Spells ss y rest) (sym p.2) h)
 
-pub truth_spells : (ss : List Spelled) (ts rest : List Token) (x : Bool × List Token) → truth_at ts ≡ Ok x → Spells ss x.1 rest → Spells
-    (word_at (truth_word x.0) (place_at ts) ∷ ss) ts rest
+pub number_spans : {ss : List Spelled} {ts rest : List Token} {x : Number × List Token} → number_at ts ≡ Ok x → Spans ss x.1 rest
+    → Spans (number x.0 ∷ ss) ts rest
+number_spans {ss = ss} {ts = ts} {rest = rest} {x = x} e h = record { spells = number_spells ss ts rest x e h.spells }
+
+-- what is known of a word that was read as this, before what is spelled
+abbrev WordSpans : {A : Type 0} → (A → Keyword) → List Spelled → List Token → List Token → A × List Token → Type 0
+WordSpans word_of ss ts rest x = Spans ss x.1 rest → Spans (word_at (word_of x.0) (place_at ts) ∷ ss) ts rest
+
+pub truth_spans : {ss : List Spelled} {ts rest : List Token} {x : Bool × List Token} → truth_at ts ≡ Ok x
+    → WordSpans truth_word ss ts rest x
 unfolding truth_at
-truth_spells ss ts rest x e h =
+truth_spans {ss = ss} {ts = ts} {rest = rest} e =
     elim (chosen _ _ _ _ e) [
-      | inl p ↦
-          let a = then_ok _ _ _ p.1 in
-          subst (λ (y : Bool × List Token). Spells ss y.1 rest → Spells (word_at (truth_word y.0) (place_at ts) ∷ ss) ts rest)
-          (ok_is _ _ a.2) (after_spells_at (kind.Keyword keyword.True) ss ts a.0 rest a.1) h
-      | inr p ↦
-          let a = then_ok _ _ _ p.1 in
-          subst (λ (y : Bool × List Token). Spells ss y.1 rest → Spells (word_at (truth_word y.0) (place_at ts) ∷ ss) ts rest)
-          (ok_is _ _ a.2) (after_spells_at (kind.Keyword keyword.False) ss ts a.0 rest a.1) h
+      | inl p ↦ let a = then_ok _ _ _ p.1 in subst (WordSpans truth_word ss ts rest) (ok_is _ _ a.2) (after_spans_at a.1)
+      | inr p ↦ let a = then_ok _ _ _ p.1 in subst (WordSpans truth_word ss ts rest) (ok_is _ _ a.2) (after_spans_at a.1)
     ]
 
--- what is known of the word of a call that was read, before what is spelled
-abbrev CallSpells : List Spelled → List Token → List Token → BagCall × List Token → Type 0
-CallSpells ss ts rest x = Spells ss x.1 rest → Spells (word_at (call_word x.0) (place_at ts) ∷ ss) ts rest
-
-word_of_spells : (c : BagCall) (ss : List Spelled) (ts rest : List Token) (x : BagCall × List Token) → word_of_at c ts ≡ Ok x
-    → CallSpells ss ts rest x
+word_of_spans : (c : BagCall) (ss : List Spelled) (ts rest : List Token) (x : BagCall × List Token) → word_of_at c ts ≡ Ok x
+    → WordSpans call_word ss ts rest x
 unfolding word_of_at
-word_of_spells c ss ts rest x e =
-    let a = then_ok _ _ _ e in
-    subst (CallSpells ss ts rest) (ok_is _ _ a.2) (after_spells_at (kind.Keyword (call_word c)) ss ts a.0 rest a.1)
+word_of_spans c ss ts rest x e = let a = then_ok _ _ _ e in subst (WordSpans call_word ss ts rest) (ok_is _ _ a.2) (after_spans_at a.1)
 
-pub call_spells : (ss : List Spelled) (ts rest : List Token) (x : BagCall × List Token) → call_word_at ts ≡ Ok x → CallSpells ss ts rest x
+pub call_spans : {ss : List Spelled} {ts rest : List Token} {x : BagCall × List Token} → call_word_at ts ≡ Ok x
+    → WordSpans call_word ss ts rest x
 unfolding call_word_at
-call_spells ss ts rest x e =
+call_spans {ss = ss} {ts = ts} {rest = rest} {x = x} e =
     elim (chosen _ _ _ _ e) [
-      | inl p ↦ word_of_spells call.Size ss ts rest x p.1
+      | inl p ↦ word_of_spans call.Size ss ts rest x p.1
       | inr p ↦ elim (chosen _ _ _ _ p.1) [
-        | inl q ↦ word_of_spells call.Sum ss ts rest x q.1
+        | inl q ↦ word_of_spans call.Sum ss ts rest x q.1
         | inr q ↦ elim (chosen _ _ _ _ q.1) [
-          | inl r ↦ word_of_spells call.Least ss ts rest x r.1
-          | inr r ↦ word_of_spells call.Most ss ts rest x r.1
+          | inl r ↦ word_of_spans call.Least ss ts rest x r.1
+          | inr r ↦ word_of_spans call.Most ss ts rest x r.1
         ]
       ]
     ]

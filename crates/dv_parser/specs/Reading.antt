@@ -58,6 +58,10 @@ pub data Obstacle : Type 0 where
 abbrev pub Read : Type 0 → Type 0
 Read A = Result A Obstacle
 
+-- a reader: from tokens to what stands at their front, and the tokens after it
+abbrev pub Reader : Type 0 → Type 0
+Reader A = List Token → Read (A × List Token)
+
 -- what was read, and then a reader that uses it
 unfoldable pub read_then : {A B : Type 0} → Read A → (A → Read B) → Read B
 read_then (Ok x) f = f x
@@ -187,19 +191,19 @@ unfoldable pub after : TokenKind → List Token → Read (List Token)
 after k [] = Err TooShort
 after k (t ∷ ts) = choose (same_kind t.kind k) (Ok ts) (Err (Unexpected t.place))
 
-abbrev pub name_of : TokenKind → ℕ → List Token → Read (Name × List Token)
+abbrev pub name_of : TokenKind → ℕ → Reader Name
 name_of (kind.Name n) place ts = Ok (record { number = n; place = place }, ts)
 name_of _ place ts = Err (Unexpected place)
 
-unfoldable pub name_at : List Token → Read (Name × List Token)
+unfoldable pub name_at : Reader Name
 name_at [] = Err TooShort
 name_at (t ∷ ts) = name_of t.kind t.place ts
 
-abbrev pub number_of : TokenKind → ℕ → List Token → Read (Number × List Token)
+abbrev pub number_of : TokenKind → ℕ → Reader Number
 number_of (kind.Number n) place ts = Ok (record { value = n; place = place }, ts)
 number_of _ place ts = Err (Unexpected place)
 
-unfoldable pub number_at : List Token → Read (Number × List Token)
+unfoldable pub number_at : Reader Number
 number_at [] = Err TooShort
 number_at (t ∷ ts) = number_of t.kind t.place ts
 
@@ -207,7 +211,7 @@ number_at (t ∷ ts) = number_of t.kind t.place ts
 abbrev pub begins_truth : List Token → Bool
 begins_truth ts = begins (kind.Keyword keyword.True) ts || begins (kind.Keyword keyword.False) ts
 
-unfoldable pub truth_at : List Token → Read (Bool × List Token)
+unfoldable pub truth_at : Reader Bool
 truth_at ts = choose (begins (kind.Keyword keyword.True) ts)
     (after (kind.Keyword keyword.True) ts >>= λ rest. Ok (true, rest))
     (after (kind.Keyword keyword.False) ts >>= λ rest. Ok (false, rest))
@@ -217,14 +221,14 @@ abbrev pub begins_word_of : BagCall → List Token → Bool
 begins_word_of c ts = begins (kind.Keyword (call_word c)) ts
 
 -- a call, by its word
-unfoldable pub word_of_at : BagCall → List Token → Read (BagCall × List Token)
+unfoldable pub word_of_at : BagCall → Reader BagCall
 word_of_at c ts = after (kind.Keyword (call_word c)) ts >>= λ rest. Ok (c, rest)
 
 -- `size`, `sum`, `least` or `most`
 abbrev pub begins_call : List Token → Bool
 begins_call ts = begins_word_of call.Size ts || begins_word_of call.Sum ts || begins_word_of call.Least ts || begins_word_of call.Most ts
 
-unfoldable pub call_word_at : List Token → Read (BagCall × List Token)
+unfoldable pub call_word_at : Reader BagCall
 call_word_at ts =
     choose (begins_word_of call.Size ts) (word_of_at call.Size ts)
     (choose (begins_word_of call.Sum ts) (word_of_at call.Sum ts)
@@ -274,7 +278,7 @@ begins_name [] = false
 begins_name (t ∷ ts) = is_name t.kind
 
 -- a question about a bag
-unfoldable pub call_at : List Token → Read (Expression × List Token)
+unfoldable pub call_at : Reader Expression
 call_at ts = do
   c ← call_word_at ts
   inside ← after (kind.Symbol symbol.OpenParen) c.1
@@ -283,11 +287,11 @@ call_at ts = do
   Ok (Call c.0 (place_at ts) bag.0, rest)
 
 -- `elapsed`
-unfoldable pub elapsed_at : List Token → Read (Expression × List Token)
+unfoldable pub elapsed_at : Reader Expression
 elapsed_at ts = after (kind.Keyword keyword.Elapsed) ts >>= λ rest. Ok (Elapsed (place_at ts), rest)
 
 -- a name, a truth value, a call, `elapsed` or a number
-unfoldable pub leaf_at : List Token → Read (Expression × List Token)
+unfoldable pub leaf_at : Reader Expression
 leaf_at ts = choose (begins_name ts) (name_at ts >>= λ n. Ok (Named n.0, n.1))
     (choose (begins_truth ts) (truth_at ts >>= λ v. Ok (TruthValue (place_at ts) v.0, v.1))
     (choose (begins_call ts) (call_at ts)
@@ -301,21 +305,21 @@ within (suc limit) place read = read
 
 -- An operand that no operator joins to another, at a level: `not` stands where no operator binds more tightly than it.
 -- `operand` reads what lies behind an operator, in parentheses or in `times`, at a level, no deeper than the limit.
-unfoldable pub parens_at : (ℕ → List Token → Read (Expression × List Token)) → ℕ → List Token → Read (Expression × List Token)
+unfoldable pub parens_at : (ℕ → Reader Expression) → ℕ → Reader Expression
 parens_at operand limit ts = do
   inside ← after (kind.Symbol symbol.OpenParen) ts
   e ← within limit (place_at ts) (operand 0 inside)
   rest ← after (kind.Symbol symbol.CloseParen) e.1
   Ok (Parens (place_at ts) e.0, rest)
 
-unfoldable pub prefixed_at : Prefix → (ℕ → List Token → Read (Expression × List Token)) → ℕ → List Token → Read (Expression × List Token)
+unfoldable pub prefixed_at : Prefix → (ℕ → Reader Expression) → ℕ → Reader Expression
 prefixed_at o operand limit ts = do
   behind ← after (prefix_kind o) ts
   e ← within limit (place_at ts) (operand (prefix_rank o) behind)
   Ok (Prefixed o (place_at ts) e.0, e.1)
 
 -- how often a value is in a bag
-unfoldable pub times_at : (ℕ → List Token → Read (Expression × List Token)) → ℕ → List Token → Read (Expression × List Token)
+unfoldable pub times_at : (ℕ → Reader Expression) → ℕ → Reader Expression
 times_at operand limit ts = do
   behind ← after (kind.Keyword keyword.Times) ts
   inside ← within limit (place_at ts) (after (kind.Symbol symbol.OpenParen) behind)
@@ -329,8 +333,7 @@ times_at operand limit ts = do
 abbrev pub begins_prefix : Prefix → ℕ → List Token → Bool
 begins_prefix o level ts = begins (prefix_kind o) ts && nat_le level (prefix_rank o)
 
-unfoldable pub primary_at : (ℕ → List Token → Read (Expression × List Token)) → (limit level : ℕ) → List Token
-    → Read (Expression × List Token)
+unfoldable pub primary_at : (ℕ → Reader Expression) → (limit level : ℕ) → Reader Expression
 primary_at operand limit level ts =
     choose (begins (kind.Symbol symbol.OpenParen) ts) (parens_at operand limit ts)
     (choose (begins (kind.Keyword keyword.Times) ts) (times_at operand limit ts)
@@ -339,8 +342,7 @@ primary_at operand limit level ts =
     (leaf_at ts))))
 
 -- What follows a left operand, as long as an operator of the level goes on with it. `more` counts the turns that are left.
-abbrev pub turns : (ℕ → List Token → Read (Expression × List Token)) → (limit more level : ℕ) → Expression → List Token
-    → Read (Expression × List Token)
+abbrev pub turns : (ℕ → Reader Expression) → (limit more level : ℕ) → Expression → Reader Expression
 turns operand limit zero level left ts = maybe (operator_at level left ts) (Ok (left, ts)) (λ o. Err (TooDeep (place_at ts)))
 turns operand limit (suc more) level left ts = maybe (operator_at level left ts) (Ok (left, ts)) (λ o.
     choose (nat_lt (depth left) limit)
@@ -348,23 +350,23 @@ turns operand limit (suc more) level left ts = maybe (operator_at level left ts)
     (Err (TooDeep (place_at ts))))
 
 -- An expression no deeper than the limit, at whose top no operator below the level stands
-unfoldable pub expression_at : ℕ → ℕ → List Token → Read (Expression × List Token)
+unfoldable pub expression_at : ℕ → ℕ → Reader Expression
 expression_at zero level ts = Err TooShort
 expression_at (suc limit) level ts =
     primary_at (expression_at limit) limit level ts >>= λ e. turns (expression_at limit) (suc limit) (suc limit) level e.0 e.1
 
 -- what follows a left operand, within the limit
-unfoldable pub more_at : ℕ → ℕ → Expression → List Token → Read (Expression × List Token)
+unfoldable pub more_at : ℕ → ℕ → Expression → Reader Expression
 more_at limit level left ts = turns (expression_at (limit - 1)) limit limit level left ts
 
 -- ---- Lists
 
 -- As many as stand before a token of this kind. The number counts how many more may come.
-abbrev pub many : {A : Type 0} → (List Token → Read (A × List Token)) → TokenKind → ℕ → List Token → Read (List A × List Token)
+abbrev pub many : {A : Type 0} → Reader A → TokenKind → ℕ → Reader (List A)
 many one stop zero ts = Err TooShort
 many one stop (suc more) ts = choose (begins stop ts) (Ok ([], ts)) (one ts >>= λ x. many one stop more x.1 >>= λ xs. Ok (x.0 ∷ xs.0, xs.1))
 
-unfoldable pub many_at : {A : Type 0} → (List Token → Read (A × List Token)) → TokenKind → List Token → Read (List A × List Token)
+unfoldable pub many_at : {A : Type 0} → Reader A → TokenKind → Reader (List A)
 many_at one stop ts = many one stop (suc (length ts)) ts
 
 -- what the list that is read becomes
@@ -376,7 +378,7 @@ abbrev pub with_front : {A : Type 0} → List A → Read (List A × List Token) 
 with_front front read = becoming (λ xs. front ++ xs) read
 
 -- in braces
-unfoldable pub braces_at : {A : Type 0} → (List Token → Read (A × List Token)) → List Token → Read (List A × List Token)
+unfoldable pub braces_at : {A : Type 0} → Reader A → Reader (List A)
 braces_at one ts = do
   inside ← after (kind.Symbol symbol.OpenBrace) ts
   xs ← many_at one (kind.Symbol symbol.CloseBrace) inside
@@ -421,7 +423,7 @@ single_of (stmt.For' place v b shape block) = SingleFor place v b (row_statement
 single_of (stmt.Add place e b) = SingleAdd place (expression_of e) b
 single_of (stmt.Drop place e b) = SingleDrop place (expression_of e) b
 
-unfoldable pub assign_at : Limits → List Token → Read (Single × List Token)
+unfoldable pub assign_at : Limits → Reader Single
 assign_at limits ts = do
   n ← name_at ts
   behind ← after (kind.Symbol symbol.Assign) n.1
@@ -429,14 +431,14 @@ assign_at limits ts = do
   rest ← after (kind.Symbol symbol.Semicolon) e.1
   Ok (SingleAssign n.0 e.0, rest)
 
-unfoldable pub goto_at : List Token → Read (Single × List Token)
+unfoldable pub goto_at : Reader Single
 goto_at ts = do
   behind ← after (kind.Keyword keyword.Goto) ts
   n ← name_at behind
   rest ← after (kind.Symbol symbol.Semicolon) n.1
   Ok (SingleGoto (place_at ts) n.0, rest)
 
-unfoldable pub send_at : Limits → List Token → Read (Single × List Token)
+unfoldable pub send_at : Limits → Reader Single
 send_at limits ts = do
   behind ← after (kind.Keyword keyword.Send) ts
   n ← name_at behind
@@ -444,7 +446,7 @@ send_at limits ts = do
   rest ← after (kind.Symbol symbol.Semicolon) e.1
   Ok (SingleSend (place_at ts) n.0 e.0, rest)
 
-unfoldable pub add_at : Limits → List Token → Read (Single × List Token)
+unfoldable pub add_at : Limits → Reader Single
 add_at limits ts = do
   behind ← after (kind.Keyword keyword.Add) ts
   e ← expression_at limits.expression 0 behind
@@ -453,7 +455,7 @@ add_at limits ts = do
   rest ← after (kind.Symbol symbol.Semicolon) bag.1
   Ok (SingleAdd (place_at ts) e.0 bag.0, rest)
 
-unfoldable pub drop_at : Limits → List Token → Read (Single × List Token)
+unfoldable pub drop_at : Limits → Reader Single
 drop_at limits ts = do
   behind ← after (kind.Keyword keyword.Drop) ts
   e ← expression_at limits.expression 0 behind
@@ -463,15 +465,14 @@ drop_at limits ts = do
   Ok (SingleDrop (place_at ts) e.0 bag.0, rest)
 
 -- what follows the block of an `if`
-unfoldable pub else_at : (List Token → Read (Statements × List Token)) → ℕ → Expression → Statements → List Token
-    → Read (Single × List Token)
+unfoldable pub else_at : Reader Statements → ℕ → Expression → Statements → Reader Single
 else_at block_at place e block ts = do
   behind ← after (kind.Keyword keyword.Else) ts
   other ← block_at behind
   Ok (SingleIfElse place e block other.0, other.1)
 
 -- The limit is that of the blocks.
-unfoldable pub if_at : Limits → (List Token → Read (Statements × List Token)) → ℕ → List Token → Read (Single × List Token)
+unfoldable pub if_at : Limits → Reader Statements → ℕ → Reader Single
 if_at limits block_at limit ts = do
   behind ← after (kind.Keyword keyword.If) ts
   e ← within limit (place_at ts) (expression_at limits.expression 0 behind)
@@ -480,7 +481,7 @@ if_at limits block_at limit ts = do
       (Ok (SingleIf (place_at ts) e.0 block.0, block.1))
 
 -- The limit is that of the blocks. `loops` is how many loops may lie in one another here; in the block it is one less.
-unfoldable pub for_at : (ℕ → List Token → Read (Statements × List Token)) → (limit loops : ℕ) → List Token → Read (Single × List Token)
+unfoldable pub for_at : (ℕ → Reader Statements) → (limit loops : ℕ) → Reader Single
 for_at block_at limit loops ts = do
   behind ← after (kind.Keyword keyword.For) ts
   v ← within limit (place_at ts) (within loops (place_at ts) (name_at behind))
@@ -490,8 +491,7 @@ for_at block_at limit loops ts = do
   Ok (SingleFor (place_at ts) v.0 bag.0 block.0, block.1)
 
 -- `block_at` reads a block, by how many loops may lie in one another in it.
-unfoldable pub statement_at : Limits → (ℕ → List Token → Read (Statements × List Token)) → (limit loops : ℕ) → List Token
-    → Read (Single × List Token)
+unfoldable pub statement_at : Limits → (ℕ → Reader Statements) → (limit loops : ℕ) → Reader Single
 statement_at limits block_at limit loops ts =
     choose (begins (kind.Keyword keyword.Goto) ts) (goto_at ts)
     (choose (begins (kind.Keyword keyword.Send) ts) (send_at limits ts)
@@ -502,20 +502,20 @@ statement_at limits block_at limit loops ts =
     (assign_at limits ts))))))
 
 -- a block in which blocks lie in one another no deeper than the limit, and at most so many loops
-unfoldable pub block_at : Limits → (limit loops : ℕ) → List Token → Read (Statements × List Token)
+unfoldable pub block_at : Limits → (limit loops : ℕ) → Reader Statements
 block_at limits zero loops ts = Err TooShort
 block_at limits (suc limit) loops ts = braces_at (statement_at limits (block_at limits limit) limit loops) ts >>= λ x. Ok (joined x.0, x.1)
 
 -- ---- Atomic models
 
-unfoldable pub bound_at : List Token → Read (Bound × List Token)
+unfoldable pub bound_at : Reader Bound
 bound_at ts = choose (begins (kind.Symbol symbol.Minus) ts)
     (after (kind.Symbol symbol.Minus) ts >>= λ behind.
     number_at behind >>= λ n.
     Ok (record { minus = Some (place_at ts); magnitude = n.0 }, n.1))
     (number_at ts >>= λ n. Ok (record { minus = None; magnitude = n.0 }, n.1))
 
-unfoldable pub variable_at : List Token → Read (Variable × List Token)
+unfoldable pub variable_at : Reader Variable
 variable_at ts = do
   behind ← after (kind.Keyword keyword.Var) ts
   n ← name_at behind
@@ -528,7 +528,7 @@ variable_at ts = do
   rest ← after (kind.Symbol symbol.Semicolon) start.1
   Ok (record { name = n.0; low = low.0; high = high.0; start = start.0 }, rest)
 
-unfoldable pub flag_at : List Token → Read (Flag × List Token)
+unfoldable pub flag_at : Reader Flag
 flag_at ts = do
   behind ← after (kind.Keyword keyword.Flag) ts
   n ← name_at behind
@@ -537,7 +537,7 @@ flag_at ts = do
   rest ← after (kind.Symbol symbol.Semicolon) start.1
   Ok (record { name = n.0; start = start.0 }, rest)
 
-unfoldable pub bag_at : List Token → Read (StateBag × List Token)
+unfoldable pub bag_at : Reader StateBag
 bag_at ts = do
   behind ← after (kind.Keyword keyword.Bag) ts
   n ← name_at behind
@@ -546,10 +546,10 @@ bag_at ts = do
   Ok (record { name = n.0; capacity = capacity.0 }, rest)
 
 -- a comma and a name
-unfoldable pub further_name_at : List Token → Read (Name × List Token)
+unfoldable pub further_name_at : Reader Name
 further_name_at ts = after (kind.Symbol symbol.Comma) ts >>= λ behind. name_at behind
 
-unfoldable pub phases_at : List Token → Read (AtomicItem × List Token)
+unfoldable pub phases_at : Reader AtomicItem
 phases_at ts = do
   behind ← after (kind.Keyword keyword.Phases) ts
   first ← name_at behind
@@ -557,19 +557,19 @@ phases_at ts = do
   rest ← after (kind.Symbol symbol.Semicolon) others.1
   Ok (Lists (record { place = place_at ts; names = first.0 ∷ others.0 }), rest)
 
-unfoldable pub start_at : List Token → Read (AtomicItem × List Token)
+unfoldable pub start_at : Reader AtomicItem
 start_at ts = do
   behind ← after (kind.Keyword keyword.Start) ts
   n ← name_at behind
   rest ← after (kind.Symbol symbol.Semicolon) n.1
   Ok (Starts (record { place = place_at ts; phase = n.0 }), rest)
 
-unfoldable pub ticks_at : Limits → List Token → Read (Option Expression × List Token)
+unfoldable pub ticks_at : Limits → Reader (Option Expression)
 ticks_at limits ts = choose (begins (kind.Keyword keyword.Forever) ts)
     (after (kind.Keyword keyword.Forever) ts >>= λ rest. Ok (None, rest))
     (expression_at limits.expression 0 ts >>= λ e. Ok (Some e.0, e.1))
 
-unfoldable pub hold_at : Limits → List Token → Read (AtomicItem × List Token)
+unfoldable pub hold_at : Limits → Reader AtomicItem
 hold_at limits ts = do
   behind ← after (kind.Keyword keyword.Hold) ts
   n ← name_at behind
@@ -578,7 +578,7 @@ hold_at limits ts = do
   rest ← after (kind.Symbol symbol.Semicolon) ticks.1
   Ok (Holds (record { place = place_at ts; phase = n.0; ticks = ticks.0 }), rest)
 
-unfoldable pub rule_at : Limits → RuleSort → List Token → Read (AtomicItem × List Token)
+unfoldable pub rule_at : Limits → RuleSort → Reader AtomicItem
 rule_at limits sort ts = do
   behind ← after (kind.Keyword (sort_word sort)) ts
   n ← name_at behind
@@ -590,7 +590,7 @@ abbrev pub begins_rule : RuleSort → List Token → Bool
 begins_rule sort ts = begins (kind.Keyword (sort_word sort)) ts
 
 -- a rule, by its word
-unfoldable pub any_rule_at : Limits → List Token → Read (AtomicItem × List Token)
+unfoldable pub any_rule_at : Limits → Reader AtomicItem
 any_rule_at limits ts =
     choose (begins_rule sort.Output ts) (rule_at limits sort.Output ts)
     (choose (begins_rule sort.Internal ts) (rule_at limits sort.Internal ts)
@@ -598,14 +598,14 @@ any_rule_at limits ts =
     (rule_at limits sort.Confluent ts)))
 
 -- a port behind a word: `in port;` or `out port;`
-unfoldable pub port_at : Keyword → List Token → Read (Name × List Token)
+unfoldable pub port_at : Keyword → Reader Name
 port_at word ts = do
   behind ← after (kind.Keyword word) ts
   n ← name_at behind
   rest ← after (kind.Symbol symbol.Semicolon) n.1
   Ok (n.0, rest)
 
-unfoldable pub item_at : Limits → List Token → Read (AtomicItem × List Token)
+unfoldable pub item_at : Limits → Reader AtomicItem
 item_at limits ts =
     choose (begins (kind.Keyword keyword.In) ts) (port_at keyword.In ts >>= λ n. Ok (Declares (declaration.In n.0), n.1))
     (choose (begins (kind.Keyword keyword.Out) ts) (port_at keyword.Out ts >>= λ n. Ok (Declares (declaration.Out n.0), n.1))
@@ -617,7 +617,7 @@ item_at limits ts =
     (choose (begins (kind.Keyword keyword.Hold) ts) (hold_at limits ts)
     (any_rule_at limits ts))))))))
 
-unfoldable pub atomic_at : Limits → List Token → Read ((Name × List AtomicItem) × List Token)
+unfoldable pub atomic_at : Limits → Reader (Name × List AtomicItem)
 atomic_at limits ts = do
   behind ← after (kind.Keyword keyword.Atomic) ts
   n ← name_at behind
@@ -626,7 +626,7 @@ atomic_at limits ts = do
 
 -- ---- Coupled models
 
-unfoldable pub end_at : List Token → Read (End × List Token)
+unfoldable pub end_at : Reader End
 end_at ts = choose (begins (kind.Keyword keyword.Itself) ts)
     (after (kind.Keyword keyword.Itself) ts >>= λ behind.
     after (kind.Symbol symbol.Dot) behind >>= λ dot.
@@ -637,7 +637,7 @@ end_at ts = choose (begins (kind.Keyword keyword.Itself) ts)
     name_at dot >>= λ port.
     Ok (record { part = Some part.0; port = port.0 }, port.1))
 
-unfoldable pub part_at : List Token → Read (Part × List Token)
+unfoldable pub part_at : Reader Part
 part_at ts = do
   behind ← after (kind.Keyword keyword.Part) ts
   n ← name_at behind
@@ -646,7 +646,7 @@ part_at ts = do
   rest ← after (kind.Symbol symbol.Semicolon) model.1
   Ok (record { name = n.0; model = model.0 }, rest)
 
-unfoldable pub link_at : List Token → Read (Link × List Token)
+unfoldable pub link_at : Reader Link
 link_at ts = do
   behind ← after (kind.Keyword keyword.Link) ts
   source ← end_at behind
@@ -655,14 +655,14 @@ link_at ts = do
   rest ← after (kind.Symbol symbol.Semicolon) target.1
   Ok (record { place = place_at ts; from = source.0; to = target.0 }, rest)
 
-unfoldable pub coupled_item_at : List Token → Read (CoupledItem × List Token)
+unfoldable pub coupled_item_at : Reader CoupledItem
 coupled_item_at ts =
     choose (begins (kind.Keyword keyword.In) ts) (port_at keyword.In ts >>= λ n. Ok (Inputs n.0, n.1))
     (choose (begins (kind.Keyword keyword.Out) ts) (port_at keyword.Out ts >>= λ n. Ok (Outputs n.0, n.1))
     (choose (begins (kind.Keyword keyword.Part) ts) (part_at ts >>= λ p. Ok (Contains p.0, p.1))
     (link_at ts >>= λ l. Ok (Couples l.0, l.1))))
 
-unfoldable pub coupled_at : List Token → Read ((Name × List CoupledItem) × List Token)
+unfoldable pub coupled_at : Reader (Name × List CoupledItem)
 coupled_at ts = do
   behind ← after (kind.Keyword keyword.Coupled) ts
   n ← name_at behind
@@ -671,7 +671,7 @@ coupled_at ts = do
 
 -- ---- Files
 
-unfoldable pub model_at : Limits → List Token → Read (WrittenModel × List Token)
+unfoldable pub model_at : Limits → Reader WrittenModel
 model_at limits ts = choose (begins (kind.Keyword keyword.Coupled) ts)
     (coupled_at ts >>= λ m. Ok (WrittenCoupled m.0.0 m.0.1, m.1))
     (atomic_at limits ts >>= λ m. Ok (WrittenAtomic m.0.0 m.0.1, m.1))
@@ -755,7 +755,7 @@ with_coupled_item m i = with_coupled_items m (i ∷ [])
 abbrev pub empty_coupled : Name → CoupledTree
 empty_coupled name = sorted_coupled_items name []
 
-unfoldable pub atomic_tree_at : List Token → Read (AtomicTree × List Token)
+unfoldable pub atomic_tree_at : Reader AtomicTree
 atomic_tree_at ts = do
   behind ← after (kind.Keyword keyword.Atomic) ts
   n ← name_at behind
@@ -764,7 +764,7 @@ atomic_tree_at ts = do
   rest ← after (kind.Symbol symbol.CloseBrace) m.1
   Ok (m.0, rest)
 
-unfoldable pub coupled_tree_at : List Token → Read (CoupledTree × List Token)
+unfoldable pub coupled_tree_at : Reader CoupledTree
 coupled_tree_at ts = do
   behind ← after (kind.Keyword keyword.Coupled) ts
   n ← name_at behind
@@ -773,7 +773,7 @@ coupled_tree_at ts = do
   rest ← after (kind.Symbol symbol.CloseBrace) m.1
   Ok (m.0, rest)
 
-unfoldable pub tree_at : List Token → Read (ModelTree × List Token)
+unfoldable pub tree_at : Reader ModelTree
 tree_at ts = choose (begins (kind.Keyword keyword.Coupled) ts)
     (coupled_tree_at ts >>= λ m. Ok (CoupledModel m.0, m.1))
     (atomic_tree_at ts >>= λ m. Ok (AtomicModel m.0, m.1))
