@@ -1,8 +1,9 @@
 -- What stands at a port where one output, or one input of the root, sends one value alone.
-use Rattle.std.proofs.Common.{◌≡◌, ℕ, zero, suc, Bool, true, false, cond, eqb, [], ◌∷◌, ◌++◌, get_or, replicate, pos, refl, ap, ◌∙◌, arith}
+use Rattle.std.proofs.Common.{◌≡◌, ℕ, zero, suc, Bool, true, false, cond, eqb, [], ◌∷◌, ◌++◌, get_or, replicate, pos}
+use Rattle.std.proofs.Common.{refl, ap, sym, ◌∙◌, subst, arith}
 use Rattle.std.specs.Prelude.{◌&&◌}
 use Rattle.std.proofs.lemmas.Bool.Decides.{nat_tests}
-use Rattle.dv_bag.specs.Bag.{IsBag, bag_at, count_of}
+use Rattle.dv_bag.specs.Bag.{Counts, IsBag, bag_at, count_of}
 use Rattle.dv_flat.specs.Carried.{same_port}
 use Rattle.dv_flat.specs.Ends.{port_at}
 use Rattle.dv_flat.specs.Links.{alone_at, sent_alone}
@@ -39,15 +40,8 @@ output_alone from k port =
     ∙ bags_chosen (eqb from.component k) from.port port
 
 -- it is a bag, and has the value once at the port that sends, and nowhere else
-pub entry_ticks : (from port : ℕ) → count_of (pos 0) (bag_at (alone_at from) port) ≡ tick (eqb from port)
-entry_ticks from port = ap (count_of (pos 0)) (entry_alone from port) ∙ count_chosen (eqb from port)
+pub alone_ticks : (bag : Counts) (b : Bool) → bag ≡ cond b ((pos 0, 1) ∷ []) [] → count_of (pos 0) bag ≡ tick b
+alone_ticks bag b is = ap (count_of (pos 0)) is ∙ count_chosen b
 
-pub output_ticks : (from : ComponentPort) (k port : ℕ) →
-    count_of (pos 0) (bag_at (get_or (sent_alone from) k []) port) ≡ tick (same_port from (port_at k port))
-output_ticks from k port = ap (count_of (pos 0)) (output_alone from k port) ∙ count_chosen (same_port from (port_at k port))
-
-pub entry_bag : (from port : ℕ) → IsBag (bag_at (alone_at from) port)
-entry_bag from port = rw entry_alone (bag_chosen (eqb from port))
-
-pub output_bag : (from : ComponentPort) (k port : ℕ) → IsBag (bag_at (get_or (sent_alone from) k []) port)
-output_bag from k port = rw output_alone (bag_chosen (same_port from (port_at k port)))
+pub alone_bag : (bag : Counts) (b : Bool) → bag ≡ cond b ((pos 0, 1) ∷ []) [] → IsBag bag
+alone_bag bag b is = subst IsBag (sym is) (bag_chosen b)

@@ -1,16 +1,18 @@
 -- The lists of arrivals: in that of each token stand the targets where the token is, with how often it is there.
-use Rattle.std.proofs.Common.{◌≡◌, ℕ, zero, suc, ◌+◌, ◌<◌, List, [], ◌∷◌, ◌++◌, length, get_or, replicate, ℤ, pos, negsuc, refl, ap, sym, ◌∙◌, arith}
+use Rattle.std.proofs.Common.{◌≡◌, ℕ, zero, suc, ◌+◌, ◌<◌, ◌≤◌, List, [], ◌∷◌, ◌++◌, length, map, drop}
+use Rattle.std.proofs.Common.{get_or, replicate, ℤ, pos, negsuc, refl, ap, sym, ◌∙◌, arith}
 use Rattle.std.specs.Prelude.{fold, Option, Some, None}
 use Rattle.std.specs.List.{cons_option, filter_map, flat_map}
 use Rattle.std.proofs.lemmas.Int.{ints}
-use Rattle.std.proofs.lemmas.List.{append-nil, append_assoc, get_or-replicate, get_or-set_same, get_or-set_other, length-replicate, length-set}
+use Rattle.std.proofs.lemmas.List.{append-nil, append_assoc, at_drop_more, get_or-map, get_or-replicate, get_or-set_same}
+use Rattle.std.proofs.lemmas.List.{get_or-set_other, length-replicate, length-set}
 use Rattle.dv_bag.specs.Bag.{Counts, IsBag, count_of}
 use Rattle.dv_bag.proofs.Monoid.{by_order, count_below}
 use Rattle.dv_bag.proofs.Pairs.{bag_from_above, cmp_equal, cmp_greater, cmp_less}
-use Rattle.dv_flat.specs.Links.{direct_link, entry_link, exit_link}
-use Rattle.dv_flat.specs.Tokens.{arrival, direct_to, entry_to, exit_to, links_of, with_arrival, with_arrivals}
+use Rattle.dv_flat.specs.Links.{link, links_from}
+use Rattle.dv_flat.specs.Tokens.{arrival, links_of, links_to, with_arrival, with_arrivals}
 use Rattle.dv_flat.specs.declared.arrivals.Arrival.{Arrival}
-use Rattle.dv_flat.specs.declared.link.ComponentPort.{ComponentPort}
+use Rattle.dv_flat.specs.declared.link.Link.{Link}
 
 module _ {T : Type 0} where
   length-with_arrival : (v : ℤ) (a : Arrival T) (lists : List (List (Arrival T))) → length (with_arrival v a lists) ≡ length lists
@@ -102,56 +104,87 @@ module _ {T : Type 0} where
     length-all tos n = length-with_targets tos (replicate n []) ∙ length-replicate {A = List (Arrival T)} n []
 
 -- the arrivals of a source as its links
-first_direct : (from to : ComponentPort) (n : ℕ) (rest : List (Arrival ComponentPort)) →
-    direct_to from (cons_option (arrival to n) rest) ≡ cons_option (direct_link from to n) (direct_to from rest)
-first_direct from to zero rest = refl
-first_direct from to (suc n) rest = refl
+first_made : {From To : Type 0} (from : From) (to : To) (n : ℕ) (rest : List (Arrival To)) →
+    links_to from (cons_option (arrival to n) rest) ≡ cons_option (link from to n) (links_to from rest)
+first_made from to zero rest = refl
+first_made from to (suc n) rest = refl
 
-first_entry : (from : ℕ) (to : ComponentPort) (n : ℕ) (rest : List (Arrival ComponentPort)) →
-    entry_to from (cons_option (arrival to n) rest) ≡ cons_option (entry_link from to n) (entry_to from rest)
-first_entry from to zero rest = refl
-first_entry from to (suc n) rest = refl
+arrivals_made : {From To : Type 0} (from : From) (copies : From → To → ℕ) (tos : List To) →
+    links_to from (filter_map (λ to. arrival to (copies from to)) tos) ≡ links_from copies tos from
+arrivals_made from copies [] = refl
+arrivals_made from copies (to ∷ tos) =
+    first_made from to (copies from to) (filter_map (λ x. arrival x (copies from x)) tos)
+    ∙ ap (cons_option (link from to (copies from to))) (arrivals_made from copies tos)
 
-first_exit : (from : ComponentPort) (to n : ℕ) (rest : List (Arrival ℕ)) →
-    exit_to from (cons_option (arrival to n) rest) ≡ cons_option (exit_link from to n) (exit_to from rest)
-first_exit from to zero rest = refl
-first_exit from to (suc n) rest = refl
+-- arrivals that are counted alike
+arrivals_same : {T : Type 0} (m n : T → ℕ) (tos : List T) → ((to : T) → m to ≡ n to) →
+    filter_map (λ to. arrival to (m to)) tos ≡ filter_map (λ to. arrival to (n to)) tos
+arrivals_same m n [] same = refl
+arrivals_same m n (to ∷ tos) same =
+    ap (λ k. cons_option (arrival to k) (filter_map (λ x. arrival x (m x)) tos)) (same to)
+    ∙ ap (cons_option (arrival to (n to))) (arrivals_same m n tos same)
 
-pub direct_made : (from : ComponentPort) (n : ComponentPort → ℕ) (tos : List ComponentPort) →
-    direct_to from (filter_map (λ to. arrival to (n to)) tos) ≡ filter_map (λ to. direct_link from to (n to)) tos
-direct_made from n [] = refl
-direct_made from n (to ∷ tos) =
-    first_direct from to (n to) (filter_map (λ x. arrival x (n x)) tos)
-    ∙ ap (cons_option (direct_link from to (n to))) (direct_made from n tos)
-
-pub entry_made : (from : ℕ) (n : ComponentPort → ℕ) (tos : List ComponentPort) →
-    entry_to from (filter_map (λ to. arrival to (n to)) tos) ≡ filter_map (λ to. entry_link from to (n to)) tos
-entry_made from n [] = refl
-entry_made from n (to ∷ tos) =
-    first_entry from to (n to) (filter_map (λ x. arrival x (n x)) tos)
-    ∙ ap (cons_option (entry_link from to (n to))) (entry_made from n tos)
-
-pub exit_made : (from : ComponentPort) (n : ℕ → ℕ) (tos : List ℕ) →
-    exit_to from (filter_map (λ to. arrival to (n to)) tos) ≡ filter_map (λ to. exit_link from to (n to)) tos
-exit_made from n [] = refl
-exit_made from n (to ∷ tos) =
-    first_exit from to (n to) (filter_map (λ x. arrival x (n x)) tos)
-    ∙ ap (cons_option (exit_link from to (n to))) (exit_made from n tos)
-
--- the links of all sources, where the list of each is known
-pub links_made : {X T L : Type 0} (make : X → List (Arrival T) → List L) (lists : List (List (Arrival T))) (links : X → List L) (d : X)
-    (k : ℕ)
-    (froms : List X) →
-    ((j : ℕ) → j < length froms → make (get_or froms j d) (get_or lists (k + j) []) ≡ links (get_or froms j d)) →
-    links_of make lists k froms ≡ flat_map links froms
-links_made make lists links d k [] h = refl
-links_made make lists links d k (from ∷ froms) h =
+-- the links of all sources, where those of each are known
+links_each : {From To : Type 0} (lists : List (List (Arrival To))) (links : From → List (Link From To)) (d : From) (k : ℕ)
+    (froms : List From) →
+    ((j : ℕ) → j < length froms → links_to (get_or froms j d) (get_or lists (k + j) []) ≡ links (get_or froms j d)) →
+    links_of lists k froms ≡ flat_map links froms
+links_each lists links d k [] h = refl
+links_each lists links d k (from ∷ froms) h =
     let here : k ≡ k + 0 = omega arith in
     let first : 0 < length (from ∷ froms) = omega arith in
-    ap (λ i. make from (get_or lists i []) ++ links_of make lists (suc k) froms) here
-    ∙ (ap (λ xs. xs ++ links_of make lists (suc k) froms) (h 0 first)
+    ap (λ i. links_to from (get_or lists i []) ++ links_of lists (suc k) froms) here
+    ∙ (ap (λ xs. xs ++ links_of lists (suc k) froms) (h 0 first)
     ∙ ap (λ xs. links from ++ xs)
-    (links_made make lists links d (suc k) froms
+    (links_each lists links d (suc k) froms
     (λ j within.
-    ap (λ i. make (get_or froms j d) (get_or lists i [])) (let same : suc k + j ≡ k + suc j = omega arith in same)
+    ap (λ i. links_to (get_or froms j d) (get_or lists i [])) (let same : suc k + j ≡ k + suc j = omega arith in same)
     ∙ h (suc j) (omega (arith, within)))))
+
+-- the links of sources whose tokens stand in the bags at the targets, from one token on
+pub links_found : {From To : Type 0} (copies : From → To → ℕ) (tos : List To) (bags : To → Counts) →
+    ((to : To) → IsBag (bags to)) → (n k : ℕ) (froms : List From) (d : From) → k + length froms ≤ n →
+    ((j : ℕ) → j < length froms → (to : To) → count_of (pos (k + j)) (bags to) ≡ copies (get_or froms j d) to) →
+    links_of (fold (λ lists to. with_arrivals to lists (bags to)) (replicate n []) tos) k froms ≡ flat_map (links_from copies tos) froms
+links_found {From = From} {To = To} copies tos bags are_bags n k froms d within counts =
+    let lists : List (List (Arrival To)) = fold (λ ls to. with_arrivals to ls (bags to)) (replicate n []) tos in
+    links_each lists (links_from copies tos) d k froms
+    (λ j early.
+    let from = get_or froms j d in
+    ap (links_to from)
+    (all_there bags are_bags tos n (k + j) (omega (arith, within, early))
+    ∙ arrivals_same (λ to. count_of (pos (k + j)) (bags to)) (copies from) tos (counts j early))
+    ∙ arrivals_made from copies tos)
+
+-- one arrival more in the loop over those of a source
+pub links_added : {From To : Type 0} (from : From) (arrivals : List (Arrival To)) (i : ℕ) (a : Arrival To)
+    (before after all : List (Link From To)) → i < length arrivals → a ≡ get_or arrivals i a →
+    after ≡ before ++ links_to from (a ∷ []) → before ++ links_to from (drop i arrivals) ≡ all →
+    after ++ links_to from (drop (i + 1) arrivals) ≡ all
+links_added from arrivals i a before after all within read added so_far =
+    let rest = drop (i + 1) arrivals in
+    ap (λ links. links ++ links_to from rest) added
+    ∙ (append_assoc before (links_to from (a ∷ [])) (links_to from rest)
+    ∙ (ap (λ links. before ++ links)
+    (ap (λ b. links_to from (b ∷ rest)) read ∙ sym (at_drop_more (links_to from) arrivals i a within)) ∙ so_far))
+
+-- one source more in the loop over all
+pub links_step : {V From To : Type 0} (items : V → List (Arrival To)) (all : List V) (first k : ℕ) (froms : List From)
+    (from : From) (list : V) (before after whole : List (Link From To)) → k < length froms → from ≡ get_or froms k from →
+    first + k < length all → list ≡ get_or all (first + k) list → after ≡ before ++ links_to from (items list) →
+    before ++ links_of (map items all) (first + k) (drop k froms) ≡ whole →
+    after ++ links_of (map items all) (first + (k + 1)) (drop (k + 1) froms) ≡ whole
+links_step items all first k froms from list before after whole within read stands found added so_far =
+    let lists = map items all in
+    let rest = drop (k + 1) froms in
+    let next = links_of lists (first + (k + 1)) rest in
+    let here : items list ≡ get_or lists (first + k) [] =
+    ap items found ∙ sym (get_or-map items all (first + k) list [] stands) in
+    ap (λ links. links ++ next) added
+    ∙ (append_assoc before (links_to from (items list)) next
+    ∙ (ap (λ links. before ++ links)
+    (ap (λ xs. links_to from xs ++ next) here
+    ∙ (ap (λ i. links_to from (get_or lists (first + k) []) ++ links_of lists i rest)
+    (let same : first + (k + 1) ≡ suc (first + k) = omega arith in same)
+    ∙ (ap (λ x. links_of lists (first + k) (x ∷ rest)) read
+    ∙ sym (at_drop_more (links_of lists (first + k)) froms k from within)))) ∙ so_far))

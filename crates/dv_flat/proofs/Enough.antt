@@ -1,6 +1,7 @@
 -- Sources that have as many links as all have, each counted as often as it has copies, have all links.
-use Rattle.std.proofs.Common.{◌≡◌, ℕ, zero, suc, ◌+◌, ◌<◌, ◌≤◌, Bool, true, false, cond, List, [], ◌∷◌, ◌++◌, drop, length, get_or, refl, ap, sym, ◌∙◌, arith}
-use Rattle.std.specs.List.{All, cons_option, filter_map, flat_map, sum_by}
+use Rattle.std.proofs.Common.{◌≡◌, ℕ, zero, suc, ◌+◌, ◌<◌, ◌≤◌, Bool, true, false, cond, List, [], ◌∷◌}
+use Rattle.std.proofs.Common.{◌++◌, drop, length, get_or, refl, ap, sym, ◌∙◌, arith}
+use Rattle.std.specs.List.{All, cons_option, flat_map, sum_by}
 use Rattle.std.proofs.Math.Seq.{drop-cons}
 use Rattle.std.proofs.lemmas.List.{append_assoc}
 use Rattle.std.proofs.lemmas.List.Elements.{All-cons, All-head, All-nil, All-tail}
@@ -10,12 +11,10 @@ use Rattle.dv_bag.specs.Bag.{capped}
 use Rattle.dv_tree.specs.Instances.{root_outputs}
 use Rattle.dv_flat.specs.Ends.{input_ports, output_ports}
 use Rattle.dv_flat.specs.Limit.{link_count}
-use Rattle.dv_flat.specs.Links.{direct_copies, direct_link, direct_links, entry_links, exit_copies, exit_link, exit_links, root_ports}
+use Rattle.dv_flat.specs.Links.{copies_of, direct_copies, direct_links, entry_links, exit_copies, exit_links, link, links_from, root_ports}
 use Rattle.dv_flat.specs.Tokens.{chosen_from, direct_from, exit_from}
 use Rattle.dv_flat.specs.declared.link.ComponentPort.{ComponentPort}
-use Rattle.dv_flat.specs.declared.link.DirectLink.{DirectLink}
-use Rattle.dv_flat.specs.declared.link.EntryLink.{EntryLink}
-use Rattle.dv_flat.specs.declared.link.ExitLink.{ExitLink}
+use Rattle.dv_flat.specs.declared.link.Link.{Link}
 
 -- what holds of all sources holds of those that are chosen
 pub all_chosen : (P : ComponentPort → Type 0) (k : ℕ) (flags : List Bool) (froms : List ComponentPort) → All P froms →
@@ -104,67 +103,51 @@ module _ {L : Type 0} (copies : L → ℕ) where
 
 -- ---- Every link counts
 
-direct_some : (f : FileTree) (from : ComponentPort) (tos : List ComponentPort) →
-    All (λ (l : DirectLink). 0 < l.copies) (filter_map (λ to. direct_link from to (direct_copies f from to)) tos)
-direct_some f from [] = All-nil (λ (l : DirectLink). 0 < l.copies)
-direct_some f from (to ∷ tos) = step (direct_copies f from to) (direct_some f from tos)
+every_counts : {From To : Type 0} (copies : From → To → ℕ) (from : From) (tos : List To) →
+    All (λ (l : Link From To). 0 < l.copies) (links_from copies tos from)
+every_counts {From = From} {To = To} copies from [] = All-nil (λ (l : Link From To). 0 < l.copies)
+every_counts {From = From} {To = To} copies from (to ∷ tos) = step (copies from to) (every_counts copies from tos)
   where
-    step : (n : ℕ) → All (λ (l : DirectLink). 0 < l.copies) (filter_map (λ x. direct_link from x (direct_copies f from x)) tos) →
-        All (λ (l : DirectLink). 0 < l.copies)
-        (cons_option (direct_link from to n) (filter_map (λ x. direct_link from x (direct_copies f from x)) tos))
+    step : (n : ℕ) → All (λ (l : Link From To). 0 < l.copies) (links_from copies tos from) →
+        All (λ (l : Link From To). 0 < l.copies) (cons_option (link from to n) (links_from copies tos from))
     step zero h = h
     step (suc n) h =
-        All-cons (λ (l : DirectLink). 0 < l.copies) (record { from = from; to = to; copies = suc n })
-        (filter_map (λ x. direct_link from x (direct_copies f from x)) tos) (omega arith) h
+        All-cons (λ (l : Link From To). 0 < l.copies) (record { from = from; to = to; copies = suc n })
+        (links_from copies tos from) (omega arith) h
 
-exit_some : (f : FileTree) (from : ComponentPort) (tos : List ℕ) →
-    All (λ (l : ExitLink). 0 < l.copies) (filter_map (λ to. exit_link from to (exit_copies f from to)) tos)
-exit_some f from [] = All-nil (λ (l : ExitLink). 0 < l.copies)
-exit_some f from (to ∷ tos) = step (exit_copies f from to) (exit_some f from tos)
-  where
-    step : (n : ℕ) → All (λ (l : ExitLink). 0 < l.copies) (filter_map (λ x. exit_link from x (exit_copies f from x)) tos) →
-        All (λ (l : ExitLink). 0 < l.copies)
-        (cons_option (exit_link from to n) (filter_map (λ x. exit_link from x (exit_copies f from x)) tos))
-    step zero h = h
-    step (suc n) h =
-        All-cons (λ (l : ExitLink). 0 < l.copies) (record { from = from; to = to; copies = suc n })
-        (filter_map (λ x. exit_link from x (exit_copies f from x)) tos) (omega arith) h
+module _ {To : Type 0} (copies : ComponentPort → To → ℕ) (tos : List To) (flags : List Bool) (froms : List ComponentPort) where
+  abbrev all_links : List ComponentPort → List (Link ComponentPort To)
+  all_links = flat_map (links_from copies tos)
+
+  chosen_fewer : copies_of (all_links (chosen_from 0 flags froms)) ≤ copies_of (all_links froms)
+  chosen_fewer =
+      fewer (λ (l : Link ComponentPort To). l.copies) (links_from copies tos) (λ from. every_counts copies from tos) flags 0 froms
+
+  chosen_enough : copies_of (all_links (chosen_from 0 flags froms)) ≡ copies_of (all_links froms) →
+      all_links (chosen_from 0 flags froms) ≡ all_links froms
+  chosen_enough =
+      enough (λ (l : Link ComponentPort To). l.copies) (links_from copies tos) (λ from. every_counts copies from tos) flags 0 froms
 
 -- ---- All links of a text
 
-module _ (f : FileTree) (flags : List Bool) (sources : List ComponentPort) (links : List DirectLink) (entries : List EntryLink)
-    (exits : List ExitLink) (chosen : sources ≡ chosen_from 0 flags (output_ports f))
-    (links_are : links ≡ flat_map (direct_from f) sources)
+module _ (f : FileTree) (flags : List Bool) (sources : List ComponentPort) (links : List (Link ComponentPort ComponentPort))
+    (entries : List (Link ℕ ComponentPort)) (exits : List (Link ComponentPort ℕ))
+    (chosen : sources ≡ chosen_from 0 flags (output_ports f)) (links_are : links ≡ flat_map (direct_from f) sources)
     (entries_are : entries ≡ entry_links f) (exits_are : exits ≡ flat_map (exit_from f) sources)
-    (as_many :
-    link_count f
-    ≡ capped
-    (sum_by (λ (l : DirectLink). l.copies) links
-    + (sum_by (λ (l : EntryLink). l.copies) entries + sum_by (λ (l : ExitLink). l.copies) exits))) where
+    (as_many : link_count f ≡ capped (copies_of links + (copies_of entries + copies_of exits))) where
   from_chosen : links ≡ flat_map (direct_from f) (chosen_from 0 flags (output_ports f))
   from_chosen = links_are ∙ ap (flat_map (direct_from f)) chosen
 
   out_chosen : exits ≡ flat_map (exit_from f) (chosen_from 0 flags (output_ports f))
   out_chosen = exits_are ∙ ap (flat_map (exit_from f)) chosen
 
-  abbrev direct_copies_of : List DirectLink → ℕ
-  direct_copies_of = sum_by (λ (l : DirectLink). l.copies)
-
-  abbrev exit_copies_of : List ExitLink → ℕ
-  exit_copies_of = sum_by (λ (l : ExitLink). l.copies)
-
-  all_copies : (direct_copies_of links ≡ direct_copies_of (direct_links f))
-      × (exit_copies_of exits ≡ exit_copies_of (exit_links f))
+  all_copies : (copies_of links ≡ copies_of (direct_links f)) × (copies_of exits ≡ copies_of (exit_links f))
   all_copies =
-      let direct_fewer =
-      fewer (λ (l : DirectLink). l.copies) (direct_from f) (λ from. direct_some f from (input_ports f)) flags 0 (output_ports f)
-      in
-      let exit_fewer =
-      fewer (λ (l : ExitLink). l.copies) (exit_from f) (λ from. exit_some f from (root_ports (root_outputs f))) flags 0
-      (output_ports f) in
-      let direct_is = ap direct_copies_of from_chosen in
-      let exit_is = ap exit_copies_of out_chosen in
-      let entry_is = ap (sum_by (λ (l : EntryLink). l.copies)) entries_are in (
+      let direct_fewer = chosen_fewer (direct_copies f) (input_ports f) flags (output_ports f) in
+      let exit_fewer = chosen_fewer (exit_copies f) (root_ports (root_outputs f)) flags (output_ports f) in
+      let direct_is = ap copies_of from_chosen in
+      let exit_is = ap copies_of out_chosen in
+      let entry_is = ap copies_of entries_are in (
         omega (arith, direct_fewer, exit_fewer, direct_is, exit_is, entry_is, as_many),
         omega (arith, direct_fewer, exit_fewer, direct_is, exit_is, entry_is, as_many),
       )
@@ -172,13 +155,10 @@ module _ (f : FileTree) (flags : List Bool) (sources : List ComponentPort) (link
   pub direct_enough : links ≡ direct_links f
   direct_enough =
       from_chosen
-      ∙ enough (λ (l : DirectLink). l.copies) (direct_from f) (λ from. direct_some f from (input_ports f)) flags 0
-      (output_ports f)
-      (sym (ap direct_copies_of from_chosen) ∙ all_copies.0)
+      ∙ chosen_enough (direct_copies f) (input_ports f) flags (output_ports f) (sym (ap copies_of from_chosen) ∙ all_copies.0)
 
   pub exit_enough : exits ≡ exit_links f
   exit_enough =
       out_chosen
-      ∙ enough (λ (l : ExitLink). l.copies) (exit_from f) (λ from. exit_some f from (root_ports (root_outputs f))) flags 0
-      (output_ports f)
-      (sym (ap exit_copies_of out_chosen) ∙ all_copies.1)
+      ∙ chosen_enough (exit_copies f) (root_ports (root_outputs f)) flags (output_ports f)
+      (sym (ap copies_of out_chosen) ∙ all_copies.1)

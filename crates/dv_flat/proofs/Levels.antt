@@ -16,7 +16,8 @@ use Rattle.dv_tree.specs.declared.couplings.Target.TheVariants.{Own, OfPart}
 use Rattle.dv_tree.specs.declared.couplings.Coupling.{Coupling}
 use Rattle.dv_tree.specs.declared.entries.Entry.{Entry}
 use Rattle.dv_tree.proofs.Placed.{IsPlaced, nowhere, somewhere, is_placed, table_at}
-use Rattle.dv_flat.specs.Ways.{WayCounts, at_port, crossing_ways, inside_ways, joined_ways, model_ways, more_at, more_out, no_ways, output_ways, part_ways, ways_below, ways_from, ways_over, with_input, with_output}
+use Rattle.dv_flat.specs.Ways.{WayCounts, at_port, crossing_ways, inside_ways, joined_ways, model_ways, more_at, more_out, no_ways}
+use Rattle.dv_flat.specs.Ways.{output_ways, part_ways, ways_below, ways_from, ways_over, with_input, with_output}
 use Rattle.dv_flat.proofs.Trees.{tree_ways, ways_of_model}
 
 -- ---- Where no models are known, parts count for nothing
@@ -106,8 +107,8 @@ unknown_parts models m entries =
 module _ (models : List ModelTree) (below : List WayCounts) (inside : CoupledTree → PartTree)
     (known : (m : CoupledTree) →
     ways_of_model models m (part_ways below (entries_of models m)) ≡ ways_of_model models m (tree_ways models (inside m))) where
-  part_known : (p : Part) {o : Option ModelTree} {place : Option ℕ} (rest : PartTree) (entries : List Entry) → IsPlaced models o place →
-      part_ways (ways_over below models) entries ≡ tree_ways models rest →
+  part_known : (p : Part) {o : Option ModelTree} {place : Option ℕ} (rest : PartTree) (entries : List Entry) →
+      IsPlaced models o place → part_ways (ways_over below models) entries ≡ tree_ways models rest →
       part_ways (ways_over below models) (cons_option (option_map (entry_at p.name) place) entries)
       ≡ tree_ways models (with_part inside p.name o rest)
   part_known p rest entries nowhere h = h

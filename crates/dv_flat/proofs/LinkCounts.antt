@@ -1,6 +1,7 @@
 -- The links of a text, each counted as often as it has copies, are as many as there are copies that arrive and leave where each
 -- source sends one value.
-use Rattle.std.proofs.Common.{◌≡◌, ℕ, zero, suc, ◌+◌, List, [], ◌∷◌, length, map, get_or, replicate, refl, ap, sym, ◌∙◌, subst, arith}
+use Rattle.std.proofs.Common.{◌≡◌, ℕ, zero, suc, ◌+◌, List, [], ◌∷◌, length, map, get_or, replicate, refl, ap, sym}
+use Rattle.std.proofs.Common.{◌∙◌, subst, arith}
 use Rattle.std.specs.List.{All, sum_by}
 use Rattle.std.proofs.lemmas.List.Elements.{All-head, All-tail}
 use Rattle.dv_syntax.specs.Trees.{FileTree}
@@ -13,15 +14,13 @@ use Rattle.dv_tree.specs.Unions.{AllUnite, Unite}
 use Rattle.dv_tree.proofs.Linear.{arrives_united, leaves_united}
 use Rattle.dv_tree.proofs.Quiet.{arrives_nothing, leaves_nothing}
 use Rattle.dv_flat.specs.Ends.{input_ports, output_ports}
-use Rattle.dv_flat.specs.Links.{alone_at, direct_copies, direct_link, direct_links, entry_copies, entry_link, entry_links, exit_copies, exit_link, exit_links, root_ports, sent_alone}
+use Rattle.dv_flat.specs.Links.{alone_at, copies_of, direct_copies, direct_links, entry_copies, entry_links}
+use Rattle.dv_flat.specs.Links.{exit_copies, exit_links, root_ports, sent_alone}
 use Rattle.dv_flat.specs.declared.link.ComponentPort.{ComponentPort}
-use Rattle.dv_flat.specs.declared.link.DirectLink.{DirectLink}
-use Rattle.dv_flat.specs.declared.link.EntryLink.{EntryLink}
-use Rattle.dv_flat.specs.declared.link.ExitLink.{ExitLink}
 use Rattle.dv_flat.proofs.Alike.{Alike}
 use Rattle.dv_flat.proofs.Copies.{copies, copies_counted, copies_union}
 use Rattle.dv_flat.proofs.Sources.{AllSilent, IsSilent, all_left, all_outputs, all_ports, alone_are_bags, sent_are_bags, unite_left}
-use Rattle.dv_flat.proofs.LinkTotals.{links_sum}
+use Rattle.dv_flat.proofs.LinkTotals.{copies_total}
 use Rattle.dv_flat.proofs.Sums.{sums_none, sums_united}
 use Rattle.dv_flat.proofs.Trees.{one_at_each, one_value}
 
@@ -89,38 +88,38 @@ unite_silent a b none_a none_b = record {
   together = λ port. none_b port ∙ sym (ap (λ v. union v (bag_at b port)) (none_a port) ∙ ap (union []) (none_b port));
 }
 
+-- no values at any component
+abbrev nothing_sent : FileTree → List (List Counts)
+nothing_sent f = map (λ (i : Instance). []) (instances f)
+
+unite_nothing : (f : FileTree) (sent : List (List Counts)) → AllSilent sent → AllUnite sent (nothing_sent f) (nothing_sent f)
+unite_nothing f sent all k =
+    unite_silent (get_or sent k []) (get_or (nothing_sent f) k []) (all k) (silent_each (instances f) k)
+
 silence_arrives : (f : FileTree) (sent : List (List Counts)) (input : List Counts) → AllSilent sent → IsSilent input →
     Alike (arrival_count f sent input) 0
 silence_arrives f sent input all none =
-    let each = none_in_each (arrives f (map (λ (i : Instance). []) (instances f)) []) (arrives_nothing f 0) in
+    let each = none_in_each (arrives f (nothing_sent f) []) (arrives_nothing f 0) in
     let nothing =
-    sums_none (arrival_at (arrives f (map (λ (i : Instance). []) (instances f)) [])) (λ to. ap copies (each to.component to.port))
-    (input_ports f) in
+    sums_none (arrival_at (arrives f (nothing_sent f) [])) (λ to. ap copies (each to.component to.port)) (input_ports f) in
     let both =
-    arrivals_unite f input [] [] sent (map (λ (i : Instance). []) (instances f)) (map (λ (i : Instance). []) (instances f))
-    (unite_silent input [] none (λ port. refl))
-    (λ k. unite_silent (get_or sent k []) (get_or (map (λ (i : Instance). []) (instances f)) k []) (all k) (silent_each (instances f) k)) in
+    arrivals_unite f input [] [] sent (nothing_sent f) (nothing_sent f) (unite_silent input [] none (λ port. refl))
+    (unite_nothing f sent all) in
     omega (arith, nothing, both)
 
 silence_leaves : (f : FileTree) (sent : List (List Counts)) → AllSilent sent → Alike (exit_count f sent) 0
 silence_leaves f sent all =
-    let none = none_in (leaves f (map (λ (i : Instance). []) (instances f))) (leaves_nothing f) in
-    let nothing =
-    sums_none (exit_at f (map (λ (i : Instance). []) (instances f))) (λ port. ap copies (none port)) (root_ports (root_outputs f)) in
-    let both =
-    exits_unite f sent (map (λ (i : Instance). []) (instances f)) (map (λ (i : Instance). []) (instances f))
-    (λ k. unite_silent (get_or sent k []) (get_or (map (λ (i : Instance). []) (instances f)) k []) (all k) (silent_each (instances f) k)) in
+    let none = none_in (leaves f (nothing_sent f)) (leaves_nothing f) in
+    let nothing = sums_none (exit_at f (nothing_sent f)) (λ port. ap copies (none port)) (root_ports (root_outputs f)) in
+    let both = exits_unite f sent (nothing_sent f) (nothing_sent f) (unite_nothing f sent all) in
     omega (arith, nothing, both)
 
 -- ---- The three sorts of links
 
-pub direct_sum : (f : FileTree) →
-    Alike (sum_by (λ (l : DirectLink). l.copies) (direct_links f)) (arrival_count f (one_at_each (instances f)) [])
+pub direct_sum : (f : FileTree) → Alike (copies_of (direct_links f)) (arrival_count f (one_at_each (instances f)) [])
 direct_sum f =
     let each =
-    links_sum direct_link (λ from to n. record { from = from; to = to; copies = n }) (direct_copies f) (λ (l : DirectLink). l.copies)
-    (λ from to n. n) (λ from to. refl) (λ from to n. refl) (λ from to. refl) (λ from to n. refl)
-    (λ from. arrival_at (arrives f (sent_alone from) []))
+    copies_total (direct_copies f) (λ from. arrival_at (arrives f (sent_alone from) []))
     (λ from to. copies_counted _ (bags_arrive f (sent_alone from) [] (sent_are_bags from.component from.port) (λ port. tt)
     to.component to.port))
     (output_ports f) (input_ports f) in
@@ -130,25 +129,22 @@ direct_sum f =
     omega (arith, each, all)
 
 pub entry_sum : (f : FileTree) →
-    Alike (sum_by (λ (l : EntryLink). l.copies) (entry_links f)) (arrival_count f [] (replicate (length (root_inputs f)) one_value))
+    Alike (copies_of (entry_links f)) (arrival_count f [] (replicate (length (root_inputs f)) one_value))
 entry_sum f =
     let each =
-    links_sum entry_link (λ from to n. record { from = from; to = to; copies = n }) (entry_copies f) (λ (l : EntryLink). l.copies)
-    (λ from to n. n) (λ from to. refl) (λ from to n. refl) (λ from to. refl) (λ from to n. refl)
-    (λ from. arrival_at (arrives f [] (alone_at from)))
+    copies_total (entry_copies f) (λ from. arrival_at (arrives f [] (alone_at from)))
     (λ from to. copies_counted _ (bags_arrive f [] (alone_at from) (λ k port. tt) (alone_are_bags from) to.component to.port))
     (root_ports (root_inputs f)) (input_ports f) in
     let all =
-    all_ports (λ input. arrival_count f [] input) (λ a b c both. arrivals_unite f a b c [] [] [] both (λ k. unite_left [] (λ port. tt)))
+    all_ports (λ input. arrival_count f [] input)
+    (λ a b c both. arrivals_unite f a b c [] [] [] both (λ k. unite_left [] (λ port. tt)))
     (λ input none. silence_arrives f [] input (λ k port. refl) none) (length (root_inputs f)) in
     omega (arith, each, all)
 
-pub exit_sum : (f : FileTree) → Alike (sum_by (λ (l : ExitLink). l.copies) (exit_links f)) (exit_count f (one_at_each (instances f)))
+pub exit_sum : (f : FileTree) → Alike (copies_of (exit_links f)) (exit_count f (one_at_each (instances f)))
 exit_sum f =
     let each =
-    links_sum exit_link (λ from to n. record { from = from; to = to; copies = n }) (exit_copies f) (λ (l : ExitLink). l.copies)
-    (λ from to n. n) (λ from to. refl) (λ from to n. refl) (λ from to. refl) (λ from to n. refl)
-    (λ from. exit_at f (sent_alone from))
+    copies_total (exit_copies f) (λ from. exit_at f (sent_alone from))
     (λ from to. copies_counted _ (bags_leave f (sent_alone from) (sent_are_bags from.component from.port) to))
     (output_ports f) (root_ports (root_outputs f)) in
     let all =

@@ -1,5 +1,6 @@
 -- The loops over the parts of a coupled model, part by part.
-use Rattle.std.proofs.Common.{◌≡◌, ℕ, zero, suc, ◌+◌, ◌-◌, ◌^◌, ◌<◌, ◌≤◌, min, List, [], ◌∷◌, ◌++◌, length, map, get_or, drop, refl, ap, sym, ◌∙◌, add-one, arith}
+use Rattle.std.proofs.Common.{◌≡◌, ℕ, zero, suc, ◌+◌, ◌-◌, ◌^◌, ◌<◌, ◌≤◌, min, List, [], ◌∷◌, ◌++◌}
+use Rattle.std.proofs.Common.{length, map, get_or, drop, refl, ap, sym, ◌∙◌, add-one, arith}
 use Rattle.std.specs.List.{fold, sum_by}
 use Rattle.std.specs.Prelude.{Option, None}
 use Rattle.std.proofs.lemmas.List.{append_assoc, at_drop_more, drop_all, get_or-map, length-map}
@@ -8,7 +9,8 @@ use Rattle.dv_syntax.specs.Trees.{ModelTree, model_of}
 use Rattle.dv_syntax.specs.declared.tree.Model.{Model}
 use Rattle.dv_eval.specs.Scope.{Scope}
 use Rattle.dv_bag.specs.Bag.{capped}
-use Rattle.dv_flat.specs.Ways.{WayCounts, crossing_ways, joined_ways, model_ways, no_ways, output_ways, own_inputs, part_ways, ways_by, with_output}
+use Rattle.dv_flat.specs.Ways.{WayCounts, crossing_ways, joined_ways, model_ways, no_ways, output_ways}
+use Rattle.dv_flat.specs.Ways.{own_inputs, part_ways, ways_by, with_output}
 use Rattle.dv_tree.specs.declared.couplings.Coupling.{Coupling}
 use Rattle.dv_tree.specs.declared.entries.Entry.{Entry}
 use Rattle.dv_tree.specs.Nodes.{level_at}
@@ -29,7 +31,8 @@ output_ways-part [] (suc place) p parts ways = refl
 output_ways-part (cs ∷ couplings) zero p parts ways = refl
 output_ways-part (cs ∷ couplings) (suc place) p parts ways = output_ways-part couplings place p parts ways
 
-pub crossing_ways-part : (all : List WayCounts) (couplings : List (List Coupling)) (place : ℕ) (p : WayCounts) (parts : List WayCounts) →
+pub crossing_ways-part : (all : List WayCounts) (couplings : List (List Coupling)) (place : ℕ) (p : WayCounts)
+    (parts : List WayCounts) →
     crossing_ways all (drop place couplings) (p ∷ parts)
     ≡ sum_by (joined_ways all p.outputs) (get_or couplings place []) + crossing_ways all (drop (suc place) couplings) parts
 crossing_ways-part all [] zero p parts = refl
@@ -61,7 +64,8 @@ kept_step ways inside joined i j whole rest inside_is joined_is whole_is = omega
 pub inside_more : (below all : List WayCounts) (couplings : List (List Coupling)) (entries : List Entry) (d : Entry) (place : ℕ)
     (ways inside joined : ℕ) → place < length entries →
     inside ≡ (get_or below (get_or entries place d).model no_ways).inside →
-    joined ≡ capped (sum_by (joined_ways all (get_or below (get_or entries place d).model no_ways).outputs) (get_or couplings place [])) →
+    joined
+    ≡ capped (sum_by (joined_ways all (get_or below (get_or entries place d).model no_ways).outputs) (get_or couplings place [])) →
     capped (min (min (ways + inside) (2 ^ 64 - 1) + joined) (2 ^ 64 - 1)
     + inside_from all (drop (place + 1) couplings) (part_ways below (drop (place + 1) entries)))
     ≡ capped (ways + inside_from all (drop place couplings) (part_ways below (drop place entries)))
@@ -92,7 +96,8 @@ over_more below models items m place scopes levels scope level over pushed ways 
     ways_are pushed_is gathered =
     let made : List Model → List WayCounts = λ xs. map (model_ways below models) (map model_of xs) in
     let rest = drop (place + 1) items in
-    let one : made (drop place items) ≡ made (m ∷ rest) = at_drop_more made items place m within ∙ ap (λ x. made (x ∷ rest)) (sym read) in
+    let one : made (drop place items) ≡ made (m ∷ rest) =
+    at_drop_more made items place m within ∙ ap (λ x. made (x ∷ rest)) (sym read) in
     let by_scope : scope ≡ scope_of_model (model_of m) =
     scope_read items scopes place m scope (scopes_are ∙ ap (map scope_of_model) are) within read scope_is in
     let by_level : level ≡ level_of_model models (model_of m) =

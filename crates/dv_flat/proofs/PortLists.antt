@@ -1,5 +1,6 @@
 -- The ports of components, one component after the other.
-use Rattle.std.proofs.Common.{◌≡◌, ℕ, zero, suc, ◌+◌, Bool, true, false, cond, eqb, List, [], ◌∷◌, ◌++◌, map, drop, refl, ap, sym, ◌∙◌, ◌||◌, subst, arith}
+use Rattle.std.proofs.Common.{◌≡◌, ℕ, zero, suc, ◌+◌, Bool, true, false, cond, eqb, List, [], ◌∷◌, ◌++◌, map, drop}
+use Rattle.std.proofs.Common.{refl, ap, sym, ◌∙◌, ◌||◌, subst, arith}
 use Rattle.std.specs.Prelude.{Some, slice_get}
 use Rattle.std.specs.List.{AllByRecursion, IsDistinct, range_with_len}
 use Rattle.std.proofs.lemmas.List.{append_assoc}
@@ -20,7 +21,8 @@ apart_pushed : (x n : ℕ) (names : List ℕ) → eqb x n ≡ false → AllByRec
 apart_pushed x n [] e h = (e, tt)
 apart_pushed x n (y ∷ names) e h = (h.0, apart_pushed x n names e h.1)
 
-distinct_pushed : (n : ℕ) (names : List ℕ) → is_declared n names ≡ false → IsDistinct eqb names → IsDistinct eqb (names ++ n ∷ [])
+distinct_pushed : (n : ℕ) (names : List ℕ) → is_declared n names ≡ false → IsDistinct eqb names →
+    IsDistinct eqb (names ++ n ∷ [])
 unfolding IsDistinct
 distinct_pushed n [] e h = (tt, tt)
 distinct_pushed n (x ∷ names) e h =

@@ -1,5 +1,6 @@
 -- Sums of products of two lists, place by place.
-use Rattle.std.proofs.Common.{◌≡◌, ℕ, zero, suc, ◌+◌, ◌*◌, ◌≤◌, List, [], ◌∷◌, length, get_or, replicate, refl, ap, ◌∙◌, arith}
+use Rattle.std.proofs.Common.{◌≡◌, ℕ, zero, suc, ◌+◌, ◌*◌, ◌≤◌, List, [], ◌∷◌, length, get_or, replicate, refl}
+use Rattle.std.proofs.Common.{ap, ◌∙◌, arith}
 use Rattle.std.specs.List.{range_with_len, sum, sum_by}
 use Rattle.std.proofs.Math.ListN.{set}
 use Rattle.std.proofs.Math.Nat.{mul_comm}
@@ -90,7 +91,8 @@ product_ones (suc n) (y ∷ ys) short =
     omega (arith, rest, first)
 
 -- what stands at the first so many ports
-shifted : (x : ℕ) (xs : List ℕ) (a n : ℕ) → sum_by (at_port (x ∷ xs)) (range_with_len (suc a) n) ≡ sum_by (at_port xs) (range_with_len a n)
+shifted : (x : ℕ) (xs : List ℕ) (a n : ℕ) →
+    sum_by (at_port (x ∷ xs)) (range_with_len (suc a) n) ≡ sum_by (at_port xs) (range_with_len a n)
 shifted x xs a zero = refl
 shifted x xs a (suc n) =
     let first = sum_by-cons (at_port (x ∷ xs)) (suc a) (range_with_len (suc a + 1) n) in

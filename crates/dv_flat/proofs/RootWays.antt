@@ -1,5 +1,6 @@
 -- The links of a text, each counted as often as it has copies, are as many as the ways of its root.
-use Rattle.std.proofs.Common.{◌≡◌, ℕ, zero, suc, ◌+◌, ◌≤◌, List, [], ◌∷◌, length, map, get_or, replicate, drop, refl, ap, sym, ◌∙◌, arith}
+use Rattle.std.proofs.Common.{◌≡◌, ℕ, zero, suc, ◌+◌, ◌≤◌, List, [], ◌∷◌, length, map, get_or, replicate, drop}
+use Rattle.std.proofs.Common.{refl, ap, sym, ◌∙◌, arith}
 use Rattle.std.specs.Prelude.{Option, Some, None, option_map}
 use Rattle.std.specs.List.{range_with_len, sum, sum_by}
 use Rattle.std.proofs.lemmas.List.{length-map, length-replicate}
@@ -25,7 +26,8 @@ use Rattle.dv_flat.proofs.Products.{product, product_flip, product_ones, summed_
 use Rattle.dv_flat.proofs.Sources.{all_left, all_ones_are_bags, ones_are_bags, unite_right}
 use Rattle.dv_flat.proofs.Sums.{sum_by-map, sums_same}
 use Rattle.dv_flat.proofs.Through.{count_at, counts_of, inputs_of, length-input_ways, length-output_ways}
-use Rattle.dv_flat.proofs.Trees.{arrivals, counts_replicated, covers_into, covers_to, fits_to, leaving_counts, level_arrives, one_at_each, one_value, own_counts, sent_by, tree_arrives, tree_ways, ways_of_model}
+use Rattle.dv_flat.proofs.Trees.{arrivals, counts_replicated, covers_into, covers_to, fits_to, leaving_counts, level_arrives, one_at_each}
+use Rattle.dv_flat.proofs.Trees.{one_value, own_counts, sent_by, tree_arrives, tree_ways, ways_of_model}
 
 -- ---- Ports by number, and components one behind the other
 

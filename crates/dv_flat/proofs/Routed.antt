@@ -15,8 +15,8 @@ use Rattle.dv_flat.specs.Ends.{input_count, port_at}
 use Rattle.dv_flat.proofs.LinkSums.{links_arrive, links_leave}
 
 -- a list of bags that has so many, made port by port
-bags_made : (bag : ℕ → Counts) (n : ℕ) (bags : List Counts) → length bags ≡ n → ((port : ℕ) → bag port ≡ bag_at bags port) →
-    map bag (range_with_len 0 n) ≡ bags
+bags_made : (bag : ℕ → Counts) (n : ℕ) (bags : List Counts) → length bags ≡ n →
+    ((port : ℕ) → bag port ≡ bag_at bags port) → map bag (range_with_len 0 n) ≡ bags
 bags_made bag n bags long same =
     let made = map bag (range_with_len 0 n) in
     let made_long = length-map-range_with_len bag 0 n in

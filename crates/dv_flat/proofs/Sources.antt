@@ -1,5 +1,6 @@
 -- What is linear in what is sent: of all sources together it is the sum of what it is of each alone.
-use Rattle.std.proofs.Common.{◌≡◌, ℕ, zero, suc, ◌+◌, List, [], ◌∷◌, ◌++◌, map, get_or, replicate, refl, ap, sym, add-one, arith, lit<}
+use Rattle.std.proofs.Common.{◌≡◌, ℕ, zero, suc, ◌+◌, List, [], ◌∷◌, ◌++◌, map, get_or, replicate, refl, ap, sym}
+use Rattle.std.proofs.Common.{add-one, arith, lit<}
 use Rattle.std.specs.List.{range_with_len, sum_by}
 use Rattle.std.proofs.lemmas.List.Sums.{sum_by-append, sum_by-cons}
 use Rattle.dv_bag.specs.Bag.{Counts, IsBag, bag_at, union}

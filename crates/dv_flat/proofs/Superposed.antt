@@ -13,7 +13,7 @@ use Rattle.dv_flat.specs.Carried.{same_port, sent_at}
 use Rattle.dv_flat.specs.Ends.{output_count, output_ports, port_at}
 use Rattle.dv_flat.specs.Links.{alone_at, root_ports, sent_alone}
 use Rattle.dv_flat.specs.declared.link.ComponentPort.{ComponentPort}
-use Rattle.dv_flat.proofs.Alone.{entry_bag, entry_ticks, output_bag, output_ticks}
+use Rattle.dv_flat.proofs.Alone.{alone_bag, alone_ticks, entry_alone, output_alone}
 use Rattle.dv_flat.proofs.Capped.{total_by, total_by-merged, total_by-same, total_by-zero}
 use Rattle.dv_flat.proofs.Picked.{occurs_once, picked, same_port-true, tick, ticks_within}
 
@@ -96,8 +96,8 @@ module _ (f : FileTree) (sent : List (List Counts)) (are_bags : AllAreBags sent)
             arith,
             count_kept v (bag_at (get_or sent k []) port) (are_bags k port),
             total_by-same (λ from. count_of (pos 0) (bag_at (get_or (sent_alone from) k []) port) * by_output from)
-                (λ from. tick (test from) * by_output from) (λ from. ap (λ n. n * by_output from) (output_ticks from k port))
-                (output_ports f),
+                (λ from. tick (test from) * by_output from)
+                (λ from. ap (λ n. n * by_output from) (alone_ticks _ (test from) (output_alone from k port))) (output_ports f),
             picked test (port_at k port) (λ from e. same_port-true from (port_at k port) e) by_output (output_ports f),
             ap (λ n. n * by_output (port_at k port)) (occurs_once output_count (instances f) k port ∙ there),
             total_by-zero (λ from. 0 * count_of v (bag_at input from)) (λ from. omega arith) inputs,
@@ -106,7 +106,7 @@ module _ (f : FileTree) (sent : List (List Counts)) (are_bags : AllAreBags sent)
       where
         bags : (s : Senders) → IsBag (bag_at (get_or (sent_by sent s) k []) port)
         bags everybody = are_bags k port
-        bags (output from) = output_bag from k port
+        bags (output from) = alone_bag _ _ (output_alone from k port)
         bags (entry from) = tt
 
   -- at the inputs of the root
@@ -126,7 +126,8 @@ module _ (f : FileTree) (sent : List (List Counts)) (are_bags : AllAreBags sent)
             total_by-zero (λ from. 0 * count_of v (sent_at sent from)) (λ from. omega arith) (output_ports f),
             total_by-same (λ from. count_of (pos 0) (bag_at (alone_at from) port) * by_entry from)
                 (λ from. tick (test from) * by_entry from)
-                (λ from. ap (λ n. n * by_entry from) (entry_ticks from port)) (root_ports (root_inputs f)),
+                (λ from. ap (λ n. n * by_entry from) (alone_ticks _ (test from) (entry_alone from port)))
+                (root_ports (root_inputs f)),
             picked test port (λ from e. eqb-true from port e) by_entry (root_ports (root_inputs f)),
             ap (λ n. n * by_entry port) (ticks_within 0 (length (root_inputs f)) port port (omega arith) ∙ there),
           );
@@ -135,7 +136,7 @@ module _ (f : FileTree) (sent : List (List Counts)) (are_bags : AllAreBags sent)
         bags : (s : Senders) → IsBag (bag_at (come_by input s) port)
         bags everybody = come_bags port
         bags (output from) = tt
-        bags (entry from) = entry_bag from port
+        bags (entry from) = alone_bag _ _ (entry_alone from port)
 
     -- what arrives at the components
     pub arrives_superposed : (k port : ℕ) →

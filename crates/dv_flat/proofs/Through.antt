@@ -1,5 +1,6 @@
 -- What passes the couplings of a coupled model, counted: what comes to its parts, and what leaves it.
-use Rattle.std.proofs.Common.{◌≡◌, ℕ, ◌+◌, ◌*◌, ◌≤◌, List, [], ◌∷◌, length, map, get_or, replicate, refl, ap, sym, ◌∙◌, subst, arith}
+use Rattle.std.proofs.Common.{◌≡◌, ℕ, ◌+◌, ◌*◌, ◌≤◌, List, [], ◌∷◌, length, map, get_or, replicate, refl, ap}
+use Rattle.std.proofs.Common.{sym, ◌∙◌, subst, arith}
 use Rattle.std.specs.List.{fold, sum_by}
 use Rattle.std.proofs.Math.ListN.{get_or-map, set}
 use Rattle.std.proofs.Math.Nat.{mul_comm}
@@ -10,10 +11,12 @@ use Rattle.dv_tree.specs.Routing.{Arrived, along, along_all, joined_at, with_cou
 use Rattle.dv_tree.specs.declared.couplings.Target.{Target}
 use Rattle.dv_tree.specs.declared.couplings.Target.TheVariants.{Own, OfPart}
 use Rattle.dv_tree.specs.declared.couplings.Coupling.{Coupling}
-use Rattle.dv_flat.specs.Ways.{WayCounts, at_port, crossing_ways, input_ways, joined_ways, more_at, more_out, no_ways, output_ways, ways_from, with_input, with_output}
+use Rattle.dv_flat.specs.Ways.{WayCounts, at_port, crossing_ways, input_ways, joined_ways, more_at, more_out, no_ways, output_ways}
+use Rattle.dv_flat.specs.Ways.{ways_from, with_input, with_output}
 use Rattle.dv_flat.proofs.Alike.{Alike}
 use Rattle.dv_flat.proofs.Copies.{copies, copies_union}
-use Rattle.dv_flat.proofs.Products.{Covers, covers_more, length-more_at, more_in, product, product_flip, product_more, product_zeros, products, products_more}
+use Rattle.dv_flat.proofs.Products.{Covers, covers_more, length-more_at, more_in, product, product_flip}
+use Rattle.dv_flat.proofs.Products.{product_more, product_zeros, products, products_more}
 
 -- the copies at each port, and at each port of each part
 abbrev pub counts_of : List Counts → List ℕ
@@ -71,7 +74,8 @@ length-more_out : (t : Target) (more : ℕ) (ways : List ℕ) → length (more_o
 length-more_out (Own port) more ways = length-more_at port more ways
 length-more_out (OfPart part port) more ways = refl
 
-length-with_outputs : (outputs : List ℕ) (cs : List Coupling) (ways : List ℕ) → length (fold (with_output outputs) ways cs) ≡ length ways
+length-with_outputs : (outputs : List ℕ) (cs : List Coupling) (ways : List ℕ) →
+    length (fold (with_output outputs) ways cs) ≡ length ways
 length-with_outputs outputs [] ways = refl
 length-with_outputs outputs (c ∷ cs) ways =
     length-with_outputs outputs cs (with_output outputs ways c) ∙ length-more_out c.target (at_port outputs c.port) ways
@@ -110,7 +114,8 @@ pub covers_all : (couplings : List (List Coupling)) (leaving : List (List Counts
     Covers (counts_in a.parts) ways → Covers (counts_in (along_all couplings leaving a).parts) ways
 covers_all [] leaving a ways h = h
 covers_all (cs ∷ couplings) [] a ways h = h
-covers_all (cs ∷ couplings) (bags ∷ leaving) a ways h = covers_all couplings leaving (along cs bags a) ways (covers_along cs bags a ways h)
+covers_all (cs ∷ couplings) (bags ∷ leaving) a ways h =
+    covers_all couplings leaving (along cs bags a) ways (covers_along cs bags a ways h)
 
 -- the copies that go on from what has come to parts
 abbrev pub onward : Arrived → List WayCounts → ℕ

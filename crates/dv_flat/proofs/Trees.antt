@@ -1,6 +1,7 @@
 -- Where every output of every component sends one value, the ways through the parts of a tree say how many copies leave each part,
 -- and how many arrive in all.
-use Rattle.std.proofs.Common.{◌≡◌, ℕ, zero, suc, ◌+◌, ◌≤◌, List, [], ◌∷◌, ◌++◌, length, map, replicate, take, drop, refl, ap, sym, ◌∙◌, pos, arith}
+use Rattle.std.proofs.Common.{◌≡◌, ℕ, zero, suc, ◌+◌, ◌≤◌, List, [], ◌∷◌, ◌++◌, length, map, replicate, take}
+use Rattle.std.proofs.Common.{drop, refl, ap, sym, ◌∙◌, pos, arith}
 use Rattle.std.specs.Prelude.{Option, Some, None, option_map}
 use Rattle.std.specs.List.{cons_option, filter_map, range_with_len, sum_by}
 use Rattle.std.proofs.lemmas.List.{drop_at, length-map, length-replicate, map-append, take_at}
@@ -24,7 +25,8 @@ use Rattle.dv_flat.specs.Ways.{WayCounts, at_port, component_ways, coupled_ways,
 use Rattle.dv_flat.proofs.Alike.{Alike}
 use Rattle.dv_flat.proofs.Copies.{copies}
 use Rattle.dv_flat.proofs.Products.{Covers, no_more, one_more, product, product_zeros, products, products_none, summed_up_to}
-use Rattle.dv_flat.proofs.Through.{counts_all, counts_in, counts_of, covers_all, covers_along, inputs_of, length-input_ways, on_all, on_along, on_from_inputs, outputs_of}
+use Rattle.dv_flat.proofs.Through.{counts_all, counts_in, counts_of, covers_all, covers_along, inputs_of, length-input_ways, on_all}
+use Rattle.dv_flat.proofs.Through.{on_along, on_from_inputs, outputs_of}
 
 -- the ways of the parts of a tree
 abbrev pub ways_of_model : List ModelTree → CoupledTree → List WayCounts → WayCounts
@@ -61,7 +63,8 @@ module _ (name : Name) (m : CoupledTree) (inside rest : PartTree) (path : List �
       map-append (λ (i : Instance). replicate (output_count i.model) one_value) (instances_in (path ++ name.number ∷ []) inside)
       (instances_in path rest)
 
-  sent_inside : take (component_count inside) (sent_by path (CoupledPart name m inside rest)) ≡ sent_by (path ++ name.number ∷ []) inside
+  sent_inside :
+      take (component_count inside) (sent_by path (CoupledPart name m inside rest)) ≡ sent_by (path ++ name.number ∷ []) inside
   sent_inside =
       ap (take (component_count inside)) sent_apart
       ∙ take_at (sent_by (path ++ name.number ∷ []) inside) (sent_by path rest) (component_count inside)
@@ -151,7 +154,8 @@ level_arrives models m parts leaves input total e covers short all =
     let third = on_from_inputs (length m.inputs) parts (counts_of input) own (omega (arith, short, length-map input copies)) in
     omega (arith, first, second, none, third, all)
 
-pub covers_into : (models : List ModelTree) (m : CoupledTree) (ways : List (List ℕ)) (leaves : List (List Counts)) (input : List Counts) →
+pub covers_into : (models : List ModelTree) (m : CoupledTree) (ways : List (List ℕ)) (leaves : List (List Counts))
+    (input : List Counts) →
     Covers (counts_in (nothing_at models m).parts) ways → Covers (counts_in (to_parts models m input leaves)) ways
 covers_into models m ways leaves input covers =
     covers_along (couplings_of_inputs models m) input (from_parts models m leaves) ways
@@ -214,8 +218,8 @@ module _ (models : List ModelTree) (inside : CoupledTree → PartTree) where
   fits_part name (Some (AtomicModel m)) rest covers below h = atomic name m h
   fits_part name (Some (CoupledModel m)) rest covers below h = coupled name m (covers m) (below m) h
 
-  fits_parts : (parts : List Part) → ((m : CoupledTree) → FitsParts models m (inside m)) → ((m : CoupledTree) → Fitting models (inside m)) →
-      Fitting models (parts_by inside models parts)
+  fits_parts : (parts : List Part) → ((m : CoupledTree) → FitsParts models m (inside m)) →
+      ((m : CoupledTree) → Fitting models (inside m)) → Fitting models (parts_by inside models parts)
   fits_parts [] covers below = no_parts
   fits_parts (p ∷ parts) covers below =
       fits_part p.name (model_named p.model.number models) (parts_by inside models parts) covers below (fits_parts parts covers below)

@@ -7,9 +7,7 @@ use Rattle.dv_bag.specs.Bag.{Counts, bag_at, capped, union}
 use Rattle.dv_flat.specs.Ends.{input_count, port_at}
 use Rattle.dv_flat.specs.Links.{direct_links, entry_links, exit_links, root_ports}
 use Rattle.dv_flat.specs.declared.link.ComponentPort.{ComponentPort}
-use Rattle.dv_flat.specs.declared.link.DirectLink.{DirectLink}
-use Rattle.dv_flat.specs.declared.link.EntryLink.{EntryLink}
-use Rattle.dv_flat.specs.declared.link.ExitLink.{ExitLink}
+use Rattle.dv_flat.specs.declared.link.Link.{Link}
 
 -- a bag with each value so many times
 abbrev pub times : ℕ → Counts → Counts
@@ -19,29 +17,25 @@ times n (p ∷ ps) = (p.0, capped (p.1 * n)) ∷ times n ps
 abbrev pub same_port : ComponentPort → ComponentPort → Bool
 same_port a b = (a.component == b.component) && (a.port == b.port)
 
--- what the components send at a port, and with what it carries a link that begins there
+-- what the components send at a port
 abbrev pub sent_at : List (List Counts) → ComponentPort → Counts
 sent_at sent from = bag_at (slice_index_or sent from.component []) from.port
 
-abbrev pub with_direct : List (List Counts) → Counts → DirectLink → Counts
-with_direct sent bag l = union bag (times l.copies (sent_at sent l.from))
-
-abbrev pub with_entry : List Counts → Counts → EntryLink → Counts
-with_entry input bag l = union bag (times l.copies (bag_at input l.from))
-
-abbrev pub with_exit : List (List Counts) → Counts → ExitLink → Counts
-with_exit sent bag l = union bag (times l.copies (sent_at sent l.from))
+-- with what a link carries, by what is sent at its first end
+abbrev pub with_link : {From To : Type 0} → (From → Counts) → Counts → Link From To → Counts
+with_link sent bag l = union bag (times l.copies (sent l.from))
 
 -- what arrives at an input port of a component: by the direct links that lead there, and by the entry links
 abbrev pub carried_to : FileTree → List (List Counts) → List Counts → ComponentPort → Counts
 carried_to f sent input to =
-    fold (with_entry input)
-    (fold (with_direct sent) [] (filter (λ (l : DirectLink). same_port l.to to) (direct_links f)))
-    (filter (λ (l : EntryLink). same_port l.to to) (entry_links f))
+    fold (with_link (bag_at input))
+    (fold (with_link (sent_at sent)) [] (filter (λ (l : Link ComponentPort ComponentPort). same_port l.to to) (direct_links f)))
+    (filter (λ (l : Link ℕ ComponentPort). same_port l.to to) (entry_links f))
 
 -- what leaves by an output port of the root
 abbrev pub carried_out : FileTree → List (List Counts) → ℕ → Counts
-carried_out f sent port = fold (with_exit sent) [] (filter (λ (l : ExitLink). l.to == port) (exit_links f))
+carried_out f sent port =
+    fold (with_link (sent_at sent)) [] (filter (λ (l : Link ComponentPort ℕ). l.to == port) (exit_links f))
 
 -- what arrives at the components from a number on, port by port
 abbrev pub carried_from : FileTree → List (List Counts) → List Counts → ℕ → List Instance → List (List Counts)

@@ -1,6 +1,5 @@
 -- The limit on links, counted with copies.
 use Rattle.std.specs.Prelude.{◌≡◌, ℕ, ◌+◌, nat_lt, if◌then◌else◌, Option, Some, None}
-use Rattle.std.specs.List.{sum_by}
 use Rattle.std.specs.Option.{option_or}
 use Rattle.dv_syntax.specs.Trees.{FileTree}
 use Rattle.dv_lex.specs.declared.error.Refusal.{Refusal}
@@ -8,17 +7,12 @@ use Rattle.dv_lex.specs.declared.error.RefusalNumber.TheVariants.{E17}
 use Rattle.dv_lex.specs.declared.error.LoadError.{LoadError}
 use Rattle.dv_lex.specs.declared.error.LoadError.TheVariants.{Refused, Memory}
 use Rattle.dv_check.specs.Refusals.{refusal_of}
-use Rattle.dv_flat.specs.Links.{direct_links, entry_links, exit_links}
+use Rattle.dv_flat.specs.Links.{copies_of, direct_links, entry_links, exit_links}
 use Rattle.dv_flat.specs.declared.TheConstants.{GREATEST_LINKS}
-use Rattle.dv_flat.specs.declared.link.DirectLink.{DirectLink}
-use Rattle.dv_flat.specs.declared.link.EntryLink.{EntryLink}
-use Rattle.dv_flat.specs.declared.link.ExitLink.{ExitLink}
 
 -- how many links a file has, each counted as often as it has copies
 abbrev pub link_count : FileTree → ℕ
-link_count f =
-    sum_by (λ (l : DirectLink). l.copies) (direct_links f)
-    + (sum_by (λ (l : EntryLink). l.copies) (entry_links f) + sum_by (λ (l : ExitLink). l.copies) (exit_links f))
+link_count f = copies_of (direct_links f) + (copies_of (entry_links f) + copies_of (exit_links f))
 
 -- the refusal for too many links names the root
 abbrev pub link_refusal : FileTree → Option Refusal

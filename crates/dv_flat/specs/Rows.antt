@@ -7,5 +7,6 @@ use Rattle.dv_tree.specs.Rows.{coupled_of, link_of, part_of, text_of}
 abbrev pub two_ways : FileTree
 two_ways =
     text_of (part_of 2 3 ∷ part_of 5 1 ∷ [])
-    (link_of (Some 2) 11 (Some 5) 10 ∷ link_of (Some 2) 13 (Some 5) 10 ∷ link_of None 10 (Some 5) 10 ∷ link_of (Some 5) 11 None 11 ∷ [])
+    (link_of (Some 2) 11 (Some 5) 10 ∷ link_of (Some 2) 13 (Some 5) 10 ∷ link_of None 10 (Some 5) 10
+    ∷ link_of (Some 5) 11 None 11 ∷ [])
     (CoupledModel (coupled_of 3 (part_of 4 1 ∷ []) (link_of (Some 4) 11 None 11 ∷ link_of (Some 4) 11 None 13 ∷ [])) ∷ [])

@@ -1,17 +1,16 @@
 -- Tokens: each source, an output port of a component, sends a value of its own, and so does each input port of the root.
-use Rattle.std.specs.Prelude.{ℕ, zero, suc, ◌+◌, ◌<◌, Bool, false, if◌then◌else◌, List, [], ◌∷◌, ◌++◌, length, map, fold, replicate, slice_index_or, slice_set, Option, Some, None, ℤ, pos, negsuc}
-use Rattle.std.specs.List.{filter_map, range_with_len}
+use Rattle.std.specs.Prelude.{ℕ, zero, suc, ◌+◌, ◌<◌, Bool, false, if◌then◌else◌, List, [], ◌∷◌, ◌++◌, length}
+use Rattle.std.specs.Prelude.{map, fold, replicate, slice_index_or, slice_set, Option, Some, None, ℤ, pos, negsuc}
+use Rattle.std.specs.List.{range_with_len}
 use Rattle.dv_syntax.specs.Trees.{FileTree}
 use Rattle.dv_bag.specs.Bag.{Counts, bag_at, with_copies}
 use Rattle.dv_tree.specs.Instances.{Instance, instances, root_inputs, root_outputs}
 use Rattle.dv_tree.specs.Routing.{arrives, leaves}
 use Rattle.dv_flat.specs.Ends.{input_ports, output_count}
-use Rattle.dv_flat.specs.Links.{direct_copies, direct_link, exit_copies, exit_link, root_ports}
+use Rattle.dv_flat.specs.Links.{direct_copies, exit_copies, links_from, root_ports}
 use Rattle.dv_flat.specs.declared.arrivals.Arrival.{Arrival}
 use Rattle.dv_flat.specs.declared.link.ComponentPort.{ComponentPort}
-use Rattle.dv_flat.specs.declared.link.DirectLink.{DirectLink}
-use Rattle.dv_flat.specs.declared.link.EntryLink.{EntryLink}
-use Rattle.dv_flat.specs.declared.link.ExitLink.{ExitLink}
+use Rattle.dv_flat.specs.declared.link.Link.{Link}
 
 -- a token once
 abbrev pub token : ℕ → Counts
@@ -87,11 +86,11 @@ departure_lists f sources =
     fold (with_output (left_tokens f sources)) (replicate (length sources) []) (root_ports (root_outputs f))
 
 -- the links of one source
-abbrev pub direct_from : FileTree → ComponentPort → List DirectLink
-direct_from f from = filter_map (λ to. direct_link from to (direct_copies f from to)) (input_ports f)
+abbrev pub direct_from : FileTree → ComponentPort → List (Link ComponentPort ComponentPort)
+direct_from f = links_from (direct_copies f) (input_ports f)
 
-abbrev pub exit_from : FileTree → ComponentPort → List ExitLink
-exit_from f from = filter_map (λ to. exit_link from to (exit_copies f from to)) (root_ports (root_outputs f))
+abbrev pub exit_from : FileTree → ComponentPort → List (Link ComponentPort ℕ)
+exit_from f = links_from (exit_copies f) (root_ports (root_outputs f))
 
 -- the sources at whose places a flag stands
 abbrev pub chosen_from : ℕ → List Bool → List ComponentPort → List ComponentPort
@@ -100,16 +99,10 @@ chosen_from k flags (from ∷ froms) =
     if slice_index_or flags k false then from ∷ chosen_from (suc k) flags froms else chosen_from (suc k) flags froms
 
 -- the links of a source, by its arrivals
-abbrev pub direct_to : ComponentPort → List (Arrival ComponentPort) → List DirectLink
-direct_to from arrivals = map (λ (a : Arrival ComponentPort). record { from = from; to = a.to; copies = a.copies }) arrivals
-
-abbrev pub entry_to : ℕ → List (Arrival ComponentPort) → List EntryLink
-entry_to from arrivals = map (λ (a : Arrival ComponentPort). record { from = from; to = a.to; copies = a.copies }) arrivals
-
-abbrev pub exit_to : ComponentPort → List (Arrival ℕ) → List ExitLink
-exit_to from arrivals = map (λ (a : Arrival ℕ). record { from = from; to = a.to; copies = a.copies }) arrivals
+abbrev pub links_to : {From To : Type 0} → From → List (Arrival To) → List (Link From To)
+links_to {To = To} from arrivals = map (λ (a : Arrival To). record { from = from; to = a.to; copies = a.copies }) arrivals
 
 -- those of all sources, whose lists of arrivals stand from a place on
-abbrev pub links_of : {X T L : Type 0} → (X → List (Arrival T) → List L) → List (List (Arrival T)) → ℕ → List X → List L
-links_of make lists k [] = []
-links_of make lists k (from ∷ froms) = make from (slice_index_or lists k []) ++ links_of make lists (suc k) froms
+abbrev pub links_of : {From To : Type 0} → List (List (Arrival To)) → ℕ → List From → List (Link From To)
+links_of lists k [] = []
+links_of lists k (from ∷ froms) = links_to from (slice_index_or lists k []) ++ links_of lists (suc k) froms

@@ -1,6 +1,7 @@
 -- How many ways lead through models, counted from the ways through the models of their parts, without a tree. A number past the
 -- greatest that is kept stands as that one.
-use Rattle.std.specs.Prelude.{ℕ, zero, suc, ◌+◌, ◌*◌, List, [], ◌∷◌, length, map, replicate, fold, sum, slice_set, slice_index_or, Option, Some, None}
+use Rattle.std.specs.Prelude.{ℕ, zero, suc, ◌+◌, ◌*◌, List, [], ◌∷◌, length, map, replicate, fold, sum, slice_set}
+use Rattle.std.specs.Prelude.{slice_index_or, Option, Some, None}
 use Rattle.std.specs.List.{sum_by}
 use Rattle.dv_syntax.specs.Trees.{ModelTree, AtomicModel, CoupledModel}
 use Rattle.dv_bag.specs.Bag.{capped}

@@ -11,7 +11,8 @@ ghost use Rattle.dv_flat.specs.Carried.{arrives_by_links, carried_out, carried_t
 ghost use Rattle.dv_flat.specs.Ends.{port_at};
 ghost use Rattle.dv_flat.specs.Links.{direct_links, entry_links, exit_links};
 ghost use Rattle.dv_flat.specs.Rows.{two_ways};
-ghost use Rattle.dv_flat.specs.declared.link.DirectLink as direct;
+ghost use Rattle.dv_flat.specs.declared.link.ComponentPort.{ComponentPort};
+ghost use Rattle.dv_flat.specs.declared.link.Link.{Link};
 
 use dv_check::laws::accepted_files;
 
@@ -33,7 +34,8 @@ pub fn links_route_as_the_tree()
 /// No component of an accepted text is linked to itself.
 pub fn no_component_is_linked_to_itself()
     ensures { (f : FileTree) → refusal_of f ≡ None
-        → All (λ (l : direct.DirectLink). l.from.component ≢ l.to.component) (direct_links f) }
+        → All (λ (l : Link ComponentPort ComponentPort). l.from.component ≢ l.to.component)
+        (direct_links f) }
 {
     accepted_files();
 }

@@ -11,6 +11,8 @@ pub mod laws;
 mod limit;
 /// Links between ports.
 pub mod link;
+/// Lists of links.
+mod links;
 /// Which outputs lead on.
 mod live;
 /// The ports of the components.
@@ -19,7 +21,7 @@ mod ports;
 mod tokens;
 
 pub use flat::{Flat, flatten};
-pub use link::{ComponentPort, DirectLink, EntryLink, ExitLink};
+pub use link::{ComponentPort, DirectLink, EntryLink, ExitLink, Link};
 
 /// The most links of a text, each counted as often as it has copies.
 pub const GREATEST_LINKS: u64 = 65_536;

@@ -7,26 +7,20 @@ pub struct ComponentPort {
     pub port: u32,
 }
 
-/// From an output port of a component to an input port of another. Of each value that is sent so many copies arrive.
+/// A link from one port to another. Of each value that is sent at the one so many copies arrive at the other: as many as
+/// ways lead there.
 #[derive(Clone, Copy, Debug, PartialEq, Eq)]
-pub struct DirectLink {
-    pub from: ComponentPort,
-    pub to: ComponentPort,
+pub struct Link<From, To> {
+    pub from: From,
+    pub to: To,
     pub copies: u64,
 }
+
+/// From an output port of a component to an input port of another.
+pub type DirectLink = Link<ComponentPort, ComponentPort>;
 
 /// From an input port of the root, by its place, to an input port of a component.
-#[derive(Clone, Copy, Debug, PartialEq, Eq)]
-pub struct EntryLink {
-    pub from: u32,
-    pub to: ComponentPort,
-    pub copies: u64,
-}
+pub type EntryLink = Link<u32, ComponentPort>;
 
 /// From an output port of a component to an output port of the root, by its place.
-#[derive(Clone, Copy, Debug, PartialEq, Eq)]
-pub struct ExitLink {
-    pub from: ComponentPort,
-    pub to: u32,
-    pub copies: u64,
-}
+pub type ExitLink = Link<ComponentPort, u32>;

@@ -3,7 +3,9 @@
 ghost use Rattle.std.specs.Prelude.{◌≡◌, ◌++◌, false, length, map, nat_eq, slice_index_or, IfOk, OnOk};
 ghost use Rattle.std.specs.List.{IsDistinct, range_with_len};
 ghost use Rattle.dv_syntax.specs.Trees.{file_of};
+ghost use Rattle.dv_tree.specs.Instances.{root_inputs};
 ghost use Rattle.dv_flat.specs.Ends.{input_ports, output_ports, port_at};
+ghost use Rattle.dv_flat.specs.Links.{root_ports};
 ghost use Rattle.dv_flat.specs.Tokens.{chosen_from};
 
 use crate::link::ComponentPort;
@@ -40,6 +42,22 @@ pub(crate) fn input_ports(alloc: Global, tree: &Tree) -> Result<Vec<ComponentPor
     let mut ports = Vec::new(alloc);
     for component in 0..tree.component_count() {
         add_ports(component as u32, tree.scope(component).inputs(), &mut ports)?;
+    }
+    Ok(ports)
+}
+
+/// The input ports of the root, by their places.
+///
+/// # Errors
+///
+/// No memory for the ports.
+pub(crate) fn root_inputs(alloc: Global, tree: &Tree) -> Result<Vec<u32>, AllocError>
+    ensures { IfOk result (λ ports. ports.items
+        ≡ root_ports (root_inputs (file_of tree.now.file))) }
+{
+    let mut ports = Vec::new(alloc);
+    for port in 0..tree.input_count() {
+        ports.push(port as u32)?;
     }
     Ok(ports)
 }

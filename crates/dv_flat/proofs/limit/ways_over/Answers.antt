@@ -16,5 +16,6 @@ loop-place-preserved c =
     (ap (map model_of) (sym items)) c.scopes-scopes.ensures c.levels-levels.ensures c.loop-place-test.true c.model-item.is
     c.index-scopes-place.is c.level_at-level.ensures
     (c.in_ok-ways_by.ensures
-    ∙ ap (λ n. ways_by n c.index-scopes-place.result (option_copied c.level_at-level.result) c.args.below.now) c.own_inputs-inputs.ensures)
+    ∙ ap (λ n. ways_by n c.index-scopes-place.result (option_copied c.level_at-level.result) c.args.below.now)
+    c.own_inputs-inputs.ensures)
     c.in_ok-push.ensures.items at.invariant

@@ -17,4 +17,5 @@ loop-component-preserved c =
     let f = file_of c.args.tree.now.file in
     let at = instance_at (instances f) c.loop-component.component c.scope.result.now c.scope.ensures in
     ports_step at output_count (length c.outputs.result.now) c.loop-component.ports.items c.add_ports.new.ports.items (output_ports f)
-    (ap (λ (s : Scope). length s.outputs) at.scope ∙ sym (ap length c.outputs.ensures)) c.in_ok-add_ports.ensures c.loop-component.invariant
+    (ap (λ (s : Scope). length s.outputs) at.scope ∙ sym (ap length c.outputs.ensures)) c.in_ok-add_ports.ensures
+    c.loop-component.invariant
