@@ -8,9 +8,7 @@ use crate::runs::Runs;
 use crate::shapes::tables_of_each_slot;
 use crate::taken::{Answers, taken};
 use dv_bag::{Arrivals, RuleError, State};
-use dv_code::{
-    Action, Binary, Instruction, Leaf, ProgramSort, Shape, Source, Unary, Valid,
-};
+use dv_code::{Action, Binary, Instruction, Leaf, ProgramSort, Shape, Source, Unary, Valid};
 use std::alloc::{AllocError, Global};
 use std::marker::Brand;
 use std::process::Abort;
