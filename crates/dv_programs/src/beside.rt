@@ -4,6 +4,7 @@ use crate::compiled::{Compiled, Pair, Tree};
 use crate::fitting::{Level, are_few, deliveries, state_at};
 use crate::runs::Runs;
 use dv_bag::{Arrivals, Effect, RuleError, Sent, State, Value};
+use dv_code::Valid;
 use dv_eval::{Context, Moment, Scope, eval, run_rule};
 use dv_syntax::{Expr, Stmt};
 use std::alloc::{AllocError, Global};
@@ -25,24 +26,27 @@ enum Likeness {
     Different,
 }
 
+/// How a program and its tree compare, if the program ran.
 fn likeness_of<T: PartialEq>(
-    by_code: &Result<T, RuleError>,
+    by_code: &Option<Result<T, RuleError>>,
     by_tree: &Result<T, RuleError>,
-) -> Likeness {
+) -> Option<Likeness> {
     match (by_code, by_tree) {
-        (Ok(one), Ok(other)) if one == other => Likeness::SameEffect,
-        (Err(RuleError::Fault(one)), Err(RuleError::Fault(other))) if one == other => {
-            Likeness::SameFault
+        (None, _) => None,
+        (Some(Ok(one)), Ok(other)) if one == other => Some(Likeness::SameEffect),
+        (Some(Err(RuleError::Fault(one))), Err(RuleError::Fault(other))) if one == other => {
+            Some(Likeness::SameFault)
         }
-        _ => Likeness::Different,
+        _ => Some(Likeness::Different),
     }
 }
 
-/// What is sent by an effect, or its fault.
-fn sent_by(effect: &Result<Effect, RuleError>) -> Result<Result<Sent, RuleError>, AllocError> {
-    match effect {
-        Ok(effect) => Ok(Ok(effect.sent.clone()?)),
-        Err(error) => Ok(Err(*error)),
+/// Whether a program has sent what the effect of its tree has, or had the same fault.
+fn is_sent(by_code: &Result<Sent, RuleError>, by_tree: &Result<Effect, RuleError>) -> bool {
+    match (by_code, by_tree) {
+        (Ok(sent), Ok(effect)) => *sent == effect.sent,
+        (Err(RuleError::Fault(one)), Err(RuleError::Fault(other))) => one == other,
+        _ => false,
     }
 }
 
@@ -60,6 +64,19 @@ fn hold_by_tree(ticks: &Expr, state: &State, scope: &Scope) -> Result<i64, RuleE
     }
 }
 
+/// Runs a program for what it sends, if it is that of an output rule, and fails the test where its tree sends otherwise.
+fn compare_output<L: Ledger>(
+    rt: &impl Abort,
+    runs: &mut Runs<L>,
+    program: &Valid,
+    state: &State,
+    by_tree: &Result<Effect, RuleError>,
+) {
+    if let Some(sent) = runs.output(program, state) {
+        assert!(rt; is_sent(&sent, by_tree), "{:?}", program.code());
+    }
+}
+
 impl Endings {
     /// No runs yet.
     pub fn none() -> Self {
@@ -69,7 +86,16 @@ impl Endings {
         }
     }
 
-    /// Runs a program and its tree from a state, and fails the test where they differ.
+    /// Counts a run, and fails the test where a program and its tree differ, or the program did not run.
+    fn count(&mut self, rt: &impl Abort, program: &Valid, found: Option<Likeness>) {
+        match found {
+            Some(Likeness::SameEffect) => self.effects = self.effects.saturating_add(1),
+            Some(Likeness::SameFault) => self.faults = self.faults.saturating_add(1),
+            _ => assert!(rt; false, "{found:?} of {:?}", program.code()),
+        }
+    }
+
+    /// Runs a program and its tree from a state.
     fn compare<R: Abort + AllocGlobal, L: Ledger>(
         &mut self,
         rt: &R,
@@ -78,34 +104,19 @@ impl Endings {
         state: &State,
         arrivals: &Arrivals,
         scope: &Scope,
-    ) -> Result<(), AllocError> {
-        let program = pair.program;
+    ) {
         let found = match pair.tree {
             Tree::Rule(statements) => {
                 let by_tree = run_rule(rt.alloc(), statements, state, arrivals, scope);
-                let by_code = runs.rule(program, state.clone()?, arrivals);
-                if let Some(sent) = runs.output(program, state) {
-                    let likeness = likeness_of(&sent, &sent_by(&by_tree)?);
-                    assert!(rt;
-                        likeness != Likeness::Different,
-                        "{:?} at {state:?}",
-                        program.code()
-                    );
-                }
-                by_code.map(|by_code| likeness_of(&by_code, &by_tree))
+                compare_output(rt, runs, pair.program, state, &by_tree);
+                likeness_of(&runs.rule(pair.program, state, arrivals), &by_tree)
             }
-            Tree::Hold(ticks) => {
-                let by_tree = hold_by_tree(ticks, state, scope);
-                let by_code = runs.hold(program, state);
-                by_code.map(|by_code| likeness_of(&by_code, &by_tree))
-            }
+            Tree::Hold(ticks) => likeness_of(
+                &runs.hold(pair.program, state),
+                &hold_by_tree(ticks, state, scope),
+            ),
         };
-        match found {
-            Some(Likeness::SameEffect) => self.effects = self.effects.saturating_add(1),
-            Some(Likeness::SameFault) => self.faults = self.faults.saturating_add(1),
-            _ => assert!(rt; false, "{found:?} of {:?} at {state:?}", program.code()),
-        }
-        Ok(())
+        self.count(rt, pair.program, found);
     }
 
     /// Compares the programs of a model with its rules and holds, from some states, with some arrivals.
@@ -115,17 +126,23 @@ impl Endings {
         runs: &mut Runs<L>,
         model: &Compiled,
     ) -> Result<(), AllocError> {
-        let slots = model.code.tables.slots();
-        let states = [
-            model.start.clone()?,
-            state_at(rt.alloc(), slots, Level::Low)?,
-            state_at(rt.alloc(), slots, Level::Middle)?,
-            state_at(rt.alloc(), slots, Level::High)?,
-        ];
+        self.compare_pairs(rt, runs, model, &model.start)?;
+        for level in [Level::Low, Level::Middle, Level::High] {
+            let state = state_at(rt.alloc(), model.code.tables.slots(), level)?;
+            self.compare_pairs(rt, runs, model, &state)?;
+        }
+        Ok(())
+    }
+
+    fn compare_pairs<R: Abort + AllocGlobal, L: Ledger>(
+        &mut self,
+        rt: &R,
+        runs: &mut Runs<L>,
+        model: &Compiled,
+        state: &State,
+    ) -> Result<(), AllocError> {
         for pair in &model.pairs(rt.alloc())? {
-            for state in &states {
-                self.compare_deliveries(rt, runs, pair, state, &model.scope)?;
-            }
+            self.compare_deliveries(rt, runs, pair, state, &model.scope)?;
         }
         Ok(())
     }
@@ -141,7 +158,7 @@ impl Endings {
         for received in &deliveries(rt.alloc(), scope.inputs().len())? {
             if are_few(received) {
                 let arrivals = Arrivals::new(received, 3);
-                self.compare(rt, runs, pair, state, &arrivals, scope)?;
+                self.compare(rt, runs, pair, state, &arrivals, scope);
             }
         }
         Ok(())

@@ -143,8 +143,28 @@ fn added_up<R: Abort + AllocGlobal, L: Ledger>(
     let bags = four_values(rt.alloc())?;
     assert!(rt; are_few(&bags));
     let state = counted(rt.alloc(), 1, flag)?;
-    let effect = runs.rule(&program, state, &Arrivals::new(&bags, 0));
+    let effect = runs.rule(&program, &state, &Arrivals::new(&bags, 0));
     Ok(effect.expect(rt, "the state fits").expect(rt, "an effect"))
+}
+
+/// Fails the test unless 3, 3 and 7 of what has arrived are added to 1; 2 is not above 2.
+fn expect_added<R: Abort + AllocGlobal, L: Ledger>(rt: &R, runs: &mut Runs<L>) -> Result<(), Fail> {
+    let effect = added_up(rt, runs, true)?;
+    assert_eq!(rt; number_in(&effect.state), Some(14));
+    assert_eq!(rt; effect.goto, Some(1));
+    assert_eq!(rt; effect.state.phase, 0);
+    assert!(rt; effect.sent.is_empty());
+    Ok(())
+}
+
+/// Fails the test unless the number stays where the flag is down.
+fn expect_same_number<R: Abort + AllocGlobal, L: Ledger>(
+    rt: &R,
+    runs: &mut Runs<L>,
+) -> Result<(), Fail> {
+    let effect = added_up(rt, runs, false)?;
+    assert_eq!(rt; number_in(&effect.state), Some(1));
+    Ok(())
 }
 
 fn adds_up<R: Abort + AllocGlobal, L: Ledger>(rt: &R, blank: Blank) -> Result<(), Fail>
@@ -153,20 +173,24 @@ fn adds_up<R: Abort + AllocGlobal, L: Ledger>(rt: &R, blank: Blank) -> Result<()
     requires some { 0 < blank.parts }
 {
     let mut runs = Runs::<L>::new(rt.alloc(), blank);
-    let effect = added_up(rt, &mut runs, true)?;
-    // 1, and 3, 3 and 7 of what has arrived; 2 is not above 2.
-    assert_eq!(rt; number_in(&effect.state), Some(14));
-    assert_eq!(rt; effect.goto, Some(1));
-    assert_eq!(rt; effect.state.phase, 0);
-    assert!(rt; effect.sent.is_empty());
-    let effect = added_up(rt, &mut runs, false)?;
-    assert_eq!(rt; number_in(&effect.state), Some(1));
-    Ok(())
+    expect_added(rt, &mut runs)?;
+    expect_same_number(rt, &mut runs)
 }
 
 #[test]
 fn a_rule_walks_what_has_arrived(rt: HostRuntime) -> Result<(), Fail> {
     adds_up::<HostRuntime, Brand>(&rt, Blank::new(1))
+}
+
+/// What is sent of the bag.
+fn sent_values<R: Abort + AllocGlobal, L: Ledger>(
+    rt: &R,
+    runs: &mut Runs<L>,
+) -> Result<Bag, AllocError> {
+    let program = each_sent(rt)?;
+    let state = three_stored(rt.alloc())?;
+    let sent = sent_by(rt, runs, &program, &state);
+    sent.expect(rt, "no fault").bag(0)
 }
 
 fn sends_each<R: Abort + AllocGlobal, L: Ledger>(rt: &R, blank: Blank) -> Result<(), Fail>
@@ -175,13 +199,8 @@ fn sends_each<R: Abort + AllocGlobal, L: Ledger>(rt: &R, blank: Blank) -> Result
     requires some { 0 < blank.parts }
 {
     let mut runs = Runs::<L>::new(rt.alloc(), blank);
-    let program = each_sent(rt)?;
-    let state = three_stored(rt.alloc())?;
-    let sent = sent_by(rt, &mut runs, &program, &state).expect(rt, "no fault");
-    let bag = sent.bag(0)?;
-    assert_eq!(rt; bag.times(3), 2);
-    assert_eq!(rt; bag.times(7), 1);
-    assert_eq!(rt; sent.total(), 3);
+    let bag = sent_values(rt, &mut runs)?;
+    assert_eq!(rt; (bag.times(3), bag.times(7), bag.size()), (2, 1, 3));
     Ok(())
 }
 
@@ -199,7 +218,50 @@ fn a_rule_sends_what_a_bag_holds(rt: HostRuntime) -> Result<(), Fail> {
     sends_each::<HostRuntime, Brand>(&rt, Blank::new(1))
 }
 
-// A fault leaves values on the stack, which the next runs don't see.
+/// What the divider sends.
+fn divided<R: Abort + AllocGlobal, L: Ledger>(
+    rt: &R,
+    runs: &mut Runs<L>,
+    number: i64,
+) -> Result<Result<Sent, RuleError>, AllocError> {
+    let program = divider(rt)?;
+    let state = counted(rt.alloc(), number, true)?;
+    Ok(sent_by(rt, runs, &program, &state))
+}
+
+/// Fails the test unless the divider divides by 0. The fault leaves values on the stack.
+fn expect_fault<R: Abort + AllocGlobal, L: Ledger>(
+    rt: &R,
+    runs: &mut Runs<L>,
+) -> Result<(), AllocError> {
+    let by_zero = divided(rt, runs, 0)?;
+    assert!(rt; matches!(by_zero, Err(RuleError::Fault(Fault::Divide))));
+    Ok(())
+}
+
+/// Fails the test unless the hold gives one tick more.
+fn expect_one_more<R: Abort + AllocGlobal, L: Ledger>(
+    rt: &R,
+    runs: &mut Runs<L>,
+) -> Result<(), AllocError> {
+    let program = one_more(rt)?;
+    let state = counted(rt.alloc(), 41, false)?;
+    let ticks = runs.hold(&program, &state).expect(rt, "the state fits");
+    assert_eq!(rt; ticks.expect(rt, "no fault"), 42);
+    Ok(())
+}
+
+/// Fails the test unless the divider sends 5 and 7 + 1.
+fn expect_sum<R: Abort + AllocGlobal, L: Ledger>(
+    rt: &R,
+    runs: &mut Runs<L>,
+) -> Result<(), AllocError> {
+    let sent = divided(rt, runs, 1)?.expect(rt, "no fault");
+    let bag = sent.bag(0)?;
+    assert_eq!(rt; (bag.times(5), bag.times(8), bag.size()), (1, 1, 2));
+    Ok(())
+}
+
 fn goes_on_after_a_fault<R: Abort + AllocGlobal, L: Ledger>(
     rt: &R,
     blank: Blank,
@@ -209,17 +271,9 @@ fn goes_on_after_a_fault<R: Abort + AllocGlobal, L: Ledger>(
     requires some { 0 < blank.parts }
 {
     let mut runs = Runs::<L>::new(rt.alloc(), blank);
-    let program = divider(rt)?;
-    let by_zero = sent_by(rt, &mut runs, &program, &counted(rt.alloc(), 0, true)?);
-    assert!(rt; matches!(by_zero, Err(RuleError::Fault(Fault::Divide))));
-    let held = runs.hold(&one_more(rt)?, &counted(rt.alloc(), 41, false)?);
-    assert_eq!(rt;
-        held.expect(rt, "the state fits").expect(rt, "no fault"),
-        42
-    );
-    let by_one = sent_by(rt, &mut runs, &program, &counted(rt.alloc(), 1, true)?);
-    let bag = by_one.expect(rt, "no fault").bag(0)?;
-    assert_eq!(rt; (bag.times(5), bag.times(8), bag.size()), (1, 1, 2));
+    expect_fault(rt, &mut runs)?;
+    expect_one_more(rt, &mut runs)?;
+    expect_sum(rt, &mut runs)?;
     Ok(())
 }
 

@@ -1,8 +1,13 @@
 //! The programs of the texts, and such with another instruction at a place, before the validator.
 
+ghost use Rattle.std.specs.List.{All};
+ghost use Rattle.dv_syntax.specs.Trees.{ModelTree, file_of};
+ghost use Rattle.dv_gen.specs.ModelCode.{IsCompilableModel};
+
 use crate::compiled::{Compiled, checked, compile_at};
 use crate::taken::{Answers, taken};
 use crate::texts::TEXTS;
+use dv_check::Checked;
 use dv_code::{Action, Binary, Instruction, Leaf, Shape, Source, Tables, Valid};
 use std::alloc::AllocError;
 use std::process::Abort;
@@ -80,15 +85,28 @@ fn change_programs<R: Abort + AllocGlobal>(
     Ok(())
 }
 
+// The model at a place of a file, if there is an atomic one.
+fn change_at<R: Abort + AllocGlobal>(
+    rt: &R,
+    checked: &Checked,
+    place: usize,
+    answers: &mut Answers,
+) -> Result<(), AllocError>
+    requires { All (λ (m : ModelTree). IsCompilableModel m) (file_of checked.now.file).models }
+{
+    match compile_at(rt.alloc(), checked, place)? {
+        Some(model) => change_programs(rt, &model, answers),
+        None => Ok(()),
+    }
+}
+
 #[test]
 fn programs_are_taken_and_changed_ones_as_the_definition_says(rt: HostRuntime) -> Result<(), Fail> {
     let mut answers = Answers::none();
     for text in TEXTS {
         let checked = checked(rt.alloc(), text).expect(&rt, text);
         for place in 0..checked.file.models.len() {
-            if let Some(model) = compile_at(rt.alloc(), &checked, place)? {
-                change_programs(&rt, &model, &mut answers)?;
-            }
+            change_at(&rt, &checked, place, &mut answers)?;
         }
     }
     assert!(rt;

@@ -114,10 +114,10 @@ fn random_list(alloc: Global, random: &mut Random) -> Result<Vec<Instruction>, A
 fn ending<L: Ledger>(
     runs: &mut Runs<L>,
     program: &Valid,
-    state: State,
+    state: &State,
     arrivals: &Arrivals,
 ) -> Result<(), RuleError> {
-    if let Some(ticks) = runs.hold(program, &state) {
+    if let Some(ticks) = runs.hold(program, state) {
         ticks?;
         return Ok(());
     }
@@ -153,7 +153,7 @@ impl Found {
             for received in &deliveries(rt.alloc(), 1)? {
                 if are_few(received) {
                     let arrivals = Arrivals::new(received, 3);
-                    let ending = ending(runs, program, state.clone()?, &arrivals);
+                    let ending = ending(runs, program, &state, &arrivals);
                     self.count_run(rt, ending);
                 }
             }

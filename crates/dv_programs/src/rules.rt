@@ -1,6 +1,9 @@
 //! Rules and holds beside their programs: those of the texts, and random ones.
 
 ghost use Rattle.std.specs.Prelude.{◌≡◌, ◌<◌};
+ghost use Rattle.std.specs.List.{All};
+ghost use Rattle.dv_syntax.specs.Trees.{ModelTree, file_of};
+ghost use Rattle.dv_gen.specs.ModelCode.{IsCompilableModel};
 
 use crate::beside::Endings;
 use crate::compiled::{checked, compile_at};
@@ -8,6 +11,8 @@ use crate::random::Random;
 use crate::rule_texts::random_model;
 use crate::runs::Runs;
 use crate::texts::TEXTS;
+use dv_check::Checked;
+use std::alloc::AllocError;
 use std::marker::Brand;
 use std::process::Abort;
 use std::sync::ledger::{Blank, Ledger};
@@ -21,11 +26,25 @@ fn compare_text<R: Abort + AllocGlobal, L: Ledger>(
 ) -> Result<(), Fail> {
     let checked = checked(rt.alloc(), text).expect(rt, text);
     for place in 0..checked.file.models.len() {
-        if let Some(model) = compile_at(rt.alloc(), &checked, place)? {
-            endings.compare_model(rt, runs, &model)?;
-        }
+        compare_at(rt, &checked, place, runs, endings)?;
     }
     Ok(())
+}
+
+// The model at a place of a file, if there is an atomic one.
+fn compare_at<R: Abort + AllocGlobal, L: Ledger>(
+    rt: &R,
+    checked: &Checked,
+    place: usize,
+    runs: &mut Runs<L>,
+    endings: &mut Endings,
+) -> Result<(), AllocError>
+    requires { All (λ (m : ModelTree). IsCompilableModel m) (file_of checked.now.file).models }
+{
+    match compile_at(rt.alloc(), checked, place)? {
+        Some(model) => endings.compare_model(rt, runs, &model),
+        None => Ok(()),
+    }
 }
 
 fn compare_texts<R: Abort + AllocGlobal, L: Ledger>(rt: &R, blank: Blank) -> Result<Endings, Fail>

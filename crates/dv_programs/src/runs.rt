@@ -1,6 +1,7 @@
 //! Runs of programs on states that may not fit them.
 
-ghost use Rattle.std.specs.Prelude.{◌≡◌, ◌<◌};
+ghost use Rattle.std.specs.Prelude.{◌≡◌, ◌<◌, []};
+ghost use Rattle.dv_code.specs.Shape.{Fits, left_by};
 
 use crate::fitting::fits;
 use dv_bag::{Arrivals, Effect, RuleError, Sent, State};
@@ -32,7 +33,7 @@ impl<L: Ledger> Runs<L> {
     pub fn rule(
         &mut self,
         program: &Valid,
-        state: State,
+        state: &State,
         arrivals: &Arrivals,
     ) -> Option<Result<Effect, RuleError>> {
         if !fits(program.shape().tables().slots(), &state.variables) {
@@ -43,11 +44,23 @@ impl<L: Ledger> Runs<L> {
             ProgramSort::Output
             | ProgramSort::Internal
             | ProgramSort::External
-            | ProgramSort::Confluent => Some(
-                self.machine
-                    .run_rule(program, state, arrivals, &mut self.steps),
-            ),
+            | ProgramSort::Confluent => Some(self.rule_of_copy(program, state, arrivals)),
         }
+    }
+
+    // The program takes a copy of the state.
+    fn rule_of_copy(
+        &mut self,
+        program: &Valid,
+        state: &State,
+        arrivals: &Arrivals,
+    ) -> Result<Effect, RuleError>
+        requires rule { left_by program.now.shape.sort ≡ [] }
+        requires fits { Fits program.now.shape.slots state.now.variables }
+    {
+        let copy = state.clone()?;
+        self.machine
+            .run_rule(program, copy, arrivals, &mut self.steps)
     }
 
     /// What the program of an output rule sends, unless the state does not fit it.
