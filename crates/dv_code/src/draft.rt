@@ -1,16 +1,18 @@
 //! What a run has done so far.
 
-ghost use Rattle.std.specs.Prelude.{◌≡◌, ◌<◌, IfOk, IfSome, None, OnOk};
+ghost use Rattle.std.specs.Prelude.{◌≡◌, ◌<◌, IfOk, OnOk};
 ghost use Rattle.std.specs.Cow.{IsOwned, cow_value};
 ghost use Rattle.dv_bag.specs.Bag.{size_of_all, total, with_copies, without_one};
 ghost use Rattle.dv_bag.specs.Effects.{with_bag};
 ghost use Rattle.dv_bag.specs.Reading.{HasBagAt, bag_held_at};
 ghost use Rattle.dv_bag.specs.declared.TheConstants.{GREATEST_COUNT};
 ghost use Rattle.dv_bag.specs.declared.state.Datum.TheVariants as datum;
+ghost use Rattle.dv_code.specs.Machine.{first_effect};
 ghost use Rattle.dv_code.specs.Operations.{going, storing, with_sent};
 
+use crate::shape::Shape;
 use dv_bag::{Effect, GREATEST_COUNT, Sent, State};
-use std::alloc::AllocError;
+use std::alloc::{AllocError, Global};
 use std::borrow::Cow;
 use std::marker::Model;
 
@@ -32,13 +34,13 @@ impl<'a> Model for Draft<'a> {
 }
 
 impl<'a> Draft<'a> {
-    /// Nothing was done to the state yet.
-    pub(crate) fn new(state: Cow<'a, State>, sent: Sent) -> Self
-        ensures { result ≡ record { state = cow_value state.entry; sent = sent; goto = None } }
+    /// Nothing was done to the state yet, and nothing was sent.
+    pub(crate) fn new(alloc: Global, shape: &Shape, state: Cow<'a, State>) -> Self
+        ensures { result ≡ first_effect shape.now (cow_value state.entry) }
     {
         Draft {
             state,
-            sent,
+            sent: Sent::empty(alloc, shape.tables().outputs() as usize),
             goto: None,
         }
     }
@@ -48,16 +50,6 @@ impl<'a> Draft<'a> {
         ensures { result.now ≡ self.now.state }
     {
         &self.state
-    }
-
-    /// The state where it was, if it is lent still.
-    pub(crate) fn lent(&self) -> Option<&'a State>
-        ensures { IfSome result (λ state. state.now ≡ self.now.state) }
-    {
-        match &self.state {
-            Cow::Borrowed(state) => Some(*state),
-            Cow::Owned(_) => None,
-        }
     }
 
     /// The number of values that were sent, each copy counted. One above 2^64-1 stands as that

@@ -7,6 +7,7 @@ ghost use Rattle.dv_bag.specs.Bag.{least, most, total};
 ghost use Rattle.dv_bag.specs.declared.value.Value.TheVariants.{Number, Truth};
 ghost use Rattle.dv_code.specs.Machine.{items_of};
 ghost use Rattle.dv_code.specs.Operations.{flag_in, leaf_value, number_in, sum_in};
+ghost use Rattle.dv_code.specs.Turns.{turns_of};
 
 use crate::instruction::Leaf;
 use crate::loops::Loops;
@@ -26,8 +27,10 @@ pub(crate) fn leaf_value(
     state: &State,
     arrivals: &Arrivals,
 ) -> Result<Value, Fault>
-    requires { leaf_value arrivals.now (items_of loops.now) state.now leaf ≢ None }
-    ensures { leaf_value arrivals.now (items_of loops.now) state.now leaf ≡ Some result }
+    requires { leaf_value arrivals.now (items_of (turns_of arrivals.now loops.now)) state.now leaf
+        ≢ None }
+    ensures { leaf_value arrivals.now (items_of (turns_of arrivals.now loops.now)) state.now leaf
+        ≡ Some result }
 {
     match leaf {
         Leaf::Number(number) => Ok(Value::Number(number)),

@@ -23,18 +23,20 @@ mod open_loop;
 mod operators;
 /// Worked rows.
 pub mod rows;
-/// A program's run.
-mod run;
 /// What a program may speak of.
 pub mod shape;
 /// The bags that a program reads.
 mod source;
 /// The operand stack.
 mod stack;
+/// What instructions do with the operands and the open loops.
+mod stacks;
 /// A count of steps.
 pub mod steps;
 /// Valid programs.
 pub mod valid;
+/// The bags that loops walk.
+mod walk;
 
 pub use instruction::{Action, Binary, Instruction, Leaf, Source, Unary};
 pub use machine::Machine;

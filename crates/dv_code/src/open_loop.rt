@@ -1,21 +1,17 @@
 //! Open loops.
 
 ghost use Rattle.std.specs.Prelude.{◌≡◌};
-ghost use Rattle.std.specs.Cow.{cow_value};
+ghost use Rattle.std.specs.Option.{option_map};
 ghost use Rattle.dv_bag.specs.Bag.{values_of};
-ghost use Rattle.dv_code.specs.Turns.{Advances, Opens};
+ghost use Rattle.dv_code.specs.Turns.{Advances, Opens, turn_of, walked_bag};
 
-use dv_bag::Bag;
-use std::alloc::Global;
-use std::borrow::Cow;
-use std::default::MadeWith;
-use std::marker::Model;
+use crate::walk::Walk;
+use dv_bag::Arrivals;
 
-/// A loop at one of the values of a bag: of one that has arrived, where it lies, or of a copy of
-/// one of the state, as it was. It takes no memory for a value's copies.
+/// A loop at one of the values of a bag. It takes no memory for a value's copies.
 #[derive(Drop)]
-pub(crate) struct OpenLoop<'a> {
-    bag: Cow<'a, Bag>,
+pub(crate) struct OpenLoop {
+    walk: Walk,
     // The number of values of the bag that were begun.
     begun: usize,
     item: i64,
@@ -23,47 +19,37 @@ pub(crate) struct OpenLoop<'a> {
     more: u64,
 }
 
-impl<'a> Model for OpenLoop<'a> {
-    ghost use Rattle.std.specs.Cow.{cow_value};
-    ghost use Rattle.std.specs.Prelude.{◌++◌, drop, replicate};
-    ghost use Rattle.dv_bag.specs.Bag.{values_of};
-    ghost use Rattle.dv_code.specs.Machine.{Turn};
-
-    ghost Value = { Turn };
-
-    ghost view = { λ t. record {
-      item = t.item;
-      rest = replicate t.more t.item ++ values_of (drop t.begun (cow_value t.bag));
-    } };
-}
-
-impl<'a> OpenLoop<'a> {
+impl OpenLoop {
     /// A loop at the least value of a bag, if it has one.
-    pub(crate) fn open(bag: Cow<'a, Bag>) -> Option<Self>
-        ensures { Opens (values_of (cow_value bag.entry)) result }
+    pub(crate) fn open(walk: Walk, arrivals: &Arrivals) -> Option<Self>
+        ensures { Opens (values_of (walked_bag arrivals.now walk))
+            (option_map (turn_of arrivals.now) result) }
     {
-        let (item, copies) = *bag.pairs().first()?;
-        Some(OpenLoop {
-            bag,
-            begun: 1,
-            item,
-            more: copies - 1,
-        })
+        let mut first = OpenLoop {
+            walk,
+            begun: 0,
+            item: 0,
+            more: 0,
+        };
+        if first.next(arrivals) {
+            Some(first)
+        } else {
+            None
+        }
     }
 
     /// Goes on to the next value, if there is one.
-    pub(crate) fn next(&mut self) -> bool
-        ensures { Advances self.old.rest result self.new }
+    pub(crate) fn next(&mut self, arrivals: &Arrivals) -> bool
+        ensures { Advances (turn_of arrivals.now self.old).rest result
+            (turn_of arrivals.now self.new) }
     {
         if self.more > 0 {
             self.more -= 1;
             return true;
         }
-        let pairs = self.bag.pairs();
-        if self.begun >= pairs.len() {
+        let Some((item, copies)) = self.walk.pair(self.begun, arrivals) else {
             return false;
-        }
-        let (item, copies) = pairs[self.begun];
+        };
         self.item = item;
         self.more = copies - 1;
         self.begun += 1;
@@ -75,16 +61,5 @@ impl<'a> OpenLoop<'a> {
         ensures { result ≡ self.now.item }
     {
         self.item
-    }
-}
-
-impl<'a> MadeWith<Global> for OpenLoop<'a> {
-    fn made_with(alloc: Global) -> Self {
-        OpenLoop {
-            bag: Cow::Owned(Bag::new(alloc)),
-            begun: 0,
-            item: 0,
-            more: 0,
-        }
     }
 }
