@@ -17,7 +17,7 @@ pub mod inputs;
 pub mod laws;
 /// Parts of a trace.
 pub mod part;
-/// How soon an input can be answered.
+/// How soon a hold can end that begins where an external rule goes to a phase.
 pub mod response;
 /// What a component sends.
 pub mod sent;

@@ -1,10 +1,10 @@
-//! How soon an input can be answered.
+//! How soon a hold can end that begins where an external rule goes to a phase; where it goes to none, the hold goes on.
 
-/// The lookahead of a model: after an input it sends nothing for so many ticks.
+/// The lookahead of an atomic model: how soon a hold can end that begins where an external rule goes to a phase.
 #[derive(Clone, Copy, Debug, PartialEq, Eq)]
 pub enum Response {
-    /// Not before so many ticks have passed.
+    /// After so many ticks or more.
     Ticks(u64),
-    /// Not at all.
+    /// No such hold ends, or none begins.
     Never,
 }

@@ -41,7 +41,7 @@ impl MadeWith<Global> for Sending {
 }
 
 /// What a component sent at one instant: a bag for each of its output ports, as one list in the order of the ports and
-/// then of the values. Copies of one value lie inline.
+/// then of the values. The type keeps the order of the ports alone. Copies of one value lie inline.
 #[derive(Debug, Drop)]
 pub struct Sent {
     ports: usize,

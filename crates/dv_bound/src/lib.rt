@@ -1,4 +1,4 @@
-//! The lookahead of atomic models: how soon an input can be answered.
+//! The lookahead of atomic models: how soon a hold can end to which an external rule goes.
 #![tactic(auto)]
 
 /// Laws of responses.

@@ -15,7 +15,7 @@ fn graph_of(alloc: Global, lists: &[&[usize]]) -> Result<Graph, AllocError> {
     Ok(graph)
 }
 
-/// A path of so many nodes, closed to a cycle or not.
+/// A row of so many nodes, closed to a cycle or not.
 fn chain(alloc: Global, nodes: usize, is_cycle: bool) -> Result<Graph, AllocError> {
     let mut graph = Graph::new(alloc);
     for node in 1..nodes {

@@ -1,4 +1,4 @@
--- The models of a text as couplings see them.
+-- The models of a text as links see them.
 use Rattle.std.specs.Prelude.{ℕ, List, option_map, Option}
 use Rattle.dv_syntax.specs.Trees.{ModelTree, AtomicModel, CoupledModel}
 use Rattle.dv_check.specs.declared.declarations.NameSort.{NameSort}

@@ -1,4 +1,4 @@
-//! The static checks of a model text: names, types, phases and holds, couplings, models that
+//! The static checks of a model text: names, types, phases and holds, links, models that
 //! contain themselves, limits.
 //!
 //! Each test is a function that notes in the findings what it finds wrong, and goes on; the findings keep the first
@@ -45,7 +45,7 @@ mod findings;
 /// Sets of links.
 mod link_set;
 
-/// The models of a text as couplings see them.
+/// The models of a text as links see them.
 mod models;
 
 /// The names in the lists of an atomic model.

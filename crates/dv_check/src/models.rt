@@ -1,4 +1,4 @@
-//! The models of a text as couplings see them.
+//! The models of a text as links see them.
 
 ghost use Rattle.std.specs.Prelude.{◌≡◌, map, IfOk};
 ghost use Rattle.dv_syntax.specs.Trees.{model_of};

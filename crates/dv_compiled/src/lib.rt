@@ -1,6 +1,6 @@
 //! The compiled model is the model: its programs give the behaviour of its rules, direct links route as the coupling
-//! tree does, no hold that begins by an input is below the response, and so a network of programs and links has the
-//! trace of the text.
+//! tree does, and so a network of programs and links has the trace of the text. Where the program of an external rule
+//! goes to a phase, the hold that begins there is not below the response.
 //!
 //! Nothing here runs: each function of `laws` stands for a law of the definitions.
 #![tactic(auto)]

@@ -131,7 +131,7 @@ clock = record {
   leaves = λ sent. first_bags sent;
 }
 
--- a clock that reaches a cell by two paths
+-- a clock that reaches a cell by two ways
 abbrev pub twice : Network (List Counts)
 twice = record {
   numbers = 0 ∷ 1 ∷ [];

@@ -250,7 +250,7 @@ abbrev pub value_within : Scope → Context → Effect → Expression → Result
 value_within scope context e value = meaning scope (moment_in context e.state) value
 
 -- What a list of statements does, one after the other; the last goto that ran counts. A loop walks the values of its bag as
--- it stood at the loop's entry, in ascending order, each copy once.
+-- it stood when the loop began, in ascending order, each copy once.
 abbrev pub run : Scope → Context → Statements → Effect → Result Effect Fault
 run scope context Done e = Ok e
 run scope context (Assign variable value rest) e =

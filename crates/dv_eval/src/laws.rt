@@ -83,7 +83,7 @@ pub fn bags_in_statements()
         ≡ Ok (left (pos 0) two_threes []) }
 {}
 
-/// A loop takes the values in ascending order, each copy once, of its bag as it stood at the loop's entry. The first
+/// A loop takes the values in ascending order, each copy once, of its bag as it stood when the loop began. The first
 /// fault ends it. Of two loop variables of one name the inner one counts.
 pub fn loops_walk_bags()
     ensures sends { effect_with two_threes (for_each send_it)

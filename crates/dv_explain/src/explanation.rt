@@ -11,7 +11,7 @@ pub struct Explanation {
     pub code: &'static str,
     /// What is wrong, which token is named, and what helps.
     pub words: &'static str,
-    /// The smallest model that has it, where there is one.
+    /// A small model that has it, where there is one.
     pub example: Option<Example>,
 }
 

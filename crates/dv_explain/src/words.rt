@@ -1,5 +1,5 @@
-//! What each refusal and each fault means, with the smallest text that has it, and its cure. The page of errors has the
-//! same words.
+//! What each refusal and each fault means, its cure, and a small text that has it, where there is one. The page of
+//! errors has the same words.
 
 use crate::{Example, Explanation};
 

@@ -1,4 +1,4 @@
-//! Where the tokens arrive: for each source the targets that it reaches.
+//! Where the tokens arrive: for each source, and for each input port of the root, the targets that it reaches.
 
 ghost use Rattle.std.specs.Prelude.{◌≡◌, ◌+◌, ◌^◌, ◌<◌, ◌≤◌, [], fold, length, map, replicate, slice_index_or, IfOk, OnOk};
 ghost use Rattle.std.specs.List.{All, range_with_len};
@@ -15,15 +15,15 @@ use dv_check::GREATEST_NAMES;
 use dv_tree::Tree;
 use std::alloc::{AllocError, Global};
 
-/// How many copies of what a source sends come to a target.
+/// How many copies of a token come to a target.
 #[derive(Clone, Copy)]
 pub(crate) struct Arrival<T> {
     pub(crate) to: T,
     pub(crate) copies: u64,
 }
 
-/// Where the tokens arrive: for each source the input ports of components and the output ports of the root that it
-/// reaches, in the order of the ports.
+/// Where the tokens arrive, in the order of the ports: for each source, and behind the sources for each input port of
+/// the root, the input ports of components that it reaches; and for each source the output ports of the root.
 #[derive(Drop)]
 pub(crate) struct Reached {
     pub(crate) inputs: Vec<Vec<Arrival<ComponentPort>>>,
@@ -106,7 +106,7 @@ fn empty_lists<T: Copy>(alloc: Global, count: usize) -> Result<Vec<Vec<Arrival<T
     Ok(lists)
 }
 
-// Adds a target to the list of each source whose token stands there.
+// Adds a target to the list of each token that stands there.
 fn add_arrivals<T: Copy>(
     to: T,
     bag: &Bag,
@@ -121,7 +121,7 @@ fn add_arrivals<T: Copy>(
     Ok(())
 }
 
-// Adds an arrival to the list of the source whose token this is. No other values are sent.
+// Adds an arrival to the list of its token. No other values are sent.
 fn add_arrival<T: Copy>(
     token: i64,
     arrival: Arrival<T>,

@@ -218,7 +218,7 @@ module _ (scope : Scope) (rule : Option RuleSort) (loops : List ℕ) where
 
 -- ---- Statements
 
--- an assignment is known, and takes what is of the type of its target
+-- an assignment is known, and takes what is of the type of what it sets
 assignment_known : (scope : Scope) (s : RuleSort) (loops : List ℕ) (q : ℕ) {o : Option NameSort} (t : ValueType) → Assigned scope loops q o
     → is_output_rule (Some s) ≡ false → type_of_name o ≡ Some t
     → KnowsAction (rule_shape scope s) (assignment_at scope (place_of q (names_of scope.variables)))

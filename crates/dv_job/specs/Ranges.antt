@@ -4,12 +4,12 @@ use Rattle.std.specs.Option.{ForSome}
 use Rattle.dv_time.specs.declared.TheConstants.{GREATEST_TICK, GREATEST_LIMIT}
 use Rattle.dv_job.specs.declared.options.TheConstants.{MOST_WORKERS, GREATEST_CAPACITY}
 
--- ---- The threads that run processes
+-- ---- The threads that are to run processes; no run reads workers, rounds or capacity yet
 
 abbrev pub AreWorkers : Option ℕ → Type 0
 AreWorkers workers = ForSome workers (λ n. (1 ≤ n) × (n ≤ MOST_WORKERS))
 
--- rounds are for a run without workers
+-- rounds are to be for a run without workers
 abbrev pub NotBoth : Option ℕ → Option ℕ → Type 0
 NotBoth workers rounds = IsSome workers → ¬ IsSome rounds
 

@@ -1,14 +1,14 @@
-//! The options of a run.
+//! The options of a run. Workers, rounds and capacity are for processes that are to come: no run reads them yet.
 
 ghost use Rattle.std.specs.Prelude.{◌≡◌, ◌≤◌, ◌↔◌, IsSome, IfSome, IsTrue};
 ghost use Rattle.dv_job.specs.Ranges.{AreInRange, AreWorkers, NotBoth};
 
 use dv_time::{GREATEST_LIMIT, GREATEST_TICK};
 
-/// The most workers of a run.
+/// The most workers that are to run processes; no run reads this yet.
 pub const MOST_WORKERS: u32 = 64;
 
-/// The most packets that a link holds.
+/// The most packets that a link between processes is to hold; no run reads this yet.
 pub const GREATEST_CAPACITY: u32 = 1_024;
 
 /// How far to run, and how. Its values are within their ranges: its type keeps that.
@@ -18,11 +18,11 @@ pub struct Options {
     pub horizon: u64,
     /// The greatest microstep of a tick, 1 to 1,000.
     pub limit: u32,
-    /// The threads that run processes, 1 to 64; without them one driver runs all.
+    /// The threads that are to run processes, 1 to 64; without them one driver is to run all. No run reads this yet.
     pub workers: Option<u32>,
-    /// The greatest number of rounds of the one driver, which is not given beside workers.
+    /// The greatest number of rounds of the one driver, which is not given beside workers. No run reads this yet.
     pub rounds: Option<u64>,
-    /// The packets that a link holds, 1 to 1,024.
+    /// The packets that a link between processes is to hold, 1 to 1,024. No run reads this yet.
     pub capacity: u32,
     pub ghost in_range: { AreInRange horizon limit workers rounds capacity },
 }

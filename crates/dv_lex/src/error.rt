@@ -32,7 +32,7 @@ pub enum RefusalNumber {
     E10,
     /// An empty range, a start value outside its range, or a start hold that faults.
     E11,
-    /// A coupling end of the wrong direction.
+    /// An end of a link with the wrong direction.
     E12,
     /// A part that is coupled to itself, or an input of a model that is coupled to its output.
     E13,

@@ -1,4 +1,4 @@
-//! The listing of a text: the programs of its atomic models, for people who want to see what runs.
+//! The listing of a text: its programs, for people who want to see what rules are compiled to.
 #![tactic(auto)]
 
 /// The lines of a listing.

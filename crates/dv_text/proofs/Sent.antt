@@ -91,7 +91,7 @@ marked true name b rest some =
     subst P (sym some) refl
 marked false name b rest some = refl
 
--- a port with values, and the mark before it if it is the first
+-- a port with values, and the ` >` before it if it is the first
 pub next_port : (line line1 line2 : List ℕ) (is_first : Bool) (name : List ℕ) (b : Counts) (rest : List ℕ) → nat_eq (size b) 0 ≡ false →
     line1 ≡ line ++ cond is_first (32 ∷ 62 ∷ []) [] → line2 ≡ line1 ++ port_text name b →
     line2 ++ rest ≡ line ++ sent_from is_first (port_text name b ++ rest)

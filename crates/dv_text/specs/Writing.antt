@@ -26,7 +26,7 @@ abbrev pub values_from : Bool → List ℤ → List ℕ
 values_from is_first [] = []
 values_from is_first (v ∷ vs) = (if is_first then [] else 44 ∷ []) ++ (signed_decimal v ++ values_from false vs)
 
--- what is left of what was sent, with the mark before it if nothing was written yet
+-- what is left of what was sent, with the ` >` before it if nothing was written yet
 abbrev pub sent_from : Bool → List ℕ → List ℕ
 sent_from true text = sent_text text
 sent_from false text = text

@@ -105,7 +105,7 @@ fn push_sent(line: &mut String, tree: &Tree, names: &[u32], sent: &Sent) -> Resu
     Ok(())
 }
 
-// A port with its values, if it has some, and the mark before it if it is the first of those. Whether the next one may
+// A port with its values, if it has some, and the ` >` before it if it is the first of those. Whether the next one may
 // still be the first is answered.
 fn push_next_port(
     line: &mut String,

@@ -1,5 +1,5 @@
 -- How values travel along the links of coupled models: each link carries one copy of every value, so a value arrives once for
--- every path. (Closure under coupling.)
+-- every way. (Closure under coupling.)
 -- Coupled models are taken level by level: what leaves each part goes along the links of the model around it, to the inputs of
 -- other parts and to the model's own outputs. So it goes up to the root; from there what has come to each model goes down into
 -- its parts.

@@ -30,7 +30,7 @@ pub fn paths_lead_through_parts()
     ensures { map (λ i. i.path) (instances two_levels) ≡ (2 ∷ []) ∷ (3 ∷ 5 ∷ 7 ∷ []) ∷ [] }
 {}
 
-/// A value arrives once for every path.
+/// A value arrives once for every way.
 pub fn copies_arrive_by_every_path()
     ensures { leaves two_paths ((sevens 1 ∷ []) ∷ []) ≡ sevens 2 ∷ [] ∷ [] }
 {}

@@ -17,7 +17,7 @@ use std::{fs, io};
 /// The microstep limit where none is asked for.
 const USUAL_LIMIT: u32 = 20;
 
-/// The packets that a link holds.
+/// The packets that a link between processes is to hold. No run reads this yet.
 const LINK_CAPACITY: u32 = 16;
 
 /// A model that is accepted.

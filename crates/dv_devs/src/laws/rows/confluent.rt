@@ -13,7 +13,7 @@ pub fn confluent_at_the_hold()
     } }
 {}
 
-/// A value that travels along two paths arrives twice.
+/// A value that travels by two ways arrives twice.
 pub fn value_arrives_twice()
     ensures { trace_to 1 10 twice no_input ≡ record {
       entries = transition (at 5 0) 0 Internal (counter 0 (pos 1)) (one (pos 0) ∷ [])
