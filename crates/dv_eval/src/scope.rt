@@ -115,11 +115,14 @@ impl Scope {
     pub fn of(alloc: Global, model: &Atomic) -> Result<Self, AllocError>
         ensures { IfOk result (λ scope. scope ≡ scope_of (atomic_of model.now)) }
     {
+        let variables = variables_of(alloc, &model.declarations)?;
+        let phases = phase_names(alloc, &model.phases)?;
+        let (inputs, outputs) = port_names(alloc, &model.declarations)?;
         Ok(Scope {
-            variables: variables_of(alloc, &model.declarations)?,
-            phases: phase_names(alloc, &model.phases)?,
-            inputs: input_names(alloc, &model.declarations)?,
-            outputs: output_names(alloc, &model.declarations)?,
+            variables,
+            phases,
+            inputs,
+            outputs,
         })
     }
 
@@ -224,6 +227,20 @@ fn variables_of(
         }
     }
     Ok(variables)
+}
+
+// The names of the input ports, and those of the output ports.
+fn port_names(
+    alloc: Global,
+    declarations: &[Declaration],
+) -> Result<(IndexSet<u32>, IndexSet<u32>), AllocError>
+    ensures { IfOk result
+        (λ names. (names.0.keys ≡ with_names [] (inputs_in declarations.now))
+        × (names.1.keys ≡ with_names [] (outputs_in declarations.now))) }
+{
+    let inputs = input_names(alloc, declarations)?;
+    let outputs = output_names(alloc, declarations)?;
+    Ok((inputs, outputs))
 }
 
 fn input_names(alloc: Global, declarations: &[Declaration]) -> Result<IndexSet<u32>, AllocError>

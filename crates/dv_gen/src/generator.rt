@@ -3,6 +3,7 @@
 ghost use Rattle.std.specs.Prelude.{◌≡◌, map, option_map, IfOk};
 ghost use Rattle.dv_code.specs.Shape.{AreSmall};
 ghost use Rattle.dv_syntax.specs.Trees.{atomic_of};
+ghost use Rattle.dv_syntax.specs.declared.tree.RuleSort.TheVariants.{Output, Internal, External, Confluent};
 ghost use Rattle.dv_eval.specs.Scope.{scope_of};
 ghost use Rattle.dv_gen.specs.Directories.{rule_found, ticks_found_in};
 ghost use Rattle.dv_gen.specs.Emission.{HasFewNames, hold_code, rule_code};
@@ -36,8 +37,25 @@ pub fn generate(alloc: Global, model: &Atomic, scope: &Scope) -> Result<ModelCod
 {
     states_fit_the_tables();
     let tables = Arc::new(alloc, tables_of(alloc, scope)?)?;
-    let phases = Generator::of(alloc, model, scope, &tables)?.phase_codes(scope.phases())?;
+    let phases = codes_over(alloc, model, scope, &tables)?;
     Ok(ModelCode { tables, phases })
+}
+
+// The programs of each phase of a model, over its tables.
+fn codes_over(
+    alloc: Global,
+    model: &Atomic,
+    scope: &Scope,
+    tables: &Arc<Tables>,
+) -> Result<Vec<PhaseCode>, AllocError>
+    requires scope { scope.now ≡ scope_of (atomic_of model.now) }
+    requires compilable { IsCompilable (atomic_of model.now) }
+    requires tables { tables.now.value ≡ tables_of scope.now }
+    requires small { AreSmall (tables_of scope.now).slots }
+    ensures { IfOk result (λ codes. codes.items ≡ phase_codes (atomic_of model.now)) }
+{
+    let generator = Generator::of(alloc, model, scope, tables)?;
+    generator.phase_codes(scope.phases())
 }
 
 /// What the programs of a model are made from.
@@ -88,13 +106,39 @@ impl<'a> Generator<'a> {
         requires { IsReady self.now }
         ensures { IfOk result (λ code. code ≡ code_of_phase self.now phase) }
     {
+        let hold = self.hold(phase)?;
+        let (output, internal) = self.codes_at_the_end(phase)?;
+        let (external, confluent) = self.codes_for_arrivals(phase)?;
         Ok(PhaseCode {
-            output: self.rule_or_empty(RuleSort::Output, phase)?,
-            internal: self.rule_or_empty(RuleSort::Internal, phase)?,
-            external: self.rule_or_empty(RuleSort::External, phase)?,
-            confluent: self.rule_if_any(RuleSort::Confluent, phase)?,
-            hold: self.hold(phase)?,
+            output,
+            internal,
+            external,
+            confluent,
+            hold,
         })
+    }
+
+    // The programs of the output rule and of the internal rule, which run where the hold runs out.
+    fn codes_at_the_end(&self, phase: u32) -> Result<(Valid, Valid), AllocError>
+        requires { IsReady self.now }
+        ensures { IfOk result (λ codes. (codes.0 ≡ code_of_rule self.now Output phase)
+            × (codes.1 ≡ code_of_rule self.now Internal phase)) }
+    {
+        let output = self.rule_or_empty(RuleSort::Output, phase)?;
+        let internal = self.rule_or_empty(RuleSort::Internal, phase)?;
+        Ok((output, internal))
+    }
+
+    // The programs of the external rule, and of the confluent rule, if there is one.
+    fn codes_for_arrivals(&self, phase: u32) -> Result<(Valid, Option<Valid>), AllocError>
+        requires { IsReady self.now }
+        ensures { IfOk result (λ codes. (codes.0 ≡ code_of_rule self.now External phase)
+            × (codes.1 ≡ option_map (rule_code self.now.names Confluent)
+            (rule_found self.now.directory Confluent phase))) }
+    {
+        let external = self.rule_or_empty(RuleSort::External, phase)?;
+        let confluent = self.rule_if_any(RuleSort::Confluent, phase)?;
+        Ok((external, confluent))
     }
 
     // The program of a rule. A missing rule is empty.

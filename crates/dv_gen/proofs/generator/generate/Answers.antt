@@ -1,10 +1,9 @@
-use Rattle.std.proofs.Common.{◌∙◌, ap, sym, subst}
+use Rattle.std.proofs.Common.{sym, subst}
 use Rattle.dv_syntax.specs.Trees.{atomic_of}
 use Rattle.dv_code.specs.Shape.{AreSmall}
 use Rattle.dv_gen.specs.Emission.{HasFewNames}
 use Rattle.dv_gen.specs.Resolution.{tables_of}
 use Rattle.dv_gen.proofs.FewNames.{accepted_names_are_few}
-use Rattle.dv_gen.proofs.Generators.{codes_are}
 use Rattle.dv_gen.proofs.generator.generate.Goals as goal
 
 pub tables_of-requires-clause-few : goal.tables_of-requires-clause-few
@@ -15,9 +14,3 @@ pub tables_of-requires-clause-small : goal.tables_of-requires-clause-small
 tables_of-requires-clause-small c =
     let small = c.states_fit_the_tables.ensures.small (atomic_of c.args.model.now) c.requires.compilable.accepted in
     subst (λ scope. AreSmall (tables_of scope).slots) (sym c.requires.scope) small
-
-pub returns-clause-phases : goal.returns-clause-phases
-returns-clause-phases c =
-    c.in_ok-phases.ensures
-    ∙ codes_are (atomic_of c.args.model.now) c.in_ok-of.field-0 c.in_ok-of.ensures.model c.phases.result.now (c.phases.ensures
-    ∙ ap (λ s. s.phases) c.requires.scope)
