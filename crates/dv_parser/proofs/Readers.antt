@@ -140,6 +140,13 @@ unfolding read_then
 front_nothing (Ok x) = refl
 front_nothing (Err o) = refl
 
+-- what the second reader gives comes later
+pub later : {A B C : Type 0} (r : Read A) (f : A → Read C) (g : A → Read B) (h : B → Read C) → ((x : A) → f x ≡ read_then (g x) h)
+    → read_then r f ≡ read_then (read_then r g) h
+unfolding read_then
+later (Ok x) f g h e = e x
+later (Err o) f g h e = refl
+
 becoming_more : {A B : Type 0} (f g : List A → B) (x : A) (read : Read (List A × List Token)) → ((xs : List A) → f (x ∷ xs) ≡ g xs)
     → becoming f (read_then read (λ xs. Ok (x ∷ xs.0, xs.1))) ≡ becoming g read
 unfolding read_then

@@ -23,3 +23,5 @@ one_before (stmt.Drop place e b) rest = refl
 pub joined_items : (items : List Stmt) → joined (map single_of items) ≡ statements_of items
 joined_items [] = refl
 joined_items (s ∷ items) = one_before s (joined (map single_of items)) ∙ ap (statement_before s) (joined_items items)
+
+pub ruleset rows = (the_lemmas, row_items)

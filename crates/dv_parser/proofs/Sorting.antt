@@ -19,7 +19,7 @@ use Rattle.dv_parser.specs.Reading.{Reader, braces_at, item_at, coupled_item_at,
 use Rattle.dv_parser.specs.Reading.{with_items, with_item, with_coupled_items, with_coupled_item, empty_atomic, empty_coupled}
 use Rattle.dv_parser.specs.Reading.{atomic_tree_at, coupled_tree_at, tree_at, file_tree_at, refusal_of, refusal_in, IsRefused}
 use Rattle.dv_parser.proofs.Tokens.{then_ok, ok_is, err_is}
-use Rattle.dv_parser.proofs.Readers.{Shortens}
+use Rattle.dv_parser.proofs.Readers.{Shortens, later}
 use Rattle.dv_parser.proofs.Models.{model_shortens, file_sound}
 
 -- ---- Items behind others
@@ -79,13 +79,6 @@ all_coupled_sorted : (n : Name) (items : List CoupledItem) → with_coupled_item
 all_coupled_sorted n items = λ i. record (sorted_coupled_items n items) { name = coupled_name_kept n items i }
 
 -- ---- Readers one after the other
-
--- what the second reader gives comes later
-pub later : {A B C : Type 0} (r : Read A) (f : A → Read C) (g : A → Read B) (h : B → Read C) → ((x : A) → f x ≡ read_then (g x) h)
-    → read_then r f ≡ read_then (read_then r g) h
-unfolding read_then
-later (Ok x) f g h e = e x
-later (Err o) f g h e = refl
 
 later_list : {A B C D : Type 0} (r : Read (List A × List Token)) (k : List A → D) (f : D × List Token → Read C)
     (g : List A × List Token → Read B) (h : B → Read C) → ((x : List A × List Token) → f (k x.0, x.1) ≡ read_then (g x) h)

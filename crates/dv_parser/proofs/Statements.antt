@@ -1,5 +1,5 @@
 -- What is read as statements and blocks is spelled so, and what is spelled so is read.
-use Rattle.std.proofs.Common.{◌≡◌, ℕ, zero, suc, ◌-◌, ◌<◌, ◌≤◌, true, false, List, [], ◌∷◌, ◌++◌, length, None, Ok, refl, ap}
+use Rattle.std.proofs.Common.{◌≡◌, ℕ, zero, suc, ◌-◌, ◌<◌, ◌≤◌, true, false, List, [], ◌∷◌, ◌++◌, length, None, Ok, refl, sym, ap}
 use Rattle.std.proofs.Common.{subst, ◌∙◌, append_assoc, inl, inr, arith}
 use Rattle.std.specs.List.{flat_map, AllByRecursion}
 use Rattle.dv_lex.specs.declared.token.Token.{Token}
@@ -12,16 +12,15 @@ use Rattle.dv_syntax.specs.declared.tree.Name.{Name}
 use Rattle.dv_syntax.specs.Trees.{Expression, Statements, Done, Assign, Goto, Send, If, IfElse, For, Add, Drop}
 use Rattle.dv_syntax.specs.Grammar.{Spelled, name, sign, word, word_at, braces, Limits, IsExpression, expression_spelling}
 use Rattle.dv_syntax.specs.Grammar.{statements_spelling, block_depth, loop_depth, AreStatements}
-use Rattle.dv_parser.specs.declared.parse_error.ParseError.{ParseError}
-use Rattle.dv_parser.specs.Reading.{Fails, read_then, after, name_at, place_at, within, same_kind, begins, Reader, becoming}
-use Rattle.dv_parser.specs.Reading.{keyword_operator, operator_of, expression_at, braces_at, Single, SingleAssign, SingleGoto}
+use Rattle.dv_parser.specs.Reading.{read_then, after, name_at, place_at, within, same_kind, begins, Reader, becoming}
+use Rattle.dv_parser.specs.Reading.{keyword_operator, operator_of, expression_at, braces_at, many_at, Single, SingleAssign, SingleGoto}
 use Rattle.dv_parser.specs.Reading.{SingleSend, SingleIf, SingleIfElse, SingleFor, SingleAdd, SingleDrop, single_before, joined}
 use Rattle.dv_parser.specs.Reading.{assign_at, goto_at, send_at, add_at, drop_at, else_at, if_at, for_at, statement_at}
 use Rattle.dv_parser.specs.Reading.{block_at}
 use Rattle.dv_parser.proofs.Tokens.{then_ok, here, past, chosen, ok_is, err_ok, same_kind-true, Spans, nothing, span_end}
-use Rattle.dv_parser.proofs.Tokens.{then_spans, then_is, then_err, split, first, first_name, after_spans, after_spans_at}
+use Rattle.dv_parser.proofs.Tokens.{then_spans, split, first, first_name, after_spans, after_spans_at}
 use Rattle.dv_parser.proofs.Tokens.{name_spans}
-use Rattle.dv_parser.proofs.Readers.{IsReader, IsListed, braces_reader, shortens, Shortens, Always, fails_as}
+use Rattle.dv_parser.proofs.Readers.{IsReader, IsListed, braces_reader, shortens, Shortens, Always, later}
 use Rattle.dv_parser.proofs.Expressions.{within_ok, within_room, within_positive, closed_front, expression_reader}
 
 -- ---- Single statements
@@ -506,11 +505,13 @@ block_is limits (suc limit) loops ts lt =
     let less : limit ≡ suc limit - 1 = omega arith in
     ap (λ (n : ℕ). becoming joined (braces_at (statement_at limits (block_at limits n) n loops) ts)) less
 
-pub block_some : (limits : Limits) (limit loops : ℕ) (ts : List Token) (ss : List Single) (rest : List Token) → 0 < limit
-    → braces_at (inside_at limits limit loops) ts ≡ Ok (ss, rest) → block_at limits limit loops ts ≡ Ok (joined ss, rest)
-block_some limits limit loops ts ss rest lt e = block_is limits limit loops ts lt ∙ then_is _ _ (ss, rest) e
-
-pub block_fails : (e : ParseError) (limits : Limits) (limit loops : ℕ) (ts : List Token) → 0 < limit
-    → Fails e (braces_at (inside_at limits limit loops) ts) → Fails e (block_at limits limit loops ts)
-block_fails e limits limit loops ts lt f =
-    fails_as e _ _ (λ o g. block_is limits limit loops ts lt ∙ then_err (braces_at (inside_at limits limit loops) ts) _ o g) f
+-- a brace, the statements of a block, and the brace that closes it
+pub block_reads : (limits : Limits) (limit loops : ℕ) (ts : List Token) → 0 < limit → block_at limits limit loops ts ≡ read_then
+    (after (kind.Symbol symbol.OpenBrace) ts)
+    (λ inside. read_then (many_at (inside_at limits limit loops) (kind.Symbol symbol.CloseBrace) inside)
+    (λ ss. read_then (after (kind.Symbol symbol.CloseBrace) ss.1) (λ rest. Ok (joined ss.0, rest))))
+unfolding braces_at read_then
+block_reads limits limit loops ts lt = block_is limits limit loops ts lt ∙ sym (
+    later (after (kind.Symbol symbol.OpenBrace) ts) _ _ _ (λ inside.
+    later (many_at (inside_at limits limit loops) (kind.Symbol symbol.CloseBrace) inside) _ _ _ (λ ss.
+    later (after (kind.Symbol symbol.CloseBrace) ss.1) _ _ _ (λ rest. refl))))

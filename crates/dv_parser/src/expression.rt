@@ -1,11 +1,12 @@
 //! Expressions.
 
-ghost use Rattle.std.specs.Prelude.{◌≡◌, ◌+◌, ◌-◌, ◌<◌, ◌≤◌, IfOk, MatchOption, None, Some};
-ghost use Rattle.dv_syntax.specs.Trees.{expression_of};
+ghost use Rattle.std.specs.Prelude.{◌≡◌, ◌+◌, ◌-◌, ◌<◌, ◌≤◌, IfOk, List, MatchOption, MatchResult, None, Some, Ok};
+ghost use Rattle.dv_syntax.specs.Trees.{expression_of, Expression, Parens, Binary, Times};
 ghost use Rattle.dv_syntax.specs.Grammar.{prefix_kind, prefix_rank, operator_rank, left_rank, rank, depth};
 ghost use Rattle.dv_parser.specs.Reading.{Gives, operator_of, keyword_operator, symbol_operator, goes_on, operator_at, place_at};
 ghost use Rattle.dv_parser.specs.Reading.{call_at, elapsed_at, leaf_at, parens_at, prefixed_at, times_at, begins_prefix};
-ghost use Rattle.dv_parser.specs.Reading.{primary_at, expression_at};
+ghost use Rattle.dv_parser.specs.Reading.{primary_at, expression_at, after, name_at, within, read_then};
+ghost use Rattle.dv_parser.specs.declared.parse_error.ParseError.TheVariants.{Memory};
 
 use crate::parse_error::ParseError;
 use crate::token::{
@@ -207,9 +208,109 @@ fn leaf(tokens: &[Token]) -> Result<(Expr, &[Token]), ParseError>
     }
 }
 
+/// The parentheses that open at this place, around what is inside them and before what closes them, their depth, and
+/// what follows them.
+#[tactic(auto, unfolding(crate::specs::Reading::read_then))]
+fn closed_parens(
+    place: u32,
+    inner: Box<Expr>,
+    inner_depth: u32,
+    tokens: &[Token],
+) -> Result<(Expr, u32, &[Token]), ParseError>
+    requires depth { inner_depth ≡ depth (expression_of inner.value) }
+    requires bounded { inner_depth < 64 }
+    ensures gives { Gives {Y = Expression × List Token} (λ x. (expression_of x.0, x.2.now)) result
+        (read_then (after (TokenKind.Symbol Symbol.CloseParen) tokens.now)
+        (λ rest. Ok (Parens place (expression_of inner.value), rest))) }
+    ensures depth { IfOk result (λ x. x.1 ≡ depth (expression_of x.0)) }
+    ensures deeper { IfOk result (λ x. x.1 ≡ inner_depth + 1) }
+{
+    let rest = after_symbol(tokens, Symbol::CloseParen)?;
+    Ok((Expr::Parens { place, inner }, inner_depth + 1, rest))
+}
+
+/// The tokens behind the parenthesis of a `times`, if the limit leaves room for its value.
+#[tactic(auto, unfolding(crate::specs::Reading::within, crate::specs::Reading::read_then))]
+fn inside_times(tokens: &[Token], limit: u32) -> Result<&[Token], ParseError>
+    requires positive { 0 < limit }
+    ensures gives { Gives (λ rest. rest.now) result
+        (read_then (after (TokenKind.Keyword Keyword.Times) tokens.now)
+        (λ behind. within (limit - 1) (place_at tokens.now)
+        (after (TokenKind.Symbol Symbol.OpenParen) behind))) }
+    ensures room { IfOk result (λ rest. 1 < limit) }
+{
+    let place = first_place(tokens);
+    let behind = after_keyword(tokens, Keyword::Times)?;
+    if limit == 1 {
+        return Err(ParseError::TooDeep(place));
+    }
+    after_symbol(behind, Symbol::OpenParen)
+}
+
+/// The `times` at this place, of a value and of the bag that stands behind it, its depth, and what follows it.
+#[tactic(auto, unfolding(crate::specs::Reading::read_then))]
+fn counted_times(
+    place: u32,
+    value: Box<Expr>,
+    value_depth: u32,
+    tokens: &[Token],
+) -> Result<(Expr, u32, &[Token]), ParseError>
+    requires depth { value_depth ≡ depth (expression_of value.value) }
+    requires bounded { value_depth < 64 }
+    ensures gives { Gives {Y = Expression × List Token} (λ x. (expression_of x.0, x.2.now)) result
+        (read_then (after (TokenKind.Symbol Symbol.Comma) tokens.now)
+        (λ comma. read_then (name_at comma)
+        (λ bag. read_then (after (TokenKind.Symbol Symbol.CloseParen) bag.1)
+        (λ rest. Ok (Times place (expression_of value.value) bag.0, rest))))) }
+    ensures depth { IfOk result (λ x. x.1 ≡ depth (expression_of x.0)) }
+    ensures deeper { IfOk result (λ x. x.1 ≡ value_depth + 1) }
+{
+    let rest = after_symbol(tokens, Symbol::Comma)?;
+    let (bag, rest) = name(rest)?;
+    let rest = after_symbol(rest, Symbol::CloseParen)?;
+    Ok((Expr::Times { place, value, bag }, value_depth + 1, rest))
+}
+
+/// Two operands with their operator between them.
+fn joined(alloc: Global, operator: Operator, left: Expr, right: Expr) -> Result<Expr, ParseError>
+    ensures { MatchResult result
+        (λ x. expression_of x ≡ Binary operator (expression_of left) (expression_of right))
+        (λ e. e ≡ Memory) }
+{
+    Ok(Expr::Binary {
+        operator,
+        left: Box::new(alloc, left)?,
+        right: Box::new(alloc, right)?,
+    })
+}
+
+/// An operand of what stands at this place, if the limit leaves room for it, its depth, and what follows it.
+#[cycle(expression)]
+#[tactic(auto, unfolding(crate::specs::Reading::within))]
+fn operand_within(
+    alloc: Global,
+    tokens: &[Token],
+    place: u32,
+    limit: u32,
+    level: u32,
+) -> Result<(Box<Expr>, u32, &[Token]), ParseError>
+    requires positive { 0 < limit }
+    requires bounded { limit ≤ 64 }
+    ensures gives { Gives (λ x. (expression_of x.0.value, x.2.now)) result
+        (within (limit - 1) place (expression_at (limit - 1) level tokens.now)) }
+    ensures depth { IfOk result (λ x. x.1 ≡ depth (expression_of x.0.value)) }
+    ensures within { IfOk result (λ x. (0 < x.1) × (x.1 < limit)) }
+{
+    if limit == 1 {
+        return Err(ParseError::TooDeep(place));
+    }
+    let (operand, depth, rest) = within(alloc, tokens, limit - 1, level)?;
+    Ok((Box::new(alloc, operand)?, depth, rest))
+}
+
 /// An expression in parentheses.
 #[cycle(expression)]
-#[tactic(auto, unfolding(crate::specs::Reading::parens_at, crate::specs::Reading::within, crate::specs::Reading::read_then))]
+#[tactic(auto, unfolding(crate::specs::Reading::parens_at, crate::specs::Reading::read_then))]
 fn parens(alloc: Global, tokens: &[Token], limit: u32) -> Result<(Expr, u32, &[Token]), ParseError>
     requires positive { 0 < limit }
     requires bounded { limit ≤ 64 }
@@ -220,18 +321,13 @@ fn parens(alloc: Global, tokens: &[Token], limit: u32) -> Result<(Expr, u32, &[T
 {
     let place = first_place(tokens);
     let inside = after_symbol(tokens, Symbol::OpenParen)?;
-    if limit == 1 {
-        return Err(ParseError::TooDeep(place));
-    }
-    let (inner, depth, rest) = within(alloc, inside, limit - 1, 0)?;
-    let rest = after_symbol(rest, Symbol::CloseParen)?;
-    let inner = Box::new(alloc, inner)?;
-    Ok((Expr::Parens { place, inner }, depth + 1, rest))
+    let (inner, depth, rest) = operand_within(alloc, inside, place, limit, 0)?;
+    closed_parens(place, inner, depth, rest)
 }
 
 /// An operand behind its operator.
 #[cycle(expression)]
-#[tactic(auto, unfolding(crate::specs::Reading::prefixed_at, crate::specs::Reading::within, crate::specs::Reading::read_then))]
+#[tactic(auto, unfolding(crate::specs::Reading::prefixed_at, crate::specs::Reading::read_then))]
 fn prefixed(
     alloc: Global,
     tokens: &[Token],
@@ -247,11 +343,8 @@ fn prefixed(
 {
     let place = first_place(tokens);
     let behind = after_kind(tokens, kind_of_prefix(operator))?;
-    if limit == 1 {
-        return Err(ParseError::TooDeep(place));
-    }
-    let (operand, depth, rest) = within(alloc, behind, limit - 1, rank_of_prefix(operator))?;
-    let operand = Box::new(alloc, operand)?;
+    let level = rank_of_prefix(operator);
+    let (operand, depth, rest) = operand_within(alloc, behind, place, limit, level)?;
     let expression = Expr::Prefixed {
         operator,
         place,
@@ -272,17 +365,9 @@ fn times(alloc: Global, tokens: &[Token], limit: u32) -> Result<(Expr, u32, &[To
     ensures within { IfOk result (λ x. (0 < x.1) × (x.1 ≤ limit)) }
 {
     let place = first_place(tokens);
-    let behind = after_keyword(tokens, Keyword::Times)?;
-    if limit == 1 {
-        return Err(ParseError::TooDeep(place));
-    }
-    let inside = after_symbol(behind, Symbol::OpenParen)?;
-    let (value, depth, rest) = within(alloc, inside, limit - 1, 0)?;
-    let rest = after_symbol(rest, Symbol::Comma)?;
-    let (bag, rest) = name(rest)?;
-    let rest = after_symbol(rest, Symbol::CloseParen)?;
-    let value = Box::new(alloc, value)?;
-    Ok((Expr::Times { place, value, bag }, depth + 1, rest))
+    let inside = inside_times(tokens, limit)?;
+    let (value, depth, rest) = operand_within(alloc, inside, place, limit, 0)?;
+    counted_times(place, value, depth, rest)
 }
 
 /// Whether an operator before its operand comes first, and may stand at the level.
@@ -347,11 +432,7 @@ fn within(
         let right_level = rank_of_operator(operator) + 1;
         let (right, right_depth, next) = within(alloc, after, limit - 1, right_level)?;
         depth = depth.max(right_depth) + 1;
-        left = Expr::Binary {
-            operator,
-            left: Box::new(alloc, left)?,
-            right: Box::new(alloc, right)?,
-        };
+        left = joined(alloc, operator, left, right)?;
         rest = next;
     }
     Ok((left, depth, rest))

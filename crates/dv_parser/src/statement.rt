@@ -1,10 +1,11 @@
 //! Statements and blocks.
 
-ghost use Rattle.std.specs.Prelude.{◌-◌, ◌<◌, ◌≤◌, map};
-ghost use Rattle.dv_syntax.specs.Trees.{block_of};
+ghost use Rattle.std.specs.Prelude.{◌≡◌, ◌-◌, ◌<◌, ◌≤◌, IfOk, List, Ok, map};
+ghost use Rattle.dv_syntax.specs.Trees.{block_of, expression_of, Statements};
 ghost use Rattle.dv_syntax.specs.Grammar.{the_limits};
 ghost use Rattle.dv_parser.specs.Reading.{Gives, single_of, many_at, assign_at, goto_at, send_at, add_at, drop_at, if_at, for_at};
-ghost use Rattle.dv_parser.specs.Reading.{statement_at, braces_at, block_at};
+ghost use Rattle.dv_parser.specs.Reading.{statement_at, block_at, after, place_at, name_at, expression_at, within, read_then};
+ghost use Rattle.dv_parser.specs.Reading.{joined, SingleIf, SingleIfElse, SingleFor};
 
 use crate::expression::expression;
 use crate::parse_error::ParseError;
@@ -12,7 +13,7 @@ use crate::token::{
     after_keyword, after_symbol, begins_with_keyword, begins_with_symbol, first_place, name,
 };
 use dv_lex::{Keyword, Symbol, Token, TokenKind};
-use dv_syntax::{Block, Stmt};
+use dv_syntax::{Block, Expr, Name, Stmt};
 use std::alloc::Global;
 
 /// `variable := value;`
@@ -80,6 +81,72 @@ fn drop_from_bag(alloc: Global, tokens: &[Token]) -> Result<(Stmt, &[Token]), Pa
     Ok((Stmt::Drop { place, value, bag }, rest))
 }
 
+/// The condition of an `if`, if the limit leaves room for its block, and what follows it.
+#[tactic(auto, unfolding(crate::specs::Reading::within, crate::specs::Reading::read_then))]
+fn condition_of_if(
+    alloc: Global,
+    tokens: &[Token],
+    limit: u32,
+) -> Result<(Expr, &[Token]), ParseError>
+    requires { 0 < limit }
+    ensures gives { Gives (λ x. (expression_of x.0, x.1.now)) result
+        (read_then (after (TokenKind.Keyword Keyword.If) tokens.now)
+        (λ behind. within (limit - 1) (place_at tokens.now)
+        (expression_at the_limits.expression 0 behind))) }
+    ensures room { IfOk result (λ x. 1 < limit) }
+{
+    let place = first_place(tokens);
+    let rest = after_keyword(tokens, Keyword::If)?;
+    if limit == 1 {
+        return Err(ParseError::TooDeep(place));
+    }
+    expression(alloc, rest)
+}
+
+/// An `if` without `else`.
+#[tactic(auto, using(crate::proofs::Rows::rows))]
+fn if_without_else(place: u32, condition: Expr, then_block: Block) -> Stmt
+    ensures { single_of result ≡ SingleIf place (expression_of condition) (block_of then_block) }
+{
+    Stmt::If {
+        place,
+        condition,
+        then_block,
+    }
+}
+
+/// An `if` with its `else`.
+#[tactic(auto, using(crate::proofs::Rows::rows))]
+fn if_with_else(place: u32, condition: Expr, then_block: Block, else_block: Block) -> Stmt
+    ensures { single_of result
+        ≡ SingleIfElse place (expression_of condition) (block_of then_block) (block_of else_block) }
+{
+    Stmt::IfElse {
+        place,
+        condition,
+        then_block,
+        else_block,
+    }
+}
+
+/// The block behind an `else`, and what follows it.
+#[cycle(block)]
+#[tactic(auto, unfolding(crate::specs::Reading::read_then))]
+fn after_else(
+    alloc: Global,
+    tokens: &[Token],
+    limit: u32,
+    loops: u32,
+) -> Result<(Block, &[Token]), ParseError>
+    requires { 0 < limit }
+    ensures { Gives (λ x. (block_of x.0, x.1.now)) result
+        (read_then (after (TokenKind.Keyword Keyword.Else) tokens.now)
+        (block_at the_limits limit loops)) }
+{
+    let behind = after_keyword(tokens, Keyword::Else)?;
+    block(alloc, behind, limit, loops)
+}
+
 /// `if condition { .. }`, and its `else` where that follows.
 #[cycle(block)]
 #[tactic(auto, unfolding(crate::specs::Reading::if_at, crate::specs::Reading::within, crate::specs::Reading::else_at, crate::specs::Reading::read_then, crate::specs::Reading::choose))]
@@ -94,33 +161,54 @@ fn if_statement(
         (if_at the_limits (block_at the_limits (limit - 1) loops) (limit - 1) tokens.now) }
 {
     let place = first_place(tokens);
-    let rest = after_keyword(tokens, Keyword::If)?;
-    if limit == 1 {
-        return Err(ParseError::TooDeep(place));
-    }
-    let (condition, rest) = expression(alloc, rest)?;
+    let (condition, rest) = condition_of_if(alloc, tokens, limit)?;
     let (then_block, rest) = block(alloc, rest, limit - 1, loops)?;
     if begins_with_keyword(rest, Keyword::Else) {
-        let rest = after_keyword(rest, Keyword::Else)?;
-        let (else_block, rest) = block(alloc, rest, limit - 1, loops)?;
-        Ok((
-            Stmt::IfElse {
-                place,
-                condition,
-                then_block,
-                else_block,
-            },
-            rest,
-        ))
+        let (else_block, rest) = after_else(alloc, rest, limit - 1, loops)?;
+        Ok((if_with_else(place, condition, then_block, else_block), rest))
     } else {
-        Ok((
-            Stmt::If {
-                place,
-                condition,
-                then_block,
-            },
-            rest,
-        ))
+        Ok((if_without_else(place, condition, then_block), rest))
+    }
+}
+
+/// The variable and the bag of a `for`, if the limits leave room for its block, and what follows them.
+#[tactic(auto, unfolding(crate::specs::Reading::within, crate::specs::Reading::read_then))]
+fn head_of_for(
+    tokens: &[Token],
+    limit: u32,
+    loops: u32,
+) -> Result<(Name, Name, &[Token]), ParseError>
+    requires { 0 < limit }
+    ensures gives { Gives {Y = Name × (Name × List Token)} (λ x. (x.0, (x.1, x.2.now))) result
+        (read_then (after (TokenKind.Keyword Keyword.For) tokens.now)
+        (λ behind. read_then
+        (within (limit - 1) (place_at tokens.now)
+        (within loops (place_at tokens.now) (name_at behind)))
+        (λ v. read_then (after (TokenKind.Keyword Keyword.In) v.1)
+        (λ word. read_then (name_at word) (λ bag. Ok (v.0, (bag.0, bag.1))))))) }
+    ensures room { IfOk result (λ x. (1 < limit) × (0 < loops)) }
+{
+    let place = first_place(tokens);
+    let rest = after_keyword(tokens, Keyword::For)?;
+    if limit == 1 || loops == 0 {
+        return Err(ParseError::TooDeep(place));
+    }
+    let (variable, rest) = name(rest)?;
+    let rest = after_keyword(rest, Keyword::In)?;
+    let (bag, rest) = name(rest)?;
+    Ok((variable, bag, rest))
+}
+
+/// The `for` of a variable, a bag and a block.
+#[tactic(auto, using(crate::proofs::Rows::rows))]
+fn for_loop(place: u32, variable: Name, bag: Name, block: Block) -> Stmt
+    ensures { single_of result ≡ SingleFor place variable bag (block_of block) }
+{
+    Stmt::For {
+        place,
+        variable,
+        bag,
+        block,
     }
 }
 
@@ -138,23 +226,9 @@ fn for_statement(
         (for_at (block_at the_limits (limit - 1)) (limit - 1) loops tokens.now) }
 {
     let place = first_place(tokens);
-    let rest = after_keyword(tokens, Keyword::For)?;
-    if limit == 1 || loops == 0 {
-        return Err(ParseError::TooDeep(place));
-    }
-    let (variable, rest) = name(rest)?;
-    let rest = after_keyword(rest, Keyword::In)?;
-    let (bag, rest) = name(rest)?;
+    let (variable, bag, rest) = head_of_for(tokens, limit, loops)?;
     let (block, rest) = block(alloc, rest, limit - 1, loops - 1)?;
-    Ok((
-        Stmt::For {
-            place,
-            variable,
-            bag,
-            block,
-        },
-        rest,
-    ))
+    Ok((for_loop(place, variable, bag, block), rest))
 }
 
 /// A statement at the front.
@@ -210,24 +284,15 @@ fn statements(
     Ok((statements, rest))
 }
 
-/// The statements of a block in braces.
-#[cycle(block)]
-#[tactic(auto, unfolding(crate::specs::Reading::braces_at, crate::specs::Reading::read_then))]
-fn braced_statements(
-    alloc: Global,
-    tokens: &[Token],
-    limit: u32,
-    loops: u32,
-) -> Result<(Vec<Stmt>, &[Token]), ParseError>
-    requires { 0 < limit }
-    ensures { Gives (λ x. (map single_of x.0.items, x.1.now)) result
-        (braces_at (statement_at the_limits (block_at the_limits (limit - 1)) (limit - 1) loops)
-        tokens.now) }
+/// The block of these statements, behind which a brace closes it, and what follows it.
+#[tactic(auto, using(crate::proofs::Rows::joined_items), unfolding(crate::specs::Reading::read_then))]
+fn closed_block(statements: Vec<Stmt>, tokens: &[Token]) -> Result<(Block, &[Token]), ParseError>
+    ensures { Gives {Y = Statements × List Token} (λ x. (block_of x.0, x.1.now)) result
+        (read_then (after (TokenKind.Symbol Symbol.CloseBrace) tokens.now)
+        (λ rest. Ok (joined (map single_of statements.items), rest))) }
 {
-    let inside = after_symbol(tokens, Symbol::OpenBrace)?;
-    let (statements, rest) = statements(alloc, inside, limit, loops)?;
-    let rest = after_symbol(rest, Symbol::CloseBrace)?;
-    Ok((statements, rest))
+    let rest = after_symbol(tokens, Symbol::CloseBrace)?;
+    Ok((Block { statements }, rest))
 }
 
 /// Statements in braces. The limit counts how deep blocks may lie in one another, this one too; `loops` counts how many
@@ -243,6 +308,7 @@ pub fn block(
     ensures { Gives (λ x. (block_of x.0, x.1.now)) result
         (block_at the_limits limit loops tokens.now) }
 {
-    let (statements, rest) = braced_statements(alloc, tokens, limit, loops)?;
-    Ok((Block { statements }, rest))
+    let inside = after_symbol(tokens, Symbol::OpenBrace)?;
+    let (statements, rest) = statements(alloc, inside, limit, loops)?;
+    closed_block(statements, rest)
 }

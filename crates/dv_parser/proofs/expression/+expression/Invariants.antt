@@ -5,19 +5,22 @@ use Rattle.dv_parser.specs.Reading.{expression_at, more_at}
 use Rattle.dv_parser.proofs.expression.+expression.Given as goal
 
 abbrev pub decreases-within : goal.decreases-within
-decreases-within l = 3 * l.limit + 2
+decreases-within l = 4 * l.limit + 2
 
 abbrev pub decreases-primary : goal.decreases-primary
-decreases-primary l = 3 * l.limit + 1
+decreases-primary l = 4 * l.limit + 1
+
+abbrev pub decreases-operand_within : goal.decreases-operand_within
+decreases-operand_within l = 4 * l.limit - 1
 
 abbrev pub decreases-parens : goal.decreases-parens
-decreases-parens l = 3 * l.limit
+decreases-parens l = 4 * l.limit
 
 abbrev pub decreases-prefixed : goal.decreases-prefixed
-decreases-prefixed l = 3 * l.limit
+decreases-prefixed l = 4 * l.limit
 
 abbrev pub decreases-times : goal.decreases-times
-decreases-times l = 3 * l.limit
+decreases-times l = 4 * l.limit
 
 abbrev pub invariant-within-loop-operator : goal.invariant-within-loop-operator
 invariant-within-loop-operator l = record {

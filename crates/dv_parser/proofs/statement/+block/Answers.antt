@@ -6,39 +6,26 @@ use Rattle.dv_lex.specs.declared.token.TokenKind.{TokenKind}
 use Rattle.dv_lex.specs.declared.token.TokenKind.TheVariants as kind
 use Rattle.dv_lex.specs.declared.token.Symbol.TheVariants as symbol
 use Rattle.dv_syntax.specs.Grammar.{the_limits}
-use Rattle.dv_parser.specs.Reading.{if_at, else_at, for_at, read_then, choose, within, after, many_at, Single, single_of}
-use Rattle.dv_syntax.specs.declared.tree.Stmt.{Stmt, the_lemmas}
-use Rattle.dv_syntax.specs.Trees.{Statements}
+use Rattle.dv_parser.specs.Reading.{read_then, many_at, Single, single_of}
+use Rattle.dv_syntax.specs.declared.tree.Stmt.{Stmt}
 use Rattle.dv_parser.proofs.Readers.{front_nothing, turn_some, turn_stop, turn_fails, front_more}
-use Rattle.dv_parser.proofs.Statements.{statement_shortens, inside_at, block_some, block_fails}
-use Rattle.dv_parser.proofs.Rows.{row_items, joined_items}
+use Rattle.dv_parser.proofs.Statements.{statement_shortens, inside_at, block_reads}
 use Rattle.dv_parser.proofs.statement.+block.Goals as goal
 
-pub if_statement-returns-in_ok-else_block : goal.if_statement-returns-in_ok-else_block
-unfolding if_at else_at read_then choose within after
-if_statement-returns-in_ok-else_block t c = search (rules, the_lemmas, row_items)
-
-pub if_statement-returns-else-begins_with_keyword : goal.if_statement-returns-else-begins_with_keyword
-unfolding if_at else_at read_then choose within after
-if_statement-returns-else-begins_with_keyword t c = search (rules, the_lemmas, row_items)
-
-pub for_statement-returns : goal.for_statement-returns
-unfolding for_at read_then within after
-for_statement-returns t c = search (rules, the_lemmas, row_items)
+pub block-returns-in_err-inside : goal.block-returns-in_err-inside
+unfolding read_then
+block-returns-in_err-inside t c =
+    rw (block_reads the_limits c.args.limit c.args.loops c.args.tokens.now c.requires) (search rules)
 
 pub block-returns-in_err-statements : goal.block-returns-in_err-statements
+unfolding read_then
 block-returns-in_err-statements t c =
-    let p = err_from_is_err_and c.from_residual.result c.from_residual.ensures.1 in
-    rw (p.1, p.2)
-    (block_fails c.in_err-statements.field-0.0 the_limits c.args.limit c.args.loops c.args.tokens.now
-    c.requires c.in_err-statements.ensures)
+    rw (block_reads the_limits c.args.limit c.args.loops c.args.tokens.now c.requires) (search rules)
 
 pub block-returns : goal.block-returns
+unfolding read_then
 block-returns t c =
-    let items : List Stmt = c.in_ok-statements.statements.items in
-    let rest : List Token = c.in_ok-statements.rest.now in
-    block_some the_limits c.args.limit c.args.loops c.args.tokens.now (map single_of items) rest c.requires c.in_ok-statements.ensures
-    ∙ ap (λ (ss : Statements). Ok (ss, rest)) (joined_items items ∙ search (rules, the_lemmas))
+    rw (block_reads the_limits c.args.limit c.args.loops c.args.tokens.now c.requires) (search rules)
 
 abbrev close : TokenKind
 close = kind.Symbol symbol.CloseBrace

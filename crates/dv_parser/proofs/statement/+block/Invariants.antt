@@ -7,16 +7,16 @@ use Rattle.dv_parser.proofs.Statements.{inside_at}
 use Rattle.dv_parser.proofs.statement.+block.Given as goal
 
 abbrev pub decreases-block : goal.decreases-block
-decreases-block l = 5 * l.limit + 4
-
-abbrev pub decreases-braced_statements : goal.decreases-braced_statements
-decreases-braced_statements l = 5 * l.limit + 3
+decreases-block l = 5 * l.limit + 3
 
 abbrev pub decreases-statements : goal.decreases-statements
 decreases-statements l = 5 * l.limit + 2
 
 abbrev pub decreases-statement : goal.decreases-statement
 decreases-statement l = 5 * l.limit + 1
+
+abbrev pub decreases-after_else : goal.decreases-after_else
+decreases-after_else l = 5 * l.limit + 4
 
 abbrev pub decreases-if_statement : goal.decreases-if_statement
 decreases-if_statement l = 5 * l.limit
