@@ -1,10 +1,10 @@
 -- Links as the couplings of parts: added one by one, they are for each part those that begin there.
 use Rattle.std.proofs.Common.{◌≡◌, ◌≢◌, ℕ, ◌<◌, ◌+◌, Bool, true, false, cond, eqb, List, [], ◌∷◌, ◌++◌, length, map, get_or}
 use Rattle.std.proofs.Common.{replicate, refl, ap, sym, ◌∙◌, arith}
-use Rattle.std.specs.Prelude.{fold, Option, Some, None}
+use Rattle.std.specs.Prelude.{fold, Some, None}
 use Rattle.std.specs.List.{range_with_len, cons_option}
 use Rattle.std.proofs.Math.ListN.{set}
-use Rattle.std.proofs.lemmas.List.{append-nil, append_assoc, same_lists, get_or-set_same, get_or-set_other, length-set}
+use Rattle.std.proofs.lemmas.List.{append-nil, same_lists, get_or-set_same, get_or-set_other, length-set}
 use Rattle.std.proofs.lemmas.List.FromFn.{length-map-range_with_len, get_or-map-range_with_len}
 use Rattle.std.proofs.lemmas.Bool.{eqb-true, eqb-false}
 use Rattle.dv_tree.specs.Couplings.{coupling_from_part, part_couplings}
@@ -13,6 +13,7 @@ use Rattle.dv_tree.specs.declared.couplings.Target.{Target}
 use Rattle.dv_tree.specs.declared.couplings.Target.TheVariants.{Own, OfPart}
 use Rattle.dv_tree.specs.declared.couplings.Coupling.{Coupling}
 use Rattle.dv_tree.specs.declared.couplings.PlacedLink.{PlacedLink}
+use Rattle.dv_tree.proofs.Gathered.{put_before}
 
 -- lists that are the same at each place
 map_same : {X : Type 0} (f g : ℕ → X) → ((k : ℕ) → f k ≡ g k) → (ks : List ℕ) → map f ks ≡ map g ks
@@ -62,10 +63,6 @@ pub with_link-added : (c : ℕ → List Coupling) (n : ℕ) (from to : Target) �
 with_link-added c n (Own port) to = map_same c (λ k. c k ++ []) (λ k. sym (append-nil (c k))) (range_with_len 0 n)
 with_link-added c n (OfPart part port) to = with_coupling_at-of_part c n part (record { port = port; target = to })
 
-joined_lists : (o : Option Coupling) (xs ys : List Coupling) → (xs ++ cons_option o []) ++ ys ≡ xs ++ cons_option o ys
-joined_lists None xs ys = ap (λ zs. zs ++ ys) (append-nil xs)
-joined_lists (Some x) xs ys = append_assoc xs (x ∷ []) ys
-
 with_links : (links : List PlacedLink) (c : ℕ → List Coupling) (n : ℕ) →
     fold with_link (map c (range_with_len 0 n)) links ≡ map (λ k. c k ++ part_couplings links k) (range_with_len 0 n)
 with_links [] c n = map_same c (λ k. c k ++ []) (λ k. sym (append-nil (c k))) (range_with_len 0 n)
@@ -74,7 +71,7 @@ with_links (l ∷ links) c n =
     ∙ (with_links links (λ k. c k ++ cons_option (coupling_from_part k l.from l.to) []) n
     ∙ map_same (λ k. (c k ++ cons_option (coupling_from_part k l.from l.to) []) ++ part_couplings links k)
     (λ k. c k ++ part_couplings (l ∷ links) k)
-    (λ k. joined_lists (coupling_from_part k l.from l.to) (c k) (part_couplings links k)) (range_with_len 0 n))
+    (λ k. put_before (c k) (coupling_from_part k l.from l.to) (part_couplings links k)) (range_with_len 0 n))
 
 -- all links, from no couplings on
 pub all_links : (links : List PlacedLink) (n : ℕ) →

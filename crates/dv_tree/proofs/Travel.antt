@@ -1,19 +1,20 @@
 -- What travels up and down through the parts of a coupled model, part by part.
-use Rattle.std.proofs.Common.{◌≡◌, ◌≢◌, ℕ, ◌-◌, List, [], ◌∷◌, ◌++◌, ◌≤◌, length, drop, subst, refl, ap, sym, ◌∙◌}
-use Rattle.std.specs.Prelude.{Option}
-use Rattle.std.proofs.lemmas.List.{append-nil, append_assoc, drop_all, set_at}
+use Rattle.std.proofs.Common.{◌≡◌, ◌≢◌, ℕ, zero, suc, ◌+◌, ◌-◌, List, [], ◌∷◌, ◌++◌, ◌<◌, ◌≤◌, length, drop, get_or}
+use Rattle.std.proofs.Common.{subst, refl, ap, sym, ◌∙◌, arith, add-one}
+use Rattle.std.specs.Prelude.{Option, Some, None}
+use Rattle.std.proofs.lemmas.List.{append_assoc, drop-drop, drop_all, drop_more, set_at}
 use Rattle.std.proofs.Math.ListN.{set}
 use Rattle.dv_bag.specs.Bag.{Counts}
-use Rattle.dv_tree.specs.Routing.{Arrived, along_all}
+use Rattle.dv_tree.specs.Routing.{Arrived, along, along_all}
 use Rattle.dv_tree.specs.Tables.{LevelTable}
-use Rattle.dv_tree.specs.Nodes.{Nodes, NoNodes, nodes_by, nodes_to, atomic_count, coupled_count, nothing_in, from_level}
-use Rattle.dv_tree.specs.Nodes.{leaving_nodes, kept_nodes, arriving_nodes}
+use Rattle.dv_tree.specs.Nodes.{Nodes, NoNodes, level_at, nodes_by, nodes_to, with_node, atomic_count, coupled_count}
+use Rattle.dv_tree.specs.Nodes.{nothing_in, from_level, leaving_nodes, kept_nodes, arriving_nodes, part_count, part_leaving, part_kept}
 use Rattle.dv_tree.specs.declared.couplings.Coupling.{Coupling}
 use Rattle.dv_tree.specs.declared.entries.Entry.{Entry}
 use Rattle.dv_tree.proofs.Below.{nodes_of_table}
 
 -- nothing leaves
-along_all-none : (couplings : List (List Coupling)) (a : Arrived) → along_all couplings [] a ≡ a
+pub along_all-none : (couplings : List (List Coupling)) (a : Arrived) → along_all couplings [] a ≡ a
 along_all-none [] a = refl
 along_all-none (cs ∷ couplings) a = refl
 
@@ -31,19 +32,84 @@ pub record Sinks (nodes : Nodes) (comes : List (List Counts)) (kept : List Arriv
   pub rest : drop (coupled_count nodes) kept ≡ kept_then
   pub received_is : received ++ arriving_nodes nodes comes kept ≡ received_then
 
--- on no level there are no parts
-pub risen_at_zero : (levels : List (Option LevelTable)) (l : LevelTable) (sent : List (List Counts)) (arrived : Arrived)
-    (old kept : List Arrived) (depth : ℕ) → depth ≡ 0 → arrived ≡ nothing_in l → kept ≡ old ++ arrived ∷ [] →
-    kept ≡ old ++ from_level l (leaving_nodes (nodes_to depth levels l) sent) ∷ kept_nodes (nodes_to depth levels l) sent
-risen_at_zero levels l sent arrived old kept depth none start pushed =
-    pushed
-    ∙ (ap (λ a. old ++ a ∷ []) (start ∙ sym (along_all-none l.of_parts (nothing_in l)))
-    ∙ ap (λ d. old ++ from_level l (leaving_nodes (nodes_to d levels l) sent) ∷ kept_nodes (nodes_to d levels l) sent) (sym none))
+-- on no level there are no parts from which anything comes
+pub none_at_zero : (levels : List (Option LevelTable)) (l : LevelTable) (sent : List (List Counts)) (a : Arrived) (depth : ℕ) →
+    depth ≡ 0 → a ≡ along_all l.of_parts (leaving_nodes (nodes_to depth levels l) sent) a
+none_at_zero levels l sent a depth none =
+    sym (along_all-none l.of_parts a) ∙ ap (λ d. along_all l.of_parts (leaving_nodes (nodes_to d levels l) sent) a) (sym none)
 
--- one more in front of what is kept
-set_slot : (old more : List Arrived) (x a : Arrived) (slot : ℕ) → length old ≡ slot →
-    set ((old ++ x ∷ []) ++ more) slot a ≡ old ++ a ∷ more
-set_slot old more x a slot at = ap (λ xs. set xs slot a) (append_assoc old (x ∷ []) more) ∙ set_at old x more a slot at
+-- along the couplings of one part, and then of those behind it
+along_all-drop : (couplings : List (List Coupling)) (i : ℕ) (bags : List Counts) (leaving : List (List Counts)) (a : Arrived) →
+    along_all (drop i couplings) (bags ∷ leaving) a ≡ along_all (drop (suc i) couplings) leaving (along (get_or couplings i []) bags a)
+along_all-drop [] zero bags leaving a = refl
+along_all-drop [] (suc i) bags leaving a = refl
+along_all-drop (cs ∷ couplings) zero bags leaving a = refl
+along_all-drop (cs ∷ couplings) (suc i) bags leaving a = along_all-drop couplings i bags leaving a
+
+-- a part before others: how many components it has, what leaves it, and what is kept of it
+record Precedes (nodes : Nodes) (sent : List (List Counts)) (count : ℕ) (bags : List Counts) (own : List Arrived) (others : Nodes) :
+    Type 0 where
+  pub counted : count + atomic_count others ≡ atomic_count nodes
+  pub leaves : bags ∷ leaving_nodes others (drop count sent) ≡ leaving_nodes nodes sent
+  pub keeps : own ++ kept_nodes others (drop count sent) ≡ kept_nodes nodes sent
+
+precedes : (inside : LevelTable → Nodes) (e : Entry) (o : Option LevelTable) (others : Nodes) (sent : List (List Counts)) →
+    Precedes (with_node inside e o others) sent (part_count inside o) (part_leaving inside o sent) (part_kept inside o sent) others
+precedes inside e None others sent = record { counted = omega arith; leaves = refl; keeps = refl }
+precedes inside e (Some l) others sent = record { counted = refl; leaves = refl; keeps = refl }
+
+-- the part at a place, and those behind it
+part_at : (inside : LevelTable → Nodes) (levels : List (Option LevelTable)) (entries : List Entry) (i : ℕ) (e : Entry)
+    (o : Option LevelTable) → i < length entries → o ≡ level_at levels (get_or entries i e).model →
+    nodes_by inside levels (drop i entries) ≡ with_node inside (get_or entries i e) o (nodes_by inside levels (drop (i + 1) entries))
+part_at inside levels entries i e o within is =
+    ap (nodes_by inside levels) (drop_more entries i e within)
+    ∙ ap (λ x. with_node inside (get_or entries i e) x (nodes_by inside levels (drop (i + 1) entries))) (sym is)
+
+-- up from one part
+pub risen_part : (couplings : List (List Coupling)) (inside : LevelTable → Nodes) (levels : List (Option LevelTable))
+    (entries : List Entry) (i : ℕ) (e : Entry) (o : Option LevelTable) (cs : List Coupling) (sent rest : List (List Counts))
+    (before arrived : Arrived) (old kept : List Arrived) {sent_then : List (List Counts)} {arrived_then : Arrived}
+    {kept_then : List Arrived} → i < length entries → o ≡ level_at levels (get_or entries i e).model → cs ≡ get_or couplings i [] →
+    Rises couplings (nodes_by inside levels (drop i entries)) i sent before old sent_then arrived_then kept_then →
+    rest ≡ drop (part_count inside o) sent → arrived ≡ along cs (part_leaving inside o sent) before →
+    kept ≡ old ++ part_kept inside o sent →
+    Rises couplings (nodes_by inside levels (drop (i + 1) entries)) (i + 1) rest arrived kept sent_then arrived_then kept_then
+risen_part couplings inside levels entries i e o cs sent rest before arrived old kept within is cs_is r rest_is arrived_is kept_is =
+    let others = nodes_by inside levels (drop (i + 1) entries) in
+    let nodes = part_at inside levels entries i e o within is in
+    let p = precedes inside (get_or entries i e) o others sent in
+    let count = part_count inside o in
+    let bags = part_leaving inside o sent in
+    let leaving = leaving_nodes others (drop count sent) in
+    record {
+      rest =
+          ap (drop (atomic_count others)) rest_is
+          ∙ (drop-drop (atomic_count others) count sent
+          ∙ (ap (λ n. drop n sent) (p.counted ∙ ap atomic_count (sym nodes)) ∙ r.rest));
+      arrived_is =
+          ap (λ s. along_all (drop (i + 1) couplings) (leaving_nodes others s) arrived) rest_is
+          ∙ (ap (along_all (drop (i + 1) couplings) leaving) (arrived_is ∙ ap (λ x. along x bags before) cs_is)
+          ∙ (ap (λ n. along_all (drop n couplings) leaving (along (get_or couplings i []) bags before)) (add-one i)
+          ∙ (sym (along_all-drop couplings i bags leaving before)
+          ∙ (ap (λ xs. along_all (drop i couplings) xs before) (p.leaves ∙ ap (λ ns. leaving_nodes ns sent) (sym nodes))
+          ∙ r.arrived_is))));
+      kept_is =
+          ap (λ s. kept ++ kept_nodes others s) rest_is
+          ∙ (ap (λ ks. ks ++ kept_nodes others (drop count sent)) kept_is
+          ∙ (append_assoc old (part_kept inside o sent) (kept_nodes others (drop count sent))
+          ∙ (ap (λ ks. old ++ ks) (p.keeps ∙ ap (λ ns. kept_nodes ns sent) (sym nodes)) ∙ r.kept_is)));
+    }
+
+-- what stands in the slot of a coupled model then
+pub in_slot : (l : LevelTable) (leaving : List (List Counts)) (old more pushed kept : List Arrived) (x arrived start : Arrived)
+    (slot : ℕ) → kept ≡ pushed ++ more → pushed ≡ old ++ x ∷ [] → slot ≡ length old →
+    arrived ≡ along_all l.of_parts leaving start → start ≡ nothing_in l →
+    set kept slot arrived ≡ old ++ from_level l leaving ∷ more
+in_slot l leaving old more pushed kept x arrived start slot kept_is pushed_is at arrived_is start_is =
+    ap (λ ks. set ks slot arrived) (kept_is ∙ (ap (λ ks. ks ++ more) pushed_is ∙ append_assoc old (x ∷ []) more))
+    ∙ (set_at old x more arrived slot (sym at)
+    ∙ ap (λ a. old ++ a ∷ more) (arrived_is ∙ ap (along_all l.of_parts leaving) start_is))
 
 -- at the end of the parts
 module _ (depth : ℕ) (levels : List (Option LevelTable)) (l : LevelTable) (entries : List Entry) (some : depth ≢ 0)
@@ -80,15 +146,3 @@ module _ (depth : ℕ) (levels : List (Option LevelTable)) (l : LevelTable) (ent
       let All : Nodes → Type 0 =
       λ n. Sinks NoNodes parts kept received (drop (coupled_count n) before) (old ++ arriving_nodes n comes before) in
       subst All (nodes_of_table depth levels l entries some are) (subst From (drop_all i entries past) s)
-
--- what stands in the slot of a coupled model then
-pub risen_slot : (l : LevelTable) (nodes : Nodes) (i : ℕ) (sent rest : List (List Counts)) (arrived start : Arrived)
-    (old kept pushed : List Arrived) (x : Arrived) (slot : ℕ) →
-    Rises l.of_parts NoNodes i rest arrived kept (drop (atomic_count nodes) sent) (along_all l.of_parts (leaving_nodes nodes sent) start)
-    (pushed ++ kept_nodes nodes sent) → start ≡ nothing_in l → pushed ≡ old ++ x ∷ [] → length old ≡ slot →
-    set kept slot arrived ≡ old ++ from_level l (leaving_nodes nodes sent) ∷ kept_nodes nodes sent
-risen_slot l nodes i sent rest arrived start old kept pushed x slot r start_is pushed_is at =
-    ap (λ ks. set ks slot arrived) (sym (append-nil kept) ∙ (r.kept_is ∙ ap (λ ks. ks ++ kept_nodes nodes sent) pushed_is))
-    ∙ (set_slot old (kept_nodes nodes sent) x arrived slot at
-    ∙ ap (λ a. old ++ a ∷ kept_nodes nodes sent)
-    (sym (along_all-none (drop i l.of_parts) arrived) ∙ (r.arrived_is ∙ ap (along_all l.of_parts (leaving_nodes nodes sent)) start_is)))

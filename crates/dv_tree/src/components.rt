@@ -1,6 +1,6 @@
 //! The components by number.
 
-ghost use Rattle.std.specs.Prelude.{◌≡◌, ◌++◌, string_bytes, IfOk, OnOk};
+ghost use Rattle.std.specs.Prelude.{◌≡◌, ◌++◌, ◌∷◌, [], string_bytes, IfOk, OnOk};
 ghost use Rattle.dv_tree.specs.Nodes.{components_in, nodes_to};
 ghost use Rattle.dv_tree.specs.Paths.{name_at};
 
@@ -58,6 +58,30 @@ fn joined(alloc: Global, before: &str, name: &str) -> Result<String, AllocError>
     Ok(text)
 }
 
+// Where the paths of the components in a coupled part begin.
+fn path_into(alloc: Global, before: &str, name: &str) -> Result<String, AllocError>
+    ensures { IfOk result (λ text. string_bytes text ≡ before.now ++ name.now ++ 46 ∷ []) }
+{
+    let mut path = joined(alloc, before, name)?;
+    path.push_str(".")?;
+    Ok(path)
+}
+
+// Adds the component that an atomic part is, by the place of its model.
+fn add_component(
+    alloc: Global,
+    before: &str,
+    name: &str,
+    model: usize,
+    components: &mut Vec<Component>,
+) -> Result<(), AllocError>
+    ensures { OnOk result (components.new.items ≡ components.old.items
+        ++ (before.now ++ name.now, model) ∷ []) }
+{
+    let path = joined(alloc, before, name)?;
+    Ok(components.push(Component { path, model })?)
+}
+
 /// Adds the components in the parts of a coupled model, down to so many levels. Their paths begin with a text.
 ///
 /// # Errors
@@ -79,10 +103,10 @@ pub(crate) fn add_components(
         return Ok(());
     }
     for entry in level.parts() {
-        let mut path = joined(alloc, before, name_at(names, entry.name.number))?;
+        let name = name_at(names, entry.name.number);
         match level_at(levels, entry.model) {
             Some(inside) => {
-                path.push_str(".")?;
+                let path = path_into(alloc, before, name)?;
                 add_components(
                     alloc,
                     depth - 1,
@@ -93,10 +117,7 @@ pub(crate) fn add_components(
                     components,
                 )?;
             }
-            None => components.push(Component {
-                path,
-                model: entry.model,
-            })?,
+            None => add_component(alloc, before, name, entry.model, components)?,
         }
     }
     Ok(())

@@ -4,9 +4,10 @@ ghost use Rattle.std.specs.Prelude.{◌≡◌, [], length, map, replicate, slice
 ghost use Rattle.std.specs.List.{filter_map};
 ghost use Rattle.dv_syntax.specs.Trees.{coupled_of, model_of};
 ghost use Rattle.dv_eval.specs.Scope.{place_of};
+ghost use Rattle.dv_check.specs.Accepted.{numbers_of};
 ghost use Rattle.dv_tree.specs.Couplings.{place_at};
 ghost use Rattle.dv_tree.specs.Nodes.{level_at, nothing_in};
-ghost use Rattle.dv_tree.specs.Tables.{level_by, level_by_model, links_by, placed_by, ports_at};
+ghost use Rattle.dv_tree.specs.Tables.{entry_names, level_by, level_by_model, links_by, placed_by, ports_at};
 
 use crate::arrived::Arrived;
 use crate::couplings::{Coupling, PlacedLink, Target, own_couplings, part_couplings};
@@ -14,7 +15,7 @@ use crate::entries::{Entry, entries, entry_names};
 use crate::places::Places;
 use crate::tables::numbers;
 use dv_bag::Bags;
-use dv_syntax::{Coupled, End, Link, Model as ModelItem};
+use dv_syntax::{Coupled, End, Link, Model as ModelItem, Name};
 use std::alloc::{AllocError, Global};
 use std::marker::Model;
 
@@ -184,6 +185,20 @@ fn placed_links(alloc: Global, links: &[Link], ends: &Ends) -> Result<Vec<Placed
     Ok(placed)
 }
 
+// The places of ports by their names.
+fn places_of_ports(alloc: Global, ports: &[Name]) -> Result<Places, AllocError>
+    ensures { IfOk result (λ places. places ≡ numbers_of ports.now) }
+{
+    Places::of(alloc, numbers(alloc, ports)?)
+}
+
+// The places of parts by their names.
+fn places_of_parts(alloc: Global, parts: &[Entry]) -> Result<Places, AllocError>
+    ensures { IfOk result (λ places. places ≡ entry_names parts.now) }
+{
+    Places::of(alloc, entry_names(alloc, parts)?)
+}
+
 fn links_by(
     alloc: Global,
     coupled: &Coupled,
@@ -194,9 +209,9 @@ fn links_by(
     ensures { IfOk result (λ links. links.items
         ≡ links_by inputs.now outputs.now parts.now (coupled_of coupled.now)) }
 {
-    let own_inputs = Places::of(alloc, numbers(alloc, &coupled.inputs)?)?;
-    let own_outputs = Places::of(alloc, numbers(alloc, &coupled.outputs)?)?;
-    let names = Places::of(alloc, entry_names(alloc, parts)?)?;
+    let own_inputs = places_of_ports(alloc, &coupled.inputs)?;
+    let own_outputs = places_of_ports(alloc, &coupled.outputs)?;
+    let names = places_of_parts(alloc, parts)?;
     let ends = Ends {
         own_inputs,
         own_outputs,

@@ -1,10 +1,12 @@
 //! How values travel.
 
-ghost use Rattle.std.specs.Prelude.{◌≡◌, ◌++◌, ◌∷◌, suc, drop, option_copied, OnOk, IfOk};
+ghost use Rattle.std.specs.Prelude.{◌≡◌, ◌++◌, ◌∷◌, [], suc, drop, length, slice_get, option_copied, option_map};
+ghost use Rattle.std.specs.Prelude.{OnOk, IfOk};
 ghost use Rattle.std.specs.Vec.Iter.{into_iter_items};
 ghost use Rattle.dv_tree.specs.Nodes.{arriving_nodes, atomic_count, coupled_count, from_level, kept_nodes, leaving_nodes};
-ghost use Rattle.dv_tree.specs.Nodes.{nodes_to, part_count, part_coupled, part_kept, part_leaving, part_received, through_level};
-ghost use Rattle.dv_tree.specs.Routing.{along, first_bags};
+ghost use Rattle.dv_tree.specs.Nodes.{nodes_to, part_count, part_coupled, part_kept, part_leaving, part_received};
+ghost use Rattle.dv_tree.specs.Nodes.{through_level, to_level};
+ghost use Rattle.dv_tree.specs.Routing.{along, along_all, first_bags};
 
 use crate::arrived::Arrived;
 use crate::couplings::Coupling;
@@ -34,13 +36,34 @@ pub(crate) fn rise<'s>(
         ++ from_level level.now (leaving_nodes (nodes_to depth levels.now level.now) sent.now)
         ∷ kept_nodes (nodes_to depth levels.now level.now) sent.now) }
 {
+    let slot = keep_slot(alloc, kept)?;
     let mut arrived = level.nothing(alloc)?;
+    let rest = rise_parts(alloc, depth, level, levels, sent, kept, &mut arrived)?;
+    kept[slot] = arrived;
+    Ok(rest)
+}
+
+// The same of the parts of a coupled model: what leaves each goes along its couplings.
+#[cycle(rise)]
+fn rise_parts<'s>(
+    alloc: Global,
+    depth: usize,
+    level: &Level,
+    levels: &[Option<Level>],
+    sent: &'s [Sent],
+    kept: &mut Vec<Arrived>,
+    arrived: &mut Arrived,
+) -> Result<&'s [Sent], AllocError>
+    ensures rest { IfOk result (λ rest. rest.now
+        ≡ drop (atomic_count (nodes_to depth levels.now level.now)) sent.now) }
+    ensures arrived { OnOk result (arrived.new ≡ along_all level.now.of_parts
+        (leaving_nodes (nodes_to depth levels.now level.now) sent.now) arrived.old) }
+    ensures kept { OnOk result (kept.new.items ≡ kept.old.items
+        ++ kept_nodes (nodes_to depth levels.now level.now) sent.now) }
+{
     if depth == 0 {
-        kept.push(arrived)?;
         return Ok(sent);
     }
-    let slot = kept.len();
-    kept.push(Arrived::empty(alloc)?)?;
     let mut rest = sent;
     for (part, entry) in level.parts().iter().enumerate() {
         let inside = level_at(levels, entry.model);
@@ -53,10 +76,9 @@ pub(crate) fn rise<'s>(
             couplings,
             rest,
             kept,
-            &mut arrived,
+            arrived,
         )?;
     }
-    kept[slot] = arrived;
     Ok(rest)
 }
 
@@ -89,6 +111,17 @@ fn rise_part<'s>(
             Ok(rest)
         }
     }
+}
+
+// One more place among what is kept, with no ports yet. Gives its place.
+fn keep_slot(alloc: Global, kept: &mut Vec<Arrived>) -> Result<usize, AllocError>
+    ensures slot { IfOk result (λ slot. slot ≡ length kept.old.items) }
+    ensures kept { OnOk result (kept.new.items ≡ kept.old.items
+        ++ record { own = []; parts = [] } ∷ []) }
+{
+    let slot = kept.len();
+    kept.push(Arrived::empty(alloc)?)?;
+    Ok(slot)
 }
 
 // What the first component sends goes along its couplings. Gives what the others send.
@@ -133,17 +166,35 @@ pub(crate) fn sink(
         ++ through_level (arriving_nodes (nodes_to depth levels.now level.now)) level.now input.now
         (into_iter_items kept.old)) }
 {
-    let Some(mut arrived) = kept.next() else {
-        return Ok(());
-    };
-    arrived.add_bags(level.couplings_of_inputs(), input)?;
+    match next_parts(level, input, kept)? {
+        Some(mut parts) => sink_parts(alloc, depth, level, levels, &mut parts, kept, received),
+        None => Ok(()),
+    }
+}
+
+// The same of the parts of a coupled model, from what comes to each.
+#[cycle(sink)]
+fn sink_parts(
+    alloc: Global,
+    depth: usize,
+    level: &Level,
+    levels: &[Option<Level>],
+    parts: &mut IntoIter<Bags>,
+    kept: &mut IntoIter<Arrived>,
+    received: &mut Vec<Bags>,
+) -> Result<(), AllocError>
+    ensures kept { OnOk result (into_iter_items kept.new
+        ≡ drop (coupled_count (nodes_to depth levels.now level.now)) (into_iter_items kept.old)) }
+    ensures received { OnOk result (received.new.items ≡ received.old.items
+        ++ arriving_nodes (nodes_to depth levels.now level.now) (into_iter_items parts.old)
+        (into_iter_items kept.old)) }
+{
     if depth == 0 {
         return Ok(());
     }
-    let mut parts = arrived.into_parts().into_iter();
     for entry in level.parts() {
         let inside = level_at(levels, entry.model);
-        let comes = next_bags(alloc, &mut parts)?;
+        let comes = next_bags(alloc, parts)?;
         sink_part(alloc, depth - 1, inside, levels, comes, kept, received)?;
     }
     Ok(())
@@ -171,6 +222,23 @@ fn sink_part(
         None => Ok(received.push(comes)?),
         Some(level) => sink(alloc, depth, level, levels, &comes, kept, received),
     }
+}
+
+// What comes to the parts of a coupled model, from what comes to its inputs and what is kept of it, which is taken.
+fn next_parts(
+    level: &Level,
+    input: &Bags,
+    kept: &mut IntoIter<Arrived>,
+) -> Result<Option<IntoIter<Bags>>, AllocError>
+    ensures parts { IfOk result (λ parts. option_map into_iter_items parts
+        ≡ option_map (to_level level.now input.now) (slice_get (into_iter_items kept.old) 0)) }
+    ensures rest { OnOk result (into_iter_items kept.new ≡ drop 1 (into_iter_items kept.old)) }
+{
+    let Some(mut arrived) = kept.next() else {
+        return Ok(None);
+    };
+    arrived.add_bags(level.couplings_of_inputs(), input)?;
+    Ok(Some(arrived.into_parts().into_iter()))
 }
 
 // What comes to the next part.

@@ -12,6 +12,6 @@ returns c =
     subst Made
     (links_from c.args.inputs.now c.args.outputs.now c.args.parts.now
     (coupled_of c.args.coupled.now) c.in_ok-own_inputs.own_inputs c.in_ok-own_outputs.own_outputs c.in_ok-names.names c.deref-3.result.now
-    (c.in_ok-own_inputs.ensures ∙ (c.in_ok-numbers.ensures ∙ ap numbers_of c.deref.ensures.value))
-    (c.in_ok-own_outputs.ensures ∙ (c.in_ok-numbers-2.ensures ∙ ap numbers_of c.deref-2.ensures.value))
-    (c.in_ok-names.ensures ∙ c.in_ok-entry_names.ensures) c.deref-3.ensures.value) c.placed_links.ensures
+    (c.in_ok-own_inputs.ensures ∙ ap numbers_of c.deref.ensures.value)
+    (c.in_ok-own_outputs.ensures ∙ ap numbers_of c.deref-2.ensures.value)
+    c.in_ok-names.ensures c.deref-3.ensures.value) c.placed_links.ensures

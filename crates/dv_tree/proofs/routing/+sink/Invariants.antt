@@ -5,13 +5,16 @@ use Rattle.dv_tree.proofs.Travel.{Sinks}
 use Rattle.dv_tree.proofs.routing.+sink.Given as goal
 
 abbrev pub decreases-sink : goal.decreases-sink
-decreases-sink l = 2 * l.depth
+decreases-sink l = 3 * l.depth + 1
+
+abbrev pub decreases-sink_parts : goal.decreases-sink_parts
+decreases-sink_parts l = 3 * l.depth
 
 abbrev pub decreases-sink_part : goal.decreases-sink_part
-decreases-sink_part l = 2 * l.depth + 1
+decreases-sink_part l = 3 * l.depth + 2
 
-abbrev pub invariant-sink-loop-entry : goal.invariant-sink-loop-entry
-invariant-sink-loop-entry l =
+abbrev pub invariant-sink_parts-loop-entry : goal.invariant-sink_parts-loop-entry
+invariant-sink_parts-loop-entry l =
     let all = nodes_by (nodes_to (l.depth - 1) l.levels) l.levels l.entry-items in
     let left = nodes_by (nodes_to (l.depth - 1) l.levels) l.levels (drop l.entry-index l.entry-items) in
     Sinks left (into_iter_items l.parts) (into_iter_items l.kept) l.received.items
