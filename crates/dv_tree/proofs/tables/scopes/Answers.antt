@@ -6,5 +6,5 @@ use Rattle.dv_tree.proofs.tables.scopes.Goals as goal
 
 pub loop-model-preserved : goal.loop-model-preserved
 loop-model-preserved c =
-    gathered_more (λ models. map scope_of_model (map model_of models)) _ _ _ _ _ _ _ _ c.loop-model-test.true c.model-item.is c.in_ok-scope_of.ensures
-    c.in_ok-push.ensures.items c.loop-model.invariant (λ rest. refl)
+    gathered_more (λ models. map scope_of_model (map model_of models)) _ _ _ _ _ _ _ _ c.loop-model-test.true
+    c.model-item.is c.in_ok-scope_of.ensures c.in_ok-push.ensures.items c.loop-model.invariant (λ rest. refl)
