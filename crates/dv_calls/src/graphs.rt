@@ -68,12 +68,22 @@ const GRAPHS: [(&str, &[&[usize]], &[usize]); 9] = [
     ),
 ];
 
+fn same_components<R: Abort + AllocGlobal>(
+    rt: &R,
+    name: &str,
+    lists: &[&[usize]],
+    numbers: &[usize],
+) -> Result<(), AllocError> {
+    let graph = graph_of(rt.alloc(), lists)?;
+    let found = components_of(rt, name, &graph)?;
+    expect_same(rt, name, found.as_slice(), numbers);
+    Ok(())
+}
+
 #[test]
 fn components_are_numbered_as_they_are_done(rt: HostRuntime) -> Result<(), Fail> {
     for (name, lists, numbers) in GRAPHS {
-        let graph = graph_of(rt.alloc(), lists)?;
-        let found = components_of(&rt, name, &graph)?;
-        expect_same(&rt, name, found.as_slice(), numbers);
+        same_components(&rt, name, lists, numbers)?;
     }
     Ok(())
 }

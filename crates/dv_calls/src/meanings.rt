@@ -1,5 +1,9 @@
 //! What expressions, rules and holds of texts do at their start.
 
+ghost use Rattle.std.specs.Prelude.{◌≡◌};
+ghost use Rattle.dv_eval.specs.Scope.{scope_of};
+ghost use Rattle.dv_syntax.specs.Trees.{atomic_of};
+
 use crate::compare::{Call, error_text, rows};
 use dv_bag::{Arrivals, Effect, Fault, RuleError, State, Value};
 use dv_eval::{Context, Moment, Scope, eval, hold, rule_body, run_rule, start_state};
@@ -45,10 +49,16 @@ fn file_text(alloc: Global, file: &File) -> Result<String, AllocError> {
 
 fn model_text(alloc: Global, model: &Atomic) -> Result<String, AllocError> {
     let scope = Scope::of(alloc, model)?;
-    let state = start_state(alloc, model, &scope)?;
+    start_text(alloc, model, &scope)
+}
+
+fn start_text(alloc: Global, model: &Atomic, scope: &Scope) -> Result<String, AllocError>
+    requires { scope.now ≡ scope_of (atomic_of model.now) }
+{
+    let state = start_state(alloc, model, scope)?;
     match model.holds.first() {
-        Some(hold) => hold_text(alloc, &hold.ticks, &state, &scope),
-        None => rule_text(alloc, model, &state, &scope),
+        Some(hold) => hold_text(alloc, &hold.ticks, &state, scope),
+        None => rule_text(alloc, model, &state, scope),
     }
 }
 

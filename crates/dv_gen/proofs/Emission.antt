@@ -16,7 +16,7 @@ use Rattle.dv_gen.specs.Emission.{with_branch, with_expression, with_statements}
 
 -- ---- Where code ends
 
-length-code_of : (e : Expression) (p : ℕ) → p + length (code_of p e) ≡ past p e
+pub length-code_of : (e : Expression) (p : ℕ) → p + length (code_of p e) ≡ past p e
 length-code_of (Read l) p = refl
 length-code_of (Prefix u a) p = omega (arith, length-append (code_of p a) (Apply u ∷ []), length-code_of a p)
 length-code_of (Infix o a b) p =
@@ -44,7 +44,7 @@ length-code_of (Or a b) p =
       length-code_of b (past p a + 1),
     )
 
-length-code_of_all : (body : Statements) (p : ℕ) → p + length (code_of_all p body) ≡ past_all p body
+pub length-code_of_all : (body : Statements) (p : ℕ) → p + length (code_of_all p body) ≡ past_all p body
 length-code_of_all Done p = omega arith
 length-code_of_all (Act a value rest) p =
     omega (

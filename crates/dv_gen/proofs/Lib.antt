@@ -13,6 +13,7 @@ pub mod Found
 pub mod Generators
 pub mod Gotos
 pub mod KnownNames
+pub mod Lengths
 pub mod LoopDepth
 pub mod LoopVariables
 pub mod Marks

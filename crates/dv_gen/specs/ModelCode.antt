@@ -1,7 +1,7 @@
 -- The programs of an atomic model: for each phase those of its rules and of its hold.
-use Rattle.std.specs.Prelude.{◌≡◌, ℕ, ◌≤◌, List, [], map, option_map}
+use Rattle.std.specs.Prelude.{◌≡◌, ℕ, ◌≤◌, IfSome, List, [], length, map, option_map}
 use Rattle.std.specs.List.{All}
-use Rattle.dv_syntax.specs.Trees.{AtomicTree, Expression, ModelTree, AtomicModel, CoupledModel, RuleTree, Statements}
+use Rattle.dv_syntax.specs.Trees.{AtomicTree, Expression, HoldTree, ModelTree, AtomicModel, CoupledModel, RuleTree, Statements}
 use Rattle.dv_syntax.specs.Grammar.{loop_depth}
 use Rattle.dv_syntax.specs.declared.tree.RuleSort.{RuleSort}
 use Rattle.dv_syntax.specs.declared.tree.RuleSort.TheVariants.{Output, Internal, External, Confluent}
@@ -43,3 +43,13 @@ pub record IsCompilable (m : AtomicTree) : Type 0 where
 abbrev pub IsCompilableModel : ModelTree → Type 0
 IsCompilableModel (AtomicModel m) = IsCompilable m
 IsCompilableModel (CoupledModel m) = Unit {0}
+
+-- no program of a model has more instructions than this
+pub record AreNoLonger (n : ℕ) (m : AtomicTree) : Type 0 where
+  pub rules : All (λ (r : RuleTree). length (program_of (rule_tree m r.body)) ≤ n) m.rules
+  pub holds : All (λ (h : HoldTree). IfSome h.ticks (λ e. length (hold_program_of (hold_tree m e)) ≤ n)) m.holds
+
+-- the same of a model: a coupled one has no programs of its own
+abbrev pub HasProgramsWithin : ℕ → ModelTree → Type 0
+HasProgramsWithin n (AtomicModel m) = AreNoLonger n m
+HasProgramsWithin n (CoupledModel m) = Unit {0}

@@ -27,7 +27,7 @@ use std::sync::Arc;
 /// # Errors
 ///
 /// No memory for the programs. A program of as many instructions as there are numbers of 32 bits has
-/// no memory either.
+/// no memory either; no text has one, by `programs_are_no_longer_than_their_texts`.
 pub fn generate(alloc: Global, model: &Atomic, scope: &Scope) -> Result<ModelCode, AllocError>
     requires scope { scope.now ≡ scope_of (atomic_of model.now) }
     requires compilable { IsCompilable (atomic_of model.now) }

@@ -1,9 +1,11 @@
 //! Laws of generated programs. Each function stands for the law in its contract.
 
-ghost use Rattle.std.specs.Prelude.{◌≡◌, ℕ, true, List, [], ◌∷◌, IfSome};
+ghost use Rattle.std.specs.Prelude.{◌≡◌, ◌≤◌, ℕ, true, List, [], ◌∷◌, length, IfSome};
 ghost use Rattle.std.specs.List.{All};
+ghost use Rattle.dv_lex.specs.Texts.{IsTokensOf};
+ghost use Rattle.dv_lex.specs.declared.token.Token.{Token};
 ghost use Rattle.dv_syntax.specs.Trees.{AtomicTree, FileTree, HoldTree, ModelTree, RuleTree};
-ghost use Rattle.dv_syntax.specs.Grammar.{loop_depth};
+ghost use Rattle.dv_syntax.specs.Grammar.{IsFileOf, hold_spelling, loop_depth, rule_spelling};
 ghost use Rattle.dv_bag.specs.Arrivals.{Arrivals, nothing_arrived};
 ghost use Rattle.dv_bag.specs.declared.state.State.{State};
 ghost use Rattle.dv_bag.specs.declared.value.ValueType.TheVariants.{Number};
@@ -16,9 +18,11 @@ ghost use Rattle.dv_code.specs.Machine.{begins, first_effect, run};
 ghost use Rattle.dv_code.specs.Shape.{AreSmall, Fits, Shape};
 ghost use Rattle.dv_code.specs.Valid.{IsValid};
 ghost use Rattle.dv_gen.specs.Generator.{ending, goes, hold_ending, hold_program_of, program_of};
-ghost use Rattle.dv_gen.specs.ModelCode.{IsCompilableModel};
+ghost use Rattle.dv_gen.specs.ModelCode.{HasProgramsWithin, IsCompilableModel};
 ghost use Rattle.dv_gen.specs.Resolution.{hold_shape, hold_tree, rule_shape, rule_tree, tables_of};
 ghost use Rattle.dv_gen.specs.Resolved.{AreTyped, Expression, IsTyped, Statements, gotos, rule_effect, type_of, value_of};
+
+use dv_lex::laws::tokens_are_no_more_than_bytes;
 
 /// The program of a tree that is well typed is valid.
 pub fn generated_programs_are_valid()
@@ -115,3 +119,17 @@ pub fn texts_are_compilable()
     ensures { (names : List (List ℕ)) (f : FileTree) → AreOfOneText names f → refusal_of f ≡ None
         → All (λ (m : ModelTree). IsCompilableModel m) f.models }
 {}
+
+/// A program has no more instructions than the rule, or the hold, that it is made from has tokens. So the programs of a
+/// text have no more instructions than the text has bytes.
+pub fn programs_are_no_longer_than_their_texts()
+    ensures rules { (m : AtomicTree) (r : RuleTree) →
+        length (program_of (rule_tree m r.body)) ≤ length (rule_spelling r) }
+    ensures holds { (m : AtomicTree) (h : HoldTree) → IfSome h.ticks (λ e.
+        length (hold_program_of (hold_tree m e)) ≤ length (hold_spelling h)) }
+    ensures texts { (text : List ℕ) (names : List (List ℕ)) (tokens : List Token) (f : FileTree) →
+        IsTokensOf text names tokens → IsFileOf tokens f
+        → All (λ (m : ModelTree). HasProgramsWithin (length text) m) f.models }
+{
+    tokens_are_no_more_than_bytes();
+}

@@ -1,5 +1,5 @@
 -- One more lexeme: the table and the tokens.
-use Rattle.std.proofs.Common.{◌≡◌, ℕ, ◌+◌, ◌<◌, true, false, not, cond, ◌||◌, List, [], ◌∷◌, ◌++◌, Option, Some, None, ap, refl}
+use Rattle.std.proofs.Common.{◌≡◌, ℕ, suc, ◌+◌, ◌<◌, ◌≤◌, length, arith, true, false, not, cond, ◌||◌, List, [], ◌∷◌, ◌++◌, Option, Some, None, ap, refl}
 use Rattle.std.proofs.Common.{sym, ◌∙◌, subst, filter, filter_map, option_map, bytes_eq, inl, inr, All}
 use Rattle.std.specs.List.{list_any, AllByRecursion, IsDistinct, cons_option}
 use Rattle.std.proofs.lemmas.Bool.{cond_both, cond-true, cond-false, both_ways, or_left, or_right, or_cases, cases_Bool, false_from_ne_true}
@@ -248,3 +248,12 @@ pub IsAscending-tokens_of : (names : List (List ℕ)) (xs : List Placed) → Are
 IsAscending-tokens_of names [] h = tt
 IsAscending-tokens_of names (x ∷ xs) h =
     one_ascending names x (kind_of names x.lexeme) xs h.0 (IsAscending-tokens_of names xs h.1)
+
+-- a lexeme is one token at most
+few_more : (o : Option Token) (tokens : List Token) → length (cons_option o tokens) ≤ suc (length tokens)
+few_more None tokens = omega arith
+few_more (Some token) tokens = omega arith
+
+pub tokens_of-few : (names : List (List ℕ)) (xs : List Placed) → length (tokens_of names xs) ≤ length xs
+tokens_of-few names [] = omega arith
+tokens_of-few names (x ∷ xs) = omega (arith, few_more (token_of names x) (tokens_of names xs), tokens_of-few names xs)

@@ -88,6 +88,15 @@ pub some_byte : (x : Lexeme) (front : List ℕ) → Spells x front → 0 < lengt
 some_byte x [] h = absurd (not_Spells-empty x h)
 some_byte x (b ∷ front) h = omega arith
 
+-- each lexeme has a byte of its own
+pub Reads-few : (place : ℕ) (bytes : List ℕ) (xs : List Placed) (end : ℕ) (rest : List ℕ) → Reads place bytes xs end rest →
+    length xs ≤ length bytes
+Reads-few place bytes [] end rest r = omega arith
+Reads-few place bytes (x ∷ xs) end rest r =
+    let size : length bytes ≡ length r.2.0 + length r.2.1 = ap length r.2.2.whole ∙ length-append r.2.0 r.2.1 in
+    let some = some_byte x.lexeme r.2.0 r.2.2.spelled in
+    omega (arith, size, some, Reads-few (place + length r.2.0) r.2.1 xs end rest r.2.3)
+
 -- each lexeme begins at a place of the bytes
 pub Reads-places : (least place : ℕ) (bytes : List ℕ) (xs : List Placed) (end : ℕ) (rest : List ℕ) → Reads place bytes xs end rest →
     least < place → AllByRecursion (λ (x : Placed). least < x.place) xs

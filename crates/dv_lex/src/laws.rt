@@ -61,6 +61,12 @@ pub fn tokens_have_places()
         IsTokensOf text names tokens → IsAscending tokens }
 {}
 
+/// A text has no more tokens than bytes.
+pub fn tokens_are_no_more_than_bytes()
+    ensures { (text : List ℕ) (names : List (List ℕ)) (tokens : List Token) →
+        IsTokensOf text names tokens → length tokens ≤ length text }
+{}
+
 /// A text is refused at one of its places, or at its end.
 pub fn refusals_have_places()
     ensures in_text { (text : List ℕ) (r : Refusal) → IsRefused text r → r.place ≤ length text }

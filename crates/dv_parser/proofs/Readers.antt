@@ -7,12 +7,13 @@ use Rattle.dv_lex.specs.declared.token.TokenKind.{TokenKind}
 use Rattle.dv_lex.specs.declared.token.TokenKind.TheVariants as kind
 use Rattle.dv_lex.specs.declared.token.Symbol.TheVariants as symbol
 use Rattle.dv_syntax.specs.Grammar.{Spelled, sign, braces}
+use Rattle.dv_syntax.proofs.Lengths.{Spells-length}
 use Rattle.dv_parser.specs.declared.parse_error.ParseError.{ParseError}
 use Rattle.dv_parser.specs.declared.parse_error.ParseError.TheVariants as parse_error
 use Rattle.dv_parser.specs.Reading.{Obstacle, Read, Fails, read_then, becoming, choose, begins, many, many_at, with_front}
 use Rattle.dv_parser.specs.Reading.{braces_at, Reader, Unexpected, TooDeep, TooShort}
 use Rattle.dv_parser.proofs.Tokens.{then_ok, chosen, ok_is, err_ok, same_after, Spans, nothing, span_end, then_spans, split}
-use Rattle.dv_parser.proofs.Tokens.{Spells-length, first, after_spans}
+use Rattle.dv_parser.proofs.Tokens.{first, after_spans}
 
 -- ---- Readers
 

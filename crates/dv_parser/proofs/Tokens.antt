@@ -1,6 +1,6 @@
 -- Spellings one after the other, and single tokens.
-use Rattle.std.proofs.Common.{◌≡◌, ℕ, ◌+◌, Bool, true, false, eqb, List, [], ◌∷◌, ◌++◌, length, get_or, Option, Some, None, Ok}
-use Rattle.std.proofs.Common.{Err, refl, sym, ap, subst, ◌∙◌, ◌⊎◌, inl, inr, arith}
+use Rattle.std.proofs.Common.{◌≡◌, ℕ, Bool, true, false, eqb, List, [], ◌∷◌, ◌++◌, get_or, Option, Some, None, Ok}
+use Rattle.std.proofs.Common.{Err, refl, sym, ap, subst, ◌∙◌, ◌⊎◌, inl, inr}
 use Rattle.std.specs.Prelude.{IsTrue, ◌↔◌}
 use Rattle.std.proofs.lemmas.Bool.{eqb-true, eq-eqb, false≢true}
 use Rattle.dv_lex.specs.declared.token.Token.{Token}
@@ -103,11 +103,6 @@ spells_each (s ∷ a) b (t ∷ ts) rest h = let r = spells_each a b ts rest h.1 
 
 pub split : (a b : List Spelled) {ts rest : List Token} → Spans (a ++ b) ts rest → (mid : List Token) × Spans a ts mid × Spans b mid rest
 split a b {ts = ts} {rest = rest} h = spells_each a b ts rest h.spells
-
-pub Spells-length : (a : List Spelled) (ts rest : List Token) → Spells a ts rest → length ts ≡ length a + length rest
-Spells-length [] ts rest h = rw h (omega arith)
-Spells-length (s ∷ a) [] rest h = absurd h
-Spells-length (s ∷ a) (t ∷ ts) rest h = omega (arith, Spells-length a ts rest h.1)
 
 -- ---- Kinds
 

@@ -77,6 +77,27 @@ fn compare_output<L: Ledger>(
     }
 }
 
+/// How the program of a rule and its tree compare.
+fn rule_likeness<L: Ledger>(
+    runs: &mut Runs<L>,
+    program: &Valid,
+    state: &State,
+    arrivals: &Arrivals,
+    by_tree: &Result<Effect, RuleError>,
+) -> Option<Likeness> {
+    likeness_of(&runs.rule(program, state, arrivals), by_tree)
+}
+
+/// How the program of a hold and its tree compare.
+fn hold_likeness<L: Ledger>(
+    runs: &mut Runs<L>,
+    program: &Valid,
+    state: &State,
+    by_tree: &Result<i64, RuleError>,
+) -> Option<Likeness> {
+    likeness_of(&runs.hold(program, state), by_tree)
+}
+
 impl Endings {
     /// No runs yet.
     pub fn none() -> Self {
@@ -109,12 +130,16 @@ impl Endings {
             Tree::Rule(statements) => {
                 let by_tree = run_rule(rt.alloc(), statements, state, arrivals, scope);
                 compare_output(rt, runs, pair.program, state, &by_tree);
-                likeness_of(&runs.rule(pair.program, state, arrivals), &by_tree)
+                rule_likeness(runs, pair.program, state, arrivals, &by_tree)
             }
-            Tree::Hold(ticks) => likeness_of(
-                &runs.hold(pair.program, state),
-                &hold_by_tree(ticks, state, scope),
-            ),
+            Tree::Hold(ticks) => {
+                hold_likeness(
+                    runs,
+                    pair.program,
+                    state,
+                    &hold_by_tree(ticks, state, scope),
+                )
+            }
         };
         self.count(rt, pair.program, found);
     }

@@ -1,9 +1,10 @@
 //! From a text to the programs of its atomic models, each beside the tree that it was made from.
 
-ghost use Rattle.std.specs.Prelude.{IfOk};
+ghost use Rattle.std.specs.Prelude.{◌≡◌, IfOk};
 ghost use Rattle.std.specs.List.{All};
-ghost use Rattle.dv_syntax.specs.Trees.{ModelTree, file_of};
-ghost use Rattle.dv_gen.specs.ModelCode.{IsCompilableModel};
+ghost use Rattle.dv_syntax.specs.Trees.{ModelTree, atomic_of, file_of};
+ghost use Rattle.dv_eval.specs.Scope.{scope_of};
+ghost use Rattle.dv_gen.specs.ModelCode.{IsCompilable, IsCompilableModel};
 
 use dv_bag::State;
 use dv_check::{Checked, check};
@@ -59,19 +60,36 @@ pub fn compile_at(
     requires { All (λ (m : ModelTree). IsCompilableModel m) (file_of checked.now.file).models }
 {
     match checked.file.models.get(place) {
-        Some(Model::Atomic(model)) => {
-            let scope = Scope::of(alloc, model)?;
-            let start = start_state(alloc, model, &scope)?;
-            let code = generate(alloc, model, &scope)?;
-            Ok(Some(Compiled {
-                model,
-                scope,
-                start,
-                code,
-            }))
-        }
+        Some(Model::Atomic(model)) => Ok(Some(compile(alloc, model)?)),
         _ => Ok(None),
     }
+}
+
+fn compile(alloc: Global, model: &Atomic) -> Result<Compiled<'_>, AllocError>
+    requires { IsCompilable (atomic_of model.now) }
+{
+    let scope = Scope::of(alloc, model)?;
+    let (start, code) = start_and_code(alloc, model, &scope)?;
+    Ok(Compiled {
+        model,
+        scope,
+        start,
+        code,
+    })
+}
+
+// The start of a model and its programs, whose names are in this scope.
+fn start_and_code(
+    alloc: Global,
+    model: &Atomic,
+    scope: &Scope,
+) -> Result<(State, ModelCode), AllocError>
+    requires scope { scope.now ≡ scope_of (atomic_of model.now) }
+    requires compilable { IsCompilable (atomic_of model.now) }
+{
+    let start = start_state(alloc, model, scope)?;
+    let code = generate(alloc, model, scope)?;
+    Ok((start, code))
 }
 
 impl<'a> Compiled<'a> {

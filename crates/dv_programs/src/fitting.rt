@@ -114,21 +114,27 @@ fn bag_at(alloc: Global, capacity: u64, level: Level) -> Result<Bag, AllocError>
 
 /// Nothing, one value, and some of which one comes three times, at each of so many ports.
 pub fn deliveries(alloc: Global, ports: usize) -> Result<[Bags; 3], AllocError> {
-    let empty = Bags::empty(alloc, ports)?;
-    let mut one = Bags::empty(alloc, ports)?;
-    let mut some = Bags::empty(alloc, ports)?;
-    for port in 0..ports {
-        put(&mut one, port, 1)?;
-        for value in [5, 5, 5, -2] {
-            put(&mut some, port, value)?;
-        }
-    }
-    Ok([empty, one, some])
+    Ok([
+        Bags::empty(alloc, ports)?,
+        bags_of(alloc, ports, &[1])?,
+        bags_of(alloc, ports, &[5, 5, 5, -2])?,
+    ])
 }
 
-fn put(bags: &mut Bags, port: usize, value: i64) -> Result<(), AllocError> {
-    if port < bags.len() {
-        bags.insert(port, value)?;
+/// These values at each of so many ports.
+fn bags_of(alloc: Global, ports: usize, values: &[i64]) -> Result<Bags, AllocError> {
+    let mut bags = Bags::empty(alloc, ports)?;
+    for port in 0..ports {
+        put_all(&mut bags, port, values)?;
+    }
+    Ok(bags)
+}
+
+fn put_all(bags: &mut Bags, port: usize, values: &[i64]) -> Result<(), AllocError> {
+    for value in values {
+        if port < bags.len() {
+            bags.insert(port, *value)?;
+        }
     }
     Ok(())
 }

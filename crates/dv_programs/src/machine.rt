@@ -140,10 +140,20 @@ fn added_up<R: Abort + AllocGlobal, L: Ledger>(
     flag: bool,
 ) -> Result<Effect, Fail> {
     let program = adder(rt)?;
+    let state = counted(rt.alloc(), 1, flag)?;
+    Ok(effect_of_four(rt, runs, &program, &state)?)
+}
+
+/// What a program does with the four values.
+fn effect_of_four<R: Abort + AllocGlobal, L: Ledger>(
+    rt: &R,
+    runs: &mut Runs<L>,
+    program: &Valid,
+    state: &State,
+) -> Result<Effect, AllocError> {
     let bags = four_values(rt.alloc())?;
     assert!(rt; are_few(&bags));
-    let state = counted(rt.alloc(), 1, flag)?;
-    let effect = runs.rule(&program, &state, &Arrivals::new(&bags, 0));
+    let effect = runs.rule(program, state, &Arrivals::new(&bags, 0));
     Ok(effect.expect(rt, "the state fits").expect(rt, "an effect"))
 }
 

@@ -70,17 +70,25 @@ fn change_each<R: Abort + AllocGlobal>(
     Ok(())
 }
 
+/// Asks the validator about a program, which it takes, and about changed ones.
+fn change_program<R: Abort + AllocGlobal>(
+    rt: &R,
+    program: &Valid,
+    tables: &Arc<Tables>,
+    answers: &mut Answers,
+) -> Result<(), AllocError> {
+    let found = taken(rt, shape_like(program, tables)?, program.code())?;
+    assert!(rt; found.is_some(), "{:?}", program.code());
+    change_each(rt, program, tables, answers)
+}
+
 fn change_programs<R: Abort + AllocGlobal>(
     rt: &R,
     model: &Compiled,
     answers: &mut Answers,
 ) -> Result<(), AllocError> {
-    let tables = &model.code.tables;
     for pair in &model.pairs(rt.alloc())? {
-        let program = pair.program;
-        let found = taken(rt, shape_like(program, tables)?, program.code())?;
-        assert!(rt; found.is_some(), "{:?}", program.code());
-        change_each(rt, program, tables, answers)?;
+        change_program(rt, pair.program, &model.code.tables, answers)?;
     }
     Ok(())
 }
@@ -100,14 +108,23 @@ fn change_at<R: Abort + AllocGlobal>(
     }
 }
 
+fn change_text<R: Abort + AllocGlobal>(
+    rt: &R,
+    text: &str,
+    answers: &mut Answers,
+) -> Result<(), AllocError> {
+    let checked = checked(rt.alloc(), text).expect(rt, text);
+    for place in 0..checked.file.models.len() {
+        change_at(rt, &checked, place, answers)?;
+    }
+    Ok(())
+}
+
 #[test]
 fn programs_are_taken_and_changed_ones_as_the_definition_says(rt: HostRuntime) -> Result<(), Fail> {
     let mut answers = Answers::none();
     for text in TEXTS {
-        let checked = checked(rt.alloc(), text).expect(&rt, text);
-        for place in 0..checked.file.models.len() {
-            change_at(&rt, &checked, place, &mut answers)?;
-        }
+        change_text(&rt, text, &mut answers)?;
     }
     assert!(rt;
         answers.taken > 1_000 && answers.refused > 1_000,

@@ -8,7 +8,9 @@ use crate::runs::Runs;
 use crate::shapes::tables_of_each_slot;
 use crate::taken::{Answers, taken};
 use dv_bag::{Arrivals, RuleError, State};
-use dv_code::{Action, Binary, Instruction, Leaf, ProgramSort, Shape, Source, Unary, Valid};
+use dv_code::{
+    Action, Binary, Instruction, Leaf, ProgramSort, Shape, Source, Tables, Unary, Valid,
+};
 use std::alloc::{AllocError, Global};
 use std::marker::Brand;
 use std::process::Abort;
@@ -161,6 +163,19 @@ impl Found {
         Ok(())
     }
 
+    /// Tries a random list.
+    fn try_random<R: Abort + AllocGlobal, L: Ledger>(
+        &mut self,
+        rt: &R,
+        runs: &mut Runs<L>,
+        tables: &Arc<Tables>,
+        random: &mut Random,
+    ) -> Result<(), AllocError> {
+        let shape = Shape::new(Arc::try_clone(tables)?, random_sort(random));
+        let list = random_list(rt.alloc(), random)?;
+        self.try_list(rt, runs, shape, &list)
+    }
+
     /// Asks the validator about a list, and runs what it takes.
     fn try_list<R: Abort + AllocGlobal, L: Ledger>(
         &mut self,
@@ -196,9 +211,7 @@ fn try_lists<R: Abort + AllocGlobal, L: Ledger>(
         faults: 0,
     };
     for _ in 0..count {
-        let shape = Shape::new(Arc::try_clone(&tables)?, random_sort(&mut random));
-        let list = random_list(rt.alloc(), &mut random)?;
-        found.try_list(rt, &mut runs, shape, &list)?;
+        found.try_random(rt, &mut runs, &tables, &mut random)?;
     }
     Ok(found)
 }

@@ -5,8 +5,8 @@ use Rattle.dv_syntax.specs.declared.tree.Model.TheVariants as model
 use Rattle.dv_programs.proofs.ModelsOfFiles.{compilable_at}
 use Rattle.dv_programs.proofs.compiled.compile_at.Goals as goal
 
-pub generate-requires-clause-compilable : goal.generate-requires-clause-compilable
-generate-requires-clause-compilable c =
+pub compile-requires : goal.compile-requires
+compile-requires c =
     let read = c.in-Some-Atomic.ensures.lookup in
     let found = slice_get_read c.deref.result.now (length c.deref.result.now) c.args.place c.in-Some-Atomic.field-0.now refl read.3.0 read.1 in
     let models = c.deref.ensures.value in
