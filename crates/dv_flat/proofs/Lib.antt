@@ -11,6 +11,7 @@ pub mod LinkCounts
 pub mod LinkSums
 pub mod LinkTotals
 pub mod Loops
+pub mod PathLists
 pub mod Picked
 pub mod PortLists
 pub mod Products

@@ -1,15 +1,20 @@
--- The links of a text without its tree. How many copies a link carries is what routing says of one value: as often as it
+-- The paths and the links of a text without its tree. How many copies a link carries is what routing says of one value: as often as it
 -- arrives, where this output alone sends it, so many ways lead there.
-use Rattle.std.specs.Prelude.{ℕ, zero, suc, pos, List, [], ◌∷◌, ◌++◌, length, replicate}
+use Rattle.std.specs.Prelude.{ℕ, zero, suc, pos, List, [], ◌∷◌, ◌++◌, length, map, replicate}
 use Rattle.std.specs.Prelude.{filter_map, slice_index_or, Option, Some, None}
 use Rattle.std.specs.List.{flat_map, range_with_len, sum_by}
 use Rattle.dv_syntax.specs.Trees.{FileTree}
 use Rattle.dv_bag.specs.Bag.{Counts, bag_at, count_of}
-use Rattle.dv_tree.specs.Instances.{root_inputs, root_outputs}
+use Rattle.dv_tree.specs.Instances.{instances, root_inputs, root_outputs}
+use Rattle.dv_tree.specs.Paths.{texts_of, with_dots}
 use Rattle.dv_tree.specs.Routing.{arrives, leaves}
 use Rattle.dv_flat.specs.Ends.{input_ports, output_ports}
 use Rattle.dv_flat.specs.declared.link.ComponentPort.{ComponentPort}
 use Rattle.dv_flat.specs.declared.link.Link.{Link}
+
+-- the paths of the components, by their numbers
+abbrev pub paths_of : List (List ℕ) → FileTree → List (List ℕ)
+paths_of names f = map (λ i. with_dots (texts_of names i.path)) (instances f)
 
 -- one value at a port, and none at those before it
 abbrev pub alone_at : ℕ → List Counts

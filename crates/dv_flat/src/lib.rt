@@ -1,9 +1,9 @@
-//! From the tree of a text to its links: from the components' outputs to the inputs that they reach, with copies.
+//! From the tree of a text to its paths and links: from the components' outputs to the inputs that they reach, with copies.
 #![tactic(auto)]
 
 /// Where the tokens arrive.
 mod arrivals;
-/// The links of a text.
+/// The paths and the links of a text.
 pub mod flat;
 /// Laws of links.
 pub mod laws;
@@ -15,12 +15,14 @@ pub mod link;
 mod links;
 /// Which outputs lead on.
 mod live;
+/// The paths of the components.
+mod paths;
 /// The ports of the components.
 mod ports;
 /// Values that tell where they were sent.
 mod tokens;
 
-pub use flat::{Flat, flatten};
+pub use flat::{Flat, LinkLists, flatten};
 pub use link::{ComponentPort, DirectLink, EntryLink, ExitLink, Link};
 
 /// The most links of a text, each counted as often as it has copies.

@@ -23,14 +23,14 @@ links-requires-2 c =
     let f = file_of c.args.tree.now.file in
     record { outputs = subst (All (IsOutput f)) (sym (c.deref-4.ensures.value ∙ c.in_ok-outputs.ensures)) (outputs_valid f) }
 
-pub returns-then-copies-count-clause-links : goal.returns-then-copies-count-clause-links
-returns-then-copies-count-clause-links c =
+pub returns-then-copies-count-clause-direct : goal.returns-then-copies-count-clause-direct
+returns-then-copies-count-clause-direct c =
     let f = file_of c.args.tree.now.file in
     let flags = c.deref-2.result.now in
     let sources = c.deref-3.ensures.value ∙ c.in_ok-sources.ensures
     ∙ ap (chosen_from 0 flags) (c.deref.ensures.value ∙ c.in_ok-outputs.ensures) in
-    let found = c.in_ok-flat.ensures in
-    direct_enough f flags _ _ _ _ sources found.links found.entries found.exits
+    let found = c.in_ok-found.ensures in
+    direct_enough f flags _ _ _ _ sources found.direct found.entries found.exits
     (sym c.requires.count ∙ sym c.if-copies-count.true ∙ c.copies.ensures)
 
 pub returns-then-copies-count-clause-exits : goal.returns-then-copies-count-clause-exits
@@ -39,6 +39,6 @@ returns-then-copies-count-clause-exits c =
     let flags = c.deref-2.result.now in
     let sources = c.deref-3.ensures.value ∙ c.in_ok-sources.ensures
     ∙ ap (chosen_from 0 flags) (c.deref.ensures.value ∙ c.in_ok-outputs.ensures) in
-    let found = c.in_ok-flat.ensures in
-    exit_enough f flags _ _ _ _ sources found.links found.entries found.exits
+    let found = c.in_ok-found.ensures in
+    exit_enough f flags _ _ _ _ sources found.direct found.entries found.exits
     (sym c.requires.count ∙ sym c.if-copies-count.true ∙ c.copies.ensures)

@@ -40,8 +40,8 @@ links_of-requires-3 c =
       length-departure_lists (file_of c.args.tree.now.file) c.args.sources.now c.requires.outputs,
     )
 
-pub returns-clause-links : goal.returns-clause-links
-returns-clause-links c =
+pub returns-clause-direct : goal.returns-clause-direct
+returns-clause-direct c =
     direct_links-made (file_of c.args.tree.now.file) c.args.sources.now c.requires.outputs
     (map (λ list. list.items) c.in_ok-reached.reached.inputs.items) c.in_ok-links_of.field-0.items
     c.in_ok-reached.ensures.inputs
