@@ -10,8 +10,9 @@ ghost use Rattle.dv_code.specs.Operations.{flag_in, leaf_value, number_in, sum_i
 ghost use Rattle.dv_code.specs.Turns.{turns_of};
 
 use crate::instruction::Leaf;
-use crate::loops::Loops;
+use crate::open_loop::OpenLoop;
 use crate::source::bag_of;
+use crate::stack::Stack;
 use dv_bag::arithmetic::{number_or_empty, ticks_or_overflow};
 use dv_bag::{Arrivals, Bag, DatumView, Fault, GREATEST_COUNT, State, Value};
 
@@ -23,7 +24,7 @@ use dv_bag::{Arrivals, Bag, DatumView, Fault, GREATEST_COUNT, State, Value};
 /// bag that has none.
 pub(crate) fn leaf_value(
     leaf: Leaf,
-    loops: &Loops,
+    loops: &Stack<OpenLoop>,
     state: &State,
     arrivals: &Arrivals,
 ) -> Result<Value, Fault>

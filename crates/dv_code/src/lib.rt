@@ -13,7 +13,7 @@ pub mod laws;
 mod leaf;
 /// Instructions as a listing has them.
 pub mod listing;
-/// The open loops.
+/// The open loops, as a stack.
 mod loops;
 /// The machine that runs programs.
 pub mod machine;
@@ -27,7 +27,7 @@ pub mod rows;
 pub mod shape;
 /// The bags that a program reads.
 mod source;
-/// The operand stack.
+/// Stacks.
 mod stack;
 /// What instructions do with the operands and the open loops.
 mod stacks;

@@ -8,11 +8,11 @@ use Rattle.dv_code.specs.declared.open_loop.OpenLoop.{OpenLoop}
 use Rattle.dv_code.proofs.Innermost.{item_at}
 use mir.Syntax.{w64}
 use mir.Val.{SFits}
-use Rattle.dv_code.proofs.loops.Loops.item.Goals as goal
+use Rattle.dv_code.proofs.loops.Stack+OpenLoop.item.Goals as goal
 
 pub returns : goal.returns
 returns c =
-    let loops = c.self.inside.open.items in
+    let loops = c.self.inside.values.items in
     let there = c.index.result.now in
     let within : c.args.number < length loops = omega (arith, c.requires, ap length c.self.view_is, length-reverse loops) in
     let number : SFits w64 c.item.result = search rules in
