@@ -1,7 +1,5 @@
 -- What has to compute for the worked rows of the checks: an answer that unfolds this unfolds it all.
-use Rattle.dv_check.specs.Names.{among, excess_past, no_number}
-use Rattle.dv_check.specs.Names.{with_number, within_limit}
-use Rattle.dv_check.specs.Tables.{first_of}
+use Rattle.dv_check.specs.Names.{among, excess_past, first_of, no_number, with_number, within_limit}
 use Rattle.dv_check.specs.LinkSets.{no_link, with_link}
 use Rattle.dv_check.specs.Models.{faces_in}
 use Rattle.dv_check.specs.Rules.{is_start_known}

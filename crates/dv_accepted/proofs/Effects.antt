@@ -22,7 +22,7 @@ use Rattle.dv_eval.specs.Meaning.{with_value_at}
 use Rattle.dv_accepted.specs.Fitting.{data_fit, datum_fits, fits_in, in_phase, LeadsToPhase}
 use Rattle.dv_accepted.proofs.Fitting.{and_true, both_true, found_within}
 use Rattle.dv_accepted.proofs.Bags.{less_fits, more_fits}
-use Rattle.dv_accepted.proofs.Keeping.{Keeps, run_keeps}
+use Rattle.dv_accepted.proofs.Keeping.{StatementsKeep, run_keeps}
 
 pub record Fits (scope : Scope) (e : Effect) : Type 0 where
   pub state : fits_in scope e.state ≡ true
@@ -154,7 +154,7 @@ module _ (scope : Scope) where
 
   -- ---- Statements
 
-  pub fits_kept : Keeps scope (λ phase. Unit {0}) (Fits scope)
+  pub fits_kept : StatementsKeep scope (λ phase. Unit {0}) (Fits scope)
   fits_kept = record {
     assigned = λ name v e fit. assignment_at_fits (place_of name (names_of scope.variables)) v e fit;
     gone = λ phase e anywhere fit. goto_fits (place_of phase scope.phases) phase e refl fit;

@@ -13,8 +13,7 @@ use Rattle.dv_eval.specs.declared.scope.Domain.TheVariants as domain
 use Rattle.dv_eval.specs.Scope.{inputs_in, is_declared, names_of, place_from, place_of, range_of, scope_of, state_variables_in}
 use Rattle.dv_eval.specs.Scope.{with_name, with_names}
 use Rattle.dv_eval.specs.Meaning.{bag_between, bag_received}
-use Rattle.dv_check.specs.Names.{refusal_if, repeats, repeats_after, with_number}
-use Rattle.dv_check.specs.Tables.{first_of}
+use Rattle.dv_check.specs.Names.{first_of, refusal_if, repeats, repeats_after, with_number}
 use Rattle.dv_check.specs.Rules.{atomic_refusals, items_refusals, known_in, name_of_declaration, names_refusals}
 use Rattle.dv_check.specs.Rules.{number_of_declaration, standing_refusals, start_hold_refusals}
 use Rattle.dv_accepted.specs.Fitting.{ReadsPort}

@@ -34,7 +34,7 @@ all_any [] = tt
 all_any (x ∷ xs) = (tt, all_any xs)
 
 -- What single statements keep: P of an effect, where Q holds of each phase to which they go.
-pub record Keeps (scope : Scope) (Q : ℕ → Type 0) (P : Effect → Type 0) : Type 0 where
+pub record StatementsKeep (scope : Scope) (Q : ℕ → Type 0) (P : Effect → Type 0) : Type 0 where
   pub assigned : (name : ℕ) (v : Value) (e : Effect) → P e → IfOk (assignment scope name v e) P
   pub gone : (phase : ℕ) (e : Effect) → Q phase → P e → P (with_goto (place_of phase scope.phases) e)
   pub sent : (port : ℕ) (n : ℤ) (e : Effect) → P e → P (with_value_at (place_of port scope.outputs) n e)
@@ -91,7 +91,7 @@ module _ (scope : Scope) (P : Effect → Type 0) (in_any_state : (e : Effect) (s
 
   -- so what gotos and sendings keep too, each statement keeps
   pub keeps_in_any_state : (Q : ℕ → Type 0) → ((phase : ℕ) (e : Effect) → Q phase → P e → P (with_goto (place_of phase scope.phases) e))
-      → ((port : ℕ) (n : ℤ) (e : Effect) → P e → P (with_value_at (place_of port scope.outputs) n e)) → Keeps scope Q P
+      → ((port : ℕ) (n : ℤ) (e : Effect) → P e → P (with_value_at (place_of port scope.outputs) n e)) → StatementsKeep scope Q P
   keeps_in_any_state Q gone sent = record {
     assigned = λ name v e here. assignment_at_keeps (place_of name (names_of scope.variables)) v e here;
     gone = gone;
@@ -109,7 +109,7 @@ repetition_keeps P step [] e keeps here = here
 repetition_keeps P step (n ∷ ns) e keeps here =
     if_ok_then (step n e) (repetition step ns) P P (keeps n e here) (λ now. repetition_keeps P step ns now keeps)
 
-module _ (scope : Scope) (Q : ℕ → Type 0) (P : Effect → Type 0) (keeps : Keeps scope Q P) where
+module _ (scope : Scope) (Q : ℕ → Type 0) (P : Effect → Type 0) (keeps : StatementsKeep scope Q P) where
   pub sending_keeps : (port : ℕ) (v : Value) (e : Effect) → P e → IfOk (sending scope port v e) P
   sending_keeps port v e here =
       let sent = with_value_at (place_of port scope.outputs) (number_of v) e in
@@ -163,7 +163,7 @@ module _ (scope : Scope) (Q : ℕ → Type 0) (P : Effect → Type 0) (keeps : K
       (λ v. keeps.removed b.number (number_of v) e here) (λ now. run_keeps_to context rest now all)
 
 -- whatever the phases are to which they go
-pub run_keeps : (scope : Scope) (P : Effect → Type 0) → Keeps scope (λ phase. Unit {0}) P → (context : Context) (body : Statements)
+pub run_keeps : (scope : Scope) (P : Effect → Type 0) → StatementsKeep scope (λ phase. Unit {0}) P → (context : Context) (body : Statements)
     (e : Effect) → P e → IfOk (run scope context body e) P
 run_keeps scope P keeps context body e here =
     run_keeps_to scope (λ phase. Unit {0}) P keeps context body e (all_any (gotos_in body)) here

@@ -23,7 +23,7 @@ use Rattle.dv_check.specs.declared.declarations.NameSort.TheVariants.{Input as F
 use Rattle.dv_check.specs.declared.declarations.NameSort.TheVariants.{LoopVariable as ForLoopVariable}
 use Rattle.dv_bag.specs.declared.value.ValueType.{ValueType}
 use Rattle.dv_bag.specs.declared.value.ValueType.TheVariants.{Number, Truth}
-use Rattle.dv_check.specs.Tables.{first_of}
+use Rattle.dv_check.specs.Names.{first_of}
 use Rattle.dv_check.specs.Types.{Known, bag_name_refusals, expression_refusals, first_place, operand_refusals, place_refusals}
 use Rattle.dv_check.specs.Types.{sees_inputs, type_of, type_of_name, type_of_prefix, type_refusals, value_name_refusals}
 use Rattle.dv_check.specs.Types.{value_refusals, is_bag as is_bag_sort}

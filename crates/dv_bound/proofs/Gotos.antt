@@ -6,7 +6,7 @@ use Rattle.dv_bag.specs.declared.state.Effect.{Effect}
 use Rattle.dv_eval.specs.Scope.{Scope, place_of}
 use Rattle.dv_eval.specs.Meaning.{Context, run, with_goto, with_value_at}
 use Rattle.dv_accepted.specs.Gotos.{gotos_in}
-use Rattle.dv_accepted.proofs.Keeping.{Keeps, keeps_in_any_state, run_keeps_to}
+use Rattle.dv_accepted.proofs.Keeping.{StatementsKeep, keeps_in_any_state, run_keeps_to}
 
 module _ (P : Option ℕ → Type 0) where
   with_value_leaves : (o : Option ℕ) (n : ℤ) (e : Effect) → P e.goto → P (with_value_at o n e).goto
@@ -22,7 +22,7 @@ module _ (P : Option ℕ → Type 0) where
     abbrev pub Leads : ℕ → Type 0
     Leads name = P (place_of name scope.phases)
 
-    leaves : Keeps scope Leads (λ e. P e.goto)
+    leaves : StatementsKeep scope Leads (λ e. P e.goto)
     leaves =
         keeps_in_any_state scope (λ e. P e.goto) (λ e s here. here) Leads
         (λ phase e there here. goto_leaves (place_of phase scope.phases) e there here)

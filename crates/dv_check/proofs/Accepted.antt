@@ -19,10 +19,10 @@ use Rattle.dv_syntax.specs.declared.tree.Link.{Link}
 use Rattle.dv_syntax.specs.Trees.{ModelTree, AtomicModel, CoupledModel, CoupledTree, FileTree}
 use Rattle.dv_eval.specs.Scope.{is_declared}
 use Rattle.dv_check.specs.declared.limits.TheConstants.{GREATEST_COMPONENTS, GREATEST_DEPTH, GREATEST_INSTANCES, GREATEST_NAMES}
-use Rattle.dv_check.specs.Names.{among, excess, excess_of, excess_past, model_named, name_of_model, part_named, repeats, refusal_if}
+use Rattle.dv_check.specs.Names.{among, excess, excess_of, excess_past, model_named, name_of_model, numbers_of, part_named, repeats, refusal_if}
 use Rattle.dv_check.specs.declared.declarations.NameSort.{NameSort}
 use Rattle.dv_check.specs.Models.{face_of, faces_in}
-use Rattle.dv_check.specs.Ports.{ports_of}
+use Rattle.dv_check.specs.Ports.{ports_of, shown_inputs, shown_outputs}
 use Rattle.dv_check.specs.Rules.{name_of_declaration, sort_in}
 use Rattle.dv_check.specs.Tree.{PartTree, component_count, depth_of, instance_count, tree_of}
 use Rattle.dv_check.specs.Cycles.{cycle_refusals}
@@ -33,7 +33,7 @@ use Rattle.dv_check.specs.Couplings.{part_model_refusals, part_refusals, part_so
 use Rattle.dv_check.specs.Couplings.{port_refusals, repeated_links_after, same_part, source_refusals, source_at_part}
 use Rattle.dv_check.specs.Couplings.{target_refusals, target_at_part}
 use Rattle.dv_check.specs.Refusals.{limit_refusals, model_refusals, passes_limit, refusal_of, refusals, root_limit_refusals, root_refusals}
-use Rattle.dv_check.specs.Accepted.{IsKnownPart, numbers_of, shown_inputs, shown_outputs, IsOutputOfPart, IsInputOfPart, IsSource}
+use Rattle.dv_check.specs.Accepted.{IsKnownPart, IsOutputOfPart, IsInputOfPart, IsSource}
 use Rattle.dv_check.specs.Accepted.{IsTarget, LeadsOn, IsAcceptedCoupled, IsAcceptedModel, IsAcceptedFile, IsThrough}
 use Rattle.dv_check.proofs.Declared.{input_declared, output_declared}
 use Rattle.dv_check.proofs.Merged.{input_among, output_among, ports_counted}

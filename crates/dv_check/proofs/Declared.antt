@@ -10,7 +10,7 @@ use Rattle.dv_check.specs.declared.declarations.NameSort.TheVariants.{Variable a
 use Rattle.dv_check.specs.declared.declarations.NameSort.TheVariants.{Input as ForInput, Output as ForOutput}
 use Rattle.dv_check.specs.Couplings.{is_input, is_output}
 use Rattle.dv_check.specs.Rules.{sort_in}
-use Rattle.dv_check.specs.Tables.{first_of}
+use Rattle.dv_check.specs.Names.{first_of}
 
 or_left : (a b : Bool) → a ≡ true → (a || b) ≡ true
 or_left a b e = rw e refl

@@ -8,10 +8,10 @@ use Rattle.dv_syntax.specs.declared.tree.Part.{Part}
 use Rattle.dv_syntax.specs.Trees.{ModelTree}
 use Rattle.dv_check.specs.declared.directory.Directory.{Directory}
 use Rattle.dv_check.specs.declared.declarations.NameSort.{NameSort}
-use Rattle.dv_check.specs.Names.{model_named, name_of_model, part_named}
+use Rattle.dv_check.specs.Names.{first_of, model_named, name_of_model, part_named}
 use Rattle.dv_check.specs.Models.{face_of, faces_by, faces_in}
 use Rattle.dv_check.specs.Couplings.{parts_in}
-use Rattle.dv_check.specs.Tables.{first_of, value_for, no_value, with_first}
+use Rattle.dv_check.specs.Tables.{value_for, no_value, with_first}
 
 or_if : {V : Type 0} (b : Bool) (v : V) (o p : Option V) → (if b then Some v else option_or o p) ≡ option_or (if b then Some v else o) p
 or_if true v o p = refl

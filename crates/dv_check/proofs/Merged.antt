@@ -7,8 +7,7 @@ use Rattle.dv_syntax.specs.declared.tree.Declaration.{Declaration}
 use Rattle.dv_syntax.specs.declared.tree.Declaration.TheVariants.{In, Out}
 use Rattle.dv_check.specs.declared.declarations.NameSort.{NameSort}
 use Rattle.dv_check.specs.declared.declarations.NameSort.TheVariants.{Input, Output}
-use Rattle.dv_check.specs.Names.{among}
-use Rattle.dv_check.specs.Tables.{first_of}
+use Rattle.dv_check.specs.Names.{among, first_of}
 use Rattle.dv_check.specs.Rules.{sort_in}
 use Rattle.dv_check.specs.Couplings.{is_input, is_output}
 use Rattle.dv_check.specs.Ports.{names_before, names_from, ports_by_place}

@@ -1,16 +1,17 @@
 -- What acceptance says of a file: its root is a coupled model, whose tree keeps the limits; the parts of coupled models have known
 -- models, and links lead from an output of a part or an input of the model itself to an input of another part or an output of
 -- the model itself.
-use Rattle.std.specs.Prelude.{◌≡◌, ℕ, suc, ◌+◌, ◌<◌, ◌≤◌, true, false, List, [], length, map, Option, Some, None}
+use Rattle.std.specs.Prelude.{◌≡◌, ℕ, suc, ◌+◌, ◌<◌, ◌≤◌, true, false, List, [], length, Option, Some, None}
 use Rattle.std.specs.List.{AllByRecursion}
 use Rattle.dv_syntax.specs.declared.tree.Name.{Name}
 use Rattle.dv_syntax.specs.declared.tree.Part.{Part}
 use Rattle.dv_syntax.specs.declared.tree.Link.{Link}
 use Rattle.dv_syntax.specs.Trees.{ModelTree, AtomicModel, CoupledModel, CoupledTree, FileTree}
-use Rattle.dv_eval.specs.Scope.{is_declared, scope_of}
+use Rattle.dv_eval.specs.Scope.{is_declared}
 use Rattle.dv_check.specs.declared.limits.TheConstants.{GREATEST_COMPONENTS, GREATEST_DEPTH, GREATEST_INSTANCES, GREATEST_NAMES}
 use Rattle.dv_check.specs.Names.{among, model_named, part_named}
 use Rattle.dv_check.specs.Rules.{atomic_refusals}
+use Rattle.dv_check.specs.Ports.{shown_inputs, shown_outputs}
 use Rattle.dv_check.specs.Couplings.{leads_back}
 use Rattle.dv_check.specs.Tree.{component_count, depth_of, instance_count, tree_of}
 
@@ -18,18 +19,6 @@ use Rattle.dv_check.specs.Tree.{component_count, depth_of, instance_count, tree_
 pub record IsKnownPart (models : List ModelTree) (p : Part) : Type 0 where
   pub model : ModelTree
   pub named : model_named p.model.number models ≡ Some model
-
--- the numbers of the names of the ports that a model shows
-abbrev pub numbers_of : List Name → List ℕ
-numbers_of names = map (λ (n : Name). n.number) names
-
-abbrev pub shown_inputs : ModelTree → List ℕ
-shown_inputs (AtomicModel m) = (scope_of m).inputs
-shown_inputs (CoupledModel m) = numbers_of m.inputs
-
-abbrev pub shown_outputs : ModelTree → List ℕ
-shown_outputs (AtomicModel m) = (scope_of m).outputs
-shown_outputs (CoupledModel m) = numbers_of m.outputs
 
 -- the end is an output of a part
 pub record IsOutputOfPart (models : List ModelTree) (parts : List Part) (part_name : Option Name) (port : Name) : Type 0 where

@@ -1,5 +1,5 @@
 -- What the names of a text stand for, and names that are declared twice or too often.
-use Rattle.std.specs.Prelude.{ℕ, ◌==◌, Bool, true, false, if◌then◌else◌, slice_get, List, [], ◌∷◌, ◌++◌, take, Option, Some, None}
+use Rattle.std.specs.Prelude.{ℕ, ◌==◌, Bool, true, false, if◌then◌else◌, slice_get, List, [], ◌∷◌, ◌++◌, map, take, Option, Some, None}
 use Rattle.std.specs.List.{list_any}
 use Rattle.dv_lex.specs.declared.error.Refusal.{Refusal}
 use Rattle.dv_lex.specs.declared.error.RefusalNumber.{RefusalNumber}
@@ -16,6 +16,15 @@ refusal number place = record { number = number; place = place }
 abbrev pub refusal_if : Bool → RefusalNumber → ℕ → List Refusal
 refusal_if true number place = refusal number place ∷ []
 refusal_if false number place = []
+
+-- the numbers of names
+abbrev pub numbers_of : List Name → List ℕ
+numbers_of names = map (λ (n : Name). n.number) names
+
+-- the value of the first element of a list that has the number
+unfoldable pub first_of : {X V : Type 0} → (X → ℕ) → (X → V) → List X → ℕ → Option V
+first_of number value [] q = None
+first_of number value (x ∷ xs) q = if number x == q then Some (value x) else first_of number value xs q
 
 unfoldable pub among : List Name → ℕ → Bool
 among names number = list_any (λ (n : Name). n.number == number) names

@@ -1,9 +1,11 @@
--- The ports of a coupled model in the order of the text.
+-- The ports of a coupled model in the order of the text, and the ports that a model shows.
 use Rattle.std.specs.Prelude.{ℕ, nat_lt, if◌then◌else◌, List, [], ◌∷◌, ◌++◌, map}
-use Rattle.dv_syntax.specs.Trees.{CoupledTree}
+use Rattle.dv_syntax.specs.Trees.{AtomicModel, CoupledModel, CoupledTree, ModelTree}
 use Rattle.dv_syntax.specs.declared.tree.Name.{Name}
 use Rattle.dv_syntax.specs.declared.tree.Declaration.{Declaration}
 use Rattle.dv_syntax.specs.declared.tree.Declaration.TheVariants.{In, Out}
+use Rattle.dv_eval.specs.Scope.{scope_of}
+use Rattle.dv_check.specs.Names.{numbers_of}
 
 -- the names of a list that stand before a place, up to the first one that does not, and those from there on
 abbrev pub names_before : ℕ → List Name → List Name
@@ -22,3 +24,12 @@ ports_by_place (i ∷ inputs) outputs =
 
 abbrev pub ports_of : CoupledTree → List Declaration
 ports_of m = ports_by_place m.inputs m.outputs
+
+-- the numbers of the names of the ports that a model shows
+abbrev pub shown_inputs : ModelTree → List ℕ
+shown_inputs (AtomicModel m) = (scope_of m).inputs
+shown_inputs (CoupledModel m) = numbers_of m.inputs
+
+abbrev pub shown_outputs : ModelTree → List ℕ
+shown_outputs (AtomicModel m) = (scope_of m).outputs
+shown_outputs (CoupledModel m) = numbers_of m.outputs

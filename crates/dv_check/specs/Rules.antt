@@ -31,8 +31,8 @@ use Rattle.dv_check.specs.declared.declarations.Declarations.{Declarations}
 use Rattle.dv_check.specs.declared.environment.Environment.{Environment, fold-Environment}
 use Rattle.dv_check.specs.declared.environment.Environment.TheOpen.{Environment-F}
 use Rattle.dv_check.specs.declared.starts.Starts.{Starts}
-use Rattle.dv_check.specs.Names.{refusal, refusal_if, among, within_limit, repeats, excess}
-use Rattle.dv_check.specs.Tables.{first_of, value_for, has}
+use Rattle.dv_check.specs.Names.{refusal, refusal_if, among, within_limit, repeats, excess, first_of}
+use Rattle.dv_check.specs.Tables.{value_for, has}
 use Rattle.dv_check.specs.Types.{Known, type_of_name, bag_name_refusals, place_refusals, value_refusals}
 
 -- ---- Names

@@ -1,5 +1,5 @@
 -- Tables of names as functions from numbers.
-use Rattle.std.specs.Prelude.{ℕ, ◌==◌, Bool, nat_eq, if◌then◌else◌, List, [], ◌∷◌, Option, Some, None}
+use Rattle.std.specs.Prelude.{ℕ, ◌==◌, Bool, nat_eq, if◌then◌else◌, Option, Some, None}
 use Rattle.std.specs.Option.{option_or}
 use Rattle.std.specs.HashSet.{contains}
 use Rattle.std.specs.HashMap.{get}
@@ -20,8 +20,3 @@ no_value q = None
 
 unfoldable pub with_first : {V : Type 0} → (ℕ → Option V) → ℕ → V → ℕ → Option V
 with_first f number value q = option_or (f q) (if number == q then Some value else None)
-
--- the value of the first element of a list that has the number
-unfoldable pub first_of : {X V : Type 0} → (X → ℕ) → (X → V) → List X → ℕ → Option V
-first_of number value [] q = None
-first_of number value (x ∷ xs) q = if number x == q then Some (value x) else first_of number value xs q

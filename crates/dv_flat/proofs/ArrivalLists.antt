@@ -1,4 +1,4 @@
--- The lists of arrivals: in that of each token stand the targets where the token is, with how often it is there.
+-- The lists of arrivals: in that of each probe stand the targets where the probe is, with how often it is there.
 use Rattle.std.proofs.Common.{◌≡◌, ℕ, zero, suc, ◌+◌, ◌<◌, ◌≤◌, List, [], ◌∷◌, ◌++◌, length, map, drop}
 use Rattle.std.proofs.Common.{get_or, replicate, ℤ, pos, negsuc, refl, ap, sym, ◌∙◌, arith}
 use Rattle.std.specs.Prelude.{fold, Option, Some, None}
@@ -10,7 +10,7 @@ use Rattle.dv_bag.specs.Bag.{Counts, IsBag, count_of}
 use Rattle.dv_bag.proofs.Monoid.{by_order, count_below}
 use Rattle.dv_bag.proofs.Pairs.{bag_from_above, cmp_equal, cmp_greater, cmp_less}
 use Rattle.dv_flat.specs.Links.{link, links_from}
-use Rattle.dv_flat.specs.Tokens.{arrival, links_of, links_to, with_arrival, with_arrivals}
+use Rattle.dv_flat.specs.Probes.{arrival, links_of, links_to, with_arrival, with_arrivals}
 use Rattle.dv_flat.specs.declared.arrivals.Arrival.{Arrival}
 use Rattle.dv_flat.specs.declared.link.Link.{Link}
 
@@ -25,7 +25,7 @@ module _ {T : Type 0} where
       length-with_arrivals to ps (with_arrival p.0 (record { to = to; copies = p.1 }) lists)
       ∙ length-with_arrival p.0 (record { to = to; copies = p.1 }) lists
 
-  -- an arrival is in the list of its token, and in no other
+  -- an arrival is in the list of its probe, and in no other
   arrival_elsewhere : (v : ℤ) (a : Arrival T) (lists : List (List (Arrival T))) (t : ℕ) → (pos t ≡ v → ⊥) →
       get_or (with_arrival v a lists) t [] ≡ get_or lists t []
   arrival_elsewhere (pos s) a lists t apart = get_or-set_other lists s t (get_or lists s [] ++ a ∷ []) [] (λ same. apart (ap pos same))
@@ -141,7 +141,7 @@ links_each lists links d k (from ∷ froms) h =
     ap (λ i. links_to (get_or froms j d) (get_or lists i [])) (let same : suc k + j ≡ k + suc j = omega arith in same)
     ∙ h (suc j) (omega (arith, within)))))
 
--- the links of sources whose tokens stand in the bags at the targets, from one token on
+-- the links of sources whose probes stand in the bags at the targets, from one probe on
 pub links_found : {From To : Type 0} (copies : From → To → ℕ) (tos : List To) (bags : To → Counts) →
     ((to : To) → IsBag (bags to)) → (n k : ℕ) (froms : List From) (d : From) → k + length froms ≤ n →
     ((j : ℕ) → j < length froms → (to : To) → count_of (pos (k + j)) (bags to) ≡ copies (get_or froms j d) to) →

@@ -12,7 +12,7 @@ use Rattle.dv_tree.specs.Instances.{root_outputs}
 use Rattle.dv_flat.specs.Ends.{input_ports, output_ports}
 use Rattle.dv_flat.specs.Limit.{link_count}
 use Rattle.dv_flat.specs.Links.{copies_of, direct_copies, direct_links, entry_links, exit_copies, exit_links, link, links_from, root_ports}
-use Rattle.dv_flat.specs.Tokens.{chosen_from, direct_from, exit_from}
+use Rattle.dv_flat.specs.Probes.{chosen_from, direct_from, exit_from}
 use Rattle.dv_flat.specs.declared.link.ComponentPort.{ComponentPort}
 use Rattle.dv_flat.specs.declared.link.Link.{Link}
 

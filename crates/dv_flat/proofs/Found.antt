@@ -1,4 +1,4 @@
--- The links that are made of arrivals of tokens are those of the text.
+-- The links that are made of arrivals of probes are those of the text.
 use Rattle.std.proofs.Common.{◌≡◌, ℕ, suc, ◌+◌, ◌<◌, List, [], ◌∷◌, length, map, get_or, replicate, pos, ap}
 use Rattle.std.proofs.Common.{sym, ◌∙◌, subst, arith}
 use Rattle.std.specs.Prelude.{fold}
@@ -12,19 +12,19 @@ use Rattle.dv_tree.proofs.Limits.{length-leaves}
 use Rattle.dv_tree.proofs.Received.{each_receives, port_counts, ports_received}
 use Rattle.dv_flat.specs.Ends.{input_count, input_ports, output_count, output_ports, port_at, ports_from}
 use Rattle.dv_flat.specs.Links.{direct_copies, entry_copies, entry_links, exit_copies, root_ports}
-use Rattle.dv_flat.specs.Tokens.{IsOutput, arrival_lists, arrived_tokens, come_tokens, departure_lists, direct_from, exit_from}
-use Rattle.dv_flat.specs.Tokens.{left_tokens, links_of, sent_tokens, with_input, with_output}
+use Rattle.dv_flat.specs.Probes.{IsOutput, arrival_lists, arrived_probes, come_probes, departure_lists, direct_from, exit_from}
+use Rattle.dv_flat.specs.Probes.{left_probes, links_of, sent_probes, with_input, with_output}
 use Rattle.dv_flat.specs.declared.arrivals.Arrival.{Arrival}
 use Rattle.dv_flat.specs.declared.link.ComponentPort.{ComponentPort}
 use Rattle.dv_flat.specs.declared.link.Link.{Link}
 use Rattle.dv_flat.proofs.ArrivalLists.{length-all, links_found}
-use Rattle.dv_flat.proofs.TokenCounts.{lengths}
-use Rattle.dv_flat.proofs.TokenSums.{arrived_bag, entry_found, exit_found, left_bag, output_found}
+use Rattle.dv_flat.proofs.ProbeCounts.{lengths}
+use Rattle.dv_flat.proofs.ProbeSums.{arrived_bag, entry_found, exit_found, left_bag, output_found}
 
 module _ (f : FileTree) (sources : List ComponentPort) (valid : All (IsOutput f) sources) where
   -- what stands at an input port
   abbrev at_input : ComponentPort → Counts
-  at_input to = bag_at (get_or (arrived_tokens f sources) to.component []) to.port
+  at_input to = bag_at (get_or (arrived_probes f sources) to.component []) to.port
 
   pub length-arrival_lists : length (arrival_lists f sources) ≡ length sources + length (root_inputs f)
   length-arrival_lists =
@@ -33,7 +33,7 @@ module _ (f : FileTree) (sources : List ComponentPort) (valid : All (IsOutput f)
 
   pub length-departure_lists : length (departure_lists f sources) ≡ length sources
   length-departure_lists =
-      length-all (bag_at (left_tokens f sources)) (left_bag f sources valid) (root_ports (root_outputs f)) (length sources)
+      length-all (bag_at (left_probes f sources)) (left_bag f sources valid) (root_ports (root_outputs f)) (length sources)
 
   direct_found : links_of (arrival_lists f sources) 0 sources ≡ flat_map (direct_from f) sources
   direct_found =
@@ -57,16 +57,16 @@ module _ (f : FileTree) (sources : List ComponentPort) (valid : All (IsOutput f)
 
   exit_found_all : links_of (departure_lists f sources) 0 sources ≡ flat_map (exit_from f) sources
   exit_found_all =
-      links_found (exit_copies f) (root_ports (root_outputs f)) (bag_at (left_tokens f sources)) (left_bag f sources valid)
+      links_found (exit_copies f) (root_ports (root_outputs f)) (bag_at (left_probes f sources)) (left_bag f sources valid)
       (length sources) 0 sources (port_at 0 0) (omega arith)
       (λ j within to.
-      ap (λ t. count_of (pos t) (bag_at (left_tokens f sources) to)) (let same : 0 + j ≡ j = omega arith in same)
+      ap (λ t. count_of (pos t) (bag_at (left_probes f sources) to)) (let same : 0 + j ≡ j = omega arith in same)
       ∙ exit_found f sources valid j (port_at 0 0) to within)
 
   -- what the code makes of them
   pub arrival_lists-made : (n : ℕ) (targets : List ComponentPort) (received : List (List Counts))
       (lists : List (List (Arrival ComponentPort))) → n ≡ length sources + length (root_inputs f) → targets ≡ input_ports f →
-      received ≡ arrived_tokens f sources → lists ≡ fold (with_input received) (replicate n []) targets →
+      received ≡ arrived_probes f sources → lists ≡ fold (with_input received) (replicate n []) targets →
       lists ≡ arrival_lists f sources
   arrival_lists-made n targets received lists many at of made =
       let none = replicate (length sources + length (root_inputs f)) [] in
@@ -74,14 +74,14 @@ module _ (f : FileTree) (sources : List ComponentPort) (valid : All (IsOutput f)
       ∙ (ap (λ k. fold (with_input received) (replicate k []) targets) many
       ∙ (ap (fold (with_input received) none) at ∙ ap (λ bags. fold (with_input bags) none (input_ports f)) of))
 
-  pub departure_lists-made : (leaving : List Counts) (lists : List (List (Arrival ℕ))) → leaving ≡ left_tokens f sources →
+  pub departure_lists-made : (leaving : List Counts) (lists : List (List (Arrival ℕ))) → leaving ≡ left_probes f sources →
       lists ≡ fold (with_output leaving) (replicate (length sources) []) (range_with_len 0 (length leaving)) →
       lists ≡ departure_lists f sources
   departure_lists-made leaving lists of made =
       let none = replicate (length sources) [] in
       made
       ∙ (ap (λ bags. fold (with_output bags) none (range_with_len 0 (length bags))) of
-      ∙ ap (λ k. fold (with_output (left_tokens f sources)) none (range_with_len 0 k)) (length-leaves f (sent_tokens f sources)))
+      ∙ ap (λ k. fold (with_output (left_probes f sources)) none (range_with_len 0 k)) (length-leaves f (sent_probes f sources)))
 
   pub direct_links-made : (lists : List (List (Arrival ComponentPort))) (links : List (Link ComponentPort ComponentPort)) →
       lists ≡ arrival_lists f sources → links ≡ links_of lists 0 sources → links ≡ flat_map (direct_from f) sources
@@ -129,23 +129,23 @@ outputs_valid f = ports_all (IsOutput f) output_count 0 (instances f)
 -- the input ports are among what is received
 pub inputs_received : (f : FileTree) (sources targets : List ComponentPort) (received : List (List Counts)) →
     input_ports f ≡ targets →
-    arrived_tokens f sources ≡ received →
+    arrived_probes f sources ≡ received →
     All (λ (to : ComponentPort). (to.component < length received) × (to.port < length (get_or received to.component []))) targets
 inputs_received f sources targets received at of =
     let Within : List (List Counts) → ComponentPort → Type 0 =
     λ all to. (to.component < length all) × (to.port < length (get_or all to.component [])) in
-    let sent = sent_tokens f sources in
-    let come = come_tokens f sources in
-    let tokens = arrived_tokens f sources in
+    let sent = sent_probes f sources in
+    let come = come_probes f sources in
+    let probes = arrived_probes f sources in
     let within =
-    ports_all (Within tokens) input_count 0 (instances f)
+    ports_all (Within probes) input_count 0 (instances f)
     (λ c p early there. (
       omega (arith, early, each_receives f sent come),
-      (let Port : ℕ → Type 0 = λ n. p < length (get_or tokens n []) in
-          let long : length (get_or tokens c []) ≡ get_or (port_counts (instances f)) c 0 =
-          lengths tokens c ∙ ap (λ ns. get_or ns c 0) (ports_received f sent come) in
+      (let Port : ℕ → Type 0 = λ n. p < length (get_or probes n []) in
+          let long : length (get_or probes c []) ≡ get_or (port_counts (instances f)) c 0 =
+          lengths probes c ∙ ap (λ ns. get_or ns c 0) (ports_received f sent come) in
           subst Port (let same : c ≡ 0 + c = omega arith in same) (omega (arith, there, long))),
     )) in
     let Received : List (List Counts) → Type 0 = λ all. All (Within all) targets in
-    let Targets : List ComponentPort → Type 0 = λ tos. All (Within tokens) tos in
+    let Targets : List ComponentPort → Type 0 = λ tos. All (Within probes) tos in
     subst Received of (subst Targets at within)

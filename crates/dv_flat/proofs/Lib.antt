@@ -14,6 +14,9 @@ pub mod Loops
 pub mod PathLists
 pub mod Picked
 pub mod PortLists
+pub mod ProbeCounts
+pub mod ProbeLists
+pub mod ProbeSums
 pub mod Products
 pub mod Ranges
 pub mod RootWays
@@ -22,7 +25,4 @@ pub mod Sources
 pub mod Sums
 pub mod Superposed
 pub mod Through
-pub mod TokenCounts
-pub mod TokenLists
-pub mod TokenSums
 pub mod Trees

@@ -12,7 +12,7 @@ use Rattle.dv_bag.specs.Bag.{capped}
 use Rattle.dv_flat.specs.Ways.{WayCounts, crossing_ways, joined_ways, model_ways, no_ways, output_ways}
 use Rattle.dv_flat.specs.Ways.{own_inputs, part_ways, ways_by, with_output}
 use Rattle.dv_tree.specs.declared.couplings.Coupling.{Coupling}
-use Rattle.dv_tree.specs.declared.entries.Entry.{Entry}
+use Rattle.dv_tree.specs.declared.placed_parts.PlacedPart.{PlacedPart}
 use Rattle.dv_tree.specs.Nodes.{level_at}
 use Rattle.dv_tree.specs.Tables.{LevelTable, level_of_model, levels_of, scope_of_model}
 use Rattle.dv_tree.proofs.Below.{scope_read}
@@ -61,20 +61,20 @@ kept_step : (ways inside joined i j whole rest : ℕ) → inside ≡ i → joine
 kept_step ways inside joined i j whole rest inside_is joined_is whole_is = omega arith
 
 -- the sum over parts, one part further and at its end
-pub inside_more : (below all : List WayCounts) (couplings : List (List Coupling)) (entries : List Entry) (d : Entry) (place : ℕ)
-    (ways inside joined : ℕ) → place < length entries →
-    inside ≡ (get_or below (get_or entries place d).model no_ways).inside →
+pub inside_more : (below all : List WayCounts) (couplings : List (List Coupling)) (placed : List PlacedPart) (d : PlacedPart) (place : ℕ)
+    (ways inside joined : ℕ) → place < length placed →
+    inside ≡ (get_or below (get_or placed place d).model no_ways).inside →
     joined
-    ≡ capped (sum_by (joined_ways all (get_or below (get_or entries place d).model no_ways).outputs) (get_or couplings place [])) →
+    ≡ capped (sum_by (joined_ways all (get_or below (get_or placed place d).model no_ways).outputs) (get_or couplings place [])) →
     capped (min (min (ways + inside) (2 ^ 64 - 1) + joined) (2 ^ 64 - 1)
-    + inside_from all (drop (place + 1) couplings) (part_ways below (drop (place + 1) entries)))
-    ≡ capped (ways + inside_from all (drop place couplings) (part_ways below (drop place entries)))
-inside_more below all couplings entries d place ways inside joined within inside_is joined_is =
-    let p = get_or below (get_or entries place d).model no_ways in
-    let rest = drop (place + 1) entries in
-    let left : List Entry → ℕ = λ es. inside_from all (drop place couplings) (part_ways below es) in
+    + inside_from all (drop (place + 1) couplings) (part_ways below (drop (place + 1) placed)))
+    ≡ capped (ways + inside_from all (drop place couplings) (part_ways below (drop place placed)))
+inside_more below all couplings placed d place ways inside joined within inside_is joined_is =
+    let p = get_or below (get_or placed place d).model no_ways in
+    let rest = drop (place + 1) placed in
+    let left : List PlacedPart → ℕ = λ es. inside_from all (drop place couplings) (part_ways below es) in
     kept_step ways inside joined p.inside _ _ _ inside_is joined_is
-    (at_drop_more left entries place d within ∙ inside_from-part all couplings place p (part_ways below rest))
+    (at_drop_more left placed place d within ∙ inside_from-part all couplings place p (part_ways below rest))
 
 pub output_ways-end : (couplings : List (List Coupling)) (ways : List ℕ) → output_ways couplings [] ways ≡ ways
 output_ways-end [] ways = refl

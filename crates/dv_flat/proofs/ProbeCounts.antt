@@ -1,4 +1,4 @@
--- How often a token is sent at a port: once at its source, and nowhere else.
+-- How often a probe is sent at a port: once at its source, and nowhere else.
 use Rattle.std.proofs.Common.{◌≡◌, ℕ, zero, suc, ◌+◌, ◌*◌, ◌<◌, ◌≤◌, Bool, true, false, eqb, List, [], ◌∷◌}
 use Rattle.std.proofs.Common.{length, map, drop, get_or, set, replicate, ℤ, pos, refl, ap, sym, ◌∙◌, subst, arith, ⊎_elim}
 use Rattle.std.specs.Prelude.{◌&&◌}
@@ -17,7 +17,7 @@ use Rattle.dv_tree.specs.Instances.{Instance, instances}
 use Rattle.dv_bag.specs.BagLists.{AllAreBags}
 use Rattle.dv_flat.specs.Carried.{same_port, sent_at}
 use Rattle.dv_flat.specs.Ends.{output_count, port_at}
-use Rattle.dv_flat.specs.Tokens.{IsOutput, sent_tokens, silence, with_token, with_tokens}
+use Rattle.dv_flat.specs.Probes.{IsOutput, sent_probes, silence, with_probe, with_probes}
 use Rattle.dv_flat.specs.declared.link.ComponentPort.{ComponentPort}
 use Rattle.dv_flat.proofs.Picked.{same_port-true, tick}
 
@@ -55,10 +55,10 @@ silent [] k port = refl
 silent (i ∷ is) zero port = no_value (output_count i.model) port
 silent (i ∷ is) (suc k) port = silent is k port
 
--- ---- One token more
+-- ---- One probe more
 
 module _ (sent : List (List Counts)) (are_bags : AllAreBags sent) (s c p : ℕ) (within : p < length (get_or sent c [])) where
-  put_here : bag_at (get_or (with_token sent s (port_at c p)) c []) p ≡ with_copies (pos s) 1 (bag_at (get_or sent c []) p)
+  put_here : bag_at (get_or (with_probe sent s (port_at c p)) c []) p ≡ with_copies (pos s) 1 (bag_at (get_or sent c []) p)
   put_here =
       let bags = get_or sent c [] in
       let new = with_copies (pos s) 1 (bag_at bags p) in
@@ -66,7 +66,7 @@ module _ (sent : List (List Counts)) (are_bags : AllAreBags sent) (s c p : ℕ) 
       ∙ get_or-set_same bags p new [] within
 
   put_elsewhere : (k port : ℕ) → same_port (port_at k port) (port_at c p) ≡ false →
-      bag_at (get_or (with_token sent s (port_at c p)) k []) port ≡ bag_at (get_or sent k []) port
+      bag_at (get_or (with_probe sent s (port_at c p)) k []) port ≡ bag_at (get_or sent k []) port
   put_elsewhere k port apart =
       let bags = get_or sent c [] in
       let new = with_copies (pos s) 1 (bag_at bags p) in
@@ -74,7 +74,7 @@ module _ (sent : List (List Counts)) (are_bags : AllAreBags sent) (s c p : ℕ) 
       (λ (e : eqb k c ≡ true).
       let same : k ≡ c = eqb-true k c e in
       let other : eqb port p ≡ false = sym (ap (λ (b : Bool). b && eqb port p) e) ∙ apart in
-      ap (λ (n : ℕ). bag_at (get_or (with_token sent s (port_at c p)) n []) port) same
+      ap (λ (n : ℕ). bag_at (get_or (with_probe sent s (port_at c p)) n []) port) same
       ∙ (ap (λ (xs : List Counts). bag_at xs port) (get_or-set_same sent c (set bags p new) [] (component_within sent c p within))
       ∙ (get_or-set_other bags p port new [] (λ q. eqb-false port p other q)
       ∙ ap (λ (n : ℕ). bag_at (get_or sent n []) port) (sym same))))
@@ -83,11 +83,11 @@ module _ (sent : List (List Counts)) (are_bags : AllAreBags sent) (s c p : ℕ) 
       (cases_Bool (eqb k c))
 
   -- what is sent are still bags
-  put_bags : AllAreBags (with_token sent s (port_at c p))
+  put_bags : AllAreBags (with_probe sent s (port_at c p))
   put_bags k port =
       ⊎_elim
       (λ (e : same_port (port_at k port) (port_at c p) ≡ true).
-      let At : ComponentPort → Type 0 = λ x. IsBag (sent_at (with_token sent s (port_at c p)) x) in
+      let At : ComponentPort → Type 0 = λ x. IsBag (sent_at (with_probe sent s (port_at c p)) x) in
       subst At (sym (same_port-true (port_at k port) (port_at c p) e))
       (subst IsBag (sym put_here) (with_copies_bag (pos s) 1 (bag_at (get_or sent c []) p) (are_bags c p))))
       (λ (e : same_port (port_at k port) (port_at c p) ≡ false). subst IsBag (sym (put_elsewhere k port e)) (are_bags k port))
@@ -107,13 +107,13 @@ module _ (sent : List (List Counts)) (are_bags : AllAreBags sent) (s c p : ℕ) 
       omega (arith, other, ap tick e, count_kept (pos t) b (are_bags c p)))
       (cases_Bool (eqb s t))
 
-  -- a token comes to its port once more
+  -- a probe comes to its port once more
   put_counted : (t k port : ℕ) →
-      count_of (pos t) (bag_at (get_or (with_token sent s (port_at c p)) k []) port)
+      count_of (pos t) (bag_at (get_or (with_probe sent s (port_at c p)) k []) port)
       ≡ capped
       (count_of (pos t) (bag_at (get_or sent k []) port) + tick (eqb s t) * tick (same_port (port_at k port) (port_at c p)))
   put_counted t k port =
-      let after = with_token sent s (port_at c p) in
+      let after = with_probe sent s (port_at c p) in
       let old = count_of (pos t) (bag_at (get_or sent k []) port) in
       ⊎_elim
       (λ (e : same_port (port_at k port) (port_at c p) ≡ true).
@@ -135,13 +135,13 @@ module _ (sent : List (List Counts)) (are_bags : AllAreBags sent) (s c p : ℕ) 
       ))
       (cases_Bool (same_port (port_at k port) (port_at c p)))
 
--- ---- The tokens of all sources
+-- ---- The probes of all sources
 
 tick_small : (b : Bool) → tick b ≤ 1
 tick_small true = omega arith
 tick_small false = omega arith
 
--- how often a token stands at a port, by the sources from one token on
+-- how often a probe stands at a port, by the sources from one probe on
 abbrev pub standing : ℕ → ComponentPort → ℕ → List ComponentPort → ℕ
 standing t x s [] = 0
 standing t x s (from ∷ froms) = tick (eqb s t) * tick (same_port x from) + standing t x (suc s) froms
@@ -183,9 +183,9 @@ port_there sent counts from many there =
     omega (arith, there, lengths sent from.component, ap (λ ns. get_or ns from.component 0) many)
 
 record ArePut (counts : List ℕ) (s : ℕ) (froms : List ComponentPort) (sent : List (List Counts)) : Type 0 where
-  pub bags : AllAreBags (with_tokens s froms sent)
+  pub bags : AllAreBags (with_probes s froms sent)
   pub counted : (t k port : ℕ) →
-      count_of (pos t) (bag_at (get_or (with_tokens s froms sent) k []) port)
+      count_of (pos t) (bag_at (get_or (with_probes s froms sent) k []) port)
       ≡ capped (count_of (pos t) (bag_at (get_or sent k []) port) + standing t (port_at k port) s froms)
 
 all_put : (counts : List ℕ) (s : ℕ) (froms : List ComponentPort) (sent : List (List Counts)) → AreThere counts froms →
@@ -200,7 +200,7 @@ all_put counts s (from ∷ froms) sent there many are_bags =
     let within = port_there sent counts from many (All-head Is from froms there) in
     let c = from.component in
     let p = from.port in
-    let rest = all_put counts (suc s) froms (with_token sent s from) (All-tail Is from froms there)
+    let rest = all_put counts (suc s) froms (with_probe sent s from) (All-tail Is from froms there)
     (lengths_kept sent c p (with_copies (pos s) 1 (bag_at (get_or sent c []) p)) ∙ many)
     (put_bags sent are_bags s c p within) in
     record {
@@ -215,23 +215,23 @@ module _ (f : FileTree) (sources : List ComponentPort) (valid : All (IsOutput f)
       all_put (map (λ (i : Instance). output_count i.model) (instances f)) 0 sources (silence (instances f)) valid
       (silence_lengths (instances f)) (λ k port. subst IsBag (sym (silent (instances f) k port)) tt)
 
-  pub tokens_are_bags : AllAreBags (sent_tokens f sources)
-  tokens_are_bags = put.bags
+  pub probes_are_bags : AllAreBags (sent_probes f sources)
+  probes_are_bags = put.bags
 
-  -- each token is sent at its source once, and nowhere else
+  -- each probe is sent at its source once, and nowhere else
   counted_at : (t k port : ℕ) →
-      count_of (pos t) (bag_at (get_or (sent_tokens f sources) k []) port) ≡ capped (standing t (port_at k port) 0 sources)
+      count_of (pos t) (bag_at (get_or (sent_probes f sources) k []) port) ≡ capped (standing t (port_at k port) 0 sources)
   counted_at t k port =
       omega (arith, put.counted t k port, ap (count_of (pos t)) (silent (instances f) k port))
 
   pub sent_at_source : (t : ℕ) (d x : ComponentPort) → t < length sources →
-      count_of (pos t) (sent_at (sent_tokens f sources) x) ≡ tick (same_port x (get_or sources t d))
+      count_of (pos t) (sent_at (sent_probes f sources) x) ≡ tick (same_port x (get_or sources t d))
   sent_at_source t d x within =
       let there = standing_at t x 0 t sources d (omega arith) within in
       let small = tick_small (same_port x (get_or sources t d)) in
       omega (arith, counted_at t x.component x.port, there, small)
 
-  pub sent_nowhere : (t : ℕ) (x : ComponentPort) → length sources ≤ t → count_of (pos t) (sent_at (sent_tokens f sources) x) ≡ 0
+  pub sent_nowhere : (t : ℕ) (x : ComponentPort) → length sources ≤ t → count_of (pos t) (sent_at (sent_probes f sources) x) ≡ 0
   sent_nowhere t x past =
       let none = standing_past t x 0 sources (omega (arith, past)) in omega (arith, counted_at t x.component x.port, none)
 
@@ -241,24 +241,24 @@ module _ (sources : List ComponentPort) (t : ℕ) (d : ComponentPort) (sent : Li
     (within : t < length sources) (value : v ≡ pos t) (old : values ≡ get_or sent (get_or sources t d).component [])
     (added :
     new ≡ set values (get_or sources t d).port (with_copies v 1 (bag_at values (get_or sources t d).port))) where
-  token_put : set sent (get_or sources t d).component new ≡ with_token sent t (get_or sources t d)
-  token_put =
+  probe_put : set sent (get_or sources t d).component new ≡ with_probe sent t (get_or sources t d)
+  probe_put =
       let from = get_or sources t d in
       ap (set sent from.component)
       (added
       ∙ (ap (λ (z : ℤ). set values from.port (with_copies z 1 (bag_at values from.port))) value
       ∙ ap (λ (xs : List Counts). set xs from.port (with_copies (pos t) 1 (bag_at xs from.port))) old))
 
-  pub token_sent : with_tokens (t + 1) (drop (t + 1) sources) (set sent (get_or sources t d).component new)
-      ≡ with_tokens t (drop t sources) sent
-  token_sent =
+  pub probe_sent : with_probes (t + 1) (drop (t + 1) sources) (set sent (get_or sources t d).component new)
+      ≡ with_probes t (drop t sources) sent
+  probe_sent =
       let from = get_or sources t d in
-      ap (with_tokens (t + 1) (drop (t + 1) sources)) token_put
-      ∙ (ap (λ n. with_tokens n (drop n sources) (with_token sent t from)) (let same : t + 1 ≡ suc t = omega arith in same)
-      ∙ ap (λ xs. with_tokens t xs sent) (sym (drop-cons sources t d within)))
+      ap (with_probes (t + 1) (drop (t + 1) sources)) probe_put
+      ∙ (ap (λ n. with_probes n (drop n sources) (with_probe sent t from)) (let same : t + 1 ≡ suc t = omega arith in same)
+      ∙ ap (λ xs. with_probes t xs sent) (sym (drop-cons sources t d within)))
 
-  pub token_lengths : map length (set sent (get_or sources t d).component new) ≡ map length sent
-  token_lengths =
+  pub probe_lengths : map length (set sent (get_or sources t d).component new) ≡ map length sent
+  probe_lengths =
       let from = get_or sources t d in
-      ap (map length) token_put
+      ap (map length) probe_put
       ∙ lengths_kept sent from.component from.port (with_copies (pos t) 1 (bag_at (get_or sent from.component []) from.port))

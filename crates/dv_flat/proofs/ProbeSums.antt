@@ -1,4 +1,4 @@
--- How often a token arrives: as often as the value of its source arrives where that alone sends.
+-- How often a probe arrives: as often as the value of its source arrives where that alone sends.
 use Rattle.std.proofs.Common.{◌≡◌, ℕ, zero, suc, ◌+◌, ◌*◌, ◌<◌, ◌≤◌, Bool, ltb, map, true, false, eqb, List, []}
 use Rattle.std.proofs.Common.{◌∷◌, length, get_or, pos, refl, ap, sym, ◌∙◌, arith, ⊎_elim}
 use Rattle.std.specs.List.{All}
@@ -14,25 +14,25 @@ use Rattle.dv_tree.specs.Instances.{Instance, instances, root_inputs}
 use Rattle.dv_flat.specs.Carried.{same_port, sent_at}
 use Rattle.dv_flat.specs.Ends.{output_count, output_ports, port_at}
 use Rattle.dv_flat.specs.Links.{direct_copies, entry_copies, exit_copies, root_ports}
-use Rattle.dv_flat.specs.Tokens.{IsOutput, arrived_tokens, come_tokens, left_tokens, sent_tokens, token, tokens_from}
+use Rattle.dv_flat.specs.Probes.{IsOutput, arrived_probes, come_probes, left_probes, probe, probes_from, sent_probes}
 use Rattle.dv_flat.specs.declared.link.ComponentPort.{ComponentPort}
 use Rattle.dv_flat.proofs.Capped.{total_by, total_by-same, total_by-zero}
 use Rattle.dv_flat.proofs.Picked.{occurs_once, picked, same_port-true, tick}
 use Rattle.dv_flat.proofs.Superposed.{arrives_superposed, entry, everybody, leaves_superposed, output}
-use Rattle.dv_flat.proofs.TokenCounts.{sent_at_source, sent_nowhere, tokens_are_bags}
+use Rattle.dv_flat.proofs.ProbeCounts.{probes_are_bags, sent_at_source, sent_nowhere}
 
--- tokens are bags
-tokens_bag : (first ports port : ℕ) → IsBag (bag_at (tokens_from first ports) port)
-tokens_bag first zero port = tt
-tokens_bag first (suc ports) zero = (omega arith, omega arith, tt)
-tokens_bag first (suc ports) (suc port) = tokens_bag (first + 1) ports port
+-- probes are bags
+probes_bag : (first ports port : ℕ) → IsBag (bag_at (probes_from first ports) port)
+probes_bag first zero port = tt
+probes_bag first (suc ports) zero = (omega arith, omega arith, tt)
+probes_bag first (suc ports) (suc port) = probes_bag (first + 1) ports port
 
--- a token is itself once, and no other
-token_ticks : (j t : ℕ) → count_of (pos t) (token j) ≡ tick (eqb j t)
-token_ticks j t =
+-- a probe is itself once, and no other
+probe_ticks : (j t : ℕ) → count_of (pos t) (probe j) ≡ tick (eqb j t)
+probe_ticks j t =
     ⊎_elim
     (λ (e : eqb j t ≡ true).
-    ap (λ n. count_of (pos t) (token n)) (eqb-true j t e) ∙ (count_with_same (pos t) 1 [] tt ∙ ap tick (sym e)))
+    ap (λ n. count_of (pos t) (probe n)) (eqb-true j t e) ∙ (count_with_same (pos t) 1 [] tt ∙ ap tick (sym e)))
     (λ (e : eqb j t ≡ false). count_with_other (pos t) (pos j) 1 [] (λ same. eqb-false j t e (omega (arith, ints)))
     ∙ ap tick (sym e))
     (cases_Bool (eqb j t))
@@ -67,24 +67,24 @@ one_chosen g w (x ∷ xs) d (suc i) within h =
 
 module _ (f : FileTree) (sources : List ComponentPort) (valid : All (IsOutput f) sources) where
   abbrev sent : List (List Counts)
-  sent = sent_tokens f sources
+  sent = sent_probes f sources
 
-  come_bags : AreBags (come_tokens f sources)
-  come_bags = tokens_bag (length sources) (length (root_inputs f))
+  come_bags : AreBags (come_probes f sources)
+  come_bags = probes_bag (length sources) (length (root_inputs f))
 
-  -- the tokens of the root's inputs, by place
+  -- the probes of the root's inputs, by place
   entry_ticks : (t j d : ℕ) → j < length (root_inputs f) →
-      count_of (pos t) (bag_at (come_tokens f sources) (get_or (root_ports (root_inputs f)) j d))
+      count_of (pos t) (bag_at (come_probes f sources) (get_or (root_ports (root_inputs f)) j d))
       ≡ tick (eqb (length sources + j) t)
   entry_ticks t j d within =
       let n = length (root_inputs f) in
       let first = length sources in
       ap (count_of (pos t))
-      (ap (bag_at (come_tokens f sources)) (get_or-range_with_len 0 n j d within ∙ (let same : 0 + j ≡ j = omega arith in same))
-      ∙ get_or-map-range_with_len token first n j (first + j) [] within refl)
-      ∙ token_ticks (first + j) t
+      (ap (bag_at (come_probes f sources)) (get_or-range_with_len 0 n j d within ∙ (let same : 0 + j ≡ j = omega arith in same))
+      ∙ get_or-map-range_with_len probe first n j (first + j) [] within refl)
+      ∙ probe_ticks (first + j) t
 
-  -- of a number at each output that is counted by a source's token, that of the source is left
+  -- of a number at each output that is counted by a source's probe, that of the source is left
   source_chosen : (g : ComponentPort → ℕ) (t : ℕ) (d : ComponentPort) → t < length sources →
       total_by (λ x. g x * count_of (pos t) (sent_at sent x)) (output_ports f) ≡ g (get_or sources t d)
   source_chosen g t d within =
@@ -104,16 +104,16 @@ module _ (f : FileTree) (sources : List ComponentPort) (valid : All (IsOutput f)
       total_by-zero (λ x. g x * count_of (pos t) (sent_at sent x))
       (λ x. ap (λ n. g x * n) (sent_nowhere f sources valid t x past) ∙ omega arith) (output_ports f)
 
-  -- the token of a source arrives as often as its value alone
+  -- the probe of a source arrives as often as its value alone
   pub output_found : (t : ℕ) (d : ComponentPort) (k port : ℕ) → t < length sources →
-      count_of (pos t) (bag_at (get_or (arrived_tokens f sources) k []) port)
+      count_of (pos t) (bag_at (get_or (arrived_probes f sources) k []) port)
       ≡ direct_copies f (get_or sources t d) (port_at k port)
   output_found t d k port within =
-      let put = arrives_superposed f sent (tokens_are_bags f sources valid) (come_tokens f sources) come_bags k port in
+      let put = arrives_superposed f sent (probes_are_bags f sources valid) (come_probes f sources) come_bags k port in
       let from = get_or sources t d in
       let outs = source_chosen (λ x. direct_copies f x (port_at k port)) t d within in
       let ins =
-      none_chosen (λ x. entry_copies f x (port_at k port)) (λ x. count_of (pos t) (bag_at (come_tokens f sources) x))
+      none_chosen (λ x. entry_copies f x (port_at k port)) (λ x. count_of (pos t) (bag_at (come_probes f sources) x))
       (root_ports (root_inputs f)) 0
       (λ j early.
       entry_ticks t j 0 (omega (arith, early, length-range_with_len 0 (length (root_inputs f))))
@@ -122,16 +122,16 @@ module _ (f : FileTree) (sources : List ComponentPort) (valid : All (IsOutput f)
 
   -- and so does that of an input of the root
   pub entry_found : (i k port : ℕ) → i < length (root_inputs f) →
-      count_of (pos (length sources + i)) (bag_at (get_or (arrived_tokens f sources) k []) port)
+      count_of (pos (length sources + i)) (bag_at (get_or (arrived_probes f sources) k []) port)
       ≡ entry_copies f i (port_at k port)
   entry_found i k port within =
       let t = length sources + i in
       let ports = root_ports (root_inputs f) in
       let long : length ports ≡ length (root_inputs f) = length-range_with_len 0 (length (root_inputs f)) in
-      let put = arrives_superposed f sent (tokens_are_bags f sources valid) (come_tokens f sources) come_bags k port in
+      let put = arrives_superposed f sent (probes_are_bags f sources valid) (come_probes f sources) come_bags k port in
       let outs = no_source (λ x. direct_copies f x (port_at k port)) t (omega arith) in
       let ins =
-      one_chosen (λ x. entry_copies f x (port_at k port)) (λ x. count_of (pos t) (bag_at (come_tokens f sources) x)) ports 0 i
+      one_chosen (λ x. entry_copies f x (port_at k port)) (λ x. count_of (pos t) (bag_at (come_probes f sources) x)) ports 0 i
       (omega (arith, within, long))
       (λ j early.
       entry_ticks t j 0 (omega (arith, early, long))
@@ -147,19 +147,19 @@ module _ (f : FileTree) (sources : List ComponentPort) (valid : All (IsOutput f)
         count_kept (pos 0) _ (put.bags (entry i)),
       )
 
-  -- the token of a source leaves as often
+  -- the probe of a source leaves as often
   pub exit_found : (t : ℕ) (d : ComponentPort) (port : ℕ) → t < length sources →
-      count_of (pos t) (bag_at (left_tokens f sources) port) ≡ exit_copies f (get_or sources t d) port
+      count_of (pos t) (bag_at (left_probes f sources) port) ≡ exit_copies f (get_or sources t d) port
   exit_found t d port within =
-      let put = leaves_superposed f sent (tokens_are_bags f sources valid) port in
+      let put = leaves_superposed f sent (probes_are_bags f sources valid) port in
       let from = get_or sources t d in
       let outs = source_chosen (λ x. exit_copies f x port) t d within in
       omega (arith, put.counts (pos t), outs, count_kept (pos 0) _ (put.bags (output from)))
 
-  -- what arrives and what leaves of the tokens are bags
-  pub arrived_bag : (k port : ℕ) → IsBag (bag_at (get_or (arrived_tokens f sources) k []) port)
+  -- what arrives and what leaves of the probes are bags
+  pub arrived_bag : (k port : ℕ) → IsBag (bag_at (get_or (arrived_probes f sources) k []) port)
   arrived_bag k port =
-      (arrives_superposed f sent (tokens_are_bags f sources valid) (come_tokens f sources) come_bags k port).bags everybody
+      (arrives_superposed f sent (probes_are_bags f sources valid) (come_probes f sources) come_bags k port).bags everybody
 
-  pub left_bag : (port : ℕ) → IsBag (bag_at (left_tokens f sources) port)
-  left_bag port = (leaves_superposed f sent (tokens_are_bags f sources valid) port).bags everybody
+  pub left_bag : (port : ℕ) → IsBag (bag_at (left_probes f sources) port)
+  left_bag port = (leaves_superposed f sent (probes_are_bags f sources valid) port).bags everybody

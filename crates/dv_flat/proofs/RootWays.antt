@@ -10,7 +10,7 @@ use Rattle.dv_syntax.specs.declared.tree.Name.{Name}
 use Rattle.dv_bag.specs.Bag.{Counts, bag_at, capped}
 use Rattle.dv_check.specs.Tree.{tree_of}
 use Rattle.dv_check.specs.declared.limits.TheConstants.{GREATEST_DEPTH}
-use Rattle.dv_check.specs.Accepted.{numbers_of}
+use Rattle.dv_check.specs.Names.{numbers_of}
 use Rattle.dv_tree.specs.Couplings.{couplings_of_inputs, couplings_of_parts}
 use Rattle.dv_tree.specs.Instances.{Instance, inputs_in, instances, instances_in, outputs_in, root_inputs, root_of, tree_in}
 use Rattle.dv_tree.specs.Routing.{arrives, arrives_in_root, arriving, first_bags, from_parts, leaves_root, leaving, to_parts}

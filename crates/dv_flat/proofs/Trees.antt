@@ -11,9 +11,8 @@ use Rattle.dv_syntax.specs.declared.tree.Name.{Name}
 use Rattle.dv_syntax.specs.declared.tree.Part.{Part}
 use Rattle.dv_bag.specs.Bag.{Counts}
 use Rattle.dv_eval.specs.Scope.{scope_of}
-use Rattle.dv_check.specs.Names.{model_named}
+use Rattle.dv_check.specs.Names.{model_named, numbers_of}
 use Rattle.dv_check.specs.Tree.{PartTree, NoParts, AtomicPart, CoupledPart, component_count, parts_by, parts_to, with_part}
-use Rattle.dv_check.specs.Accepted.{numbers_of}
 use Rattle.dv_tree.specs.Instances.{Instance, instances_in}
 use Rattle.dv_tree.specs.Couplings.{Shown, couplings_of_inputs, couplings_of_parts, shown_by, shown_of, shown_parts}
 use Rattle.dv_tree.specs.Routing.{along_all, arriving, first_bags, from_parts, leaving, nothing_at, to_parts}

@@ -6,5 +6,5 @@ pub mod Limit
 pub mod Carried
 pub mod Rows
 -- What serves proofs.
-pub mod Tokens
+pub mod Probes
 pub mod Ways

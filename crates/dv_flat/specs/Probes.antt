@@ -1,4 +1,4 @@
--- Tokens: each source, an output port of a component, sends a value of its own, and so does each input port of the root.
+-- Probes: each source, an output port of a component, sends a value of its own, and so does each input port of the root.
 use Rattle.std.specs.Prelude.{ℕ, zero, suc, ◌+◌, ◌<◌, Bool, false, if◌then◌else◌, List, [], ◌∷◌, ◌++◌, length}
 use Rattle.std.specs.Prelude.{map, fold, replicate, slice_index_or, slice_set, Option, Some, None, ℤ, pos, negsuc}
 use Rattle.std.specs.List.{range_with_len}
@@ -12,59 +12,59 @@ use Rattle.dv_flat.specs.declared.arrivals.Arrival.{Arrival}
 use Rattle.dv_flat.specs.declared.link.ComponentPort.{ComponentPort}
 use Rattle.dv_flat.specs.declared.link.Link.{Link}
 
--- a token once
-abbrev pub token : ℕ → Counts
-token t = (pos t, 1) ∷ []
+-- a probe once
+abbrev pub probe : ℕ → Counts
+probe t = (pos t, 1) ∷ []
 
--- for each of so many ports its token, from one on
-abbrev pub tokens_from : ℕ → ℕ → List Counts
-tokens_from first ports = map token (range_with_len first ports)
+-- for each of so many ports its probe, from one on
+abbrev pub probes_from : ℕ → ℕ → List Counts
+probes_from first ports = map probe (range_with_len first ports)
 
 -- no values at the output ports of components
 abbrev pub silence : List Instance → List (List Counts)
 silence is = map (λ (i : Instance). replicate (output_count i.model) []) is
 
--- with a token at an output port
-abbrev pub with_token : List (List Counts) → ℕ → ComponentPort → List (List Counts)
-with_token sent t from =
+-- with a probe at an output port
+abbrev pub with_probe : List (List Counts) → ℕ → ComponentPort → List (List Counts)
+with_probe sent t from =
     slice_set sent from.component
     (slice_set (slice_index_or sent from.component []) from.port
     (with_copies (pos t) 1 (bag_at (slice_index_or sent from.component []) from.port)))
 
 -- with those of sources, from one on
-abbrev pub with_tokens : ℕ → List ComponentPort → List (List Counts) → List (List Counts)
-with_tokens t [] sent = sent
-with_tokens t (from ∷ froms) sent = with_tokens (suc t) froms (with_token sent t from)
+abbrev pub with_probes : ℕ → List ComponentPort → List (List Counts) → List (List Counts)
+with_probes t [] sent = sent
+with_probes t (from ∷ froms) sent = with_probes (suc t) froms (with_probe sent t from)
 
 -- an output port of a component that there is
 abbrev pub IsOutput : FileTree → ComponentPort → Type 0
 IsOutput f from = from.port < slice_index_or (map (λ (i : Instance). output_count i.model) (instances f)) from.component 0
 
--- the token of each source is its place; the tokens of the root's inputs stand behind these
-abbrev pub sent_tokens : FileTree → List ComponentPort → List (List Counts)
-sent_tokens f sources = with_tokens 0 sources (silence (instances f))
+-- the probe of each source is its place; the probes of the root's inputs stand behind these
+abbrev pub sent_probes : FileTree → List ComponentPort → List (List Counts)
+sent_probes f sources = with_probes 0 sources (silence (instances f))
 
-abbrev pub come_tokens : FileTree → List ComponentPort → List Counts
-come_tokens f sources = tokens_from (length sources) (length (root_inputs f))
+abbrev pub come_probes : FileTree → List ComponentPort → List Counts
+come_probes f sources = probes_from (length sources) (length (root_inputs f))
 
--- what arrives and what leaves of all tokens
-abbrev pub arrived_tokens : FileTree → List ComponentPort → List (List Counts)
-arrived_tokens f sources = arrives f (sent_tokens f sources) (come_tokens f sources)
+-- what arrives and what leaves of all probes
+abbrev pub arrived_probes : FileTree → List ComponentPort → List (List Counts)
+arrived_probes f sources = arrives f (sent_probes f sources) (come_probes f sources)
 
-abbrev pub left_tokens : FileTree → List ComponentPort → List Counts
-left_tokens f sources = leaves f (sent_tokens f sources)
+abbrev pub left_probes : FileTree → List ComponentPort → List Counts
+left_probes f sources = leaves f (sent_probes f sources)
 
 -- so many copies come to a target; of none there is no arrival
 abbrev pub arrival : {T : Type 0} → T → ℕ → Option (Arrival T)
 arrival to zero = None
 arrival to (suc n) = Some (record { to = to; copies = suc n })
 
--- one arrival more for the source of a token; no other values count
+-- one arrival more for the source of a probe; no other values count
 abbrev pub with_arrival : {T : Type 0} → ℤ → Arrival T → List (List (Arrival T)) → List (List (Arrival T))
 with_arrival (pos t) a lists = slice_set lists t (slice_index_or lists t [] ++ a ∷ [])
 with_arrival (negsuc n) a lists = lists
 
--- those of all tokens in a bag
+-- those of all probes in a bag
 abbrev pub with_arrivals : {T : Type 0} → T → List (List (Arrival T)) → Counts → List (List (Arrival T))
 with_arrivals to lists bag = fold (λ ls p. with_arrival p.0 (record { to = to; copies = p.1 }) ls) lists bag
 
@@ -76,14 +76,14 @@ with_input received lists to = with_arrivals to lists (bag_at (slice_index_or re
 abbrev pub with_output : List Counts → List (List (Arrival ℕ)) → ℕ → List (List (Arrival ℕ))
 with_output leaving lists to = with_arrivals to lists (bag_at leaving to)
 
--- for each token the input ports of components where it arrives, and the output ports of the root where it leaves
+-- for each probe the input ports of components where it arrives, and the output ports of the root where it leaves
 abbrev pub arrival_lists : FileTree → List ComponentPort → List (List (Arrival ComponentPort))
 arrival_lists f sources =
-    fold (with_input (arrived_tokens f sources)) (replicate (length sources + length (root_inputs f)) []) (input_ports f)
+    fold (with_input (arrived_probes f sources)) (replicate (length sources + length (root_inputs f)) []) (input_ports f)
 
 abbrev pub departure_lists : FileTree → List ComponentPort → List (List (Arrival ℕ))
 departure_lists f sources =
-    fold (with_output (left_tokens f sources)) (replicate (length sources) []) (root_ports (root_outputs f))
+    fold (with_output (left_probes f sources)) (replicate (length sources) []) (root_ports (root_outputs f))
 
 -- the links of one source
 abbrev pub direct_from : FileTree → ComponentPort → List (Link ComponentPort ComponentPort)

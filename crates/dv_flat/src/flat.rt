@@ -6,7 +6,7 @@ ghost use Rattle.dv_syntax.specs.Trees.{file_of};
 ghost use Rattle.dv_bag.specs.Bag.{capped};
 ghost use Rattle.dv_flat.specs.Limit.{IsLinkAnswer, link_count, link_refusal};
 ghost use Rattle.dv_flat.specs.Links.{copies_of, direct_links, entry_links, exit_links, paths_of};
-ghost use Rattle.dv_flat.specs.Tokens.{IsOutput, direct_from, exit_from};
+ghost use Rattle.dv_flat.specs.Probes.{IsOutput, direct_from, exit_from};
 
 use crate::GREATEST_LINKS;
 use crate::arrivals::Reached;
@@ -96,7 +96,7 @@ fn counted_links(
     links(alloc, tree, &outputs)
 }
 
-// The links of sources and of the root's inputs, from one routing of a token for each. The tokens of the inputs stand
+// The links of sources and of the root's inputs, from one routing of a probe for each. The probes of the inputs stand
 // behind those of the sources.
 fn links(alloc: Global, tree: &Tree, sources: &[ComponentPort]) -> Result<LinkLists, AllocError>
     requires outputs { All (IsOutput (file_of tree.now.file)) sources.now }

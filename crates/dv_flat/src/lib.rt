@@ -1,7 +1,7 @@
 //! From the tree of a text to its paths and links: from the components' outputs to the inputs that they reach, with copies.
 #![tactic(auto)]
 
-/// Where the tokens arrive.
+/// Where the probes arrive.
 mod arrivals;
 /// The paths and the links of a text.
 pub mod flat;
@@ -20,7 +20,7 @@ mod paths;
 /// The ports of the components.
 mod ports;
 /// Values that tell where they were sent.
-mod tokens;
+mod probes;
 
 pub use flat::{Flat, LinkLists, flatten};
 pub use link::{ComponentPort, DirectLink, EntryLink, ExitLink, Link};

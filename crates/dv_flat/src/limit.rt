@@ -10,7 +10,7 @@ ghost use Rattle.dv_flat.specs.Ways.{all_ways, at_port, component_ways, coupled_
 use dv_check::GREATEST_DEPTH;
 use dv_eval::Scope;
 use dv_syntax::Model as ModelItem;
-use dv_tree::{Coupling, Entry, Level, Target, Tree, level_at};
+use dv_tree::{Coupling, Level, PlacedPart, Target, Tree, level_at};
 use std::alloc::{AllocError, Global};
 use std::marker::Model;
 
@@ -102,7 +102,7 @@ fn add_at(ways: &mut [u64], port: usize, more: u64)
 }
 
 // The ways of a part, by those of all models; a model that is not among these has no ports.
-fn inputs_of<'w>(below: &'w [Ways], part: &Entry) -> &'w [u64]
+fn inputs_of<'w>(below: &'w [Ways], part: &PlacedPart) -> &'w [u64]
     ensures { result.now ≡ (slice_index_or below.now part.now.model no_ways).inputs }
 {
     match below.get(part.model) {
@@ -111,7 +111,7 @@ fn inputs_of<'w>(below: &'w [Ways], part: &Entry) -> &'w [u64]
     }
 }
 
-pub(crate) fn outputs_of<'w>(below: &'w [Ways], part: &Entry) -> &'w [u64]
+pub(crate) fn outputs_of<'w>(below: &'w [Ways], part: &PlacedPart) -> &'w [u64]
     ensures { result.now ≡ (slice_index_or below.now part.now.model no_ways).outputs }
 {
     match below.get(part.model) {
@@ -120,7 +120,7 @@ pub(crate) fn outputs_of<'w>(below: &'w [Ways], part: &Entry) -> &'w [u64]
     }
 }
 
-fn inside_of(below: &[Ways], part: &Entry) -> u64
+fn inside_of(below: &[Ways], part: &PlacedPart) -> u64
     ensures { result ≡ (slice_index_or below.now part.now.model no_ways).inside }
 {
     match below.get(part.model) {
@@ -130,7 +130,7 @@ fn inside_of(below: &[Ways], part: &Entry) -> u64
 }
 
 // The ways that lead on inside from the target of a coupling.
-pub(crate) fn ways_from(target: Target, parts: &[Entry], below: &[Ways]) -> u64
+pub(crate) fn ways_from(target: Target, parts: &[PlacedPart], below: &[Ways]) -> u64
     ensures { result ≡ ways_from (part_ways below.now parts.now) target }
 {
     match target {
@@ -204,7 +204,7 @@ fn inside_ways(level: &Level, below: &[Ways]) -> u64
 }
 
 // The ways that the couplings of one part join to those from its outputs.
-fn joined_ways(couplings: &[Coupling], outputs: &[u64], parts: &[Entry], below: &[Ways]) -> u64
+fn joined_ways(couplings: &[Coupling], outputs: &[u64], parts: &[PlacedPart], below: &[Ways]) -> u64
     ensures { result ≡ capped (sum_by (joined_ways (part_ways below.now parts.now) outputs.now)
         couplings.now) }
 {

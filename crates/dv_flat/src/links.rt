@@ -3,7 +3,7 @@
 ghost use Rattle.std.specs.Prelude.{◌≡◌, ◌≤◌, ◌+◌, ◌++◌, length, map, IfOk, OnOk};
 ghost use Rattle.dv_bag.specs.Bag.{capped};
 ghost use Rattle.dv_flat.specs.Links.{copies_of};
-ghost use Rattle.dv_flat.specs.Tokens.{links_of, links_to};
+ghost use Rattle.dv_flat.specs.Probes.{links_of, links_to};
 
 use crate::arrivals::Arrival;
 use crate::link::Link;
@@ -36,8 +36,8 @@ pub(crate) fn links_of<From: Copy, To: Copy>(
         ≡ links_of (map (λ list. list.items) arrivals.now) first sources.now) }
 {
     let mut links = Vec::new(alloc);
-    for (token, from) in sources.iter().enumerate() {
-        add_links(*from, &arrivals[first + token], &mut links)?;
+    for (probe, from) in sources.iter().enumerate() {
+        add_links(*from, &arrivals[first + probe], &mut links)?;
     }
     Ok(links)
 }

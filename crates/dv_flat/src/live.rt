@@ -4,7 +4,7 @@
 use crate::limit::{Ways, outputs_of, ways_from};
 use crate::ports::is_set;
 use dv_check::GREATEST_DEPTH;
-use dv_tree::{Coupling, Entry, Level, Target, Tree, level_at};
+use dv_tree::{Coupling, Level, PlacedPart, Target, Tree, level_at};
 use std::alloc::{AllocError, Global};
 
 /// A flag for each output port of each component, in the order of the components' numbers: whether it leads on. The ways
@@ -61,9 +61,9 @@ fn add_live(
 // The flags of the outputs of a part: those that a coupling leads on from.
 fn live_of_part(
     alloc: Global,
-    part: &Entry,
+    part: &PlacedPart,
     couplings: &[Coupling],
-    parts: &[Entry],
+    parts: &[PlacedPart],
     below: &[Ways],
     own: &[bool],
 ) -> Result<Vec<bool>, AllocError> {
@@ -77,7 +77,7 @@ fn live_of_part(
 }
 
 // Whether a way leads on from the target of a coupling: inside the part, or from the model's own output.
-fn leads_on(target: Target, parts: &[Entry], below: &[Ways], own: &[bool]) -> bool {
+fn leads_on(target: Target, parts: &[PlacedPart], below: &[Ways], own: &[bool]) -> bool {
     match target {
         Target::Own { port } => is_set(own, port),
         Target::OfPart { .. } => ways_from(target, parts, below) > 0,

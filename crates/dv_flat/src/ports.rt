@@ -6,7 +6,7 @@ ghost use Rattle.dv_syntax.specs.Trees.{file_of};
 ghost use Rattle.dv_tree.specs.Instances.{root_inputs};
 ghost use Rattle.dv_flat.specs.Ends.{input_ports, output_ports, port_at};
 ghost use Rattle.dv_flat.specs.Links.{root_ports};
-ghost use Rattle.dv_flat.specs.Tokens.{chosen_from};
+ghost use Rattle.dv_flat.specs.Probes.{chosen_from};
 
 use crate::link::ComponentPort;
 use dv_tree::Tree;

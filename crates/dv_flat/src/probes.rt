@@ -1,4 +1,4 @@
-//! Tokens. Each source, an output port of a component, sends a value of its own, its token, and so does each input port
+//! Probes. Each source, an output port of a component, sends a value of its own, its probe, and so does each input port
 //! of the root. So what arrives at a port tells which ports lead there, and by how many ways: one routing finds the
 //! links of all sources.
 
@@ -6,7 +6,7 @@ ghost use Rattle.std.specs.Prelude.{◌≡◌, ◌+◌, ◌^◌, ◌<◌, ◌≤
 ghost use Rattle.std.specs.List.{All};
 ghost use Rattle.dv_syntax.specs.Trees.{file_of};
 ghost use Rattle.dv_tree.specs.Instances.{instances};
-ghost use Rattle.dv_flat.specs.Tokens.{IsOutput, arrived_tokens, left_tokens, sent_tokens, silence, tokens_from};
+ghost use Rattle.dv_flat.specs.Probes.{IsOutput, arrived_probes, left_probes, probes_from, sent_probes, silence};
 
 use crate::link::ComponentPort;
 use dv_bag::{Bags, Sent};
@@ -14,12 +14,12 @@ use dv_check::GREATEST_NAMES;
 use dv_tree::{Routed, Tree};
 use std::alloc::{AllocError, Global};
 
-/// What arrives of all tokens, and what leaves.
+/// What arrives of all probes, and what leaves.
 ///
 /// # Errors
 ///
-/// No memory for the tokens.
-pub(crate) fn route_tokens(
+/// No memory for the probes.
+pub(crate) fn route_probes(
     alloc: Global,
     tree: &Tree,
     sources: &[ComponentPort],
@@ -27,18 +27,18 @@ pub(crate) fn route_tokens(
     requires outputs { All (IsOutput (file_of tree.now.file)) sources.now }
     requires few { length sources.now + GREATEST_NAMES < 2 ^ 63 }
     ensures received { IfOk result (λ routed.
-        routed.received.items ≡ arrived_tokens (file_of tree.now.file) sources.now) }
+        routed.received.items ≡ arrived_probes (file_of tree.now.file) sources.now) }
     ensures leaving { IfOk result (λ routed.
-        routed.leaving ≡ left_tokens (file_of tree.now.file) sources.now) }
+        routed.leaving ≡ left_probes (file_of tree.now.file) sources.now) }
     ensures at_most { IfOk result (λ routed. length routed.leaving ≤ GREATEST_NAMES) }
 {
-    let sent = sent_tokens(alloc, tree, sources)?;
-    let input = come_tokens(alloc, sources.len(), tree.input_count())?;
+    let sent = sent_probes(alloc, tree, sources)?;
+    let input = come_probes(alloc, sources.len(), tree.input_count())?;
     tree.route(alloc, &sent, &input)
 }
 
-// What the components send: at each source its token, which is its place among the sources.
-fn sent_tokens(
+// What the components send: at each source its probe, which is its place among the sources.
+fn sent_probes(
     alloc: Global,
     tree: &Tree,
     sources: &[ComponentPort],
@@ -46,12 +46,12 @@ fn sent_tokens(
     requires outputs { All (IsOutput (file_of tree.now.file)) sources.now }
     requires few { length sources.now < 2 ^ 63 }
     ensures { IfOk result (λ sent. sent.items
-        ≡ sent_tokens (file_of tree.now.file) sources.now) }
+        ≡ sent_probes (file_of tree.now.file) sources.now) }
 {
     let mut sent = silence(alloc, tree)?;
-    for (token, from) in sources.iter().enumerate() {
+    for (probe, from) in sources.iter().enumerate() {
         let values = &mut sent[from.component as usize];
-        values.insert(from.port as usize, token as i64)?;
+        values.insert(from.port as usize, probe as i64)?;
     }
     Ok(sent)
 }
@@ -68,10 +68,10 @@ fn silence(alloc: Global, tree: &Tree) -> Result<Vec<Sent>, AllocError>
     Ok(sent)
 }
 
-// What comes to the root: at each of so many input ports one token, from a first one on.
-fn come_tokens(alloc: Global, first: usize, ports: usize) -> Result<Bags, AllocError>
+// What comes to the root: at each of so many input ports one probe, from a first one on.
+fn come_probes(alloc: Global, first: usize, ports: usize) -> Result<Bags, AllocError>
     requires { first + ports < 2 ^ 63 }
-    ensures { IfOk result (λ input. input ≡ tokens_from first ports) }
+    ensures { IfOk result (λ input. input ≡ probes_from first ports) }
 {
     let mut input = Bags::empty(alloc, ports)?;
     for port in 0..ports {

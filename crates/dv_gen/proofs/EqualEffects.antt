@@ -28,7 +28,7 @@ use Rattle.dv_check.specs.Types.{Known, place_refusals, type_of_name, value_refu
 use Rattle.dv_accepted.specs.Fitting.{context_within, fits, is_of_type, known_within}
 use Rattle.dv_accepted.proofs.Effects.{Fits, fits_kept, goto_fits, run_fits}
 use Rattle.dv_accepted.proofs.Fitting.{HasPlace}
-use Rattle.dv_accepted.proofs.Keeping.{Keeps, repetition_keeps, sending_keeps}
+use Rattle.dv_accepted.proofs.Keeping.{StatementsKeep, repetition_keeps, sending_keeps}
 use Rattle.dv_accepted.proofs.Outcomes.{if_ok_branch}
 use Rattle.dv_accepted.proofs.Typed.{place_typed}
 use Rattle.dv_code.specs.Machine.{first_effect}
@@ -138,7 +138,7 @@ module _ (m : AtomicTree) (none : atomic_refusals m ≡ []) (s : RuleSort) (arri
   by_names bound body = run (scope_of m) (context_within arrivals bound) body
 
   -- what statements keep
-  kept : Keeps (scope_of m) (λ phase. Unit {0}) (Fits (scope_of m))
+  kept : StatementsKeep (scope_of m) (λ phase. Unit {0}) (Fits (scope_of m))
   kept = fits_kept (scope_of m)
 
   module _ (bound : List (Name × ℤ)) (e : Effect) (fit : Fits (scope_of m) e) where

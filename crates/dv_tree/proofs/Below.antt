@@ -5,7 +5,7 @@ use Rattle.std.proofs.lemmas.List.{get_or-map, length-map}
 use Rattle.dv_syntax.specs.Trees.{model_of}
 use Rattle.dv_syntax.specs.declared.tree.Model.{Model}
 use Rattle.dv_eval.specs.Scope.{Scope}
-use Rattle.dv_tree.specs.declared.entries.Entry.{Entry}
+use Rattle.dv_tree.specs.declared.placed_parts.PlacedPart.{PlacedPart}
 use Rattle.dv_tree.specs.Nodes.{nodes_by, nodes_to}
 use Rattle.dv_tree.specs.Tables.{LevelTable, scope_of_model}
 
@@ -16,9 +16,9 @@ nodes_to-below zero levels l some = absurd (some refl)
 nodes_to-below (suc depth) levels l some = ap (λ n. nodes_by (nodes_to n levels) levels l.parts) (omega arith)
 
 -- the same for a list of parts that is that of the table
-pub nodes_of_table : (depth : ℕ) (levels : List (Option LevelTable)) (l : LevelTable) (entries : List Entry) → depth ≢ 0 →
-    entries ≡ l.parts → nodes_by (nodes_to (depth - 1) levels) levels entries ≡ nodes_to depth levels l
-nodes_of_table depth levels l entries some are =
+pub nodes_of_table : (depth : ℕ) (levels : List (Option LevelTable)) (l : LevelTable) (placed : List PlacedPart) → depth ≢ 0 →
+    placed ≡ l.parts → nodes_by (nodes_to (depth - 1) levels) levels placed ≡ nodes_to depth levels l
+nodes_of_table depth levels l placed some are =
     ap (nodes_by (nodes_to (depth - 1) levels) levels) are ∙ sym (nodes_to-below depth levels l some)
 
 -- what is read of scopes is that of the model which is read

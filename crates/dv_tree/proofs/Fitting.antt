@@ -9,9 +9,8 @@ use Rattle.dv_syntax.specs.declared.tree.Name.{Name}
 use Rattle.dv_syntax.specs.declared.tree.Part.{Part}
 use Rattle.dv_syntax.specs.declared.tree.Link.{Link}
 use Rattle.dv_eval.specs.Scope.{scope_of, place_of}
-use Rattle.dv_check.specs.Names.{model_named}
+use Rattle.dv_check.specs.Names.{model_named, numbers_of}
 use Rattle.dv_check.specs.Tree.{PartTree, NoParts, AtomicPart, CoupledPart, with_part, parts_by, parts_to}
-use Rattle.dv_check.specs.Accepted.{numbers_of}
 use Rattle.dv_tree.specs.Couplings.{Shown, shown_by, shown_of, shown_parts, place_in, place_at, source_of, target_of}
 use Rattle.dv_tree.specs.Couplings.{placed_between, placed_link, placed_links, coupling_from_own, coupling_from_part}
 use Rattle.dv_tree.specs.Couplings.{part_couplings, couplings_of_inputs, couplings_of_parts}

@@ -13,7 +13,7 @@ use Rattle.dv_eval.specs.Scope.{scope_of}
 use Rattle.dv_bag.specs.Bag.{Counts, bag_at, union}
 use Rattle.dv_check.specs.Tree.{PartTree, NoParts, AtomicPart, CoupledPart, component_count, tree_of}
 use Rattle.dv_check.specs.declared.limits.TheConstants.{GREATEST_DEPTH}
-use Rattle.dv_check.specs.Accepted.{numbers_of}
+use Rattle.dv_check.specs.Names.{numbers_of}
 use Rattle.dv_tree.specs.Instances.{Instance, instances_in, instances, root_of, root_inputs, tree_in, inputs_in}
 use Rattle.dv_tree.specs.Couplings.{couplings_of_inputs, couplings_of_parts}
 use Rattle.dv_tree.specs.Routing.{Arrived, with_values, with_coupling, along, along_all, nothing_at, from_parts, to_parts}

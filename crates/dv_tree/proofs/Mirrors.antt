@@ -11,10 +11,10 @@ use Rattle.dv_bag.specs.Bag.{Counts}
 use Rattle.dv_check.specs.Tree.{PartTree, NoParts, AtomicPart, CoupledPart, with_part, parts_by, parts_to, component_count}
 use Rattle.dv_tree.specs.Couplings.{Shown, shown_parts, couplings_of_parts}
 use Rattle.dv_tree.specs.Routing.{Arrived, along_all, from_parts, to_parts, first_bags, leaving, arriving}
-use Rattle.dv_tree.specs.Tables.{LevelTable, model_names, entry_at, entry_of, level_of, levels_of}
+use Rattle.dv_tree.specs.Tables.{LevelTable, level_of, levels_of, model_names, placed_part, placed_part_at}
 use Rattle.dv_tree.specs.Nodes.{Nodes, NoNodes, AtomicNode, CoupledNode, with_node, nodes_by, nodes_to, atomic_count}
 use Rattle.dv_tree.specs.Nodes.{coupled_count, from_level, to_level, leaving_nodes, kept_nodes, arriving_nodes}
-use Rattle.dv_tree.specs.declared.entries.Entry.{Entry}
+use Rattle.dv_tree.specs.declared.placed_parts.PlacedPart.{PlacedPart}
 use Rattle.dv_tree.proofs.Placed.{IsPlaced, nowhere, somewhere, is_placed, level_placed}
 
 -- parts by tables stand for parts of a text
@@ -28,27 +28,29 @@ pub data Mirrors (models : List ModelTree) : PartTree → Nodes → Type 0 where
 
 module _ (models : List ModelTree) (inside : CoupledTree → PartTree) (within : LevelTable → Nodes)
     (below : (m : CoupledTree) → Mirrors models (inside m) (within (level_of models m))) where
-  mirrors_part : (p : Part) {o : Option ModelTree} {place : Option ℕ} (rest : PartTree) (entries : List Entry) → IsPlaced models o place →
-      Mirrors models rest (nodes_by within (levels_of models) entries) →
+  mirrors_part : (p : Part) {o : Option ModelTree} {place : Option ℕ} (rest : PartTree) (placed : List PlacedPart) →
+      IsPlaced models o place →
+      Mirrors models rest (nodes_by within (levels_of models) placed) →
       Mirrors models (with_part inside p.name o rest)
-      (nodes_by within (levels_of models) (cons_option (option_map (entry_at p.name) place) entries))
-  mirrors_part p rest entries nowhere h = h
-  mirrors_part p rest entries (somewhere (AtomicModel m) place there) h =
+      (nodes_by within (levels_of models) (cons_option (option_map (placed_part_at p.name) place) placed))
+  mirrors_part p rest placed nowhere h = h
+  mirrors_part p rest placed (somewhere (AtomicModel m) place there) h =
       let At : Option LevelTable → Type 0 =
       λ o. Mirrors models (AtomicPart p.name m rest)
-      (with_node within (entry_at p.name place) o (nodes_by within (levels_of models) entries)) in
+      (with_node within (placed_part_at p.name place) o (nodes_by within (levels_of models) placed)) in
       subst At (sym (level_placed models place (AtomicModel m) there)) (atomic p.name m place there h)
-  mirrors_part p rest entries (somewhere (CoupledModel m) place there) h =
+  mirrors_part p rest placed (somewhere (CoupledModel m) place there) h =
       let At : Option LevelTable → Type 0 =
       λ o. Mirrors models (CoupledPart p.name m (inside m) rest)
-      (with_node within (entry_at p.name place) o (nodes_by within (levels_of models) entries)) in
+      (with_node within (placed_part_at p.name place) o (nodes_by within (levels_of models) placed)) in
       subst At (sym (level_placed models place (CoupledModel m) there)) (coupled p.name m (below m) h)
 
   mirrors_parts : (parts : List Part) →
-      Mirrors models (parts_by inside models parts) (nodes_by within (levels_of models) (filter_map (entry_of (model_names models)) parts))
+      Mirrors models (parts_by inside models parts)
+      (nodes_by within (levels_of models) (filter_map (placed_part (model_names models)) parts))
   mirrors_parts [] = none
   mirrors_parts (p ∷ parts) =
-      mirrors_part p (parts_by inside models parts) (filter_map (entry_of (model_names models)) parts)
+      mirrors_part p (parts_by inside models parts) (filter_map (placed_part (model_names models)) parts)
       (is_placed p.model.number models) (mirrors_parts parts)
 
 pub mirrors_to : (depth : ℕ) (models : List ModelTree) (m : CoupledTree) →

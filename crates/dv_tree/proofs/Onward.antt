@@ -14,9 +14,9 @@ use Rattle.dv_syntax.specs.declared.tree.Part.{Part}
 use Rattle.dv_syntax.specs.declared.tree.Link.{Link}
 use Rattle.dv_eval.specs.Scope.{place_of}
 use Rattle.dv_bag.specs.Bag.{Counts, bag_at, total}
-use Rattle.dv_check.specs.Accepted.{IsAcceptedCoupled, IsAcceptedFile, IsAcceptedModel, LeadsOn, numbers_of}
+use Rattle.dv_check.specs.Accepted.{IsAcceptedCoupled, IsAcceptedFile, IsAcceptedModel, LeadsOn}
+use Rattle.dv_check.specs.Names.{model_named, name_of_model, numbers_of}
 use Rattle.dv_check.specs.Couplings.{same_part}
-use Rattle.dv_check.specs.Names.{model_named, name_of_model}
 use Rattle.dv_check.specs.Tree.{PartTree, NoParts, AtomicPart, CoupledPart, component_count, parts_by, parts_to, tree_of, with_part}
 use Rattle.dv_check.specs.declared.limits.TheConstants.{GREATEST_DEPTH}
 use Rattle.dv_tree.specs.Instances.{coupled_model, root_of}

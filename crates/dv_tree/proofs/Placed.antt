@@ -9,15 +9,15 @@ use Rattle.dv_syntax.specs.Trees.{ModelTree, AtomicModel, CoupledModel, CoupledT
 use Rattle.dv_syntax.specs.declared.tree.Part.{Part}
 use Rattle.dv_syntax.specs.declared.tree.Link.{Link}
 use Rattle.dv_eval.specs.Scope.{place_of}
-use Rattle.dv_check.specs.Accepted.{numbers_of, shown_inputs, shown_outputs}
-use Rattle.dv_check.specs.Names.{name_of_model, model_named}
+use Rattle.dv_check.specs.Names.{model_named, name_of_model, numbers_of}
+use Rattle.dv_check.specs.Ports.{shown_inputs, shown_outputs}
 use Rattle.dv_tree.specs.Instances.{coupled_model}
 use Rattle.dv_tree.specs.Couplings.{Shown, shown_by, shown_of, shown_parts, part_couplings, own_couplings}
 use Rattle.dv_tree.specs.Couplings.{placed_links}
-use Rattle.dv_tree.specs.Tables.{model_names, entry_at, entry_of, entries_of, entry_names, ports_at, placed_by, links_by}
+use Rattle.dv_tree.specs.Tables.{links_by, model_names, part_names, placed_by, placed_part, placed_part_at, placed_parts, ports_at}
 use Rattle.dv_tree.specs.Tables.{level_of, level_of_model, level_by, level_by_model, levels_of, root_table}
 use Rattle.dv_tree.specs.Nodes.{level_at, root_level}
-use Rattle.dv_tree.specs.declared.entries.Entry.{Entry}
+use Rattle.dv_tree.specs.declared.placed_parts.PlacedPart.{PlacedPart}
 use Rattle.dv_tree.proofs.PlaceLemmas.{place_of-cons}
 
 -- the model that a name stands for, and its place
@@ -50,18 +50,18 @@ pub table_at : {Y : Type 0} (f : ModelTree → Y) (models : List ModelTree) (pla
 table_at f models place m d there =
     get_or_from_slice_get (map f models) place (f m) d (slice_get-map f models place ∙ ap (option_map f) there)
 
--- what parts show, by their entries
-pub record ShownAs (models : List ModelTree) (shown : List Shown) (entries : List Entry) : Type 0 where
-  pub names : map (λ (s : Shown). s.name) shown ≡ entry_names entries
-  pub inputs : map (λ (s : Shown). s.inputs) shown ≡ ports_at (map shown_inputs models) entries
-  pub outputs : map (λ (s : Shown). s.outputs) shown ≡ ports_at (map shown_outputs models) entries
+-- what parts show, by their placed
+pub record ShownAs (models : List ModelTree) (shown : List Shown) (placed : List PlacedPart) : Type 0 where
+  pub names : map (λ (s : Shown). s.name) shown ≡ part_names placed
+  pub inputs : map (λ (s : Shown). s.inputs) shown ≡ ports_at (map shown_inputs models) placed
+  pub outputs : map (λ (s : Shown). s.outputs) shown ≡ ports_at (map shown_outputs models) placed
 
-shown_first : (models : List ModelTree) (p : Part) (shown : List Shown) (entries : List Entry) {o : Option ModelTree}
+shown_first : (models : List ModelTree) (p : Part) (shown : List Shown) (placed : List PlacedPart) {o : Option ModelTree}
     {place : Option ℕ} →
-    IsPlaced models o place → ShownAs models shown entries →
-    ShownAs models (cons_option (option_map (shown_by p) o) shown) (cons_option (option_map (entry_at p.name) place) entries)
-shown_first models p shown entries nowhere rest = rest
-shown_first models p shown entries (somewhere m place there) rest = record {
+    IsPlaced models o place → ShownAs models shown placed →
+    ShownAs models (cons_option (option_map (shown_by p) o) shown) (cons_option (option_map (placed_part_at p.name) place) placed)
+shown_first models p shown placed nowhere rest = rest
+shown_first models p shown placed (somewhere m place there) rest = record {
   names = ap (λ xs. p.name.number ∷ xs) rest.names;
   inputs =
       ap (λ x. x ∷ map (λ (s : Shown). s.inputs) shown) (sym (table_at shown_inputs models place m [] there))
@@ -72,23 +72,23 @@ shown_first models p shown entries (somewhere m place there) rest = record {
 }
 
 pub shown_as : (models : List ModelTree) (parts : List Part) →
-    ShownAs models (filter_map (shown_of models) parts) (filter_map (entry_of (model_names models)) parts)
+    ShownAs models (filter_map (shown_of models) parts) (filter_map (placed_part (model_names models)) parts)
 shown_as models [] = record { names = refl; inputs = refl; outputs = refl }
 shown_as models (p ∷ parts) =
-    shown_first models p (filter_map (shown_of models) parts) (filter_map (entry_of (model_names models)) parts)
+    shown_first models p (filter_map (shown_of models) parts) (filter_map (placed_part (model_names models)) parts)
     (is_placed p.model.number models) (shown_as models parts)
 
 -- links by the parts that are shown
 links_made : (models : List ModelTree) (m : CoupledTree) →
-    links_by (map shown_inputs models) (map shown_outputs models) (entries_of models m) m ≡ placed_links models m
+    links_by (map shown_inputs models) (map shown_outputs models) (placed_parts models m) m ≡ placed_links models m
 links_made models m =
     let h = shown_as models m.parts in
     let inputs = numbers_of m.inputs in
     let outputs = numbers_of m.outputs in
-    ap (λ xs. filter_map (placed_by inputs outputs xs (ports_at (map shown_inputs models) (entries_of models m))
-    (ports_at (map shown_outputs models) (entries_of models m))) m.links) (sym h.names)
+    ap (λ xs. filter_map (placed_by inputs outputs xs (ports_at (map shown_inputs models) (placed_parts models m))
+    (ports_at (map shown_outputs models) (placed_parts models m))) m.links) (sym h.names)
     ∙ (ap (λ xs. filter_map (placed_by inputs outputs (map (λ (s : Shown). s.name) (shown_parts models m)) xs
-    (ports_at (map shown_outputs models) (entries_of models m))) m.links) (sym h.inputs)
+    (ports_at (map shown_outputs models) (placed_parts models m))) m.links) (sym h.inputs)
     ∙ ap (λ xs. filter_map (placed_by inputs outputs (map (λ (s : Shown). s.name) (shown_parts models m))
     (map (λ (s : Shown). s.inputs) (shown_parts models m)) xs) m.links) (sym h.outputs))
 
@@ -96,37 +96,37 @@ lengths : (shown : List Shown) → map length (map (λ (s : Shown). s.inputs) sh
 lengths [] = refl
 lengths (s ∷ shown) = ap (λ xs. length s.inputs ∷ xs) (lengths shown)
 
--- as many parts are shown as there are entries
-shown_count : (models : List ModelTree) (m : CoupledTree) → length (entries_of models m) ≡ length (shown_parts models m)
+-- as many parts are shown as there are placed
+shown_count : (models : List ModelTree) (m : CoupledTree) → length (placed_parts models m) ≡ length (shown_parts models m)
 shown_count models m =
     omega (
       arith,
       ap length (shown_as models m.parts).names,
       length-map (shown_parts models m) (λ (s : Shown). s.name),
-      length-map (entries_of models m) (λ (e : Entry). e.name.number),
+      length-map (placed_parts models m) (λ (e : PlacedPart). e.name.number),
     )
 
 level_made : (models : List ModelTree) (m : CoupledTree) →
     level_by (model_names models) (map shown_inputs models) (map shown_outputs models) m ≡ level_of models m
 level_made models m =
-    let entries = entries_of models m in
+    let placed = placed_parts models m in
     let counts = ap (map length) (sym (shown_as models m.parts).inputs) ∙ lengths (shown_parts models m) in
     ap (λ links. record {
-      parts = entries;
+      parts = placed;
       outputs = length m.outputs;
-      inputs = map length (ports_at (map shown_inputs models) entries);
+      inputs = map length (ports_at (map shown_inputs models) placed);
       of_inputs = own_couplings links;
-      of_parts = map (part_couplings links) (range_with_len 0 (length entries));
+      of_parts = map (part_couplings links) (range_with_len 0 (length placed));
     }) (links_made models m)
     ∙ (ap (λ xs. record {
-      parts = entries;
+      parts = placed;
       outputs = length m.outputs;
       inputs = xs;
       of_inputs = own_couplings (placed_links models m);
-      of_parts = map (part_couplings (placed_links models m)) (range_with_len 0 (length entries));
+      of_parts = map (part_couplings (placed_links models m)) (range_with_len 0 (length placed));
     }) counts
     ∙ ap (λ n. record {
-      parts = entries;
+      parts = placed;
       outputs = length m.outputs;
       inputs = map (λ (s : Shown). length s.inputs) (shown_parts models m);
       of_inputs = own_couplings (placed_links models m);
@@ -171,15 +171,15 @@ pub root_made : (f : FileTree) → root_level (levels_of f.models) (place_of f.r
 root_made f = root_at f.models (is_placed f.root.number f.models)
 
 -- the links of a coupled model, from tables that are equal to these
-pub links_from : (inputs outputs : List (List ℕ)) (entries : List Entry) (m : CoupledTree) (own_inputs own_outputs names : List ℕ)
+pub links_from : (inputs outputs : List (List ℕ)) (placed : List PlacedPart) (m : CoupledTree) (own_inputs own_outputs names : List ℕ)
     (links : List Link) →
-    own_inputs ≡ numbers_of m.inputs → own_outputs ≡ numbers_of m.outputs → names ≡ entry_names entries → links ≡ m.links →
-    filter_map (placed_by own_inputs own_outputs names (ports_at inputs entries)
-    (ports_at outputs entries)) links ≡ links_by inputs outputs entries m
-links_from inputs outputs entries m own_inputs own_outputs names links a b c d =
-    ap (λ x. filter_map (placed_by x own_outputs names (ports_at inputs entries) (ports_at outputs entries)) links) a
-    ∙ (ap (λ x. filter_map (placed_by (numbers_of m.inputs) x names (ports_at inputs entries) (ports_at outputs entries)) links) b
-    ∙ (ap (λ x. filter_map (placed_by (numbers_of m.inputs) (numbers_of m.outputs) x (ports_at inputs entries)
-    (ports_at outputs entries)) links) c
-    ∙ ap (filter_map (placed_by (numbers_of m.inputs) (numbers_of m.outputs) (entry_names entries) (ports_at inputs entries)
-    (ports_at outputs entries))) d))
+    own_inputs ≡ numbers_of m.inputs → own_outputs ≡ numbers_of m.outputs → names ≡ part_names placed → links ≡ m.links →
+    filter_map (placed_by own_inputs own_outputs names (ports_at inputs placed)
+    (ports_at outputs placed)) links ≡ links_by inputs outputs placed m
+links_from inputs outputs placed m own_inputs own_outputs names links a b c d =
+    ap (λ x. filter_map (placed_by x own_outputs names (ports_at inputs placed) (ports_at outputs placed)) links) a
+    ∙ (ap (λ x. filter_map (placed_by (numbers_of m.inputs) x names (ports_at inputs placed) (ports_at outputs placed)) links) b
+    ∙ (ap (λ x. filter_map (placed_by (numbers_of m.inputs) (numbers_of m.outputs) x (ports_at inputs placed)
+    (ports_at outputs placed)) links) c
+    ∙ ap (filter_map (placed_by (numbers_of m.inputs) (numbers_of m.outputs) (part_names placed) (ports_at inputs placed)
+    (ports_at outputs placed))) d))

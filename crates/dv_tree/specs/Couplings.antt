@@ -7,8 +7,8 @@ use Rattle.dv_syntax.specs.declared.tree.Part.{Part}
 use Rattle.dv_syntax.specs.declared.tree.Link.{Link}
 use Rattle.dv_syntax.specs.declared.tree.End.{End}
 use Rattle.dv_eval.specs.Scope.{place_of}
-use Rattle.dv_check.specs.Accepted.{numbers_of, shown_inputs, shown_outputs}
-use Rattle.dv_check.specs.Names.{model_named}
+use Rattle.dv_check.specs.Names.{model_named, numbers_of}
+use Rattle.dv_check.specs.Ports.{shown_inputs, shown_outputs}
 use Rattle.dv_tree.specs.declared.couplings.Target.{Target}
 use Rattle.dv_tree.specs.declared.couplings.Target.TheVariants.{Own, OfPart}
 use Rattle.dv_tree.specs.declared.couplings.Coupling.{Coupling}

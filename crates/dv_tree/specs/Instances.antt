@@ -3,9 +3,8 @@
 use Rattle.std.specs.Prelude.{ℕ, List, [], ◌∷◌, ◌++◌, Option, Some, None}
 use Rattle.dv_syntax.specs.Trees.{ModelTree, CoupledModel, AtomicTree, CoupledTree, FileTree}
 use Rattle.dv_syntax.specs.declared.tree.Name.{Name}
-use Rattle.dv_check.specs.Names.{model_named}
+use Rattle.dv_check.specs.Names.{model_named, numbers_of}
 use Rattle.dv_check.specs.Tree.{PartTree, NoParts, AtomicPart, CoupledPart, tree_of}
-use Rattle.dv_check.specs.Accepted.{numbers_of}
 
 -- a component: the names of the parts that lead to it from below the root, and its model
 pub record Instance : Type 0 where

@@ -7,7 +7,7 @@ use Rattle.dv_tree.specs.Routing.{Arrived, along, along_all, first_bags}
 use Rattle.dv_syntax.specs.Trees.{FileTree}
 use Rattle.dv_check.specs.declared.limits.TheConstants.{GREATEST_DEPTH}
 use Rattle.dv_tree.specs.Tables.{LevelTable, levels_of, root_table}
-use Rattle.dv_tree.specs.declared.entries.Entry.{Entry}
+use Rattle.dv_tree.specs.declared.placed_parts.PlacedPart.{PlacedPart}
 
 -- what has arrived is stored as the pair of its fields
 abbrev pub arrived_code : Coded Arrived
@@ -24,16 +24,16 @@ pub data Nodes : Type 0 where
   CoupledNode : (name : ℕ) → (level : LevelTable) → (inside rest : Nodes) → Nodes
 
 -- a part by the table of its model, if it has one
-abbrev pub with_node : (LevelTable → Nodes) → Entry → Option LevelTable → Nodes → Nodes
+abbrev pub with_node : (LevelTable → Nodes) → PlacedPart → Option LevelTable → Nodes → Nodes
 with_node inside e None rest = AtomicNode e.name.number e.model rest
 with_node inside e (Some l) rest = CoupledNode e.name.number l (inside l) rest
 
 abbrev pub level_at : List (Option LevelTable) → ℕ → Option LevelTable
 level_at levels place = slice_index_or levels place None
 
-abbrev pub nodes_by : (LevelTable → Nodes) → List (Option LevelTable) → List Entry → Nodes
+abbrev pub nodes_by : (LevelTable → Nodes) → List (Option LevelTable) → List PlacedPart → Nodes
 nodes_by inside levels [] = NoNodes
-nodes_by inside levels (e ∷ entries) = with_node inside e (level_at levels e.model) (nodes_by inside levels entries)
+nodes_by inside levels (e ∷ placed) = with_node inside e (level_at levels e.model) (nodes_by inside levels placed)
 
 -- the parts of a coupled model, down to so many levels
 abbrev pub nodes_to : ℕ → List (Option LevelTable) → LevelTable → Nodes

@@ -9,8 +9,7 @@ use Rattle.dv_syntax.specs.declared.tree.Name.{Name}
 use Rattle.dv_syntax.specs.declared.tree.Part.{Part}
 use Rattle.dv_syntax.specs.Trees.{ModelTree, AtomicModel, CoupledModel, CoupledTree, FileTree}
 use Rattle.dv_eval.specs.Scope.{Scope, scope_of, nothing_declared, place_of}
-use Rattle.dv_check.specs.Names.{name_of_model}
-use Rattle.dv_check.specs.Accepted.{numbers_of}
+use Rattle.dv_check.specs.Names.{name_of_model, numbers_of}
 use Rattle.dv_syntax.specs.declared.tree.Link.{Link}
 use Rattle.dv_tree.specs.Instances.{root_of}
 use Rattle.dv_tree.specs.Couplings.{Shown, shown_parts, place_at, placed_between, own_couplings, part_couplings}
@@ -19,9 +18,9 @@ use Rattle.dv_tree.specs.declared.couplings.PlacedLink.{PlacedLink}
 use Rattle.dv_tree.specs.declared.couplings.Target.{Target}
 use Rattle.dv_tree.specs.declared.couplings.Target.TheVariants.{Own, OfPart}
 use Rattle.dv_tree.specs.contracts.couplings.Coupling as coupling
-use Rattle.dv_tree.specs.contracts.entries.Entry as entry
+use Rattle.dv_tree.specs.contracts.placed_parts.PlacedPart as placed
 use Rattle.dv_tree.specs.declared.couplings.Coupling.{Coupling}
-use Rattle.dv_tree.specs.declared.entries.Entry.{Entry}
+use Rattle.dv_tree.specs.declared.placed_parts.PlacedPart.{PlacedPart}
 
 -- a checked file and the texts of its names
 pub record Source : Type 0 where
@@ -47,18 +46,18 @@ abbrev pub scopes_of : FileTree → List Scope
 scopes_of f = map scope_of_model f.models
 
 -- a part with the place of its model, where that is known
-abbrev pub entry_at : Name → ℕ → Entry
-entry_at name place = record { name = name; model = place }
+abbrev pub placed_part_at : Name → ℕ → PlacedPart
+placed_part_at name place = record { name = name; model = place }
 
-abbrev pub entry_of : List ℕ → Part → Option Entry
-entry_of models p = option_map (entry_at p.name) (place_of p.model.number models)
+abbrev pub placed_part : List ℕ → Part → Option PlacedPart
+placed_part models p = option_map (placed_part_at p.name) (place_of p.model.number models)
 
-abbrev pub entries_of : List ModelTree → CoupledTree → List Entry
-entries_of models m = filter_map (entry_of (model_names models)) m.parts
+abbrev pub placed_parts : List ModelTree → CoupledTree → List PlacedPart
+placed_parts models m = filter_map (placed_part (model_names models)) m.parts
 
 -- the table of a coupled model: its parts, the number of its outputs, the numbers of the inputs of its parts, its couplings
 pub record LevelTable : Type 0 where
-  pub parts : List Entry
+  pub parts : List PlacedPart
   pub outputs : ℕ
   pub inputs : List ℕ
   pub of_inputs : List Coupling
@@ -67,8 +66,8 @@ pub record LevelTable : Type 0 where
 -- a table is stored as the tuple of its fields
 abbrev pub level_code : Coded LevelTable
 level_code =
-    code_by (List Entry × (ℕ × (List ℕ × (List Coupling × List (List Coupling)))))
-    (coded× (coded_list entry.the_row.coded)
+    code_by (List PlacedPart × (ℕ × (List ℕ × (List Coupling × List (List Coupling)))))
+    (coded× (coded_list placed.the_row.coded)
     (coded× coded_ℕ (coded× (coded_list coded_ℕ)
     (coded× (coded_list coupling.the_row.coded) (coded_list (coded_list coupling.the_row.coded))))))
     (λ t. (t.parts, (t.outputs, (t.inputs, (t.of_inputs, t.of_parts)))))
@@ -76,7 +75,7 @@ level_code =
 
 abbrev pub level_of : List ModelTree → CoupledTree → LevelTable
 level_of models m = record {
-  parts = entries_of models m;
+  parts = placed_parts models m;
   outputs = length m.outputs;
   inputs = map (λ (s : Shown). length s.inputs) (shown_parts models m);
   of_inputs = couplings_of_inputs models m;
@@ -96,33 +95,33 @@ abbrev pub root_table : FileTree → Option LevelTable
 root_table f = option_map (level_of f.models) (root_of f)
 
 -- a table from the names of the models and of their ports
-abbrev pub entry_names : List Entry → List ℕ
-entry_names entries = map (λ (e : Entry). e.name.number) entries
+abbrev pub part_names : List PlacedPart → List ℕ
+part_names placed = map (λ (p : PlacedPart). p.name.number) placed
 
-abbrev pub ports_at : List (List ℕ) → List Entry → List (List ℕ)
-ports_at ports entries = map (λ (e : Entry). slice_index_or ports e.model []) entries
+abbrev pub ports_at : List (List ℕ) → List PlacedPart → List (List ℕ)
+ports_at ports placed = map (λ (p : PlacedPart). slice_index_or ports p.model []) placed
 
 abbrev pub placed_by : List ℕ → List ℕ → List ℕ → List (List ℕ) → List (List ℕ) → Link → Option PlacedLink
 placed_by inputs outputs names part_inputs part_outputs l =
     placed_between (place_at inputs names part_outputs l.from.part l.from.port.number)
     (place_at outputs names part_inputs l.to.part l.to.port.number)
 
-abbrev pub links_by : List (List ℕ) → List (List ℕ) → List Entry → CoupledTree → List PlacedLink
-links_by inputs outputs entries m =
-    filter_map (placed_by (numbers_of m.inputs) (numbers_of m.outputs) (entry_names entries) (ports_at inputs entries)
-    (ports_at outputs entries)) m.links
+abbrev pub links_by : List (List ℕ) → List (List ℕ) → List PlacedPart → CoupledTree → List PlacedLink
+links_by inputs outputs placed m =
+    filter_map (placed_by (numbers_of m.inputs) (numbers_of m.outputs) (part_names placed) (ports_at inputs placed)
+    (ports_at outputs placed)) m.links
 
-abbrev pub level_with : List (List ℕ) → List (List ℕ) → List Entry → CoupledTree → LevelTable
-level_with inputs outputs entries m = record {
-  parts = entries;
+abbrev pub level_with : List (List ℕ) → List (List ℕ) → List PlacedPart → CoupledTree → LevelTable
+level_with inputs outputs placed m = record {
+  parts = placed;
   outputs = length m.outputs;
-  inputs = map length (ports_at inputs entries);
-  of_inputs = own_couplings (links_by inputs outputs entries m);
-  of_parts = map (part_couplings (links_by inputs outputs entries m)) (range_with_len 0 (length entries));
+  inputs = map length (ports_at inputs placed);
+  of_inputs = own_couplings (links_by inputs outputs placed m);
+  of_parts = map (part_couplings (links_by inputs outputs placed m)) (range_with_len 0 (length placed));
 }
 
 abbrev pub level_by : List ℕ → List (List ℕ) → List (List ℕ) → CoupledTree → LevelTable
-level_by models inputs outputs m = level_with inputs outputs (filter_map (entry_of models) m.parts) m
+level_by models inputs outputs m = level_with inputs outputs (filter_map (placed_part models) m.parts) m
 
 abbrev pub level_by_model : List ℕ → List (List ℕ) → List (List ℕ) → ModelTree → Option LevelTable
 level_by_model models inputs outputs (AtomicModel m) = None

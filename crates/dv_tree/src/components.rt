@@ -102,9 +102,9 @@ pub(crate) fn add_components(
     if depth == 0 {
         return Ok(());
     }
-    for entry in level.parts() {
-        let name = name_at(names, entry.name.number);
-        match level_at(levels, entry.model) {
+    for part in level.parts() {
+        let name = name_at(names, part.name.number);
+        match level_at(levels, part.model) {
             Some(inside) => {
                 let path = path_into(alloc, before, name)?;
                 add_components(
@@ -117,7 +117,7 @@ pub(crate) fn add_components(
                     components,
                 )?;
             }
-            None => add_component(alloc, before, name, entry.model, components)?,
+            None => add_component(alloc, before, name, part.model, components)?,
         }
     }
     Ok(())

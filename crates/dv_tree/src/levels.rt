@@ -4,14 +4,14 @@ ghost use Rattle.std.specs.Prelude.{◌≡◌, [], length, map, replicate, slice
 ghost use Rattle.std.specs.List.{filter_map};
 ghost use Rattle.dv_syntax.specs.Trees.{coupled_of, model_of};
 ghost use Rattle.dv_eval.specs.Scope.{place_of};
-ghost use Rattle.dv_check.specs.Accepted.{numbers_of};
+ghost use Rattle.dv_check.specs.Names.{numbers_of};
 ghost use Rattle.dv_tree.specs.Couplings.{place_at};
 ghost use Rattle.dv_tree.specs.Nodes.{level_at, nothing_in};
-ghost use Rattle.dv_tree.specs.Tables.{entry_names, level_by, level_by_model, links_by, placed_by, ports_at};
+ghost use Rattle.dv_tree.specs.Tables.{level_by, level_by_model, links_by, part_names, placed_by, ports_at};
 
 use crate::arrived::Arrived;
 use crate::couplings::{Coupling, PlacedLink, Target, own_couplings, part_couplings};
-use crate::entries::{Entry, entries, entry_names};
+use crate::placed_parts::{PlacedPart, part_names, placed_parts};
 use crate::places::Places;
 use crate::tables::numbers;
 use dv_bag::Bags;
@@ -23,7 +23,7 @@ use std::marker::Model;
 /// where they begin.
 #[derive(Drop)]
 pub struct Level {
-    parts: Vec<Entry>,
+    parts: Vec<PlacedPart>,
     outputs: usize,
     inputs: Vec<usize>,
     of_inputs: Vec<Coupling>,
@@ -49,7 +49,7 @@ impl Model for Level {
 
 impl Level {
     /// The parts in the order of the text.
-    pub fn parts(&self) -> &[Entry]
+    pub fn parts(&self) -> &[PlacedPart]
         ensures { result.now ≡ self.now.parts }
     {
         &self.parts
@@ -108,7 +108,7 @@ fn place_at(
     end: &End,
     own: &Places,
     names: &Places,
-    parts: &[Entry],
+    parts: &[PlacedPart],
     ports: &[Places],
 ) -> Option<Target>
     ensures { result ≡ place_at own.now names.now (ports_at ports.now parts.now)
@@ -128,7 +128,7 @@ fn place_at(
 }
 
 // The place of a port of a part.
-fn port_of(part: usize, port: u32, parts: &[Entry], ports: &[Places]) -> Option<usize>
+fn port_of(part: usize, port: u32, parts: &[PlacedPart], ports: &[Places]) -> Option<usize>
     ensures { result ≡ place_of port (slice_index_or (ports_at ports.now parts.now) part []) }
 {
     let model = parts.get(part)?.model;
@@ -142,7 +142,7 @@ struct Ends<'t> {
     own_inputs: Places,
     own_outputs: Places,
     names: Places,
-    parts: &'t [Entry],
+    parts: &'t [PlacedPart],
     inputs: &'t [Places],
     outputs: &'t [Places],
 }
@@ -193,16 +193,16 @@ fn places_of_ports(alloc: Global, ports: &[Name]) -> Result<Places, AllocError>
 }
 
 // The places of parts by their names.
-fn places_of_parts(alloc: Global, parts: &[Entry]) -> Result<Places, AllocError>
-    ensures { IfOk result (λ places. places ≡ entry_names parts.now) }
+fn places_of_parts(alloc: Global, parts: &[PlacedPart]) -> Result<Places, AllocError>
+    ensures { IfOk result (λ places. places ≡ part_names parts.now) }
 {
-    Places::of(alloc, entry_names(alloc, parts)?)
+    Places::of(alloc, part_names(alloc, parts)?)
 }
 
 fn links_by(
     alloc: Global,
     coupled: &Coupled,
-    parts: &[Entry],
+    parts: &[PlacedPart],
     inputs: &[Places],
     outputs: &[Places],
 ) -> Result<Vec<PlacedLink>, AllocError>
@@ -224,7 +224,11 @@ fn links_by(
 }
 
 // The number of input ports of each part.
-fn input_counts(alloc: Global, parts: &[Entry], inputs: &[Places]) -> Result<Vec<usize>, AllocError>
+fn input_counts(
+    alloc: Global,
+    parts: &[PlacedPart],
+    inputs: &[Places],
+) -> Result<Vec<usize>, AllocError>
     ensures { IfOk result (λ counts. counts.items ≡ map length (ports_at inputs.now parts.now)) }
 {
     let mut counts = Vec::with_capacity(alloc, parts.len())?;
@@ -254,7 +258,7 @@ fn make_level(
     ensures { IfOk result (λ level. level
         ≡ level_by models.now inputs.now outputs.now (coupled_of coupled.now)) }
 {
-    let parts = entries(alloc, &coupled.parts, models)?;
+    let parts = placed_parts(alloc, &coupled.parts, models)?;
     let links = links_by(alloc, coupled, &parts, inputs, outputs)?;
     let counts = input_counts(alloc, &parts, inputs)?;
     let of_inputs = own_couplings(alloc, &links)?;

@@ -7,12 +7,12 @@ mod arrived;
 mod components;
 /// The links of a coupled model as places of ports.
 pub mod couplings;
-/// The parts of a coupled model, with the places of their models.
-mod entries;
 /// Laws of routing.
 pub mod laws;
 /// The tables of coupled models.
 mod levels;
+/// The parts of a coupled model, with the places of their models.
+mod placed_parts;
 /// The places of names in a list.
 mod places;
 /// How values travel.
@@ -23,6 +23,6 @@ mod tables;
 pub mod tree;
 
 pub use couplings::{Coupling, Target};
-pub use entries::Entry;
 pub use levels::{Level, level_at};
+pub use placed_parts::PlacedPart;
 pub use tree::{Routed, Tree};

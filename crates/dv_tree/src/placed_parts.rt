@@ -2,7 +2,7 @@
 
 ghost use Rattle.std.specs.Prelude.{◌≡◌, map, IfOk};
 ghost use Rattle.std.specs.List.{filter_map};
-ghost use Rattle.dv_tree.specs.Tables.{entry_names, entry_of};
+ghost use Rattle.dv_tree.specs.Tables.{part_names, placed_part};
 
 use crate::places::Places;
 use dv_syntax::{Name, Part};
@@ -10,41 +10,41 @@ use std::alloc::{AllocError, Global};
 
 /// A part: its name, and the place of its model in the file.
 #[derive(Clone, Copy, Debug, PartialEq, Eq)]
-pub struct Entry {
+pub struct PlacedPart {
     pub name: Name,
     pub model: usize,
 }
 
-fn entry_of(part: &Part, models: &Places) -> Option<Entry>
-    ensures { result ≡ entry_of models.now part.now }
+fn placed_part(part: &Part, models: &Places) -> Option<PlacedPart>
+    ensures { result ≡ placed_part models.now part.now }
 {
     let model = models.place(part.model.number)?;
-    Some(Entry {
+    Some(PlacedPart {
         name: part.name,
         model,
     })
 }
 
 /// The parts whose models are known, by the names of the models.
-pub(crate) fn entries(
+pub(crate) fn placed_parts(
     alloc: Global,
     parts: &[Part],
     models: &Places,
-) -> Result<Vec<Entry>, AllocError>
-    ensures { IfOk result (λ entries. entries.items ≡ filter_map (entry_of models.now) parts.now) }
+) -> Result<Vec<PlacedPart>, AllocError>
+    ensures { IfOk result (λ placed. placed.items ≡ filter_map (placed_part models.now) parts.now) }
 {
-    let mut entries = Vec::with_capacity(alloc, parts.len())?;
+    let mut placed = Vec::with_capacity(alloc, parts.len())?;
     for part in parts {
-        if let Some(entry) = entry_of(part, models) {
-            entries.push(entry)?;
+        if let Some(found) = placed_part(part, models) {
+            placed.push(found)?;
         }
     }
-    Ok(entries)
+    Ok(placed)
 }
 
 /// The names of parts.
-pub(crate) fn entry_names(alloc: Global, entries: &[Entry]) -> Result<Vec<u32>, AllocError>
-    ensures { IfOk result (λ names. names.items ≡ entry_names entries.now) }
+pub(crate) fn part_names(alloc: Global, parts: &[PlacedPart]) -> Result<Vec<u32>, AllocError>
+    ensures { IfOk result (λ names. names.items ≡ part_names parts.now) }
 {
-    entries.iter().map(|entry| entry.name.number).collect(alloc)
+    parts.iter().map(|part| part.name.number).collect(alloc)
 }

@@ -65,8 +65,8 @@ fn rise_parts<'s>(
         return Ok(sent);
     }
     let mut rest = sent;
-    for (part, entry) in level.parts().iter().enumerate() {
-        let inside = level_at(levels, entry.model);
+    for (part, placed) in level.parts().iter().enumerate() {
+        let inside = level_at(levels, placed.model);
         let couplings = level.couplings_of_part(part);
         rest = rise_part(
             alloc,
@@ -192,8 +192,8 @@ fn sink_parts(
     if depth == 0 {
         return Ok(());
     }
-    for entry in level.parts() {
-        let inside = level_at(levels, entry.model);
+    for part in level.parts() {
+        let inside = level_at(levels, part.model);
         let comes = next_bags(alloc, parts)?;
         sink_part(alloc, depth - 1, inside, levels, comes, kept, received)?;
     }

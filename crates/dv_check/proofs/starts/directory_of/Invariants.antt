@@ -1,5 +1,6 @@
 use Rattle.std.proofs.Common.{◌≡◌, take}
-use Rattle.dv_check.specs.Tables.{first_of, value_for}
+use Rattle.dv_check.specs.Names.{first_of}
+use Rattle.dv_check.specs.Tables.{value_for}
 use Rattle.dv_check.specs.Rules.{domain_of_state_variable, number_of_state_variable}
 use Rattle.dv_check.proofs.starts.directory_of.Given as goal
 

@@ -1,7 +1,7 @@
 use Rattle.std.proofs.Common.{◌∙◌, ◌+◌, ap, drop, map, pos, rules, sym}
 use Rattle.std.proofs.lemmas.Int.{to_z-of_z}
 use Rattle.std.proofs.lemmas.List.{at_drop_more}
-use Rattle.dv_flat.specs.Tokens.{with_arrivals}
+use Rattle.dv_flat.specs.Probes.{with_arrivals}
 use Rattle.dv_bag.proofs.Pairs.{value_at}
 use mir.Syntax.{w64}
 use mir.Val.{SFits}

@@ -1,5 +1,5 @@
 use Rattle.std.proofs.Common.{◌≡◌, drop, map}
-use Rattle.dv_flat.specs.Tokens.{with_arrivals}
+use Rattle.dv_flat.specs.Probes.{with_arrivals}
 use Rattle.dv_flat.proofs.arrivals.add_arrivals.Given as goal
 
 abbrev pub invariant-loop-pair : goal.invariant-loop-pair

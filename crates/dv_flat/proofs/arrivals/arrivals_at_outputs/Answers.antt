@@ -1,7 +1,7 @@
 use Rattle.std.proofs.Common.{◌∙◌, ◌+◌, ◌-◌, ap, arith, length, map, sym}
 use Rattle.std.specs.Prelude.{fold}
 use Rattle.std.specs.List.{range_with_len}
-use Rattle.dv_flat.specs.Tokens.{with_arrivals, with_output}
+use Rattle.dv_flat.specs.Probes.{with_arrivals, with_output}
 use Rattle.dv_flat.proofs.Ranges.{range_more}
 use Rattle.dv_flat.proofs.arrivals.arrivals_at_outputs.Goals as goal
 

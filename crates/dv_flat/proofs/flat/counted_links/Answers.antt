@@ -2,7 +2,7 @@ use Rattle.std.proofs.Common.{ap, subst, sym, ◌∙◌}
 use Rattle.std.specs.List.{All}
 use Rattle.dv_syntax.specs.Trees.{file_of}
 use Rattle.dv_flat.specs.Ends.{output_ports}
-use Rattle.dv_flat.specs.Tokens.{IsOutput, chosen_from}
+use Rattle.dv_flat.specs.Probes.{IsOutput, chosen_from}
 use Rattle.dv_flat.proofs.Enough.{all_chosen, direct_enough, exit_enough}
 use Rattle.dv_flat.proofs.Found.{outputs_valid}
 use Rattle.dv_flat.proofs.flat.counted_links.Goals as goal

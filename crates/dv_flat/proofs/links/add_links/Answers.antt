@@ -1,5 +1,5 @@
 use Rattle.std.proofs.Common.{◌++◌}
-use Rattle.dv_flat.specs.Tokens.{links_to}
+use Rattle.dv_flat.specs.Probes.{links_to}
 use Rattle.dv_flat.proofs.ArrivalLists.{links_added}
 use Rattle.dv_flat.proofs.links.add_links.Goals as goal
 

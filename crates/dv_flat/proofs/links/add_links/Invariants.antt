@@ -1,5 +1,5 @@
 use Rattle.std.proofs.Common.{◌≡◌, ◌++◌, drop}
-use Rattle.dv_flat.specs.Tokens.{links_to}
+use Rattle.dv_flat.specs.Probes.{links_to}
 use Rattle.dv_flat.proofs.links.add_links.Given as goal
 
 abbrev pub invariant-loop-arrival : goal.invariant-loop-arrival

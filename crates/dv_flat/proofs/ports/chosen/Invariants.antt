@@ -1,5 +1,5 @@
 use Rattle.std.proofs.Common.{◌≡◌, ◌++◌, drop}
-use Rattle.dv_flat.specs.Tokens.{chosen_from}
+use Rattle.dv_flat.specs.Probes.{chosen_from}
 use Rattle.dv_flat.proofs.ports.chosen.Given as goal
 
 abbrev pub invariant-loop-place : goal.invariant-loop-place

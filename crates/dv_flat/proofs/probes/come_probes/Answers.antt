@@ -1,7 +1,7 @@
 use Rattle.std.proofs.Common.{◌∙◌, arith}
 use Rattle.std.proofs.lemmas.Int.{ints}
-use Rattle.dv_flat.proofs.TokenLists.{port_within, token_put}
-use Rattle.dv_flat.proofs.tokens.come_tokens.Goals as goal
+use Rattle.dv_flat.proofs.ProbeLists.{port_within, probe_put}
+use Rattle.dv_flat.proofs.probes.come_probes.Goals as goal
 
 pub insert-requires : goal.insert-requires
 insert-requires c =
@@ -10,5 +10,5 @@ insert-requires c =
 pub loop-port-preserved : goal.loop-port-preserved
 loop-port-preserved c =
     c.in_ok-insert.ensures.ok
-    ∙ token_put c.args.first c.loop-port.port c.args.ports _ c.loop-port.input c.loop-port-test.true (omega (arith, ints))
+    ∙ probe_put c.args.first c.loop-port.port c.args.ports _ c.loop-port.input c.loop-port-test.true (omega (arith, ints))
     c.loop-port.invariant

@@ -2,10 +2,10 @@ use Rattle.std.proofs.Common.{◌∙◌, ◌∷◌, ◌++◌, [], ap, length, sy
 use Rattle.dv_syntax.specs.Trees.{file_of}
 use Rattle.dv_eval.specs.Scope.{Scope}
 use Rattle.dv_tree.specs.Instances.{instances}
-use Rattle.dv_flat.specs.Tokens.{silence}
+use Rattle.dv_flat.specs.Probes.{silence}
 use Rattle.dv_flat.proofs.PortLists.{instance_at}
-use Rattle.dv_flat.proofs.TokenLists.{silence_step}
-use Rattle.dv_flat.proofs.tokens.silence.Goals as goal
+use Rattle.dv_flat.proofs.ProbeLists.{silence_step}
+use Rattle.dv_flat.proofs.probes.silence.Goals as goal
 
 pub loop-component-preserved : goal.loop-component-preserved
 loop-component-preserved c =

@@ -5,8 +5,8 @@ use Rattle.dv_tree.proofs.components.+add_components.Given as goal
 abbrev pub decreases-add_components : goal.decreases-add_components
 decreases-add_components l = l.depth
 
-abbrev pub invariant-loop-entry : goal.invariant-loop-entry
-invariant-loop-entry l =
+abbrev pub invariant-loop-part : goal.invariant-loop-part
+invariant-loop-part l =
     l.components.items ++ components_in l.names l.before
-    (nodes_by (nodes_to (l.depth - 1) l.levels) l.levels (drop l.entry-index l.entry-items))
-    ≡ l.initial.components.items ++ components_in l.names l.before (nodes_by (nodes_to (l.depth - 1) l.levels) l.levels l.entry-items)
+    (nodes_by (nodes_to (l.depth - 1) l.levels) l.levels (drop l.part-index l.part-items))
+    ≡ l.initial.components.items ++ components_in l.names l.before (nodes_by (nodes_to (l.depth - 1) l.levels) l.levels l.part-items)

@@ -1,7 +1,7 @@
 use Rattle.std.proofs.Common.{◌≡◌, List, ap, ◌∙◌, subst}
 use Rattle.std.specs.Prelude.{IfOk}
 use Rattle.dv_syntax.specs.Trees.{coupled_of}
-use Rattle.dv_check.specs.Accepted.{numbers_of}
+use Rattle.dv_check.specs.Names.{numbers_of}
 use Rattle.dv_tree.specs.declared.couplings.PlacedLink.{PlacedLink}
 use Rattle.dv_tree.proofs.Placed.{links_from}
 use Rattle.dv_tree.proofs.levels.links_by.Goals as goal

@@ -1,6 +1,6 @@
 use Rattle.std.proofs.Common.{map, refl, ◌∙◌}
 use Rattle.dv_syntax.specs.Trees.{model_of}
-use Rattle.dv_check.specs.Accepted.{shown_inputs}
+use Rattle.dv_check.specs.Ports.{shown_inputs}
 use Rattle.dv_tree.proofs.Below.{scope_read}
 use Rattle.dv_tree.proofs.Gathered.{gathered_more}
 use Rattle.dv_tree.proofs.tables.inputs.Goals as goal

@@ -1,6 +1,6 @@
 use Rattle.std.proofs.Common.{map}
 use Rattle.dv_syntax.specs.Trees.{model_of}
-use Rattle.dv_check.specs.Accepted.{shown_inputs}
+use Rattle.dv_check.specs.Ports.{shown_inputs}
 use Rattle.dv_tree.proofs.Gathered.{Gathers}
 use Rattle.dv_tree.proofs.tables.inputs.Given as goal
 

@@ -1,7 +1,7 @@
 use Rattle.std.proofs.Common.{◌≡◌, ◌∙◌, ap, sym, map}
 use Rattle.dv_syntax.specs.Trees.{file_of, model_of}
 use Rattle.dv_eval.specs.Scope.{place_of}
-use Rattle.dv_check.specs.Accepted.{numbers_of}
+use Rattle.dv_check.specs.Names.{numbers_of}
 use Rattle.dv_tree.specs.Instances.{inputs_in, outputs_in}
 use Rattle.dv_tree.specs.Tables.{levels_of, model_names, scope_of_model}
 use Rattle.dv_tree.specs.Nodes.{components_of_root, root_level}
