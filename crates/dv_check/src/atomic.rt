@@ -246,8 +246,23 @@ fn faults_at_start(alloc: Global, model: &Atomic, phase: &Name) -> Result<bool, 
         (start_state (atomic_of model.now)))) }
 {
     let scope = Scope::of(alloc, model)?;
-    let state = start_state(alloc, model, &scope)?;
-    Ok(phase_hold(model, phase.number, &state, &scope).is_err())
+    faults_at_start_in(alloc, model, phase, &scope)
+}
+
+// The same, where the names of the model are in this scope.
+fn faults_at_start_in(
+    alloc: Global,
+    model: &Atomic,
+    phase: &Name,
+    scope: &Scope,
+) -> Result<bool, AllocError>
+    requires { scope.now ≡ scope_of (atomic_of model.now) }
+    ensures { IfOk result (λ faults. faults ≡ is_fault (hold_of (scope_of (atomic_of model.now))
+        (hold_ticks phase.now.number (atomic_of model.now).holds)
+        (start_state (atomic_of model.now)))) }
+{
+    let state = start_state(alloc, model, scope)?;
+    Ok(phase_hold(model, phase.number, &state, scope).is_err())
 }
 
 // Whether nothing is wrong with the hold of a phase, nor with the variables, flags and bags that it names.

@@ -5,7 +5,7 @@ ghost use Rattle.std.specs.Prelude.{◌≤◌, IfOk, IfSome};
 use crate::request::{Check, Code, Request, RequestError, Run, Usage};
 use clap::error::ErrorKind;
 use clap::{Arg, ArgAction, ArgMatches, Command};
-use dv_explain::{Explanation, FAULTS, INPUT_REFUSALS, REFUSALS, explanation_of};
+use dv_explain::{Explanation, explanation_of, faults, input_refusals, refusals};
 use dv_time::{GREATEST_LIMIT, GREATEST_TICK};
 use std::alloc::{AllocError, Global};
 
@@ -15,10 +15,14 @@ use std::alloc::{AllocError, Global};
 ///
 /// `Usage` where the words are no command or ask for help, with the text to print; or no memory.
 pub fn request_of(alloc: Global, words: &[String]) -> Result<Request, RequestError> {
-    let matches = match command(alloc)?.try_get_matches_from(words) {
-        Ok(matches) => matches,
-        Err(error) => return Err(error_of(alloc, &error)),
-    };
+    match command(alloc)?.try_get_matches_from(words) {
+        Ok(matches) => request_in(alloc, &matches),
+        Err(error) => Err(error_of(alloc, &error)),
+    }
+}
+
+/// What the words ask for, parted by their names.
+fn request_in(alloc: Global, matches: &ArgMatches) -> Result<Request, RequestError> {
     match matches.subcommand() {
         Some(("check", check)) => Ok(Request::Check(check_of(alloc, check)?)),
         Some(("code", code)) => Ok(Request::Code(code_of(alloc, code)?)),
@@ -30,14 +34,18 @@ pub fn request_of(alloc: Global, words: &[String]) -> Result<Request, RequestErr
 
 /// The command line that is read.
 fn command<'a>(alloc: Global) -> Result<Command<'a>, AllocError> {
-    Command::new(alloc, "pdevs")
-        .bin_name("pdevs")?
+    with_runs(alloc, Command::new(alloc, "pdevs").bin_name("pdevs")?)?
         .about("Checks and runs Parallel DEVS models")
         .subcommand_required(true)
-        .subcommand(check_command(alloc)?)?
-        .subcommand(run_command(alloc)?)?
         .subcommand(code_command(alloc)?)?
         .subcommand(explain_command(alloc)?)
+}
+
+/// With the commands that check a model and run it.
+fn with_runs<'a>(alloc: Global, command: Command<'a>) -> Result<Command<'a>, AllocError> {
+    command
+        .subcommand(check_command(alloc)?)?
+        .subcommand(run_command(alloc)?)
 }
 
 fn model_argument<'a>(alloc: Global) -> Arg<'a> {
@@ -78,29 +86,38 @@ fn explain_command<'a>(alloc: Global) -> Result<Command<'a>, AllocError> {
         .arg(code)
 }
 
-fn run_command<'a>(alloc: Global) -> Result<Command<'a>, AllocError> {
-    let horizon = Arg::new(alloc, "horizon")
+fn horizon_argument<'a>(alloc: Global) -> Arg<'a> {
+    Arg::new(alloc, "horizon")
         .long("horizon")
         .value_name("H")
         .required(true)
         .action(ArgAction::Set)
-        .help("the last tick of the run, 0 to 10^12");
-    let microsteps = Arg::new(alloc, "microsteps")
+        .help("the last tick of the run, 0 to 10^12")
+}
+
+fn microsteps_argument<'a>(alloc: Global) -> Arg<'a> {
+    Arg::new(alloc, "microsteps")
         .long("microsteps")
         .value_name("L")
         .action(ArgAction::Set)
-        .help("the greatest microstep of a tick, 1 to 1000 (20)");
-    let inputs = Arg::new(alloc, "inputs")
+        .help("the greatest microstep of a tick, 1 to 1000 (20)")
+}
+
+fn inputs_argument<'a>(alloc: Global) -> Arg<'a> {
+    Arg::new(alloc, "inputs")
         .long("inputs")
         .value_name("F")
         .action(ArgAction::Set)
-        .help("the file of the inputs, with a line TICK PORT VALUE for each");
+        .help("the file of the inputs, with a line TICK PORT VALUE for each")
+}
+
+fn run_command<'a>(alloc: Global) -> Result<Command<'a>, AllocError> {
     Command::new(alloc, "run")
         .about("Runs a model and prints its trace")
         .arg(model_argument(alloc))?
-        .arg(horizon)?
-        .arg(inputs)?
-        .arg(microsteps)?
+        .arg(horizon_argument(alloc))?
+        .arg(inputs_argument(alloc))?
+        .arg(microsteps_argument(alloc))?
         .arg(explain_argument(alloc))
 }
 
@@ -147,9 +164,9 @@ fn explanation_for(
 /// The words that list the codes.
 fn unknown_code(alloc: Global) -> Result<RequestError, AllocError> {
     let mut reason = String::from_str(alloc, "there is no such code; the codes are")?;
-    push_codes(&mut reason, REFUSALS)?;
-    push_codes(&mut reason, INPUT_REFUSALS)?;
-    push_codes(&mut reason, FAULTS)?;
+    push_codes(&mut reason, refusals())?;
+    push_codes(&mut reason, input_refusals())?;
+    push_codes(&mut reason, faults())?;
     Ok(refused(alloc, reason.as_str()))
 }
 

@@ -2,7 +2,7 @@
 
 ghost use Rattle.std.specs.Prelude.{◌≡◌, IfSome};
 
-use crate::words::{FAULTS, INPUT_REFUSALS, REFUSALS};
+use crate::words::{faults, input_refusals, refusals};
 
 /// What a refusal or a fault means, and its cure.
 #[derive(Clone, Copy, Debug)]
@@ -34,9 +34,9 @@ pub struct Example {
 pub fn explanation_of(code: &str) -> Option<&'static Explanation>
     ensures { IfSome result (λ explanation. explanation.now.code.now ≡ code.now) }
 {
-    find(REFUSALS, code)
-        .or_else(|| find(INPUT_REFUSALS, code))
-        .or_else(|| find(FAULTS, code))
+    find(refusals(), code)
+        .or_else(|| find(input_refusals(), code))
+        .or_else(|| find(faults(), code))
 }
 
 fn find(explanations: &'static [Explanation], code: &str) -> Option<&'static Explanation>

@@ -63,19 +63,35 @@ fn first_line(bytes: &[u8]) -> &[u8] {
 
 /// The two lines, out of what stands on the line before the place and from it on.
 fn marked(alloc: Global, line: u64, before: &str, after: &str) -> Result<String, AllocError> {
-    let number = format!(in alloc; "{line}")?;
-    let margin = " ".repeat(alloc, number.len())?;
     let hidden = before.chars().count().saturating_sub(SHOWN);
-    let mut shown = String::new(alloc);
-    let mut indent = String::new(alloc);
+    let mut text = format!(in alloc; "{line} | ")?;
+    let margin = text.len().saturating_sub(2);
+    push_shown(&mut text, before, hidden)?;
+    push_shown(&mut text, after, 0)?;
+    push_mark(&mut text, margin, before, hidden)?;
+    Ok(text)
+}
+
+/// The characters that are shown of a line, behind so many hidden ones.
+fn push_shown(text: &mut String, line: &str, hidden: usize) -> Result<(), AllocError> {
+    for character in line.chars().skip(hidden).take(SHOWN) {
+        text.push(visible(character))?;
+    }
+    Ok(())
+}
+
+/// The second line: the mark behind the margin and what is shown before the place.
+fn push_mark(
+    text: &mut String,
+    margin: usize,
+    before: &str,
+    hidden: usize,
+) -> Result<(), AllocError> {
+    write!(text, "\n{:margin$}| ", "")?;
     for character in before.chars().skip(hidden) {
-        shown.push(visible(character))?;
-        indent.push(blank(character))?;
+        text.push(blank(character))?;
     }
-    for character in after.chars().take(SHOWN) {
-        shown.push(visible(character))?;
-    }
-    format!(in alloc; "{number} | {shown}\n{margin} | {indent}^\n")
+    text.push_str("^\n")
 }
 
 /// A character as it is shown: a blank for one that moves the cursor, but a tab.

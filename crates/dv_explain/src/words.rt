@@ -3,8 +3,23 @@
 
 use crate::{Example, Explanation};
 
+/// The explanations of the refusals of model texts, in the order of their numbers.
+pub fn refusals() -> &'static [Explanation] {
+    REFUSALS
+}
+
+/// The explanations of the refusals of inputs, in the order of their numbers.
+pub fn input_refusals() -> &'static [Explanation] {
+    INPUT_REFUSALS
+}
+
+/// The explanations of the faults of rules and holds.
+pub fn faults() -> &'static [Explanation] {
+    FAULTS
+}
+
 /// The refusals, in the order of their numbers.
-pub const REFUSALS: &[Explanation] = &[
+const REFUSALS: &[Explanation] = &[
     Explanation {
         code: "E1",
         words: "The text is not UTF-8. The first byte that belongs to no whole character is named; comments are looked at too. Save the file as UTF-8. A single `é` in an older encoding is enough.",
@@ -194,7 +209,7 @@ pub const REFUSALS: &[Explanation] = &[
 ];
 
 /// The refusals of inputs, in the order of their numbers.
-pub const INPUT_REFUSALS: &[Explanation] = &[
+const INPUT_REFUSALS: &[Explanation] = &[
     Explanation {
         code: "I1",
         words: "The line of an input has not three fields, or its tick is no number from 0 to 10^12 in decimal digits, or it is not UTF-8. Write `TICK PORT VALUE`, with blanks or tabs between them; a comment begins with `#` at the start of its line.",
@@ -246,7 +261,7 @@ const RELAY: &str =
     "atomic R { in x; phases z; start z; hold z: forever; }\ncoupled T { in x; part r: R; link self.x -> r.x; }\nroot T;\n";
 
 /// The faults.
-pub const FAULTS: &[Explanation] = &[
+const FAULTS: &[Explanation] = &[
     Explanation {
         code: "overflow",
         words: "A result is outside -2^63..2^63-1. Compute in smaller steps, or keep the numbers in a range.",

@@ -1,6 +1,6 @@
 //! The rules and the holds of an atomic model by the names of their phases.
 
-ghost use Rattle.std.specs.Prelude.{◌≡◌, ℕ, map, nat_eq, option_map, if◌then◌else◌, IfOk, OnOk};
+ghost use Rattle.std.specs.Prelude.{◌≡◌, ℕ, map, nat_eq, option_map, if◌then◌else◌, None, IfOk, OnOk};
 ghost use Rattle.std.specs.Option.{option_copied, option_or};
 ghost use Rattle.indexmap.specs.IndexMap.{get};
 ghost use Rattle.dv_syntax.specs.Trees.{atomic_of, hold_of, rule_of as tree_of, statements_of};
@@ -35,13 +35,35 @@ impl<'a> Directory<'a> {
         ensures holds { IfOk result (λ directory. (phase : ℕ)
             → ticks_found_in directory phase ≡ hold_ticks phase (atomic_of model.now).holds) }
     {
-        Ok(Directory {
-            output: first_rules(alloc, RuleSort::Output, &model.rules)?,
-            internal: first_rules(alloc, RuleSort::Internal, &model.rules)?,
-            external: first_rules(alloc, RuleSort::External, &model.rules)?,
-            confluent: first_rules(alloc, RuleSort::Confluent, &model.rules)?,
-            holds: first_holds(alloc, &model.holds)?,
-        })
+        let mut directory = Directory::with_holds(alloc, first_holds(alloc, &model.holds)?);
+        directory.add_rules(&model.rules)?;
+        Ok(directory)
+    }
+
+    // No rules yet.
+    fn with_holds(alloc: Global, holds: IndexMap<u32, &'a Ticks>) -> Self
+        ensures rules { (sort : DeclaredSort) (phase : ℕ) → rule_found result sort phase ≡ None }
+        ensures holds { (phase : ℕ) → ticks_found_in result phase ≡ ticks_under holds.entry phase }
+    {
+        Directory {
+            output: IndexMap::new(alloc),
+            internal: IndexMap::new(alloc),
+            external: IndexMap::new(alloc),
+            confluent: IndexMap::new(alloc),
+            holds,
+        }
+    }
+
+    // Adds the first rules of each sort, behind those that are there.
+    fn add_rules(&mut self, rules: &'a [Rule]) -> Result<(), AllocError>
+        ensures rules { OnOk result ((sort : DeclaredSort) (phase : ℕ) → rule_found self.new sort phase
+            ≡ option_or (rule_found self.old sort phase) (rule_of sort phase (map tree_of rules.now))) }
+        ensures holds { self.new.holds ≡ self.old.holds }
+    {
+        add_first_rules(&mut self.output, RuleSort::Output, rules)?;
+        add_first_rules(&mut self.internal, RuleSort::Internal, rules)?;
+        add_first_rules(&mut self.external, RuleSort::External, rules)?;
+        add_first_rules(&mut self.confluent, RuleSort::Confluent, rules)
     }
 
     /// The statements of the first rule of a sort for a phase, if there is such a rule.
@@ -66,22 +88,21 @@ impl<'a> Directory<'a> {
     }
 }
 
-// The first rules of a sort.
-fn first_rules<'a>(
-    alloc: Global,
+// Adds the first rules of a sort, behind those that are there.
+fn add_first_rules<'a>(
+    first: &mut IndexMap<u32, &'a [Stmt]>,
     sort: RuleSort,
     rules: &'a [Rule],
-) -> Result<IndexMap<u32, &'a [Stmt]>, AllocError>
-    ensures { IfOk result (λ first. (phase : ℕ)
-        → rule_under first phase ≡ rule_of sort phase (map tree_of rules.now)) }
+) -> Result<(), AllocError>
+    ensures { OnOk result ((phase : ℕ) → rule_under first.new phase
+        ≡ option_or (rule_under first.old phase) (rule_of sort phase (map tree_of rules.now))) }
 {
-    let mut first: IndexMap<u32, &'a [Stmt]> = IndexMap::new(alloc);
     for rule in rules {
         if is_of_sort(rule, sort) {
-            keep_first(&mut first, rule.phase.number, &rule.body.statements)?;
+            keep_first(first, rule.phase.number, &rule.body.statements)?;
         }
     }
-    Ok(first)
+    Ok(())
 }
 
 fn is_of_sort(rule: &Rule, sort: RuleSort) -> bool

@@ -1,6 +1,7 @@
 //! How a run ends.
 
 ghost use Rattle.std.specs.Prelude.{◌≡◌};
+ghost use Rattle.dv_job.specs.Status.{status_of};
 
 use dv_inputs::{InputRefusal, InputsError};
 use dv_lex::TextError;
@@ -29,6 +30,17 @@ pub enum JobError {
     Write,
     /// An allocation was refused; the writer holds nothing, or a beginning of the text that is not all of it.
     Memory,
+}
+
+/// The status with which the program ends: 0 whole, 1 refused, 3 whole with a faulted component.
+pub fn status(outcome: &Result<JobEnded, JobError>) -> u8
+    ensures { result ≡ status_of outcome.now }
+{
+    match outcome {
+        Ok(JobEnded::Whole) => 0,
+        Ok(JobEnded::Faulted) => 3,
+        Err(_) => 1,
+    }
 }
 
 impl fmt::Display for JobError {

@@ -18,6 +18,6 @@ pub mod plain;
 
 pub use check::check_bytes;
 pub use code::list_code;
-pub use ended::{JobEnded, JobError};
+pub use ended::{JobEnded, JobError, status};
 pub use options::{GREATEST_CAPACITY, MOST_WORKERS, Options};
 pub use plain::run_plain;

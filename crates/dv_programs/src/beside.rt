@@ -1,11 +1,9 @@
 //! A program beside the tree that it was made from.
 
-use crate::compiled::{Compiled, Pair, Tree};
-use crate::fitting::{Level, are_few, deliveries, state_at};
-use crate::runs::Runs;
 use dv_bag::{Arrivals, Effect, RuleError, Sent, State, Value};
 use dv_code::Valid;
 use dv_eval::{Context, Moment, Scope, eval, run_rule};
+use dv_samples::{Compiled, Level, Pair, Runs, Tree, are_few, deliveries, state_at};
 use dv_syntax::{Expr, Stmt};
 use std::alloc::{AllocError, Global};
 use std::process::Abort;

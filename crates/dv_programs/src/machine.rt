@@ -2,21 +2,18 @@
 
 ghost use Rattle.std.specs.Prelude.{◌≡◌, ◌<◌};
 
-use crate::fitting::are_few;
-use crate::runs::Runs;
-use crate::shapes::shape_of_one_bag;
 use dv_bag::{
     Arrivals, Bag, Bags, Datum, DatumView, Effect, Fault, HeldBag, RuleError, Sent, State,
     Variables,
 };
 use dv_code::{Action, Binary, Instruction, Leaf, ProgramSort, Shape, Slot, Source, Tables, Valid};
+use dv_samples::{Runs, are_few, shape_of_one_bag};
 use dv_valid::validate;
 use std::alloc::{AllocError, Global};
 use std::marker::Brand;
 use std::process::Abort;
 use std::sync::Arc;
 use std::sync::ledger::{Blank, Ledger};
-use std::test::Fail;
 
 /// A program over a number from 0 to 100, a flag, an input port, an output port and two phases.
 fn program<R: Abort + AllocGlobal>(
@@ -133,161 +130,207 @@ fn number_in(state: &State) -> Option<i64> {
     }
 }
 
+/// What a rule has done that sends nothing.
+#[derive(Clone, Copy, Debug, PartialEq, Eq)]
+struct Outline {
+    /// The number in the first slot.
+    number: Option<i64>,
+    phase: u32,
+    goto: Option<u32>,
+    is_silent: bool,
+}
+
+impl Outline {
+    fn of(effect: &Effect) -> Self {
+        Outline {
+            number: number_in(&effect.state),
+            phase: effect.state.phase,
+            goto: effect.goto,
+            is_silent: effect.sent.is_empty(),
+        }
+    }
+}
+
 /// What the adder does with the four values.
 fn added_up<R: Abort + AllocGlobal, L: Ledger>(
     rt: &R,
     runs: &mut Runs<L>,
     flag: bool,
-) -> Result<Effect, Fail> {
+) -> Result<Outline, RuleError> {
     let program = adder(rt)?;
     let state = counted(rt.alloc(), 1, flag)?;
-    Ok(effect_of_four(rt, runs, &program, &state)?)
+    outline_of_four(rt, runs, &program, &state)
 }
 
 /// What a program does with the four values.
-fn effect_of_four<R: Abort + AllocGlobal, L: Ledger>(
+fn outline_of_four<R: Abort + AllocGlobal, L: Ledger>(
     rt: &R,
     runs: &mut Runs<L>,
     program: &Valid,
     state: &State,
-) -> Result<Effect, AllocError> {
+) -> Result<Outline, RuleError> {
     let bags = four_values(rt.alloc())?;
     assert!(rt; are_few(&bags));
-    let effect = runs.rule(program, state, &Arrivals::new(&bags, 0));
-    Ok(effect.expect(rt, "the state fits").expect(rt, "an effect"))
+    outline_with(rt, runs, program, state, &Arrivals::new(&bags, 0))
+}
+
+/// What a program does with what has arrived.
+fn outline_with<R: Abort + AllocGlobal, L: Ledger>(
+    rt: &R,
+    runs: &mut Runs<L>,
+    program: &Valid,
+    state: &State,
+    arrivals: &Arrivals,
+) -> Result<Outline, RuleError> {
+    let effect = runs.rule(program, state, arrivals);
+    Ok(Outline::of(&effect.expect(rt, "the state fits")?))
 }
 
 /// Fails the test unless 3, 3 and 7 of what has arrived are added to 1; 2 is not above 2.
-fn expect_added<R: Abort + AllocGlobal, L: Ledger>(rt: &R, runs: &mut Runs<L>) -> Result<(), Fail> {
-    let effect = added_up(rt, runs, true)?;
-    assert_eq!(rt; number_in(&effect.state), Some(14));
-    assert_eq!(rt; effect.goto, Some(1));
-    assert_eq!(rt; effect.state.phase, 0);
-    assert!(rt; effect.sent.is_empty());
-    Ok(())
+fn expect_added<R: Abort + AllocGlobal, L: Ledger>(rt: &R, runs: &mut Runs<L>) {
+    let wanted = Outline {
+        number: Some(14),
+        phase: 0,
+        goto: Some(1),
+        is_silent: true,
+    };
+    assert_eq!(rt; added_up(rt, runs, true), Ok(wanted));
 }
 
 /// Fails the test unless the number stays where the flag is down.
-fn expect_same_number<R: Abort + AllocGlobal, L: Ledger>(
-    rt: &R,
-    runs: &mut Runs<L>,
-) -> Result<(), Fail> {
-    let effect = added_up(rt, runs, false)?;
-    assert_eq!(rt; number_in(&effect.state), Some(1));
-    Ok(())
+fn expect_same_number<R: Abort + AllocGlobal, L: Ledger>(rt: &R, runs: &mut Runs<L>) {
+    let outline = added_up(rt, runs, false).expect(rt, "no fault");
+    assert_eq!(rt; outline.number, Some(1));
 }
 
-fn adds_up<R: Abort + AllocGlobal, L: Ledger>(rt: &R, blank: Blank) -> Result<(), Fail>
+fn adds_up<R: Abort + AllocGlobal, L: Ledger>(rt: &R, blank: Blank)
     requires name { blank.name ≡ L.name }
     requires parts { blank.parts ≡ L.parts }
     requires some { 0 < blank.parts }
 {
     let mut runs = Runs::<L>::new(rt.alloc(), blank);
-    expect_added(rt, &mut runs)?;
-    expect_same_number(rt, &mut runs)
+    expect_added(rt, &mut runs);
+    expect_same_number(rt, &mut runs);
 }
 
 #[test]
-fn a_rule_walks_what_has_arrived(rt: HostRuntime) -> Result<(), Fail> {
-    adds_up::<HostRuntime, Brand>(&rt, Blank::new(1))
+fn a_rule_walks_what_has_arrived(rt: HostRuntime) {
+    adds_up::<HostRuntime, Brand>(&rt, Blank::new(1));
 }
 
-/// What is sent of the bag.
-fn sent_values<R: Abort + AllocGlobal, L: Ledger>(
-    rt: &R,
-    runs: &mut Runs<L>,
-) -> Result<Bag, AllocError> {
-    let program = each_sent(rt)?;
-    let state = three_stored(rt.alloc())?;
-    let sent = sent_by(rt, runs, &program, &state);
-    sent.expect(rt, "no fault").bag(0)
+/// How many copies of two values were sent by the first port, and how many values in all.
+#[derive(Clone, Copy, Debug, PartialEq, Eq)]
+struct Counts {
+    one: u64,
+    other: u64,
+    all: u64,
 }
 
-fn sends_each<R: Abort + AllocGlobal, L: Ledger>(rt: &R, blank: Blank) -> Result<(), Fail>
-    requires name { blank.name ≡ L.name }
-    requires parts { blank.parts ≡ L.parts }
-    requires some { 0 < blank.parts }
-{
-    let mut runs = Runs::<L>::new(rt.alloc(), blank);
-    let bag = sent_values(rt, &mut runs)?;
-    assert_eq!(rt; (bag.times(3), bag.times(7), bag.size()), (2, 1, 3));
-    Ok(())
+impl Counts {
+    fn of(sent: &Sent, one: i64, other: i64) -> Result<Self, AllocError> {
+        let bag = sent.bag(0)?;
+        Ok(Counts {
+            one: bag.times(one),
+            other: bag.times(other),
+            all: bag.size(),
+        })
+    }
 }
 
+/// What a program sends, of two values and in all.
 fn sent_by<R: Abort + AllocGlobal, L: Ledger>(
     rt: &R,
     runs: &mut Runs<L>,
     program: &Valid,
     state: &State,
-) -> Result<Sent, RuleError> {
-    runs.output(program, state).expect(rt, "the state fits")
+    values: (i64, i64),
+) -> Result<Counts, RuleError> {
+    let sent = runs.output(program, state).expect(rt, "the state fits")?;
+    Ok(Counts::of(&sent, values.0, values.1)?)
 }
 
-#[test]
-fn a_rule_sends_what_a_bag_holds(rt: HostRuntime) -> Result<(), Fail> {
-    sends_each::<HostRuntime, Brand>(&rt, Blank::new(1))
-}
-
-/// What the divider sends.
-fn divided<R: Abort + AllocGlobal, L: Ledger>(
+/// What is sent of the bag: 3s, 7s and all.
+fn sent_values<R: Abort + AllocGlobal, L: Ledger>(
     rt: &R,
     runs: &mut Runs<L>,
-    number: i64,
-) -> Result<Result<Sent, RuleError>, AllocError> {
-    let program = divider(rt)?;
-    let state = counted(rt.alloc(), number, true)?;
-    Ok(sent_by(rt, runs, &program, &state))
+) -> Result<Counts, RuleError> {
+    let program = each_sent(rt)?;
+    let state = three_stored(rt.alloc())?;
+    sent_by(rt, runs, &program, &state, (3, 7))
 }
 
-/// Fails the test unless the divider divides by 0. The fault leaves values on the stack.
-fn expect_fault<R: Abort + AllocGlobal, L: Ledger>(
-    rt: &R,
-    runs: &mut Runs<L>,
-) -> Result<(), AllocError> {
-    let by_zero = divided(rt, runs, 0)?;
-    assert!(rt; matches!(by_zero, Err(RuleError::Fault(Fault::Divide))));
-    Ok(())
-}
-
-/// Fails the test unless the hold gives one tick more.
-fn expect_one_more<R: Abort + AllocGlobal, L: Ledger>(
-    rt: &R,
-    runs: &mut Runs<L>,
-) -> Result<(), AllocError> {
-    let program = one_more(rt)?;
-    let state = counted(rt.alloc(), 41, false)?;
-    let ticks = runs.hold(&program, &state).expect(rt, "the state fits");
-    assert_eq!(rt; ticks.expect(rt, "no fault"), 42);
-    Ok(())
-}
-
-/// Fails the test unless the divider sends 5 and 7 + 1.
-fn expect_sum<R: Abort + AllocGlobal, L: Ledger>(
-    rt: &R,
-    runs: &mut Runs<L>,
-) -> Result<(), AllocError> {
-    let sent = divided(rt, runs, 1)?.expect(rt, "no fault");
-    let bag = sent.bag(0)?;
-    assert_eq!(rt; (bag.times(5), bag.times(8), bag.size()), (1, 1, 2));
-    Ok(())
-}
-
-fn goes_on_after_a_fault<R: Abort + AllocGlobal, L: Ledger>(
-    rt: &R,
-    blank: Blank,
-) -> Result<(), Fail>
+fn sends_each<R: Abort + AllocGlobal, L: Ledger>(rt: &R, blank: Blank)
     requires name { blank.name ≡ L.name }
     requires parts { blank.parts ≡ L.parts }
     requires some { 0 < blank.parts }
 {
     let mut runs = Runs::<L>::new(rt.alloc(), blank);
-    expect_fault(rt, &mut runs)?;
-    expect_one_more(rt, &mut runs)?;
-    expect_sum(rt, &mut runs)?;
-    Ok(())
+    let wanted = Counts {
+        one: 2,
+        other: 1,
+        all: 3,
+    };
+    assert_eq!(rt; sent_values(rt, &mut runs), Ok(wanted));
 }
 
 #[test]
-fn a_machine_runs_on_after_a_fault(rt: HostRuntime) -> Result<(), Fail> {
-    goes_on_after_a_fault::<HostRuntime, Brand>(&rt, Blank::new(1))
+fn a_rule_sends_what_a_bag_holds(rt: HostRuntime) {
+    sends_each::<HostRuntime, Brand>(&rt, Blank::new(1));
+}
+
+/// What the divider sends: 5s, 8s and all.
+fn divided<R: Abort + AllocGlobal, L: Ledger>(
+    rt: &R,
+    runs: &mut Runs<L>,
+    number: i64,
+) -> Result<Counts, RuleError> {
+    let program = divider(rt)?;
+    let state = counted(rt.alloc(), number, true)?;
+    sent_by(rt, runs, &program, &state, (5, 8))
+}
+
+/// Fails the test unless the divider divides by 0. The fault leaves values on the stack.
+fn expect_fault<R: Abort + AllocGlobal, L: Ledger>(rt: &R, runs: &mut Runs<L>) {
+    assert_eq!(rt; divided(rt, runs, 0), Err(RuleError::Fault(Fault::Divide)));
+}
+
+/// The ticks that the hold gives.
+fn ticks_given<R: Abort + AllocGlobal, L: Ledger>(
+    rt: &R,
+    runs: &mut Runs<L>,
+) -> Result<i64, RuleError> {
+    let program = one_more(rt)?;
+    let state = counted(rt.alloc(), 41, false)?;
+    runs.hold(&program, &state).expect(rt, "the state fits")
+}
+
+/// Fails the test unless the hold gives one tick more.
+fn expect_one_more<R: Abort + AllocGlobal, L: Ledger>(rt: &R, runs: &mut Runs<L>) {
+    assert_eq!(rt; ticks_given(rt, runs), Ok(42));
+}
+
+/// Fails the test unless the divider sends 5 and 7 + 1.
+fn expect_sum<R: Abort + AllocGlobal, L: Ledger>(rt: &R, runs: &mut Runs<L>) {
+    let wanted = Counts {
+        one: 1,
+        other: 1,
+        all: 2,
+    };
+    assert_eq!(rt; divided(rt, runs, 1), Ok(wanted));
+}
+
+fn goes_on_after_a_fault<R: Abort + AllocGlobal, L: Ledger>(rt: &R, blank: Blank)
+    requires name { blank.name ≡ L.name }
+    requires parts { blank.parts ≡ L.parts }
+    requires some { 0 < blank.parts }
+{
+    let mut runs = Runs::<L>::new(rt.alloc(), blank);
+    expect_fault(rt, &mut runs);
+    expect_one_more(rt, &mut runs);
+    expect_sum(rt, &mut runs);
+}
+
+#[test]
+fn a_machine_runs_on_after_a_fault(rt: HostRuntime) {
+    goes_on_after_a_fault::<HostRuntime, Brand>(&rt, Blank::new(1));
 }

@@ -1,6 +1,6 @@
 //! Random rules and holds, as the text of a model. Each text is taken.
 
-use crate::random::Random;
+use dv_samples::Random;
 use std::alloc::{AllocError, Global};
 
 /// What stands before the rules.

@@ -1,17 +1,13 @@
 //! Rules and holds beside their programs: those of the texts, and random ones.
 
 ghost use Rattle.std.specs.Prelude.{◌≡◌, ◌<◌};
-ghost use Rattle.std.specs.List.{All};
-ghost use Rattle.dv_syntax.specs.Trees.{ModelTree, file_of};
-ghost use Rattle.dv_gen.specs.ModelCode.{IsCompilableModel};
+ghost use Rattle.dv_syntax.specs.Trees.{atomic_of};
+ghost use Rattle.dv_gen.specs.ModelCode.{IsCompilable};
 
 use crate::beside::Endings;
-use crate::compiled::{checked, compile_at};
-use crate::random::Random;
 use crate::rule_texts::random_model;
-use crate::runs::Runs;
-use crate::texts::TEXTS;
-use dv_check::Checked;
+use dv_samples::{Random, Runs, atomic_at, checked, compile, model_texts};
+use dv_syntax::Atomic;
 use std::alloc::AllocError;
 use std::marker::Brand;
 use std::process::Abort;
@@ -26,25 +22,23 @@ fn compare_text<R: Abort + AllocGlobal, L: Ledger>(
 ) -> Result<(), Fail> {
     let checked = checked(rt.alloc(), text).expect(rt, text);
     for place in 0..checked.file.models.len() {
-        compare_at(rt, &checked, place, runs, endings)?;
+        if let Some(model) = atomic_at(&checked, place) {
+            compare_model(rt, model, runs, endings)?;
+        }
     }
     Ok(())
 }
 
-// The model at a place of a file, if there is an atomic one.
-fn compare_at<R: Abort + AllocGlobal, L: Ledger>(
+fn compare_model<R: Abort + AllocGlobal, L: Ledger>(
     rt: &R,
-    checked: &Checked,
-    place: usize,
+    model: &Atomic,
     runs: &mut Runs<L>,
     endings: &mut Endings,
 ) -> Result<(), AllocError>
-    requires { All (λ (m : ModelTree). IsCompilableModel m) (file_of checked.now.file).models }
+    requires { IsCompilable (atomic_of model.now) }
 {
-    match compile_at(rt.alloc(), checked, place)? {
-        Some(model) => endings.compare_model(rt, runs, &model),
-        None => Ok(()),
-    }
+    let compiled = compile(rt.alloc(), model)?;
+    endings.compare_model(rt, runs, &compiled)
 }
 
 fn compare_texts<R: Abort + AllocGlobal, L: Ledger>(rt: &R, blank: Blank) -> Result<Endings, Fail>
@@ -54,7 +48,7 @@ fn compare_texts<R: Abort + AllocGlobal, L: Ledger>(rt: &R, blank: Blank) -> Res
 {
     let mut runs = Runs::<L>::new(rt.alloc(), blank);
     let mut endings = Endings::none();
-    for text in TEXTS {
+    for text in model_texts() {
         compare_text(rt, text, &mut runs, &mut endings)?;
     }
     Ok(endings)

@@ -1,7 +1,7 @@
 //! The models of the documents: each has the answer that stands beside it.
 
 use crate::runs::{expect_same, run_with, same_run};
-use dv_explain::{Explanation, FAULTS, INPUT_REFUSALS, REFUSALS};
+use dv_explain::{Explanation, faults, input_refusals, refusals};
 use std::process::Abort;
 
 /// Runs the examples, of which there are so many, and fails the test where something else comes of one than its
@@ -32,13 +32,13 @@ fn same_examples<R: Abort + AllocGlobal>(
 
 #[test]
 fn refusals_are_as_explained(rt: HostRuntime) {
-    same_examples(&rt, REFUSALS, "", 16);
-    same_examples(&rt, INPUT_REFUSALS, "", 4);
+    same_examples(&rt, refusals(), "", 16);
+    same_examples(&rt, input_refusals(), "", 4);
 }
 
 #[test]
 fn faults_are_as_explained(rt: HostRuntime) {
-    same_examples(&rt, FAULTS, "status 3", 7);
+    same_examples(&rt, faults(), "status 3", 7);
 }
 
 #[test]

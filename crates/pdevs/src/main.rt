@@ -7,8 +7,8 @@ mod report;
 mod tests;
 
 use dv_command::{Check, Code, Request, RequestError, Run, request_of};
-use dv_job::{JobError, Options, check_bytes, list_code, run_plain};
-use report::{explained, explanation_text, line, status};
+use dv_job::{JobError, Options, check_bytes, list_code, run_plain, status};
+use report::{explained, explanation_text, line};
 use std::io::Write;
 use std::process::ExitCode;
 use std::rt::Files;

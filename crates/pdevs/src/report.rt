@@ -1,22 +1,8 @@
-//! What the program reports of how a run ended, and what it explains.
-
-ghost use Rattle.std.specs.Prelude.{◌≡◌};
-ghost use Rattle.pdevs.specs.Status.{status_of};
+//! What the program tells of an error, and what it explains.
 
 use dv_explain::{Example, Explanation, excerpt, excerpt_of_line, explanation_of};
-use dv_job::{JobEnded, JobError};
+use dv_job::JobError;
 use std::alloc::{AllocError, Global};
-
-/// The status with which the program ends: 0 whole, 1 refused, 3 whole with a faulted component.
-pub fn status(outcome: &Result<JobEnded, JobError>) -> u8
-    ensures { result ≡ status_of outcome.now }
-{
-    match outcome {
-        Ok(JobEnded::Whole) => 0,
-        Ok(JobEnded::Faulted) => 3,
-        Err(_) => 1,
-    }
-}
 
 /// The line on standard error that tells an error.
 pub fn line(alloc: Global, error: &JobError) -> Result<String, AllocError> {

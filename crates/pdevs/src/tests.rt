@@ -1,10 +1,10 @@
 //! What the words of a command line ask for, and what is reported of how a run ended.
 
-use crate::report::{explained, explanation_text, line, status};
+use crate::report::{explained, explanation_text, line};
 use dv_command::{Request, RequestError, Run, request_of};
 use dv_explain::{Example, Explanation};
 use dv_inputs::{InputRefusal, InputRefusalNumber};
-use dv_job::{JobEnded, JobError, Options, check_bytes, run_plain};
+use dv_job::{JobEnded, JobError, Options, check_bytes, run_plain, status};
 use std::alloc::{AllocError, Global};
 use std::fmt::Debug;
 use std::process::Abort;

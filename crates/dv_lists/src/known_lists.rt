@@ -1,0 +1,191 @@
+//! Lists of instructions that are programs, and lists that are not.
+
+use crate::taken::taken;
+use dv_code::{Action, Instruction, Leaf, ProgramSort, Source};
+use dv_samples::shape_of_one_bag;
+use std::alloc::AllocError;
+use std::process::Abort;
+use std::test::Fail;
+
+const BAG: Source = Source::Own(0);
+
+const ITEM: Instruction = Instruction::Push(Leaf::Item(0));
+
+const ONE: Instruction = Instruction::Push(Leaf::Number(1));
+
+const TRUTH: Instruction = Instruction::Push(Leaf::Truth(true));
+
+const ELAPSED: Instruction = Instruction::Push(Leaf::Elapsed);
+
+const SEND: Instruction = Instruction::Perform(Action::Send(0));
+
+const ADD: Instruction = Instruction::Perform(Action::AddTo(0));
+
+/// Lists that are programs of an output rule.
+const OUTPUT_RULES: &[(&str, &[Instruction])] = &[
+    (
+        "a loop that sends each value",
+        &[
+            Instruction::Loop(BAG, 4),
+            ITEM,
+            SEND,
+            Instruction::Next(1),
+            Instruction::End,
+        ],
+    ),
+    (
+        "three loops in one another",
+        &[
+            Instruction::Loop(BAG, 6),
+            Instruction::Loop(BAG, 5),
+            Instruction::Loop(BAG, 4),
+            Instruction::Next(3),
+            Instruction::Next(2),
+            Instruction::Next(1),
+            Instruction::End,
+        ],
+    ),
+];
+
+/// Lists that are none.
+const NO_PROGRAMS: &[(&str, &[Instruction])] = &[
+    (
+        "a loop that leaves a value at each turn",
+        &[
+            Instruction::Loop(BAG, 3),
+            ITEM,
+            Instruction::Next(1),
+            Instruction::End,
+        ],
+    ),
+    (
+        "a jump into a loop",
+        &[
+            TRUTH,
+            Instruction::JumpFalse(5),
+            Instruction::Loop(BAG, 6),
+            ITEM,
+            SEND,
+            Instruction::Next(3),
+            Instruction::End,
+        ],
+    ),
+    ("a jump back", &[Instruction::Jump(0), Instruction::End]),
+    (
+        "a number that decides",
+        &[ONE, Instruction::JumpFalse(2), Instruction::End],
+    ),
+    ("a value that is left", &[ONE, Instruction::End]),
+    (
+        "four loops in one another",
+        &[
+            Instruction::Loop(BAG, 8),
+            Instruction::Loop(BAG, 7),
+            Instruction::Loop(BAG, 6),
+            Instruction::Loop(BAG, 5),
+            Instruction::Next(4),
+            Instruction::Next(3),
+            Instruction::Next(2),
+            Instruction::Next(1),
+            Instruction::End,
+        ],
+    ),
+    ("no instruction", &[]),
+    (
+        "a place behind the end",
+        &[Instruction::End, Instruction::End],
+    ),
+];
+
+const SORTS: [ProgramSort; 5] = [
+    ProgramSort::Output,
+    ProgramSort::Internal,
+    ProgramSort::External,
+    ProgramSort::Confluent,
+    ProgramSort::Hold,
+];
+
+/// Lists, and whether they are programs of each sort.
+const BY_SORT: &[(&str, &[Instruction], [bool; 5])] = &[
+    (
+        "a number is sent",
+        &[ONE, SEND, Instruction::End],
+        [true, false, false, false, false],
+    ),
+    (
+        "a number goes into the bag",
+        &[ONE, ADD, Instruction::End],
+        [false, true, true, true, false],
+    ),
+    (
+        "the elapsed time goes into the bag",
+        &[ELAPSED, ADD, Instruction::End],
+        [false, false, true, false, false],
+    ),
+    (
+        "a phase is named",
+        &[Instruction::Go(0), Instruction::End],
+        [false, true, true, true, false],
+    ),
+    (
+        "a phase that the model has not is named",
+        &[Instruction::Go(1), Instruction::End],
+        [false; 5],
+    ),
+    (
+        "a number is left",
+        &[ONE, Instruction::End],
+        [false, false, false, false, true],
+    ),
+];
+
+/// Fails the test where a list is a program of a sort, and should be none, or is none, and should be one.
+fn expect_answer<R: Abort + AllocGlobal>(
+    rt: &R,
+    name: &str,
+    sort: ProgramSort,
+    list: &[Instruction],
+    wanted: bool,
+) -> Result<(), AllocError> {
+    let shape = shape_of_one_bag(rt.alloc(), sort)?;
+    let found = taken(rt, shape, list)?;
+    assert_eq!(rt; found.is_some(), wanted, "{name}, {sort:?}");
+    Ok(())
+}
+
+/// Fails the test where the answers to a list of each sort are not these.
+fn expect_answers<R: Abort + AllocGlobal>(
+    rt: &R,
+    name: &str,
+    list: &[Instruction],
+    answers: &[bool],
+) -> Result<(), AllocError> {
+    for (sort, wanted) in SORTS.iter().zip(answers) {
+        expect_answer(rt, name, *sort, list, *wanted)?;
+    }
+    Ok(())
+}
+
+#[test]
+fn output_rules_are_valid(rt: HostRuntime) -> Result<(), Fail> {
+    for (name, list) in OUTPUT_RULES {
+        expect_answer(&rt, name, ProgramSort::Output, list, true)?;
+    }
+    Ok(())
+}
+
+#[test]
+fn no_other_lists_are_valid(rt: HostRuntime) -> Result<(), Fail> {
+    for (name, list) in NO_PROGRAMS {
+        expect_answer(&rt, name, ProgramSort::Output, list, false)?;
+    }
+    Ok(())
+}
+
+#[test]
+fn programs_may_do_what_their_sort_may(rt: HostRuntime) -> Result<(), Fail> {
+    for (name, list, answers) in BY_SORT {
+        expect_answers(&rt, name, list, answers)?;
+    }
+    Ok(())
+}

@@ -1,8 +1,0 @@
-use Rattle.std.proofs.Common.{◌≡◌, ℕ, ◌<◌, Some}
-use Rattle.std.specs.Prelude.{slice_get}
-use Rattle.dv_code.specs.declared.shape.Slot.{Slot}
-use Rattle.dv_programs.specs.Fitting.{FitsAt}
-use Rattle.dv_programs.proofs.fitting.fits.Given as goal
-
-abbrev pub invariant-loop-place : goal.invariant-loop-place
-invariant-loop-place l = (k : ℕ) (s : Slot) → k < l.place → slice_get l.slots k ≡ Some s → FitsAt s (slice_get l.variables k)

@@ -1,0 +1,140 @@
+//! States that fit the slots of a model, and values that arrive.
+
+ghost use Rattle.std.specs.Prelude.{◌≡◌, ◌≤◌, nat_le, option_map, slice_get, IfOk, IsTrue};
+ghost use Rattle.std.specs.List.{list_all};
+ghost use Rattle.dv_bag.specs.Arrivals.{AreFew};
+ghost use Rattle.dv_bag.specs.Bag.{size, total};
+ghost use Rattle.dv_bag.specs.Reading.{datum_of};
+ghost use Rattle.dv_bag.specs.declared.TheConstants.{GREATEST_COUNT};
+ghost use Rattle.dv_code.specs.Shape.{Fits};
+ghost use Rattle.dv_samples.specs.Fitting.{FitsAt};
+
+use dv_bag::{Bag, Bags, Datum, DatumView, GREATEST_COUNT, HeldBag, State, Variables};
+use dv_code::Slot;
+use std::alloc::{AllocError, Global};
+
+/// Whether each slot holds what it may hold.
+pub fn fits(slots: &[Slot], variables: &Variables) -> bool
+    ensures { IsTrue result → Fits slots.now variables.now }
+{
+    if slots.len() != variables.len() {
+        return false;
+    }
+    for (place, slot) in slots.iter().enumerate() {
+        if !fits_slot(*slot, variables.get(place)) {
+            return false;
+        }
+    }
+    true
+}
+
+fn fits_slot(slot: Slot, datum: Option<DatumView>) -> bool
+    ensures { IsTrue result → FitsAt slot (option_map datum_of datum.entry) }
+{
+    match (slot, datum) {
+        (Slot::Ranged { low, high }, Some(DatumView::Number(number))) => {
+            low <= number && number <= high
+        }
+        (Slot::Flagged, Some(DatumView::Flag(_))) => true,
+        (Slot::Holding { capacity }, Some(DatumView::Bag(bag))) => bag.size()
+            <= capacity.min(GREATEST_COUNT),
+        _ => false,
+    }
+}
+
+/// Whether there are at most `GREATEST_COUNT` values at each port.
+pub fn are_few(received: &Bags) -> bool
+    ensures sizes { result ≡ list_all (λ b. nat_le (size b) GREATEST_COUNT) received.now }
+    ensures few { IsTrue result → AreFew received.now }
+{
+    received
+        .as_slice()
+        .iter()
+        .all(|bag| bag.size() <= GREATEST_COUNT)
+}
+
+/// Where in its range each slot of a state is.
+#[derive(Clone, Copy, Debug)]
+pub enum Level {
+    /// The least number, false, and an empty bag.
+    Low,
+    /// A number in the middle, true, and a bag of two copies of one value.
+    Middle,
+    /// The greatest number, true, and a bag full of one value.
+    High,
+}
+
+/// A state whose slots are at a level.
+pub fn state_at(alloc: Global, slots: &[Slot], level: Level) -> Result<State, AllocError> {
+    let mut variables = Variables::new(alloc);
+    for slot in slots {
+        variables.push(datum_at(alloc, *slot, level)?)?;
+    }
+    Ok(State {
+        phase: 0,
+        variables,
+    })
+}
+
+fn datum_at(alloc: Global, slot: Slot, level: Level) -> Result<Datum, AllocError> {
+    match slot {
+        Slot::Ranged { low, high } => Ok(Datum::Number(number_at(low, high, level))),
+        Slot::Flagged => Ok(Datum::Flag(!matches!(level, Level::Low))),
+        Slot::Holding { capacity } => {
+            let bag = bag_at(alloc, capacity, level)?;
+            Ok(Datum::Bag(HeldBag::new(alloc, bag)?))
+        }
+    }
+}
+
+fn number_at(low: i64, high: i64, level: Level) -> i64 {
+    match level {
+        Level::Low => low,
+        Level::Middle => low / 2 + high / 2,
+        Level::High => high,
+    }
+}
+
+fn bag_at(alloc: Global, capacity: u64, level: Level) -> Result<Bag, AllocError>
+    ensures { IfOk result (λ bag. total bag ≤ GREATEST_COUNT) }
+{
+    let mut bag = Bag::new(alloc);
+    let (value, copies) = match level {
+        Level::Low => (0, 0),
+        Level::Middle => (2, 2),
+        Level::High => (7, capacity),
+    };
+    bag.insert_copies(value, copies)?;
+    Ok(if bag.size() <= GREATEST_COUNT {
+        bag
+    } else {
+        Bag::new(alloc)
+    })
+}
+
+/// Nothing, one value, and some of which one comes three times, at each of so many ports.
+pub fn deliveries(alloc: Global, ports: usize) -> Result<[Bags; 3], AllocError> {
+    Ok([
+        Bags::empty(alloc, ports)?,
+        bags_of(alloc, ports, &[1])?,
+        bags_of(alloc, ports, &[5, 5, 5, -2])?,
+    ])
+}
+
+/// These values at each of so many ports.
+fn bags_of(alloc: Global, ports: usize, values: &[i64]) -> Result<Bags, AllocError> {
+    let mut bags = Bags::empty(alloc, ports)?;
+    for port in 0..ports {
+        put_all(&mut bags, port, values)?;
+    }
+    Ok(bags)
+}
+
+fn put_all(bags: &mut Bags, port: usize, values: &[i64]) -> Result<(), AllocError> {
+    for value in values {
+        if port < bags.len() {
+            bags.insert(port, *value)?;
+        }
+    }
+    Ok(())
+}

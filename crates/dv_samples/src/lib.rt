@@ -1,0 +1,23 @@
+//! What tests of programs share: the texts of models, their programs beside the trees that they were made from, states
+//! that fit a program, values that arrive, and runs.
+#![tactic(auto)]
+
+/// From a text to the programs of its atomic models.
+mod compiled;
+/// States that fit, and values that arrive.
+mod fitting;
+/// Numbers that look random.
+mod random;
+/// Runs of programs on states that may not fit them.
+mod runs;
+/// What lists of instructions are for.
+mod shapes;
+/// The texts of models.
+mod texts;
+
+pub use compiled::{Compiled, Pair, Tree, atomic_at, checked, compile};
+pub use fitting::{Level, are_few, deliveries, state_at};
+pub use random::Random;
+pub use runs::Runs;
+pub use shapes::{shape_of_one_bag, tables_of_each_slot};
+pub use texts::model_texts;
