@@ -1,10 +1,13 @@
 //! The programs of a text, as text.
 
 ghost use Rattle.std.specs.Prelude.{OnOk, IfErr};
+ghost use Rattle.dv_syntax.specs.Trees.{file_of};
+ghost use Rattle.dv_job.specs.Job.{IsCheckedFileOf};
 ghost use Rattle.dv_job.specs.Listed.{LeftByListing, ListsCode};
 
 use crate::ended::JobError;
 use crate::load::{load, load_links, unloaded};
+use dv_check::Checked;
 use dv_gen::laws::texts_are_compilable;
 use dv_listing::write_listing;
 use dv_tree::Tree;
@@ -23,14 +26,45 @@ pub fn list_code<W: Write>(alloc: Global, model: &[u8], writer: &mut W) -> Resul
     ensures error { IfErr result (λ e. LeftByListing e model.now (W.contents writer.old)
         (W.contents writer.new)) }
 {
+    match load(alloc, model) {
+        Ok(checked) => list_checked(alloc, &checked, model, writer),
+        Err(error) => Err(unloaded(model, error)),
+    }
+}
+
+/// Writes the listing of a checked text.
+fn list_checked<W: Write>(
+    alloc: Global,
+    checked: &Checked,
+    model: &[u8],
+    writer: &mut W,
+) -> Result<(), JobError>
+    requires checked { IsCheckedFileOf model.now checked.now.names (file_of checked.now.file) }
+    ensures listed { OnOk result (ListsCode model.now (W.contents writer.old)
+        (W.contents writer.new)) }
+    ensures error { IfErr result (λ e. LeftByListing e model.now (W.contents writer.old)
+        (W.contents writer.new)) }
+{
+    let tree = Tree::of(alloc, checked)?;
+    list_tree(alloc, &tree, model, writer)
+}
+
+/// Writes the listing of the tree of a checked text.
+fn list_tree<W: Write>(
+    alloc: Global,
+    tree: &Tree,
+    model: &[u8],
+    writer: &mut W,
+) -> Result<(), JobError>
+    requires checked { IsCheckedFileOf model.now tree.now.names (file_of tree.now.file) }
+    ensures listed { OnOk result (ListsCode model.now (W.contents writer.old)
+        (W.contents writer.new)) }
+    ensures error { IfErr result (λ e. LeftByListing e model.now (W.contents writer.old)
+        (W.contents writer.new)) }
+{
     // The atomic models of an accepted text have programs.
     texts_are_compilable();
-    let checked = match load(alloc, model) {
-        Ok(checked) => checked,
-        Err(error) => return Err(unloaded(model, error)),
-    };
-    let tree = Tree::of(alloc, &checked)?;
-    load_links(alloc, model, &tree)?;
-    write_listing(alloc, &tree, writer)?;
+    load_links(alloc, model, tree)?;
+    write_listing(alloc, tree, writer)?;
     Ok(())
 }

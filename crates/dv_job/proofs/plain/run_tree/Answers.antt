@@ -1,19 +1,19 @@
 use Rattle.std.proofs.lemmas.Result.{err_from_is_err_and}
 use Rattle.dv_job.proofs.Printing.{job_of_tree, left_by_inputs, left_by_write, prints, prints_beginning}
-use Rattle.dv_job.proofs.plain.run_plain.Goals as goal
+use Rattle.dv_job.proofs.plain.run_tree.Goals as goal
 
 pub returns-clause-printed : goal.returns-clause-printed
 returns-clause-printed g c =
-    prints _ _ _ _ _ _ c.in_ok-tree.tree _ _ _ c.a_trace_is_its_instants.ensures.whole
-    (job_of_tree _ _ c.in_ok-tree.tree _ c.in_ok-load_links.ensures.accepted c.in_ok-played.ensures.inputs)
+    prints _ _ _ _ _ _ c.args.tree.now _ _ _ c.a_trace_is_its_instants.ensures.whole
+    (job_of_tree _ _ c.args.tree.now _ c.in_ok-load_links.ensures.accepted c.in_ok-played.ensures.inputs)
     c.in_ok-trace.ensures c.ending_of.ensures c.in_ok-write_trace.ensures.ok
 
 pub returns-in_err-write_trace-clause-error : goal.returns-in_err-write_trace-clause-error
 returns-in_err-write_trace-clause-error g c =
     let p = err_from_is_err_and c.from_residual-in_err-write_trace.result c.from_residual-in_err-write_trace.ensures.1 in
     let beginning =
-    prints_beginning _ _ _ _ _ _ c.in_ok-tree.tree _ _ c.a_trace_is_its_instants.ensures.whole
-    (job_of_tree _ _ c.in_ok-tree.tree _ c.in_ok-load_links.ensures.accepted c.in_ok-played.ensures.inputs)
+    prints_beginning _ _ _ _ _ _ c.args.tree.now _ _ c.a_trace_is_its_instants.ensures.whole
+    (job_of_tree _ _ c.args.tree.now _ c.in_ok-load_links.ensures.accepted c.in_ok-played.ensures.inputs)
     c.in_ok-trace.ensures c.in_err-write_trace.ensures.err in
     rw (p.1, p.2) (left_by_write c.in_err-write_trace.field-0.0 _ _ _ _ _ _ beginning)
 
@@ -21,4 +21,4 @@ pub returns-in_err-played-clause-error : goal.returns-in_err-played-clause-error
 returns-in_err-played-clause-error g c =
     let p = err_from_is_err_and c.from_residual-in_err-played.result c.from_residual-in_err-played.ensures.1 in
     rw (p.1, p.2)
-    (left_by_inputs c.in_err-played.field-0.0 _ _ _ _ _ c.in_ok-tree.tree c.in_ok-load_links.ensures.accepted c.in_err-played.ensures.refused)
+    (left_by_inputs c.in_err-played.field-0.0 _ _ _ _ _ c.args.tree.now c.in_ok-load_links.ensures.accepted c.in_err-played.ensures.refused)
