@@ -8,9 +8,10 @@ use std::alloc::{AllocError, Global};
 use std::rt::Files;
 use std::{fs, io};
 
-/// What the document has told so far: a model, its inputs, and what was expected and got of them.
+/// What the document has told so far: the block that is open, a model, its inputs, and what was expected and got of them.
 #[derive(Drop)]
 struct Telling {
+    block: String,
     model: String,
     inputs: String,
     expected: String,
@@ -22,6 +23,7 @@ struct Telling {
 impl Telling {
     fn new(alloc: Global) -> Self {
         Telling {
+            block: String::new(alloc),
             model: String::new(alloc),
             inputs: String::new(alloc),
             expected: String::new(alloc),
@@ -49,25 +51,41 @@ impl Telling {
 /// Runs the models of a document. Tells how many commands print what is shown, and answers whether all do.
 pub fn is_as_shown<R: AllocGlobal + Files + Print>(rt: &R, name: &str) -> io::Result<bool> {
     let text = fs::read_to_string(rt, name)?;
+    is_text_as_shown(rt, name, text.as_str())
+}
+
+fn is_text_as_shown<R: AllocGlobal + Print>(rt: &R, name: &str, text: &str) -> io::Result<bool> {
     let mut telling = Telling::new(rt.alloc());
+    follow_lines(rt, &mut telling, text)?;
+    report(rt, name, &telling)
+}
+
+fn follow_lines<R: AllocGlobal + Print>(
+    rt: &R,
+    telling: &mut Telling,
+    text: &str,
+) -> io::Result<()> {
     let mut fence: Option<&str> = None;
-    let mut block = String::new(rt.alloc());
-    for line in text.as_str().lines() {
+    for line in text.lines() {
         match (fence, line.strip_prefix("```")) {
             (None, Some(mark)) => {
                 telling.compare(rt)?;
                 fence = Some(mark);
-                block.clear();
+                telling.block.clear();
             }
             (Some(mark), Some(_)) => {
-                keep_block(&mut telling, mark, block.as_str())?;
+                keep_block(telling, mark)?;
                 fence = None;
             }
-            (Some(_), None) => push_line(&mut block, line)?,
-            (None, None) => follow(rt, &mut telling, line)?,
+            (Some(_), None) => push_line(&mut telling.block, line)?,
+            (None, None) => follow(rt, telling, line)?,
         }
     }
-    telling.compare(rt)?;
+    telling.compare(rt)
+}
+
+/// Tells how many commands print what is shown, and answers whether all do.
+fn report<R: Print>(rt: &R, name: &str, telling: &Telling) -> io::Result<bool> {
     if telling.differing == 0 {
         println!(rt; "{name}: {} as shown", telling.compared)?;
     } else {
@@ -84,15 +102,15 @@ fn push_line(text: &mut String, line: &str) -> Result<(), AllocError> {
     text.push('\n')
 }
 
-/// Keeps a fenced block that is a model, or inputs.
-fn keep_block(telling: &mut Telling, mark: &str, block: &str) -> Result<(), AllocError> {
+/// Keeps the fenced block, if it is a model, or inputs.
+fn keep_block(telling: &mut Telling, mark: &str) -> Result<(), AllocError> {
     if mark == "inputs" {
         telling.inputs.clear();
-        telling.inputs.push_str(block)
-    } else if mark.is_empty() && block.contains("root ") {
+        telling.inputs.push_str(telling.block.as_str())
+    } else if mark.is_empty() && telling.block.contains("root ") {
         telling.inputs.clear();
         telling.model.clear();
-        telling.model.push_str(block)
+        telling.model.push_str(telling.block.as_str())
     } else {
         Ok(())
     }
