@@ -1,7 +1,7 @@
 -- What acceptance says of a file: its root is a coupled model, whose tree keeps the limits; the parts of coupled models have known
 -- models, and links lead from an output of a part or an input of the model itself to an input of another part or an output of
 -- the model itself.
-use Rattle.std.specs.Prelude.{◌≡◌, ℕ, suc, ◌+◌, ◌<◌, ◌≤◌, true, false, List, [], length, Option, Some, None}
+use Rattle.std.specs.Prelude.{◌≡◌, suc, ◌+◌, ◌<◌, ◌≤◌, true, false, List, [], length, Option, Some, None}
 use Rattle.std.specs.List.{AllByRecursion}
 use Rattle.dv_syntax.specs.declared.tree.Name.{Name}
 use Rattle.dv_syntax.specs.declared.tree.Part.{Part}
