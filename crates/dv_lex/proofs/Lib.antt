@@ -1,3 +1,4 @@
+pub mod WordLists
 pub mod TableLemmas
 pub mod Ascii
 pub mod Runs

@@ -8,3 +8,4 @@ pub mod Order
 pub mod Words
 -- What serves proofs.
 pub mod Steps
+pub mod WordLists
