@@ -1,4 +1,3 @@
-pub mod WordLists
 pub mod TableLemmas
 pub mod Ascii
 pub mod Runs

@@ -8,4 +8,3 @@ pub mod Order
 pub mod Words
 -- What serves proofs.
 pub mod Steps
-pub mod WordLists

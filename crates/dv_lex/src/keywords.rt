@@ -1,27 +1,13 @@
 //! Keywords.
 
-ghost use Rattle.std.specs.Prelude.{◌≡◌, ◌≢◌, true, false, MatchOption};
-ghost use Rattle.dv_lex.specs.WordLists.{is_of_rules};
+ghost use Rattle.std.specs.Prelude.{◌≡◌, ◌≢◌, MatchOption};
 ghost use Rattle.dv_lex.specs.Lexemes.{keyword_text};
 
 use crate::token::Keyword;
 
 /// The keyword that the word is, if it is one.
-#[tactic(auto, using(crate::proofs::WordLists::is_neither))]
 pub fn keyword(word: &str) -> Option<Keyword>
     ensures { MatchOption result ((k : Keyword) → word.now ≢ keyword_text k)
-        (λ k. word.now ≡ keyword_text k) }
-{
-    match keyword_of_models(word) {
-        Some(keyword) => Some(keyword),
-        None => keyword_of_rules(word),
-    }
-}
-
-// The keyword that the word is, if it is one that stands outside of rules.
-fn keyword_of_models(word: &str) -> Option<Keyword>
-    ensures { MatchOption result
-        ((k : Keyword) → is_of_rules k ≡ false → word.now ≢ keyword_text k)
         (λ k. word.now ≡ keyword_text k) }
 {
     match word {
@@ -44,17 +30,6 @@ fn keyword_of_models(word: &str) -> Option<Keyword>
         "part" => Some(Keyword::Part),
         "link" => Some(Keyword::Link),
         "self" => Some(Keyword::Itself),
-        _ => None,
-    }
-}
-
-// The keyword that the word is, if it is one that stands in rules.
-fn keyword_of_rules(word: &str) -> Option<Keyword>
-    ensures { MatchOption result
-        ((k : Keyword) → is_of_rules k ≡ true → word.now ≢ keyword_text k)
-        (λ k. word.now ≡ keyword_text k) }
-{
-    match word {
         "if" => Some(Keyword::If),
         "else" => Some(Keyword::Else),
         "for" => Some(Keyword::For),
