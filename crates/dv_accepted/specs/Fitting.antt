@@ -24,8 +24,8 @@ use Rattle.dv_bag.specs.declared.value.ValueType.TheVariants.{Number, Truth}
 use Rattle.dv_check.specs.Types.{Known, knows_elapsed, sees_inputs}
 use Rattle.dv_check.specs.Rules.{known_in_loop}
 
--- a number within the range of its variable, a truth value for a flag, and for a bag no more values than its capacity, which is a
--- capacity that a bag may have
+-- a number within the range of its variable, a truth value for a flag, and for a bag no more values than its capacity, which is no
+-- greater than the greatest
 abbrev pub datum_fits : Domain → Datum → Bool
 datum_fits (domain.Number range) (datum.Number n) = is_within range.low range.high n
 datum_fits (domain.Number range) (datum.Flag b) = false

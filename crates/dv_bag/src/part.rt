@@ -12,7 +12,7 @@ use std::alloc::{AllocError, Global};
 use std::marker::Model;
 use std::slice::Iter;
 
-/// Entries by time and component, and what those components sent outside.
+/// Entries of some components, and what those components sent outside, in the order in which they were pushed.
 #[derive(Debug, Drop)]
 pub struct Part {
     entries: Vec<Entry>,
@@ -64,7 +64,7 @@ impl Part {
         Ok(self.outer.push(outer)?)
     }
 
-    /// The entries, by time and component.
+    /// The entries, in the order in which they were pushed: a run pushes them by time and component.
     pub fn entries(&self) -> Iter<'_, Entry>
         ensures rest { iter_rest result ≡ self.now.entries }
         ensures fits { length self.now.entries < 2 ^ 64 }
@@ -73,7 +73,7 @@ impl Part {
         self.entries.iter()
     }
 
-    /// What was sent outside, by time and port.
+    /// What was sent outside, in the order in which it was pushed: a run pushes it by time and port.
     pub fn outer(&self) -> Iter<'_, Outer>
         ensures rest { iter_rest result ≡ self.now.outer }
         ensures fits { length self.now.outer < 2 ^ 64 }

@@ -82,6 +82,19 @@ module _ (m : AtomicTree) where
   gotos_count [] all = tt
   gotos_count (p ∷ phases) all = (goto_counts p (place_of p (scope_of m).phases) refl all.0, gotos_count phases all.1)
 
+  -- the response is no later than that of each phase to which external rules go
+  pub no_later_than_gotos : AllByRecursion (λ phase. IsNoLater (response_of m) (phase_response m phase)) (external_gotos m)
+  no_later_than_gotos = soonest_of_each (phase_response m) None (external_gotos m)
+
+  -- a hold of such a phase, in a state of the model that holds numbers of the language, is not below it
+  pub hold_of_goto : (phase : ℕ) → IsNoLater (response_of m) (phase_response m phase) → (s : State)
+      → ((name : ℕ) (d : Domain) → domain_named (scope_of m) name ≡ Some d → HoldsDatum (scope_of m) s name d)
+      → HoldsNumbers s.variables
+      → (ticks : ℕ) → hold_of (scope_of m) (hold_ticks phase m.holds) s ≡ Ok (Some ticks) → IsNotBelow (response_of m) ticks
+  hold_of_goto phase no_later s held numbers ticks hold =
+      no_later ticks (IfOk-at_ok (λ o. IfSome o (IsNotBelow (phase_response m phase))) hold
+      (hold_not_below (scope_of m) s held numbers (hold_ticks phase m.holds)))
+
   pub hold_after_goto : (phase place ticks : ℕ) (arrivals : Arrivals) (s : State) (e : Effect)
       → ((name : ℕ) (d : Domain) → domain_named (scope_of m) name ≡ Some d → HoldsDatum (scope_of m) (in_phase e.state place) name d)
       → HoldsNumbers e.state.variables
@@ -89,11 +102,10 @@ module _ (m : AtomicTree) where
       → hold_of (scope_of m) (hold_ticks (phase_name (scope_of m) place) m.holds) (in_phase e.state place) ≡ Ok (Some ticks)
       → IsNotBelow (response_of m) ticks
   hold_after_goto phase place ticks arrivals s e held numbers is goto hold =
-      let each = gotos_count (external_gotos m) (soonest_of_each (phase_response m) None (external_gotos m)) in
+      let each = gotos_count (external_gotos m) no_later_than_gotos in
       let all = all_of_rule _ phase m.rules each in
       let start : Effect = record { state = s; sent = replicate (length (scope_of m).outputs) []; goto = None } in
       let run = run_leaves Counts (scope_of m) (outermost arrivals) (rule_body External phase m.rules) start all tt in
       let left = IfOk-at_ok (λ (e : Effect). Counts e.goto) is run in
       let counts = subst Counts goto left in
-      counts ticks (IfOk-at_ok (λ o. IfSome o (IsNotBelow (phase_response m (phase_name (scope_of m) place)))) hold
-      (hold_not_below (scope_of m) (in_phase e.state place) held numbers (hold_ticks (phase_name (scope_of m) place) m.holds)))
+      hold_of_goto (phase_name (scope_of m) place) counts (in_phase e.state place) held numbers ticks hold

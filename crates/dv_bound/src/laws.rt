@@ -1,6 +1,7 @@
 //! Laws of responses. Each function stands for the law in its contract; its body only names laws of states.
 
 ghost use Rattle.std.specs.Prelude.{◌≡◌, ℕ, true, Ok, Some};
+ghost use Rattle.std.specs.List.{All};
 ghost use Rattle.dv_syntax.specs.Trees.{AtomicTree};
 ghost use Rattle.dv_syntax.specs.declared.tree.RuleSort.TheVariants.{External};
 ghost use Rattle.dv_bag.specs.Arrivals.{Arrivals};
@@ -10,7 +11,7 @@ ghost use Rattle.dv_bag.specs.declared.state.Effect.{Effect};
 ghost use Rattle.dv_eval.specs.Meaning.{effect_of, hold_of};
 ghost use Rattle.dv_eval.specs.Scope.{hold_ticks, phase_name, rule_body, scope_of};
 ghost use Rattle.dv_accepted.specs.Fitting.{fits, in_phase};
-ghost use Rattle.dv_bound.specs.Response.{IsNotBelow, response_of};
+ghost use Rattle.dv_bound.specs.Response.{IsNotBelow, external_gotos, response_of};
 
 use dv_accepted::laws::{accepted_names_are_known, rules_keep_to_the_ranges};
 
@@ -27,5 +28,16 @@ pub fn holds_are_not_below_the_response()
         IsNotBelow (response_of m) ticks }
 {
     rules_keep_to_the_ranges();
+    accepted_names_are_known();
+}
+
+/// The hold of a phase that a `goto` of an external rule names, whether it runs or not, is not below the model's
+/// response where it ends, in any state that fits and holds numbers of the language alone.
+pub fn holds_of_gotos_are_not_below_the_response()
+    ensures { (m : AtomicTree) → All (λ (phase : ℕ). (s : State) (ticks : ℕ) → fits m s ≡ true →
+        HoldsNumbers s.variables →
+        hold_of (scope_of m) (hold_ticks phase m.holds) s ≡ Ok (Some ticks) →
+        IsNotBelow (response_of m) ticks) (external_gotos m) }
+{
     accepted_names_are_known();
 }

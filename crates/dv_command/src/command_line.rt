@@ -2,7 +2,7 @@
 
 ghost use Rattle.std.specs.Prelude.{◌≤◌, IfOk, IfSome};
 
-use crate::request::{Check, Code, Request, RequestError, Run, Usage};
+use crate::request::{ModelFile, Request, RequestError, Run, Usage};
 use clap::error::ErrorKind;
 use clap::{Arg, ArgAction, ArgMatches, Command};
 use dv_explain::{Explanation, explanation_of, faults, input_refusals, refusals};
@@ -24,28 +24,32 @@ pub fn request_of(alloc: Global, words: &[String]) -> Result<Request, RequestErr
 /// What the words ask for, parted by their names.
 fn request_in(alloc: Global, matches: &ArgMatches) -> Result<Request, RequestError> {
     match matches.subcommand() {
-        Some(("check", check)) => Ok(Request::Check(check_of(alloc, check)?)),
-        Some(("code", code)) => Ok(Request::Code(code_of(alloc, code)?)),
+        Some(("check", check)) => Ok(Request::Check(model_file_of(alloc, check)?)),
+        Some(("code", code)) => Ok(Request::Code(model_file_of(alloc, code)?)),
         Some(("explain", explain)) => Ok(Request::Explain(explanation_for(alloc, explain)?)),
-        Some((_, run)) => Ok(Request::Run(run_of(alloc, run)?)),
-        None => Err(refused(alloc, "a subcommand is wanted")),
+        Some(("run", run)) => Ok(Request::Run(run_of(alloc, run)?)),
+        _ => Err(refused(alloc, "a subcommand is wanted")),
     }
 }
 
 /// The command line that is read.
 fn command<'a>(alloc: Global) -> Result<Command<'a>, AllocError> {
-    with_runs(alloc, Command::new(alloc, "pdevs").bin_name("pdevs")?)?
+    let program = Command::new(alloc, "pdevs")
+        .bin_name("pdevs")?
         .about("Checks and runs Parallel DEVS models")
-        .subcommand_required(true)
-        .subcommand(code_command(alloc)?)?
-        .subcommand(explain_command(alloc)?)
+        .subcommand_required(true);
+    let checks = with_subcommand(program, check_command(alloc))?;
+    let runs = with_subcommand(checks, run_command(alloc))?;
+    let lists = with_subcommand(runs, code_command(alloc))?;
+    with_subcommand(lists, explain_command(alloc))
 }
 
-/// With the commands that check a model and run it.
-fn with_runs<'a>(alloc: Global, command: Command<'a>) -> Result<Command<'a>, AllocError> {
-    command
-        .subcommand(check_command(alloc)?)?
-        .subcommand(run_command(alloc)?)
+/// With one more subcommand, where there was memory for it.
+fn with_subcommand<'a>(
+    program: Command<'a>,
+    subcommand: Result<Command<'a>, AllocError>,
+) -> Result<Command<'a>, AllocError> {
+    program.subcommand(subcommand?)
 }
 
 fn model_argument<'a>(alloc: Global) -> Arg<'a> {
@@ -136,15 +140,8 @@ fn inputs_of(alloc: Global, matches: &ArgMatches) -> Result<Option<String>, Requ
     }
 }
 
-fn check_of(alloc: Global, matches: &ArgMatches) -> Result<Check, RequestError> {
-    Ok(Check {
-        model: model_of(alloc, matches)?,
-        explained: matches.get_flag("explain"),
-    })
-}
-
-fn code_of(alloc: Global, matches: &ArgMatches) -> Result<Code, RequestError> {
-    Ok(Code {
+fn model_file_of(alloc: Global, matches: &ArgMatches) -> Result<ModelFile, RequestError> {
+    Ok(ModelFile {
         model: model_of(alloc, matches)?,
         explained: matches.get_flag("explain"),
     })

@@ -8,25 +8,18 @@ use std::alloc::AllocError;
 /// A subcommand with its values.
 #[derive(Debug, Drop)]
 pub enum Request {
-    Check(Check),
+    /// Check a model and print the number of its components.
+    Check(ModelFile),
     Run(Run),
-    Code(Code),
+    /// Print the programs of a model.
+    Code(ModelFile),
     /// Print what a refusal or a fault means.
     Explain(&'static Explanation),
 }
 
-/// Check a model and print the number of its components.
+/// A model that is asked for by itself.
 #[derive(Debug, Drop)]
-pub struct Check {
-    /// The file of the model.
-    pub model: String,
-    /// Whether a refusal is explained.
-    pub explained: bool,
-}
-
-/// Print the programs of a model.
-#[derive(Debug, Drop)]
-pub struct Code {
+pub struct ModelFile {
     /// The file of the model.
     pub model: String,
     /// Whether a refusal is explained.

@@ -20,7 +20,7 @@ use Rattle.dv_bag.specs.declared.state.Effect.{Effect}
 use Rattle.dv_bag.specs.declared.value.Value.{Value}
 use Rattle.std.proofs.lemmas.Bool.{lt-leb}
 use Rattle.dv_eval.specs.Scope.{Scope, place_of}
-use Rattle.dv_eval.specs.Copies.{repeated}
+use Rattle.dv_eval.specs.Steps.{repeated, with_value}
 use Rattle.dv_eval.specs.Meaning.{Context, addition, assignment, bag_of_name, in_loop, moment_in, number_of, removal, repetition}
 use Rattle.dv_eval.specs.Meaning.{run, sending, truth_of, value_within, with_value_at}
 
@@ -200,14 +200,17 @@ bind_ok : {A : Type 0} (m : Result A Fault) → (m >>= λ x. Ok x) ≡ m
 bind_ok (Ok x) = refl
 bind_ok (Err f) = refl
 
+bind_each_ok : {A B : Type 0} (m : Result A Fault) (f : A → Result B Fault) → (m >>= λ v. f v >>= λ x. Ok x) ≡ (m >>= f)
+bind_each_ok (Ok v) f = bind_ok (f v)
+bind_each_ok (Err e) f = refl
+
 pub run-Assign :
-    (scope : Scope) (context : Context) (s : Stmt) (e : Effect) (variable : Name) (value : Expr) (v : Value)
-    → s ≡ stmt.Assign variable value → value_within scope context e (expression_of value) ≡ Ok v
-    → run scope context (statement_before s Done) e ≡ assignment scope variable.number v e
-run-Assign scope context s e variable value v is known =
+    (scope : Scope) (context : Context) (s : Stmt) (e : Effect) (variable : Name) (value : Expr) → s ≡ stmt.Assign variable value
+    → run scope context (statement_before s Done) e
+    ≡ with_value scope context (expression_of value) (assignment scope variable.number) e
+run-Assign scope context s e variable value is =
     ap (λ x. run scope context (statement_before x Done) e) is
-    ∙ ap (λ m. m >>= λ x. assignment scope variable.number x e >>= λ y. Ok y) known
-    ∙ bind_ok (assignment scope variable.number v e)
+    ∙ bind_each_ok (value_within scope context e (expression_of value)) (λ v. assignment scope variable.number v e)
 
 module _ (scope : Scope) (context : Context) (s : Stmt) (place : ℕ) (e : Effect) where
   pub run-If :
@@ -236,10 +239,18 @@ module _ (scope : Scope) (context : Context) (s : Stmt) (place : ℕ) (e : Effec
       → run scope context (statement_before s Done) e ≡ walk scope context v b block e
   run-For v b block tree = ap (λ x. run scope context x e) tree ∙ bind_ok (walk scope context v b block e)
 
-  pub run-Add :
-      (value : Expr) (b : Name) (v : Value) → s ≡ stmt.Add place value b → value_within scope context e (expression_of value) ≡ Ok v
-      → run scope context (statement_before s Done) e ≡ addition scope b.number (number_of v) e
-  run-Add value b v is known =
+  pub run-Send :
+      (port : Name) (value : Expr) → s ≡ stmt.Send place port value
+      → run scope context (statement_before s Done) e
+      ≡ with_value scope context (expression_of value) (sending scope port.number) e
+  run-Send port value is =
       ap (λ x. run scope context (statement_before x Done) e) is
-      ∙ ap (λ m. m >>= λ x. addition scope b.number (number_of x) e >>= λ y. Ok y) known
-      ∙ bind_ok (addition scope b.number (number_of v) e)
+      ∙ bind_each_ok (value_within scope context e (expression_of value)) (λ v. sending scope port.number v e)
+
+  pub run-Add :
+      (value : Expr) (b : Name) → s ≡ stmt.Add place value b
+      → run scope context (statement_before s Done) e
+      ≡ with_value scope context (expression_of value) (λ v. addition scope b.number (number_of v)) e
+  run-Add value b is =
+      ap (λ x. run scope context (statement_before x Done) e) is
+      ∙ bind_each_ok (value_within scope context e (expression_of value)) (λ v. addition scope b.number (number_of v) e)

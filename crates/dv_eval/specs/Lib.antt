@@ -3,6 +3,6 @@ pub mod Scope
 pub mod Meaning
 pub mod Contexts
 -- What serves proofs and worked rows.
-pub mod Copies
+pub mod Steps
 pub mod Edges
 pub mod Rows

@@ -1,15 +1,16 @@
 //! What the rules of a phase do.
 
-ghost use Rattle.std.specs.Prelude.{◌≡◌, ◌∷◌, [], slice_get, unwrap_or, IfOk};
+ghost use Rattle.std.specs.Prelude.{◌≡◌, ◌∷◌, [], slice_get, unwrap_or, IfOk, Ok};
 ghost use Rattle.dv_syntax.specs.Trees.{Done, expression_of, statement_before, statements_of};
 ghost use Rattle.dv_bag.specs.Bag.{values_of};
 ghost use Rattle.dv_bag.specs.Outcome.{Gives};
 ghost use Rattle.dv_bag.specs.declared.state.Datum.TheVariants as datum;
-ghost use Rattle.dv_eval.specs.Copies.{repeated};
+ghost use Rattle.dv_eval.specs.Steps.{repeated, with_value};
 ghost use Rattle.dv_eval.specs.Contexts.{context_of};
 ghost use Rattle.dv_bag.specs.Effects.{with_datum, with_state};
 ghost use Rattle.dv_eval.specs.Meaning.{addition, addition_to, assignment, assignment_in_range, bag_of_name, effect_of, in_loop};
-ghost use Rattle.dv_eval.specs.Meaning.{meaning, moment_in, removal, repetition, run, sending, with_goto};
+ghost use Rattle.dv_eval.specs.Meaning.{meaning, moment_in, number_of, removal, repetition, run, sending};
+ghost use Rattle.dv_eval.specs.Meaning.{with_goto};
 
 use crate::expression::{bag_of_name, eval, number_of, truth_of};
 use crate::moment::{Context, Moment};
@@ -74,15 +75,15 @@ fn run_statement(
 {
     trees_keep_blocks();
     match statement {
-        Stmt::Assign { variable, value } => {
-            let value = value_of(value, &effect.state, context, scope)?;
-            assign(variable.number, value, scope, effect)
-        }
+        Stmt::Assign { variable, value } => run_assign(
+            variable.number,
+            value,
+            context,
+            scope,
+            effect,
+        ),
         Stmt::Goto { phase, .. } => Ok(with_goto(scope.phase(phase.number), effect)),
-        Stmt::Send { port, value, .. } => {
-            let value = value_of(value, &effect.state, context, scope)?;
-            send(port.number, value, scope, effect)
-        }
+        Stmt::Send { port, value, .. } => run_send(port.number, value, context, scope, effect),
         Stmt::If {
             condition,
             then_block,
@@ -124,14 +125,8 @@ fn run_statement(
             ),
             None => Ok(effect),
         },
-        Stmt::Add { value, bag, .. } => {
-            let value = value_of(value, &effect.state, context, scope)?;
-            add(bag.number, number_of(value), scope, effect)
-        }
-        Stmt::Drop { value, bag, .. } => {
-            let value = value_of(value, &effect.state, context, scope)?;
-            Ok(drop_one(bag.number, number_of(value), scope, effect))
-        }
+        Stmt::Add { value, bag, .. } => run_add(bag.number, value, context, scope, effect),
+        Stmt::Drop { value, bag, .. } => run_drop(bag.number, value, context, scope, effect),
     }
 }
 
@@ -204,6 +199,70 @@ fn value_of(
         (expression_of expression.now)) }
 {
     eval(expression, &Moment { state, context }, scope).map_err(RuleError::Fault)
+}
+
+// An assignment: first the value, and then the variable or the flag.
+fn run_assign(
+    variable: u32,
+    value: &Expr,
+    context: &Context,
+    scope: &Scope,
+    effect: Effect,
+) -> Result<Effect, RuleError>
+    ensures { Gives result
+        (with_value scope.now (context_of context.now) (expression_of value.now)
+        (assignment scope.now variable) effect) }
+{
+    let value = value_of(value, &effect.state, context, scope)?;
+    assign(variable, value, scope, effect)
+}
+
+// A `send`: first the value, and then the port.
+fn run_send(
+    port: u32,
+    value: &Expr,
+    context: &Context,
+    scope: &Scope,
+    effect: Effect,
+) -> Result<Effect, RuleError>
+    ensures { Gives result
+        (with_value scope.now (context_of context.now) (expression_of value.now)
+        (sending scope.now port) effect) }
+{
+    let value = value_of(value, &effect.state, context, scope)?;
+    send(port, value, scope, effect)
+}
+
+// An `add`: first the value, and then the bag.
+fn run_add(
+    bag: u32,
+    value: &Expr,
+    context: &Context,
+    scope: &Scope,
+    effect: Effect,
+) -> Result<Effect, RuleError>
+    ensures { Gives result
+        (with_value scope.now (context_of context.now) (expression_of value.now)
+        (λ v. addition scope.now bag (number_of v)) effect) }
+{
+    let value = value_of(value, &effect.state, context, scope)?;
+    add(bag, number_of(value), scope, effect)
+}
+
+// A `drop`: first the value, and then the bag.
+fn run_drop(
+    bag: u32,
+    value: &Expr,
+    context: &Context,
+    scope: &Scope,
+    effect: Effect,
+) -> Result<Effect, RuleError>
+    ensures { Gives result
+        (with_value scope.now (context_of context.now) (expression_of value.now)
+        (λ v e. Ok (removal scope.now bag (number_of v) e)) effect) }
+{
+    let value = value_of(value, &effect.state, context, scope)?;
+    Ok(drop_one(bag, number_of(value), scope, effect))
 }
 
 // A value assigned to a variable or a flag.

@@ -192,7 +192,7 @@ const REFUSALS: &[Explanation] = &[
     },
     Explanation {
         code: "E17",
-        words: "A limit on size is passed. The name that is too many is named, or the capacity of a bag; line 1 where the text is too long. The root's name is named where the tree of its parts passes a limit: it has 1 to 4,096 components, at most 8,192 atomic and coupled models, each counted as often as it is a part, and coupled models lie at most 16 deep in one another, the root counted; and where nothing else is refused, with more than 65,536 links: ways from an output of a component or an input of the root to an input of a component or an output of the root, through the models between. An atomic model has at most 4,096 ports, 4,096 variables, flags and bags together, and 4,096 phases, and a bag holds 1 to 4,096 numbers; a coupled model has at most 4,096 ports and 4,096 parts; a text 16,777,216 bytes.",
+        words: "A limit on size is passed. The name that is too many is named, or the capacity of a bag; line 1 where the text is too long. The root's name is named where the tree of its parts passes a limit: it has 1 to 4,096 components, at most 8,192 atomic and coupled models, each counted as often as it is a part and the root once, and coupled models lie at most 16 deep in one another, the root counted; and where nothing else is refused, with more than 65,536 links: ways from an output of a component or an input of the root to an input of a component or an output of the root, through the models between. An atomic model has at most 4,096 ports, 4,096 variables, flags and bags together, and 4,096 phases, and a bag holds 1 to 4,096 numbers; a coupled model has at most 4,096 ports and 4,096 parts; a text 16,777,216 bytes.",
         example: Some(Example {
             model: "coupled T { }\nroot T;\n",
             inputs: "",
@@ -203,7 +203,7 @@ const REFUSALS: &[Explanation] = &[
     },
     Explanation {
         code: "E18",
-        words: "Memory ran out. No place is named. Run it where there is more memory, or run a smaller model. A long run keeps its trace until the end.",
+        words: "Memory ran out. This is no refusal: no place is named, and of a trace or a listing a beginning may have been printed. Run it where there is more memory, or run a smaller model. A long run keeps its trace until the end.",
         example: None,
     },
 ];

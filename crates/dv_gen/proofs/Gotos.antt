@@ -1,9 +1,15 @@
--- The gotos of a tree are the instructions Go of its program.
-use Rattle.std.proofs.Common.{◌≡◌, ℕ, ◌+◌, List, [], ◌∷◌, ◌++◌, append-nil, refl, ap, ◌∙◌}
+-- The gotos of a tree are the instructions Go of its program, and those of the text whose names became its places.
+use Rattle.std.proofs.Common.{◌≡◌, ℕ, ◌+◌, List, [], ◌∷◌, ◌++◌, append-nil, map, refl, sym, ap, ◌∙◌}
+use mathlib.Core.List.{map-append}
+use Rattle.dv_syntax.specs.Trees.{Statements as NamedStatements, Done as Ended, Assign, Goto as GoTo, Send, If as IfOnly, IfElse}
+use Rattle.dv_syntax.specs.Trees.{For as Each, Add as AddTo, Drop}
+use Rattle.dv_eval.specs.Scope.{Scope, place_of}
+use Rattle.dv_accepted.specs.Gotos.{gotos_in}
 use Rattle.dv_code.specs.declared.instruction.Instruction.{Instruction}
 use Rattle.dv_code.specs.declared.instruction.Instruction.TheVariants.{Go}
 use Rattle.dv_gen.specs.Resolved.{Expression, Read, Prefix, Infix, And, Or, Statements, Done, Act, Goto, When, If, For, gotos}
 use Rattle.dv_gen.specs.Generator.{past, code_of, past_all, code_of_all, goes, program_of, hold_program_of}
+use Rattle.dv_gen.specs.Resolution.{all_resolved, choice, goto_places, place_or_first, resolved}
 
 goes_append : (is js : List Instruction) → goes (is ++ js) ≡ goes is ++ goes js
 goes_append [] js = refl
@@ -53,3 +59,46 @@ rule_goes body = goes_append (code_of_all 0 body) _ ∙ append-nil (goes (code_o
 
 pub hold_goes : (e : Expression) → goes (hold_program_of e) ≡ []
 hold_goes e = goes_past e 0 _
+
+-- ---- The gotos of a text
+
+-- a choice goes where its blocks go, and then what stands behind it
+choice_gotos : (condition : Expression) (block other rest : Statements)
+    → gotos (choice condition block other rest) ≡ gotos block ++ (gotos other ++ gotos rest)
+choice_gotos condition block Done rest = refl
+choice_gotos condition block (Act a value more) rest = refl
+choice_gotos condition block (Goto phase more) rest = refl
+choice_gotos condition block (When inner then more) rest = refl
+choice_gotos condition block (If inner then otherwise more) rest = refl
+choice_gotos condition block (For s body more) rest = refl
+
+module _ (scope : Scope) where
+  abbrev place_of_phase : ℕ → ℕ
+  place_of_phase name = place_or_first (place_of name scope.phases)
+
+  -- a block before a rest
+  gotos_before : (block rest : List ℕ) (names more : List ℕ) → block ≡ map place_of_phase names → rest ≡ map place_of_phase more
+      → block ++ rest ≡ map place_of_phase (names ++ more)
+  gotos_before block rest names more e f =
+      ap (λ places. places ++ rest) e
+      ∙ ap (λ places. map place_of_phase names ++ places) f
+      ∙ sym (map-append place_of_phase names more)
+
+  -- statements whose names became places go to the places of the phases to which they went
+  pub resolved_gotos : (loops : List ℕ) (body : NamedStatements) → gotos (all_resolved scope loops body) ≡ goto_places scope body
+  resolved_gotos loops Ended = refl
+  resolved_gotos loops (Assign variable e rest) = resolved_gotos loops rest
+  resolved_gotos loops (GoTo place phase rest) =
+      ap (λ places. place_of_phase phase.number ∷ places) (resolved_gotos loops rest)
+  resolved_gotos loops (Send place port e rest) = resolved_gotos loops rest
+  resolved_gotos loops (IfOnly place e block rest) =
+      gotos_before _ _ (gotos_in block) (gotos_in rest) (resolved_gotos loops block) (resolved_gotos loops rest)
+  resolved_gotos loops (IfElse place e block other rest) =
+      choice_gotos (resolved scope loops e) (all_resolved scope loops block) (all_resolved scope loops other)
+      (all_resolved scope loops rest)
+      ∙ gotos_before _ _ (gotos_in block) (gotos_in other ++ gotos_in rest) (resolved_gotos loops block)
+      (gotos_before _ _ (gotos_in other) (gotos_in rest) (resolved_gotos loops other) (resolved_gotos loops rest))
+  resolved_gotos loops (Each place v b block rest) =
+      gotos_before _ _ (gotos_in block) (gotos_in rest) (resolved_gotos (v.number ∷ loops) block) (resolved_gotos loops rest)
+  resolved_gotos loops (AddTo place e b rest) = resolved_gotos loops rest
+  resolved_gotos loops (Drop place e b rest) = resolved_gotos loops rest

@@ -175,7 +175,7 @@ module _ (shape : Shape) (left : List ValueType) (depth : ℕ) (program : List M
       code_agrees condition p [] nest _ h.0 typed.1 deep from at_q (arrives q _ _ nest h.1) (
         (at_q, deep, ([], ap (λ t. t ∷ []) typed.0, omega (arith, y), arrive_then, arrive_else)),
         code_of_all_agrees block (q + 1) nest _ h.2 typed.2 deep at_then at_r arrive_r (
-          (at_r, deep, (omega (arith, z), arrive_s)),
+          (at_r, deep, (omega (arith, z), arrive_s, ap (λ m. m.nest) arrive_else.1)),
           code_of_all_agrees other (r + 1) nest _ h.4 typed.3 deep at_else at_s arrive_s
               (code_of_all_agrees rest s nest after h.5 typed.4 deep at_s to arrive later),
         ),

@@ -14,6 +14,7 @@ use Rattle.dv_bag.specs.declared.value.ValueType.{ValueType}
 use Rattle.dv_bag.specs.declared.value.ValueType.TheVariants as type
 use Rattle.dv_eval.specs.Scope.{Scope, names_of, place_of, scope_of}
 use Rattle.dv_eval.specs.declared.scope.Domain.{Domain}
+use Rattle.dv_accepted.specs.Gotos.{gotos_in}
 use Rattle.dv_eval.specs.declared.scope.Domain.TheVariants as domain
 use Rattle.dv_code.specs.Shape.{Shape, Tables, shape_of}
 use Rattle.dv_code.specs.declared.shape.ProgramSort.{ProgramSort}
@@ -178,6 +179,10 @@ all_resolved scope loops (AddTo place e b rest) =
     Act (action.AddTo (slot_place scope b.number)) (resolved scope loops e) (all_resolved scope loops rest)
 all_resolved scope loops (Drop place e b rest) =
     Act (action.DropFrom (slot_place scope b.number)) (resolved scope loops e) (all_resolved scope loops rest)
+
+-- the places of the phases to which statements go, in the order of the text
+abbrev pub goto_places : Scope → NamedStatements → List ℕ
+goto_places scope body = map (λ name. place_or_first (place_of name scope.phases)) (gotos_in body)
 
 -- the tree of a rule, and of a hold
 abbrev pub rule_tree : AtomicTree → NamedStatements → Statements

@@ -19,7 +19,7 @@ ghost use Rattle.dv_code.specs.Shape.{AreSmall, Fits, Shape};
 ghost use Rattle.dv_code.specs.Valid.{IsValid};
 ghost use Rattle.dv_gen.specs.Generator.{ending, goes, hold_ending, hold_program_of, program_of};
 ghost use Rattle.dv_gen.specs.ModelCode.{HasProgramsWithin, IsCompilableModel};
-ghost use Rattle.dv_gen.specs.Resolution.{hold_shape, hold_tree, rule_shape, rule_tree, tables_of};
+ghost use Rattle.dv_gen.specs.Resolution.{goto_places, hold_shape, hold_tree, rule_shape, rule_tree, tables_of};
 ghost use Rattle.dv_gen.specs.Resolved.{AreTyped, Expression, IsTyped, Statements, gotos, rule_effect, type_of, value_of};
 
 use dv_lex::laws::tokens_are_no_more_than_bytes;
@@ -45,10 +45,12 @@ pub fn generated_programs_do_what_the_tree_means()
         ≡ hold_ending (first_effect shape s) (value_of arrivals [] s e)) }
 {}
 
-/// The phases of a program's instructions `Go` are those of its tree's gotos, in their order, and a
-/// hold's program has none.
+/// The phases of a program's instructions `Go` are those of its tree's gotos, in their order: so those of a rule's
+/// program are the places of the phases to which the rule goes in the text. A hold's program has none.
 pub fn generated_programs_go_where_the_tree_goes()
     ensures rule { (body : Statements) → goes (program_of body) ≡ gotos body }
+    ensures text { (m : AtomicTree) (r : RuleTree) →
+        goes (program_of (rule_tree m r.body)) ≡ goto_places (scope_of m) r.body }
     ensures hold { (e : Expression) → goes (hold_program_of e) ≡ [] }
 {}
 

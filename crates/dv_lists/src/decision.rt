@@ -137,7 +137,7 @@ fn all_agree(
         let Some(ways) = case.ways_from(mark_at(marks, place), *instruction)? else {
             return Ok(false);
         };
-        if !arrive(marks, &ways) {
+        if !arrive(marks, &ways) || !is_beside(marks, case, *instruction) {
             return Ok(false);
         }
     }
@@ -168,6 +168,17 @@ fn arrive(marks: &[Option<Mark>], ways: &[Way]) -> bool {
         }
     }
     true
+}
+
+/// Whether what stands behind a jump lies in the bodies of the jump.
+fn is_beside(marks: &[Option<Mark>], case: Case, instruction: Instruction) -> bool {
+    if !matches!(instruction, Instruction::Jump(_)) {
+        return true;
+    }
+    match (mark_at(marks, case.place), mark_at(marks, case.next)) {
+        (Some(jump), Some(behind)) => jump.nest.as_slice() == behind.nest.as_slice(),
+        _ => false,
+    }
 }
 
 impl<'a> Case<'a> {

@@ -29,7 +29,7 @@ const BLOCK_LIMIT: u32 = 16;
 const LOOP_LIMIT: u32 = 3;
 
 /// An item of an atomic model.
-#[derive(Debug, Drop)]
+#[derive(Drop)]
 pub enum AtomicItem {
     Declares(Declaration),
     Lists(Phases),

@@ -15,7 +15,7 @@ use dv_syntax::{Coupled, End, Link, Name, Part};
 use std::alloc::Global;
 
 /// An item of a coupled model.
-#[derive(Clone, Copy, Debug, PartialEq, Eq)]
+#[derive(Clone, Copy)]
 pub enum CoupledItem {
     Inputs(Name),
     Outputs(Name),

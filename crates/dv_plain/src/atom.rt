@@ -25,7 +25,7 @@ pub struct Atom<'m> {
 }
 
 /// What a rule that may change the state leaves: the state, and whether a `goto` ran.
-#[derive(Debug, Drop)]
+#[derive(Drop)]
 pub struct Change {
     pub state: State,
     pub goes: bool,

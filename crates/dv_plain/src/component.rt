@@ -20,7 +20,7 @@ use dv_time::Time;
 use std::alloc::{AllocError, Global};
 
 /// A component of a run: its state, the tick of its last transition, and what it waits for.
-#[derive(Debug, Drop)]
+#[derive(Drop)]
 pub struct Running {
     pub state: State,
     pub last: u64,

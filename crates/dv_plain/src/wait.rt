@@ -9,7 +9,7 @@ use dv_bag::Fault;
 use dv_time::Time;
 
 /// When the hold of a component runs out. A component that had a fault is quiet for good.
-#[derive(Clone, Copy, Debug, PartialEq, Eq)]
+#[derive(Clone, Copy)]
 pub enum Wait {
     Until(Time),
     Forever,
@@ -17,7 +17,7 @@ pub enum Wait {
 }
 
 /// What becomes of a hold at a transition: it goes on as it was, or one of so many ticks begins. `None` is forever.
-#[derive(Clone, Copy, Debug, PartialEq, Eq)]
+#[derive(Clone, Copy)]
 pub enum Hold {
     Continues,
     Begins(Option<u64>),

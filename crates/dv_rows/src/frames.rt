@@ -52,9 +52,15 @@ pub fn nested<R: Abort + AllocGlobal>(rt: &R, nest: &Nest, times: usize) -> Stri
 }
 
 /// Runs a text with so many of a nest's pieces, and fails the test where something else comes of it than is wanted.
-pub fn same_nested<R: Abort + AllocGlobal>(rt: &R, nest: &Nest, times: usize, wanted: &str) {
+fn same_nested<R: Abort + AllocGlobal>(rt: &R, nest: &Nest, times: usize, wanted: &str) {
     let text = nested(rt, nest, times);
     same_run(rt, text.as_str(), nest.frame.horizon, 20, wanted);
+}
+
+/// Fails the test unless so many of a nest's pieces are taken, and so many stand too deep in one another.
+pub fn expect_depth<R: Abort + AllocGlobal>(rt: &R, nest: &Nest, taken: usize, refused: usize) {
+    same_nested(rt, nest, taken, TAKEN);
+    same_nested(rt, nest, refused, "E5 line 1");
 }
 
 /// Declarations of numbered names, in a frame.
@@ -82,13 +88,14 @@ pub fn push_numbered(
 }
 
 /// Runs a text with so many declarations, and fails the test where something else comes of it than is wanted.
-pub fn same_numbered<R: Abort + AllocGlobal>(
-    rt: &R,
-    numbered: &Numbered,
-    count: u32,
-    wanted: &str,
-) {
+fn same_numbered<R: Abort + AllocGlobal>(rt: &R, numbered: &Numbered, count: u32, wanted: &str) {
     let mut text = String::new(rt.alloc());
     push_numbered(&mut text, numbered.left, numbered.right, count).expect(rt, "memory");
     same_in(rt, &numbered.frame, text.as_str(), wanted);
+}
+
+/// Fails the test unless so many declarations are taken, and so many are too many.
+pub fn expect_most<R: Abort + AllocGlobal>(rt: &R, numbered: &Numbered, taken: u32, refused: u32) {
+    same_numbered(rt, numbered, taken, TAKEN);
+    same_numbered(rt, numbered, refused, "E17 line 1");
 }

@@ -11,6 +11,8 @@ mod frames;
 #[cfg(test)]
 mod inputs;
 #[cfg(test)]
+mod instants;
+#[cfg(test)]
 mod limits;
 #[cfg(test)]
 mod links;
@@ -21,6 +23,8 @@ mod models;
 #[cfg(test)]
 mod nested;
 #[cfg(test)]
+mod operands;
+#[cfg(test)]
 mod order;
 #[cfg(test)]
 mod ports;
@@ -28,5 +32,7 @@ mod ports;
 mod rows;
 #[cfg(test)]
 mod runs;
+#[cfg(test)]
+mod twice;
 #[cfg(test)]
 mod writers;

@@ -49,6 +49,19 @@ fn ways_through_doublings(rt: HostRuntime) {
     same_root(&rt, 15, "out o; part d: L15; link d.u -> self.o;", TAKEN);
 }
 
+fn same_with_one_more<R: Abort + AllocGlobal>(rt: &R, link: &str) {
+    let mut root = String::from_str(rt.alloc(), TWO_FED).expect(rt, "memory");
+    root.push_str(link).expect(rt, "memory");
+    same_root(rt, 15, root.as_str(), "E17 line 18");
+}
+
+#[test]
+fn one_link_above_the_limit(rt: HostRuntime) {
+    same_with_one_more(&rt, "part s: S; link s.y -> c.x;");
+    same_with_one_more(&rt, "in i; link self.i -> c.x;");
+    same_with_one_more(&rt, "out o; part s: S; link s.y -> self.o;");
+}
+
 #[test]
 fn the_limit_on_links_comes_last(rt: HostRuntime) {
     // What else is refused in the text is answered before it.

@@ -1,8 +1,7 @@
 //! Listings, worked out by hand from what the code of a rule and of a hold is.
 
 use crate::models::CLOCK;
-use crate::runs::same;
-use dv_job::{JobError, list_code};
+use dv_job::list_code;
 use std::alloc::{AllocError, Global};
 use std::process::Abort;
 
@@ -240,14 +239,6 @@ fn a_refused_text_has_no_listing(rt: HostRuntime) {
         "coupled Top { part a: A; }\natomic A { phases z; start z; hold z: 1; output y { } }\nroot Top;",
         "E7 line 2",
     );
-}
-
-#[test]
-fn a_text_of_no_component_is_refused(rt: HostRuntime) {
-    let outcome = list_code(
-        rt.alloc(),
-        b"coupled Top { }\nroot Top;\n",
-        &mut Vec::new(rt.alloc()),
-    );
-    same!(rt; matches!(outcome, Err(JobError::Text(_))), true);
+    // It has no component.
+    same_listing(&rt, "coupled Top { }\nroot Top;\n", "E17 line 2");
 }

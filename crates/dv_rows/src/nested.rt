@@ -1,6 +1,6 @@
 //! Models in models: how values travel, what contains itself, and the limits on the whole tree.
 
-use crate::frames::{Frame, TAKEN, rows};
+use crate::frames::{Frame, TAKEN, push_numbered, rows, same_in};
 use crate::models::{CLOCKS_AND_CELL, NODES, TWO_WAYS};
 use crate::runs::{same_run, same_with_inputs};
 use std::alloc::{AllocError, Global};
@@ -182,4 +182,24 @@ fn instances_of_a_tree(rt: HostRuntime) {
     same_run(&rt, most.as_str(), 0, 20, TAKEN);
     let above = crowd(rt.alloc(), 4_094).expect(&rt, "memory");
     same_run(&rt, above.as_str(), 0, 20, "E17 line 2");
+}
+
+/// A root with a coupled part of two components, and these.
+const COMPONENTS: Frame = Frame {
+    before: "atomic A { phases z; start z; hold z: 1; } coupled C { part a: A; part b: A; } coupled Top { part c: C;",
+    after: " }\nroot Top;",
+    horizon: 0,
+};
+
+fn same_components<R: Abort + AllocGlobal>(rt: &R, count: u32, wanted: &str) {
+    let mut text = String::new(rt.alloc());
+    push_numbered(&mut text, " part p", ": A;", count).expect(rt, "memory");
+    same_in(rt, &COMPONENTS, text.as_str(), wanted);
+}
+
+#[test]
+fn components_of_a_tree(rt: HostRuntime) {
+    // With the two of the coupled part these are 4,096 and 4,097; the root has a part less.
+    same_components(&rt, 4_094, TAKEN);
+    same_components(&rt, 4_095, "E17 line 2");
 }

@@ -185,6 +185,11 @@ fn neighbours_in_two_models(rt: HostRuntime) {
                 "coupled Top { } coupled Top { part b: A; }\nroot Top;",
                 "E6 line 1",
             ),
+            // A model of the same name, in which all is missing.
+            (
+                "atomic\nA { } coupled Top { part a: A; } root Top;",
+                "E6 line 2",
+            ),
         ],
     );
 }

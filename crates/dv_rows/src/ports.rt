@@ -50,7 +50,34 @@ fn external_rules_know_the_time(rt: HostRuntime) {
             ("internal z { v := elapsed; }", "E9 line 2"),
             ("output z { send y elapsed; }", "E9 line 2"),
             ("external z { if elapsed { } }", "E8 line 2"),
+            ("internal z { if elapsed and v = 0 { } }", "E9 line 2"),
             ("external z { v := elapsed(1); }", "E4 line 2"),
+        ],
+    );
+}
+
+/// Rows of the hold of the start phase of such a model.
+const HOLDS: Frame = Frame {
+    before: "atomic A { in x; out y; bag b 3; var v: 0..9 = 0; phases z; start z; hold z:\n",
+    after: "; } coupled Top { part a: A; } root Top;",
+    horizon: 0,
+};
+
+#[test]
+fn holds_see_neither_what_comes_nor_the_time(rt: HostRuntime) {
+    rows(
+        &rt,
+        &HOLDS,
+        &[
+            ("size(b) + v + 1", TAKEN),
+            ("size(x)", "E9 line 2"),
+            ("v + sum(\nx)", "E9 line 3"),
+            ("times(v,\nx)", "E9 line 3"),
+            ("elapsed", "E9 line 2"),
+            ("v +\nelapsed", "E9 line 3"),
+            ("times(\nelapsed, b)", "E9 line 3"),
+            ("v +\nx", "E8 line 3"),
+            ("size(\ny)", "E8 line 3"),
         ],
     );
 }
@@ -111,6 +138,41 @@ fn links_lead_on(rt: HostRuntime) {
             ("in o;", "E6 line 3"),
             ("in i;", "E6 line 3"),
             ("in a;", TAKEN),
+        ],
+    );
+}
+
+#[test]
+fn nothing_else_is_asked_of_a_link_with_an_unknown_end(rt: HostRuntime) {
+    rows(
+        &rt,
+        &LINKS,
+        &[
+            ("link a.q -> a.x;", "E7 line 3"),
+            ("link a.y -> a.q;", "E7 line 3"),
+            ("link\na.q -> a.x;", "E7 line 4"),
+            ("link self.q -> self.o;", "E7 line 3"),
+            ("link self.i -> self.q;", "E7 line 3"),
+            ("link a.q -> b.x;\nlink a.q -> b.x;", "E7 line 3"),
+            ("link c.q -> c.x;\npart c: Nosuch;", "E7 line 4"),
+            (
+                "link c.q -> b.x;\nlink c.q -> b.x;\npart c: Nosuch;",
+                "E7 line 5",
+            ),
+        ],
+    );
+}
+
+#[test]
+fn of_two_ports_of_a_coupled_model_the_first_counts(rt: HostRuntime) {
+    rows(
+        &rt,
+        &LINKS,
+        &[
+            ("link self.q -> a.x; in q;\nout q;", "E6 line 4"),
+            ("link self.q -> a.x; out q;\nin q;", "E12 line 3"),
+            ("link a.y -> self.q; out q;\nin q;", "E6 line 4"),
+            ("link a.y -> self.q; in q;\nout q;", "E12 line 3"),
         ],
     );
 }

@@ -53,6 +53,10 @@ impl Time {
     }
 
     /// When a hold of so many ticks that begins now runs out.
+    ///
+    /// # Errors
+    ///
+    /// `Microsteps` for a hold of 0 at the last microstep of the tick.
     pub fn after(self, hold: u64, limit: u32) -> Result<Time, Microsteps>
         requires tick { self.tick ≤ GREATEST_TICK + 1 }
         requires hold { hold < 2 ^ 63 }

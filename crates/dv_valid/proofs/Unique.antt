@@ -68,7 +68,11 @@ module _ (shape : Shape) (code : List Instruction) (marks these : ℕ → Meant)
     agrees_too left place types nest (Combine o) h = (h.0, h.1, arrives_too _ _ _ h.2)
     agrees_too left place types nest (Perform a) h = (h.0, h.1, h.2, arrives_too _ _ _ h.3)
     agrees_too left place types nest (Go phase) h = (h.0, arrives_too _ _ _ h.1)
-    agrees_too left place types nest (Jump to) h = (h.0, arrives_too _ _ _ h.1)
+    agrees_too left place types nest (Jump to) h = (
+      h.0,
+      arrives_too _ _ _ h.1,
+      ap (λ m. m.nest) (same (place + 1) (let before = h.0 in let within = h.1.0 in omega (arith, before, within))) ∙ h.2,
+    )
     agrees_too left place types nest (JumpFalse to) h = (h.0, h.1, h.2, arrives_too _ _ _ h.3, arrives_too _ _ _ h.4)
     agrees_too left place types nest (FalseKeep to) h = (h.0, h.1, h.2, arrives_too _ _ _ h.3, arrives_too _ _ _ h.4)
     agrees_too left place types nest (TrueKeep to) h = (h.0, h.1, h.2, arrives_too _ _ _ h.3, arrives_too _ _ _ h.4)

@@ -4,8 +4,9 @@ ghost use Rattle.std.specs.Prelude.{◌≡◌, ◌↔◌, ◌+◌, ◌<◌, [], 
 ghost use Rattle.dv_code.specs.Shape.{Shape, left_by};
 ghost use Rattle.dv_code.specs.Valid.{IsFine, mark};
 ghost use Rattle.dv_code.specs.declared.TheConstants.{DEEPEST_LOOPS};
-ghost use Rattle.dv_code.specs.declared.instruction.Instruction.TheVariants.{Push, Apply, Combine, Perform, JumpFalse, FalseKeep};
-ghost use Rattle.dv_code.specs.declared.instruction.Instruction.TheVariants.{TrueKeep, Loop, Next, End};
+ghost use Rattle.dv_code.specs.declared.instruction.Instruction.TheVariants.{Push, Apply, Combine, Perform, Jump, JumpFalse};
+ghost use Rattle.dv_code.specs.declared.instruction.Instruction.TheVariants.{FalseKeep, TrueKeep, Loop, Next, End};
+ghost use Rattle.dv_valid.specs.Nests.{bodies};
 ghost use Rattle.dv_valid.specs.Stacks.{types_at};
 ghost use Rattle.dv_valid.specs.Marks.{AgreesAt, AreNumbered, ArrivesAt, Fit, IsNumbered, IsPlaced, mark_of, meaning, with_top};
 
@@ -59,7 +60,7 @@ impl Marks {
             Instruction::Combine(binary) => self.combine_agrees(place, here, binary),
             Instruction::Perform(action) => self.perform_agrees(shape, place, here, action),
             Instruction::Go(phase) => knows_phase(shape, phase) && self.arrives(place + 1, here),
-            Instruction::Jump(to) => place < to as usize && self.arrives(to as usize, here),
+            Instruction::Jump(to) => self.jump_agrees(place, here, to),
             Instruction::JumpFalse(to) => self.jump_false_agrees(place, here, to),
             Instruction::FalseKeep(to) => self.keep_agrees(place, here, to),
             Instruction::TrueKeep(to) => self.keep_agrees(place, here, to),
@@ -116,6 +117,25 @@ impl Marks {
             return false;
         };
         knows_action(shape, action) && self.arrives(place + 1, below)
+    }
+
+    /// Whether a jump leads forward, and what stands behind it lies in the same bodies.
+    fn jump_agrees(&self, place: usize, here: Mark, to: u32) -> bool
+        requires { IsPlaced self.now place here }
+        ensures { (shape : Shape) → IsTrue result
+            ↔ AgreesAt shape self.now place (meaning self.now.stacks here) (Jump to) }
+    {
+        place < to as usize
+            && self.arrives(to as usize, here)
+            && self.has_nest(place + 1, here.nest)
+    }
+
+    /// Whether a place of the program lies in these bodies.
+    fn has_nest(&self, place: usize, nest: Nest) -> bool
+        requires { place < length self.now.by_place.items }
+        ensures { IsTrue result ↔ ((mark_of self.now place).nest ≡ bodies nest) }
+    {
+        self.by_place[place].nest.is_same(nest)
     }
 
     /// Whether a jump takes a truth value from the top, and leads forward.

@@ -6,12 +6,14 @@ mod report;
 #[cfg(test)]
 mod tests;
 
-use dv_command::{Check, Code, Request, RequestError, Run, request_of};
+use dv_command::{ModelFile, Request, RequestError, Run, request_of};
 use dv_job::{JobError, Options, check_bytes, list_code, run_plain, status};
-use report::{explained, explanation_text, line};
-use std::io::Write;
+use report::{explained, explanation_text};
+use std::alloc::AllocError;
+use std::fmt::Display;
+use std::io::{ErrorKind, Write};
 use std::process::ExitCode;
-use std::rt::Files;
+use std::rt::{Env, Files};
 use std::{fs, io};
 
 /// The microstep limit where none is asked for.
@@ -29,55 +31,94 @@ const REFUSED: u8 = 1;
 /// Words that are no command.
 const USAGE: u8 = 2;
 
-fn main(rt: HostRuntime) -> io::Result<ExitCode> {
-    let words: Vec<String> = std::env::args(&rt)?.collect(rt.alloc())?;
-    match request_of(rt.alloc(), words.as_slice()) {
-        Ok(Request::Check(check)) => Ok(ExitCode::from(check_model(&rt, &check)?)),
-        Ok(Request::Run(run)) => Ok(ExitCode::from(run_model(&rt, &run)?)),
-        Ok(Request::Code(code)) => Ok(ExitCode::from(list_model(&rt, &code)?)),
-        Ok(Request::Explain(explanation)) => {
-            print!(rt; "{}", explanation_text(rt.alloc(), explanation)?)?;
-            Ok(ExitCode::from(ACCEPTED))
-        }
-        Err(RequestError::Usage(usage)) => {
-            eprint!(rt; "{}", usage.text)?;
-            Ok(ExitCode::from(USAGE))
-        }
-        Err(RequestError::Memory) => {
-            eprintln!(rt; "pdevs: {}", JobError::Memory)?;
-            Ok(ExitCode::from(REFUSED))
+fn main(rt: HostRuntime) -> ExitCode {
+    match answer(&rt) {
+        Ok(status) => ExitCode::from(status),
+        Err(error) => {
+            tell_line(&rt, &failure(&error));
+            ExitCode::from(REFUSED)
         }
     }
 }
 
-/// The bytes of a file. Where it cannot be read, that is told.
+/// Does what the words ask for, and answers the status. An error is of the system: a write that failed, or no memory.
+fn answer<R: AllocGlobal + Env + Files + Print + Eprint>(rt: &R) -> io::Result<u8> {
+    let words = match std::env::args(rt) {
+        Ok(words) => words.collect::<Vec<String>>(rt.alloc())?,
+        Err(error) if matches!(error.kind(), ErrorKind::InvalidData) => {
+            tell_line(rt, "the words are not UTF-8");
+            return Ok(USAGE);
+        }
+        Err(error) => return Err(error),
+    };
+    match request_of(rt.alloc(), words.as_slice()) {
+        Ok(Request::Check(check)) => check_model(rt, &check),
+        Ok(Request::Run(run)) => run_model(rt, &run),
+        Ok(Request::Code(code)) => list_model(rt, &code),
+        Ok(Request::Explain(explanation)) => {
+            print!(rt; "{}", explanation_text(rt.alloc(), explanation)?)?;
+            Ok(ACCEPTED)
+        }
+        Err(RequestError::Usage(usage)) => {
+            tell_text(rt, usage.text.as_str());
+            Ok(USAGE)
+        }
+        Err(RequestError::Memory) => Err(io::Error::from(AllocError)),
+    }
+}
+
+/// What is told where the system failed.
+fn failure(error: &io::Error) -> JobError {
+    match error.kind() {
+        ErrorKind::OutOfMemory => JobError::Memory,
+        _ => JobError::Write,
+    }
+}
+
+/// Tells a line on standard error. Where it cannot be written, the status alone tells.
+fn tell_line<R: Eprint>(rt: &R, line: impl Display + Drop) {
+    let _ = eprintln!(rt; "pdevs: {line}");
+}
+
+/// Tells a text on standard error, as it stands.
+fn tell_text<R: Eprint>(rt: &R, text: &str) {
+    let _ = eprint!(rt; "{text}");
+}
+
+/// The bytes of a file. Where it cannot be read, that is told; an error is no memory for them.
 fn bytes_of<R: AllocGlobal + Files + Eprint>(rt: &R, name: &str) -> io::Result<Option<Vec<u8>>> {
     match fs::read(rt, name) {
         Ok(bytes) => Ok(Some(bytes)),
+        Err(error) if matches!(error.kind(), ErrorKind::OutOfMemory) => Err(error),
         Err(_) => {
-            eprintln!(rt; "pdevs: cannot read {name}")?;
+            tell_line(rt, format_args!("cannot read {name}"));
             Ok(None)
         }
     }
 }
 
-/// Tells an error on standard error: its line, and where it is to be explained, what it means.
+/// Tells an error: its line, and where it is to be explained and memory suffices, what it means.
 fn tell<R: AllocGlobal + Eprint>(
     rt: &R,
     model: &[u8],
     inputs: &[u8],
     error: &JobError,
     is_explained: bool,
-) -> io::Result<()> {
-    eprintln!(rt; "{}", line(rt.alloc(), error)?)?;
-    if is_explained {
-        eprint!(rt; "{}", explained(rt.alloc(), model, inputs, error)?)?;
+) {
+    tell_line(rt, error);
+    if !is_explained {
+        return;
     }
-    Ok(())
+    if let Ok(text) = explained(rt.alloc(), model, inputs, error) {
+        tell_text(rt, text.as_str());
+    }
 }
 
 /// Checks what was asked for, and answers the status.
-fn check_model<R: AllocGlobal + Files + Print + Eprint>(rt: &R, check: &Check) -> io::Result<u8> {
+fn check_model<R: AllocGlobal + Files + Print + Eprint>(
+    rt: &R,
+    check: &ModelFile,
+) -> io::Result<u8> {
     let Some(model) = bytes_of(rt, check.model.as_str())? else {
         return Ok(REFUSED);
     };
@@ -87,14 +128,14 @@ fn check_model<R: AllocGlobal + Files + Print + Eprint>(rt: &R, check: &Check) -
             Ok(ACCEPTED)
         }
         Err(error) => {
-            tell(rt, &model, &[], &error, check.explained)?;
+            tell(rt, &model, &[], &error, check.explained);
             Ok(REFUSED)
         }
     }
 }
 
 /// Prints the programs that were asked for, and answers the status.
-fn list_model<R: AllocGlobal + Files + Print + Eprint>(rt: &R, code: &Code) -> io::Result<u8> {
+fn list_model<R: AllocGlobal + Files + Print + Eprint>(rt: &R, code: &ModelFile) -> io::Result<u8> {
     let Some(model) = bytes_of(rt, code.model.as_str())? else {
         return Ok(REFUSED);
     };
@@ -106,7 +147,7 @@ fn list_model<R: AllocGlobal + Files + Print + Eprint>(rt: &R, code: &Code) -> i
     match result {
         Ok(()) => Ok(ACCEPTED),
         Err(error) => {
-            tell(rt, &model, &[], &error, code.explained)?;
+            tell(rt, &model, &[], &error, code.explained);
             Ok(REFUSED)
         }
     }
@@ -138,7 +179,7 @@ fn run_model<R: AllocGlobal + Files + Print + Eprint>(rt: &R, run: &Run) -> io::
         result = Err(JobError::Write);
     }
     if let Err(error) = &result {
-        tell(rt, &model, &inputs, error, run.explained)?;
+        tell(rt, &model, &inputs, error, run.explained);
     }
     Ok(status(&result))
 }

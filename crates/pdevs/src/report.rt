@@ -4,11 +4,6 @@ use dv_explain::{Example, Explanation, excerpt, excerpt_of_line, explanation_of}
 use dv_job::JobError;
 use std::alloc::{AllocError, Global};
 
-/// The line on standard error that tells an error.
-pub fn line(alloc: Global, error: &JobError) -> Result<String, AllocError> {
-    format!(in alloc; "pdevs: {error}")
-}
-
 /// What an error means, with the line of the model or of the inputs at which it was found. Nothing where neither is at
 /// fault.
 pub fn explained(

@@ -1,6 +1,6 @@
 //! What the words of a command line ask for, and what is reported of how a run ended.
 
-use crate::report::{explained, explanation_text, line};
+use crate::report::{explained, explanation_text};
 use dv_command::{Request, RequestError, Run, request_of};
 use dv_explain::{Example, Explanation};
 use dv_inputs::{InputRefusal, InputRefusalNumber};
@@ -204,9 +204,9 @@ fn other_words_are_usage(rt: HostRuntime) {
     );
 }
 
-// The line that tells an error.
+// The line that tells an error, behind the program's name.
 fn same_line<R: Abort + AllocGlobal>(rt: &R, error: &JobError, wanted: &str) {
-    let got = line(rt.alloc(), error).expect(rt, "memory");
+    let got = error.to_string(rt.alloc()).expect(rt, "memory");
     expect_same(rt, "the line of an error", got.as_str(), wanted);
 }
 
@@ -215,8 +215,8 @@ fn endings_have_statuses_and_lines(rt: HostRuntime) {
     expect_same(&rt, "whole", status(&Ok(JobEnded::Whole)), 0);
     expect_same(&rt, "faulted", status(&Ok(JobEnded::Faulted)), 3);
     expect_same(&rt, "no write", status(&Err(JobError::Write)), 1);
-    same_line(&rt, &JobError::Write, "pdevs: write");
-    same_line(&rt, &JobError::Memory, "pdevs: E18");
+    same_line(&rt, &JobError::Write, "write");
+    same_line(&rt, &JobError::Memory, "E18");
 }
 
 #[test]
@@ -227,7 +227,7 @@ fn a_refusal_is_reported_with_its_line(rt: HostRuntime) {
     expect_same(&rt, "what was written", written.as_slice(), [].as_slice());
     expect_same(&rt, "a refusal", status(&outcome), 1);
     match &outcome {
-        Err(error) => same_line(&rt, error, "pdevs: E2 line 2"),
+        Err(error) => same_line(&rt, error, "E2 line 2"),
         Ok(_) => panic!(rt; "the text is taken"),
     }
 }
@@ -262,7 +262,7 @@ fn a_refusal_of_inputs_is_explained(rt: HostRuntime) {
         line: 2,
     };
     let error = JobError::Inputs(refusal);
-    same_line(&rt, &error, "pdevs: I2 line 2");
+    same_line(&rt, &error, "I2 line 2");
     let got = explained(rt.alloc(), b"", b"5 x 1\n6 z 1\n", &error).expect(&rt, "memory");
     let wanted = "2 | 6 z 1\n  | ^\nThe root has no input port of this name. ";
     expect_same(&rt, "inputs", got.as_str().starts_with(wanted), true);

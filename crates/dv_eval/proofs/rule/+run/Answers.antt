@@ -4,10 +4,10 @@ use Rattle.std.proofs.lemmas.Result.{err_from_is_err_and}
 use Rattle.dv_syntax.specs.Trees.{Done, For, If, IfElse, expression_of, statement_before, statements_of}
 use Rattle.dv_bag.specs.Bag.{Counts, values_of}
 use Rattle.dv_bag.specs.Outcome.{Fails, Gives}
-use Rattle.dv_eval.specs.Copies.{repeated}
+use Rattle.dv_eval.specs.Steps.{repeated}
 use Rattle.dv_eval.specs.Contexts.{context_of}
-use Rattle.dv_eval.specs.Meaning.{addition, bag_of_name, in_loop, moment_in, repetition, run}
-use Rattle.dv_eval.proofs.Rules.{run-drop_ok, run-drop_err, run-If, run-IfElse, run-For, run-Assign, run-Add, repeated_fails}
+use Rattle.dv_eval.specs.Meaning.{bag_of_name, in_loop, moment_in, repetition, run}
+use Rattle.dv_eval.proofs.Rules.{run-drop_ok, run-drop_err, run-If, run-IfElse, run-For, run-Assign, run-Add, run-Send, repeated_fails}
 use Rattle.dv_eval.proofs.Rules.{repeated_next, repetition_fails, repetition_next}
 use Rattle.dv_eval.proofs.rule.+run.Goals as goal
 
@@ -134,19 +134,20 @@ run_statement-returns-in-Some t c =
     ∙ sym (run-For scope context c.args.statement.now place c.args.effect v b block tree) in
     subst (Gives c.run_loop.result) whole c.run_loop.ensures
 
-pub run_statement-returns-in_ok-value-in-Add : goal.run_statement-returns-in_ok-value-in-Add
-run_statement-returns-in_ok-value-in-Add t c =
-    let b = c.in-Add.bag in
-    let value = c.in_ok-value-in-Add in
-    let number = to_z-of_z w64 c.number_of.result (search rules) ∙ c.number_of.ensures in
-    let added = ap (λ (n : ℤ). addition c.args.scope.now b.number n c.args.effect) number in
-    let whole = run-Add c.args.scope.now (context_of c.args.context.now) c.args.statement.now c.in-Add.place c.args.effect c.in-Add.value b
-    value.value c.in-Add.is value.ensures in
-    subst (Gives c.add.result) (added ∙ sym whole) c.add.ensures
+pub run_statement-returns-in-Add : goal.run_statement-returns-in-Add
+run_statement-returns-in-Add t c =
+    let whole = run-Add c.args.scope.now (context_of c.args.context.now) c.args.statement.now c.in-Add.place c.args.effect c.in-Add.value
+    c.in-Add.bag c.in-Add.is in
+    subst (Gives c.run_add.result) (sym whole) c.run_add.ensures
 
-pub run_statement-returns-in_ok-value-in-Assign : goal.run_statement-returns-in_ok-value-in-Assign
-run_statement-returns-in_ok-value-in-Assign t c =
-    let value = c.in_ok-value-in-Assign in
+pub run_statement-returns-in-Assign : goal.run_statement-returns-in-Assign
+run_statement-returns-in-Assign t c =
     let whole = run-Assign c.args.scope.now (context_of c.args.context.now) c.args.statement.now c.args.effect c.in-Assign.variable
-    c.in-Assign.value value.value c.in-Assign.is value.ensures in
-    subst (Gives c.assign.result) (sym whole) c.assign.ensures
+    c.in-Assign.value c.in-Assign.is in
+    subst (Gives c.run_assign.result) (sym whole) c.run_assign.ensures
+
+pub run_statement-returns-in-Send : goal.run_statement-returns-in-Send
+run_statement-returns-in-Send t c =
+    let whole = run-Send c.args.scope.now (context_of c.args.context.now) c.args.statement.now c.in-Send.place c.args.effect c.in-Send.port
+    c.in-Send.value c.in-Send.is in
+    subst (Gives c.run_send.result) (sym whole) c.run_send.ensures

@@ -1,7 +1,7 @@
 use Rattle.std.proofs.Common.{◌≡◌, ◌+◌, ◌-◌, ◌*◌, ℤ, drop}
 use Rattle.dv_syntax.specs.Trees.{statements_of}
 use Rattle.dv_bag.specs.Bag.{values_of}
-use Rattle.dv_eval.specs.Copies.{repeated}
+use Rattle.dv_eval.specs.Steps.{repeated}
 use Rattle.dv_eval.specs.Contexts.{context_of}
 use Rattle.dv_eval.specs.Meaning.{in_loop, repetition, run}
 use Rattle.dv_eval.proofs.rule.+run.Given as goal

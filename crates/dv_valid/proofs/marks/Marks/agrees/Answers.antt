@@ -3,6 +3,9 @@ use Rattle.dv_valid.proofs.marks.Marks.agrees.Goals as goal
 pub returns-in-Combine : goal.returns-in-Combine
 returns-in-Combine c = rw c.in-Combine.is (c.combine_agrees.ensures c.args.shape.now)
 
+pub returns-in-Jump : goal.returns-in-Jump
+returns-in-Jump c = rw c.in-Jump.is (c.jump_agrees.ensures c.args.shape.now)
+
 pub returns-in-JumpFalse : goal.returns-in-JumpFalse
 returns-in-JumpFalse c = rw c.in-JumpFalse.is (c.jump_false_agrees.ensures c.args.shape.now)
 
