@@ -335,6 +335,21 @@ impl Bags {
         bag.insert(value)
     }
 
+    /// So many more copies of a value at a port. No copies change nothing.
+    ///
+    /// # Errors
+    ///
+    /// No memory for a value that the bag lacks. All bags are as before.
+    pub fn insert_copies(&mut self, port: usize, value: i64, copies: u64) -> Result<(), AllocError>
+        requires { port < length self.old }
+        ensures ok { OnOk result
+            (self.new ≡ slice_set self.old port (with_copies value copies (bag_at self.old port))) }
+        ensures err { OnErr result (self.new ≡ self.old) }
+    {
+        let bag = &mut self.bags[port];
+        bag.insert_copies(value, copies)
+    }
+
     /// The values of a bag at a port, beside those that are there.
     ///
     /// # Errors

@@ -1,13 +1,14 @@
 //! Parts of a trace.
 
 ghost use Rattle.std.specs.Iterator.Adapters.{IterYieldsInOrder};
-ghost use Rattle.std.specs.Prelude.{◌≡◌, ◌<◌, ◌^◌, [], ◌∷◌, ◌++◌, length, OnOk, OnErr};
+ghost use Rattle.std.specs.Prelude.{◌≡◌, ◌<◌, ◌^◌, [], ◌∷◌, ◌++◌, length, take, OnOk, OnErr};
 ghost use Rattle.std.specs.Slice.Iter.{iter_rest};
-ghost use Rattle.dv_bag.specs.Part.{nothing};
+ghost use Rattle.dv_bag.specs.Part.{before, joined, nothing, since};
 ghost use Rattle.dv_bag.specs.declared.entry.Entry.{Entry};
 ghost use Rattle.dv_bag.specs.declared.entry.Outer.{Outer};
 
 use crate::entry::{Entry, Outer};
+use dv_time::Time;
 use std::alloc::{AllocError, Global};
 use std::marker::Model;
 use std::slice::Iter;
@@ -62,6 +63,93 @@ impl Part {
         ensures err { OnErr result (self.new ≡ self.old) }
     {
         Ok(self.outer.push(outer)?)
+    }
+
+    /// A part of these entries and lines.
+    pub fn from_lists(entries: Vec<Entry>, outer: Vec<Outer>) -> Self
+        ensures { result ≡ record { entries = entries.items; outer = outer.items } }
+    {
+        Part { entries, outer }
+    }
+
+    /// The entries, and the lines of what was sent outside.
+    pub fn into_lists(self) -> (Vec<Entry>, Vec<Outer>)
+        ensures entries { result.0.items ≡ self.entries }
+        ensures outer { result.1.items ≡ self.outer }
+    {
+        (self.entries, self.outer)
+    }
+
+    /// How many entries there are.
+    pub fn entry_count(&self) -> usize
+        ensures { result ≡ length self.now.entries }
+    {
+        self.entries.len()
+    }
+
+    /// How many lines were sent outside.
+    pub fn outer_count(&self) -> usize
+        ensures { result ≡ length self.now.outer }
+    {
+        self.outer.len()
+    }
+
+    /// All of another part, after what is there.
+    ///
+    /// # Errors
+    ///
+    /// No memory for it. The part is as before.
+    pub fn append(&mut self, mut more: Part) -> Result<(), AllocError>
+        ensures ok { OnOk result (self.new ≡ joined self.old more) }
+        ensures err { OnErr result (self.new ≡ self.old) }
+    {
+        self.entries.reserve(more.entries.len())?;
+        self.outer.append(&mut more.outer)?;
+        if self.entries.append(&mut more.entries).is_err() {
+            unreachable!("room was made");
+        }
+        Ok(())
+    }
+
+    /// So many entries and lines stay, the first ones; where there are not as many, all do.
+    pub fn truncate(&mut self, entries: usize, outer: usize)
+        ensures entries { self.new.entries ≡ take entries self.old.entries }
+        ensures outer { self.new.outer ≡ take outer self.old.outer }
+    {
+        self.entries.truncate(entries);
+        self.outer.truncate(outer);
+    }
+
+    /// What is before a time stays.
+    pub fn keep_before(&mut self, time: Time)
+        ensures { self.new ≡ before time self.old }
+    {
+        self.entries.retain(|entry| entry.time.is_before(time));
+        self.outer.retain(|line| line.time.is_before(time));
+    }
+
+    /// What is before a time goes, and the rest stays.
+    pub fn keep_since(&mut self, time: Time)
+        ensures { self.new ≡ since time self.old }
+    {
+        self.entries.retain(|entry| !entry.time.is_before(time));
+        self.outer.retain(|line| !line.time.is_before(time));
+    }
+
+    /// What is before a time. The rest is gone.
+    pub fn before(mut self, time: Time) -> Self
+        ensures { result ≡ before time self }
+    {
+        self.keep_before(time);
+        self
+    }
+
+    /// What is not before a time. The rest is gone.
+    pub fn since(mut self, time: Time) -> Self
+        ensures { result ≡ since time self }
+    {
+        self.keep_since(time);
+        self
     }
 
     /// The entries, in the order in which they were pushed: a run pushes them by time and component.

@@ -5,7 +5,7 @@ ghost use Rattle.std.specs.Prelude.{◌≡◌, ◌<◌, ◌≤◌, ◌==◌, ◌
 ghost use Rattle.std.specs.List.{AllWithin};
 ghost use Rattle.dv_bag.specs.Bag.{bag_at, count_of, size_of_all, with_copies};
 ghost use Rattle.dv_bag.specs.Same.{same_bags, same_bags-decides};
-ghost use Rattle.dv_bag.specs.Sent.{GoAsOften, HasCopiesAt, IsPlaceOf, RiseFrom, sent_at};
+ghost use Rattle.dv_bag.specs.Sent.{AreWithin, GoAsOften, HasCopiesAt, IsPlaceOf, RiseFrom, by_port, sent_at};
 
 use crate::bag::Bag;
 use smallvec::SmallVec;
@@ -13,12 +13,12 @@ use std::alloc::{AllocError, Global};
 use std::default::MadeWith;
 use std::marker::Model;
 
-// Copies of a value that go to a port.
+/// Copies of a value that go to a port.
 #[derive(Clone, Copy, Debug)]
-struct Sending {
-    port: usize,
-    value: i64,
-    copies: u64,
+pub struct Sending {
+    pub port: usize,
+    pub value: i64,
+    pub copies: u64,
 }
 
 impl Sending {
@@ -94,6 +94,16 @@ impl Sent {
             total = total.saturating_add(sending.copies);
         }
         total
+    }
+
+    /// What was sent, as it lies: by port, and there is at least one copy of each. Together they are all that was sent.
+    /// That a port has a value once only, and its values in their order, the type does not keep.
+    pub fn as_slice(&self) -> &[Sending]
+        ensures all { by_port (length self.now) result.now ≡ self.now }
+        ensures within { AreWithin (length self.now) result.now }
+        ensures order { RiseFrom 0 result.now }
+    {
+        self.sendings.as_slice()
     }
 
     /// One more copy of a value at a port.

@@ -5,3 +5,4 @@ pub mod Gotos
 pub mod Numbers
 pub mod Values
 pub mod NotBelow
+pub mod Short

@@ -3,3 +3,4 @@ pub mod Response
 -- What serves proofs and worked rows.
 pub mod Soonest
 pub mod Rows
+pub mod Short

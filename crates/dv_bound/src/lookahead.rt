@@ -1,12 +1,13 @@
 //! The response of an atomic model, in a time linear in its text.
 
-ghost use Rattle.std.specs.Prelude.{◌≡◌, ℕ, None, Some, IfOk, OnOk, map};
+ghost use Rattle.std.specs.Prelude.{◌≡◌, ◌<◌, ◌^◌, ℕ, None, Some, IfOk, OnOk, map};
 ghost use Rattle.std.specs.List.{flat_map};
 ghost use Rattle.dv_syntax.specs.Trees.{Statements, atomic_of, hold_of, rule_of, statement_before, statements_of};
 ghost use Rattle.dv_syntax.specs.Trees.{ticks_of as expression_of_ticks};
 ghost use Rattle.dv_eval.specs.Scope.{hold_ticks, scope_of};
 ghost use Rattle.dv_accepted.specs.Gotos.{gotos_in};
 ghost use Rattle.dv_bound.specs.Response.{external_gotos_in, hold_response, response_of, sooner, ticks_in, ticks_of};
+ghost use Rattle.dv_bound.specs.Short.{AreShort, IsShort};
 ghost use Rattle.dv_bound.specs.Soonest.{response_in, soonest, with_response};
 
 use crate::low::low;
@@ -28,7 +29,9 @@ type PhaseResponses = IndexMap<u32, Response>;
 /// No memory for a table of the holds.
 pub fn response(alloc: Global, model: &Atomic, scope: &Scope) -> Result<Response, AllocError>
     requires { scope.now ≡ scope_of (atomic_of model.now) }
-    ensures { IfOk result (λ response. ticks_of response ≡ response_of (atomic_of model.now)) }
+    ensures response { IfOk result (λ response.
+        ticks_of response ≡ response_of (atomic_of model.now)) }
+    ensures short { IfOk result (λ response. IsShort (ticks_of response)) }
 {
     let responses = phase_responses(alloc, &model.holds, scope)?;
     Ok(soonest_of_rules(&responses, &model.rules))
@@ -40,8 +43,10 @@ fn phase_responses(
     holds: &[Hold],
     scope: &Scope,
 ) -> Result<PhaseResponses, AllocError>
-    ensures { IfOk result (λ responses. (phase : ℕ) → response_in responses.entries phase
+    ensures responses { IfOk result (λ responses. (phase : ℕ)
+        → response_in responses.entries phase
         ≡ hold_response scope.now (hold_ticks phase (map hold_of holds.now))) }
+    ensures short { IfOk result (λ _. AreShort scope.now holds.now) }
 {
     let mut responses = IndexMap::new(alloc);
     for hold in holds {
@@ -71,7 +76,9 @@ fn insert_if_absent(
 
 // The response of a hold: in no state of the model it ends sooner.
 fn hold_response(ticks: &Ticks, scope: &Scope) -> Response
-    ensures { ticks_of result ≡ hold_response scope.now (expression_of_ticks ticks.now) }
+    ensures response { ticks_of result
+        ≡ hold_response scope.now (expression_of_ticks ticks.now) }
+    ensures short { IsShort (ticks_of result) }
 {
     match ticks {
         Ticks::Forever => Response::Never,
@@ -81,7 +88,8 @@ fn hold_response(ticks: &Ticks, scope: &Scope) -> Response
 
 // A number as ticks, which are never below 0.
 fn ticks_in(low: i64) -> u64
-    ensures { result ≡ ticks_in low }
+    ensures ticks { result ≡ ticks_in low }
+    ensures short { result < 2 ^ 63 }
 {
     low.max(0) as u64
 }

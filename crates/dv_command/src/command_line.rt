@@ -2,10 +2,12 @@
 
 ghost use Rattle.std.specs.Prelude.{◌≤◌, IfOk, IfSome};
 
-use crate::request::{ModelFile, Request, RequestError, Run, Usage};
+use crate::request::{ModelFile, PartitionChoice, Plan, Request, RequestError, Run, Usage};
 use clap::error::ErrorKind;
 use clap::{Arg, ArgAction, ArgMatches, Command};
-use dv_explain::{Explanation, explanation_of, faults, input_refusals, refusals};
+use dv_explain::{
+    Explanation, explanation_of, faults, input_refusals, partition_refusals, refusals,
+};
 use dv_time::{GREATEST_LIMIT, GREATEST_TICK};
 use std::alloc::{AllocError, Global};
 
@@ -27,6 +29,7 @@ fn request_in(alloc: Global, matches: &ArgMatches) -> Result<Request, RequestErr
         Some(("check", check)) => Ok(Request::Check(model_file_of(alloc, check)?)),
         Some(("code", code)) => Ok(Request::Code(model_file_of(alloc, code)?)),
         Some(("explain", explain)) => Ok(Request::Explain(explanation_for(alloc, explain)?)),
+        Some(("plan", plan)) => Ok(Request::Plan(plan_of(alloc, plan)?)),
         Some(("run", run)) => Ok(Request::Run(run_of(alloc, run)?)),
         _ => Err(refused(alloc, "a subcommand is wanted")),
     }
@@ -40,7 +43,8 @@ fn command<'a>(alloc: Global) -> Result<Command<'a>, AllocError> {
         .subcommand_required(true);
     let checks = with_subcommand(program, check_command(alloc))?;
     let runs = with_subcommand(checks, run_command(alloc))?;
-    let lists = with_subcommand(runs, code_command(alloc))?;
+    let plans = with_subcommand(runs, plan_command(alloc))?;
+    let lists = with_subcommand(plans, code_command(alloc))?;
     with_subcommand(lists, explain_command(alloc))
 }
 
@@ -84,7 +88,7 @@ fn explain_command<'a>(alloc: Global) -> Result<Command<'a>, AllocError> {
     let code = Arg::new(alloc, "code")
         .value_name("CODE")
         .required(true)
-        .help("the number of a refusal, as E7 or I2, or the name of a fault, as overflow");
+        .help("the number of a refusal, as E7, I2 or Q3, or the name of a fault, as overflow");
     Command::new(alloc, "explain")
         .about("Prints what a refusal or a fault means")
         .arg(code)
@@ -115,11 +119,38 @@ fn inputs_argument<'a>(alloc: Global) -> Arg<'a> {
         .help("the file of the inputs, with a line TICK PORT VALUE for each")
 }
 
+fn partition_argument<'a>(alloc: Global) -> Arg<'a> {
+    Arg::new(alloc, "partition")
+        .long("partition")
+        .value_name("F")
+        .action(ArgAction::Set)
+        .help("the file that says which components each process has")
+}
+
+fn processes_argument<'a>(alloc: Global) -> Arg<'a> {
+    Arg::new(alloc, "processes")
+        .long("processes")
+        .value_name("N")
+        .action(ArgAction::Set)
+        .help("the number of processes, 1 to 64, and no more than the components (1)")
+}
+
+fn plan_command<'a>(alloc: Global) -> Result<Command<'a>, AllocError> {
+    Command::new(alloc, "plan")
+        .about("Prints the processes of a model and the links between them")
+        .arg(model_argument(alloc))?
+        .arg(partition_argument(alloc))?
+        .arg(processes_argument(alloc))?
+        .arg(explain_argument(alloc))
+}
+
 fn run_command<'a>(alloc: Global) -> Result<Command<'a>, AllocError> {
     Command::new(alloc, "run")
         .about("Runs a model and prints its trace")
         .arg(model_argument(alloc))?
         .arg(horizon_argument(alloc))?
+        .arg(partition_argument(alloc))?
+        .arg(processes_argument(alloc))?
         .arg(inputs_argument(alloc))?
         .arg(microsteps_argument(alloc))?
         .arg(explain_argument(alloc))
@@ -138,6 +169,38 @@ fn inputs_of(alloc: Global, matches: &ArgMatches) -> Result<Option<String>, Requ
         Some(inputs) => Ok(Some(String::from_str(alloc, inputs)?)),
         None => Ok(None),
     }
+}
+
+/// How the components are parted, where that is given.
+fn partition_of(
+    alloc: Global,
+    matches: &ArgMatches,
+) -> Result<Option<PartitionChoice>, RequestError> {
+    match (matches.get_str("partition"), matches.get_str("processes")) {
+        (None, None) => Ok(None),
+        (Some(file), None) => Ok(Some(PartitionChoice::File(String::from_str(alloc, file)?))),
+        (None, Some(text)) => Ok(Some(PartitionChoice::Count(processes_in(alloc, text)?))),
+        (Some(_), Some(_)) => Err(refused(
+            alloc,
+            "a partition or a number of processes is given, not both",
+        )),
+    }
+}
+
+/// The number of processes that a text spells. Whether a model can be parted so is not asked here.
+fn processes_in(alloc: Global, text: &str) -> Result<u32, RequestError> {
+    match number(text, u64::from(u32::MAX)) {
+        Some(count) => Ok(count as u32),
+        None => Err(refused(alloc, "the number of processes is one from 0 to 4294967295")),
+    }
+}
+
+fn plan_of(alloc: Global, matches: &ArgMatches) -> Result<Plan, RequestError> {
+    Ok(Plan {
+        model: model_of(alloc, matches)?,
+        partition: partition_of(alloc, matches)?,
+        explained: matches.get_flag("explain"),
+    })
 }
 
 fn model_file_of(alloc: Global, matches: &ArgMatches) -> Result<ModelFile, RequestError> {
@@ -163,6 +226,7 @@ fn unknown_code(alloc: Global) -> Result<RequestError, AllocError> {
     let mut reason = String::from_str(alloc, "there is no such code; the codes are")?;
     push_codes(&mut reason, refusals())?;
     push_codes(&mut reason, input_refusals())?;
+    push_codes(&mut reason, partition_refusals())?;
     push_codes(&mut reason, faults())?;
     Ok(refused(alloc, reason.as_str()))
 }
@@ -177,11 +241,13 @@ fn push_codes(text: &mut String, explanations: &[Explanation]) -> Result<(), All
 
 fn run_of(alloc: Global, matches: &ArgMatches) -> Result<Run, RequestError> {
     let model = model_of(alloc, matches)?;
+    let partition = partition_of(alloc, matches)?;
     let inputs = inputs_of(alloc, matches)?;
     let horizon = horizon_of(alloc, matches)?;
     let microsteps = microsteps_of(alloc, matches)?;
     Ok(Run {
         model,
+        partition,
         inputs,
         horizon,
         microsteps,

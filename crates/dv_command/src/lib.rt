@@ -8,4 +8,4 @@ pub mod request;
 mod command_line;
 
 pub use command_line::request_of;
-pub use request::{ModelFile, Request, RequestError, Run, Usage};
+pub use request::{ModelFile, PartitionChoice, Plan, Request, RequestError, Run, Usage};

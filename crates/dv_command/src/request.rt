@@ -13,6 +13,8 @@ pub enum Request {
     Run(Run),
     /// Print the programs of a model.
     Code(ModelFile),
+    /// Print how a model is parted.
+    Plan(Plan),
     /// Print what a refusal or a fault means.
     Explain(&'static Explanation),
 }
@@ -26,11 +28,33 @@ pub struct ModelFile {
     pub explained: bool,
 }
 
+/// How the components of a model are parted into processes.
+#[derive(Debug, Drop)]
+pub enum PartitionChoice {
+    /// As the text of a file says.
+    File(String),
+    /// Into so many processes. Whether a model can be parted so is not asked here.
+    Count(u32),
+}
+
+/// Part a model into processes, and print what comes of it.
+#[derive(Debug, Drop)]
+pub struct Plan {
+    /// The file of the model.
+    pub model: String,
+    /// How it is parted, where that was given; else there is one process.
+    pub partition: Option<PartitionChoice>,
+    /// Whether a refusal is explained.
+    pub explained: bool,
+}
+
 /// Run a model and print its trace. Its numbers are within their ranges: its type keeps that.
 #[derive(Debug, Drop)]
 pub struct Run {
     /// The file of the model.
     pub model: String,
+    /// How it is parted, where that was given; else there is one process.
+    pub partition: Option<PartitionChoice>,
     /// The file of the inputs, where one was given.
     pub inputs: Option<String>,
     /// The last tick of the run, 0 to 10^12.

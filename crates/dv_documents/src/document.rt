@@ -1,7 +1,8 @@
 //! The models of a document, and what it says of them.
 //!
 //! A fenced block with a root is a model, and one that is marked `inputs` its inputs. Behind a model stand commands, each with
-//! the lines that it prints, or the answer to a refused text, as `E7 line 3` between backquotes.
+//! the lines that it prints, or the answer to a refused text, as `E7 line 3` between backquotes. A command that names a file
+//! which is here prints them of that file too.
 
 use crate::outcome::{checked, listed, printed};
 use std::alloc::{AllocError, Global};
@@ -54,13 +55,17 @@ pub fn is_as_shown<R: AllocGlobal + Files + Print>(rt: &R, name: &str) -> io::Re
     is_text_as_shown(rt, name, text.as_str())
 }
 
-fn is_text_as_shown<R: AllocGlobal + Print>(rt: &R, name: &str, text: &str) -> io::Result<bool> {
+fn is_text_as_shown<R: AllocGlobal + Files + Print>(
+    rt: &R,
+    name: &str,
+    text: &str,
+) -> io::Result<bool> {
     let mut telling = Telling::new(rt.alloc());
     follow_lines(rt, &mut telling, text)?;
     report(rt, name, &telling)
 }
 
-fn follow_lines<R: AllocGlobal + Print>(
+fn follow_lines<R: AllocGlobal + Files + Print>(
     rt: &R,
     telling: &mut Telling,
     text: &str,
@@ -117,10 +122,14 @@ fn keep_block(telling: &mut Telling, mark: &str) -> Result<(), AllocError> {
 }
 
 /// Takes a line outside of blocks: a command, what it prints, an answer, or other words.
-fn follow<R: AllocGlobal + Print>(rt: &R, telling: &mut Telling, line: &str) -> io::Result<()> {
+fn follow<R: AllocGlobal + Files + Print>(
+    rt: &R,
+    telling: &mut Telling,
+    line: &str,
+) -> io::Result<()> {
     if let Some(command) = line.strip_prefix("    $ ./pdevs ") {
         telling.compare(rt)?;
-        telling.got = outcome_of(rt.alloc(), telling, command)?;
+        telling.got = got_by(rt, telling, command)?;
     } else if let Some(shown) = line.strip_prefix("    ") {
         push_line(&mut telling.expected, shown)?;
     } else {
@@ -149,13 +158,32 @@ fn answer_in(line: &str) -> Option<&str> {
     }
 }
 
-/// What a command prints: `check`, `code`, or `run` with its options.
-fn outcome_of(alloc: Global, telling: &Telling, command: &str) -> Result<String, AllocError> {
+/// What a command prints of the model that is shown. Where the command names a file that is here, what it prints of that
+/// file has to be the same, and else follows.
+fn got_by<R: AllocGlobal + Files>(rt: &R, telling: &Telling, command: &str) -> io::Result<String> {
+    let mut got = outcome_of(rt.alloc(), telling, telling.model.as_str(), command)?;
+    let name = command.split_whitespace().nth(1).unwrap_or("");
+    if let Ok(model) = fs::read_to_string(rt, name) {
+        let of_file = outcome_of(rt.alloc(), telling, model.as_str(), command)?;
+        if of_file != got {
+            write!(got, "the file {name}:\n{of_file}")?;
+        }
+    }
+    Ok(got)
+}
+
+/// What a command prints of a model: `check`, `code`, or `run` with its options.
+fn outcome_of(
+    alloc: Global,
+    telling: &Telling,
+    model: &str,
+    command: &str,
+) -> Result<String, AllocError> {
     if command.starts_with("check ") {
-        return checked(alloc, telling.model.as_str());
+        return checked(alloc, model);
     }
     if command.starts_with("code ") {
-        return listed(alloc, telling.model.as_str());
+        return listed(alloc, model);
     }
     if !command.starts_with("run ") {
         return Ok(String::new(alloc));
@@ -167,13 +195,7 @@ fn outcome_of(alloc: Global, telling: &Telling, command: &str) -> Result<String,
     };
     let horizon = number_behind(command, "--horizon").unwrap_or(0);
     let limit = number_behind(command, "--microsteps").unwrap_or(20);
-    printed(
-        alloc,
-        telling.model.as_str(),
-        inputs,
-        horizon,
-        limit.min(1_000) as u32,
-    )
+    printed(alloc, model, inputs, horizon, limit.min(1_000) as u32)
 }
 
 /// The number behind an option in a command.

@@ -2,12 +2,12 @@
 
 ghost use Rattle.std.specs.Prelude.{◌≡◌, IfSome};
 
-use crate::words::{faults, input_refusals, refusals};
+use crate::words::{faults, input_refusals, partition_refusals, refusals};
 
 /// What a refusal or a fault means, and its cure.
 #[derive(Clone, Copy, Debug)]
 pub struct Explanation {
-    /// The number of a refusal, as `E7` or `I2`, or the name of a fault, as `overflow`.
+    /// The number of a refusal, as `E7`, `I2` or `Q3`, or the name of a fault, as `overflow`.
     pub code: &'static str,
     /// What is wrong, which token is named, and what helps.
     pub words: &'static str,
@@ -36,6 +36,7 @@ pub fn explanation_of(code: &str) -> Option<&'static Explanation>
 {
     find(refusals(), code)
         .or_else(|| find(input_refusals(), code))
+        .or_else(|| find(partition_refusals(), code))
         .or_else(|| find(faults(), code))
 }
 

@@ -10,4 +10,4 @@ pub mod words;
 
 pub use explanation::{Example, Explanation, explanation_of};
 pub use pointing::{excerpt, excerpt_of_line};
-pub use words::{faults, input_refusals, refusals};
+pub use words::{faults, input_refusals, partition_refusals, refusals};

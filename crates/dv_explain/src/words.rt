@@ -13,6 +13,11 @@ pub fn input_refusals() -> &'static [Explanation] {
     INPUT_REFUSALS
 }
 
+/// The explanations of the refusals of partitions, in the order of their numbers.
+pub fn partition_refusals() -> &'static [Explanation] {
+    PARTITION_REFUSALS
+}
+
 /// The explanations of the faults of rules and holds.
 pub fn faults() -> &'static [Explanation] {
     FAULTS
@@ -253,6 +258,30 @@ const INPUT_REFUSALS: &[Explanation] = &[
             limit: 20,
             answer: "I4 line 1",
         }),
+    },
+];
+
+/// The refusals of partitions, in the order of their numbers.
+const PARTITION_REFUSALS: &[Explanation] = &[
+    Explanation {
+        code: "Q1",
+        words: "The partition is not JSON, or not an object with the one key `processes` and a list of lists of strings: a list of the components' paths for each process. Write it as `{\"processes\":[[\"a\",\"b.c\"],[\"d\"]]}`.",
+        example: None,
+    },
+    Explanation {
+        code: "Q2",
+        words: "The partition names a component that the model does not have. A component is named by its path, from the root's part on, with a dot before each part below, as `plant.tank`; a coupled model is no component.",
+        example: None,
+    },
+    Explanation {
+        code: "Q3",
+        words: "A component of the model is in no process of the partition, or in two, or stands twice in one. Name each component once; `plan` without a partition prints them all.",
+        example: None,
+    },
+    Explanation {
+        code: "Q4",
+        words: "There is no process, there are more than 64, one of them has no component, or there are more processes than components. Ask for fewer processes, or give each one a component.",
+        example: None,
     },
 ];
 

@@ -18,6 +18,7 @@ pub mod LoopDepth
 pub mod LoopVariables
 pub mod Marks
 pub mod OperandTypes
+pub mod Over
 pub mod Places
 pub mod Programs
 pub mod Simulation

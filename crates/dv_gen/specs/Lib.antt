@@ -3,6 +3,7 @@ pub mod Resolved
 pub mod Resolution
 pub mod Generator
 pub mod ModelCode
+pub mod Over
 pub mod Rows
 -- What serves proofs.
 pub mod Emission

@@ -18,7 +18,8 @@ ghost use Rattle.dv_code.specs.Machine.{begins, first_effect, run};
 ghost use Rattle.dv_code.specs.Shape.{AreSmall, Fits, Shape};
 ghost use Rattle.dv_code.specs.Valid.{IsValid};
 ghost use Rattle.dv_gen.specs.Generator.{ending, goes, hold_ending, hold_program_of, program_of};
-ghost use Rattle.dv_gen.specs.ModelCode.{HasProgramsWithin, IsCompilableModel};
+ghost use Rattle.dv_gen.specs.ModelCode.{HasProgramsWithin, IsCompilableModel, phase_codes};
+ghost use Rattle.dv_gen.specs.Over.{AreOver};
 ghost use Rattle.dv_gen.specs.Resolution.{goto_places, hold_shape, hold_tree, rule_shape, rule_tree, tables_of};
 ghost use Rattle.dv_gen.specs.Resolved.{AreTyped, Expression, IsTyped, Statements, gotos, rule_effect, type_of, value_of};
 
@@ -100,6 +101,11 @@ pub fn states_fit_the_tables()
         Fits (tables_of (scope_of m)).slots s.variables }
     ensures small { (m : AtomicTree) → atomic_refusals m ≡ [] →
         AreSmall (tables_of (scope_of m)).slots }
+{}
+
+/// The programs of a model stand over its tables, each of its sort.
+pub fn programs_stand_over_their_tables()
+    ensures { (m : AtomicTree) → AreOver (tables_of (scope_of m)) (phase_codes m) }
 {}
 
 /// Places in place of names change nothing: in a state that fits, whatever has arrived, the rules and the holds of an

@@ -1,2 +1,3 @@
 pub mod Loading
 pub mod Printing
+pub mod Ran

@@ -1,5 +1,6 @@
 -- What loading a text gives, step by step; and that a text has one answer.
-use Rattle.std.proofs.Common.{◌≡◌, ◌⊎◌, ℕ, List, Option, Some, None, Result, Err, length, refl, ap, ◌∙◌, sym, subst, inl, inr}
+use Rattle.std.proofs.Common.{◌≡◌, ◌⊎◌, ℕ, List, Option, Some, None, Result, Err, ◌≤◌, ◌^◌, length, map, refl, ap, ◌∙◌, sym, subst, inl, inr, arith}
+use Rattle.std.proofs.lemmas.List.{length-map}
 use Rattle.dv_lex.specs.declared.token.Token.{Token}
 use Rattle.dv_lex.specs.declared.error.LoadError.{LoadError}
 use Rattle.dv_lex.specs.declared.error.LoadError.TheVariants.{Refused, Memory}
@@ -11,6 +12,11 @@ use Rattle.dv_syntax.specs.Grammar.{IsFileOf}
 use Rattle.dv_parser.specs.Reading.{refusal_of_tokens, IsRefused as AreRefused}
 use Rattle.dv_check.specs.Refusals.{IsAnswerTo, refusal_of}
 use Rattle.std.specs.Option.{option_or}
+use Rattle.dv_check.specs.Accepted.{IsAcceptedFile}
+use Rattle.dv_tree.specs.Instances.{Instance, instances}
+use Rattle.dv_tree.specs.Paths.{texts_of, with_dots}
+use Rattle.dv_tree.proofs.Limits.{few_components}
+use Rattle.dv_flat.specs.Links.{paths_of}
 use Rattle.dv_flat.specs.Limit.{IsLinkAnswer, file_refusal, link_refusal}
 use Rattle.dv_job.specs.Job.{HasAnswer, HasModel, HasNoFile, IsAnswer, IsCheckedFileOf, IsModelOf, IsRefusedFile, IsRefusedText}
 use Rattle.dv_job.specs.Ending.{AnswersWith}
@@ -61,6 +67,14 @@ answered Memory text refused = tt
 pub accepted : (text : List ℕ) (names : List (List ℕ)) (f : FileTree) → IsCheckedFileOf text names f → link_refusal f ≡ None →
     IsModelOf text names f
 accepted text names f c few = record { tokens = c.tokens; lexed = c.lexed; parsed = c.parsed; accepted = linked (refusal_of f) (link_refusal f) c.checked ∙ few }
+
+-- a component has one path, and there are few components
+pub few_paths : {T : Type 0} (bytes : T → List ℕ) (paths : List T) (names : List (List ℕ)) (f : FileTree) → IsAcceptedFile f →
+    map bytes paths ≡ paths_of names f → length paths ≤ 2 ^ 32
+few_paths bytes paths names f h e =
+    let few = few_components f h in
+    let count = sym (length-map paths bytes) ∙ ap length e ∙ length-map (instances f) (λ (i : Instance). with_dots (texts_of names i.path)) in
+    omega (arith, few, count)
 
 -- ---- One answer, by the laws of tokens and of files
 

@@ -15,7 +15,7 @@ use Rattle.dv_inputs.specs.declared.error.InputsError.{InputsError}
 use Rattle.dv_inputs.specs.declared.error.InputsError.TheVariants as input
 use Rattle.dv_tree.specs.Tables.{Source}
 use Rattle.dv_plain.specs.Source.{network_of, outside, trace_of}
-use Rattle.dv_text.specs.declared.writing.Ending.TheVariants.{Horizon}
+use Rattle.dv_text.specs.declared.writing.Ending.TheVariants as text_end
 use Rattle.dv_text.specs.declared.writing.WriteError.{WriteError}
 use Rattle.dv_text.specs.declared.writing.WriteError.TheVariants as write
 use Rattle.dv_text.specs.Merging.{text_of}
@@ -32,7 +32,7 @@ use Rattle.dv_job.specs.Ending.{IsJob, PrintsTrace, PrintsBeginning, LeftBy, end
 abbrev pub AreInstants : Type 0
 AreInstants =
     (all : List ComponentNames) (outputs : List (List ℕ)) (limit : ℕ) (net : Network (List Counts)) (inputs : ℕ → List Counts)
-    (horizon : ℕ) → text_of all outputs (trace_before limit net inputs (end_of limit horizon)) (Horizon horizon)
+    (horizon : ℕ) → text_of all outputs (trace_before limit net inputs (end_of limit horizon)) (text_end.Whole horizon)
     ≡ whole_text all outputs limit net inputs horizon
 
 -- a model and its inputs, both read
@@ -43,17 +43,17 @@ job_of_tree text inputs tree played m read = record { accepted = m; read = read 
 -- what is written of a trace is the text of the run
 text_of_run : (tree : Source) (played : List Input) (h l : ℕ) (trace : PartOf) → AreInstants
     → trace ≡ trace_of (file_of tree.file) played h l
-    → text_of (tree_names tree) (tree_ports tree) trace (Horizon h) ≡ run_text tree.names (file_of tree.file) played h l
+    → text_of (tree_names tree) (tree_ports tree) trace (text_end.Whole h) ≡ run_text tree.names (file_of tree.file) played h l
 text_of_run tree played h l trace are is_trace =
     let f = file_of tree.file in
-    ap (λ (t : PartOf). text_of (tree_names tree) (tree_ports tree) t (Horizon h)) is_trace
+    ap (λ (t : PartOf). text_of (tree_names tree) (tree_ports tree) t (text_end.Whole h)) is_trace
     ∙ are (component_names tree.names f) (root_ports tree.names f) l (network_of l f) (outside f l played) h
 
 -- a trace that was written whole
 pub prints :
     (text inputs : List ℕ) (h l : ℕ) (old new : Option (List ℕ)) (tree : Source) (played : List Input) (trace : PartOf) (ended : JobEnded)
     → AreInstants → IsJob text inputs tree.names (file_of tree.file) played → trace ≡ trace_of (file_of tree.file) played h l
-    → ended ≡ ending_of trace → Appends old new (text_of (tree_names tree) (tree_ports tree) trace (Horizon h))
+    → ended ≡ ending_of trace → Appends old new (text_of (tree_names tree) (tree_ports tree) trace (text_end.Whole h))
     → PrintsTrace text inputs h l old new ended
 prints text inputs h l old new tree played trace ended are job is_trace ending written = record {
   names = tree.names;
@@ -68,7 +68,7 @@ prints text inputs h l old new tree played trace ended are job is_trace ending w
 pub prints_beginning :
     (text inputs : List ℕ) (h l : ℕ) (old new : Option (List ℕ)) (tree : Source) (played : List Input) (trace : PartOf)
     → AreInstants → IsJob text inputs tree.names (file_of tree.file) played → trace ≡ trace_of (file_of tree.file) played h l
-    → StopsShort old new (text_of (tree_names tree) (tree_ports tree) trace (Horizon h)) → PrintsBeginning text inputs h l old new
+    → StopsShort old new (text_of (tree_names tree) (tree_ports tree) trace (text_end.Whole h)) → PrintsBeginning text inputs h l old new
 prints_beginning text inputs h l old new tree played trace are job is_trace written = record {
   names = tree.names;
   file = file_of tree.file;
@@ -90,7 +90,7 @@ left_by_load (load.Refused r) text inputs h l old new refused kept = (record { r
 left_by_load load.Memory text inputs h l old new refused kept = inl kept
 
 -- what was not touched is kept
-kept : (o : Option (List ℕ)) → Keeps o o
+pub kept : (o : Option (List ℕ)) → Keeps o o
 kept None = tt
 kept (Some bytes) = refl
 

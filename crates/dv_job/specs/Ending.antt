@@ -64,6 +64,7 @@ pub record IsAnswerToInputs (model inputs : List ℕ) (r : InputRefusal) : Type 
 -- that of its inputs'; at a failed write a beginning that is not all; at want of memory nothing or such a beginning.
 abbrev pub LeftBy : JobError → (model inputs : List ℕ) → (horizon limit : ℕ) → Option (List ℕ) → Option (List ℕ) → Type 0
 LeftBy (error.Text e) model inputs horizon limit old new = IsAnswer model e × Keeps old new
+LeftBy (error.Partition r) model inputs horizon limit old new = ⊥
 LeftBy (error.Inputs r) model inputs horizon limit old new = IsAnswerToInputs model inputs r × Keeps old new
 LeftBy error.Write model inputs horizon limit old new = PrintsBeginning model inputs horizon limit old new
 LeftBy error.Memory model inputs horizon limit old new = Keeps old new ⊎ PrintsBeginning model inputs horizon limit old new
@@ -78,6 +79,7 @@ pub record HasComponents (text : List ℕ) (count : ℕ) : Type 0 where
 -- the error is the answer to a text, or want of memory
 abbrev pub AnswersWith : List ℕ → JobError → Type 0
 AnswersWith text (error.Text e) = IsAnswer text e
+AnswersWith text (error.Partition r) = ⊥
 AnswersWith text (error.Inputs r) = ⊥
 AnswersWith text error.Write = ⊥
 AnswersWith text error.Memory = Unit {0}

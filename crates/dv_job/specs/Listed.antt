@@ -26,6 +26,7 @@ pub record ListsBeginning (model : List ℕ) (old new : Option (List ℕ)) : Typ
 -- that is not all; at want of memory nothing or such a beginning.
 abbrev pub LeftByListing : JobError → (model : List ℕ) → Option (List ℕ) → Option (List ℕ) → Type 0
 LeftByListing (error.Text e) model old new = IsAnswer model e × Keeps old new
+LeftByListing (error.Partition r) model old new = ⊥
 LeftByListing (error.Inputs r) model old new = ⊥
 LeftByListing error.Write model old new = ListsBeginning model old new
 LeftByListing error.Memory model old new = Keeps old new ⊎ ListsBeginning model old new

@@ -5,18 +5,28 @@ ghost use Rattle.dv_job.specs.Status.{status_of};
 
 use dv_inputs::{InputRefusal, InputsError};
 use dv_lex::TextError;
+use dv_partition::{PartitionError, PartitionRefusal};
 use dv_text::WriteError;
 use std::alloc::AllocError;
 use std::fmt;
 use thiserror::Error;
 
-/// How a run ended that printed the trace to its horizon.
+/// How a run ended that printed a trace.
 #[derive(Clone, Copy, Debug, PartialEq, Eq)]
 pub enum JobEnded {
-    /// No component had a fault.
+    /// The trace is whole, to its horizon, and no component had a fault.
     Whole,
-    /// Some component had a fault; the others went on.
+    /// The trace is whole; some component had a fault, and the others went on.
     Faulted,
+    /// The trace has what is before the clocks that were reached, and the text says so.
+    Partial(Why),
+}
+
+/// Why a trace is not whole.
+#[derive(Clone, Copy, Debug, PartialEq, Eq)]
+pub enum Why {
+    /// An allocation was refused while a process took its turn.
+    Memory,
 }
 
 /// Why there is no whole trace, or no whole listing.
@@ -24,6 +34,8 @@ pub enum JobEnded {
 pub enum JobError {
     /// The model text is refused, with this number on this line; nothing was written.
     Text(TextError),
+    /// The partition is refused, with this number; nothing was written.
+    Partition(PartitionRefusal),
     /// The text of the inputs is refused, with this number on this line; nothing was written.
     Inputs(InputRefusal),
     /// A write failed; the writer holds a beginning of the text that was to be written, and not all of it.
@@ -32,13 +44,14 @@ pub enum JobError {
     Memory,
 }
 
-/// The status with which the program ends: 0 whole, 1 refused, 3 whole with a faulted component.
+/// The status with which the program ends: 0 whole, 1 refused, 3 whole with a faulted component, 4 partial.
 pub fn status(outcome: &Result<JobEnded, JobError>) -> u8
     ensures { result ≡ status_of outcome.now }
 {
     match outcome {
         Ok(JobEnded::Whole) => 0,
         Ok(JobEnded::Faulted) => 3,
+        Ok(JobEnded::Partial(_)) => 4,
         Err(_) => 1,
     }
 }
@@ -52,6 +65,7 @@ impl fmt::Display for JobError {
     fn fmt<W: fmt::Write>(&self, f: &mut fmt::Formatter<W>) -> fmt::Result {
         match self {
             JobError::Text(error) => write!(f, "{error}"),
+            JobError::Partition(refusal) => write!(f, "{refusal}"),
             JobError::Inputs(refusal) => write!(f, "{refusal}"),
             JobError::Write => f.write_str("write"),
             JobError::Memory => f.write_str("E18"),
@@ -81,6 +95,19 @@ impl From<InputsError> for JobError {
         match error {
             InputsError::Refused(refusal) => JobError::Inputs(refusal),
             InputsError::Memory => JobError::Memory,
+        }
+    }
+}
+
+impl From<PartitionError> for JobError {
+    ghost use Rattle.dv_job.specs.Errors.{IsOfPartition};
+
+    ghost from_gives = { IsOfPartition };
+
+    fn from(error: PartitionError) -> Self {
+        match error {
+            PartitionError::Refused(refusal) => JobError::Partition(refusal),
+            PartitionError::Memory => JobError::Memory,
         }
     }
 }

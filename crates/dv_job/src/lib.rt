@@ -7,17 +7,29 @@ pub mod check;
 pub mod code;
 /// How a run ends.
 pub mod ended;
+/// Whether a trace holds a fault.
+mod faults;
 /// Laws of texts and models.
 pub mod laws;
 /// From the bytes of a model to the checked text.
 mod load;
+/// The names that a plan prints.
+mod names;
 /// The options of a run.
 pub mod options;
 /// The plain run of a model.
 pub mod plain;
+/// The plan of a model, as text.
+pub mod planned;
+/// The run of a model in processes.
+pub mod run;
+/// What ran, written.
+mod written;
 
 pub use check::check_bytes;
 pub use code::list_code;
-pub use ended::{JobEnded, JobError, status};
+pub use ended::{JobEnded, JobError, Why, status};
 pub use options::{GREATEST_CAPACITY, MOST_WORKERS, Options};
 pub use plain::run_plain;
+pub use planned::plan_bytes;
+pub use run::run_bytes;

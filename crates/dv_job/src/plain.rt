@@ -1,16 +1,15 @@
 //! The plain run of a model.
 
-ghost use Rattle.std.specs.Prelude.{IfOk, IfErr, ◌≡◌};
-ghost use Rattle.std.specs.List.{list_any};
-ghost use Rattle.dv_bag.specs.declared.entry.Entry.{Entry};
+ghost use Rattle.std.specs.Prelude.{IfOk, IfErr};
 ghost use Rattle.dv_syntax.specs.Trees.{file_of};
-ghost use Rattle.dv_job.specs.Ending.{LeftBy, PrintsTrace, ending_of, is_fault};
+ghost use Rattle.dv_job.specs.Ending.{LeftBy, PrintsTrace};
 ghost use Rattle.dv_job.specs.Job.{IsCheckedFileOf};
 
 use crate::ended::{JobEnded, JobError};
+use crate::faults::ending_of;
 use crate::load::{load, load_inputs, load_links, unloaded};
 use crate::options::Options;
-use dv_bag::{Bags, Entry, Trace, What};
+use dv_bag::Bags;
 use dv_check::Checked;
 use dv_plain::resultant_run;
 use dv_text::laws::a_trace_is_its_instants;
@@ -83,39 +82,6 @@ fn run_tree<W: Write>(
     load_links(alloc, model, tree)?;
     let played = load_inputs(alloc, inputs, tree)?;
     let trace = resultant_run(alloc, tree, &played, options.horizon, options.limit)?;
-    write_trace(
-        alloc,
-        &trace,
-        tree,
-        &Ending::Horizon(options.horizon),
-        writer,
-    )?;
+    write_trace(alloc, &trace, tree, &Ending::Whole(options.horizon), writer)?;
     Ok(ending_of(&trace))
-}
-
-/// How a run with this trace ended.
-fn ending_of(trace: &Trace) -> JobEnded
-    ensures { result ≡ ending_of trace.now }
-{
-    if has_fault(trace.entries().as_slice()) {
-        JobEnded::Faulted
-    } else {
-        JobEnded::Whole
-    }
-}
-
-/// Whether some entry is a fault.
-fn has_fault(entries: &[Entry]) -> bool
-    ensures { result ≡ list_any (λ (e : Entry). is_fault e.what) entries.now }
-{
-    entries.iter().any(|entry| is_fault(&entry.what))
-}
-
-fn is_fault(what: &What) -> bool
-    ensures { result ≡ is_fault what.now }
-{
-    match what {
-        What::Fault(_) => true,
-        What::Transition { .. } => false,
-    }
 }

@@ -10,7 +10,7 @@ use Rattle.dv_bag.specs.Inputs.{bags_at, inputs_at, inputs_before, next_from, ti
 use Rattle.dv_bag.specs.declared.inputs.Input.{Input}
 use Rattle.dv_devs.specs.NextTimes.{IsFrom}
 use Rattle.dv_plain.specs.InputTimes.{inputs_until, start_of_tick}
-use Rattle.dv_plain.proofs.Times.{micro_of-rank, tick_of-rank}
+use Rattle.dv_react.proofs.Times.{micro_of-rank, tick_of-rank}
 
 -- What the laws of inputs say of these: they come at ticks' starts alone, and a walk over them misses none.
 pub record InputLaws (limit ports : ℕ) (inputs : List Input) : Type 0 where

@@ -2,8 +2,8 @@
 use Rattle.std.proofs.Common.{◌≡◌, ℕ, ◌+◌, ◌<◌, ◌≤◌, min, List, map, length, get_or, Option, Some, None, refl, ap, sym, ◌∙◌, arith}
 use Rattle.std.proofs.lemmas.List.{drop_all}
 use Rattle.dv_devs.specs.NextTimes.{IsFrom, earlier, least_next}
-use Rattle.dv_plain.specs.declared.component.Running.{Running}
-use Rattle.dv_plain.specs.Components.{next_of_wait, component_of}
+use Rattle.dv_react.specs.declared.running.Running.{Running}
+use Rattle.dv_react.specs.Components.{next_of_wait, component_of}
 use Rattle.dv_plain.proofs.Steps.{components_from, component-step}
 
 pub earlier-first : (x y : ℕ) → x < y → Some x ≡ earlier (Some x) (Some y)

@@ -1,5 +1,4 @@
-pub mod Times
-pub mod Reactions
+pub mod Starts
 pub mod Silence
 pub mod Ready
 pub mod Steps

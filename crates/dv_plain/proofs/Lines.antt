@@ -10,12 +10,12 @@ use Rattle.dv_devs.specs.Behaviour.{Behaviour, Component, emission, is_at}
 use Rattle.dv_devs.specs.Network.{emissions, outer_from, sent_by}
 use Rattle.dv_bag.specs.declared.entry.Outer.{Outer}
 use Rattle.dv_bag.specs.declared.fault.Fault.{Fault}
-use Rattle.dv_plain.specs.declared.component.Running.{Running}
-use Rattle.dv_plain.specs.Outputs.{sent_of, outputs}
-use Rattle.dv_plain.specs.Components.{is_quiet, component_of}
-use Rattle.dv_plain.proofs.Reactions.{sent_by-nothing}
+use Rattle.dv_react.specs.declared.running.Running.{Running}
+use Rattle.dv_react.specs.Outcomes.{sent_of}
+use Rattle.dv_plain.specs.Outputs.{outputs}
+use Rattle.dv_react.specs.Components.{is_quiet, component_of}
 use Rattle.dv_plain.proofs.Steps.{quiet-none}
-use Rattle.dv_plain.proofs.Times.{time_of-rank}
+use Rattle.dv_react.proofs.Times.{time_of-rank}
 
 abbrev line_of : Time → ℕ → Counts → Bool → List Outer
 line_of t port b none = if none then [] else record { time = t; port = port; values = b } ∷ []
@@ -51,6 +51,9 @@ pub lines-end : (limit now k : ℕ) (bags : List Counts) (lines whole : List Out
     lines ++ outer_from limit now k (drop k bags) ≡ whole → lines ≡ whole
 lines-end limit now k bags lines whole h kept =
     sym (append-nil lines) ∙ ap (λ (bs : List Counts). lines ++ outer_from limit now k bs) (sym (drop_all k bags h)) ∙ kept
+
+sent_by-nothing : (c : Component) → sent_by c (Ok []) ≡ []
+sent_by-nothing c = elim c.quiet as (λ q. sent_by (record c { quiet = q }) (Ok []) ≡ []) [ true ↦ refl | false ↦ refl ]
 
 sent-loud : (c : Component) (e : Result (List Counts) Fault) → c.quiet ≡ false → sent_by c e ≡ sent_of e
 sent-loud c (Ok bags) loud = ap (λ (q : Bool). if q then [] else bags) loud

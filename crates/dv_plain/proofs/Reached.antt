@@ -14,9 +14,9 @@ use Rattle.dv_devs.specs.NextTimes.{IsFrom, earlier, least_next}
 use Rattle.dv_bag.specs.Part.{PartOf, nothing, joined}
 use Rattle.dv_tree.specs.Instances.{Instance, instances}
 use Rattle.dv_tree.specs.Instances.{root_inputs}
-use Rattle.dv_plain.specs.declared.component.Running.{Running}
+use Rattle.dv_react.specs.declared.running.Running.{Running}
 use Rattle.dv_plain.specs.InputTimes.{inputs_until, start_of_tick}
-use Rattle.dv_plain.specs.Components.{component_of}
+use Rattle.dv_react.specs.Components.{component_of}
 use Rattle.dv_plain.specs.Source.{behaviour_of, network_of, outside, trace_of}
 use Rattle.dv_plain.proofs.InputWalk.{InputLaws, IsPlace, none_between, place-after, place-now, place-rises, place-start}
 use Rattle.dv_plain.proofs.Least.{IsFrom-first, IsFrom-second, earlier-from}

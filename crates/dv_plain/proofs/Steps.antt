@@ -1,6 +1,6 @@
 -- One component after the other: what a loop over the components has of the definitions at each turn.
 use Rattle.std.proofs.Common.{◌≡◌, ℕ, zero, suc, ◌+◌, ◌<◌, ◌≤◌, true, List, [], ◌∷◌, ◌++◌, map, length, drop, take, set, get_or}
-use Rattle.std.proofs.Common.{Option, Some, None, Result, Ok, Err, refl, ap, sym, ◌∙◌, subst, arith, append_assoc, add-one}
+use Rattle.std.proofs.Common.{Some, None, Result, refl, ap, sym, ◌∙◌, subst, arith, append_assoc, add-one}
 use Rattle.std.specs.Prelude.{slice_get}
 use Rattle.std.specs.List.{All}
 use Rattle.std.proofs.lemmas.List.Elements.{All-get_or, All-set}
@@ -17,13 +17,13 @@ use Rattle.dv_time.specs.Time.{IsOfRun, rank}
 use Rattle.dv_time.specs.declared.time.Time.{Time}
 use Rattle.dv_eval.specs.Scope.{Scope, scope_of}
 use Rattle.dv_tree.specs.Instances.{Instance}
-use Rattle.dv_plain.specs.declared.component.Running.{Running}
-use Rattle.dv_plain.specs.declared.wait.Wait.{Wait}
-use Rattle.dv_plain.specs.declared.wait.Wait.TheVariants.{Until, Forever, Quiet}
-use Rattle.dv_plain.specs.Outputs.{outputs, output_from, sent_of, fault_of}
-use Rattle.dv_plain.specs.Components.{IsWaitOfRun, component_of, is_quiet, next_of_wait}
+use Rattle.dv_react.specs.declared.running.Running.{Running}
+use Rattle.dv_react.specs.declared.wait.Wait.{Wait}
+use Rattle.dv_react.specs.declared.wait.Wait.TheVariants.{Until, Forever, Quiet}
+use Rattle.dv_plain.specs.Outputs.{outputs}
+use Rattle.dv_react.specs.Components.{IsWaitOfRun, component_of, is_quiet, next_of_wait}
 use Rattle.dv_plain.specs.Source.{behaviour_of, start_of}
-use Rattle.dv_plain.proofs.Times.{time_of-rank}
+use Rattle.dv_react.proofs.Times.{time_of-rank}
 
 -- the behaviours from a component on
 abbrev pub behaviours_from : ℕ → List Instance → List Behaviour
@@ -228,11 +228,6 @@ entries-end limit now is rs received k entries whole g kept =
     ∙ ap (λ (qs : List Reaction). entries ++ entries_from limit now k qs) (sym (no_reactions limit now is rs received k g))
     ∙ kept
 
--- an output from its parts
-output_from-parts : (e : Result (List Counts) Fault) → output_from (fault_of e) (sent_of e) ≡ e
-output_from-parts (Ok sent) = refl
-output_from-parts (Err f) = refl
-
 get_or-first : {X Y : Type 0} (f : X → Y) (xs : List X) (k : ℕ) (x : X) (rest : List X) (d : Y) → drop k xs ≡ x ∷ rest →
     get_or (map f xs) k d ≡ f x
 get_or-first f [] zero x rest d e = absurd (cc)
@@ -251,25 +246,18 @@ outputs_from-drop limit [] now rs (suc k) = refl
 outputs_from-drop limit (i ∷ is) now [] (suc k) = sym (outputs-none (behaviours_from k is) now)
 outputs_from-drop limit (i ∷ is) now (r ∷ rs) (suc k) = outputs_from-drop limit is now rs k
 
--- what the output function of a component gave, from the lists
-pub output-at :
-    (limit : ℕ) (is : List Instance) (now : ℕ) (rs : List Running) (k : ℕ) (m : AtomicTree) (r : Running) (sent : List (List Counts))
-    (faults : List (Option Fault)) (gave : Result (List Counts) Fault) →
+-- what is so of the output of one component, in the list of what is so of all
+pub given-at :
+    {Y : Type 0} (f : Result (List Counts) Fault → Y) (limit : ℕ) (is : List Instance) (now : ℕ) (rs : List Running) (k : ℕ) (m : AtomicTree)
+    (r : Running) (all : List Y) (d : Y) →
     slice_get (map (λ (i : Instance). i.model) is) k ≡ Some m → k < length rs → r ≡ get_or rs k r →
-    sent ≡ map sent_of (outputs_from limit is now rs 0) → faults ≡ map fault_of (outputs_from limit is now rs 0) → gave ≡ output_from
-    (get_or faults k None) (get_or sent k []) →
-    emission (behaviour_of m) now (component_of limit r) ≡ gave
-output-at limit is now rs k m r sent faults gave e h f sents faulty is-gave =
+    all ≡ map f (outputs_from limit is now rs 0) →
+    f (emission (behaviour_of m) now (component_of limit r)) ≡ get_or all k d
+given-at f limit is now rs k m r all d e h g these =
     let here = emission (behaviour_of m) now (component_of limit r) in
-    let first = outputs_from-drop limit is now rs k ∙ outputs_from-step limit is now rs k m r here e h f refl in
-    sym (output_from-parts here)
-    ∙ ap (λ s. output_from (fault_of here) s)
-    (sym (ap (λ xs. get_or xs k []) sents ∙ get_or-first sent_of (outputs_from limit is now rs 0) k here
-    (outputs_from limit is now rs (k + 1)) [] first))
-    ∙ ap (λ o. output_from o (get_or sent k []))
-    (sym (ap (λ xs. get_or xs k None) faulty ∙ get_or-first fault_of (outputs_from limit is now rs 0) k here
-    (outputs_from limit is now rs (k + 1)) None first))
-    ∙ sym is-gave
+    let first = outputs_from-drop limit is now rs k ∙ outputs_from-step limit is now rs k m r here e h g refl in
+    sym (ap (λ ys. get_or ys k d) these
+    ∙ get_or-first f (outputs_from limit is now rs 0) k here (outputs_from limit is now rs (k + 1)) d first)
 
 -- as many as there are components
 pub length-outputs : (limit : ℕ) (is : List Instance) (now : ℕ) (rs : List Running) → length rs ≡ length is →

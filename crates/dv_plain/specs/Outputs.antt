@@ -1,35 +1,20 @@
 -- What the output functions of all components give at an instant, and what happens to them.
-use Rattle.std.specs.Prelude.{ℕ, List, [], ◌∷◌, Option, Some, None, Result, Ok, Err}
+use Rattle.std.specs.Prelude.{ℕ, List, [], ◌∷◌, Result}
 use Rattle.dv_bag.specs.Bag.{Counts}
 use Rattle.dv_bag.specs.declared.fault.Fault.{Fault}
 use Rattle.dv_syntax.specs.Trees.{FileTree}
 use Rattle.dv_devs.specs.Behaviour.{Behaviour, Component, Reaction, emission}
 use Rattle.dv_devs.specs.Network.{reactions}
-use Rattle.dv_plain.specs.Components.{components_of, rank_of}
+use Rattle.dv_react.specs.Components.{components_of, rank_of}
 use Rattle.dv_plain.specs.Source.{network_of}
-use Rattle.dv_plain.specs.declared.component.Running.{Running}
-use Rattle.dv_plain.specs.declared.instant.Instant.{Instant}
+use Rattle.dv_react.specs.declared.running.Running.{Running}
+use Rattle.dv_react.specs.declared.instant.Instant.{Instant}
 
 -- what they give, component by component
 abbrev pub outputs : List Behaviour → ℕ → List Component → List (Result (List Counts) Fault)
 outputs [] now cs = []
 outputs (b ∷ bs) now [] = []
 outputs (b ∷ bs) now (c ∷ cs) = emission b now c ∷ outputs bs now cs
-
--- what is sent of it
-abbrev pub sent_of : Result (List Counts) Fault → List Counts
-sent_of (Ok sent) = sent
-sent_of (Err f) = []
-
--- its fault
-abbrev pub fault_of : Result (List Counts) Fault → Option Fault
-fault_of (Ok sent) = None
-fault_of (Err f) = Some f
-
--- both together again
-abbrev pub output_from : Option Fault → List Counts → Result (List Counts) Fault
-output_from None sent = Ok sent
-output_from (Some f) sent = Err f
 
 -- what the components of a text give at an instant
 abbrev pub outputs_at : Instant → FileTree → List Running → List (Result (List Counts) Fault)

@@ -8,27 +8,21 @@ ghost use Rattle.dv_bag.specs.Outcome.{Gives};
 ghost use Rattle.dv_eval.specs.Scope.{phase_name, rule_of, scope_of};
 ghost use Rattle.dv_tree.specs.Instances.{instances};
 ghost use Rattle.dv_plain.specs.Source.{behaviour_of, change_by, state_by_goto};
-ghost use Rattle.dv_plain.specs.Transitions.{GivesAs, change_of};
+ghost use Rattle.dv_react.specs.Given.{GivesAs, GivesRule, change_of};
 
 use dv_bag::{Arrivals, Fault, RuleError, Sent, State};
 use dv_eval::{Scope, phase_hold, rule_body, rule_of, run_rule};
-use dv_syntax::{Atomic, RuleSort, Stmt};
+use dv_react::{Atomic, Change};
+use dv_syntax::{Atomic as AtomicModel, RuleSort, Stmt};
 use dv_tree::Tree;
 use std::alloc::Global;
 
 /// An atomic model of a text, with what it declares.
 #[derive(Clone, Copy)]
 pub struct Atom<'m> {
-    pub model: &'m Atomic,
+    pub model: &'m AtomicModel,
     pub scope: &'m Scope,
     ghost of_model: { scope.now ≡ scope_of (atomic_of model.now) },
-}
-
-/// What a rule that may change the state leaves: the state, and whether a `goto` ran.
-#[derive(Drop)]
-pub struct Change {
-    pub state: State,
-    pub goes: bool,
 }
 
 impl<'m> Atom<'m> {
@@ -44,51 +38,8 @@ impl<'m> Atom<'m> {
         }
     }
 
-    /// What the output function gives for a state.
-    ///
-    /// # Errors
-    ///
-    /// The first fault of the output rule, or no memory.
-    pub fn output(&self, alloc: Global, state: &State) -> Result<Sent, RuleError>
-        ensures { Gives result ((behaviour_of (atomic_of self.now.model.now)).output state.now) }
-    {
-        let statements = rule_body(self.model, RuleSort::Output, self.phase_name(state));
-        Ok(run_rule(alloc, statements, state, &Arrivals::nothing(), self.scope)?.sent)
-    }
-
-    /// What the internal rule leaves.
-    ///
-    /// # Errors
-    ///
-    /// Its first fault, or no memory.
-    pub fn internal(&self, alloc: Global, state: &State) -> Result<Change, RuleError>
-        ensures { GivesAs change_of result
-            ((behaviour_of (atomic_of self.now.model.now)).internal state.now) }
-    {
-        let statements = rule_body(self.model, RuleSort::Internal, self.phase_name(state));
-        self.change_by(alloc, statements, &Arrivals::nothing(), state)
-    }
-
-    /// What the external rule leaves.
-    ///
-    /// # Errors
-    ///
-    /// Its first fault, or no memory.
-    pub fn external(
-        &self,
-        alloc: Global,
-        arrivals: &Arrivals,
-        state: &State,
-    ) -> Result<Change, RuleError>
-        ensures { GivesAs change_of result ((behaviour_of (atomic_of self.now.model.now)).external
-            arrivals.now.elapsed arrivals.now.received state.now) }
-    {
-        let statements = rule_body(self.model, RuleSort::External, self.phase_name(state));
-        self.change_by(alloc, statements, arrivals, state)
-    }
-
-    /// The statements of the confluent rule for the phase of a state, if there is one.
-    pub fn confluent_rule(&self, state: &State) -> Option<&'m [Stmt]>
+    // The statements of the confluent rule for the phase of a state, if there is one.
+    fn confluent_rule(&self, state: &State) -> Option<&'m [Stmt]>
         ensures { option_map statements_of (option_copied result) ≡ rule_of sort.Confluent
             (phase_name (scope_of (atomic_of self.now.model.now)) state.now.phase)
             (atomic_of self.now.model.now).rules }
@@ -96,12 +47,8 @@ impl<'m> Atom<'m> {
         rule_of(self.model, RuleSort::Confluent, self.phase_name(state))
     }
 
-    /// What statements that may change the state leave.
-    ///
-    /// # Errors
-    ///
-    /// Their first fault, or no memory.
-    pub fn change_by(
+    // What statements that may change the state leave.
+    fn change_by(
         &self,
         alloc: Global,
         statements: &[Stmt],
@@ -115,12 +62,8 @@ impl<'m> Atom<'m> {
         Ok(state_by_goto(effect.state, effect.goto))
     }
 
-    /// The hold of a state, in ticks, or forever.
-    ///
-    /// # Errors
-    ///
-    /// The first fault of the hold, or `Negative` where it is below 0.
-    pub fn hold(&self, state: &State) -> Result<Option<u64>, Fault>
+    // The hold of a state, in ticks, or forever. One below 0 is the fault `Negative`.
+    fn hold_of(&self, state: &State) -> Result<Option<u64>, Fault>
         ensures value { result ≡ (behaviour_of (atomic_of self.now.model.now)).hold state.now }
         ensures bound { IfOk result (λ ticks. IfSome ticks (λ n. n < 2 ^ 63)) }
     {
@@ -132,6 +75,55 @@ impl<'m> Atom<'m> {
         ensures { result ≡ phase_name (scope_of (atomic_of self.now.model.now)) state.now.phase }
     {
         self.scope.phase_name(state.phase).unwrap_or(0)
+    }
+}
+
+impl Atomic for Atom<'_> {
+    type Work = Global;
+
+    ghost behaviour = { λ a. behaviour_of (atomic_of a.model.now) };
+
+    ghost fits = { λ _ _. Unit {0} };
+
+    ghost comes = { λ _ _. Unit {0} };
+
+    fn output(&self, work: &mut Global, state: &State) -> Result<Sent, RuleError> {
+        let statements = rule_body(self.model, RuleSort::Output, self.phase_name(state));
+        Ok(run_rule(*work, statements, state, &Arrivals::nothing(), self.scope)?.sent)
+    }
+
+    fn internal(&self, work: &mut Global, state: State) -> Result<Change, RuleError> {
+        let statements = rule_body(self.model, RuleSort::Internal, self.phase_name(&state));
+        self.change_by(*work, statements, &Arrivals::nothing(), &state)
+    }
+
+    fn external(
+        &self,
+        work: &mut Global,
+        arrivals: &Arrivals,
+        state: State,
+    ) -> Result<Change, RuleError> {
+        let statements = rule_body(self.model, RuleSort::External, self.phase_name(&state));
+        self.change_by(*work, statements, arrivals, &state)
+    }
+
+    fn confluent(
+        &self,
+        work: &mut Global,
+        arrivals: &Arrivals,
+        state: &State,
+    ) -> Result<Option<Change>, RuleError> {
+        match self.confluent_rule(state) {
+            Some(statements) => Ok(Some(self.change_by(*work, statements, arrivals, state)?)),
+            None => Ok(None),
+        }
+    }
+
+    fn hold(&self, _work: &mut Global, state: &State) -> Result<Option<u64>, RuleError> {
+        match self.hold_of(state) {
+            Ok(ticks) => Ok(ticks),
+            Err(fault) => Err(RuleError::Fault(fault)),
+        }
     }
 }
 

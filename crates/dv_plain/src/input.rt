@@ -4,7 +4,7 @@ ghost use Rattle.std.specs.Prelude.{◌≡◌, ℕ, ◌+◌, IfOk};
 ghost use Rattle.dv_time.specs.Time.{IsOfRun, next_rank, rank};
 ghost use Rattle.dv_bag.specs.Inputs.{inputs_at, inputs_before, tick_at};
 ghost use Rattle.dv_plain.specs.InputTimes.{inputs_until, start_of_tick};
-ghost use Rattle.dv_plain.specs.Components.{IsNextOfRun};
+ghost use Rattle.dv_react.specs.Components.{IsNextOfRun};
 
 use dv_bag::{Bags, Inputs};
 use dv_time::{Next, Time};

@@ -1,19 +1,21 @@
 //! The components of a run at one instant: what they send, what leaves, and how they react.
 
-ghost use Rattle.std.specs.Prelude.{◌≡◌, ℕ, ◌≤◌, ◌<◌, [], ◌∷◌, ◌++◌, length, map, slice_index_or, slice_set, vec_len, IfOk, OnOk, None};
-ghost use Rattle.dv_syntax.specs.Trees.{file_of};
+ghost use Rattle.std.specs.Prelude.{◌≡◌, ℕ, ◌≤◌, ◌<◌, [], ◌∷◌, ◌++◌, length, map, slice_index_or, slice_set, vec_len, IfOk, OnOk};
+ghost use Rattle.dv_syntax.specs.Trees.{atomic_of, file_of};
 ghost use Rattle.dv_bag.specs.Part.{joined};
+ghost use Rattle.dv_devs.specs.Behaviour.{emission, reaction};
 ghost use Rattle.dv_devs.specs.Network.{components_after, entries_by, entry_of, outer_from, part_of_instant};
+ghost use Rattle.dv_react.specs.Components.{AreWaitsOfRun, IsWaitOfRun, component_of, components_of, rank_of};
+ghost use Rattle.dv_react.specs.Outcomes.{event_of, fault_of, sent_of};
 ghost use Rattle.dv_tree.specs.Instances.{instances};
-ghost use Rattle.dv_plain.specs.Components.{AreWaitsOfRun, components_of, rank_of};
-ghost use Rattle.dv_plain.specs.Outputs.{fault_of, output_from, outputs_at, reactions_at, sent_of};
-ghost use Rattle.dv_plain.specs.Source.{network_of};
+ghost use Rattle.dv_plain.specs.Outputs.{outputs_at, reactions_at};
+ghost use Rattle.dv_plain.specs.Source.{behaviour_of, network_of};
 
 use crate::atom::Atom;
-use crate::component::Running;
-use crate::instant::Instant;
 use dv_bag::{Bags, Entry, Fault, Outer, Part, Sent, What};
 use dv_check::GREATEST_NAMES;
+use dv_react::outcome::put_in;
+use dv_react::{Instant, Running, compute};
 use dv_tree::Tree;
 use dv_tree::laws::each_component_receives;
 use std::alloc::{AllocError, Global};
@@ -46,22 +48,14 @@ impl Outputs {
         Ok(())
     }
 
-    // Takes out what the output function of a component gave. No bags are left in its place.
-    fn take(&mut self, alloc: Global, k: usize) -> Result<Result<Sent, Fault>, AllocError>
-        requires sent { k < vec_len self.old.sent }
-        requires faults { k < vec_len self.old.faults }
-        ensures output { IfOk result (λ output. output
-            ≡ output_from (slice_index_or self.old.faults.items k None)
-            (slice_index_or self.old.sent.items k [])) }
-        ensures sent { IfOk result (λ output.
-            self.new.sent.items ≡ slice_set self.old.sent.items k []) }
-        ensures faults { IfOk result (λ output. self.new.faults.items ≡ self.old.faults.items) }
+    // Takes out what a component sent. Nothing is left in its place.
+    fn take(&mut self, alloc: Global, k: usize) -> Sent
+        requires { k < vec_len self.old.sent }
+        ensures result { result ≡ slice_index_or self.old.sent.items k [] }
+        ensures sent { self.new.sent.items ≡ slice_set self.old.sent.items k [] }
+        ensures faults { self.new.faults.items ≡ self.old.faults.items }
     {
-        let sent = mem::replace(&mut self.sent[k], Sent::empty(alloc, 0));
-        match self.faults[k] {
-            Some(fault) => Ok(Err(fault)),
-            None => Ok(Ok(sent)),
-        }
+        mem::replace(&mut self.sent[k], Sent::empty(alloc, 0))
     }
 }
 
@@ -83,30 +77,59 @@ fn emit_all(
     ensures faults { IfOk result (λ e. e.faults.items ≡ map fault_of
         (outputs_at instant.now (file_of tree.now.file) components.now)) }
 {
+    let mut work = alloc;
     let mut emitted = Outputs {
         sent: Vec::new(alloc),
         faults: Vec::new(alloc),
     };
     for (k, component) in components.iter().enumerate() {
-        let output = component.emit(alloc, instant, &Atom::of(tree, k))?;
+        let output = component.emit(alloc, &Atom::of(tree, k), &mut work, instant)?;
         emitted.push(alloc, output)?;
     }
     Ok(emitted)
+}
+
+// What happens to a component at an instant, from what it receives and the fault of its output function, if it has one.
+fn react(
+    alloc: Global,
+    atom: &Atom,
+    instant: &Instant,
+    component: &mut Running,
+    received: &Bags,
+    fault: Option<Fault>,
+) -> Result<Option<What>, AllocError>
+    requires wait { IsWaitOfRun instant.now.limit component.old.wait }
+    requires fault { fault_of (emission (behaviour_of (atomic_of atom.now.model.now))
+        (rank_of instant.now) (component_of instant.now.limit component.old)) ≡ fault }
+    ensures reaction { IfOk result (λ what.
+        reaction instant.now.limit (behaviour_of (atomic_of atom.now.model.now))
+        (rank_of instant.now) (component_of instant.now.limit component.old) received.now
+        ≡ record {
+          event = event_of what (sent_of (emission (behaviour_of (atomic_of atom.now.model.now))
+              (rank_of instant.now) (component_of instant.now.limit component.old)));
+          component = component_of instant.now.limit component.new;
+        }) }
+    ensures wait { IfOk result (λ what. IsWaitOfRun instant.now.limit component.new.wait) }
+{
+    let mut work = alloc;
+    let outcome = compute(atom, &mut work, instant, component, received, fault)?;
+    Ok(put_in(component, outcome))
 }
 
 // The entry of a component, where something happened to it.
 fn push_event(
     instant: &Instant,
     component: u32,
-    event: Option<(What, Sent)>,
+    happened: Option<What>,
+    sent: Sent,
     trace: &mut Part,
 ) -> Result<(), AllocError>
     ensures { OnOk result (trace.new ≡ record trace.old {
       entries = trace.old.entries
-          ++ entry_of instant.now.limit (rank_of instant.now) component event;
+          ++ entry_of instant.now.limit (rank_of instant.now) component (event_of happened sent);
     }) }
 {
-    if let Some((what, sent)) = event {
+    if let Some(what) = happened {
         trace.push_entry(Entry {
             time: instant.time,
             component,
@@ -145,10 +168,17 @@ fn react_all(
     ensures waits { OnOk result (AreWaitsOfRun instant.now.limit components.new) }
 {
     for k in 0..tree.component_count() {
-        let output = emitted.take(alloc, k)?;
         let atom = Atom::of(tree, k);
-        let event = components[k].react(alloc, instant, &atom, &received[k], output)?;
-        push_event(instant, k as u32, event, trace)?;
+        let fault = emitted.faults[k];
+        let happened = react(
+            alloc,
+            &atom,
+            instant,
+            &mut components[k],
+            &received[k],
+            fault,
+        )?;
+        push_event(instant, k as u32, happened, emitted.take(alloc, k), trace)?;
     }
     Ok(())
 }

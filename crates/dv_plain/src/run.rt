@@ -2,26 +2,25 @@
 
 ghost use Rattle.std.specs.Prelude.{◌≡◌, ℕ, ◌+◌, ◌≤◌, IfOk, Some, length};
 ghost use Rattle.dv_time.specs.Time.{IsOfRun, next_rank, rank};
-ghost use Rattle.dv_syntax.specs.Trees.{file_of};
+ghost use Rattle.dv_syntax.specs.Trees.{atomic_of, file_of};
 ghost use Rattle.dv_bag.specs.Inputs.{inputs_before, tick_at};
 ghost use Rattle.dv_bag.specs.Part.{joined};
 ghost use Rattle.dv_devs.specs.NextTimes.{earlier, least_next};
 ghost use Rattle.dv_devs.specs.Network.{components_after, part_of_instant};
 ghost use Rattle.dv_tree.specs.Instances.{instances};
 ghost use Rattle.dv_plain.specs.InputTimes.{inputs_until, start_of_tick};
-ghost use Rattle.dv_plain.specs.Components.{AreWaitsOfRun, IsNextOfRun, IsWaitOfRun, components_of, next_of_wait, rank_of};
-ghost use Rattle.dv_plain.specs.Source.{network_of, outside, trace_of};
+ghost use Rattle.dv_react.specs.Components.{AreWaitsOfRun, IsNextOfRun, IsWaitOfRun, component_of, components_of, next_of_wait, rank_of};
+ghost use Rattle.dv_plain.specs.Source.{network_of, outside, start_of, trace_of};
 
 use crate::atom::Atom;
-use crate::component::Running;
 use crate::input::{input_at, next_input};
-use crate::instant::Instant;
 use crate::laws::networks_of_texts;
 use crate::network::run_instant;
-use crate::wait::Wait;
 use dv_bag::inputs::laws::{nothing_comes_in_between, places_follow_ticks};
 use dv_bag::{Bags, Inputs, Part, Trace};
 use dv_devs::laws::runs;
+use dv_eval::start_state;
+use dv_react::{Instant, Running, Wait};
 use dv_time::laws::the_end_follows_the_horizon;
 use dv_time::{GREATEST_TICK, Next, Time};
 use dv_tree::Tree;
@@ -117,9 +116,20 @@ fn begin(alloc: Global, tree: &Tree, limit: u32) -> Result<Vec<Running>, AllocEr
 {
     let mut components = Vec::with_capacity(alloc, tree.component_count())?;
     for k in 0..tree.component_count() {
-        components.push(Running::start(alloc, limit, &Atom::of(tree, k))?)?;
+        components.push(start(alloc, limit, &Atom::of(tree, k))?)?;
     }
     Ok(components)
+}
+
+// A component of a model at 0.0.
+fn start(alloc: Global, limit: u32, atom: &Atom) -> Result<Running, AllocError>
+    ensures start { IfOk result (λ r.
+        component_of limit r ≡ start_of limit (atomic_of atom.now.model.now)) }
+    ensures wait { IfOk result (λ r. IsWaitOfRun limit r.wait) }
+{
+    let mut work = alloc;
+    let state = start_state(alloc, atom.model, atom.scope)?;
+    Running::start(atom, &mut work, limit, state)
 }
 
 // The next instant at which anything may happen: the least of the components' next times and that of the input at a

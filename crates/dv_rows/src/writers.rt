@@ -1,12 +1,31 @@
 //! Writers that take little, or fail.
 
-use crate::models::{NODES, SPIN};
-use crate::runs::{expect_same, same};
 use dv_job::{JobEnded, JobError, Options, list_code, run_plain};
 use std::alloc::Global;
+use std::fmt::Debug;
 use std::io;
 use std::io::{ErrorKind, Write};
 use std::process::Abort;
+
+/// Two nodes of two relays each, from the root's input to its output.
+const NODES: &str =
+    "atomic Relay { in x; out y; var v: 0..99 = 0; phases z, g; start z; hold z: forever; hold g: 2; \
+        external z { v := sum(x); goto g; } output g { send y v; } internal g { goto z; } }
+coupled Node { in i; out o; part r: Relay; part s: Relay; link self.i -> r.x; link r.y -> s.x; link s.y -> self.o; }
+coupled Top { in i; out o; part n: Node; part m: Node; link self.i -> n.i; link n.o -> m.i; link n.o -> self.o; link m.o -> self.o; }
+root Top;
+";
+
+/// A hold of 0 without end.
+const SPIN: &str = "atomic Spin { phases go; start go; hold go: 0; }
+coupled Top { part s: Spin; }
+root Top;
+";
+
+/// Fails the test where what was got differs from what is wanted, and names it.
+pub fn expect_same<T: PartialEq + Debug + Drop>(rt: &impl Abort, what: &str, got: T, wanted: T) {
+    assert_eq!(rt; got, wanted, "{what}");
+}
 
 /// A writer that takes one byte a call, and fails at a call.
 #[derive(Drop)]
@@ -71,9 +90,19 @@ fn ended<R: Abort + AllocGlobal, W: Write>(rt: &R, writer: &mut W) -> Result<Job
 fn a_writer_that_takes_one_byte_a_call(rt: HostRuntime) {
     let mut writer = failing_at(rt.alloc(), 0);
     let ended = ended(&rt, &mut writer);
-    same!(rt; matches!(ended, Ok(JobEnded::Whole)), true);
-    same!(rt; writer.bytes.as_slice().get(..54), Some(LINES.as_slice()));
-    same!(rt; writer.bytes.as_slice().get(54..), Some(b"whole 3\n".as_slice()));
+    expect_same(&rt, "whole", matches!(ended, Ok(JobEnded::Whole)), true);
+    expect_same(
+        &rt,
+        "lines",
+        writer.bytes.as_slice().get(..54),
+        Some(LINES.as_slice()),
+    );
+    expect_same(
+        &rt,
+        "end",
+        writer.bytes.as_slice().get(54..),
+        Some(b"whole 3\n".as_slice()),
+    );
 }
 
 // A call that failed is not made again, and the bytes of the calls before it stand.
@@ -96,7 +125,7 @@ fn a_writer_that_fails_at_a_call(rt: HostRuntime) {
 #[test]
 fn a_writer_that_takes_nothing(rt: HostRuntime) {
     let ended = ended(&rt, &mut Full);
-    same!(rt; matches!(ended, Err(JobError::Write)), true);
+    expect_same(&rt, "fails", matches!(ended, Err(JobError::Write)), true);
 }
 
 /// The listing of a hold of 0 without end.
@@ -107,17 +136,27 @@ const SPIN_LISTING: &[u8; 118] =
 fn a_listing_fails_with_its_writer(rt: HostRuntime) {
     let mut writer = failing_at(rt.alloc(), 50);
     let listed = list_code(rt.alloc(), SPIN.as_bytes(), &mut writer);
-    same!(rt; matches!(listed, Err(JobError::Write)), true);
-    same!(rt; writer.calls, 50);
-    same!(rt; Some(writer.bytes.as_slice()), SPIN_LISTING.as_slice().get(..49));
+    expect_same(&rt, "fails", matches!(listed, Err(JobError::Write)), true);
+    expect_same(&rt, "calls", writer.calls, 50);
+    expect_same(
+        &rt,
+        "bytes",
+        Some(writer.bytes.as_slice()),
+        SPIN_LISTING.as_slice().get(..49),
+    );
     let listed = list_code(rt.alloc(), SPIN.as_bytes(), &mut Full);
-    same!(rt; matches!(listed, Err(JobError::Write)), true);
+    expect_same(&rt, "fails", matches!(listed, Err(JobError::Write)), true);
 }
 
 #[test]
 fn a_listing_goes_out_byte_by_byte(rt: HostRuntime) {
     let mut writer = failing_at(rt.alloc(), 0);
     let listed = list_code(rt.alloc(), SPIN.as_bytes(), &mut writer);
-    same!(rt; matches!(listed, Ok(())), true);
-    same!(rt; writer.bytes.as_slice(), SPIN_LISTING.as_slice());
+    expect_same(&rt, "whole", matches!(listed, Ok(())), true);
+    expect_same(
+        &rt,
+        "bytes",
+        writer.bytes.as_slice(),
+        SPIN_LISTING.as_slice(),
+    );
 }

@@ -1,9 +1,9 @@
 -- The bytes of a trace: the text of each instant, one after the other, and the end.
-use Rattle.std.specs.Prelude.{ℕ, zero, suc, true, false, nat_eq, if◌then◌else◌, List, [], ◌∷◌, ◌++◌, map, slice_get, unwrap_or, codes}
+use Rattle.std.specs.Prelude.{ℕ, zero, suc, true, false, nat_eq, if◌then◌else◌, List, [], ◌∷◌, ◌++◌, map, min, slice_get, unwrap_or, codes}
 use Rattle.std.specs.Fmt.{decimal, signed_decimal}
 use Rattle.std.specs.List.{flat_map}
 use Rattle.dv_time.specs.declared.time.Time.{Time}
-use Rattle.dv_time.specs.Time.{end_of, time_of, time_text}
+use Rattle.dv_time.specs.Time.{end_of, rank, time_of, time_text}
 use Rattle.dv_tree.specs.Paths.{name_at}
 use Rattle.dv_bag.specs.Bag.{Counts, values_of, size}
 use Rattle.dv_bag.specs.Part.{PartOf}
@@ -16,7 +16,7 @@ use Rattle.dv_bag.specs.declared.entry.Entry.{Entry}
 use Rattle.dv_bag.specs.declared.entry.Outer.{Outer}
 use Rattle.dv_devs.specs.Network.{Network, components_at, part_of_instant}
 use Rattle.dv_text.specs.declared.writing.Ending.{Ending}
-use Rattle.dv_text.specs.declared.writing.Ending.TheVariants.{Horizon}
+use Rattle.dv_text.specs.declared.writing.Ending.TheVariants.{Whole, Partial}
 
 -- the names by which a component is written: its path, and the names that its model declares, in order
 pub record ComponentNames : Type 0 where
@@ -96,11 +96,36 @@ instants_text all outputs limit net inputs (suc n) =
     instants_text all outputs limit net inputs n
     ++ instant_text all outputs (time_of limit n) (part_of_instant limit net n (inputs n) (components_at limit net inputs n))
 
+-- `process 0 clock 5.0`: how far a process came
+abbrev pub clock_text : ℕ → Time → List ℕ
+clock_text process t = codes "process " ++ (decimal process ++ (codes " clock " ++ (time_text t ++ (10 ∷ []))))
+
+-- how far processes came, from one on
+abbrev pub clocks_text : ℕ → List Time → List ℕ
+clocks_text process [] = []
+clocks_text process (t ∷ ts) = clock_text process t ++ clocks_text (suc process) ts
+
+-- how the text of a run that is not whole ends
+abbrev pub partial_ending : List Time → List ℕ
+partial_ending clocks = clocks_text 0 clocks ++ (codes "partial" ++ (10 ∷ []))
+
 -- how a text ends
 abbrev pub ending_text : Ending → List ℕ
-ending_text (Horizon horizon) = codes "whole " ++ (decimal horizon ++ (10 ∷ []))
+ending_text (Whole horizon) = codes "whole " ++ (decimal horizon ++ (10 ∷ []))
+ending_text (Partial clocks) = partial_ending clocks.items
 
 -- the text of a run of a network to a horizon
 abbrev pub whole_text : {I : Type 0} → List ComponentNames → List (List ℕ) → (limit : ℕ) → Network I → (ℕ → I) → (horizon : ℕ) → List ℕ
 whole_text all outputs limit net inputs horizon =
-    instants_text all outputs limit net inputs (end_of limit horizon) ++ ending_text (Horizon horizon)
+    instants_text all outputs limit net inputs (end_of limit horizon) ++ ending_text (Whole horizon)
+
+-- the rank of the least of clocks
+abbrev pub least_rank : ℕ → List Time → ℕ
+least_rank limit [] = 0
+least_rank limit (t ∷ []) = rank limit t
+least_rank limit (t ∷ u ∷ ts) = min (rank limit t) (least_rank limit (u ∷ ts))
+
+-- the text of a run of a network that came to these clocks: the lines of all instants before the least one
+abbrev pub partial_text : {I : Type 0} → List ComponentNames → List (List ℕ) → (limit : ℕ) → Network I → (ℕ → I) → List Time → List ℕ
+partial_text all outputs limit net inputs clocks =
+    instants_text all outputs limit net inputs (least_rank limit clocks) ++ partial_ending clocks

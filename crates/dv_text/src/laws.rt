@@ -8,12 +8,13 @@ ghost use Rattle.dv_devs.specs.Models.{clock};
 ghost use Rattle.dv_devs.specs.Rows.{no_input};
 ghost use Rattle.dv_text.specs.Clock.{clock_names, clock_outputs};
 ghost use Rattle.dv_text.specs.Merging.{text_of, trace_text};
-ghost use Rattle.dv_text.specs.declared.writing.Ending.TheVariants.{Horizon};
+ghost use Rattle.dv_text.specs.declared.writing.Ending.TheVariants.{Whole};
 ghost use Rattle.dv_text.specs.Texts.{ComponentNames, instants_text, whole_text};
 
 use dv_devs::laws::parts::instants_are_at_their_time;
 
-/// The lines of a trace, merged by time, are those of its instants one after the other. So is a whole text.
+/// The lines of a trace that is cut before a rank, merged by time, are those of its instants one after the other. So is a
+/// whole text.
 pub fn a_trace_is_its_instants<I>()
     ensures lines { (all : List ComponentNames) (outputs : List (List ℕ))
         → (limit : ℕ) (net : Network I) (inputs : ℕ → I) (n : ℕ)
@@ -22,7 +23,7 @@ pub fn a_trace_is_its_instants<I>()
     ensures whole { (all : List ComponentNames) (outputs : List (List ℕ))
         → (limit : ℕ) (net : Network I) (inputs : ℕ → I) (horizon : ℕ)
         → text_of all outputs (trace_before limit net inputs (end_of limit horizon))
-        (Horizon horizon)
+        (Whole horizon)
         ≡ whole_text all outputs limit net inputs horizon }
 {
     instants_are_at_their_time::<I>();

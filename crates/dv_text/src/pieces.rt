@@ -5,7 +5,7 @@ ghost use Rattle.std.specs.Ordering.{is_eq};
 ghost use Rattle.dv_time.specs.Time.{time_cmp};
 ghost use Rattle.dv_bag.specs.Reading.{datum_of};
 ghost use Rattle.std.specs.Fmt.{signed_decimal};
-ghost use Rattle.dv_text.specs.Texts.{datum_text, ending_text, port_text, values_text};
+ghost use Rattle.dv_text.specs.Texts.{clock_text, clocks_text, datum_text, ending_text, port_text, values_text};
 ghost use Rattle.dv_text.specs.Writing.{values_from};
 
 use crate::writing::Ending;
@@ -94,6 +94,28 @@ pub fn push_end(line: &mut String, ending: &Ending) -> Result<(), AllocError>
         string_bytes line.old ++ ending_text ending.now) }
 {
     match ending {
-        Ending::Horizon(horizon) => writeln!(line, "whole {horizon}"),
+        Ending::Whole(horizon) => writeln!(line, "whole {horizon}"),
+        Ending::Partial(clocks) => {
+            push_clocks(line, clocks.as_slice())?;
+            writeln!(line, "partial")
+        }
     }
+}
+
+// The lines of the clocks, by the numbers of their processes.
+fn push_clocks(line: &mut String, clocks: &[Time]) -> Result<(), AllocError>
+    ensures { OnOk result (string_bytes line.new ≡
+        string_bytes line.old ++ clocks_text 0 clocks.now) }
+{
+    for (process, clock) in clocks.iter().enumerate() {
+        push_clock(line, process, *clock)?;
+    }
+    Ok(())
+}
+
+fn push_clock(line: &mut String, process: usize, clock: Time) -> Result<(), AllocError>
+    ensures { OnOk result (string_bytes line.new ≡
+        string_bytes line.old ++ clock_text process clock) }
+{
+    writeln!(line, "process {process} clock {clock}")
 }

@@ -17,10 +17,12 @@ use std::alloc::{AllocError, Global};
 use std::io::Write;
 
 /// How a text ends.
-#[derive(Clone, Copy, Debug, PartialEq, Eq)]
+#[derive(Debug, Drop)]
 pub enum Ending {
     /// The trace reaches this horizon, in ticks.
-    Horizon(u64),
+    Whole(u64),
+    /// The processes came to these clocks, in the order of their numbers. The trace has what is before the least one.
+    Partial(Vec<Time>),
 }
 
 /// Why a text is not written to its end.

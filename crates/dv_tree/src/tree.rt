@@ -2,7 +2,7 @@
 
 ghost use Rattle.std.specs.Prelude.{◌≡◌, ◌<◌, ◌≤◌, length, map, slice_get, string_bytes, Some, IfOk};
 ghost use Rattle.std.specs.Option.{option_copied};
-ghost use Rattle.dv_syntax.specs.Trees.{atomic_of, file_of, model_of};
+ghost use Rattle.dv_syntax.specs.Trees.{AtomicModel, atomic_of, file_of, model_of};
 ghost use Rattle.dv_eval.specs.Scope.{scope_of};
 ghost use Rattle.dv_tree.specs.Instances.{instances, root_inputs, root_outputs};
 ghost use Rattle.dv_tree.specs.Nodes.{components_of_root, root_leaving, root_level, root_received};
@@ -144,6 +144,17 @@ impl<'c> Tree<'c> {
             ModelItem::Atomic(model) => model,
             ModelItem::Coupled(_) => unreachable!(),
         }
+    }
+
+    /// The place of a component's model among the models of the text. Components of one model have one place.
+    pub fn model_place(&self, component: usize) -> usize
+        requires { component < length (instances (file_of self.now.file)) }
+        ensures within { result < length (file_of self.now.file).models }
+        ensures model { slice_get (map (λ i. AtomicModel i.model)
+            (instances (file_of self.now.file))) component
+            ≡ slice_get (file_of self.now.file).models result }
+    {
+        self.components[component].model()
     }
 
     /// What the model of a component declares.

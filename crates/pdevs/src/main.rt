@@ -1,13 +1,14 @@
-//! The program: checks model texts, runs them and prints their traces, prints their programs, and explains refusals and
-//! faults.
+//! The program: checks model texts, runs them and prints their traces, prints their programs and their plans, and explains
+//! refusals and faults.
 #![tactic(auto)]
 
 mod report;
 #[cfg(test)]
 mod tests;
 
-use dv_command::{ModelFile, Request, RequestError, Run, request_of};
-use dv_job::{JobError, Options, check_bytes, list_code, run_plain, status};
+use dv_command::{ModelFile, PartitionChoice, Plan, Request, RequestError, Run, request_of};
+use dv_job::{JobError, Options, check_bytes, list_code, plan_bytes, run_bytes, status};
+use dv_partition::Partition;
 use report::{explained, explanation_text};
 use std::alloc::AllocError;
 use std::fmt::Display;
@@ -30,6 +31,22 @@ const REFUSED: u8 = 1;
 
 /// Words that are no command.
 const USAGE: u8 = 2;
+
+/// How a model is parted: by the text of a file, or into so many processes.
+#[derive(Drop)]
+enum Parting {
+    Text(Vec<u8>),
+    Count(u32),
+}
+
+impl Parting {
+    fn partition(&self) -> Partition<'_> {
+        match self {
+            Parting::Text(text) => Partition::Json(text.as_slice()),
+            Parting::Count(count) => Partition::Count(*count),
+        }
+    }
+}
 
 fn main(rt: HostRuntime) -> ExitCode {
     match answer(&rt) {
@@ -55,6 +72,7 @@ fn answer<R: AllocGlobal + Env + Files + Print + Eprint>(rt: &R) -> io::Result<u
         Ok(Request::Check(check)) => check_model(rt, &check),
         Ok(Request::Run(run)) => run_model(rt, &run),
         Ok(Request::Code(code)) => list_model(rt, &code),
+        Ok(Request::Plan(plan)) => plan_model(rt, &plan),
         Ok(Request::Explain(explanation)) => {
             print!(rt; "{}", explanation_text(rt.alloc(), explanation)?)?;
             Ok(ACCEPTED)
@@ -153,6 +171,41 @@ fn list_model<R: AllocGlobal + Files + Print + Eprint>(rt: &R, code: &ModelFile)
     }
 }
 
+/// Prints the plan that was asked for, and answers the status. Files are read in the order model, partition.
+fn plan_model<R: AllocGlobal + Files + Print + Eprint>(rt: &R, plan: &Plan) -> io::Result<u8> {
+    let Some(model) = bytes_of(rt, plan.model.as_str())? else {
+        return Ok(REFUSED);
+    };
+    let Some(parting) = parting_of(rt, plan.partition.as_ref())? else {
+        return Ok(REFUSED);
+    };
+    match plan_bytes(rt.alloc(), &model, parting.partition()) {
+        Ok(text) => {
+            println!(rt; "{text}")?;
+            Ok(ACCEPTED)
+        }
+        Err(error) => {
+            tell(rt, &model, &[], &error, plan.explained);
+            Ok(REFUSED)
+        }
+    }
+}
+
+/// The partition that was chosen, which is one process where none was. Where its file cannot be read, that is told.
+fn parting_of<R: AllocGlobal + Files + Eprint>(
+    rt: &R,
+    choice: Option<&PartitionChoice>,
+) -> io::Result<Option<Parting>> {
+    match choice {
+        Some(PartitionChoice::File(name)) => match bytes_of(rt, name.as_str())? {
+            Some(text) => Ok(Some(Parting::Text(text))),
+            None => Ok(None),
+        },
+        Some(PartitionChoice::Count(count)) => Ok(Some(Parting::Count(*count))),
+        None => Ok(Some(Parting::Count(1))),
+    }
+}
+
 /// The bytes of the inputs' file; none where no file is given. Where it cannot be read, that is told.
 fn inputs_of<R: AllocGlobal + Files + Eprint>(rt: &R, run: &Run) -> io::Result<Option<Vec<u8>>> {
     match &run.inputs {
@@ -161,9 +214,12 @@ fn inputs_of<R: AllocGlobal + Files + Eprint>(rt: &R, run: &Run) -> io::Result<O
     }
 }
 
-/// Runs what was asked for, and answers the status. Files are read in the order model, inputs.
+/// Runs what was asked for, and answers the status. Files are read in the order model, partition, inputs.
 fn run_model<R: AllocGlobal + Files + Print + Eprint>(rt: &R, run: &Run) -> io::Result<u8> {
     let Some(model) = bytes_of(rt, run.model.as_str())? else {
+        return Ok(REFUSED);
+    };
+    let Some(parting) = parting_of(rt, run.partition.as_ref())? else {
         return Ok(REFUSED);
     };
     let Some(inputs) = inputs_of(rt, run)? else {
@@ -174,7 +230,14 @@ fn run_model<R: AllocGlobal + Files + Print + Eprint>(rt: &R, run: &Run) -> io::
         return Ok(USAGE);
     };
     let mut writer = io::writer(rt);
-    let mut result = run_plain(rt.alloc(), &model, &inputs, &options, &mut writer);
+    let mut result = run_bytes(
+        rt.alloc(),
+        &model,
+        &inputs,
+        parting.partition(),
+        &options,
+        &mut writer,
+    );
     if writer.flush().is_err() {
         result = Err(JobError::Write);
     }

@@ -4,7 +4,7 @@ use dv_explain::{Example, Explanation, excerpt, excerpt_of_line, explanation_of}
 use dv_job::JobError;
 use std::alloc::{AllocError, Global};
 
-/// What an error means, with the line of the model or of the inputs at which it was found. Nothing where neither is at
+/// What an error means, with the line of the model or of the inputs at which it was found. Nothing where no text is at
 /// fault.
 pub fn explained(
     alloc: Global,
@@ -22,6 +22,10 @@ pub fn explained(
             let shown = excerpt_of_line(alloc, inputs, refusal.line)?;
             let code = format!(in alloc; "{}", refusal.number)?;
             with_words(alloc, shown, code.as_str())
+        }
+        JobError::Partition(refusal) => {
+            let code = format!(in alloc; "{refusal}")?;
+            with_words(alloc, String::new(alloc), code.as_str())
         }
         JobError::Write | JobError::Memory => Ok(String::new(alloc)),
     }

@@ -1,10 +1,11 @@
 //! What the words of a command line ask for, and what is reported of how a run ended.
 
 use crate::report::{explained, explanation_text};
-use dv_command::{Request, RequestError, Run, request_of};
+use dv_command::{PartitionChoice, Plan, Request, RequestError, Run, request_of};
 use dv_explain::{Example, Explanation};
 use dv_inputs::{InputRefusal, InputRefusalNumber};
 use dv_job::{JobEnded, JobError, Options, check_bytes, run_plain, status};
+use dv_partition::PartitionRefusal;
 use std::alloc::{AllocError, Global};
 use std::fmt::Debug;
 use std::process::Abort;
@@ -24,20 +25,41 @@ fn command_line(alloc: Global, words: &[&str]) -> Result<Vec<String>, AllocError
     Ok(all)
 }
 
-// Model, horizon, microstep limit and inputs.
+// How a model is parted.
+fn push_partition(
+    text: &mut String,
+    partition: Option<&PartitionChoice>,
+) -> Result<(), AllocError> {
+    match partition {
+        Some(PartitionChoice::File(name)) => write!(text, " by {name}"),
+        Some(PartitionChoice::Count(count)) => write!(text, " in {count}"),
+        None => Ok(()),
+    }
+}
+
+// Model and partition.
+fn plan_text(alloc: Global, plan: &Plan) -> Result<String, AllocError> {
+    let way = if plan.explained { "explained " } else { "" };
+    let mut text = format!(in alloc; "{way}plan {}", plan.model)?;
+    push_partition(&mut text, plan.partition.as_ref())?;
+    Ok(text)
+}
+
+// Model, horizon, microstep limit, partition and inputs.
 fn run_text(alloc: Global, run: &Run) -> Result<String, AllocError> {
     let way = if run.explained { "explained " } else { "" };
     let mut text = format!(in alloc; "{way}{} {}", run.model, run.horizon)?;
     if let Some(limit) = run.microsteps {
         write!(text, " {limit}")?;
     }
+    push_partition(&mut text, run.partition.as_ref())?;
     if let Some(inputs) = &run.inputs {
         write!(text, " with {inputs}")?;
     }
     Ok(text)
 }
 
-// What is asked for: a check, a listing, a run, an explanation, or usage.
+// What is asked for: a check, a listing, a plan, a run, an explanation, or usage.
 fn summary(alloc: Global, words: &[String]) -> Result<String, AllocError> {
     match request_of(alloc, words) {
         Ok(Request::Check(check)) if check.explained => format!(in alloc;
@@ -50,6 +72,7 @@ fn summary(alloc: Global, words: &[String]) -> Result<String, AllocError> {
             code.model
         ),
         Ok(Request::Code(code)) => format!(in alloc; "code {}", code.model),
+        Ok(Request::Plan(plan)) => plan_text(alloc, &plan),
         Ok(Request::Run(run)) => run_text(alloc, &run),
         Ok(Request::Explain(explanation)) => format!(in alloc; "explain {}", explanation.code),
         Err(RequestError::Usage(usage)) if usage.text.is_empty() => String::from_str(
@@ -150,15 +173,65 @@ fn a_run_is_asked_for(rt: HostRuntime) {
 }
 
 #[test]
+fn a_partition_is_asked_for(rt: HostRuntime) {
+    rows(
+        &rt,
+        &[
+            (&["plan", "m.pd"], "plan m.pd"),
+            (&["plan", "--explain", "m.pd"], "explained plan m.pd"),
+            (
+                &["plan", "m.pd", "--partition", "p.json"],
+                "plan m.pd by p.json",
+            ),
+            (&["plan", "m.pd", "--processes=3"], "plan m.pd in 3"),
+            (&["plan", "--processes", "0", "m.pd"], "plan m.pd in 0"),
+            (
+                &["run", "m.pd", "--horizon", "5", "--processes", "4294967295"],
+                "m.pd 5 in 4294967295",
+            ),
+            (
+                &[
+                    "run",
+                    "m.pd",
+                    "--partition=p.json",
+                    "--horizon",
+                    "5",
+                    "--inputs",
+                    "i.txt",
+                ],
+                "m.pd 5 by p.json with i.txt",
+            ),
+            (&["plan"], "usage"),
+            (&["plan", "m.pd", "--horizon", "5"], "usage"),
+            (&["plan", "m.pd", "--inputs", "i.txt"], "usage"),
+            (&["plan", "m.pd", "--processes"], "usage"),
+            (&["plan", "m.pd", "--processes", "4294967296"], "usage"),
+            (&["plan", "m.pd", "--processes", "-1"], "usage"),
+            (
+                &["plan", "m.pd", "--processes", "1", "--processes", "1"],
+                "usage",
+            ),
+            (
+                &["plan", "m.pd", "--processes", "1", "--partition", "p.json"],
+                "usage",
+            ),
+            (&["check", "m.pd", "--processes", "1"], "usage"),
+        ],
+    );
+}
+
+#[test]
 fn an_explanation_is_asked_for(rt: HostRuntime) {
     rows(
         &rt,
         &[
             (&["explain", "E7"], "explain E7"),
             (&["explain", "I2"], "explain I2"),
+            (&["explain", "Q4"], "explain Q4"),
             (&["explain", "overflow"], "explain overflow"),
             (&["explain", "e7"], "usage"),
             (&["explain", "E19"], "usage"),
+            (&["explain", "Q5"], "usage"),
             (&["explain"], "usage"),
         ],
     );
@@ -217,6 +290,7 @@ fn endings_have_statuses_and_lines(rt: HostRuntime) {
     expect_same(&rt, "no write", status(&Err(JobError::Write)), 1);
     same_line(&rt, &JobError::Write, "write");
     same_line(&rt, &JobError::Memory, "E18");
+    same_line(&rt, &JobError::Partition(PartitionRefusal::Q3), "Q3");
 }
 
 #[test]

@@ -1,13 +1,13 @@
 use Rattle.std.proofs.Common.{◌<◌, ◌+◌, ◌++◌, ◌∙◌, length, map, ap, arith}
-use Rattle.dv_plain.specs.Components.{rank_of}
+use Rattle.dv_react.specs.Components.{rank_of}
 use Rattle.dv_syntax.specs.Trees.{atomic_of, file_of}
 use Rattle.dv_tree.specs.Instances.{instances}
-use Rattle.dv_plain.specs.Outputs.{fault_of, sent_of}
+use Rattle.dv_react.specs.Outcomes.{fault_of, sent_of}
 use Rattle.dv_plain.proofs.Steps.{one_more, outputs_from, outputs_from-step, wait-at}
 use Rattle.dv_plain.proofs.network.emit_all.Goals as goal
 
-pub emit-requires : goal.emit-requires
-emit-requires c =
+pub emit-requires-clause-wait : goal.emit-requires-clause-wait
+emit-requires-clause-wait c =
     wait-at c.args.instant.now.limit c.args.components.now c.loop-k.k c.index-components-k.result
     (omega arith) c.index-components-k.is c.requires.waits
 

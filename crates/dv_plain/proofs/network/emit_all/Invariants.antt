@@ -1,8 +1,9 @@
 use Rattle.std.proofs.Common.{◌≡◌, ◌++◌, map}
-use Rattle.dv_plain.specs.Components.{rank_of}
+use Rattle.dv_react.specs.Components.{rank_of}
 use Rattle.dv_syntax.specs.Trees.{file_of}
 use Rattle.dv_tree.specs.Instances.{instances}
-use Rattle.dv_plain.specs.Outputs.{fault_of, sent_of, outputs}
+use Rattle.dv_react.specs.Outcomes.{fault_of, sent_of}
+use Rattle.dv_plain.specs.Outputs.{outputs}
 use Rattle.dv_plain.proofs.Steps.{behaviours_from, components_from}
 use Rattle.dv_plain.proofs.network.emit_all.Given as goal
 

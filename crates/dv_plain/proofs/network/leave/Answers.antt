@@ -1,5 +1,5 @@
 use Rattle.std.proofs.Common.{◌≡◌, ◌<◌, ◌+◌, ◌++◌, ◌∷◌, [], drop, length, get_or, ap, sym, ◌∙◌, arith, true, false, nat_eq}
-use Rattle.dv_plain.specs.Components.{rank_of}
+use Rattle.dv_react.specs.Components.{rank_of}
 use Rattle.dv_bag.specs.Bag.{Counts, size}
 use Rattle.dv_devs.specs.Network.{outer_from}
 use Rattle.dv_bag.specs.Part.{PartOf}

@@ -1,5 +1,5 @@
 use Rattle.std.proofs.Common.{◌≡◌, ◌++◌, drop}
-use Rattle.dv_plain.specs.Components.{rank_of}
+use Rattle.dv_react.specs.Components.{rank_of}
 use Rattle.dv_devs.specs.Network.{outer_from}
 use Rattle.dv_plain.proofs.network.leave.Given as goal
 

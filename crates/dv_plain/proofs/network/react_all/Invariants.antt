@@ -3,8 +3,8 @@ use Rattle.std.specs.List.{All}
 use Rattle.dv_syntax.specs.Trees.{file_of}
 use Rattle.dv_devs.specs.Behaviour.{Reaction}
 use Rattle.dv_tree.specs.Instances.{instances}
-use Rattle.dv_plain.specs.declared.component.Running.{Running}
-use Rattle.dv_plain.specs.Components.{IsWaitOfRun, component_of, rank_of}
+use Rattle.dv_react.specs.declared.running.Running.{Running}
+use Rattle.dv_react.specs.Components.{IsWaitOfRun, component_of, rank_of}
 use Rattle.dv_plain.proofs.Steps.{entries_from, reactions_from}
 use Rattle.dv_plain.proofs.network.react_all.Given as goal
 

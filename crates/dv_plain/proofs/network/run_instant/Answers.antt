@@ -8,7 +8,7 @@ use Rattle.dv_bag.specs.declared.entry.Entry.{Entry}
 use Rattle.dv_bag.specs.declared.entry.Outer.{Outer}
 use Rattle.dv_tree.specs.Routing.{arrives, leaves}
 use Rattle.dv_plain.specs.Outputs.{reactions_at}
-use Rattle.dv_plain.specs.Components.{component_of, rank_of}
+use Rattle.dv_react.specs.Components.{component_of, rank_of}
 use Rattle.dv_plain.specs.Source.{network_of}
 use Rattle.dv_plain.proofs.Lines.{emissions-outputs}
 use Rattle.dv_plain.proofs.network.run_instant.Goals as goal

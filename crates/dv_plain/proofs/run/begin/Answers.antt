@@ -4,8 +4,8 @@ use Rattle.std.proofs.lemmas.List.Elements.{All-push}
 use Rattle.dv_syntax.specs.Trees.{atomic_of, file_of}
 use Rattle.dv_devs.specs.Behaviour.{Component}
 use Rattle.dv_tree.specs.Instances.{Instance, instances}
-use Rattle.dv_plain.specs.declared.component.Running.{Running}
-use Rattle.dv_plain.specs.Components.{IsWaitOfRun, component_of}
+use Rattle.dv_react.specs.declared.running.Running.{Running}
+use Rattle.dv_react.specs.Components.{IsWaitOfRun, component_of}
 use Rattle.dv_plain.specs.Source.{start_of}
 use Rattle.dv_plain.proofs.Steps.{starts-end, starts-turn}
 use Rattle.dv_plain.proofs.run.begin.Goals as goal

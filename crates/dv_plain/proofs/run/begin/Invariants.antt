@@ -2,8 +2,8 @@ use Rattle.std.proofs.Common.{◌≡◌, ◌++◌, drop, map}
 use Rattle.std.specs.List.{All}
 use Rattle.dv_syntax.specs.Trees.{file_of}
 use Rattle.dv_tree.specs.Instances.{Instance, instances}
-use Rattle.dv_plain.specs.declared.component.Running.{Running}
-use Rattle.dv_plain.specs.Components.{IsWaitOfRun, component_of}
+use Rattle.dv_react.specs.declared.running.Running.{Running}
+use Rattle.dv_react.specs.Components.{IsWaitOfRun, component_of}
 use Rattle.dv_plain.specs.Source.{start_of}
 use Rattle.dv_plain.proofs.run.begin.Given as goal
 

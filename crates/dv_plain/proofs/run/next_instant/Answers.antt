@@ -3,7 +3,7 @@ use Rattle.dv_time.specs.Time.{IsOfRun, next_rank, rank}
 use Rattle.dv_bag.specs.Inputs.{tick_at}
 use Rattle.dv_devs.specs.NextTimes.{earlier, least_next}
 use Rattle.dv_plain.specs.InputTimes.{start_of_tick}
-use Rattle.dv_plain.specs.Components.{IsNextOfRun, components_of}
+use Rattle.dv_react.specs.Components.{IsNextOfRun, components_of}
 use Rattle.dv_plain.proofs.Least.{earlier-none}
 use Rattle.dv_plain.proofs.run.next_instant.Goals as goal
 

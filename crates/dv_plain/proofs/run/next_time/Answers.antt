@@ -1,7 +1,7 @@
 use Rattle.std.proofs.Common.{map}
 use Rattle.dv_time.specs.Time.{next_rank}
 use Rattle.dv_devs.specs.NextTimes.{least_next}
-use Rattle.dv_plain.specs.Components.{component_of}
+use Rattle.dv_react.specs.Components.{component_of}
 use Rattle.dv_plain.proofs.Least.{least-all, least-step}
 use Rattle.dv_plain.proofs.Steps.{wait-at}
 use Rattle.dv_plain.proofs.run.next_time.Goals as goal

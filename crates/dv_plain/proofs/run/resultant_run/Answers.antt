@@ -9,9 +9,9 @@ use Rattle.dv_devs.specs.Network.{components_after, part_of_instant}
 use Rattle.dv_devs.specs.NextTimes.{IsFrom, earlier, least_next}
 use Rattle.dv_bag.specs.Part.{joined}
 use Rattle.dv_tree.specs.Instances.{root_inputs}
-use Rattle.dv_plain.specs.declared.component.Running.{Running}
+use Rattle.dv_react.specs.declared.running.Running.{Running}
 use Rattle.dv_plain.specs.InputTimes.{start_of_tick}
-use Rattle.dv_plain.specs.Components.{IsWaitOfRun, component_of}
+use Rattle.dv_react.specs.Components.{IsWaitOfRun, component_of}
 use Rattle.dv_plain.specs.Source.{network_of, outside}
 use Rattle.dv_plain.proofs.Reached.{Reached, reached-end, reached-matched, reached-place, reached-start, reached-step, work, work-step}
 use Rattle.dv_plain.proofs.run.resultant_run.Goals as goal

@@ -1,7 +1,7 @@
 use Rattle.std.specs.List.{All}
 use Rattle.dv_syntax.specs.Trees.{file_of}
-use Rattle.dv_plain.specs.declared.component.Running.{Running}
-use Rattle.dv_plain.specs.Components.{IsWaitOfRun}
+use Rattle.dv_react.specs.declared.running.Running.{Running}
+use Rattle.dv_react.specs.Components.{IsWaitOfRun}
 use Rattle.dv_plain.proofs.Reached.{Laws, Reached, work}
 use Rattle.dv_plain.proofs.run.resultant_run.Given as goal
 

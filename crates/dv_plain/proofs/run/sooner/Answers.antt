@@ -1,5 +1,5 @@
 use Rattle.std.proofs.Common.{subst}
-use Rattle.dv_plain.specs.Components.{IsWaitOfRun}
+use Rattle.dv_react.specs.Components.{IsWaitOfRun}
 use Rattle.dv_plain.proofs.run.sooner.Goals as goal
 
 pub returns-in-Until-clause-of_run : goal.returns-in-Until-clause-of_run

@@ -2,7 +2,7 @@ use Rattle.std.proofs.Common.{◌++◌, ap}
 use Rattle.dv_time.specs.Time.{end_of}
 use Rattle.dv_devs.specs.Network.{components_at}
 use Rattle.dv_text.specs.Texts.{ending_text}
-use Rattle.dv_text.specs.declared.writing.Ending.TheVariants.{Horizon}
+use Rattle.dv_text.specs.declared.writing.Ending.TheVariants.{Whole}
 use Rattle.dv_text.proofs.Instants.{trace-instants}
 use Rattle.dv_text.proofs.laws.a_trace_is_its_instants.Goals as goal
 
@@ -15,4 +15,4 @@ returns-clause-lines g c =
 
 pub returns-clause-whole : goal.returns-clause-whole
 returns-clause-whole g c = λ all outputs limit net inputs horizon.
-    ap (λ t. t ++ ending_text (Horizon horizon)) (returns-clause-lines g c all outputs limit net inputs (end_of limit horizon))
+    ap (λ t. t ++ ending_text (Whole horizon)) (returns-clause-lines g c all outputs limit net inputs (end_of limit horizon))

@@ -1,14 +1,15 @@
-use Rattle.std.proofs.Common.{List, ◌<◌, length, ◌++◌, [], drop, string_bytes, refl, sym, ap, ◌∙◌, append-nil, arith}
+use Rattle.std.proofs.Common.{List, ◌<◌, length, ◌++◌, [], drop, string_bytes, refl, sym, ap, ◌∙◌, append-nil, length-append, arith}
 use Rattle.dv_bag.specs.declared.entry.Entry.{Entry}
 use Rattle.dv_bag.specs.declared.entry.Outer.{Outer}
 use Rattle.std.specs.List.{flat_map}
 use Rattle.std.proofs.lemmas.Result.{on_err_weaker}
 use Rattle.dv_text.specs.Merging.{group_text, groups_of, lines_by_time, text_of}
 use Rattle.dv_text.specs.Names.{tree_names, tree_ports}
-use Rattle.dv_text.specs.Texts.{ending_text}
+use Rattle.dv_time.specs.declared.time.Time.{Time}
+use Rattle.dv_text.specs.Texts.{ending_text, partial_ending}
 use Rattle.dv_text.specs.Writing.{StopsShort}
 use Rattle.dv_text.specs.declared.writing.Ending.{Ending}
-use Rattle.dv_text.specs.declared.writing.Ending.TheVariants.{Horizon}
+use Rattle.dv_text.specs.declared.writing.Ending.TheVariants.{Whole, Partial}
 use Rattle.dv_text.proofs.Merging.{last_groups}
 use Rattle.dv_text.proofs.Taking.{TakesFront-nothing, TakesFront-left, TakesFront-more, TakesFront-pushed}
 use Rattle.dv_text.proofs.Taking.{TakesFront-rest, AppendsBeginning-short, StopsShort-from, StopsShort-after, StopsShort-more}
@@ -31,8 +32,12 @@ loop-entry-init g c =
     ∙ ap (λ z. z ++ text) (sym c.new-line.ensures.bytes) in
     TakesFront-left start (TakesFront-nothing (g.W.Write.contents c.args.writer.now) (text_of all names trace c.args.ending.now))
 
+partial_some : (clocks : List Time) → 0 < length (partial_ending clocks)
+partial_some clocks = simp length-append (omega arith)
+
 ending-some : (e : Ending) → 0 < length (ending_text e)
-ending-some (Horizon horizon) = omega arith
+ending-some (Whole horizon) = omega arith
+ending-some (Partial clocks) = partial_some clocks.items
 
 pub returns-in_err-outer-clause-err : goal.returns-in_err-outer-clause-err
 returns-in_err-outer-clause-err g c =

@@ -1,0 +1,94 @@
+//! Each public call once, against values that were worked out by hand.
+
+use crate::{Agenda, Arrival, Coming, Inbox};
+use dv_time::Time;
+use std::alloc::AllocError;
+use std::test::Fail;
+
+fn at(tick: u64, micro: u32) -> Time {
+    Time { tick, micro }
+}
+
+fn coming(tick: u64, value: i64) -> Coming {
+    Coming {
+        time: at(tick, 0),
+        arrival: Arrival {
+            component: 2,
+            port: 1,
+            value,
+            copies: 1,
+        },
+    }
+}
+
+#[test]
+fn an_agenda_knows_who_is_first(rt: HostRuntime) -> Result<(), Fail> {
+    let mut agenda = Agenda::new(rt.alloc(), 5)?;
+    assert_eq!(rt; agenda.first(), None);
+    assert_eq!(rt; agenda.places(), 5);
+    agenda.set(4, Some(at(3, 1)));
+    agenda.set(1, Some(at(3, 0)));
+    agenda.set(0, Some(at(3, 1)));
+    assert_eq!(rt; agenda.first(), Some(at(3, 0)));
+    agenda.set(1, None);
+    assert_eq!(rt; agenda.first(), Some(at(3, 1)));
+    let mut due = Vec::new(rt.alloc());
+    agenda.due(at(3, 1), &mut due)?;
+    assert_eq!(rt; due.as_slice(), [0u32, 4].as_slice());
+    assert_eq!(rt; agenda.wait_of(4), Some(at(3, 1)));
+    assert_eq!(rt; agenda.wait_of(3), None);
+    Ok(())
+}
+
+#[test]
+fn an_agenda_of_one_place_or_none(rt: HostRuntime) -> Result<(), Fail> {
+    let none = Agenda::new(rt.alloc(), 0)?;
+    assert_eq!(rt; none.first(), None);
+    let mut one = Agenda::new(rt.alloc(), 1)?;
+    one.set(0, Some(at(7, 0)));
+    assert_eq!(rt; one.first(), Some(at(7, 0)));
+    let mut due = Vec::new(rt.alloc());
+    one.due(at(7, 0), &mut due)?;
+    assert_eq!(rt; due.as_slice(), [0u32].as_slice());
+    Ok(())
+}
+
+#[test]
+fn an_inbox_keeps_what_comes_by_time(rt: HostRuntime) -> Result<(), Fail> {
+    let mut inbox = Inbox::new(rt.alloc());
+    assert_eq!(rt; inbox.first(), None);
+    inbox.add_all(&[coming(5, 50), coming(9, 90)])?;
+    inbox.add_all(&[coming(4, 40), coming(5, 51)])?;
+    assert_eq!(rt; inbox.first(), Some(at(4, 0)));
+    inbox.remove(at(4, 0));
+    assert_eq!(rt; inbox.first(), Some(at(5, 0)));
+    assert_eq!(rt; inbox.at(at(5, 0)).len(), 2);
+    assert_eq!(rt;
+        inbox.at(at(5, 0)).get(1).map(|arrival| arrival.value),
+        Some(51)
+    );
+    assert_eq!(rt; inbox.at(at(6, 0)).len(), 0);
+    Ok(())
+}
+
+#[test]
+fn a_packet_that_finds_no_memory_changes_nothing(rt: HostRuntime) -> Result<(), Fail> {
+    let mut inbox = Inbox::new(rt.alloc());
+    if inbox.add_all(&[coming(5, 50)]).is_err() {
+        return Ok(());
+    }
+    let outcome: Result<(), AllocError> = inbox.add_all(&[
+        coming(4, 40),
+        coming(5, 51),
+        coming(6, 60),
+    ]);
+    if outcome.is_err() {
+        assert_eq!(rt; inbox.first(), Some(at(5, 0)));
+        assert_eq!(rt; inbox.at(at(4, 0)).len(), 0);
+        assert_eq!(rt; inbox.at(at(5, 0)).len(), 1);
+        assert_eq!(rt; inbox.at(at(6, 0)).len(), 0);
+    } else {
+        assert_eq!(rt; inbox.at(at(5, 0)).len(), 2);
+    }
+    Ok(())
+}

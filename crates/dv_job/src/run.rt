@@ -1,0 +1,102 @@
+//! The run of a model in processes.
+
+ghost use Rattle.std.specs.Prelude.{IfOk, IfErr};
+ghost use Rattle.dv_syntax.specs.Trees.{file_of};
+ghost use Rattle.dv_job.specs.Job.{IsCheckedFileOf};
+ghost use Rattle.dv_job.specs.Running.{EndsBy, LeftByRun};
+
+use crate::ended::{JobEnded, JobError};
+use crate::load::{load, load_groups, load_inputs, load_links, unloaded};
+use crate::options::Options;
+use crate::written::write_ran;
+use dv_bag::Bags;
+use dv_check::Checked;
+use dv_partition::Partition;
+use dv_serial::compiled_run;
+use dv_sound::numbers::inputs_are_of_numbers;
+use dv_text::laws::a_trace_is_its_instants;
+use dv_tree::Tree;
+use std::alloc::Global;
+use std::io::Write;
+
+/// Runs the model of a text in processes, by programs and direct links, on one thread, with the inputs that another text
+/// says, and writes the trace to the horizon. Inputs past the horizon are tested and not played; an empty text has none.
+/// Today all groups of the partition run in one process.
+///
+/// # Errors
+///
+/// `Text` is the answer to the model's text; `Partition`, where the model is accepted, that to the partition; `Inputs`,
+/// where both are, that to the inputs' text; nothing was written then. For the others `JobError` says what the writer
+/// holds.
+pub fn run_bytes<W: Write>(
+    alloc: Global,
+    model: &[u8],
+    inputs: &[u8],
+    groups: Partition<'_>,
+    options: &Options,
+    writer: &mut W,
+) -> Result<JobEnded, JobError>
+    ensures ended { IfOk result (λ ended. EndsBy ended model.now inputs.now groups.entry
+        options.now.horizon options.now.limit (W.contents writer.old) (W.contents writer.new)) }
+    ensures error { IfErr result (λ e. LeftByRun e model.now inputs.now groups.entry
+        options.now.horizon options.now.limit (W.contents writer.old) (W.contents writer.new)) }
+{
+    match load(alloc, model) {
+        Ok(checked) => run_checked(alloc, &checked, model, inputs, groups, options, writer),
+        Err(error) => Err(unloaded(model, error)),
+    }
+}
+
+/// Runs the model of a checked text.
+fn run_checked<W: Write>(
+    alloc: Global,
+    checked: &Checked,
+    model: &[u8],
+    inputs: &[u8],
+    groups: Partition<'_>,
+    options: &Options,
+    writer: &mut W,
+) -> Result<JobEnded, JobError>
+    requires checked { IsCheckedFileOf model.now checked.now.names (file_of checked.now.file) }
+    ensures ended { IfOk result (λ ended. EndsBy ended model.now inputs.now groups.entry
+        options.now.horizon options.now.limit (W.contents writer.old) (W.contents writer.new)) }
+    ensures error { IfErr result (λ e. LeftByRun e model.now inputs.now groups.entry
+        options.now.horizon options.now.limit (W.contents writer.old) (W.contents writer.new)) }
+{
+    let tree = Tree::of(alloc, checked)?;
+    run_tree(alloc, &tree, model, inputs, groups, options, writer)
+}
+
+/// Runs the model of the tree of a checked text.
+fn run_tree<W: Write>(
+    alloc: Global,
+    tree: &Tree,
+    model: &[u8],
+    inputs: &[u8],
+    groups: Partition<'_>,
+    options: &Options,
+    writer: &mut W,
+) -> Result<JobEnded, JobError>
+    requires checked { IsCheckedFileOf model.now tree.now.names (file_of tree.now.file) }
+    ensures ended { IfOk result (λ ended. EndsBy ended model.now inputs.now groups.entry
+        options.now.horizon options.now.limit (W.contents writer.old) (W.contents writer.new)) }
+    ensures error { IfErr result (λ e. LeftByRun e model.now inputs.now groups.entry
+        options.now.horizon options.now.limit (W.contents writer.old) (W.contents writer.new)) }
+{
+    // The text of a trace is that of its instants, one after the other.
+    a_trace_is_its_instants::<Bags>();
+    // The values of inputs that were read are numbers of the language.
+    inputs_are_of_numbers();
+    let flat = load_links(alloc, model, tree)?;
+    let groups = load_groups(alloc, tree, flat.paths.as_slice(), groups)?;
+    let played = load_inputs(alloc, inputs, tree)?;
+    let ran = compiled_run(
+        alloc,
+        tree,
+        &flat.links,
+        played,
+        options.horizon,
+        options.limit,
+    )?;
+    write_ran(alloc, tree, &ran, options.horizon, writer)
+}

@@ -1,0 +1,97 @@
+//! What ran, written.
+
+ghost use Rattle.std.specs.Prelude.{◌≡◌, ◌++◌, ◌∷◌, [], IfOk, IfErr, OnOk};
+ghost use Rattle.std.specs.Io.KnownBytes.{Appends};
+ghost use Rattle.dv_text.specs.Merging.{text_of, trace_text};
+ghost use Rattle.dv_text.specs.Names.{tree_names, tree_ports};
+ghost use Rattle.dv_text.specs.Texts.{partial_ending};
+ghost use Rattle.dv_text.specs.declared.writing.Ending.TheVariants as text_end;
+ghost use Rattle.dv_job.specs.Ending.{ending_of};
+ghost use Rattle.dv_job.specs.Written.{IsUnwritten, ended_at, text_to};
+ghost use Rattle.dv_job.specs.declared.ended.JobEnded.TheVariants.{Partial};
+ghost use Rattle.dv_job.specs.declared.ended.Why.TheVariants as why;
+
+use crate::ended::{JobEnded, JobError, Why};
+use crate::faults::ending_of;
+use dv_bag::{Part, Trace};
+use dv_serial::{Ended, Ran};
+use dv_text::{Ending, write_trace};
+use dv_time::Time;
+use dv_tree::Tree;
+use std::alloc::{AllocError, Global};
+use std::io::Write;
+
+/// Writes the text of what ran.
+///
+/// # Errors
+///
+/// `Write` and `Memory`: the writer holds a beginning of the text that is not all of it, for `Memory` perhaps nothing.
+pub fn write_ran<W: Write>(
+    alloc: Global,
+    tree: &Tree,
+    ran: &Ran,
+    horizon: u64,
+    writer: &mut W,
+) -> Result<JobEnded, JobError>
+    ensures ending { IfOk result (λ ended. ended ≡ ended_at ran.now.ended ran.now) }
+    ensures text { OnOk result (Appends (W.contents writer.old) (W.contents writer.new)
+        (text_to ran.now.ended (tree_names tree.now) (tree_ports tree.now) horizon ran.now)) }
+    ensures error { IfErr result (λ e. IsUnwritten e
+        (text_to ran.now.ended (tree_names tree.now) (tree_ports tree.now) horizon ran.now)
+        (W.contents writer.old) (W.contents writer.new)) }
+{
+    match ran.ended {
+        Ended::Whole => write_whole(alloc, tree, &ran.part, horizon, writer),
+        Ended::Memory => write_cut(alloc, tree, &ran.part, ran.clock, writer),
+    }
+}
+
+// Writes the text of a whole trace.
+fn write_whole<W: Write>(
+    alloc: Global,
+    tree: &Tree,
+    trace: &Trace,
+    horizon: u64,
+    writer: &mut W,
+) -> Result<JobEnded, JobError>
+    ensures ending { IfOk result (λ ended. ended ≡ ending_of trace.now) }
+    ensures text { OnOk result (Appends (W.contents writer.old) (W.contents writer.new)
+        (text_of (tree_names tree.now) (tree_ports tree.now) trace.now (text_end.Whole horizon))) }
+    ensures error { IfErr result (λ e. IsUnwritten e
+        (text_of (tree_names tree.now) (tree_ports tree.now) trace.now (text_end.Whole horizon))
+        (W.contents writer.old) (W.contents writer.new)) }
+{
+    write_trace(alloc, trace, tree, &Ending::Whole(horizon), writer)?;
+    Ok(ending_of(trace))
+}
+
+// Writes the text of a trace that is cut at the clock of its one process, which memory was refused.
+fn write_cut<W: Write>(
+    alloc: Global,
+    tree: &Tree,
+    part: &Part,
+    clock: Time,
+    writer: &mut W,
+) -> Result<JobEnded, JobError>
+    ensures ending { IfOk result (λ ended. ended ≡ Partial why.Memory) }
+    ensures text { OnOk result (Appends (W.contents writer.old) (W.contents writer.new)
+        (trace_text (tree_names tree.now) (tree_ports tree.now) part.now
+        ++ partial_ending (clock ∷ []))) }
+    ensures error { IfErr result (λ e. IsUnwritten e
+        (trace_text (tree_names tree.now) (tree_ports tree.now) part.now
+        ++ partial_ending (clock ∷ []))
+        (W.contents writer.old) (W.contents writer.new)) }
+{
+    let clocks = only(alloc, clock)?;
+    write_trace(alloc, part, tree, &Ending::Partial(clocks), writer)?;
+    Ok(JobEnded::Partial(Why::Memory))
+}
+
+// The list of one clock.
+fn only(alloc: Global, clock: Time) -> Result<Vec<Time>, AllocError>
+    ensures { IfOk result (λ clocks. clocks.items ≡ clock ∷ []) }
+{
+    let mut clocks = Vec::new(alloc);
+    clocks.push(clock)?;
+    Ok(clocks)
+}

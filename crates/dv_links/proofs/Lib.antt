@@ -1,0 +1,2 @@
+-- The order of the links.
+pub mod Rising

@@ -1,0 +1,16 @@
+pub mod Undoing
+pub mod Waits
+pub mod Ports
+pub mod Inboxes
+pub mod Due
+pub mod Keeping
+pub mod FirstHeld
+pub mod InputTimes
+pub mod Reaching
+pub mod Outside
+pub mod FirstInput
+pub mod Begun
+pub mod Nexts
+pub mod TakesPlace
+pub mod Sending
+pub mod Starts

@@ -1,0 +1,125 @@
+-- What takes place at an instant is what the theory says, and the components after it are put in.
+use Rattle.std.proofs.Common.{◌≡◌, ℕ, ◌<◌, ◌≤◌, Bool, true, false, cond, nat_eq, List, [], ◌∷◌, ◌++◌, length, map, take, Option, Some, None, refl, sym, ap, ap₂, subst, ◌∙◌, arith}
+use Rattle.std.specs.List.{All}
+use Rattle.dv_time.specs.Time.{IsOfRun, rank, time_of}
+use Rattle.dv_time.specs.declared.time.Time.{Time}
+use Rattle.dv_time.proofs.Ranks.{time_of-rank}
+use Rattle.dv_bag.specs.Bag.{Counts}
+use Rattle.dv_bag.specs.Inputs.{inputs_at}
+use Rattle.dv_bag.specs.Part.{PartOf, joined}
+use Rattle.dv_bag.specs.declared.entry.Entry.{Entry}
+use Rattle.dv_bag.specs.declared.entry.Outer.{Outer}
+use Rattle.dv_bag.specs.declared.state.State.{State}
+use Rattle.dv_devs.specs.Behaviour.{Behaviour, Reaction}
+use Rattle.dv_devs.specs.Network.{components_after, emissions, entries_by, instant, outer_from, part_of_instant}
+use Rattle.dv_conservative.specs.Flat.{network}
+use Rattle.dv_conservative.specs.Links.{Delivery, carried, inbox, sent_of as sent_from}
+use Rattle.dv_react.specs.Components.{components_of}
+use Rattle.dv_react.specs.declared.outcome.Outcome.{Outcome}
+use Rattle.dv_react.specs.declared.running.Running.{Running}
+use Rattle.dv_agenda.specs.Comings.{Arrivals, arrivals_at}
+use Rattle.dv_share.specs.Share.{AreComponents, AreEmitted, AreOutcomes, flat_by, left_from, numbers_of, reactions_by, sent_in, sents_by}
+use Rattle.dv_share.specs.declared.place.Placed.{Placed}
+use Rattle.dv_proc.specs.Local.{IsAfterInstant, View, input_at}
+use Rattle.dv_local.specs.Happenings.{IsHappening, delivered_by, nexts_of}
+use Rattle.dv_agenda.specs.declared.arrival.Arrival.{Arrival}
+use Rattle.dv_share.specs.Links.{deliveries_of}
+use Rattle.dv_share.specs.declared.link.Delivery.{Delivery as DeliveryOfCode}
+use Rattle.dv_local.specs.States.{delivery_of, held_by, view_by}
+use Rattle.dv_local.specs.Shares.{share_by}
+use Rattle.dv_agenda.proofs.RanksOfWaits.{same_as_rank}
+use Rattle.dv_share.proofs.Places.{differ}
+use Rattle.dv_local.specs.Undoing.{AreWithin, arrivals_but, is_taken, undone}
+use Rattle.dv_local.specs.declared.happening.Happening.{Happening}
+use Rattle.dv_local.specs.declared.state.LocalState.{LocalState}
+use Rattle.dv_local.proofs.Nexts.{nexts_put, nexts_within}
+use Rattle.dv_local.proofs.Sending.{same_numbers}
+
+module _ {S : Type 0} (behaviour : S → Behaviour) (fits : S → State → Type 0) (x : LocalState S) (n : ℕ)
+    (outside : List Counts) (ds : List Delivery) (os : List (Placed Outcome)) (h : Happening) where
+  instant_part : AreEmitted behaviour x.share.tables n x.components.running.items x.emitted.items
+      → AreOutcomes behaviour x.share.tables n x.components.running.items outside ds x.emitted.items os
+      → (es : List Entry) (ls : List Outer)
+      → es ≡ entries_by x.share.tables.limit n (numbers_of x.share.tables.members.items) (reactions_by x.share.tables.limit 0 x.components.running.items x.emitted.items os)
+      → ls ≡ outer_from x.share.tables.limit n 0 (inbox 0 (carried x.share.tables.exits (sent_in x.share.tables.members.items x.emitted.items)) 0 x.share.tables.outputs)
+      → (let p : PartOf = record { entries = es; outer = ls } in p)
+      ≡ part_of_instant x.share.tables.limit (network (flat_by behaviour x.share.tables)) n (outside, ds) (components_of x.share.tables.limit x.components.running.items)
+  instant_part emitted outcomes es ls e l =
+      let t = x.share.tables in
+      let net = network (flat_by behaviour t) in
+      let cs = components_of t.limit x.components.running.items in
+      let numbers = same_numbers behaviour t.limit t.models.items t.members.items in
+      ap₂ (λ (entries : List Entry) (outer : List Outer). let p : PartOf = record { entries = entries; outer = outer } in p)
+      (e
+      ∙ ap (λ (rs : List Reaction). entries_by t.limit n (numbers_of t.members.items) rs) (sym outcomes.reactions)
+      ∙ ap (λ (ks : List ℕ). entries_by t.limit n ks (instant t.limit net n (outside, ds) cs)) (sym numbers))
+      (l
+      ∙ ap (λ (sent : List (List Counts)). outer_from t.limit n 0 (inbox 0 (carried t.exits (sent_from (numbers_of t.members.items) sent)) 0 t.outputs)) (sym emitted.sent)
+      ∙ ap (λ (ks : List ℕ). outer_from t.limit n 0 (inbox 0 (carried t.exits (sent_from ks (emissions net.behaviours n cs))) 0 t.outputs)) (sym numbers))
+
+  pub happening_is : (input : (outside, ds) ≡ input_at (view_by behaviour x) n)
+      → AreEmitted behaviour x.share.tables n x.components.running.items x.emitted.items
+      → AreOutcomes behaviour x.share.tables n x.components.running.items outside ds x.emitted.items os
+      → AreComponents fits x.share.tables (left_from 0 x.components.running.items os)
+      → (es : List Entry) (ls : List Outer)
+      → es ≡ entries_by x.share.tables.limit n (numbers_of x.share.tables.members.items) (reactions_by x.share.tables.limit 0 x.components.running.items x.emitted.items os)
+      → ls ≡ outer_from x.share.tables.limit n 0 (inbox 0 (carried x.share.tables.exits (sent_in x.share.tables.members.items x.emitted.items)) 0 x.share.tables.outputs)
+      → h.part ≡ (let p : PartOf = record { entries = es; outer = ls } in p)
+      → h.next.items ≡ nexts_of x.components.running.items os
+      → IsHappening behaviour fits n x h
+  happening_is input emitted outcomes stand es ls e l part next =
+      let t = x.share.tables in
+      let rs = x.components.running.items in
+      let net = network (flat_by behaviour t) in
+      let put : undone h.next.items rs ≡ left_from 0 rs os = ap (λ (ys : List (Placed Running)). undone ys rs) next ∙ nexts_put rs os outcomes.places in
+      record {
+        part = part ∙ instant_part emitted outcomes es ls e l
+            ∙ ap (λ (i : List Counts × List Delivery). part_of_instant t.limit net n i (components_of t.limit rs)) input;
+        after = ap (λ (ss : List Running). components_of t.limit ss) put ∙ sym outcomes.after
+            ∙ ap (λ (i : List Counts × List Delivery). components_after t.limit net n i (components_of t.limit rs)) input;
+        components = subst (λ (ss : List Running). AreComponents fits t ss) (sym put) stand;
+        within = subst (λ (ys : List (Placed Running)). AreWithin (length rs) ys) (sym next) (nexts_within rs os outcomes.places.within);
+      }
+
+delivered : (xs : List Arrival) → deliveries_of (map delivered_by xs) ≡ map delivery_of xs
+delivered [] = refl
+delivered (x ∷ xs) = ap (λ (ds : List Delivery). delivery_of x ∷ ds) (delivered xs)
+
+-- what comes in is what is seen to come in
+pub input_is : {S : Type 0} (behaviour : S → Behaviour) (x : LocalState S) (now : Time) (outside : List Counts) (ds : List DeliveryOfCode)
+    → IsOfRun x.share.tables.limit now → x.undo.taken ≡ None → outside ≡ inputs_at x.share.tables.limit x.share.ports x.share.inputs (rank x.share.tables.limit now)
+    → ds ≡ map delivered_by (arrivals_at now x.inbox) → (outside, deliveries_of ds) ≡ input_at (view_by behaviour x) (rank x.share.tables.limit now)
+input_is behaviour x now outside ds of_run taken o d =
+    let limit = x.share.tables.limit in
+    ap₂ (λ (a : List Counts) (b : List Delivery). (a, b)) o
+    (ap (λ (es : List DeliveryOfCode). deliveries_of es) d
+    ∙ delivered (arrivals_at now x.inbox)
+    ∙ ap (λ (t : Time). map delivery_of (arrivals_at t x.inbox)) (sym (time_of-rank limit now of_run))
+    ∙ ap (λ (u : Option Time). map delivery_of (arrivals_but u (time_of limit (rank limit now)) x.inbox)) (sym taken))
+
+not_taken : (limit m : ℕ) (now : Time) → IsOfRun limit now → rank limit now < m → is_taken (Some now) (time_of limit m) ≡ false
+not_taken limit m now of_run lt =
+    same_as_rank limit m now of_run ∙ differ (rank limit now) m (λ e. absurd (omega (arith, lt, e)))
+
+-- the instant took place
+pub took_place : {S : Type 0} (behaviour : S → Behaviour) (fits : S → State → Type 0) (x : LocalState S) (now : Time) (h : Happening)
+    (rs : List Running) (p : PartOf)
+    → IsOfRun x.share.tables.limit now → x.undo.taken ≡ None → IsHappening behaviour fits (rank x.share.tables.limit now) x h
+    → rs ≡ undone h.next.items x.components.running.items → p ≡ joined x.committed h.part
+    → IsAfterInstant (rank x.share.tables.limit now) (view_by behaviour x)
+    (let v : View = record {
+      share = share_by behaviour x.share;
+      components = components_of x.share.tables.limit rs;
+      committed = p;
+      held = held_by x.share.tables.limit (Some now) x.inbox;
+    } in v)
+took_place behaviour fits x now h rs p of_run taken happening components committed =
+    let limit = x.share.tables.limit in
+    record {
+      share = refl;
+      components = ap (λ (ss : List Running). components_of limit ss) components ∙ happening.after;
+      committed = committed ∙ ap (λ (q : PartOf). joined x.committed q) happening.part;
+      held = λ m lt.
+          ap (λ (b : Bool). map delivery_of (cond b [] (arrivals_at (time_of limit m) x.inbox))) (not_taken limit m now of_run lt)
+          ∙ ap (λ (t : Option Time). held_by limit t x.inbox m) (sym taken);
+    }

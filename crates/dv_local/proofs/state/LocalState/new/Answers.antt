@@ -1,0 +1,31 @@
+use Rattle.std.proofs.Common.{◌<◌, List, length, map, ap, sym, subst, ◌∙◌}
+use Rattle.dv_time.specs.Time.{time_of}
+use Rattle.dv_agenda.specs.declared.arrival.Arrival.{Arrival}
+use Rattle.dv_react.specs.declared.running.Running.{Running}
+use Rattle.dv_share.specs.Share.{AreComponents, StandByPlace}
+use Rattle.dv_share.specs.declared.place.Placed.{Placed}
+use Rattle.dv_local.specs.States.{delivery_of}
+use Rattle.dv_local.specs.Undoing.{AreWithin, undone, waits_of}
+use Rattle.dv_local.proofs.Begun.{none_arrive, nothing_yet}
+use Rattle.dv_local.proofs.Undoing.{all_none}
+use Rattle.dv_local.proofs.state.LocalState.new.Goals as goal
+
+pub returns-clause-kept : goal.returns-clause-kept
+returns-clause-kept g c =
+    let t = c.args.share.tables in
+    let rs = c.args.running.items in
+    record {
+      share = c.requires.share;
+      all_come = c.requires.comes;
+      components = c.requires.components;
+      agenda = c.in_ok-agenda.ensures ∙ ap (λ (ss : List Running). waits_of ss) c.deref.ensures.value;
+      arrive = none_arrive t.limit t.members.items c.new.result c.new.ensures.empty;
+      within = subst (λ (xs : List (Placed Running)). AreWithin (length rs) xs) (sym c.new-3.ensures.items) (all_none (λ (p : Placed Running). p.place < length rs));
+      before = subst (λ (xs : List (Placed Running)). AreComponents g.A.Atomic.fits t (undone xs rs)) (sym c.new-3.ensures.items) c.requires.components;
+      emitted = subst (λ (xs : List (Placed _)). StandByPlace (length t.members.items) xs) (sym c.new-4.ensures.items)
+          (record { rise = tt; within = all_none _ });
+      still = tt;
+    }
+
+pub returns-clause-held : goal.returns-clause-held
+returns-clause-held g c = λ n. ap (λ (xs : List Arrival). map delivery_of xs) (nothing_yet c.new.result c.new.ensures.empty (time_of c.args.share.tables.limit n))

@@ -1,0 +1,83 @@
+-- What the components of a process stand at.
+use Rattle.std.specs.Prelude.{◌≡◌, ℕ, ◌<◌, List, [], map, take, length, Option, None, Some}
+use Rattle.std.specs.List.{All}
+use Rattle.dv_time.specs.Time.{IsOfRun, rank, time_of}
+use Rattle.dv_time.specs.declared.time.Time.{Time}
+use Rattle.dv_bag.specs.Bag.{Counts}
+use Rattle.dv_bag.specs.declared.state.State.{State}
+use Rattle.dv_devs.specs.Behaviour.{Behaviour}
+use Rattle.dv_react.specs.Components.{components_of}
+use Rattle.dv_conservative.specs.Links.{Delivery}
+use Rattle.dv_agenda.specs.Comings.{Arrivals, arrivals_at}
+use Rattle.dv_agenda.specs.declared.arrival.Arrival.{Arrival}
+use Rattle.dv_share.specs.Share.{AreComponents, AreEmitted, StandByPlace, sents_by}
+use Rattle.dv_share.specs.declared.tables.Member.{Member}
+use Rattle.dv_proc.specs.Local.{View}
+use Rattle.dv_local.specs.Shares.{IsShare, IsPortOf, share_by}
+use Rattle.dv_local.specs.Undoing.{AreWithin, arrivals_but, undone, waits_of}
+use Rattle.dv_local.specs.declared.state.LocalState.{LocalState}
+
+-- the delivery that an arrival is: its component goes by its number
+abbrev pub delivery_of : Arrival → Delivery
+delivery_of a = record { component = a.component; port = a.port; value = a.value; copies = a.copies }
+
+-- what an inbox holds for each rank, but for a time that is taken
+abbrev pub held_by : ℕ → Option Time → Arrivals → ℕ → List Delivery
+held_by limit taken inbox n = map delivery_of (arrivals_but taken (time_of limit n) inbox)
+
+-- what is seen of it
+abbrev pub view_by : {S : Type 0} → (S → Behaviour) → LocalState S → View
+view_by behaviour x = record {
+  share = share_by behaviour x.share;
+  components = components_of x.share.tables.limit x.components.running.items;
+  committed = x.committed;
+  held = held_by x.share.tables.limit x.undo.taken x.inbox;
+}
+
+-- what was seen when all was settled
+abbrev pub settled_by : {S : Type 0} → (S → Behaviour) → LocalState S → View
+settled_by behaviour x = record {
+  share = share_by behaviour x.share;
+  components = components_of x.share.tables.limit (undone x.undo.before.items x.components.running.items);
+  committed = record { entries = take x.undo.entries x.committed.entries; outer = take x.undo.outer x.committed.outer };
+  held = held_by x.share.tables.limit None x.inbox;
+}
+
+-- what was sent at the time that was last asked about
+abbrev pub sent_of : {S : Type 0} → LocalState S → List (List Counts)
+sent_of x = sents_by 0 x.share.tables.members.items x.emitted.items
+
+-- an arrival brings something: there is a copy, and a port for it
+abbrev pub IsOfPort : List Member → Arrival → Type 0
+IsOfPort ms a = (0 < a.copies) × IsPortOf ms a.component a.port
+
+-- each arrival is at a time of the run and brings something
+abbrev pub AllArrive : ℕ → List Member → Arrivals → Type 0
+AllArrive limit ms inbox =
+    ((t : Time) → All (IsOfPort ms) (arrivals_at t inbox)) × ((t : Time) → 0 < length (arrivals_at t inbox) → IsOfRun limit t)
+
+-- what was emitted at a time, if there is one
+abbrev pub AreEmittedIf : {S : Type 0} → (S → Behaviour) → LocalState S → Option Time → Type 0
+AreEmittedIf behaviour x None = Unit {0}
+AreEmittedIf behaviour x (Some t) =
+    IsOfRun x.share.tables.limit t
+    × AreEmitted behaviour x.share.tables (rank x.share.tables.limit t) x.components.running.items x.emitted.items
+
+-- what is always so
+pub record IsKept {S : Type 0} (behaviour : S → Behaviour) (fits : S → State → Type 0) (comes : S → List Counts → Type 0) (x : LocalState S) : Type 0 where
+  pub share : IsShare fits x.share
+  pub all_come : (a : S) (bags : List Counts) → comes a bags
+  pub components : AreComponents fits x.share.tables x.components.running.items
+  pub agenda : x.agenda ≡ waits_of x.components.running.items
+  pub arrive : AllArrive x.share.tables.limit x.share.tables.members.items x.inbox
+  pub within : AreWithin (length x.components.running.items) x.undo.before.items
+  pub before : AreComponents fits x.share.tables (undone x.undo.before.items x.components.running.items)
+  pub emitted : StandByPlace (length x.share.tables.members.items) x.emitted.items
+  pub still : AreEmittedIf behaviour x x.emitted_at
+
+-- nothing was put in since all was settled
+pub record IsAtRest {S : Type 0} (x : LocalState S) : Type 0 where
+  pub before : x.undo.before.items ≡ []
+  pub entries : x.undo.entries ≡ length x.committed.entries
+  pub outer : x.undo.outer ≡ length x.committed.outer
+  pub taken : x.undo.taken ≡ None

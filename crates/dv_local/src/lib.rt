@@ -1,0 +1,34 @@
+//! The components of one process with the links between them: agenda, inbox, inputs from outside, what they committed, and
+//! how a turn that wants memory is taken back.
+#![tactic(auto)]
+
+/// A process as its run begins.
+pub mod beginning;
+
+/// The components, each access to which is counted.
+pub mod components;
+mod events;
+
+/// What takes place at an instant.
+pub mod happening;
+
+/// What a process asks for.
+pub mod local_run;
+
+/// The share of a process.
+pub mod share;
+
+/// What the components of a process stand at.
+pub mod state;
+
+/// How what was done is taken back.
+pub mod undo;
+mod waiting;
+
+pub use beginning::begin;
+pub use components::Components;
+pub use happening::Happening;
+pub use local_run::LocalRun;
+pub use share::{Share, Way};
+pub use state::LocalState;
+pub use undo::Undo;

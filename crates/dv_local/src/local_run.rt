@@ -1,0 +1,107 @@
+//! What a process asks of its components, over what they stand at.
+
+use crate::state::LocalState;
+use dv_bag::{Part, Response};
+use dv_proc::{Event, Frame, Local};
+use dv_react::Atomic;
+use dv_time::Time;
+use std::alloc::AllocError;
+use std::marker::Model;
+
+/// What the components of a process stand at, with all that is always so of it.
+#[derive(Drop)]
+pub struct LocalRun<A: Atomic> {
+    state: LocalState<A>,
+}
+
+impl<A: Atomic> Model for LocalRun<A> {
+    ghost use Rattle.std.specs.Coded.{codes};
+    ghost use Rattle.dv_agenda.specs.contracts.inbox.Inbox as inbox;
+    ghost use Rattle.dv_local.specs.declared.state.LocalState.{LocalState};
+    ghost use Rattle.dv_local.specs.States.{IsKept};
+
+    ghost Value = { LocalState A };
+
+    ghost coded = { Prim.hlevel (codes, inbox.the_row.coded) };
+
+    ghost view = { λ r. r.state };
+
+    ghost invariant = { λ r. IsKept A.behaviour A.fits A.comes r.state };
+}
+
+impl<A: Atomic> LocalRun<A> {
+    ghost use Rattle.std.specs.Prelude.{◌≡◌};
+    ghost use Rattle.dv_local.specs.States.{IsKept};
+
+    /// From what stands to be kept.
+    pub fn new(state: LocalState<A>) -> Self
+        requires { IsKept A.behaviour A.fits A.comes state }
+        ensures { result ≡ state }
+    {
+        LocalRun { state }
+    }
+}
+
+impl<A: Atomic + Drop> Local for LocalRun<A> {
+    ghost use Rattle.dv_local.specs.States.{sent_of, settled_by, view_by};
+
+    type Work = A::Work;
+
+    ghost view = { λ r. view_by A.behaviour r };
+
+    ghost settled = { λ r. settled_by A.behaviour r };
+
+    ghost sent = { λ r. sent_of r };
+
+    fn frame(&self) -> Frame {
+        self.state.frame()
+    }
+
+    fn response(&self) -> Response {
+        self.state.response()
+    }
+
+    fn is_port(&self, component: u32, port: u32) -> bool {
+        self.state.is_port(component, port)
+    }
+
+    fn keep(&mut self, events: &[Event]) -> Result<(), AllocError> {
+        self.state.keep(events)
+    }
+
+    fn next(&self) -> Option<Time> {
+        self.state.next()
+    }
+
+    fn first_input(&self, from: Time) -> Option<Time> {
+        self.state.first_input(from)
+    }
+
+    fn react(&mut self, work: &mut A::Work, now: Time) -> Result<(), AllocError> {
+        self.state.react(work, now)
+    }
+
+    fn emit(&mut self, work: &mut A::Work, now: Time) -> Result<(), AllocError> {
+        self.state.emit(work, now)
+    }
+
+    fn send(&self, place: usize, now: Time, into: &mut Vec<Event>) -> Result<(), AllocError> {
+        self.state.send(place, now, into)
+    }
+
+    fn committed(&self) -> &Part {
+        &self.state.committed
+    }
+
+    fn into_part(self) -> Part {
+        self.state.into_part()
+    }
+
+    fn settle(&mut self) {
+        self.state.settle();
+    }
+
+    fn roll_back(&mut self) {
+        self.state.roll_back();
+    }
+}

@@ -1,0 +1,342 @@
+//! What the components of a process stand at.
+
+ghost use Rattle.std.specs.Prelude.{◌≡◌, ◌++◌, ◌<◌, ◌^◌, ℕ, List, [], IfOk, length, map, None, OnErr, OnOk, Some, slice_get, true};
+ghost use Rattle.dv_time.specs.Time.{IsOfRun, rank};
+ghost use Rattle.dv_devs.specs.NextTimes.{least_next};
+ghost use Rattle.dv_conservative.specs.Events.{event_of};
+ghost use Rattle.dv_conservative.specs.Process.{Outgoing, end_rank, is_port_of};
+ghost use Rattle.dv_proc.specs.Foreseeing.{IsOfHold, IsOfRunIf, rank_if, ticks_of};
+ghost use Rattle.dv_proc.specs.Local.{IsAfterEvents, IsAfterInstant, IsFirstInput, are_for_ports, carried_away, sent_at};
+ghost use Rattle.dv_proc.specs.Packets.{meant_events};
+ghost use Rattle.dv_bag.specs.Part.{nothing};
+ghost use Rattle.dv_react.specs.Components.{components_of};
+ghost use Rattle.dv_bag.specs.Bag.{Counts};
+ghost use Rattle.dv_share.specs.Share.{AreComponents, AreEmitted};
+ghost use Rattle.dv_local.specs.Happenings.{IsHappening};
+ghost use Rattle.dv_local.specs.Shares.{IsShare, share_by};
+ghost use Rattle.dv_local.specs.States.{IsAtRest, IsKept, sent_of, settled_by, view_by};
+
+use crate::components::Components;
+use crate::events::{add_events, comings_of};
+use crate::happening::{Happening, deliveries_of, next_components};
+use crate::share::Share;
+use crate::undo::{Undo, agenda_of, let_go, put_all_back, put_in};
+use crate::waiting::{earlier, first_held, first_outside, is_taken, outside_at};
+use dv_agenda::{Agenda, Inbox};
+use dv_bag::{Fault, Part, Response, Sent};
+use dv_proc::{Event, Frame};
+use dv_react::{Atomic, Instant, Running};
+use dv_share::tables::place_of;
+use dv_share::{Placed, arrivals, away, emit, entries, outcomes, outer};
+use dv_time::Time;
+use std::alloc::{AllocError, Global};
+
+/// The components of one process with the links between them, what came for them, and what they committed. What they
+/// emitted at a time is kept until they change.
+#[derive(Drop)]
+pub struct LocalState<A> {
+    pub share: Share<A>,
+    pub components: Components,
+    pub agenda: Agenda,
+    pub inbox: Inbox,
+    pub committed: Part,
+    pub undo: Undo,
+    pub emitted: Vec<Placed<Result<Sent, Fault>>>,
+    pub emitted_at: Option<Time>,
+    pub alloc: Global,
+}
+
+impl<A: Atomic + Drop> LocalState<A> {
+    /// As a run begins: components of a share, for which nothing came yet.
+    ///
+    /// # Errors
+    ///
+    /// No memory for the agenda.
+    pub fn new(
+        alloc: Global,
+        share: Share<A>,
+        running: Vec<Running>,
+    ) -> Result<LocalState<A>, AllocError>
+        requires few { length running.items < 2 ^ 32 }
+        requires comes { (a : A) (bags : List Counts) → A.comes a bags }
+        requires share { IsShare A.fits share }
+        requires components { AreComponents A.fits share.tables running.items }
+        ensures kept { IfOk result (λ x. IsKept A.behaviour A.fits A.comes x) }
+        ensures share { IfOk result (λ x. (view_by A.behaviour x).share ≡ share_by A.behaviour share) }
+        ensures components { IfOk result (λ x. (view_by A.behaviour x).components
+            ≡ components_of share.tables.limit running.items) }
+        ensures committed { IfOk result (λ x. (view_by A.behaviour x).committed ≡ nothing) }
+        ensures held { IfOk result (λ x. (n : ℕ) → (view_by A.behaviour x).held n ≡ []) }
+        ensures settled { IfOk result (λ x. settled_by A.behaviour x ≡ view_by A.behaviour x) }
+    {
+        let agenda = agenda_of(alloc, &running)?;
+        Ok(LocalState {
+            share,
+            components: Components { running, visits: 0 },
+            agenda,
+            inbox: Inbox::new(alloc),
+            committed: Part::new(alloc),
+            undo: Undo {
+                before: Vec::new(alloc),
+                entries: 0,
+                outer: 0,
+                visits: 0,
+                taken: None,
+            },
+            emitted: Vec::new(alloc),
+            emitted_at: None,
+            alloc,
+        })
+    }
+
+    /// What was committed, moved out.
+    pub fn into_part(self) -> Part
+        ensures { result ≡ self.committed }
+    {
+        self.committed
+    }
+}
+
+impl<A: Atomic> LocalState<A> {
+    /// The frame of the run.
+    pub fn frame(&self) -> Frame
+        requires { IsKept A.behaviour A.fits A.comes self.now }
+        ensures limit { result.limit ≡ (view_by A.behaviour self.now).share.limit }
+        ensures horizon { result.horizon ≡ (view_by A.behaviour self.now).share.horizon }
+    {
+        Frame {
+            limit: self.share.tables.limit,
+            horizon: self.share.horizon,
+        }
+    }
+
+    /// A response of the components.
+    pub fn response(&self) -> Response
+        requires { IsKept A.behaviour A.fits A.comes self.now }
+        ensures ticks { ticks_of result ≡ (view_by A.behaviour self.now).share.response }
+        ensures hold { IsOfHold result }
+    {
+        self.share.response
+    }
+
+    /// Whether there is such an input port of a component.
+    pub fn is_port(&self, component: u32, port: u32) -> bool
+        requires { IsKept A.behaviour A.fits A.comes self.now }
+        ensures { result ≡ is_port_of (view_by A.behaviour self.now).share.flat.members component port }
+    {
+        let members = self.share.tables.members.as_slice();
+        match place_of(members, component) {
+            Some(place) => port < members[place].inputs,
+            None => false,
+        }
+    }
+
+    /// The least of the components' next times.
+    pub fn next(&self) -> Option<Time>
+        requires { IsKept A.behaviour A.fits A.comes self.now }
+        ensures least { rank_if (view_by A.behaviour self.now).share.limit result
+            ≡ least_next (view_by A.behaviour self.now).components }
+        ensures of_run { IsOfRunIf (view_by A.behaviour self.now).share.limit result }
+    {
+        self.agenda.first()
+    }
+
+    /// The first time from one on at which something comes for them, of what is held and from outside.
+    pub fn first_input(&self, from: Time) -> Option<Time>
+        requires kept { IsKept A.behaviour A.fits A.comes self.now }
+        requires of_run { IsOfRun (view_by A.behaviour self.now).share.limit from }
+        ensures { IsFirstInput (view_by A.behaviour self.now)
+            (rank (view_by A.behaviour self.now).share.limit from) result }
+    {
+        let held = first_held(&self.inbox, self.undo.taken, from);
+        let outside = first_outside(self.share.inputs.as_slice(), from);
+        earlier(held, outside)
+    }
+
+    /// Keeps events until their time. It is settled at once.
+    ///
+    /// # Errors
+    ///
+    /// No memory; then nothing that is seen changes.
+    pub fn keep(&mut self, events: &[Event]) -> Result<(), AllocError>
+        requires kept { IsKept A.behaviour A.fits A.comes self.old }
+        requires settled { settled_by A.behaviour self.old ≡ view_by A.behaviour self.old }
+        requires ports { are_for_ports (view_by A.behaviour self.old).share (meant_events events.now) ≡ true }
+        ensures is_kept { IsKept A.behaviour A.fits A.comes self.new }
+        ensures kept { OnOk result (IsAfterEvents (meant_events events.now)
+            (view_by A.behaviour self.old) (view_by A.behaviour self.new)) }
+        ensures err { OnErr result (view_by A.behaviour self.new ≡ view_by A.behaviour self.old) }
+        ensures settled { settled_by A.behaviour self.new ≡ view_by A.behaviour self.new }
+    {
+        self.settle();
+        let comings = comings_of(self.alloc, self.share.tables.limit, events)?;
+        self.inbox.add_all(&comings)
+    }
+
+    /// Finds what they send at a time, from their states alone. Each that is due is visited once; what was found for the
+    /// time already is found again without a visit.
+    ///
+    /// # Errors
+    ///
+    /// No memory; nothing that is seen has changed.
+    pub fn emit(&mut self, work: &mut A::Work, now: Time) -> Result<(), AllocError>
+        requires kept { IsKept A.behaviour A.fits A.comes self.old }
+        requires of_run { IsOfRun (view_by A.behaviour self.old).share.limit now }
+        requires before_end { rank (view_by A.behaviour self.old).share.limit now
+            < end_rank (view_by A.behaviour self.old).share }
+        ensures kept { IsKept A.behaviour A.fits A.comes self.new }
+        ensures sent { OnOk result (sent_of self.new
+            ≡ sent_at (view_by A.behaviour self.old) (rank (view_by A.behaviour self.old).share.limit now)) }
+        ensures view { view_by A.behaviour self.new ≡ view_by A.behaviour self.old }
+        ensures settled { settled_by A.behaviour self.new ≡ settled_by A.behaviour self.old }
+        ensures at_rest { IsAtRest self.old → IsAtRest self.new }
+        ensures emitted { OnOk result (AreEmitted A.behaviour self.new.share.tables
+            (rank self.new.share.tables.limit now) self.new.components.running.items self.new.emitted.items) }
+    {
+        if is_taken(self.emitted_at, now) {
+            return Ok(());
+        }
+        let instant = Instant {
+            time: now,
+            limit: self.share.tables.limit,
+        };
+        let mut due = Vec::new(self.alloc);
+        self.agenda.due(now, &mut due)?;
+        let components = self.components.running.as_slice();
+        let emitted = emit(
+            self.alloc,
+            &self.share.tables,
+            work,
+            &instant,
+            components,
+            &due,
+        )?;
+        self.components.count(due.len());
+        self.emitted = emitted;
+        self.emitted_at = Some(now);
+        Ok(())
+    }
+
+    /// The instant at a time: components react, and what happened is committed. Each that is due is visited once, if what
+    /// it emits was not found already, and each to which something happens once more.
+    ///
+    /// # Errors
+    ///
+    /// No memory; nothing that is seen has changed.
+    pub fn react(&mut self, work: &mut A::Work, now: Time) -> Result<(), AllocError>
+        requires kept { IsKept A.behaviour A.fits A.comes self.old }
+        requires settled { settled_by A.behaviour self.old ≡ view_by A.behaviour self.old }
+        requires of_run { IsOfRun (view_by A.behaviour self.old).share.limit now }
+        requires before_end { rank (view_by A.behaviour self.old).share.limit now
+            < end_rank (view_by A.behaviour self.old).share }
+        ensures kept { IsKept A.behaviour A.fits A.comes self.new }
+        ensures reacted { OnOk result (IsAfterInstant (rank (view_by A.behaviour self.old).share.limit now)
+            (view_by A.behaviour self.old) (view_by A.behaviour self.new)) }
+        ensures settled { settled_by A.behaviour self.new ≡ settled_by A.behaviour self.old }
+    {
+        self.settle();
+        self.emit(work, now)?;
+        let happening = self.happening(work, now)?;
+        self.undo.before.reserve(happening.next.len())?;
+        self.committed.append(happening.part)?;
+        put_in(
+            &mut self.components,
+            &mut self.agenda,
+            happening.next,
+            &mut self.undo.before,
+        );
+        self.emitted_at = None;
+        self.undo.taken = Some(now);
+        Ok(())
+    }
+
+    // What takes place at a time for which was found what is emitted.
+    fn happening(&self, work: &mut A::Work, now: Time) -> Result<Happening, AllocError>
+        requires kept { IsKept A.behaviour A.fits A.comes self.now }
+        requires of_run { IsOfRun self.now.share.tables.limit now }
+        requires before_end { rank self.now.share.tables.limit now
+            < end_rank (view_by A.behaviour self.now).share }
+        requires taken { self.now.undo.taken ≡ None }
+        requires emitted { AreEmitted A.behaviour self.now.share.tables
+            (rank self.now.share.tables.limit now) self.now.components.running.items self.now.emitted.items }
+        ensures happening { IfOk result (λ h. IsHappening A.behaviour A.fits
+            (rank self.now.share.tables.limit now) self.now h) }
+    {
+        let tables = &self.share.tables;
+        let instant = Instant {
+            time: now,
+            limit: tables.limit,
+        };
+        let components = self.components.running.as_slice();
+        let emitted = self.emitted.as_slice();
+        let outside = outside_at(self.alloc, &self.share.inputs, self.share.ports, now)?;
+        let held = deliveries_of(self.alloc, self.inbox.at(now))?;
+        let received = arrivals(self.alloc, tables, emitted, &outside, &held)?;
+        let outcomes = outcomes(
+            self.alloc, tables, work, &instant, components, emitted, &received,
+        )?;
+        let outer = outer(self.alloc, tables, &instant, emitted)?;
+        let entries = entries(self.alloc, &tables.members, &instant, emitted, &outcomes)?;
+        let next = next_components(self.alloc, components, outcomes)?;
+        Ok(Happening {
+            part: Part::from_lists(entries, outer),
+            next,
+        })
+    }
+
+    /// Adds the events of what they send by the outgoing link at a place, at the time that was last asked about.
+    ///
+    /// # Errors
+    ///
+    /// No memory; some events may have been added then.
+    pub fn send(&self, place: usize, now: Time, into: &mut Vec<Event>) -> Result<(), AllocError>
+        requires { IsKept A.behaviour A.fits A.comes self.now }
+        ensures { OnOk result ((out : Outgoing)
+            → slice_get (view_by A.behaviour self.now).share.outgoing place ≡ Some out
+            → meant_events into.new.items ≡ meant_events into.old.items
+            ++ map (event_of now) (carried_away (view_by A.behaviour self.now) out.links (sent_of self.now))) }
+    {
+        let ways = self.share.ways.as_slice();
+        if place >= ways.len() {
+            return Ok(());
+        }
+        let members = self.share.tables.members.as_slice();
+        let emitted = self.emitted.as_slice();
+        let deliveries = away(self.alloc, members, &ways[place].links, emitted)?;
+        add_events(into, now, &deliveries)
+    }
+
+    /// Lets what they stood at before go.
+    pub fn settle(&mut self)
+        requires { IsKept A.behaviour A.fits A.comes self.old }
+        ensures kept { IsKept A.behaviour A.fits A.comes self.new }
+        ensures view { view_by A.behaviour self.new ≡ view_by A.behaviour self.old }
+        ensures settled { settled_by A.behaviour self.new ≡ view_by A.behaviour self.old }
+        ensures at_rest { IsAtRest self.new }
+    {
+        let_go(&mut self.inbox, self.undo.taken);
+        self.undo.taken = None;
+        self.undo.before.clear();
+        self.undo.entries = self.committed.entry_count();
+        self.undo.outer = self.committed.outer_count();
+        self.undo.visits = self.components.visits;
+    }
+
+    /// Makes them stand again where they were settled.
+    pub fn roll_back(&mut self)
+        requires { IsKept A.behaviour A.fits A.comes self.old }
+        ensures kept { IsKept A.behaviour A.fits A.comes self.new }
+        ensures view { view_by A.behaviour self.new ≡ settled_by A.behaviour self.old }
+        ensures settled { settled_by A.behaviour self.new ≡ settled_by A.behaviour self.old }
+    {
+        put_all_back(
+            &mut self.components,
+            &mut self.agenda,
+            &mut self.undo.before,
+        );
+        self.components.visits = self.undo.visits;
+        self.committed.truncate(self.undo.entries, self.undo.outer);
+        self.emitted_at = None;
+        self.undo.taken = None;
+    }
+}

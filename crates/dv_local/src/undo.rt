@@ -1,0 +1,117 @@
+//! How what was done is taken back.
+
+ghost use Rattle.std.specs.Prelude.{◌≡◌, ◌<◌, ◌≤◌, ◌+◌, ◌-◌, ◌^◌, [], ◌∷◌, ◌++◌, IfOk, length, min, vec_capacity, vec_len};
+ghost use Rattle.dv_agenda.specs.Comings.{arrivals_at};
+ghost use Rattle.dv_time.specs.declared.time.Time.{Time as TimeOfCode};
+ghost use Rattle.dv_local.specs.Undoing.{AreWithin, arrivals_but, time_of_wait, undone, waits_of};
+
+use crate::components::Components;
+use dv_agenda::{Agenda, Inbox};
+use dv_react::{Running, Wait};
+use dv_share::Placed;
+use dv_time::Time;
+use std::alloc::{AllocError, Global};
+
+/// What stood when all was settled: the components that were put in since with those that stood there before, how much was
+/// committed, how often components were looked at, and the time whose arrivals are let go when all is settled again.
+#[derive(Drop)]
+pub struct Undo {
+    pub before: Vec<Placed<Running>>,
+    pub entries: usize,
+    pub outer: usize,
+    pub visits: u64,
+    pub taken: Option<Time>,
+}
+
+/// The time that a component waits for.
+pub(crate) fn time_of(wait: Wait) -> Option<Time>
+    ensures { result ≡ time_of_wait wait }
+{
+    match wait {
+        Wait::Until(time) => Some(time),
+        Wait::Forever | Wait::Quiet => None,
+    }
+}
+
+/// Lets go what arrives at a time, if there is one.
+pub(crate) fn let_go(inbox: &mut Inbox, taken: Option<Time>)
+    ensures { (t : TimeOfCode) → arrivals_at t inbox.new ≡ arrivals_but taken t inbox.old }
+{
+    if let Some(time) = taken {
+        inbox.remove(time);
+    }
+}
+
+/// Puts the components back that stood before, the last first. It wants no memory.
+pub(crate) fn put_all_back(
+    components: &mut Components,
+    agenda: &mut Agenda,
+    before: &mut Vec<Placed<Running>>,
+)
+    requires within { AreWithin (length components.old.running.items) before.old.items }
+    requires agenda { agenda.old ≡ waits_of components.old.running.items }
+    ensures components { components.new.running.items ≡ undone before.old.items components.old.running.items }
+    ensures visits { components.new.visits ≡ components.old.visits }
+    ensures agenda { agenda.new ≡ waits_of components.new.running.items }
+    ensures empty { before.new.items ≡ [] }
+{
+    while let Some(last) = before.pop() {
+        agenda.set(last.place, time_of(last.what.wait));
+        components.put_back(last.place, last.what);
+    }
+}
+
+/// Puts components in, and what stood in their places into a list in which there is room for it. Each is visited once.
+pub(crate) fn put_in(
+    components: &mut Components,
+    agenda: &mut Agenda,
+    mut next: Vec<Placed<Running>>,
+    before: &mut Vec<Placed<Running>>,
+)
+    requires within { AreWithin (length components.old.running.items) next.items }
+    requires within_before { AreWithin (length components.old.running.items) before.old.items }
+    requires agenda { agenda.old ≡ waits_of components.old.running.items }
+    requires room { vec_len before.old + vec_len next ≤ vec_capacity before.old }
+    ensures components { components.new.running.items ≡ undone next.items components.old.running.items }
+    ensures visits { components.new.visits ≡ min (components.old.visits + length next.items) (2 ^ 64 - 1) }
+    ensures agenda { agenda.new ≡ waits_of components.new.running.items }
+    ensures within { AreWithin (length components.new.running.items) before.new.items }
+    ensures before { undone before.new.items components.new.running.items
+        ≡ undone before.old.items components.old.running.items }
+{
+    components.count(next.len());
+    while let Some(placed) = next.pop() {
+        let place = placed.place;
+        agenda.set(place, time_of(placed.what.wait));
+        let what = components.replace(place, placed.what);
+        push_to_room(before, Placed { place, what });
+    }
+}
+
+// Pushes where there is room.
+fn push_to_room(before: &mut Vec<Placed<Running>>, placed: Placed<Running>)
+    requires { vec_len before.old < vec_capacity before.old }
+    ensures items { before.new.items ≡ before.old.items ++ placed ∷ [] }
+    ensures len { vec_len before.new ≡ vec_len before.old + 1 }
+    ensures capacity { vec_capacity before.old ≤ vec_capacity before.new }
+{
+    if before.push(placed).is_err() {
+        unreachable!("room was made");
+    }
+}
+
+/// The agenda of components: what each of them waits for.
+///
+/// # Errors
+///
+/// No memory for two waits a component, and as many again at most.
+pub fn agenda_of(alloc: Global, running: &[Running]) -> Result<Agenda, AllocError>
+    requires { length running.now < 2 ^ 32 }
+    ensures { IfOk result (λ agenda. agenda ≡ waits_of running.now) }
+{
+    let mut agenda = Agenda::new(alloc, running.len() as u32)?;
+    for (place, component) in running.iter().enumerate() {
+        agenda.set(place as u32, time_of(component.wait));
+    }
+    Ok(agenda)
+}

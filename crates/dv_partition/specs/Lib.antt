@@ -1,0 +1,9 @@
+-- What a reader believes: the answer to a partition.
+pub mod Groups
+pub mod Listed
+pub mod Answers
+-- What each part of the code does.
+pub mod Steps
+pub mod Grouped
+-- The words of a refusal.
+pub mod Words

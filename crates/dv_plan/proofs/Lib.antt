@@ -1,0 +1,18 @@
+-- Lists of which some items are kept.
+pub mod Lists
+-- The components of a share.
+pub mod Members
+-- What comes from outside to a share.
+pub mod Outside
+-- The response of a share.
+pub mod Holds
+-- What is made is a share.
+pub mod Shares
+-- Shares that are alike.
+pub mod Alike
+-- How many links between processes there are.
+pub mod Few
+-- The inputs that are kept.
+pub mod Ticks
+-- Links to a process that is not there.
+pub mod Between

@@ -1,0 +1,55 @@
+-- Inputs that are kept of inputs whose ticks never fall.
+use Rattle.std.proofs.Common.{◌≡◌, ℕ, ◌+◌, ◌<◌, ◌≤◌, Bool, true, false, cond, List, [], ◌∷◌, ◌++◌, length, drop, filter, get_or, ap, sym, ◌∙◌, subst, arith}
+use Rattle.std.proofs.lemmas.List.{at_drop_more}
+use Rattle.dv_time.specs.declared.TheConstants.{GREATEST_TICK}
+use Rattle.dv_bag.specs.Inputs.{IsFrom, last_tick}
+use Rattle.dv_bag.specs.declared.inputs.Input.{Input}
+
+first_of : (low : ℕ) (x : Input) (xs : List Input) → IsFrom low (x ∷ xs) → low ≤ x.tick
+first_of low x xs h = h.0
+
+small_of : (low : ℕ) (x : Input) (xs : List Input) → IsFrom low (x ∷ xs) → x.tick ≤ GREATEST_TICK
+small_of low x xs h = h.1
+
+rest_of : (low : ℕ) (x : Input) (xs : List Input) → IsFrom low (x ∷ xs) → IsFrom x.tick xs
+rest_of low x xs h = h.2
+
+lower : (low high : ℕ) (xs : List Input) → low ≤ high → IsFrom high xs → IsFrom low xs
+lower low high [] le h = tt
+lower low high (x ∷ xs) le h = (omega (arith, le, h.0), h.1, h.2)
+
+kept_from : (test : Input → Bool) (low : ℕ) (xs : List Input) → IsFrom low xs → IsFrom low (filter test xs)
+kept_from test low [] h = tt
+kept_from test low (x ∷ xs) h = by_test (test x) (kept_from test x.tick xs h.2)
+  where
+    by_test : (b : Bool) → IsFrom x.tick (filter test xs) → IsFrom low (cond b (x ∷ filter test xs) (filter test xs))
+    by_test true rest = (h.0, h.1, rest)
+    by_test false rest = lower low x.tick (filter test xs) h.0 rest
+
+last_before : (low : ℕ) (xs : List Input) (y : Input) (ys : List Input) → IsFrom low (xs ++ y ∷ ys) → last_tick xs ≤ y.tick
+last_before low [] y ys h = omega arith
+last_before low (x ∷ []) y ys h = first_of x.tick y ys (rest_of low x (y ∷ ys) h)
+last_before low (x ∷ z ∷ xs) y ys h = last_before x.tick (z ∷ xs) y ys (rest_of low x (z ∷ (xs ++ y ∷ ys)) h)
+
+small_at : (low : ℕ) (xs : List Input) (y : Input) (ys : List Input) → IsFrom low (xs ++ y ∷ ys) → y.tick ≤ GREATEST_TICK
+small_at low [] y ys h = small_of low y ys h
+small_at low (x ∷ xs) y ys h = small_at x.tick xs y ys (rest_of low x (xs ++ y ∷ ys) h)
+
+-- one more that passes comes after those that are kept
+module _ (test : Input → Bool) (xs kept : List Input) (i : ℕ) (d x : Input) (lt : i < length xs) (at : get_or xs i d ≡ x) (passes : test x ≡ true)
+    (so_far : kept ++ filter test (drop i xs) ≡ filter test xs) (from : IsFrom 0 xs) where
+  all_from : IsFrom 0 (kept ++ x ∷ filter test (drop (i + 1) xs))
+  all_from =
+      let rest = drop (i + 1) xs in
+      subst (IsFrom 0)
+      (sym so_far
+      ∙ at_drop_more (λ ys. kept ++ filter test ys) xs i d lt
+      ∙ ap (λ y. kept ++ filter test (y ∷ rest)) at
+      ∙ ap (λ b. kept ++ cond b (x ∷ filter test rest) (filter test rest)) passes)
+      (kept_from test 0 xs from)
+
+  pub comes_after : last_tick kept ≤ x.tick
+  comes_after = last_before 0 kept x (filter test (drop (i + 1) xs)) all_from
+
+  pub is_within : x.tick ≤ GREATEST_TICK
+  is_within = small_at 0 kept x (filter test (drop (i + 1) xs)) all_from

@@ -1,0 +1,69 @@
+-- What is planned, as a job: a flat model with what comes to it, in the processes of its components.
+use Rattle.std.specs.Prelude.{ℕ, ◌<◌, ◌≤◌, ◌^◌, List, length, map}
+use Rattle.std.specs.List.{All, AllByRecursion}
+use Rattle.dv_time.specs.declared.TheConstants.{GREATEST_LIMIT, GREATEST_TICK}
+use Rattle.dv_bag.specs.Inputs.{inputs_at}
+use Rattle.dv_bag.specs.declared.response.Response.{Response}
+use Rattle.dv_bag.specs.declared.state.State.{State}
+use Rattle.dv_devs.specs.Behaviour.{Behaviour}
+use Rattle.dv_conservative.specs.Channels.{all_channels}
+use Rattle.dv_conservative.specs.Responses.{least_response}
+use Rattle.dv_conservative.specs.World.{Job}
+use Rattle.dv_react.specs.Components.{IsWaitOfRun}
+use Rattle.dv_share.specs.Links.{RiseBySender, links_of}
+use Rattle.dv_share.specs.Places.{AreRising}
+use Rattle.dv_share.specs.Share.{FitsAt, flat_by, numbers_of}
+use Rattle.dv_share.specs.declared.tables.Member.{Member}
+use Rattle.dv_share.specs.declared.tables.Tables.{Tables}
+use Rattle.dv_proc.specs.Foreseeing.{IsOfHold, ticks_of}
+use Rattle.dv_partition.specs.Groups.{Grouping, owner_of}
+use Rattle.dv_plan.specs.declared.whole.Whole.{Whole}
+
+-- its components and links, as the tables of one process that has them all
+abbrev pub tables_of : {S : Type 0} → Whole S → Tables S
+tables_of w = record {
+  limit = w.limit;
+  members = w.members;
+  models = w.models;
+  links = links_of w.links.direct.items;
+  entrances = links_of w.links.entrances.items;
+  exits = links_of w.links.exits.items;
+  outputs = w.outputs;
+}
+
+-- the job that it is, in these processes
+abbrev pub job_by : {S : Type 0} → (S → Behaviour) → Whole S → Grouping → Job
+job_by behaviour w g = record {
+  limit = w.limit;
+  horizon = w.horizon;
+  flat = flat_by behaviour (tables_of w);
+  outside = inputs_at w.limit w.ports w.inputs;
+  processes = g.processes;
+  owner = owner_of g;
+  channels = all_channels (owner_of g) (links_of w.links.direct.items) g.processes;
+  responses = λ p. least_response (owner_of g) p 0 (map ticks_of w.responses.items);
+}
+
+-- a component's model is there, its wait is one of the run, and its state is one that the model takes
+pub record IsMember {S : Type 0} (fits : S → State → Type 0) (limit : ℕ) (models : List S) (m : Member) : Type 0 where
+  pub model : m.model < length models
+  pub wait : IsWaitOfRun limit m.start.wait
+  pub fit : FitsAt fits models m.model m.start.state
+
+-- components whose numbers rise
+pub record AreMembers {S : Type 0} (fits : S → State → Type 0) (limit : ℕ) (models : List S) (ms : List Member) : Type 0 where
+  pub rise : AreRising (numbers_of ms)
+  pub each : AllByRecursion (IsMember fits limit models) ms
+
+-- What may be planned: components whose numbers rise, links that rise by the components that they lead from, responses of holds,
+-- and bounds of the language.
+pub record IsWhole {S : Type 0} (fits : S → State → Type 0) (w : Whole S) : Type 0 where
+  pub members : AreMembers fits w.limit w.models.items w.members.items
+  pub few : length w.members.items < 2 ^ 32
+  pub direct : RiseBySender w.links.direct.items
+  pub entrances : RiseBySender w.links.entrances.items
+  pub exits : RiseBySender w.links.exits.items
+  pub holds : All (λ (r : Response). IsOfHold r) w.responses.items
+  pub responses : length w.responses.items ≤ 2 ^ 32
+  pub limit : w.limit ≤ GREATEST_LIMIT
+  pub horizon : w.horizon ≤ GREATEST_TICK

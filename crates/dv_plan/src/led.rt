@@ -1,0 +1,97 @@
+//! The inputs that lead to a process's components.
+
+ghost use Rattle.std.specs.Prelude.{◌≡◌, ◌&&◌, ◌||◌, ℕ, false, length, nat_eq, nat_lt, slice_index_or, IfOk};
+ghost use Rattle.dv_share.specs.Links.{link_of, links_of};
+ghost use Rattle.dv_share.specs.Places.{AreRising};
+ghost use Rattle.dv_share.specs.Share.{numbers_of};
+ghost use Rattle.dv_plan.specs.Steps.{is_led, is_port, leads, led_inputs};
+
+use dv_bag::Inputs;
+use dv_share::tables::place_of;
+use dv_share::{Link, Member};
+use std::alloc::{AllocError, Global};
+
+/// Those of the inputs that lead to one of the components by one of the links from outside.
+///
+/// # Errors
+///
+/// No memory for them.
+pub(crate) fn led_inputs(
+    alloc: Global,
+    ports: u32,
+    members: &[Member],
+    entrances: &[Link],
+    inputs: &Inputs,
+) -> Result<Inputs, AllocError>
+    requires { AreRising (numbers_of members.now) }
+    ensures { IfOk result (λ kept.
+        kept ≡ led_inputs ports members.now (links_of entrances.now) inputs.now) }
+{
+    let led = led_ports(alloc, ports, members, entrances)?;
+    let mut kept = Inputs::new(alloc);
+    for input in inputs.as_slice() {
+        if at(&led, input.port) {
+            kept.push(*input)?;
+        }
+    }
+    Ok(kept)
+}
+
+// Whether something leads to one of the components from each port of the outside.
+fn led_ports(
+    alloc: Global,
+    ports: u32,
+    members: &[Member],
+    entrances: &[Link],
+) -> Result<Vec<bool>, AllocError>
+    requires { AreRising (numbers_of members.now) }
+    ensures { IfOk result (λ led. (port : ℕ) → slice_index_or led.items port false
+        ≡ (nat_lt port ports && is_led members.now (links_of entrances.now) port)) }
+{
+    let mut led = vec![in alloc; false; ports as usize]?;
+    for link in entrances {
+        if leads(link, members) {
+            mark(link.from_port, &mut led);
+        }
+    }
+    Ok(led)
+}
+
+// Marks a port, if it is there.
+fn mark(port: u32, led: &mut Vec<bool>)
+    ensures long { length led.new.items ≡ length led.old.items }
+    ensures marked { (p : ℕ) → slice_index_or led.new.items p false
+        ≡ ((nat_eq port p && nat_lt p (length led.old.items)) || slice_index_or led.old.items p false) }
+{
+    let place = port as usize;
+    if place < led.len() {
+        led[place] = true;
+    }
+}
+
+// Whether a port is marked.
+fn at(led: &[bool], port: u32) -> bool
+    ensures { result ≡ slice_index_or led.now port false }
+{
+    let place = port as usize;
+    place < led.len() && led[place]
+}
+
+// Whether a link brings something to one of the components.
+fn leads(link: &Link, members: &[Member]) -> bool
+    requires { AreRising (numbers_of members.now) }
+    ensures { result ≡ leads members.now (link_of link.now) }
+{
+    link.copies > 0 && is_port(members, link.to, link.to_port)
+}
+
+// Whether there is such an input port of one of the components.
+fn is_port(members: &[Member], component: u32, port: u32) -> bool
+    requires { AreRising (numbers_of members.now) }
+    ensures { result ≡ is_port members.now component port }
+{
+    match place_of(members, component) {
+        Some(place) => port < members[place].inputs,
+        None => false,
+    }
+}

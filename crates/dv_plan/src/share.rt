@@ -1,0 +1,157 @@
+//! What a process has of a plan.
+
+ghost use Rattle.std.specs.Prelude.{◌≡◌, ◌<◌, ◌≤◌, ◌^◌, IfOk, List, length, map};
+ghost use Rattle.std.specs.List.{AllByRecursion};
+ghost use Rattle.std.specs.List.Sorted.{IsNonDecreasingBy};
+ghost use Rattle.dv_conservative.specs.Links.{Link as Meant};
+ghost use Rattle.dv_share.specs.Links.{links_of};
+ghost use Rattle.dv_share.specs.Places.{AreRising};
+ghost use Rattle.dv_share.specs.Share.{numbers_of};
+ghost use Rattle.dv_share.specs.declared.tables.Member.{Member as MemberOfCode};
+ghost use Rattle.dv_local.specs.Shares.{outgoing_of};
+ghost use Rattle.dv_cut.specs.Cuts.{between};
+ghost use Rattle.dv_plan.specs.Steps.{AreMade, IsMadeOf, Rises, way_of};
+
+use crate::led::led_inputs;
+use dv_bag::{Inputs, Response};
+use dv_cut::channels::{incoming, outgoing};
+use dv_cut::{Away, Channel, Cut};
+use dv_local::{Share, Way};
+use dv_share::{Link, Member, Routes, Tables};
+use std::alloc::{AllocError, Global};
+
+/// What the shares of all processes are made of: the bounds of the run, the ports of the outside, the cut with the links
+/// between processes, the response of each process, and all that comes from outside.
+#[derive(Clone, Copy)]
+pub struct Common<'a> {
+    pub limit: u32,
+    pub horizon: u64,
+    pub ports: u32,
+    pub outputs: u32,
+    pub cut: &'a Cut,
+    pub links: &'a [Channel],
+    pub responses: &'a [Response],
+    pub inputs: &'a Inputs,
+}
+
+/// The shares of all processes, by the components of each.
+///
+/// # Errors
+///
+/// No memory for them.
+pub(crate) fn shares<A: Copy>(
+    alloc: Global,
+    common: &Common<'_>,
+    members: Vec<Vec<Member>>,
+    models: &[A],
+) -> Result<Vec<Share<A>>, AllocError>
+    requires count { length members.items ≤ length common.now.responses.now }
+    requires there { length members.items ≤ common.now.cut.now.grouping.processes }
+    requires processes { length members.items ≤ 64 }
+    requires few { length common.now.links.now ≤ 2 ^ 32 }
+    requires rises { Rises common.now.cut.now }
+    requires rise { AllByRecursion (λ (ms : List MemberOfCode). AreRising (numbers_of ms))
+        (map (λ list. list.items) members.items) }
+    ensures count { IfOk result (λ found. length found.items ≡ length members.items) }
+    ensures made { IfOk result (λ found.
+        AreMade common.now (map (λ list. list.items) members.items) models.now found.items) }
+{
+    let processes = members.len();
+    let mut found = Vec::with_capacity(alloc, processes)?;
+    let mut rest = members.into_iter();
+    for process in 0..processes {
+        if let Some(list) = rest.next() {
+            let models = copies(alloc, models)?;
+            let share = share_of_process(alloc, common, process as u32, list, models)?;
+            found.push(share)?;
+        }
+    }
+    Ok(found)
+}
+
+// The share of a process, of its components with their models.
+fn share_of_process<A: Drop>(
+    alloc: Global,
+    common: &Common<'_>,
+    process: u32,
+    members: Vec<Member>,
+    models: Vec<A>,
+) -> Result<Share<A>, AllocError>
+    requires there { process < common.now.cut.now.grouping.processes }
+    requires response { process < length common.now.responses.now }
+    requires few { length common.now.links.now ≤ 2 ^ 32 }
+    requires rises { Rises common.now.cut.now }
+    requires rise { AreRising (numbers_of members.items) }
+    ensures { IfOk result (λ s. IsMadeOf common.now process members.items models.items s) }
+{
+    let place = process as usize;
+    let entrances = common.cut.entrances(place);
+    let inputs = led_inputs(alloc, common.ports, &members, entrances, common.inputs)?;
+    let tables = Tables {
+        limit: common.limit,
+        members,
+        models,
+        links: routes(alloc, common.cut.between(place, place))?,
+        entrances: routes(alloc, entrances)?,
+        exits: routes(alloc, common.cut.exits(place))?,
+        outputs: common.outputs,
+    };
+    Ok(Share {
+        tables,
+        horizon: common.horizon,
+        response: common.responses[place],
+        sources: incoming(alloc, common.links, process)?,
+        ways: ways(
+            alloc,
+            common.cut,
+            process,
+            &outgoing(alloc, common.links, process)?,
+        )?,
+        ports: common.ports,
+        inputs,
+    })
+}
+
+// The links that lead away from a process, with what each is made of.
+fn ways(alloc: Global, cut: &Cut, process: u32, away: &[Away]) -> Result<Vec<Way>, AllocError>
+    requires there { process < cut.now.grouping.processes }
+    requires rises { Rises cut.now }
+    ensures { IfOk result (λ found. map outgoing_of found.items ≡ map (way_of cut.now process) away.now) }
+{
+    let mut found = Vec::with_capacity(alloc, away.len())?;
+    for link in away {
+        found.push(Way {
+            number: link.number,
+            links: routes(alloc, links_to(cut, process, link.target))?,
+        })?;
+    }
+    Ok(found)
+}
+
+// The links from the components of a process to those of another, if there is one.
+fn links_to(cut: &Cut, source: u32, target: u32) -> &[Link]
+    requires { source < cut.now.grouping.processes }
+    ensures { links_of result.now ≡ between cut.now source target }
+{
+    let place = target as usize;
+    if place < cut.groups().processes() {
+        cut.between(source as usize, place)
+    } else {
+        &[]
+    }
+}
+
+// Links that rise by the components that they lead from, to find those of each.
+fn routes(alloc: Global, links: &[Link]) -> Result<Routes, AllocError>
+    requires { IsNonDecreasingBy (λ (l : Meant). l.from) (links_of links.now) }
+    ensures { IfOk result (λ found. found ≡ links_of links.now) }
+{
+    Ok(Routes::new(copies(alloc, links)?))
+}
+
+// The items once more.
+fn copies<T: Copy>(alloc: Global, items: &[T]) -> Result<Vec<T>, AllocError>
+    ensures { IfOk result (λ found. found.items ≡ items.now) }
+{
+    items.iter().copied().collect(alloc)
+}

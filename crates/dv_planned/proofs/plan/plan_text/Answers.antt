@@ -1,0 +1,80 @@
+use Rattle.std.proofs.Common.{[], map, ap, ◌∙◌, subst, arith}
+use Rattle.std.specs.Prelude.{IfOk}
+use Rattle.dv_conservative.specs.World.{Job}
+use Rattle.dv_coded.specs.Lent.{behaviour_of_lent, lent_takes}
+use Rattle.dv_coded.specs.declared.lent.Lent.{Lent}
+use Rattle.dv_flat.specs.Links.{direct_links, entry_links, exit_links}
+use Rattle.dv_plan.specs.Plans.{IsPlanOf}
+use Rattle.dv_plan.specs.declared.whole.Whole.{Whole}
+use Rattle.dv_sound.specs.Members.{direct_of, entry_of, exit_of}
+use Rattle.dv_syntax.specs.Trees.{file_of}
+use Rattle.dv_tree.specs.Instances.{instances}
+use Rattle.dv_tree.proofs.Limits.{few_components, few_leave, length-leaves}
+use Rattle.dv_planned.proofs.Jobs.{job_of_text}
+use Rattle.dv_planned.proofs.Lent.{all_lent, as_many, members_lent}
+use Rattle.dv_planned.proofs.Lists.{all_ticks, as_many_responses, entries_rise, holds, links_rise}
+use Rattle.dv_planned.proofs.plan.plan_text.Goals as goal
+
+-- an accepted text has few output ports
+pub overflow_cast-whole-2 : goal.overflow_cast-whole-2
+overflow_cast-whole-2 c =
+    let f = file_of c.args.tree.now.file in
+    omega (
+      arith,
+      few_leave f [] (c.accepted_files.ensures f c.requires.accepted),
+      length-leaves f [],
+      c.output_count.ensures,
+    )
+
+pub new-requires : goal.new-requires
+new-requires c =
+    let f = file_of c.args.tree.now.file in
+    let few = few_components f (c.accepted_files.ensures f c.requires.accepted) in
+    let members = c.args.members.items in
+    let links = c.in_ok-between.between in
+    let count = as_many c.args.limit c.args.models.now members (instances f) c.requires.members in
+    let answers = as_many_responses c.args.responses.items (instances f) c.requires.responses in
+    record {
+      members = record {
+        rise = c.requires.rise;
+        each = all_lent c.args.limit c.in_ok-lent.lent.items c.args.models.now members c.in_ok-lent.ensures c.requires.among;
+      };
+      few = omega (arith, few, count);
+      direct =
+          links_rise links.direct.items (map direct_of (direct_links f)) (c.in_ok-between.ensures.direct ∙ ap (map direct_of) c.requires.direct)
+          (c.links_rise.ensures.direct f);
+      entrances =
+          links_rise links.entrances.items (map entry_of (entry_links f)) (c.in_ok-between.ensures.entrances ∙ ap (map entry_of) c.requires.entries)
+          (entries_rise (entry_links f));
+      exits =
+          links_rise links.exits.items (map exit_of (exit_links f)) (c.in_ok-between.ensures.exits ∙ ap (map exit_of) c.requires.exits)
+          (c.links_rise.ensures.exits f);
+      holds = holds c.args.responses.items c.requires.short;
+      responses = omega (arith, few, answers);
+      limit = c.requires.limit;
+      horizon = c.requires.horizon;
+    }
+
+pub returns : goal.returns
+returns c =
+    let f = file_of c.args.tree.now.file in
+    let whole : Whole Lent = record {
+      limit = c.args.limit;
+      horizon = c.args.horizon;
+      members = c.args.members;
+      models = c.in_ok-lent.lent;
+      responses = c.args.responses;
+      links = c.in_ok-between.between;
+      ports = c.input_count.result;
+      outputs = c.output_count.result;
+      inputs = c.args.inputs;
+    } in
+    subst (λ (job : Job). IfOk c.new.result (IsPlanOf behaviour_of_lent lent_takes job)) (job_of_text f whole c.args.groups (record {
+      members = members_lent c.args.limit c.in_ok-lent.lent.items c.args.models.now c.args.members.items c.in_ok-lent.ensures ∙ c.requires.members;
+      direct = c.in_ok-between.ensures.direct ∙ ap (map direct_of) c.requires.direct;
+      entrances = c.in_ok-between.ensures.entrances ∙ ap (map entry_of) c.requires.entries;
+      exits = c.in_ok-between.ensures.exits ∙ ap (map exit_of) c.requires.exits;
+      responses = all_ticks c.args.responses.items ∙ c.requires.responses;
+      ports = c.input_count.ensures.value;
+      outputs = c.output_count.ensures;
+    })) c.new.ensures

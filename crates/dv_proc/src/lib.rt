@@ -1,0 +1,34 @@
+//! One logical process of a conservative parallel simulation: packets that come over its links, its clock, what it
+//! promises, and the packets that it sends.
+#![tactic(auto)]
+
+/// The clock of a process moves.
+pub mod advance;
+
+/// The links that lead here.
+pub mod incoming;
+
+/// What a process asks of its components.
+pub mod local;
+
+/// The links that lead away.
+pub mod outgoing;
+
+/// Events, and the packets that carry them.
+pub mod packet;
+
+/// One logical process.
+pub mod process;
+
+/// Until when what a process sends is known.
+pub mod promise;
+
+/// The frame of a run, and the tests of a packet that arrives.
+pub mod window;
+
+pub use incoming::{Incoming, Refused};
+pub use local::Local;
+pub use outgoing::Outgoing;
+pub use packet::{Event, Packet};
+pub use process::{Process, Turned};
+pub use window::Frame;

@@ -1,0 +1,213 @@
+//! The links that lead away from a process: what was sent and waits, and the packet that stands.
+
+ghost use Rattle.std.specs.Prelude.{◌≡◌, ◌<◌, ◌≤◌, ◌+◌, ◌++◌, [], ℕ, IfOk, IfSome, IsTrue, MatchOption, None, OnOk, Some, if◌then◌else◌, is_none, length, slice_index_or, vec_capacity, vec_len};
+ghost use Rattle.std.specs.List.{list_all, list_any};
+ghost use Rattle.dv_time.specs.Time.{is_before};
+ghost use Rattle.dv_proc.specs.Leaving.{AreNewOutgoing, is_prepared, out_place_from, standing_by};
+ghost use Rattle.dv_proc.specs.Advancing.{AreBeside, HasRoom, IsFinished, IsFresh, IsSameLink};
+ghost use Rattle.dv_proc.specs.Packets.{meant_packet};
+ghost use Rattle.dv_proc.specs.declared.outgoing.Outgoing.{Outgoing};
+
+use crate::local::Local;
+use crate::packet::{Event, Packet};
+use dv_time::Time;
+use std::alloc::{AllocError, Global};
+use std::mem;
+
+/// A link that leads away: the packet that stands, if one does; where the last window that was prepared ends; what was
+/// sent since and is in no packet yet; and what is sent at the time that is computed.
+#[derive(Drop)]
+pub struct Outgoing {
+    pub number: u32,
+    pub standing: Option<Packet>,
+    pub promised: Time,
+    pub pending: Vec<Event>,
+    pub fresh: Vec<Event>,
+}
+
+impl Outgoing {
+    // Lets what was computed wait for the next packet, unless the packet of its time was prepared. Room was made.
+    fn keep_fresh(&mut self, now: Time)
+        requires { vec_len self.old.pending + vec_len self.old.fresh
+            ≤ vec_capacity self.old.pending }
+        ensures number { self.new.number ≡ self.old.number }
+        ensures standing { self.new.standing ≡ self.old.standing }
+        ensures promised { self.new.promised ≡ self.old.promised }
+        ensures pending { self.new.pending.items
+            ≡ (if is_before now self.old.promised then self.old.pending.items
+            else self.old.pending.items ++ self.old.fresh.items) }
+    {
+        if now.is_before(self.promised) {
+            return;
+        }
+        if self
+            .pending
+            .extend_from_slice(self.fresh.as_slice())
+            .is_err()
+        {
+            unreachable!("room was made");
+        }
+    }
+
+    /// Computes what is sent at a time on the link, which stands at a place, and makes room for it to wait.
+    ///
+    /// # Errors
+    ///
+    /// No memory.
+    pub fn fill<L: Local>(&mut self, local: &L, place: usize, now: Time) -> Result<(), AllocError>
+        ensures same { IsSameLink self.old self.new }
+        ensures fresh { OnOk result
+            (IsFresh (L.view local.now) (L.sent local.now) now place self.new) }
+    {
+        self.fresh.clear();
+        local.send(place, now, &mut self.fresh)?;
+        self.pending.reserve(self.fresh.len())
+    }
+
+    /// Gives the packet that stands away.
+    pub fn take(&mut self) -> Option<Packet>
+        ensures packet { result ≡ self.old.standing }
+        ensures number { self.new.number ≡ self.old.number }
+        ensures standing { self.new.standing ≡ None }
+        ensures promised { self.new.promised ≡ self.old.promised }
+        ensures pending { self.new.pending.items ≡ self.old.pending.items }
+    {
+        self.standing.take()
+    }
+
+    /// Whether the packet of the next window can be prepared: none stands, and the time is later than what was promised.
+    pub fn can_prepare(&self, upto: Time) -> bool
+        ensures { result ≡ is_prepared upto self.now }
+    {
+        self.standing.is_none() && self.promised.is_before(upto)
+    }
+
+    /// Ends a turn: what was computed at its time waits, and the packet up to the promise is prepared, if it can be.
+    pub fn finish(&mut self, alloc: Global, emitted: bool, now: Time, upto: Time)
+        requires { IsTrue emitted → vec_len self.old.pending + vec_len self.old.fresh
+            ≤ vec_capacity self.old.pending }
+        ensures { IsFinished emitted now upto self.old self.new }
+    {
+        if emitted {
+            self.keep_fresh(now);
+        }
+        self.prepare(alloc, upto);
+    }
+
+    // Prepares the packet of the next window up to a time, with all that waits, if no packet stands and the time is
+    // later than what was promised.
+    fn prepare(&mut self, alloc: Global, upto: Time)
+        ensures number { self.new.number ≡ self.old.number }
+        ensures promised { self.new.promised
+            ≡ (if is_prepared upto self.old then upto else self.old.promised) }
+        ensures pending { self.new.pending.items
+            ≡ (if is_prepared upto self.old then [] else self.old.pending.items) }
+        ensures standing { self.new.standing ≡ (if is_prepared upto self.old
+            then Some (record {
+              link = self.old.number;
+              from = self.old.promised;
+              upto = upto;
+              events = self.old.pending;
+            })
+            else self.old.standing) }
+    {
+        if !self.can_prepare(upto) {
+            return;
+        }
+        let events = mem::replace(&mut self.pending, Vec::new(alloc));
+        self.standing = Some(Packet {
+            link: self.number,
+            from: self.promised,
+            upto,
+            events,
+        });
+        self.promised = upto;
+    }
+}
+
+/// Computes what is sent at a time on all links, and makes room for it to wait.
+///
+/// # Errors
+///
+/// No memory.
+pub fn fill_all<L: Local>(local: &L, outgoing: &mut [Outgoing], now: Time) -> Result<(), AllocError>
+    ensures same { AreBeside (λ j. IsSameLink) outgoing.old outgoing.new }
+    ensures fresh { OnOk result ((j : ℕ) (d : Outgoing) → j < length outgoing.old
+        → IsFresh (L.view local.now) (L.sent local.now) now j (slice_index_or outgoing.new j d)) }
+{
+    for place in 0..outgoing.len() {
+        outgoing[place].fill(local, place, now)?;
+    }
+    Ok(())
+}
+
+/// Ends a turn on all links.
+pub fn finish_all(alloc: Global, outgoing: &mut [Outgoing], emitted: bool, now: Time, upto: Time)
+    requires { IsTrue emitted → (j : ℕ) (d : Outgoing) → j < length outgoing.old → HasRoom (slice_index_or outgoing.old j d) }
+    ensures { AreBeside (λ j. IsFinished emitted now upto) outgoing.old outgoing.new }
+{
+    for place in 0..outgoing.len() {
+        outgoing[place].finish(alloc, emitted, now, upto);
+    }
+}
+
+/// Whether a packet can be prepared on any link.
+pub fn can_prepare_any(outgoing: &[Outgoing], upto: Time) -> bool
+    ensures { result ≡ list_any (is_prepared upto) outgoing.now }
+{
+    outgoing.iter().any(|link| link.can_prepare(upto))
+}
+
+/// Whether no packet stands on any link.
+pub fn are_free(outgoing: &[Outgoing]) -> bool
+    ensures { result ≡ list_all (λ o. is_none o.standing) outgoing.now }
+{
+    outgoing.iter().all(|link| link.standing.is_none())
+}
+
+/// The links of some numbers as a run begins: nothing was sent, and 0.0 is promised.
+///
+/// # Errors
+///
+/// No memory.
+pub fn new_outgoing(alloc: Global, numbers: &[u32]) -> Result<Vec<Outgoing>, AllocError>
+    ensures { IfOk result (λ links. AreNewOutgoing numbers.now links.items) }
+{
+    let mut links = Vec::with_capacity(alloc, numbers.len())?;
+    for number in numbers {
+        links.push(Outgoing {
+            number: *number,
+            standing: None,
+            promised: Time::ZERO,
+            pending: Vec::new(alloc),
+            fresh: Vec::new(alloc),
+        })?;
+    }
+    Ok(links)
+}
+
+/// The packet that stands on the link of a number.
+pub fn standing_on(outgoing: &[Outgoing], number: u32) -> Option<&Packet>
+    ensures { MatchOption result (standing_by outgoing.now number ≡ None)
+        (λ p. standing_by outgoing.now number ≡ Some (meant_packet p.now)) }
+{
+    for link in outgoing {
+        if number == link.number {
+            return link.standing.as_ref();
+        }
+    }
+    None
+}
+
+/// The place of the link of a number.
+pub fn out_place_of(outgoing: &[Outgoing], number: u32) -> Option<usize>
+    ensures place { result ≡ out_place_from 0 number outgoing.now }
+    ensures within { IfSome result (λ place. place < length outgoing.now) }
+{
+    for (place, link) in outgoing.iter().enumerate() {
+        if number == link.number {
+            return Some(place);
+        }
+    }
+    None
+}

@@ -1,0 +1,53 @@
+//! Events, and the packets that carry them from one process to another.
+
+ghost use Rattle.std.specs.Prelude.{◌≡◌, IsTrue};
+ghost use Rattle.std.specs.Ordering.{is_lt};
+ghost use Rattle.dv_bag.specs.Bag.{is_number};
+ghost use Rattle.dv_conservative.specs.Events.{event_cmp};
+ghost use Rattle.dv_proc.specs.Packets.{meant_event};
+
+use dv_time::Time;
+use std::cmp::Ordering;
+
+/// At a time, so many copies of a value for an input port of a component of the model.
+#[derive(Clone, Copy, Debug, PartialEq, Eq)]
+pub struct Event {
+    pub time: Time,
+    pub component: u32,
+    pub port: u32,
+    pub value: i64,
+    pub copies: u64,
+}
+
+/// All events of a window on a link: not before `from`, and before `upto`. Without events it is a null message.
+#[derive(Debug, Drop)]
+pub struct Packet {
+    pub link: u32,
+    pub from: Time,
+    pub upto: Time,
+    pub events: Vec<Event>,
+}
+
+impl Event {
+    /// Its value, a number of the language.
+    pub fn number(&self) -> i64
+        ensures value { result ≡ self.now.value }
+        ensures number { IsTrue (is_number result) }
+    {
+        self.value
+    }
+
+    /// Whether this event comes before another in the order of packets: by time, component, port and value.
+    pub fn precedes(&self, other: &Event) -> bool
+        ensures { result ≡ is_lt (event_cmp (meant_event self.now) (meant_event other.now)) }
+    {
+        let order = self.time.cmp(&other.time).then(
+            self.component.cmp(&other.component).then(
+                self.port
+                    .cmp(&other.port)
+                    .then(self.value.cmp(&other.value)),
+            ),
+        );
+        order == Ordering::Less
+    }
+}

@@ -1,0 +1,39 @@
+//! Runs rows: texts that are data, each with the command that is given to it and what has to come of it.
+//!
+//! Each word names a file of rows, as `data/README.md` describes it. The word `explanations` stands for the examples that
+//! `pdevs explain` shows.
+#![tactic(auto)]
+
+/// What `pdevs explain` shows, and whether it is so.
+mod explanations;
+/// What comes of a text by a command.
+mod outcome;
+/// A file of rows.
+mod row;
+/// Lines of a file of rows, as the text that they stand for.
+#[cfg(test)]
+mod ranges;
+mod text;
+#[cfg(test)]
+mod writers;
+
+use std::io;
+use std::process::ExitCode;
+
+fn main(rt: HostRuntime) -> io::Result<ExitCode> {
+    let words: Vec<String> = std::env::args(&rt)?.skip(1).collect(rt.alloc())?;
+    let mut do_all_hold = true;
+    for word in &words {
+        let do_hold = if word.as_str() == "explanations" {
+            explanations::do_hold(&rt)?
+        } else {
+            row::do_hold(&rt, word.as_str())?
+        };
+        do_all_hold = do_all_hold && do_hold;
+    }
+    Ok(if do_all_hold {
+        ExitCode::SUCCESS
+    } else {
+        ExitCode::FAILURE
+    })
+}

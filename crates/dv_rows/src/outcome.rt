@@ -1,0 +1,104 @@
+//! What comes of a text by a command.
+
+use dv_job::{JobError, Options, check_bytes, list_code, plan_bytes, run_bytes, status};
+use dv_partition::Partition;
+use std::alloc::{AllocError, Global};
+
+/// The microstep limit where a command names none.
+const USUAL_LIMIT: u64 = 20;
+
+/// The packets that a link between processes is to hold.
+const LINK_CAPACITY: u32 = 16;
+
+/// What a command reads.
+#[derive(Clone, Copy)]
+pub struct Texts<'a> {
+    pub model: &'a [u8],
+    pub partition: &'a [u8],
+    pub inputs: &'a [u8],
+}
+
+/// What a command prints of its texts, and then its status, as `status 3`, or the error.
+pub fn outcome_of(alloc: Global, command: &str, texts: Texts<'_>) -> Result<String, AllocError> {
+    match command.split_whitespace().next() {
+        Some("check") => checked(alloc, texts.model),
+        Some("code") => listed(alloc, texts.model),
+        Some("plan") => planned(alloc, command, texts),
+        Some("run") => ran(alloc, command, texts),
+        Some(_) | None => String::from_str(alloc, "no command"),
+    }
+}
+
+fn checked(alloc: Global, model: &[u8]) -> Result<String, AllocError> {
+    match check_bytes(alloc, model) {
+        Ok(components) => format!(in alloc; "accepted {components}\nstatus 0"),
+        Err(error) => error.to_string(alloc),
+    }
+}
+
+fn listed(alloc: Global, model: &[u8]) -> Result<String, AllocError> {
+    let mut printed = Vec::new(alloc);
+    let ended = list_code(alloc, model, &mut printed);
+    told(alloc, &printed, 0, ended.err())
+}
+
+fn planned(alloc: Global, command: &str, texts: Texts<'_>) -> Result<String, AllocError> {
+    match plan_bytes(alloc, texts.model, partition_of(command, texts.partition)) {
+        Ok(plan) => format!(in alloc; "{plan}\nstatus 0"),
+        Err(error) => error.to_string(alloc),
+    }
+}
+
+/// How a command parts a model: as the partition says, or into so many processes, or into one.
+fn partition_of<'a>(command: &str, partition: &'a [u8]) -> Partition<'a> {
+    if command.contains("--partition") {
+        return Partition::Json(partition);
+    }
+    let count = number_behind(command, "--processes").unwrap_or(1);
+    Partition::Count(count.min(u64::from(u32::MAX)) as u32)
+}
+
+fn ran(alloc: Global, command: &str, texts: Texts<'_>) -> Result<String, AllocError> {
+    let horizon = number_behind(command, "--horizon").unwrap_or(0);
+    let limit = number_behind(command, "--microsteps").unwrap_or(USUAL_LIMIT);
+    let limit = limit.min(1_000) as u32;
+    let Some(options) = Options::new(horizon, limit, None, None, LINK_CAPACITY) else {
+        return String::from_str(alloc, "no options");
+    };
+    let mut printed = Vec::new(alloc);
+    let ended = run_bytes(
+        alloc,
+        texts.model,
+        texts.inputs,
+        partition_of(command, texts.partition),
+        &options,
+        &mut printed,
+    );
+    let status = status(&ended);
+    told(alloc, &printed, status, ended.err())
+}
+
+/// What was printed, and then the error, or where there is none the status.
+fn told(
+    alloc: Global,
+    printed: &[u8],
+    status: u8,
+    error: Option<JobError>,
+) -> Result<String, AllocError> {
+    let text = str::from_utf8(printed).unwrap_or("not text\n");
+    match error {
+        Some(error) => format!(in alloc; "{text}{error}"),
+        None => format!(in alloc; "{text}status {status}"),
+    }
+}
+
+/// The number behind an option in a command.
+fn number_behind(command: &str, option: &str) -> Option<u64> {
+    let mut words = command.split_whitespace();
+    while let Some(word) = words.next() {
+        if word == option {
+            return words.next()?.parse::<u64>().ok();
+        }
+    }
+    None
+}

@@ -1,0 +1,122 @@
+-- What the output functions at the due places give is what all components send.
+use Rattle.std.proofs.Common.{◌≡◌, inl, inr, ℕ, zero, suc, ◌+◌, ◌<◌, true, false, List, [], ◌∷◌, length, get_or, map, Option, Some, Result, Ok, Err, IsTrue, refl, sym, ap, ◌∙◌, subst, arith}
+use Rattle.std.specs.List.{All, slice_get}
+use Rattle.std.specs.Option.{unwrap_or}
+use Rattle.std.proofs.lemmas.Option.{same_Some}
+use Rattle.dv_bag.specs.Bag.{Counts}
+use Rattle.dv_bag.specs.declared.fault.Fault.{Fault}
+use Rattle.dv_devs.specs.Behaviour.{Behaviour, Component, emission, is_imminent}
+use Rattle.dv_devs.specs.Network.{emissions, sent_by}
+use Rattle.dv_react.specs.Components.{component_of, components_of}
+use Rattle.dv_react.specs.Outcomes.{sent_of}
+use Rattle.dv_react.specs.declared.running.Running.{Running}
+use Rattle.dv_react.specs.declared.wait.Wait.{Wait}
+use Rattle.dv_react.specs.declared.wait.Wait.TheVariants.{Until, Forever, Quiet}
+use Rattle.dv_conservative.specs.Flat.{behaviours}
+use Rattle.dv_share.specs.Places.{AreRising, found, is_in, places_of}
+use Rattle.dv_share.specs.Share.{AreDue, AreEmitted, behaviour_of, given_at, member_by, sents_by}
+use Rattle.dv_share.specs.declared.place.Placed.{Placed}
+use Rattle.dv_share.specs.declared.tables.Member.{Member}
+use Rattle.dv_share.specs.declared.tables.Tables.{Tables}
+use Rattle.dv_share.proofs.Places.{all_first, all_rest, found_all, found_none, some_or_none, yes_or_no}
+
+-- what a component's output function gave, at its place
+abbrev pub IsGiven : {S : Type 0} → (S → Behaviour) → Tables S → ℕ → List Running → ℕ → Result (List Counts) Fault → Type 0
+IsGiven behaviour t now rs p w =
+    (m : Member) (r : Running) → slice_get t.members.items p ≡ Some m → slice_get rs p ≡ Some r
+    → w ≡ emission (behaviour_of behaviour (slice_get t.models.items m.model)) now (component_of t.limit r)
+
+pub given_one : {S : Type 0} (behaviour : S → Behaviour) (t : Tables S) (now : ℕ) (rs : List Running) (p : ℕ) (w : Result (List Counts) Fault) (m : Member)
+    (r : Running) (a : S) → slice_get t.members.items p ≡ Some m → slice_get rs p ≡ Some r → slice_get t.models.items m.model ≡ Some a →
+    emission (behaviour a) now (component_of t.limit r) ≡ w → IsGiven behaviour t now rs p w
+given_one {S} behaviour t now rs p w m r a at-m at-r at-a is = λ n q at-n at-q.
+    let same-m : m ≡ n = same_Some m n (sym at-m ∙ at-n) in
+    let same-r : r ≡ q = same_Some r q (sym at-r ∙ at-q) in
+    sym is
+    ∙ ap (λ (o : Option S). emission (behaviour_of behaviour o) now (component_of t.limit r)) (sym at-a)
+    ∙ ap (λ (n : Member). emission (behaviour_of behaviour (slice_get t.models.items n.model)) now (component_of t.limit r)) same-m
+    ∙ ap (λ (q : Running). emission (behaviour_of behaviour (slice_get t.models.items n.model)) now (component_of t.limit q)) same-r
+
+-- one that is quiet is not imminent, so what is sent is what was given
+loud_sends : (c : Component) (r : Result (List Counts) Fault) → c.quiet ≡ false → sent_by c r ≡ sent_of r
+loud_sends c (Ok bags) e = rw e refl
+loud_sends c (Err f) e = refl
+
+sent_is : (limit now : ℕ) (b : Behaviour) (r : Running) → sent_by (component_of limit r) (emission b now (component_of limit r)) ≡ sent_of (emission b now (component_of limit r))
+sent_is limit now b r = by_wait r.wait
+  where
+    with_wait : Wait → Running
+    with_wait w = record { state = r.state; last = r.last; wait = w }
+
+    by_wait : (w : Wait) → sent_by (component_of limit (with_wait w)) (emission b now (component_of limit (with_wait w))) ≡ sent_of (emission b now (component_of limit (with_wait w)))
+    by_wait (Until t) = loud_sends (component_of limit (with_wait (Until t))) (emission b now (component_of limit (with_wait (Until t)))) refl
+    by_wait Forever = refl
+    by_wait Quiet = refl
+
+-- what is so of each image
+pub all_map : {X Y : Type 0} (f : X → Y) (P : Y → Type 0) (xs : List X) → All P (map f xs) → All (λ x. P (f x)) xs
+all_map f P [] h = λ k d lt. absurd (omega (arith, lt))
+all_map f P (x ∷ xs) h = λ k d lt. by_index (all_map f P xs (all_rest P (f x) (map f xs) h)) k d lt
+  where
+    by_index : All (λ x. P (f x)) xs → (k : ℕ) (d : _) → k < length (x ∷ xs) → P (f (get_or (x ∷ xs) k d))
+    by_index rest zero d lt = all_first P (f x) (map f xs) h
+    by_index rest (suc k) d lt = rest k d (omega (arith, lt))
+
+pub map_all : {X Y : Type 0} (f : X → Y) (P : Y → Type 0) (xs : List X) → All (λ x. P (f x)) xs → All P (map f xs)
+map_all f P [] h = λ k d lt. absurd (omega (arith, lt))
+map_all {X} {Y} f P (x ∷ xs) h = λ k d lt. by_index (map_all f P xs (all_rest (λ x. P (f x)) x xs h)) k d lt
+  where
+    by_index : All P (map f xs) → (k : ℕ) (d : Y) → k < length (f x ∷ map f xs) → P (get_or (f x ∷ map f xs) k d)
+    by_index rest zero d lt = all_first (λ x. P (f x)) x xs h
+    by_index rest (suc k) d lt = rest k d (omega (arith, lt))
+
+module _ {S : Type 0} (behaviour : S → Behaviour) (limit now : ℕ) (models : List S) (es : List (Placed (Result (List Counts) Fault))) where
+  emissions_are : (q : ℕ) (ms : List Member) (rs : List Running) → length rs ≡ length ms →
+      ((p : ℕ) (m : Member) (r : Running) → slice_get ms p ≡ Some m → slice_get rs p ≡ Some r →
+      given_at (q + p) es ≡ emission (behaviour_of behaviour (slice_get models m.model)) now (component_of limit r)) →
+      emissions (behaviours (map (member_by behaviour limit models) ms)) now (components_of limit rs) ≡ sents_by q ms es
+  emissions_are q [] rs count h = refl
+  emissions_are q (m ∷ ms) [] count h = absurd (omega (arith, count))
+  emissions_are q (m ∷ ms) (r ∷ rs) count h =
+      let here : given_at q es ≡ emission (behaviour_of behaviour (slice_get models m.model)) now (component_of limit r) =
+      (let start : q ≡ q + 0 = omega arith in ap (λ (i : ℕ). given_at i es) start) ∙ h 0 m r refl refl in
+      let rest = emissions_are (suc q) ms rs (omega (arith, count))
+      (λ p n s at-m at-r.
+      let next : suc q + p ≡ q + suc p = omega arith in ap (λ (i : ℕ). given_at i es) next ∙ h (suc p) n s at-m at-r) in
+      ap (λ (x : List Counts). x ∷ emissions (behaviours (map (member_by behaviour limit models) ms)) now (components_of limit rs))
+      (sent_is limit now (behaviour_of behaviour (slice_get models m.model)) r ∙ sym (ap sent_of here))
+      ∙ ap (λ (xs : List (List Counts)). sent_of (given_at q es) ∷ xs) rest
+
+module _ {S : Type 0} (behaviour : S → Behaviour) (t : Tables S) (now : ℕ) (rs : List Running) (es : List (Placed (Result (List Counts) Fault))) (due : List ℕ) where
+  pub emitted_all : length rs ≡ length t.members.items → AreDue t.limit now rs due → places_of es ≡ due →
+      All (λ (e : Placed (Result (List Counts) Fault)). IsGiven behaviour t now rs e.place e.what) es → AreEmitted behaviour t now rs es
+  emitted_all count are_due same given = record {
+    places = record {
+      rise = subst AreRising (sym same) are_due.rise;
+      within = all_map (λ (e : Placed (Result (List Counts) Fault)). e.place) (λ p. p < length rs) es (subst (λ (ps : List ℕ). All (λ p. p < length rs) ps) (sym same) are_due.within);
+    };
+    imminent = λ p r at soon. subst (λ (ps : List ℕ). IsTrue (is_in p ps)) (sym same) (are_due.imminent p r at soon);
+    given = at_place;
+    sent =
+        emissions_are behaviour t.limit now t.models.items es 0 t.members.items rs count
+        (λ p m r at-m at-r. (let start : 0 + p ≡ p = omega arith in ap (λ (i : ℕ). given_at i es) start) ∙ at_place p m r at-m at-r);
+  }
+    where
+      at_place : (p : ℕ) (m : Member) (r : Running) → slice_get t.members.items p ≡ Some m → slice_get rs p ≡ Some r →
+          given_at p es ≡ emission (behaviour_of behaviour (slice_get t.models.items m.model)) now (component_of t.limit r)
+      at_place p m r at-m at-r = elim (some_or_none (found p es)) [
+        | inl w ↦
+            ap (λ (o : Option (Result (List Counts) Fault)). unwrap_or o (Ok [])) w.1
+            ∙ found_all (IsGiven behaviour t now rs) p w.0 es given w.1 m r at-m at-r
+        | inr none ↦
+            let out : is_in p due ≡ false = subst (λ (ps : List ℕ). is_in p ps ≡ false) same (found_none p es none) in
+            let b = behaviour_of behaviour (slice_get t.models.items m.model) in
+            ap (λ (o : Option (Result (List Counts) Fault)). unwrap_or o (Ok [])) none
+            ∙ elim (yes_or_no (is_imminent now (component_of t.limit r))) [
+              | inl soon ↦ absurd (false_true (sym out ∙ are_due.imminent p r at-r soon))
+              | inr not_now ↦ rw not_now refl
+            ]
+      ]
+        where
+          false_true : false ≡ true → ⊥
+          false_true h = cc

@@ -1,0 +1,26 @@
+-- What the links and deliveries of the code stand for.
+use Rattle.std.specs.Prelude.{ℕ, Bool, nat_eq, List, map}
+use Rattle.std.specs.List.Sorted.{IsNonDecreasingBy}
+use Rattle.dv_conservative.specs.Links.{Link as Meant, Delivery as MeantDelivery}
+use Rattle.dv_share.specs.declared.link.Link.{Link}
+use Rattle.dv_share.specs.declared.link.Delivery.{Delivery}
+
+abbrev pub link_of : Link → Meant
+link_of l = record { from = l.from; from_port = l.from_port; to = l.to; to_port = l.to_port; copies = l.copies }
+
+abbrev pub links_of : List Link → List Meant
+links_of ls = map link_of ls
+
+abbrev pub delivery_of : Delivery → MeantDelivery
+delivery_of d = record { component = d.component; port = d.port; value = d.value; copies = d.copies }
+
+abbrev pub deliveries_of : List Delivery → List MeantDelivery
+deliveries_of ds = map delivery_of ds
+
+-- links stand in the order of the components that they lead from
+abbrev pub RiseBySender : List Link → Type 0
+RiseBySender ls = IsNonDecreasingBy (λ (l : Link). l.from) ls
+
+-- leads a link from a component
+abbrev pub leads_from : ℕ → Meant → Bool
+leads_from k l = nat_eq l.from k

@@ -1,0 +1,62 @@
+-- What stands between the lists of the code and those of the theory.
+use Rattle.std.specs.Prelude.{ℕ, ◌+◌, ◌≤◌, ◌<◌, Bool, false, ◌&&◌, nat_eq, if◌then◌else◌, length, slice_index_or, ◌≡◌, List, [], ◌∷◌, ◌++◌, filter, slice_get, Option, Some, None, Result, pos}
+use Rattle.std.specs.List.{All}
+use Rattle.std.specs.List.Sorted.{IsNonDecreasingBy}
+use Rattle.std.specs.Ordering.{int_eq, is_lt}
+use Rattle.dv_bag.specs.Bag.{Counts, capped}
+use Rattle.dv_bag.specs.declared.fault.Fault.{Fault}
+use Rattle.dv_react.specs.Outcomes.{sent_of}
+use Rattle.dv_conservative.specs.Events.{delivery_cmp}
+use Rattle.dv_conservative.specs.Links.{Link, Delivery, carried}
+use Rattle.dv_share.specs.Links.{delivery_of, leads_from}
+use Rattle.dv_share.specs.Places.{is_in, places_of}
+use Rattle.dv_share.specs.declared.link.Delivery.{Delivery as DeliveryOfCode}
+use Rattle.dv_share.specs.declared.place.Placed.{Placed}
+use Rattle.dv_share.specs.declared.tables.Member.{Member}
+
+-- the number of a member, if it is there
+abbrev pub number_of : Option Member → ℕ
+number_of None = 0
+number_of (Some m) = m.number
+
+-- what is carried of the emissions, one after the other
+abbrev pub rows : List Member → List Link → List (Placed (Result (List Counts) Fault)) → List Delivery
+rows ms links [] = []
+rows ms links (e ∷ es) =
+    carried (filter (leads_from (number_of (slice_get ms e.place))) links) (λ k. sent_of e.what) ++ rows ms links es
+
+-- a delivery without copies, for a component
+abbrev pub mark : ℕ → Delivery
+mark k = record { component = k; port = 0; value = pos 0; copies = 0 }
+
+abbrev pub marks : List Member → List (Placed (Result (List Counts) Fault)) → List Delivery
+marks ms [] = []
+marks ms (e ∷ es) = mark (number_of (slice_get ms e.place)) ∷ marks ms es
+
+-- deliveries stand in the order of their components
+abbrev pub RiseByComponent : List DeliveryOfCode → Type 0
+RiseByComponent ds = IsNonDecreasingBy (λ (d : DeliveryOfCode). d.component) ds
+
+-- none of the deliveries is for a component
+abbrev pub NoneFor : ℕ → List Delivery → Type 0
+NoneFor k ds = All (λ (d : Delivery). nat_eq d.component k ≡ false) ds
+
+-- where nothing stands, nothing is delivered
+abbrev pub AllStand : List Member → List Delivery → List (Placed (List Counts)) → Type 0
+AllStand ms ds xs = (p : ℕ) (m : Member) → slice_get ms p ≡ Some m → is_in p (places_of xs) ≡ false → NoneFor m.number ds
+
+-- no delivery comes before the one in front of it
+abbrev pub AreSorted : List DeliveryOfCode → Type 0
+AreSorted ds = (k : ℕ) (d : DeliveryOfCode) → 0 ≤ k → k + 1 < length ds
+    → is_lt (delivery_cmp (delivery_of (slice_index_or ds (k + 1) d)) (delivery_of (slice_index_or ds k d))) ≡ false
+
+-- are two deliveries for one port and value
+abbrev pub same_key : Delivery → Delivery → Bool
+same_key d e = nat_eq e.component d.component && (nat_eq e.port d.port && int_eq e.value d.value)
+
+-- with a delivery in front of those in order that come after it, or together with the first
+abbrev pub joined_before : Delivery → List Delivery → List Delivery
+joined_before d [] = d ∷ []
+joined_before d (e ∷ es) =
+    if same_key d e then record { component = e.component; port = e.port; value = e.value; copies = capped (d.copies + e.copies) } ∷ es
+    else d ∷ e ∷ es

@@ -1,0 +1,12 @@
+pub mod Flattened
+pub mod Gos
+pub mod Linear
+pub mod Networks
+pub mod Rules
+pub mod Soundness
+pub mod Jobbing
+pub mod Outsides
+pub mod Readings
+pub mod Spelled
+pub mod Starting
+pub mod Values

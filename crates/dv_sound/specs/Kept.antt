@@ -1,0 +1,58 @@
+-- Numbers of the language, in states, in what arrives and in the texts of rules.
+use Rattle.std.specs.Prelude.{◌^◌, Bool, true, ◌&&◌, nat_le, nat_lt, IsTrue, List}
+use Rattle.std.specs.List.{list_all}
+use Rattle.dv_syntax.specs.Trees.{AtomicTree, Expression, Literal, TruthValue, Named, Parens, Prefixed, Binary, Call, Elapsed, Times, RuleTree}
+use Rattle.dv_syntax.specs.Trees.{Statements, Done, Assign, Goto, Send, If, IfElse, For, Add, Drop}
+use Rattle.dv_bag.specs.Bag.{is_number, total}
+use Rattle.dv_bag.specs.declared.TheConstants.{GREATEST_COUNT}
+use Rattle.dv_bag.specs.declared.state.Datum.{Datum}
+use Rattle.dv_bag.specs.declared.state.Datum.TheVariants as datum
+use Rattle.dv_bag.specs.declared.state.State.{State}
+use Rattle.dv_eval.specs.Scope.{start_state}
+use Rattle.dv_accepted.specs.Fitting.{fits}
+use Rattle.dv_conservative.specs.Sound.{is_of_numbers}
+
+-- a number of the language, a truth value, or a bag of such numbers with no more than the greatest count of values
+abbrev pub is_kept : Datum → Bool
+is_kept (datum.Number n) = is_number n
+is_kept (datum.Flag b) = true
+is_kept (datum.Bag b) = is_of_numbers b && nat_le (total b) GREATEST_COUNT
+
+abbrev pub are_kept : List Datum → Bool
+are_kept contents = list_all is_kept contents
+
+-- a state that fits its model and holds numbers alone
+abbrev pub fits_kept : AtomicTree → State → Bool
+fits_kept m s = fits m s && are_kept s.variables
+
+-- the numbers that an expression and statements name are of the language, as those of every token are
+abbrev pub names_numbers : Expression → Bool
+names_numbers (Literal n) = nat_lt n.value (2 ^ 63)
+names_numbers (TruthValue place b) = true
+names_numbers (Named name) = true
+names_numbers (Parens place e) = names_numbers e
+names_numbers (Prefixed operator place e) = names_numbers e
+names_numbers (Binary operator a b) = names_numbers a && names_numbers b
+names_numbers (Call call place b) = true
+names_numbers (Elapsed place) = true
+names_numbers (Times place e b) = names_numbers e
+
+abbrev pub name_numbers : Statements → Bool
+name_numbers Done = true
+name_numbers (Assign variable value rest) = names_numbers value && name_numbers rest
+name_numbers (Goto place phase rest) = name_numbers rest
+name_numbers (Send place port value rest) = names_numbers value && name_numbers rest
+name_numbers (If place condition block rest) = names_numbers condition && (name_numbers block && name_numbers rest)
+name_numbers (IfElse place condition block other rest) =
+    names_numbers condition && (name_numbers block && (name_numbers other && name_numbers rest))
+name_numbers (For place v b block rest) = name_numbers block && name_numbers rest
+name_numbers (Add place value b rest) = names_numbers value && name_numbers rest
+name_numbers (Drop place value b rest) = names_numbers value && name_numbers rest
+
+abbrev pub rules_name_numbers : List RuleTree → Bool
+rules_name_numbers rules = list_all (λ (r : RuleTree). name_numbers r.body) rules
+
+-- A model whose numbers are of the language: those of its rules, and those of its start state.
+pub record IsOfNumbers (m : AtomicTree) : Type 0 where
+  pub rules : IsTrue (rules_name_numbers m.rules)
+  pub start : IsTrue (are_kept (start_state m).variables)
