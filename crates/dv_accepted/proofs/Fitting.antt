@@ -23,7 +23,7 @@ use Rattle.dv_check.specs.Rules.{items_refusals, known_in, names_refusals, once_
 use Rattle.dv_check.specs.Rules.{standing_refusals, start_hold_refusals, start_places, start_refusals, variable_refusals}
 use Rattle.dv_check.specs.Rules.{holds_once_refusals, phases_places}
 use Rattle.dv_accepted.specs.Fitting.{data_fit, datum_fits, fits}
-use Rattle.dv_check.proofs.Accepted.{both_nil, not_refused, not_false}
+use Rattle.dv_check.proofs.CheckedFiles.{both_nil, not_refused, not_false}
 use Rattle.dv_check.proofs.Declared.{new_declared, stays_declared}
 
 pub both_true : (a b : Bool) → (a && b) ≡ true → (a ≡ true) × (b ≡ true)

@@ -17,7 +17,7 @@ use Rattle.dv_check.specs.Names.{first_of, refusal_if, repeats, repeats_after, w
 use Rattle.dv_check.specs.Rules.{atomic_refusals, items_refusals, known_in, name_of_declaration, names_refusals}
 use Rattle.dv_check.specs.Rules.{number_of_declaration, standing_refusals, start_hold_refusals}
 use Rattle.dv_accepted.specs.Fitting.{ReadsPort}
-use Rattle.dv_check.proofs.Accepted.{both_nil, not_refused}
+use Rattle.dv_check.proofs.CheckedFiles.{both_nil, not_refused}
 use Rattle.dv_accepted.proofs.Fitting.{place_of_declared}
 use Rattle.dv_accepted.proofs.Known.{declared_entry, declared_in, entry_in, or_second, with_variables_entry}
 

@@ -35,7 +35,7 @@ use Rattle.dv_check.specs.Couplings.{is_input, is_output}
 use Rattle.dv_accepted.specs.Fitting.{are_names_known, are_terms_known, are_ticks_known, data_fit, datum_fits, domain_at}
 use Rattle.dv_accepted.specs.Fitting.{domain_named, fits_in, has_value, has_values, HoldsDatum, is_assignable, is_bag}
 use Rattle.dv_accepted.specs.Fitting.{is_readable, is_value, is_variable}
-use Rattle.dv_check.proofs.Accepted.{both_nil, not_refused, not_false}
+use Rattle.dv_check.proofs.CheckedFiles.{both_nil, not_refused, not_false}
 use Rattle.dv_check.proofs.Declared.{input_declared, output_declared, same_declared}
 use Rattle.dv_check.proofs.Firsts.{first_of_push}
 use Rattle.dv_accepted.proofs.Fitting.{among_declared, and_true, both_true, parts_of_none}

@@ -42,7 +42,7 @@ use Rattle.dv_check.specs.Types.{is_of, knows_elapsed, operand_refusals, operand
 use Rattle.dv_check.specs.Types.{type_of, type_of_name, type_of_operator, type_of_prefix, type_refusals, value_name_refusals}
 use Rattle.dv_check.specs.Rules.{known_in, known_in_rule, sort_in}
 use Rattle.dv_accepted.specs.Fitting.{context_within, datum_fits, fits_in, HoldsDatum, is_of_type, known_within, values_within}
-use Rattle.dv_check.proofs.Accepted.{both_nil, not_false, not_refused}
+use Rattle.dv_check.proofs.CheckedFiles.{both_nil, not_false, not_refused}
 use Rattle.dv_accepted.proofs.Fitting.{and_true}
 use Rattle.dv_accepted.proofs.Outcomes.{if_ok_after, if_ok_branch}
 use Rattle.dv_accepted.proofs.Known.{bag_name_known, datum_held, is_of_loop, is_stored, of_no_loop, sort_named, sort_of_domain}

@@ -1,21 +1,14 @@
 -- What is sent, as one list: what an edit of the list does to the bag of each port.
-use Rattle.std.proofs.Common.{◌≡◌, ◌⊎◌, inl, inr, ℕ, zero, suc, ◌+◌, ◌-◌, ◌<◌, ◌≤◌, Bool, true, false, cond, nat_eq, List, []}
+use Rattle.std.proofs.Common.{◌≡◌, inl, inr, ℕ, zero, suc, ◌+◌, ◌-◌, ◌^◌, ◌<◌, ◌≤◌, Bool, true, false, cond, nat_eq, List, []}
 use Rattle.std.proofs.Common.{◌∷◌, ◌++◌, length, get_or, set, take, drop, replicate, ℤ, pos, refl, sym, ap, ◌∙◌, subst, arith}
-use Rattle.std.specs.List.{AllWithin, insert, refill, slice_range}
-use Rattle.std.specs.List.Sorted.{IsNonDecreasingBy}
-use Rattle.std.specs.Ordering.{int_eq}
-use Rattle.std.proofs.lemmas.Bool.{cases_Bool, false≢true, cases_lt, eq-eqb, eqb-false, eqb-true, ne_eqb}
-use Rattle.std.proofs.lemmas.Bool.Decides.{Decides-int_eq}
+use Rattle.std.specs.List.{AllWithin, insert, slice_range}
+use Rattle.std.proofs.lemmas.Bool.{cases_lt, eq-eqb, ne_eqb}
 use Rattle.std.proofs.lemmas.List.{at_drop_more, get_or-drop, get_or-take, get_or_past, length-drop, length-take-le, take-append-drop}
 use Rattle.std.proofs.lemmas.List.Folds.{drop_split}
-use Rattle.std.proofs.lemmas.List.Sorted.{IsNonDecreasingBy-from_default}
-use Rattle.dv_bag.specs.Bag.{Counts, IsBag, bag_at, capped, count_of, size_of_all, total, total_of_all, with_copies}
-use Rattle.dv_bag.specs.Same.{same_bags, same_bags-decides}
-use Rattle.dv_bag.specs.Sent.{AreWithin, GoAsOften, HasCopiesAt, IsPlaceOf, RiseFrom, by_port, copies_in, from_port, sent_at, sent_into}
+use Rattle.dv_bag.specs.Bag.{Counts, bag_at, capped, size_of_all, total, total_of_all, with_copies}
+use Rattle.dv_bag.specs.Sent.{AreWithin, HasCopiesAt, by_port, copies_in, from_port, sent_at, sent_into}
 use Rattle.dv_bag.specs.declared.sent.Sending.{Sending}
-use Rattle.dv_bag.proofs.Pairs.{refill-set, with_copies_bag}
-use Rattle.dv_bag.proofs.Monoid.{copies_capped, copies_either, copies_join, count_kept, count_with_other, count_with_same}
-use Rattle.dv_bag.proofs.Monoid.{same_counts_same_bag, total_with}
+use Rattle.dv_bag.proofs.Monoid.{copies_capped, copies_either, copies_join, total_with}
 
 -- copies of a value that go to a port
 abbrev pub sending : ℕ → ℤ → ℕ → Sending
@@ -60,7 +53,7 @@ pub front_other : (p : ℕ) (s : Sending) (ss : List Sending) → (p ≡ s.port 
 front_other p s ss apart = passed p s ss [] apart
 
 -- one sending more at a place
-put_same : (s : Sending) (ss : List Sending) (i : ℕ) →
+pub put_same : (s : Sending) (ss : List Sending) (i : ℕ) →
     sent_at s.port (insert ss i s) ≡ with_copies s.value s.copies (sent_at s.port ss)
 put_same s ss i =
     let p = s.port in
@@ -70,7 +63,7 @@ put_same s ss i =
     ∙ into_later p s.value s.copies (drop i ss) before
     ∙ ap (with_copies s.value s.copies) (sym (into_append p (take i ss) (drop i ss) []) ∙ ap (sent_at p) (take-append-drop i ss))
 
-put_other : (p : ℕ) (s : Sending) (ss : List Sending) (i : ℕ) → (p ≡ s.port → ⊥) → sent_at p (insert ss i s) ≡ sent_at p ss
+pub put_other : (p : ℕ) (s : Sending) (ss : List Sending) (i : ℕ) → (p ≡ s.port → ⊥) → sent_at p (insert ss i s) ≡ sent_at p ss
 put_other p s ss i apart =
     into_append p (take i ss) (s ∷ drop i ss) []
     ∙ passed p s (drop i ss) (sent_at p (take i ss)) apart
@@ -123,7 +116,7 @@ bag_from a (suc n) (suc i) q ss lt e = bag_from (a + 1) n i q ss (omega arith) (
 nothing_past : (ports p : ℕ) (ss : List Sending) (b : Counts) → AreWithin ports ss → ports ≤ p → sent_into p ss b ≡ b
 nothing_past ports p [] b h le = refl
 nothing_past ports p (s ∷ ss) b h le =
-    rw (ne_eqb s.port p (λ e. absurd (omega (arith, h.0)))) (nothing_past ports p ss b h.2 le)
+    rw (ne_eqb s.port p (λ e. absurd (omega (arith, h.0)))) (nothing_past ports p ss b h.3 le)
 
 pub bag_of_port : (ports p : ℕ) (ss : List Sending) → AreWithin ports ss → bag_at (by_port ports ss) p ≡ sent_at p ss
 bag_of_port ports p ss h = elim (cases_lt p ports) [
@@ -159,55 +152,18 @@ module _ (ss tt : List Sending) where
       set_from 0 ports port port lt (omega arith) others
       ∙ ap (set (by_port ports ss) port) (here ∙ ap (with_copies v n) (sym (bag_of_port ports port ss h)))
 
--- the invariant
-within_put : (ports : ℕ) (ss : List Sending) (i : ℕ) (s : Sending) → AreWithin ports ss → s.port < ports → 0 < s.copies →
-    AreWithin ports (insert ss i s)
-within_put ports ss zero s h lt some = (lt, some, h)
-within_put ports [] (suc i) s h lt some = (lt, some, tt)
-within_put ports (x ∷ xs) (suc i) s h lt some = (h.0, h.1, within_put ports xs i s h.2 lt some)
+-- copies go to the ports alone, also after an edit
+pub within_put : (ports : ℕ) (ss : List Sending) (i : ℕ) (s : Sending) → AreWithin ports ss → s.port < ports → 0 < s.copies →
+    s.copies < 2 ^ 64 → AreWithin ports (insert ss i s)
+within_put ports ss zero s h lt some kept = (lt, some, kept, h)
+within_put ports [] (suc i) s h lt some kept = (lt, some, kept, tt)
+within_put ports (x ∷ xs) (suc i) s h lt some kept = (h.0, h.1, h.2, within_put ports xs i s h.3 lt some kept)
 
 pub within_set : (ports : ℕ) (ss : List Sending) (i : ℕ) (s : Sending) → AreWithin ports ss → s.port < ports → 0 < s.copies →
-    AreWithin ports (set ss i s)
-within_set ports [] i s h lt some = tt
-within_set ports (x ∷ xs) zero s h lt some = (lt, some, h.2)
-within_set ports (x ∷ xs) (suc i) s h lt some = (h.0, h.1, within_set ports xs i s h.2 lt some)
-
-rise_put : (low : ℕ) (ss : List Sending) (i : ℕ) (s : Sending) → RiseFrom low ss → low ≤ s.port → IsPlaceOf s.port i ss →
-    RiseFrom low (insert ss i s)
-rise_put low [] zero s h le at = (le, tt)
-rise_put low (x ∷ xs) zero s h le at = (le, (at.2 0 x (omega arith) (omega arith), h.1))
-rise_put low [] (suc i) s h le at = absurd (omega (arith, at.0))
-rise_put low (x ∷ xs) (suc i) s h le at = (
-  h.0,
-  rise_put x.port xs i s h.1 (at.1 0 x (omega arith) (omega arith)) (
-    omega (arith, at.0),
-    λ k d le lt. at.1 (suc k) d (omega arith) (omega (arith, lt)),
-    λ k d le lt. at.2 (suc k) d (omega (arith, le)) (omega (arith, lt)),
-  ),
-)
-
-rise_set : (low : ℕ) (ss : List Sending) (i : ℕ) (s : Sending) → RiseFrom low ss → (get_or ss i s).port ≡ s.port →
-    RiseFrom low (set ss i s)
-rise_set low [] i s h e = tt
-rise_set low (x ∷ xs) zero s h e = (omega (arith, h.0, e), subst (λ (p : ℕ). RiseFrom p xs) e h.1)
-rise_set low (x ∷ xs) (suc i) s h e = (h.0, rise_set x.port xs i s h.1 e)
-
-above_low : (low : ℕ) (ss : List Sending) (i : ℕ) (d : Sending) → RiseFrom low ss → i < length ss → low ≤ (get_or ss i d).port
-above_low low [] i d h lt = absurd (omega arith)
-above_low low (x ∷ xs) zero d h lt = h.0
-above_low low (x ∷ xs) (suc i) d h lt = let rest = above_low x.port xs i d h.1 (omega (arith, lt)) in omega (arith, h.0, rest)
-
-ports_rise : (low : ℕ) (ss : List Sending) (i j : ℕ) (d : Sending) → RiseFrom low ss → i ≤ j → j < length ss →
-    (get_or ss i d).port ≤ (get_or ss j d).port
-ports_rise low [] i j d h le lt = absurd (omega arith)
-ports_rise low (x ∷ xs) zero zero d h le lt = omega arith
-ports_rise low (x ∷ xs) zero (suc j) d h le lt = above_low x.port xs j d h.1 (omega (arith, lt))
-ports_rise low (x ∷ xs) (suc i) zero d h le lt = absurd (omega arith)
-ports_rise low (x ∷ xs) (suc i) (suc j) d h le lt = ports_rise x.port xs i j d h.1 (omega (arith, le)) (omega (arith, lt))
-
-pub rise_by_port : (ss : List Sending) → RiseFrom 0 ss → IsNonDecreasingBy (λ (s : Sending). s.port) ss
-rise_by_port ss h = IsNonDecreasingBy-from_default (λ (s : Sending). s.port) ss no_sending
-    (λ i j le lt. ports_rise 0 ss i j no_sending h le lt)
+    s.copies < 2 ^ 64 → AreWithin ports (set ss i s)
+within_set ports [] i s h lt some kept = tt
+within_set ports (x ∷ xs) zero s h lt some kept = (lt, some, kept, h.3)
+within_set ports (x ∷ xs) (suc i) s h lt some kept = (h.0, h.1, h.2, within_set ports xs i s h.3 lt some kept)
 
 -- how many there are
 total_set : (bags : List Counts) (i : ℕ) (b : Counts) (n : ℕ) → i < length bags →
@@ -223,11 +179,11 @@ total_none a (suc n) = let rest = total_none (a + 1) n in omega arith
 pub total_by_port : (ports : ℕ) (ss : List Sending) → AreWithin ports ss → size_of_all (by_port ports ss) ≡ capped (copies_in ss)
 total_by_port ports [] h = let none = total_none 0 ports in omega arith
 total_by_port ports (s ∷ ss) h =
-    let rest = total_by_port ports ss h.2 in
+    let rest = total_by_port ports ss h.3 in
     let long = from_port_length 0 ports ss in
     let old = bag_at (by_port ports ss) s.port in
     let parts = total_with s.value s.copies old in
-    let front = edited ss (s ∷ ss) ports s.port s.value s.copies h.2 h.0 (front_same s ss)
+    let front = edited ss (s ∷ ss) ports s.port s.value s.copies h.3 h.0 (front_same s ss)
     (λ p apart. front_other p s ss apart) in
     let whole = total_set (by_port ports ss) s.port (with_copies s.value s.copies old) s.copies (omega (arith, h.0)) parts.0 in
     ap size_of_all front ∙ omega arith
@@ -240,53 +196,6 @@ none_or_some ports (s ∷ ss) h =
     ne_eqb (length (s ∷ ss)) 0 (λ e. absurd (omega arith))
     ∙ sym (ne_eqb (size_of_all (by_port ports (s ∷ ss))) 0 (λ e. absurd (omega (arith, h.1))))
 
--- what the code of an insertion leaves
-module _ (ports port : ℕ) (v w : ℤ) (items : List Sending) (number : w ≡ v) (h : AreWithin ports items) (lt : port < ports) where
-  found_sum : (place c : ℕ) → HasCopiesAt port w place items → c ≡ capped ((get_or items place no_sending).copies + 1) →
-      by_port ports (set items place (sending port w c))
-      ≡ set (by_port ports items) port (with_copies w 1 (bag_at (by_port ports items) port))
-  found_sum place c at sum =
-      edited items (set items place (sending port w c)) ports port w 1 h lt (set_same port w c items place [] at sum)
-      (λ p apart. set_other port p w c items place [] apart at)
-
-  pub found : (slice read : List Sending) (place c : ℕ) → slice ≡ items → read ≡ items → HasCopiesAt port w place items →
-      c ≡ capped ((get_or read place no_sending).copies + 1) →
-      by_port ports (refill (length items) items (set slice place (sending port w c)))
-      ≡ set (by_port ports items) port (with_copies v 1 (bag_at (by_port ports items) port))
-  found slice read place c wrote seen at sum =
-      ap (λ (xs : List Sending). by_port ports (refill (length items) items (set xs place (sending port w c)))) wrote
-      ∙ ap (by_port ports) (refill-set items place (sending port w c))
-      ∙ found_sum place c at (subst (λ (xs : List Sending). c ≡ capped ((get_or xs place no_sending).copies + 1)) seen sum)
-      ∙ ap (λ (z : ℤ). set (by_port ports items) port (with_copies z 1 (bag_at (by_port ports items) port))) number
-
-  pub found_within : (slice : List Sending) (place c : ℕ) → slice ≡ items → 0 < c → RiseFrom 0 items →
-      HasCopiesAt port w place items →
-      AreWithin ports (refill (length items) items (set slice place (sending port w c)))
-      × RiseFrom 0 (refill (length items) items (set slice place (sending port w c)))
-  found_within slice place c wrote some rise at =
-      let s = sending port w c in
-      let new = ap (λ (xs : List Sending). refill (length items) items (set xs place s)) wrote ∙ refill-set items place s in
-      subst (λ (xs : List Sending). AreWithin ports xs × RiseFrom 0 xs) (sym new) (
-        within_set ports items place s h lt some,
-        let here = at.1 s in rise_set 0 items place s rise here.0,
-      )
-
-  pub put : (place : ℕ) (new : List Sending) → new ≡ insert items place (sending port w 1) →
-      by_port ports new ≡ set (by_port ports items) port (with_copies v 1 (bag_at (by_port ports items) port))
-  put place new e =
-      ap (by_port ports) e
-      ∙ edited items (insert items place (sending port w 1)) ports port w 1 h lt (put_same (sending port w 1) items place)
-      (λ p apart. put_other p (sending port w 1) items place apart)
-      ∙ ap (λ (z : ℤ). set (by_port ports items) port (with_copies z 1 (bag_at (by_port ports items) port))) number
-
-  pub put_within : (place : ℕ) (new : List Sending) → new ≡ insert items place (sending port w 1) → RiseFrom 0 items →
-      IsPlaceOf port place items → AreWithin ports new × RiseFrom 0 new
-  put_within place new e rise at =
-      subst (λ (xs : List Sending). AreWithin ports xs × RiseFrom 0 xs) (sym e) (
-        within_put ports items place (sending port w 1) h lt (omega arith),
-        rise_put 0 items place (sending port w 1) rise (omega arith) at,
-      )
-
 -- what goes to a port stands between two places
 at_part : (items : List Sending) (a b i : ℕ) (d : Sending) → a ≤ b → b ≤ length items → i < length (slice_range items a b) →
     (a + i < b) × (get_or (slice_range items a b) i d ≡ get_or items (a + i) d)
@@ -295,17 +204,6 @@ at_part items a b i d order within early =
     let long = length-take-le (b - a) (drop a items) (omega (arith, order, within, rest)) in
     let less : i < b - a = omega (arith, early, long) in
     (omega (arith, less), get_or-take (b - a) (drop a items) i d less ∙ get_or-drop a items i d)
-
-pub found_in_part : (p : ℕ) (v : ℤ) (items : List Sending) (a b i : ℕ) → a ≤ b → b ≤ length items →
-    AllWithin (λ (s : Sending). s.port ≡ p) items a b → i < length (slice_range items a b) →
-    ((d : Sending) → (get_or (slice_range items a b) i d).value ≡ v) → HasCopiesAt p v (a + i) items
-found_in_part p v items a b i order within there early same =
-    let at = at_part items a b i no_sending order within early in (
-      omega (arith, at.0, within),
-      λ d.
-          let read = at_part items a b i d order within early in
-          (there (a + i) d (omega arith) read.0, ap (λ (s : Sending). s.value) (sym read.1) ∙ same d),
-    )
 
 pub port_in_part : (p : ℕ) (items : List Sending) (a b i : ℕ) (d : Sending) → a ≤ b → b ≤ length items →
     AllWithin (λ (s : Sending). s.port ≡ p) items a b → i < length (slice_range items a b) →
@@ -352,112 +250,10 @@ read_step p i items b t lt e = sym
     ∙ ap (λ (u : Bool). sent_into p (drop (i + 1) items)
     (cond u (with_copies (get_or items i no_sending).value (get_or items i no_sending).copies b) b)) e)
 
--- what goes to a port is a bag
-sent_bag : (p : ℕ) (ss : List Sending) (b : Counts) → IsBag b → IsBag (sent_into p ss b)
-sent_bag p [] b h = h
-sent_bag p (s ∷ ss) b h = step (nat_eq s.port p) (λ c k. sent_bag p ss c k)
-  where
-    step : (t : Bool) → ((c : Counts) → IsBag c → IsBag (sent_into p ss c)) →
-        IsBag (sent_into p ss (cond t (with_copies s.value s.copies b) b))
-    step true rest = rest (with_copies s.value s.copies b) (with_copies_bag s.value s.copies b h)
-    step false rest = rest b h
-
--- the count of a value, with the first sending and without
-front_counted : (p : ℕ) (v : ℤ) (s : Sending) (ss : List Sending) → s.port ≡ p → s.value ≡ v →
-    count_of v (sent_at p (s ∷ ss)) ≡ capped (count_of v (sent_at p ss) + s.copies)
-front_counted p v s ss e f =
-    let whole : sent_at p (s ∷ ss) ≡ with_copies v s.copies (sent_at p ss) = taken p s ss [] e
-    ∙ into_later p s.value s.copies ss [] ∙ ap (λ (w : ℤ). with_copies w s.copies (sent_at p ss)) f in
-    ap (count_of v) whole ∙ count_with_same v s.copies (sent_at p ss) (sent_bag p ss [] tt)
-
-front_uncounted : (p : ℕ) (v : ℤ) (s : Sending) (ss : List Sending) → ((s.port ≡ p) × (s.value ≡ v) → ⊥) →
-    count_of v (sent_at p (s ∷ ss)) ≡ count_of v (sent_at p ss)
-front_uncounted p v s ss apart = elim (cases_Bool (nat_eq s.port p)) [
-  | inl here ↦
-      let e : s.port ≡ p = eqb-true s.port p here in
-      ap (count_of v) (taken p s ss [] e ∙ into_later p s.value s.copies ss [])
-      ∙ count_with_other v s.value s.copies (sent_at p ss) (λ f. apart (e, sym f))
-  | inr there ↦ ap (count_of v) (passed p s ss [] (λ e. eqb-false s.port p there (sym e)))
-]
-
--- a loop over the sendings, one step
-pub counted_step : (p : ℕ) (v : ℤ) (items : List Sending) (i n : ℕ) → i < length items → (get_or items i no_sending).port ≡ p →
-    (get_or items i no_sending).value ≡ v →
-    capped (n + count_of v (sent_at p (drop i items)))
-    ≡ capped (capped (n + (get_or items i no_sending).copies) + count_of v (sent_at p (drop (i + 1) items)))
-counted_step p v items i n lt e f =
-    let more = at_drop_more (λ (ss : List Sending). count_of v (sent_at p ss)) items i no_sending lt in
-    let first = front_counted p v (get_or items i no_sending) (drop (i + 1) items) e f in
-    omega arith
-
-pub uncounted_step : (p : ℕ) (v : ℤ) (items : List Sending) (i : ℕ) → i < length items →
-    (((get_or items i no_sending).port ≡ p) × ((get_or items i no_sending).value ≡ v) → ⊥) →
-    count_of v (sent_at p (drop i items)) ≡ count_of v (sent_at p (drop (i + 1) items))
-uncounted_step p v items i lt apart =
-    at_drop_more (λ (ss : List Sending). count_of v (sent_at p ss)) items i no_sending lt
-    ∙ front_uncounted p v (get_or items i no_sending) (drop (i + 1) items) apart
-
-pub count_capped : (p : ℕ) (v : ℤ) (ss : List Sending) → capped (0 + count_of v (sent_at p ss)) ≡ count_of v (sent_at p ss)
-count_capped p v ss = let small = count_kept v (sent_at p ss) (sent_bag p ss [] tt) in omega arith
-
--- equal bags by port, and values that go as often
-abbrev HasNone : ℕ → ℤ → List Sending → Type 0
-HasNone p v ss = count_of v (sent_at p ss) ≡ 0
-
--- a value that does not go to the port, or the place of one that does
-occurs : (p : ℕ) (v : ℤ) (ss : List Sending) → HasNone p v ss ⊎ ((i : ℕ) × HasCopiesAt p v i ss)
-occurs p v [] = inl refl
-occurs p v (s ∷ ss) = step (occurs p v ss) (nat_eq s.port p) refl (int_eq s.value v) refl
-  where
-    later : HasNone p v ss ⊎ ((i : ℕ) × HasCopiesAt p v i ss) → ((s.port ≡ p) × (s.value ≡ v) → ⊥) →
-        HasNone p v (s ∷ ss) ⊎ ((i : ℕ) × HasCopiesAt p v i (s ∷ ss))
-    later (inl none) apart = inl (front_uncounted p v s ss apart ∙ none)
-    later (inr (i, h)) apart = inr (suc i, (omega (arith, h.0), λ d. h.1 d))
-
-    step : HasNone p v ss ⊎ ((i : ℕ) × HasCopiesAt p v i ss) → (t : Bool) → nat_eq s.port p ≡ t → (u : Bool) →
-        int_eq s.value v ≡ u → HasNone p v (s ∷ ss) ⊎ ((i : ℕ) × HasCopiesAt p v i (s ∷ ss))
-    step rest true e true f = inr (0, (omega arith, λ d. (eqb-true s.port p e, (Decides-int_eq s.value v).0 f)))
-    step rest true e false f = later rest (λ both. absurd (false≢true (sym f ∙ (Decides-int_eq s.value v).1 both.1)))
-    step rest false e u f = later rest (λ both. eqb-false s.port p e both.0)
-
-often_at : (p : ℕ) (v : ℤ) (i : ℕ) (ss us : List Sending) → GoAsOften ss us → HasCopiesAt p v i ss →
-    count_of v (sent_at p ss) ≡ count_of v (sent_at p us)
-often_at p v i ss us g h =
-    let at = h.1 no_sending in
-    let first = get_or ss i no_sending in
-    subst (λ (w : ℤ). count_of w (sent_at p ss) ≡ count_of w (sent_at p us)) at.1
-    (subst (λ (q : ℕ). count_of first.value (sent_at q ss) ≡ count_of first.value (sent_at q us)) at.0 (g i no_sending h.0))
-
-same_at : (ss us : List Sending) → GoAsOften ss us → GoAsOften us ss → (p : ℕ) → sent_at p ss ≡ sent_at p us
-same_at ss us g k p = same_counts_same_bag (sent_at p ss) (sent_at p us) (sent_bag p ss [] tt) (sent_bag p us [] tt) (λ v.
-    elim (occurs p v ss) [
-      | inr (i, h) ↦ often_at p v i ss us g h
-      | inl none ↦ elim (occurs p v us) [
-        | inr (j, h) ↦ sym (often_at p v j us ss k h)
-        | inl neither ↦ none ∙ sym neither
-      ]
-    ])
-
-pub same_views : (m n : ℕ) (ss us : List Sending) → m ≡ n → GoAsOften ss us → GoAsOften us ss → by_port m ss ≡ by_port n us
-same_views m n ss us e g k = ap (λ (ports : ℕ). by_port ports ss) e ∙ same_from us ss 0 n (λ p le. same_at ss us g k p)
-
+-- equal bags by port
 module _ (m n : ℕ) (ss us : List Sending) (h : AreWithin m ss) (k : AreWithin n us) (same : by_port m ss ≡ by_port n us) where
   pub as_many_ports : m ≡ n
   as_many_ports = sym (from_port_length 0 m ss) ∙ ap length same ∙ from_port_length 0 n us
 
-  same_bag_at : (p : ℕ) → sent_at p ss ≡ sent_at p us
+  pub same_bag_at : (p : ℕ) → sent_at p ss ≡ sent_at p us
   same_bag_at p = sym (bag_of_port m p ss h) ∙ ap (λ (bags : List Counts). bag_at bags p) same ∙ bag_of_port n p us k
-
-  pub as_often : GoAsOften ss us
-  as_often i d lt = let s = get_or ss i d in ap (count_of s.value) (same_bag_at s.port)
-
-  pub as_often_back : GoAsOften us ss
-  as_often_back i d lt = let s = get_or us i d in ap (count_of s.value) (sym (same_bag_at s.port))
-
--- an answer that decides whether bags are equal
-pub decided_by : (r : Bool) (a b : List Counts) → (r ≡ true → a ≡ b) → (a ≡ b → r ≡ true) → r ≡ same_bags a b
-decided_by true a b to from = sym ((same_bags-decides a b).1 (to refl))
-decided_by false a b to from = elim (cases_Bool (same_bags a b)) [
-  | inl e ↦ absurd (false≢true (from ((same_bags-decides a b).0 e)))
-  | inr e ↦ sym e
-]

@@ -1,63 +1,76 @@
--- Inputs from outside: a list in which ticks never fall. An input comes at the start of its tick, that is at microstep 0.
-use Rattle.std.specs.Prelude.{ℕ, zero, suc, ◌+◌, ◌≤◌, nat_eq, nat_lt, Bool, ◌&&◌, if◌then◌else◌, List, [], ◌∷◌, length, filter}
-use Rattle.std.specs.Prelude.{replicate, Option, Some, None, option_map, slice_get, ℤ}
+-- Inputs from outside: a list in which times never fall. An input comes at its time; a run comes to those whose microstep is within
+-- its limit, and passes the others by.
+use Rattle.std.specs.Prelude.{ℕ, zero, suc, ◌+◌, ◌≤◌, ◌≡◌, nat_eq, nat_lt, Bool, false, ◌&&◌, ◌||◌, if◌then◌else◌, List, [], ◌∷◌}
+use Rattle.std.specs.Prelude.{Option, Some, None, option_map, slice_get, ℤ}
+use Rattle.std.specs.List.{prefix_len}
 use Rattle.std.specs.Ordering.{int_eq}
-use Rattle.dv_time.specs.Time.{tick_of, micro_of}
+use Rattle.dv_time.specs.Time.{is_before, time_of}
+use Rattle.dv_time.specs.declared.time.Time.{Time}
 use Rattle.dv_time.specs.declared.TheConstants.{GREATEST_TICK}
 use Rattle.dv_bag.specs.Bag.{Counts, with_copies}
 use Rattle.dv_bag.specs.declared.inputs.Input.{Input}
 
--- the tick of the last input; with no input it is 0
-abbrev pub last_tick : List Input → ℕ
-last_tick [] = 0
-last_tick (i ∷ []) = i.tick
-last_tick (i ∷ j ∷ inputs) = last_tick (j ∷ inputs)
+-- the start of a tick
+abbrev pub start_of : ℕ → Time
+start_of tick = record { tick = tick; micro = 0 }
 
--- no tick is below this one, below the one before, or above the greatest
-abbrev pub IsFrom : ℕ → List Input → Type 0
+-- the time of the last input; with no input it is 0.0
+abbrev pub last_time : List Input → Time
+last_time [] = start_of 0
+last_time (i ∷ []) = i.time
+last_time (i ∷ j ∷ inputs) = last_time (j ∷ inputs)
+
+-- no time is before this one or before that of the input in front, and no tick is above the greatest
+abbrev pub IsFrom : Time → List Input → Type 0
 IsFrom low [] = Unit {0}
-IsFrom low (i ∷ inputs) = (low ≤ i.tick) × (i.tick ≤ GREATEST_TICK) × IsFrom i.tick inputs
+IsFrom low (i ∷ inputs) = (is_before i.time low ≡ false) × (i.time.tick ≤ GREATEST_TICK) × IsFrom i.time inputs
 
--- ticks never fall, and none is above the greatest
-abbrev pub IsByTick : List Input → Type 0
-IsByTick inputs = IsFrom 0 inputs
+-- times never fall, and no tick is above the greatest
+abbrev pub IsByTime : List Input → Type 0
+IsByTime inputs = IsFrom (start_of 0) inputs
 
--- the values of the inputs at a tick and a port, beside those of a bag
-abbrev pub values_into : ℕ → ℕ → List Input → Counts → Counts
-values_into tick port [] b = b
-values_into tick port (i ∷ inputs) b =
-    values_into tick port inputs (if nat_eq i.tick tick && nat_eq i.port port then with_copies i.value 1 b else b)
+-- is this input at the time
+abbrev pub is_at : Time → Input → Bool
+is_at t i = nat_eq i.time.tick t.tick && nat_eq i.time.micro t.micro
 
-abbrev pub values_at : ℕ → ℕ → List Input → Counts
-values_at tick port inputs = values_into tick port inputs []
+-- the values of the inputs at a time and a port, beside those of a bag
+abbrev pub values_into : Time → ℕ → List Input → Counts → Counts
+values_into t port [] b = b
+values_into t port (i ∷ inputs) b = values_into t port inputs (if is_at t i && nat_eq i.port port then with_copies i.value 1 b else b)
 
--- the bags of so many ports at a tick, from one port on
-abbrev pub bags_from : ℕ → ℕ → List Input → ℕ → List Counts
-bags_from port zero inputs tick = []
-bags_from port (suc ports) inputs tick = values_at tick port inputs ∷ bags_from (port + 1) ports inputs tick
+abbrev pub values_at : Time → ℕ → List Input → Counts
+values_at t port inputs = values_into t port inputs []
 
--- what comes in at a tick: for each of so many ports the bag of the values of its inputs
-abbrev pub bags_at : ℕ → List Input → ℕ → List Counts
-bags_at ports inputs tick = bags_from 0 ports inputs tick
+-- the bags of so many ports at a time, from one port on
+abbrev pub bags_from : ℕ → ℕ → List Input → Time → List Counts
+bags_from port zero inputs t = []
+bags_from port (suc ports) inputs t = values_at t port inputs ∷ bags_from (port + 1) ports inputs t
 
--- what comes in at a rank: past the start of a tick nothing does
+-- what comes in at a time: for each of so many ports the bag of the values of its inputs
+abbrev pub bags_at : ℕ → List Input → Time → List Counts
+bags_at ports inputs t = bags_from 0 ports inputs t
+
+-- what comes in at a rank
 abbrev pub inputs_at : ℕ → ℕ → List Input → ℕ → List Counts
-inputs_at limit ports inputs n =
-    if nat_eq (micro_of limit n) 0 then bags_at ports inputs (tick_of limit n) else replicate ports []
+inputs_at limit ports inputs n = bags_at ports inputs (time_of limit n)
 
--- how many inputs are before a tick; as ticks never fall, that is the place of the first that is not
-abbrev pub inputs_before : List Input → ℕ → ℕ
-inputs_before inputs tick = length (filter (λ i. nat_lt i.tick tick) inputs)
+-- does a run pass an input by on its way to a time: it is before it, or its microstep is above the limit
+abbrev pub is_passed : ℕ → Time → Input → Bool
+is_passed limit t i = is_before i.time t || nat_lt limit i.time.micro
 
--- the tick of the input at a place
-abbrev pub tick_at : List Input → ℕ → Option ℕ
-tick_at inputs place = option_map (λ i. i.tick) (slice_get inputs place)
+-- how many inputs stand in front of the first that a run comes to at a time or after it
+abbrev pub inputs_before : ℕ → List Input → Time → ℕ
+inputs_before limit inputs t = prefix_len (is_passed limit t) inputs
 
--- the first tick of an input that is not before a tick
-abbrev pub next_from : List Input → ℕ → Option ℕ
-next_from [] tick = None
-next_from (i ∷ inputs) tick = if nat_lt i.tick tick then next_from inputs tick else Some i.tick
+-- the time of the input at a place
+abbrev pub time_at : List Input → ℕ → Option Time
+time_at inputs place = option_map (λ i. i.time) (slice_get inputs place)
 
--- is this input at the tick, and for the port, with this value
-abbrev pub is_of : ℕ → ℕ → ℤ → Input → Bool
-is_of tick port value i = nat_eq i.tick tick && nat_eq i.port port && int_eq i.value value
+-- the first time of an input that a run comes to at a time or after it
+abbrev pub next_from : ℕ → List Input → Time → Option Time
+next_from limit [] t = None
+next_from limit (i ∷ inputs) t = if is_passed limit t i then next_from limit inputs t else Some i.time
+
+-- is this input at the time, and for the port, with this value
+abbrev pub is_of : Time → ℕ → ℤ → Input → Bool
+is_of t port value i = is_at t i && nat_eq i.port port && int_eq i.value value

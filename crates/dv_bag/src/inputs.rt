@@ -1,27 +1,30 @@
 //! Inputs from outside.
 
-ghost use Rattle.std.specs.Prelude.{◌≡◌, ℕ, ◌+◌, ◌≤◌, [], ◌∷◌, ◌++◌, drop, IsTrue, ◌↔◌, length, nat_eq, slice_get, IfOk, OnOk, OnErr};
+ghost use Rattle.std.specs.Prelude.{◌≡◌, ℕ, ◌≤◌, [], ◌∷◌, ◌++◌, drop, false, IsTrue, ◌↔◌, length, slice_get, IfOk, OnOk, OnErr};
 ghost use Rattle.std.specs.List.{take_while};
+ghost use Rattle.dv_time.specs.Time.{IsOfRun, is_before};
 ghost use Rattle.dv_time.specs.declared.TheConstants.{GREATEST_TICK};
-ghost use Rattle.dv_bag.specs.Inputs.{IsByTick, bags_at, inputs_before, last_tick, next_from, tick_at};
+ghost use Rattle.dv_time.specs.declared.time.Time.{Time as TimeOfCode};
+ghost use Rattle.dv_bag.specs.Inputs.{IsByTime, bags_at, inputs_before, is_at, last_time, next_from, time_at};
 ghost use Rattle.dv_bag.specs.InputSteps.{with_input, with_inputs};
 
 /// What comes in, and when.
 pub mod laws;
 
 use crate::bag::Bags;
+use dv_time::Time;
 use std::alloc::{AllocError, Global};
 use std::marker::Model;
 
-/// A value that comes in from outside: at the start of a tick, at an input port of the root by its number.
+/// A value that comes in from outside: at a time, at an input port of the root by its number.
 #[derive(Clone, Copy, Debug, PartialEq, Eq)]
 pub struct Input {
-    pub tick: u64,
+    pub time: Time,
     pub port: u32,
     pub value: i64,
 }
 
-/// Inputs in an order in which ticks never fall, none above the greatest tick.
+/// Inputs in an order in which times never fall, none with a tick above the greatest.
 #[derive(Debug, Drop)]
 pub struct Inputs {
     inputs: Vec<Input>,
@@ -29,14 +32,14 @@ pub struct Inputs {
 
 impl Model for Inputs {
     ghost use Rattle.std.specs.Prelude.{List};
-    ghost use Rattle.dv_bag.specs.Inputs.{IsByTick};
+    ghost use Rattle.dv_bag.specs.Inputs.{IsByTime};
     ghost use Rattle.dv_bag.specs.declared.inputs.Input.{Input};
 
     ghost Value = { List Input };
 
     ghost view = { λ i. i.inputs.items };
 
-    ghost invariant = { λ i. IsByTick i.inputs.items };
+    ghost invariant = { λ i. IsByTime i.inputs.items };
 }
 
 impl Inputs {
@@ -55,8 +58,8 @@ impl Inputs {
     ///
     /// No memory for one more. The inputs are as before.
     pub fn push(&mut self, input: Input) -> Result<(), AllocError>
-        requires not_before { last_tick self.old ≤ input.tick }
-        requires within { input.tick ≤ GREATEST_TICK }
+        requires not_before { is_before input.time (last_time self.old) ≡ false }
+        requires within { input.time.tick ≤ GREATEST_TICK }
         ensures ok { OnOk result (self.new ≡ self.old ++ input ∷ []) }
         ensures err { OnErr result (self.new ≡ self.old) }
     {
@@ -87,33 +90,42 @@ impl Inputs {
     /// All inputs.
     pub fn as_slice(&self) -> &[Input]
         ensures inputs { result.now ≡ self.now }
-        ensures by_tick { IsByTick self.now }
+        ensures by_time { IsByTime self.now }
     {
         self.inputs.as_slice()
     }
 
-    /// The tick of the last input; with no input it is 0.
-    pub fn last_tick(&self) -> u64
-        ensures { result ≡ last_tick self.now }
+    /// The time of the last input; with no input it is 0.0.
+    pub fn last_time(&self) -> Time
+        ensures { result ≡ last_time self.now }
     {
         match self.inputs.as_slice() {
-            [] => 0,
-            [.., last] => last.tick,
+            [] => Time::ZERO,
+            [.., last] => last.time,
         }
     }
 
-    /// The tick of the input at a place, if there is one: from the place of a tick on, the next tick that has an input.
-    pub fn next_tick(&self, place: usize) -> Option<u64>
-        ensures at_place { result ≡ tick_at self.now place }
-        ensures next { (tick : ℕ) → place ≡ inputs_before self.now tick
-            → result ≡ next_from self.now tick }
+    /// The place of the first input that a run under a microstep limit comes to at a time or after it; with none it is
+    /// the number of inputs. It is looked for from a place on that is not past it, and the work is in the inputs between.
+    pub fn place_from(&self, place: usize, time: Time, limit: u32) -> usize
+        requires { place ≤ inputs_before limit self.now time }
+        ensures { result ≡ inputs_before limit self.now time }
     {
-        tick_at(self.inputs.as_slice(), place)
+        place + count_passed(rest(self.inputs.as_slice(), place), time, limit)
     }
 
-    /// What comes in at a tick, a bag for each of so many ports, and the place of the first input past that tick. The
-    /// place that is given is that of the first input that is not before the tick. Work and memory are in what comes
-    /// in, and in the ports.
+    /// The time of the input at a place, if there is one: from the place of a time on, the next time at which a run comes
+    /// to an input.
+    pub fn next_time(&self, place: usize) -> Option<Time>
+        ensures at_place { result ≡ time_at self.now place }
+        ensures next { (limit : ℕ) (t : TimeOfCode) → place ≡ inputs_before limit self.now t
+            → result ≡ next_from limit self.now t }
+    {
+        time_at(self.inputs.as_slice(), place)
+    }
+
+    /// What comes in at a time, a bag for each of so many ports. The place that is given is that of the first input that a
+    /// run comes to at the time or after it. Work and memory are in what comes in, and in the ports.
     ///
     /// # Errors
     ///
@@ -122,41 +134,61 @@ impl Inputs {
         &self,
         alloc: Global,
         ports: usize,
-        tick: u64,
+        time: Time,
         place: usize,
-    ) -> Result<(Bags, usize), AllocError>
-        requires { place ≡ inputs_before self.now tick }
-        ensures bags { IfOk result (λ r. r.0 ≡ bags_at ports self.now tick) }
-        ensures after { IfOk result (λ r. r.1 ≡ inputs_before self.now (tick + 1)) }
+    ) -> Result<Bags, AllocError>
+        requires { (limit : ℕ) × IsOfRun limit time × (place ≡ inputs_before limit self.now time) }
+        ensures { IfOk result (λ bags. bags ≡ bags_at ports self.now time) }
     {
-        let arriving = front_at(self.inputs.as_slice(), place, tick);
+        let arriving = front_at(self.inputs.as_slice(), place, time);
         let mut bags = Bags::empty(alloc, ports)?;
         put_all(&mut bags, arriving)?;
-        Ok((bags, place + arriving.len()))
+        Ok(bags)
     }
 }
 
-// The tick of the input at a place, if there is one.
-fn tick_at(inputs: &[Input], place: usize) -> Option<u64>
-    ensures { result ≡ tick_at inputs.now place }
+// The time of the input at a place, if there is one.
+fn time_at(inputs: &[Input], place: usize) -> Option<Time>
+    ensures { result ≡ time_at inputs.now place }
 {
-    inputs.get(place).map(|input| input.tick)
+    inputs.get(place).map(|input| input.time)
 }
 
-// How many inputs from the front on are at a tick.
-fn count_at(inputs: &[Input], tick: u64) -> usize
-    ensures { result ≡ length (take_while (λ i. nat_eq i.tick tick) inputs.now) }
-{
-    inputs.iter().take_while(|input| input.tick == tick).count()
-}
-
-// The inputs from a place on that are at a tick.
-fn front_at(inputs: &[Input], place: usize, tick: u64) -> &[Input]
+// The inputs from a place on.
+fn rest(inputs: &[Input], place: usize) -> &[Input]
     requires { place ≤ length inputs.now }
-    ensures { result.now ≡ take_while (λ i. nat_eq i.tick tick) (drop place inputs.now) }
+    ensures { result.now ≡ drop place inputs.now }
 {
-    let rest = &inputs[place..];
-    &rest[..count_at(rest, tick)]
+    &inputs[place..]
+}
+
+// How many inputs from the front on a run passes by on its way to a time.
+fn count_passed(inputs: &[Input], time: Time, limit: u32) -> usize
+    ensures { result ≡ inputs_before limit inputs.now time }
+{
+    inputs
+        .iter()
+        .take_while(|input| input.time.is_before(time) || limit < input.time.micro)
+        .count()
+}
+
+// How many inputs from the front on are at a time.
+fn count_at(inputs: &[Input], time: Time) -> usize
+    ensures { result ≡ length (take_while (is_at time) inputs.now) }
+{
+    inputs
+        .iter()
+        .take_while(|input| input.time.tick == time.tick && input.time.micro == time.micro)
+        .count()
+}
+
+// The inputs from a place on that are at a time.
+fn front_at(inputs: &[Input], place: usize, time: Time) -> &[Input]
+    requires { place ≤ length inputs.now }
+    ensures { result.now ≡ take_while (is_at time) (drop place inputs.now) }
+{
+    let rest = rest(inputs, place);
+    &rest[..count_at(rest, time)]
 }
 
 // The value of an input at its port, if that is one of the bags'.

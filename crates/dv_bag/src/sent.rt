@@ -1,20 +1,21 @@
 //! What a component sends.
 
 ghost use Rattle.std.specs.Cmp.{decided, partial_equiv_from_equiv};
-ghost use Rattle.std.specs.Prelude.{◌≡◌, ◌<◌, ◌≤◌, ◌==◌, ◌↔◌, ℕ, ℤ, IsTrue, [], length, nat_eq, replicate, slice_index_or, slice_set, IfOk, IfErr, OnOk, OnErr};
+ghost use Rattle.std.specs.Prelude.{◌≡◌, ◌<◌, ◌≤◌, ◌==◌, ℕ, ℤ, [], length, nat_eq, replicate, slice_set, IfOk, IfErr, OnOk, OnErr};
 ghost use Rattle.std.specs.List.{AllWithin};
-ghost use Rattle.dv_bag.specs.Bag.{bag_at, count_of, size_of_all, with_copies};
+ghost use Rattle.dv_bag.specs.Bag.{bag_at, size_of_all, with_copies};
 ghost use Rattle.dv_bag.specs.Same.{same_bags, same_bags-decides};
-ghost use Rattle.dv_bag.specs.Sent.{AreWithin, GoAsOften, HasCopiesAt, IsPlaceOf, RiseFrom, by_port, sent_at};
+ghost use Rattle.dv_bag.specs.Sent.{AreInOrder, AreWithin, HasCopiesAt, IsPlaceOf, RiseFrom, by_port, pairs_at, sending_cmp};
 
 use crate::bag::Bag;
 use smallvec::SmallVec;
 use std::alloc::{AllocError, Global};
+use std::cmp::Ordering;
 use std::default::MadeWith;
 use std::marker::Model;
 
 /// Copies of a value that go to a port.
-#[derive(Clone, Copy, Debug)]
+#[derive(Clone, Copy, Debug, PartialEq, Eq)]
 pub struct Sending {
     pub port: usize,
     pub value: i64,
@@ -22,11 +23,11 @@ pub struct Sending {
 }
 
 impl Sending {
-    // Whether these are copies of this value that go to this port.
-    fn is_of(&self, port: usize, value: i64) -> bool
-        ensures { IsTrue result ↔ ((self.now.port ≡ port) × (self.now.value ≡ value)) }
+    // Where it stands beside a value at a port: by port and then by value.
+    fn cmp_to(&self, port: usize, value: i64) -> Ordering
+        ensures { result ≡ sending_cmp self.now.port self.now.value port value }
     {
-        self.port == port && self.value == value
+        self.port.cmp(&port).then(self.value.cmp(&value))
     }
 }
 
@@ -40,8 +41,8 @@ impl MadeWith<Global> for Sending {
     }
 }
 
-/// What a component sent at one instant: a bag for each of its output ports, as one list in the order of the ports and
-/// then of the values. The type keeps the order of the ports alone. Copies of one value lie inline.
+/// What a component sent at one instant: a bag for each of its output ports, as one list by port and then by value. So
+/// a port has each value once, and what goes to it lies as its bag. Copies of one value lie inline.
 #[derive(Debug, Drop)]
 pub struct Sent {
     ports: usize,
@@ -51,13 +52,13 @@ pub struct Sent {
 impl Model for Sent {
     ghost use Rattle.std.specs.Prelude.{List};
     ghost use Rattle.dv_bag.specs.Bag.{Counts};
-    ghost use Rattle.dv_bag.specs.Sent.{AreWithin, RiseFrom, by_port};
+    ghost use Rattle.dv_bag.specs.Sent.{AreInOrder, AreWithin, by_port};
 
     ghost Value = { List Counts };
 
     ghost view = { λ s. by_port s.ports s.sendings.items };
 
-    ghost invariant = { λ s. AreWithin s.ports s.sendings.items × RiseFrom 0 s.sendings.items };
+    ghost invariant = { λ s. AreWithin s.ports s.sendings.items × AreInOrder s.sendings.items };
 }
 
 impl Sent {
@@ -96,10 +97,11 @@ impl Sent {
         total
     }
 
-    /// What was sent, as it lies: by port, and there is at least one copy of each. Together they are all that was sent.
-    /// That a port has a value once only, and its values in their order, the type does not keep.
+    /// What was sent, as it lies: by port and then by value, at least one copy of each. Those of a port are its bag.
+    /// Together they are all that was sent.
     pub fn as_slice(&self) -> &[Sending]
         ensures all { by_port (length self.now) result.now ≡ self.now }
+        ensures bags { (port : ℕ) → pairs_at port result.now ≡ bag_at self.now port }
         ensures within { AreWithin (length self.now) result.now }
         ensures order { RiseFrom 0 result.now }
     {
@@ -158,7 +160,7 @@ impl Sent {
 
 // Where what goes to a port begins and ends, by two binary searches.
 fn places_of(sendings: &[Sending], port: usize) -> (usize, usize)
-    requires { RiseFrom 0 sendings.now }
+    requires { AreInOrder sendings.now }
     ensures order { result.0 ≤ result.1 }
     ensures within { result.1 ≤ length sendings.now }
     ensures before { AllWithin (λ s. s.port < port) sendings.now 0 result.0 }
@@ -172,40 +174,11 @@ fn places_of(sendings: &[Sending], port: usize) -> (usize, usize)
 
 // The place of copies of a value that go to a port, or the place at which they go in.
 fn search(sendings: &[Sending], port: usize, value: i64) -> Result<usize, usize>
-    requires { RiseFrom 0 sendings.now }
+    requires { AreInOrder sendings.now }
     ensures found { IfOk result (λ place. HasCopiesAt port value place sendings.now) }
-    ensures absent { IfErr result (λ place. IsPlaceOf port place sendings.now) }
+    ensures absent { IfErr result (λ place. IsPlaceOf port value place sendings.now) }
 {
-    let (first, end) = places_of(sendings, port);
-    match sendings[first..end].binary_search_by_key(&value, |sending| sending.value) {
-        Ok(place) => Ok(first + place),
-        Err(place) => Err(first + place),
-    }
-}
-
-// Whether each value of the first list goes to its port as often by the second.
-fn go_as_often(ones: &[Sending], others: &[Sending]) -> bool
-    ensures { IsTrue result ↔ GoAsOften ones.now others.now }
-{
-    for one in ones {
-        if copies_at(ones, one.port, one.value) != copies_at(others, one.port, one.value) {
-            return false;
-        }
-    }
-    true
-}
-
-// How many copies of a value go to a port.
-fn copies_at(sendings: &[Sending], port: usize, value: i64) -> u64
-    ensures { result ≡ count_of value (sent_at port sendings.now) }
-{
-    let mut copies: u64 = 0;
-    for sending in sendings {
-        if sending.is_of(port, value) {
-            copies = copies.saturating_add(sending.copies);
-        }
-    }
-    copies
+    sendings.binary_search_by(|sending| sending.cmp_to(port, value))
 }
 
 impl Clone for Sent {
@@ -225,12 +198,7 @@ impl PartialEq for Sent {
     ghost laws = { partial_equiv_from_equiv (decided same_bags same_bags-decides) };
 
     fn eq(&self, other: &Self) -> bool {
-        if self.ports != other.ports {
-            return false;
-        }
-        let ones = self.sendings.as_slice();
-        let others = other.sendings.as_slice();
-        go_as_often(ones, others) && go_as_often(others, ones)
+        self.ports == other.ports && self.sendings == other.sendings
     }
 }
 

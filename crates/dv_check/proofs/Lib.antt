@@ -7,7 +7,7 @@ pub mod Merged
 pub mod ModelPositions
 pub mod Containment
 pub mod Counting
-pub mod Accepted
+pub mod CheckedFiles
 pub mod WholeTrees
 pub mod Order
 pub mod Computing

@@ -7,7 +7,7 @@ use Rattle.dv_check.specs.declared.limits.TheConstants.{GREATEST_DEPTH}
 use Rattle.dv_check.specs.Names.{model_named}
 use Rattle.dv_check.specs.Refusals.{refusal_of}
 use Rattle.dv_check.specs.Tree.{PartTree, CoupledPart, depth_of, parts_by, parts_to, tree_of, with_part}
-use Rattle.dv_check.proofs.Accepted.{file_accepted}
+use Rattle.dv_check.proofs.CheckedFiles.{file_accepted}
 
 -- the parts inside a model are the same by both functions where they are less deep than a level
 abbrev AreSame : (CoupledTree → PartTree) → (CoupledTree → PartTree) → ℕ → Type 0

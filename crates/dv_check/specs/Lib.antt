@@ -10,7 +10,7 @@ pub mod Cycles
 pub mod Tree
 pub mod Refusals
 -- What the laws speak of.
-pub mod Accepted
+pub mod CheckedFiles
 pub mod Loops
 pub mod Relays
 pub mod Nests

@@ -12,6 +12,6 @@ use dv_syntax::File;
 pub struct Checked {
     pub file: File,
     pub names: Names,
-    pub ghost accepted: { refusal_of (file_of file) ≡ None },
+    pub ghost checked: { refusal_of (file_of file) ≡ None },
     pub ghost of_one_text: { ∥ AreOfOneText names (file_of file) ∥₁ },
 }

@@ -37,7 +37,7 @@ pub fn check(alloc: Global, file: File, names: Names) -> Result<Checked, LoadErr
     requires { AreOfOneText names (file_of file) }
     ensures file { IfOk result (λ c. c.file ≡ file) }
     ensures names { IfOk result (λ c. c.names ≡ names) }
-    ensures accepted { OnOk result (refusal_of (file_of file) ≡ None) }
+    ensures checked { OnOk result (refusal_of (file_of file) ≡ None) }
     ensures refused { IfErr result (IsAnswerTo (file_of file)) }
 {
     match refusal_of(alloc, &file)? {

@@ -1,4 +1,4 @@
-//! Laws of refusals and of what is accepted. Each function stands for the law in its contract; its body does nothing.
+//! Laws of refusals and of checked files. Each function stands for the law in its contract; its body does nothing.
 
 ghost use Rattle.std.specs.Prelude.{◌≡◌, ℕ, ◌≤◌, true, false, List, Some, None, [], ◌∷◌, Contains};
 ghost use Rattle.std.specs.List.{All};
@@ -11,7 +11,7 @@ ghost use Rattle.dv_syntax.specs.declared.tree.BagCall.TheVariants.{Size};
 ghost use Rattle.dv_syntax.specs.declared.tree.Operator.TheVariants.{And};
 ghost use Rattle.dv_syntax.specs.declared.tree.RuleSort.TheVariants as rule;
 ghost use Rattle.dv_syntax.specs.declared.tree.Link.{Link};
-ghost use Rattle.dv_check.specs.Accepted.{IsAcceptedFile, IsThrough};
+ghost use Rattle.dv_check.specs.CheckedFiles.{IsCheckedFile, IsThrough};
 ghost use Rattle.dv_check.specs.Loops.{bag_at, flag_at, input_at, loop_at, name_at, one_at, wrong_inside, wrong_outside, wrong_under};
 ghost use Rattle.dv_check.specs.Cycles.{cycle_refusals};
 ghost use Rattle.dv_check.specs.Names.{model_named, refusal};
@@ -22,15 +22,15 @@ ghost use Rattle.dv_check.specs.Tree.{parts_to, tree_of};
 
 use crate::limits::GREATEST_DEPTH;
 
-/// An accepted file has a coupled root. Of each of its coupled models the parts have known models, and each link leads
+/// A checked file has a coupled root. Of each of its coupled models the parts have known models, and each link leads
 /// between two parts, or between a part and the model itself: from an output that the model of a part shows or an input
 /// of the model to an input of a part or an output of the model. The root's whole tree has at least one component and
 /// at most 4,096, at most 8,192 instances with the root, and coupled models lie at most 16 deep, the root counted.
-pub fn accepted_files()
-    ensures { (f : FileTree) → refusal_of f ≡ None → IsAcceptedFile f }
+pub fn checked_files()
+    ensures { (f : FileTree) → refusal_of f ≡ None → IsCheckedFile f }
 {}
 
-/// The tree of an accepted file is whole: taken down to more levels than there may be, it stays the same.
+/// The tree of a checked file is whole: taken down to more levels than there may be, it stays the same.
 pub fn trees_are_whole()
     ensures { (f : FileTree) (m : CoupledTree) (levels : ℕ) → refusal_of f ≡ None
         → model_named f.root.number f.models ≡ Some (CoupledModel m)
@@ -54,7 +54,7 @@ pub fn refusals_are_ordered()
     ensures total { (a b : Refusal) → precedes a b ≡ false → precedes b a ≡ false → a ≡ b }
 {}
 
-/// No link of an accepted file leads from a coupled model itself to the model itself: no input of a model is routed to
+/// No link of a checked file leads from a coupled model itself to the model itself: no input of a model is routed to
 /// its own output.
 pub fn no_link_leads_through()
     ensures { (f : FileTree) (m : CoupledTree) (l : Link) → refusal_of f ≡ None →

@@ -12,7 +12,7 @@ mod checker;
 /// A model text that breaks no rule.
 pub mod checked;
 
-/// What acceptance says, and which refusal is answered.
+/// What is so of a checked file, and which refusal is answered.
 pub mod laws;
 
 /// The limits on a model text.

@@ -7,7 +7,7 @@ use Rattle.std.proofs.lemmas.Bool.{cases_Bool, eqb-true}
 use Rattle.std.proofs.lemmas.List.Elements.{All-append, All-cons, All-nil}
 use Rattle.dv_syntax.specs.Trees.{FileTree}
 use Rattle.dv_bag.specs.Bag.{count_of}
-use Rattle.dv_check.specs.Accepted.{IsAcceptedFile}
+use Rattle.dv_check.specs.CheckedFiles.{IsCheckedFile}
 use Rattle.dv_tree.proofs.Onward.{OnlyFrom, nothing_returns}
 use Rattle.dv_flat.specs.Ends.{input_ports, output_ports}
 use Rattle.dv_flat.specs.Links.{direct_copies, direct_links, link, links_from, sent_alone}
@@ -22,7 +22,7 @@ alone_only from k other port =
     (λ (apart : eqb from.component k ≡ false). ap (λ b. cond (b && eqb from.port port) ((pos 0, 1) ∷ []) []) apart)
     (cases_Bool (eqb from.component k))
 
-no_copies : (f : FileTree) → IsAcceptedFile f → (from to : ComponentPort) → from.component ≡ to.component →
+no_copies : (f : FileTree) → IsCheckedFile f → (from to : ComponentPort) → from.component ≡ to.component →
     direct_copies f from to ≡ 0
 no_copies f accepted from to same =
     ap (λ c. direct_copies f from (record { component = c; port = to.port })) (sym same)
@@ -37,7 +37,7 @@ first_apart from to zero links h rest = rest
 first_apart from to (suc n) links h rest =
     All-cons IsApart (record { from = from; to = to; copies = suc n }) links (λ same. absurd (omega (arith, h same))) rest
 
-module _ (f : FileTree) (accepted : IsAcceptedFile f) where
+module _ (f : FileTree) (accepted : IsCheckedFile f) where
   apart_from : (from : ComponentPort) (tos : List ComponentPort) → All IsApart (links_from (direct_copies f) tos from)
   apart_from from [] = All-nil IsApart
   apart_from from (to ∷ tos) =

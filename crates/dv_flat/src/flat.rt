@@ -1,23 +1,21 @@
 //! The paths and the links of a checked text, without its tree.
 
-ghost use Rattle.std.specs.Prelude.{◌≡◌, ◌+◌, None, map, string_bytes, IfOk, IfErr};
+ghost use Rattle.std.specs.Prelude.{◌≡◌, ◌+◌, None, map, string_bytes, IfOk};
 ghost use Rattle.std.specs.List.{All, flat_map};
 ghost use Rattle.dv_syntax.specs.Trees.{file_of};
 ghost use Rattle.dv_bag.specs.Bag.{capped};
-ghost use Rattle.dv_flat.specs.Limit.{IsLinkAnswer, link_count, link_refusal};
+ghost use Rattle.dv_flat.specs.Limit.{link_count, link_refusal};
 ghost use Rattle.dv_flat.specs.Links.{copies_of, direct_links, entry_links, exit_links, paths_of};
 ghost use Rattle.dv_flat.specs.Probes.{IsOutput, direct_from, exit_from};
 
-use crate::GREATEST_LINKS;
 use crate::arrivals::Reached;
-use crate::limit::{Ways, count_links, ways_below};
+use crate::limit::{Ways, capped_count, ways_below};
 use crate::link::{ComponentPort, DirectLink, EntryLink, ExitLink};
 use crate::links::{copies_of, links_of};
 use crate::live::live_outputs;
 use crate::paths::paths_of;
 use crate::ports::{chosen, output_ports, root_inputs};
 use dv_check::GREATEST_DEPTH;
-use dv_lex::{LoadError, Refusal, RefusalNumber};
 use dv_tree::Tree;
 use std::alloc::{AllocError, Global};
 
@@ -40,13 +38,13 @@ pub struct LinkLists {
     pub exits: Vec<ExitLink>,
 }
 
-/// The paths and the links of a checked text.
+/// The paths and the links of a checked text that has no more than `GREATEST_LINKS` links.
 ///
 /// # Errors
 ///
-/// `Refused` is E17 at the root's name, where the text has more than `GREATEST_LINKS` links, each counted as often as it
-/// has copies. `Memory`: no memory for the paths and the links.
-pub fn flatten(alloc: Global, tree: &Tree) -> Result<Flat, LoadError>
+/// No memory for the paths and the links.
+pub fn flatten(alloc: Global, tree: &Tree) -> Result<Flat, AllocError>
+    requires few { link_refusal (file_of tree.now.file) ≡ None }
     ensures paths { IfOk result (λ flat. map string_bytes flat.paths.items
         ≡ paths_of tree.now.names (file_of tree.now.file)) }
     ensures direct { IfOk result (λ flat.
@@ -55,17 +53,9 @@ pub fn flatten(alloc: Global, tree: &Tree) -> Result<Flat, LoadError>
         flat.links.entries.items ≡ entry_links (file_of tree.now.file)) }
     ensures exits { IfOk result (λ flat.
         flat.links.exits.items ≡ exit_links (file_of tree.now.file)) }
-    ensures few { IfOk result (λ flat. link_refusal (file_of tree.now.file) ≡ None) }
-    ensures refused { IfErr result (IsLinkAnswer (file_of tree.now.file)) }
 {
     let below = ways_below(alloc, GREATEST_DEPTH, tree)?;
-    let count = count_links(alloc, tree, &below)?;
-    if count > GREATEST_LINKS {
-        return Err(LoadError::Refused(Refusal {
-            number: RefusalNumber::E17,
-            place: tree.root_place(),
-        }));
-    }
+    let count = capped_count(alloc, tree, &below)?;
     let links = counted_links(alloc, tree, &below, count)?;
     let paths = paths_of(alloc, tree)?;
     Ok(Flat { paths, links })

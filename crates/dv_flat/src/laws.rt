@@ -14,7 +14,7 @@ ghost use Rattle.dv_flat.specs.Rows.{two_ways};
 ghost use Rattle.dv_flat.specs.declared.link.ComponentPort.{ComponentPort};
 ghost use Rattle.dv_flat.specs.declared.link.Link.{Link};
 
-use dv_check::laws::accepted_files;
+use dv_check::laws::checked_files;
 
 /// What links carry is what routing by the tree gives, whatever is sent and whatever comes from outside: at each port,
 /// and so in all that the components receive and all that leaves.
@@ -37,7 +37,7 @@ pub fn no_component_is_linked_to_itself()
         → All (λ (l : Link ComponentPort ComponentPort). l.from.component ≢ l.to.component)
         (direct_links f) }
 {
-    accepted_files();
+    checked_files();
 }
 
 /// A value that arrives by two ways is carried by one link, with two copies.

@@ -8,7 +8,7 @@ pub mod flat;
 /// Laws of links.
 pub mod laws;
 /// The limit on links.
-mod limit;
+pub mod limit;
 /// Links between ports.
 pub mod link;
 /// Lists of links.
@@ -23,6 +23,7 @@ mod ports;
 mod probes;
 
 pub use flat::{Flat, LinkLists, flatten};
+pub use limit::count_links;
 pub use link::{ComponentPort, DirectLink, EntryLink, ExitLink, Link};
 
 /// The most links of a text, each counted as often as it has copies.

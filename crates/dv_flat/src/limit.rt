@@ -1,14 +1,16 @@
 //! How many links a text has, counted model by model: neither instances are visited nor ways walked.
 
-ghost use Rattle.std.specs.Prelude.{◌≡◌, fold, option_copied, replicate, slice_index_or, sum, IfOk, OnOk};
+ghost use Rattle.std.specs.Prelude.{◌≡◌, None, fold, option_copied, replicate, slice_index_or, sum, IfOk, IfErr, OnOk};
 ghost use Rattle.std.specs.List.{sum_by};
 ghost use Rattle.dv_syntax.specs.Trees.{file_of, model_of};
 ghost use Rattle.dv_bag.specs.Bag.{capped};
-ghost use Rattle.dv_flat.specs.Limit.{link_count};
+ghost use Rattle.dv_flat.specs.Limit.{IsLinkAnswer, link_count, link_refusal};
 ghost use Rattle.dv_flat.specs.Ways.{all_ways, at_port, component_ways, coupled_ways, inside_ways, input_ways, joined_ways, more_at, more_out, no_ways, output_ways, own_inputs, part_ways, ways_below, ways_by, ways_from, ways_over, with_output};
 
+use crate::GREATEST_LINKS;
 use dv_check::GREATEST_DEPTH;
 use dv_eval::Scope;
+use dv_lex::{LoadError, Refusal, RefusalNumber};
 use dv_syntax::Model as ModelItem;
 use dv_tree::{Coupling, Level, PlacedPart, Target, Tree, level_at};
 use std::alloc::{AllocError, Global};
@@ -276,13 +278,34 @@ pub(crate) fn ways_below(alloc: Global, levels: usize, tree: &Tree) -> Result<Ve
     Ok(ways)
 }
 
-/// The number of links of a text, each counted as often as it has copies, by the ways of the models one level below the
-/// root. A number past the greatest `u64` stands as that one.
+/// How many links a checked text has, each counted as often as it has copies. None of them is built.
+///
+/// # Errors
+///
+/// `Refused` is E17 at the root's name, where there are more than `GREATEST_LINKS`. `Memory`: no memory for the count.
+pub fn count_links(alloc: Global, tree: &Tree) -> Result<u64, LoadError>
+    ensures count { IfOk result (λ count. count ≡ link_count (file_of tree.now.file)) }
+    ensures few { OnOk result (link_refusal (file_of tree.now.file) ≡ None) }
+    ensures refused { IfErr result (IsLinkAnswer (file_of tree.now.file)) }
+{
+    let below = ways_below(alloc, GREATEST_DEPTH, tree)?;
+    let count = capped_count(alloc, tree, &below)?;
+    if count > GREATEST_LINKS {
+        return Err(LoadError::Refused(Refusal {
+            number: RefusalNumber::E17,
+            place: tree.root_place(),
+        }));
+    }
+    Ok(count)
+}
+
+/// How many links a text has, each counted as often as it has copies, by the ways of the models one level below the root.
+/// A number past the greatest `u64` stands as that one.
 ///
 /// # Errors
 ///
 /// No memory for the numbers of ways.
-pub(crate) fn count_links(alloc: Global, tree: &Tree, below: &[Ways]) -> Result<u64, AllocError>
+pub(crate) fn capped_count(alloc: Global, tree: &Tree, below: &[Ways]) -> Result<u64, AllocError>
     requires { below.now ≡ ways_below GREATEST_DEPTH (file_of tree.now.file).models }
     ensures { IfOk result (λ count. count ≡ capped (link_count (file_of tree.now.file))) }
 {

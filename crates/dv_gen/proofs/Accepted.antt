@@ -11,7 +11,7 @@ use Rattle.dv_check.specs.Rules.{assignment_refusals, atomic_refusals, change_re
 use Rattle.dv_check.specs.Rules.{is_output_rule, known_in, known_in_loop, known_in_rule, loop_variable_refusals, phase_refusals}
 use Rattle.dv_check.specs.Rules.{rule_refusals, sent_port_refusals, statements_refusals, ticks_refusals}
 use Rattle.dv_check.specs.Types.{Known, bag_name_refusals, is_bag, place_refusals, type_of_name, value_refusals}
-use Rattle.dv_check.proofs.Accepted.{both_nil, not_false, not_refused}
+use Rattle.dv_check.proofs.CheckedFiles.{both_nil, not_false, not_refused}
 use Rattle.dv_accepted.proofs.Fitting.{parts_of_none}
 use Rattle.dv_accepted.proofs.Known.{bag_name_known}
 

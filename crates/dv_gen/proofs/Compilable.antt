@@ -8,9 +8,9 @@ use Rattle.dv_syntax.specs.Trees.{FileTree, ModelTree, RuleTree}
 use Rattle.dv_syntax.specs.Written.{AtomicItem, Declares, Lists, Starts, Holds, Rules, WrittenModel, WrittenAtomic}
 use Rattle.dv_syntax.specs.Written.{WrittenCoupled, sorted_items, sorted_model}
 use Rattle.dv_code.specs.declared.TheConstants.{DEEPEST_LOOPS}
-use Rattle.dv_check.specs.Accepted.{IsAcceptedModel}
+use Rattle.dv_check.specs.CheckedFiles.{IsCheckedModel}
 use Rattle.dv_check.specs.Refusals.{AreOfOneText, refusal_of}
-use Rattle.dv_check.proofs.Accepted.{file_accepted}
+use Rattle.dv_check.proofs.CheckedFiles.{file_accepted}
 use Rattle.dv_gen.specs.ModelCode.{IsCompilableModel}
 
 -- a rule whose loops are not too deep
@@ -27,7 +27,7 @@ shallow_items name (Holds h ∷ items) all = shallow_items name items all.1
 shallow_items name (Rules r ∷ items) all = (all.0.2, shallow_items name items all.1)
 
 compilable_models : (known : List ModelTree) (written : List WrittenModel) → AllByRecursion (IsModel the_limits) written
-    → AllByRecursion (IsAcceptedModel known) (map sorted_model written) → AllByRecursion IsCompilableModel (map sorted_model written)
+    → AllByRecursion (IsCheckedModel known) (map sorted_model written) → AllByRecursion IsCompilableModel (map sorted_model written)
 compilable_models known [] within accepted = tt
 compilable_models known (WrittenAtomic name items ∷ written) within accepted =
     let shallow = All-from_recursion IsShallow (sorted_items name items).rules (shallow_items name items within.0) in
@@ -39,7 +39,7 @@ pub text_compilable : (names : List (List ℕ)) (f : FileTree) → AreOfOneText 
 text_compilable names f text fine =
     let written = text.parsed.written in
     let tree = ap (λ (g : FileTree). g.models) text.parsed.tree in
-    let accepted = subst (λ models. AllByRecursion (IsAcceptedModel f.models) models) tree (file_accepted f fine).models in
+    let accepted = subst (λ models. AllByRecursion (IsCheckedModel f.models) models) tree (file_accepted f fine).models in
     let all = compilable_models f.models written.models text.parsed.read.models accepted in
     All-from_recursion (λ (m : ModelTree). IsCompilableModel m) f.models
     (subst (λ models. AllByRecursion IsCompilableModel models) (sym tree) all)

@@ -15,7 +15,7 @@ use Rattle.dv_eval.specs.Scope.{state_variables_in, with_name, with_names, with_
 use Rattle.dv_check.specs.declared.limits.TheConstants.{GREATEST_NAMES}
 use Rattle.dv_check.specs.Names.{excess, excess_of, excess_past, repeats}
 use Rattle.dv_check.specs.Rules.{atomic_refusals, name_of_declaration, name_of_state_variable, names_refusals, ports_in, ruled_phases}
-use Rattle.dv_check.proofs.Accepted.{both_nil}
+use Rattle.dv_check.proofs.CheckedFiles.{both_nil}
 use Rattle.dv_gen.specs.Emission.{HasFewNames}
 
 -- ---- Places

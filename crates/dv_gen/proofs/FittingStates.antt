@@ -18,7 +18,7 @@ use Rattle.dv_eval.specs.Scope.{is_declared, names_of, range_of, scope_of, state
 use Rattle.dv_eval.specs.declared.scope.Domain.{Domain}
 use Rattle.dv_eval.specs.declared.scope.Domain.TheVariants as domain
 use Rattle.dv_check.specs.Rules.{atomic_refusals, bag_refusals, declaration_refusals, is_capacity, variable_refusals}
-use Rattle.dv_check.proofs.Accepted.{both_nil, not_false, not_refused}
+use Rattle.dv_check.proofs.CheckedFiles.{both_nil, not_false, not_refused}
 use Rattle.dv_accepted.specs.Fitting.{data_fit, datum_fits, fits, fits_in}
 use Rattle.dv_accepted.proofs.Fitting.{both_true, parts_of_none}
 use Rattle.dv_code.specs.Shape.{AreSmall, Fits, FitsSlot}

@@ -20,7 +20,7 @@ use Rattle.dv_bag.specs.declared.value.ValueType.TheVariants.{Number, Truth}
 use Rattle.dv_check.specs.Rules.{assignment_refusals, atomic_refusals, changed_bag_refusals, is_output_rule, known_in}
 use Rattle.dv_check.specs.Rules.{known_in_loop, known_in_rule, sent_port_refusals, sort_in}
 use Rattle.dv_check.specs.Types.{Known, is_bag, sees_inputs, type_of_name}
-use Rattle.dv_check.proofs.Accepted.{not_refused}
+use Rattle.dv_check.proofs.CheckedFiles.{not_refused}
 use Rattle.dv_check.proofs.Declared.{input_declared, output_declared}
 use Rattle.dv_accepted.specs.Fitting.{domain_named, domain_at as domain_of_place}
 use Rattle.dv_accepted.proofs.Fitting.{HasPlace, among_declared, place_of_declared}

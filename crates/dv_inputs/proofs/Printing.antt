@@ -1,11 +1,11 @@
 -- Inputs that are written as a text are read from it.
 use Rattle.std.proofs.Common.{◌≡◌, ◌≢◌, ℕ, suc, ◌+◌, ◌<◌, ◌≤◌, ◌^◌, true, false, All, IsTrue, IsUtf8, List, [], ◌∷◌, ◌++◌, length}
-use Rattle.std.proofs.Common.{get_or, append-nil, append_assoc, length-append, ℤ, pos, negsuc, Option, Some, Result, Ok, refl}
-use Rattle.std.proofs.Common.{sym, ap, ◌∙◌, subst, arith}
+use Rattle.std.proofs.Common.{get_or, append-nil, append_assoc, length-append, ℤ, pos, negsuc, Option, Some, None, Result, Ok, refl}
+use Rattle.std.proofs.Common.{Bool, cond, sym, ap, ◌∙◌, subst, arith}
 use Rattle.std.specs.Fmt.{decimal, signed_decimal}
 use Rattle.std.specs.Int.{IsInRange}
 use Rattle.std.specs.Str.{is_utf8}
-use Rattle.std.proofs.lemmas.Bool.{le-ltb, ltb-true, ne_eqb}
+use Rattle.std.proofs.lemmas.Bool.{ltb-true, ne_eqb}
 use Rattle.std.proofs.lemmas.Fmt.{IsAscii-decimal, decimal_nonempty, digits_decimal}
 use Rattle.std.proofs.lemmas.Grind.{get_or_default_zero}
 use Rattle.std.proofs.lemmas.List.Elements.{All-append, All-cons}
@@ -14,12 +14,15 @@ use Rattle.std.proofs.lemmas.Str.Ascii.{IsAscii-cons, IsAscii-nil}
 use Rattle.std.proofs.lemmas.Str.Parse.{not_in_digits}
 use Rattle.dv_time.specs.declared.TheConstants.{GREATEST_TICK}
 use Rattle.dv_bag.specs.Bag.{is_number}
-use Rattle.dv_bag.specs.Inputs.{IsByTick, IsFrom, last_tick}
+use Rattle.dv_time.specs.Time.{is_before}
+use Rattle.dv_time.specs.declared.time.Time.{Time}
+use Rattle.dv_bag.specs.Inputs.{IsByTime, IsFrom, last_time, start_of}
 use Rattle.dv_bag.specs.declared.inputs.Input.{Input}
 use Rattle.dv_inputs.specs.Lines.{fields_of, is_blank, is_passed_over, lines_of, without_return}
 use Rattle.dv_inputs.specs.Numbers.{port_in, tick_in, value_in}
-use Rattle.dv_inputs.specs.Reading.{input_of, on_line, reading_after, reading_of, with_line}
+use Rattle.dv_inputs.specs.Reading.{◌>>=◌, input_of, not_before, on_line, or_refused, reading_after, reading_of, with_line}
 use Rattle.dv_inputs.specs.declared.error.InputRefusalNumber.{InputRefusalNumber}
+use Rattle.dv_inputs.specs.declared.error.InputRefusalNumber.TheVariants.{I3, I4}
 use Rattle.dv_inputs.specs.Spelled.{CanBeSaid, HasNoFeed, IsField, line_of, name_of, text_of}
 use Rattle.dv_inputs.proofs.Cuts.{fields_behind}
 use Rattle.dv_inputs.proofs.Digits.{numerals}
@@ -88,15 +91,15 @@ not_passed [] rest f h = absurd (omega (arith, f.0))
 not_passed (b ∷ field) rest f h = rw (ne_eqb b 35 (h 0 b (omega arith)), f.1 0 b (omega arith)) refl
 
 -- the parts of a line
-module _ (ports : List (List ℕ)) (i : Input) (within : i.tick ≤ GREATEST_TICK) (said : CanBeSaid ports i) where
+module _ (ports : List (List ℕ)) (i : Input) (within : i.time.tick ≤ GREATEST_TICK) (said : CanBeSaid ports i) where
   no_feed : HasNoFeed (line_of ports i)
   no_feed =
       let P : ℕ → Type 0 = λ b. b ≢ 10 in
       let name = name_of ports i.port in
       let value = signed_decimal i.value in
       let blank : 32 ≢ 10 = λ e. absurd (omega (arith, e)) in
-      All-append P (decimal i.tick) (32 ∷ (name ++ (32 ∷ value)))
-      (decimal_without 10 (λ r. absurd (omega (arith, r))) i.tick (omega arith))
+      All-append P (decimal i.time.tick) (32 ∷ (name ++ (32 ∷ value)))
+      (decimal_without 10 (λ r. absurd (omega (arith, r))) i.time.tick (omega arith))
       (All-cons P 32 (name ++ (32 ∷ value)) blank
       (All-append P name (32 ∷ value) said.name.within_line
       (All-cons P 32 value blank
@@ -106,10 +109,10 @@ module _ (ports : List (List ℕ)) (i : Input) (within : i.tick ≤ GREATEST_TIC
   keeps_end =
       let name = name_of ports i.port in
       let value = signed_decimal i.value in
-      let front = decimal i.tick ++ (32 ∷ (name ++ 32 ∷ [])) in
+      let front = decimal i.time.tick ++ (32 ∷ (name ++ 32 ∷ [])) in
       let cut : line_of ports i ≡ front ++ value =
-      ap (λ (xs : List ℕ). decimal i.tick ++ (32 ∷ xs)) (sym (append_assoc name (32 ∷ []) value))
-      ∙ sym (append_assoc (decimal i.tick) (32 ∷ (name ++ 32 ∷ [])) value) in
+      ap (λ (xs : List ℕ). decimal i.time.tick ++ (32 ∷ xs)) (sym (append_assoc name (32 ∷ []) value))
+      ∙ sym (append_assoc (decimal i.time.tick) (32 ∷ (name ++ 32 ∷ [])) value) in
       ap without_return cut
       ∙ kept_behind front value (signed_some i.value said.value)
       (signed_without 13 (λ r. absurd (omega (arith, r))) (λ e. absurd (omega (arith, e))) i.value said.value)
@@ -117,8 +120,8 @@ module _ (ports : List (List ℕ)) (i : Input) (within : i.tick ≤ GREATEST_TIC
 
   is_read : is_passed_over (line_of ports i) ≡ false
   is_read =
-      not_passed (decimal i.tick) (32 ∷ (name_of ports i.port ++ (32 ∷ signed_decimal i.value)))
-      (decimal_field i.tick (omega arith)) (decimal_without 35 (λ r. absurd (omega (arith, r))) i.tick (omega arith))
+      not_passed (decimal i.time.tick) (32 ∷ (name_of ports i.port ++ (32 ∷ signed_decimal i.value)))
+      (decimal_field i.time.tick (omega arith)) (decimal_without 35 (λ r. absurd (omega (arith, r))) i.time.tick (omega arith))
 
   line_utf8 : is_utf8 (line_of ports i) ≡ true
   line_utf8 =
@@ -126,46 +129,55 @@ module _ (ports : List (List ℕ)) (i : Input) (within : i.tick ≤ GREATEST_TIC
       let value = signed_decimal i.value in
       let blank : IsUtf8 (32 ∷ []) = IsUtf8-from_ascii (32 ∷ []) (IsAscii-cons 32 [] (omega arith) IsAscii-nil) in
       is_utf8-from_IsUtf8 (line_of ports i)
-      (IsUtf8-append (decimal i.tick) (32 ∷ (name ++ (32 ∷ value)))
-      (IsUtf8-from_ascii (decimal i.tick) (IsAscii-decimal i.tick (omega arith)))
+      (IsUtf8-append (decimal i.time.tick) (32 ∷ (name ++ (32 ∷ value)))
+      (IsUtf8-from_ascii (decimal i.time.tick) (IsAscii-decimal i.time.tick (omega arith)))
       (IsUtf8-append (32 ∷ []) (name ++ (32 ∷ value)) blank
       (IsUtf8-append name (32 ∷ value) said.name.utf8
       (IsUtf8-append (32 ∷ []) value blank (signed_utf8 i.value said.value)))))
 
-  line_fields : fields_of (line_of ports i) ≡ decimal i.tick ∷ name_of ports i.port ∷ signed_decimal i.value ∷ []
+  line_fields : fields_of (line_of ports i) ≡ decimal i.time.tick ∷ name_of ports i.port ∷ signed_decimal i.value ∷ []
   line_fields =
       let name = name_of ports i.port in
       let value = signed_decimal i.value in
       let last : fields_of value ≡ value ∷ [] = ap fields_of (sym (append-nil value))
       ∙ field_first value [] (signed_field i.value said.value) tt in
-      field_first (decimal i.tick) (32 ∷ (name ++ (32 ∷ value))) (decimal_field i.tick (omega arith)) refl
-      ∙ ap (λ (more : List (List ℕ)). decimal i.tick ∷ more)
+      field_first (decimal i.time.tick) (32 ∷ (name ++ (32 ∷ value))) (decimal_field i.time.tick (omega arith)) refl
+      ∙ ap (λ (more : List (List ℕ)). decimal i.time.tick ∷ more)
       (fields_behind 32 (name ++ (32 ∷ value)) refl
       ∙ field_first name (32 ∷ value) said.name.field refl
       ∙ ap (λ (more : List (List ℕ)). name ∷ more) (fields_behind 32 value refl ∙ last))
 
 -- what its tests find
-found_input : (find : List ℕ → Option ℕ) (last : ℕ) (line a b c : List ℕ) (i : Input) → fields_of line ≡ a ∷ b ∷ c ∷ []
-    → tick_in a ≡ Some i.tick → find b ≡ Some i.port → last ≤ i.tick → value_in c ≡ Some i.value → input_of find last line ≡ Ok i
-found_input find last line a b c i fields tick port le value = rw (fields, tick, port, le-ltb i.tick last le, value) refl
+found_input : (find : List ℕ → Option ℕ) (last : Time) (line a b c : List ℕ) (i : Input) → fields_of line ≡ a ∷ b ∷ c ∷ []
+    → tick_in a ≡ Some i.time.tick → find b ≡ Some i.port → is_before i.time last ≡ false → i.time.micro ≡ 0
+    → value_in c ≡ Some i.value → input_of find last line ≡ Ok i
+found_input find last line a b c i fields tick port le start value =
+    let at_start : start_of i.time.tick ≡ i.time =
+    ap (λ (m : ℕ). let t : Time = record { tick = i.time.tick; micro = m } in t) (sym start) in
+    let made : Time → ℤ → Input = λ t v. record { time = t; port = i.port; value = v } in
+    let rest : Time → Result Input InputRefusalNumber = λ u. or_refused I4 (value_in c) >>= (λ (v : ℤ). Ok (made u v)) in
+    rw (fields, tick, port)
+    (ap (λ (t : Time). or_refused I3 (not_before last t) >>= rest) at_start
+    ∙ ap (λ (before : Bool). or_refused I3 (cond before None (Some i.time)) >>= rest) le
+    ∙ ap (λ (o : Option ℤ). or_refused I4 o >>= (λ (v : ℤ). Ok (made i.time v))) value)
 
 one_input : (find : List ℕ → Option ℕ) (done : List Input) (line : List ℕ) (i : Input) → is_passed_over line ≡ false → is_utf8 line ≡ true
-    → input_of find (last_tick done) line ≡ Ok i → with_line find done line ≡ Ok (done ++ i ∷ [])
+    → input_of find (last_time done) line ≡ Ok i → with_line find done line ≡ Ok (done ++ i ∷ [])
 one_input find done line i passed utf8 input = rw (passed, utf8, input) refl
 
-last_pushed : (done : List Input) (i : Input) → last_tick (done ++ i ∷ []) ≡ i.tick
+last_pushed : (done : List Input) (i : Input) → last_time (done ++ i ∷ []) ≡ i.time
 last_pushed [] i = refl
 last_pushed (x ∷ []) i = refl
 last_pushed (x ∷ y ∷ done) i = last_pushed (y ∷ done) i
 
-read_back : (ports : List (List ℕ)) (inputs done : List Input) (number : ℕ) → IsFrom (last_tick done) inputs → All (CanBeSaid ports) inputs
+read_back : (ports : List (List ℕ)) (inputs done : List Input) (number : ℕ) → IsFrom (last_time done) inputs → All (CanBeSaid ports) inputs
     → reading_after (port_in ports) done number (lines_of (text_of ports inputs)) ≡ Ok (done ++ inputs)
 read_back ports [] done number h said = ap (λ (is : List Input). Ok is) (sym (append-nil done))
 read_back ports (i ∷ inputs) done number h said =
     let here : CanBeSaid ports i = said 0 i (omega arith) in
     let line = line_of ports i in
-    let input = found_input (port_in ports) (last_tick done) line (decimal i.tick) (name_of ports i.port) (signed_decimal i.value) i
-    (line_fields ports i h.1 here) (tick_printed i.tick h.1) here.port h.0 (value_printed i.value here.value) in
+    let input = found_input (port_in ports) (last_time done) line (decimal i.time.tick) (name_of ports i.port) (signed_decimal i.value) i
+    (line_fields ports i h.1 here) (tick_printed i.time.tick h.1) here.port h.0 here.start (value_printed i.value here.value) in
     let one : with_line (port_in ports) done (without_return line) ≡ Ok (done ++ i ∷ []) =
     ap (with_line (port_in ports) done) (keeps_end ports i h.1 here)
     ∙ one_input (port_in ports) done line i (is_read ports i h.1 here) (line_utf8 ports i h.1 here) input in
@@ -173,9 +185,9 @@ read_back ports (i ∷ inputs) done number h said =
     ∙ ap (λ (r : Result (List Input) InputRefusalNumber). on_line number r
     (λ (more : List Input). reading_after (port_in ports) more (number + 1) (lines_of (text_of ports inputs)))) one
     ∙ read_back ports inputs (done ++ i ∷ []) (number + 1)
-    (subst (λ (t : ℕ). IsFrom t inputs) (sym (last_pushed done i)) h.2) (λ k d lt. said (suc k) d (omega arith))
+    (subst (λ (t : Time). IsFrom t inputs) (sym (last_pushed done i)) h.2) (λ k d lt. said (suc k) d (omega arith))
     ∙ ap (λ (is : List Input). Ok is) (append_assoc done (i ∷ []) inputs)
 
-pub read_as_written : (ports : List (List ℕ)) (inputs : List Input) → IsByTick inputs → All (CanBeSaid ports) inputs
+pub read_as_written : (ports : List (List ℕ)) (inputs : List Input) → IsByTime inputs → All (CanBeSaid ports) inputs
     → reading_of (text_of ports inputs) ports ≡ Ok inputs
 read_as_written ports inputs h said = read_back ports inputs [] 1 h said

@@ -1,7 +1,9 @@
 -- What the text of inputs says: its inputs, or the first refusal of its first refused line.
-use Rattle.std.specs.Prelude.{ℕ, ◌+◌, List, [], ◌∷◌, ◌++◌, nat_lt, Option, Some, None, Result, Ok, Err, if◌then◌else◌}
+use Rattle.std.specs.Prelude.{ℕ, ◌+◌, List, [], ◌∷◌, ◌++◌, Option, Some, None, Result, Ok, Err, if◌then◌else◌}
 use Rattle.std.specs.Str.{is_utf8}
-use Rattle.dv_bag.specs.Inputs.{last_tick}
+use Rattle.dv_time.specs.Time.{is_before}
+use Rattle.dv_time.specs.declared.time.Time.{Time}
+use Rattle.dv_bag.specs.Inputs.{last_time, start_of}
 use Rattle.dv_bag.specs.declared.inputs.Input.{Input}
 use Rattle.dv_inputs.specs.Lines.{lines_of, without_return, is_passed_over, fields_of}
 use Rattle.dv_inputs.specs.Numbers.{tick_in, port_in, value_in}
@@ -25,23 +27,23 @@ abbrev pub three_of : List (List ℕ) → Option (List ℕ × List ℕ × List �
 three_of (tick ∷ port ∷ value ∷ []) = Some (tick, port, value)
 three_of _ = None
 
--- a tick that is not below the one before
-abbrev pub not_below : ℕ → ℕ → Option ℕ
-not_below last tick = if nat_lt tick last then None else Some tick
+-- a time that is not before the one in front
+abbrev pub not_before : Time → Time → Option Time
+not_before last time = if is_before time last then None else Some time
 
--- the input that a line says: its tests in their order, where `find` gives the number of a port by its name, and `last` is
--- the tick of the input before
-abbrev pub input_of : (List ℕ → Option ℕ) → ℕ → List ℕ → Result Input InputRefusalNumber
+-- the input that a line says, at the start of its tick: its tests in their order, where `find` gives the number of a port by its
+-- name, and `last` is the time of the input before
+abbrev pub input_of : (List ℕ → Option ℕ) → Time → List ℕ → Result Input InputRefusalNumber
 input_of find last line =
     or_refused I1 (three_of (fields_of line)) >>= (λ fields.
     or_refused I1 (tick_in fields.0) >>= (λ tick.
     or_refused I2 (find fields.1) >>= (λ port.
-    or_refused I3 (not_below last tick) >>= (λ _.
+    or_refused I3 (not_before last (start_of tick)) >>= (λ time.
     or_refused I4 (value_in fields.2) >>= (λ value.
-    Ok (record { tick = tick; port = port; value = value }))))))
+    Ok (record { time = time; port = port; value = value }))))))
 
 -- the input that a line says which need not be UTF-8
-abbrev pub tested_line : (List ℕ → Option ℕ) → ℕ → List ℕ → Result Input InputRefusalNumber
+abbrev pub tested_line : (List ℕ → Option ℕ) → Time → List ℕ → Result Input InputRefusalNumber
 tested_line find last line = if is_utf8 line then input_of find last line else Err I1
 
 -- the inputs of a line, after those before it: none where it is passed over, else one, or a refusal
@@ -49,7 +51,7 @@ abbrev pub with_line : (List ℕ → Option ℕ) → List Input → List ℕ →
 with_line find inputs line =
     if is_passed_over line
     then Ok inputs
-    else tested_line find (last_tick inputs) line >>= (λ input. Ok (inputs ++ input ∷ []))
+    else tested_line find (last_time inputs) line >>= (λ input. Ok (inputs ++ input ∷ []))
 
 -- goes on behind a line of this number, or ends with its refusal
 abbrev pub on_line : ℕ → Result (List Input) InputRefusalNumber → (List Input → Result (List Input) InputRefusal)

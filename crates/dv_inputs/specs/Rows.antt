@@ -1,12 +1,13 @@
 -- What the rows speak of.
 use Rattle.std.specs.Prelude.{ℕ, List, ℤ, codes, ◌++◌, ◌∷◌, []}
+use Rattle.dv_bag.specs.Inputs.{start_of}
 use Rattle.dv_bag.specs.declared.inputs.Input.{Input}
 use Rattle.dv_inputs.specs.declared.error.InputRefusalNumber.{InputRefusalNumber}
 use Rattle.dv_inputs.specs.declared.error.InputRefusal.{InputRefusal}
 
--- an input
+-- an input at the start of a tick
 abbrev pub input : ℕ → ℕ → ℤ → Input
-input tick port value = record { tick = tick; port = port; value = value }
+input tick port value = record { time = start_of tick; port = port; value = value }
 
 -- a refusal on a line
 abbrev pub refusal : InputRefusalNumber → ℕ → InputRefusal

@@ -33,15 +33,17 @@ pub record IsPortName (name : List ℕ) : Type 0 where
 abbrev pub name_of : List (List ℕ) → ℕ → List ℕ
 name_of ports port = slice_index_or ports port []
 
--- an input that a line can say: its port is found by its name, which can be a field, and its value is a number
+-- an input that a line can say: it is at the start of its tick, its port is found by its name, which can be a field, and its value
+-- is a number
 pub record CanBeSaid (ports : List (List ℕ)) (i : Input) : Type 0 where
+  pub start : i.time.micro ≡ 0
   pub port : port_in ports (name_of ports i.port) ≡ Some i.port
   pub name : IsPortName (name_of ports i.port)
   pub value : IsTrue (is_number i.value)
 
 -- the line of an input: its tick, the name of its port, and its value
 abbrev pub line_of : List (List ℕ) → Input → List ℕ
-line_of ports i = decimal i.tick ++ (32 ∷ (name_of ports i.port ++ (32 ∷ signed_decimal i.value)))
+line_of ports i = decimal i.time.tick ++ (32 ∷ (name_of ports i.port ++ (32 ∷ signed_decimal i.value)))
 
 -- the lines of inputs, each with its line feed
 abbrev pub text_of : List (List ℕ) → List Input → List ℕ

@@ -4,7 +4,7 @@ ghost use Rattle.std.specs.Prelude.{◌≡◌, ◌<◌, ◌≤◌, ◌^◌, ℕ,
 ghost use Rattle.std.specs.Fmt.{decimal, signed_decimal};
 ghost use Rattle.dv_time.specs.declared.TheConstants.{GREATEST_TICK};
 ghost use Rattle.dv_bag.specs.Bag.{is_number};
-ghost use Rattle.dv_bag.specs.Inputs.{IsByTick};
+ghost use Rattle.dv_bag.specs.Inputs.{IsByTime};
 ghost use Rattle.dv_bag.specs.declared.inputs.Input.{Input};
 ghost use Rattle.dv_inputs.specs.Lines.{fields_of, lines_of, without_return};
 ghost use Rattle.dv_inputs.specs.Numbers.{tick_in, value_in};
@@ -17,6 +17,12 @@ ghost use Rattle.dv_inputs.specs.declared.error.InputRefusalNumber.TheVariants.{
 pub fn inputs_are_at_ports()
     ensures { (text : List ℕ) (ports : List (List ℕ)) (inputs : List Input)
         → reading_of text ports ≡ Ok inputs → All (λ i. i.port < length ports) inputs }
+{}
+
+/// Each input of a text comes at the start of its tick.
+pub fn inputs_come_at_the_start_of_ticks()
+    ensures { (text : List ℕ) (ports : List (List ℕ)) (inputs : List Input)
+        → reading_of text ports ≡ Ok inputs → All (λ i. i.time.micro ≡ 0) inputs }
 {}
 
 /// A line ends at its line feed, or with the text, and loses one carriage return there.
@@ -43,10 +49,10 @@ pub fn numbers_are_read_as_printed()
         → value_in (signed_decimal value) ≡ Some value }
 {}
 
-/// Inputs that are written as a text, a line each, are read from it, all of them and in their order.
+/// Inputs at the starts of ticks that are written as a text, a line each, are read from it, all of them and in their order.
 pub fn inputs_are_read_as_written()
     ensures { (ports : List (List ℕ)) (inputs : List Input)
-        → IsByTick inputs → All (CanBeSaid ports) inputs
+        → IsByTime inputs → All (CanBeSaid ports) inputs
         → reading_of (text_of ports inputs) ports ≡ Ok inputs }
 {}
 

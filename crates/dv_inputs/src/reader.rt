@@ -11,10 +11,11 @@ use crate::lines::{is_passed_over, split_line, without_return};
 use crate::numbers::{tick_in, value_in};
 use crate::ports::{PortNumbers, number_of, port_numbers};
 use dv_bag::{Input, Inputs};
+use dv_time::Time;
 use std::alloc::Global;
 
-// The input that a line says, after one at the last tick.
-fn input_of(numbers: &PortNumbers<'_>, last: u64, line: &[u8]) -> Result<Input, InputRefusalNumber>
+// The input that a line says, at the start of its tick, after one at the last time.
+fn input_of(numbers: &PortNumbers<'_>, last: Time, line: &[u8]) -> Result<Input, InputRefusalNumber>
     ensures { result ≡ input_of (number_in numbers.now) last line.now }
 {
     let Some((tick, port, value)) = three_fields(line) else {
@@ -26,19 +27,20 @@ fn input_of(numbers: &PortNumbers<'_>, last: u64, line: &[u8]) -> Result<Input, 
     let Some(port) = number_of(numbers, port) else {
         return Err(InputRefusalNumber::I2);
     };
-    if tick < last {
+    let time = Time { tick, micro: 0 };
+    if time.is_before(last) {
         return Err(InputRefusalNumber::I3);
     }
     let Some(value) = value_in(value) else {
         return Err(InputRefusalNumber::I4);
     };
-    Ok(Input { tick, port, value })
+    Ok(Input { time, port, value })
 }
 
 // The input that a line says, where it is UTF-8.
 fn tested_line(
     numbers: &PortNumbers<'_>,
-    last: u64,
+    last: Time,
     line: &[u8],
 ) -> Result<Input, InputRefusalNumber>
     ensures { result ≡ tested_line (number_in numbers.now) last line.now }
@@ -65,7 +67,7 @@ fn read_line(
     if is_passed_over(bytes) {
         return Ok(());
     }
-    match tested_line(numbers, inputs.last_tick(), bytes) {
+    match tested_line(numbers, inputs.last_time(), bytes) {
         Ok(input) => Ok(inputs.push(input)?),
         Err(number) => Err(InputsError::Refused(InputRefusal { number, line })),
     }

@@ -12,7 +12,7 @@ use Rattle.dv_syntax.specs.Grammar.{IsFileOf}
 use Rattle.dv_parser.specs.Reading.{refusal_of_tokens, IsRefused as AreRefused}
 use Rattle.dv_check.specs.Refusals.{IsAnswerTo, refusal_of}
 use Rattle.std.specs.Option.{option_or}
-use Rattle.dv_check.specs.Accepted.{IsAcceptedFile}
+use Rattle.dv_check.specs.CheckedFiles.{IsCheckedFile}
 use Rattle.dv_tree.specs.Instances.{Instance, instances}
 use Rattle.dv_tree.specs.Paths.{texts_of, with_dots}
 use Rattle.dv_tree.proofs.Limits.{few_components}
@@ -63,13 +63,25 @@ pub answered : (e : LoadError) (text : List ℕ) → IsUnloaded e text → Answe
 answered (Refused r) text refused = record { refusal = r; refused = refused; answer = refl }
 answered Memory text refused = tt
 
+-- what is checked stays so in a tree of the same file and names
+pub still_checked : {F : Type 0} (tree_of : F → FileTree) (text : List ℕ) (names others : List (List ℕ)) (f g : F) → g ≡ f → others ≡ names →
+    IsCheckedFileOf text names (tree_of f) → IsCheckedFileOf text others (tree_of g)
+still_checked tree_of text names others f g same also c =
+    subst (λ (ns : List (List ℕ)). IsCheckedFileOf text ns (tree_of g)) (sym also)
+    (subst (λ x. IsCheckedFileOf text names (tree_of x)) (sym same) c)
+
 -- one that has few enough is accepted
 pub accepted : (text : List ℕ) (names : List (List ℕ)) (f : FileTree) → IsCheckedFileOf text names f → link_refusal f ≡ None →
     IsModelOf text names f
-accepted text names f c few = record { tokens = c.tokens; lexed = c.lexed; parsed = c.parsed; accepted = linked (refusal_of f) (link_refusal f) c.checked ∙ few }
+accepted text names f c few = record { tokens = c.tokens; lexed = c.lexed; parsed = c.parsed; checked = c.checked; few = few }
+
+-- a file that is not refused is checked, and has few links
+unbroken : (o links : Option Refusal) → option_or o links ≡ None → (o ≡ None) × (links ≡ None)
+unbroken None links none = (refl, none)
+unbroken (Some r) links none = let some : Some r ≡ None = none in cc
 
 -- a component has one path, and there are few components
-pub few_paths : {T : Type 0} (bytes : T → List ℕ) (paths : List T) (names : List (List ℕ)) (f : FileTree) → IsAcceptedFile f →
+pub few_paths : {T : Type 0} (bytes : T → List ℕ) (paths : List T) (names : List (List ℕ)) (f : FileTree) → IsCheckedFile f →
     map bytes paths ≡ paths_of names f → length paths ≤ 2 ^ 32
 few_paths bytes paths names f h e =
     let few = few_components f h in
@@ -166,7 +178,7 @@ module _ (tokens_law : TokenLaws) (files_law : FileLaws) where
   model_and_refusal text names f r m (inr (inl two)) =
       no_file_and_file text two.names names two.tokens m.tokens f r two.lexed two.unread m.lexed m.parsed
   model_and_refusal text names f r m (inr (inr two)) =
-      none_or_some (file_refusal f) r m.accepted
+      none_or_some (file_refusal f) r (linked (refusal_of f) (link_refusal f) m.checked ∙ m.few)
       (subst (λ (g : FileTree). file_refusal g ≡ Some r)
       (same_file text two.names names two.tokens m.tokens two.file f two.lexed two.parsed m.lexed m.parsed) two.refused)
 
@@ -179,7 +191,8 @@ module _ (tokens_law : TokenLaws) (files_law : FileLaws) where
   of_file : (text : List ℕ) (names : List (List ℕ)) (tokens : List Token) (f : FileTree) (o : Option Refusal) → file_refusal f ≡ o →
       IsTokensOf text names tokens → IsFileOf tokens f → HasModel text ⊎ HasAnswer text
   of_file text names tokens f None is lexed parsed =
-      inl (names, f, record { tokens = tokens; lexed = lexed; parsed = parsed; accepted = is })
+      let none = unbroken (refusal_of f) (link_refusal f) is in
+      inl (names, f, record { tokens = tokens; lexed = lexed; parsed = parsed; checked = none.0; few = none.1 })
   of_file text names tokens f (Some r) is lexed parsed =
       inr (refused_so text r
       (inr (inr (record { names = names; tokens = tokens; file = f; lexed = lexed; parsed = parsed; refused = is }))))

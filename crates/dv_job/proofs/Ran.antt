@@ -5,7 +5,7 @@ use Rattle.std.specs.Io.KnownBytes.{Appends, Keeps}
 use Rattle.dv_time.specs.Time.{end_of, rank}
 use Rattle.dv_time.specs.declared.time.Time.{Time}
 use Rattle.dv_bag.specs.Bag.{Counts}
-use Rattle.dv_bag.specs.Part.{PartOf}
+use Rattle.dv_bag.specs.Part.{IsByTime, PartOf}
 use Rattle.dv_bag.specs.declared.inputs.Input.{Input}
 use Rattle.dv_devs.specs.Network.{Network, trace_before}
 use Rattle.dv_syntax.specs.Trees.{FileTree, file_of}
@@ -20,9 +20,8 @@ use Rattle.dv_serial.specs.declared.ran.Ran.{Ran}
 use Rattle.dv_serial.specs.declared.alone.Ended.{Ended}
 use Rattle.dv_serial.specs.declared.alone.Ended.TheVariants as ran
 use Rattle.dv_text.specs.declared.writing.Ending.TheVariants as text_end
-use Rattle.dv_text.specs.Merging.{text_of, trace_text}
 use Rattle.dv_text.specs.Names.{component_names, root_ports}
-use Rattle.dv_text.specs.Texts.{ComponentNames, instants_text, partial_ending}
+use Rattle.dv_text.specs.Texts.{ComponentNames, ending_text, instants_text, part_text, partial_ending}
 use Rattle.dv_text.specs.Writing.{StopsShort}
 use Rattle.dv_job.specs.Ending.{ending_of, has_fault}
 use Rattle.dv_job.specs.Job.{IsModelOf, run_text}
@@ -43,13 +42,18 @@ use Rattle.dv_partition.specs.declared.error.PartitionError.TheVariants as parti
 use Rattle.dv_tree.specs.Tables.{Source}
 use Rattle.dv_job.specs.Errors.{job_error_of_inputs, job_error_of_partition}
 use Rattle.dv_job.specs.Loading.{tree_inputs}
-use Rattle.dv_job.proofs.Printing.{AreInstants, job_of_tree, kept}
+use Rattle.dv_job.proofs.Printing.{AreByTime, AreInstants, job_of_tree, kept}
 
 -- the lines of a trace that is cut before a rank are those of its instants
 abbrev pub AreLines : Type 0
 AreLines =
     (all : List ComponentNames) (outputs : List (List ℕ)) (limit : ℕ) (net : Network (List Counts)) (inputs : ℕ → List Counts) (n : ℕ)
-    → trace_text all outputs (trace_before limit net inputs n) ≡ instants_text all outputs limit net inputs n
+    → part_text all outputs (trace_before limit net inputs n) ≡ instants_text all outputs limit net inputs n
+
+-- what ran stands by time
+pub ran_by_time : (f : FileTree) (played : List Input) (h l : ℕ) (r : Ran) → AreByTime → IsRunOf f played h l r → IsByTime r.part
+ran_by_time f played h l r are is =
+    subst IsByTime (sym is.part) (are l (network_of l f) (outside f l played) (rank l r.clock))
 
 -- what ran whole is the trace
 pub whole_is_the_trace : (f : FileTree) (played : List Input) (h l : ℕ) (r : Ran) → IsRunOf f played h l r → r.ended ≡ ran.Whole
@@ -60,18 +64,18 @@ whole_is_the_trace f played h l r is whole =
 -- its text is that of the run
 pub whole_text_is : (names : List (List ℕ)) (f : FileTree) (played : List Input) (h l : ℕ) (r : Ran) → AreInstants
     → IsRunOf f played h l r → r.ended ≡ ran.Whole
-    → text_of (component_names names f) (root_ports names f) r.part (text_end.Whole h) ≡ run_text names f played h l
+    → part_text (component_names names f) (root_ports names f) r.part ++ ending_text (text_end.Whole h) ≡ run_text names f played h l
 whole_text_is names f played h l r are is whole =
-    ap (λ (t : PartOf). text_of (component_names names f) (root_ports names f) t (text_end.Whole h))
+    ap (λ (t : PartOf). part_text (component_names names f) (root_ports names f) t ++ ending_text (text_end.Whole h))
     (whole_is_the_trace f played h l r is whole)
     ∙ are (component_names names f) (root_ports names f) l (network_of l f) (outside f l played) h
 
 -- the text of what ran to a clock is that of the trace, cut there
 pub cut_text_is : (names : List (List ℕ)) (f : FileTree) (played : List Input) (h l : ℕ) (r : Ran) → AreLines → IsRunOf f played h l r
-    → trace_text (component_names names f) (root_ports names f) r.part ++ partial_ending (r.clock ∷ [])
+    → part_text (component_names names f) (root_ports names f) r.part ++ partial_ending (r.clock ∷ [])
     ≡ cut_text names f played l (r.clock ∷ [])
 cut_text_is names f played h l r are is =
-    ap (λ (t : PartOf). trace_text (component_names names f) (root_ports names f) t ++ partial_ending (r.clock ∷ [])) is.part
+    ap (λ (t : PartOf). part_text (component_names names f) (root_ports names f) t ++ partial_ending (r.clock ∷ [])) is.part
     ∙ ap (λ (t : List ℕ). t ++ partial_ending (r.clock ∷ []))
     (are (component_names names f) (root_ports names f) l (network_of l f) (outside f l played) (rank l r.clock))
 
@@ -89,7 +93,7 @@ module _ (model inputs : List ℕ) (partition : Partition) (h l : ℕ) (old new 
 
   pub ends_at_the_horizon : (e : JobEnded) (r : Ran) → AreInstants → IsRunOf f played h l r → r.ended ≡ ran.Whole
       → e ≡ ending_of r.part
-      → Appends old new (text_of (component_names names f) (root_ports names f) r.part (text_end.Whole h))
+      → Appends old new (part_text (component_names names f) (root_ports names f) r.part ++ ending_text (text_end.Whole h))
       → EndsBy e model inputs partition h l old new
   ends_at_the_horizon e r are is whole ending written =
       let at : e ≡ ending_of (trace_of f played h l) = ending ∙ ap ending_of (whole_is_the_trace f played h l r is whole) in
@@ -105,7 +109,7 @@ module _ (model inputs : List ℕ) (partition : Partition) (h l : ℕ) (old new 
       })
 
   pub ends_at_a_clock : (e : JobEnded) (why : _) (r : Ran) → AreLines → IsRunOf f played h l r → e ≡ ended.Partial why
-      → Appends old new (trace_text (component_names names f) (root_ports names f) r.part ++ partial_ending (r.clock ∷ []))
+      → Appends old new (part_text (component_names names f) (root_ports names f) r.part ++ partial_ending (r.clock ∷ []))
       → EndsBy e model inputs partition h l old new
   ends_at_a_clock e why r are is ending written =
       subst (λ (e : JobEnded). EndsBy e model inputs partition h l old new) (sym ending)

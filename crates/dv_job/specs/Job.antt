@@ -8,7 +8,7 @@ use Rattle.dv_syntax.specs.Trees.{FileTree}
 use Rattle.dv_syntax.specs.Grammar.{IsFileOf}
 use Rattle.dv_parser.specs.Reading.{refusal_of_tokens}
 use Rattle.dv_check.specs.Refusals.{refusal_of}
-use Rattle.dv_flat.specs.Limit.{file_refusal}
+use Rattle.dv_flat.specs.Limit.{file_refusal, link_refusal}
 use Rattle.dv_bag.specs.declared.inputs.Input.{Input}
 use Rattle.dv_tree.specs.Paths.{texts_of}
 use Rattle.dv_tree.specs.Instances.{root_inputs}
@@ -16,19 +16,21 @@ use Rattle.dv_plain.specs.Source.{network_of, outside}
 use Rattle.dv_text.specs.Names.{component_names, root_ports}
 use Rattle.dv_text.specs.Texts.{whole_text}
 
--- The text has these names and is spelled as this file, which breaks no rule and passes no limit but perhaps that on links.
+-- The text is checked: it has these names and is spelled as this file, which breaks no rule and passes no limit but perhaps that
+-- on links.
 pub record IsCheckedFileOf (text : List ℕ) (names : List (List ℕ)) (f : FileTree) : Type 0 where
   pub tokens : List Token
   pub lexed : IsTokensOf text names tokens
   pub parsed : IsFileOf tokens f
   pub checked : refusal_of f ≡ None
 
--- The text is accepted: it has these names, it is spelled as this file, and nothing in the file is refused.
+-- The text is accepted: it is checked, and the file has few links. So nothing in the file is refused.
 pub record IsModelOf (text : List ℕ) (names : List (List ℕ)) (f : FileTree) : Type 0 where
   pub tokens : List Token
   pub lexed : IsTokensOf text names tokens
   pub parsed : IsFileOf tokens f
-  pub accepted : file_refusal f ≡ None
+  pub checked : refusal_of f ≡ None
+  pub few : link_refusal f ≡ None
 
 -- the tokens of the text are those of no file, which shows at the place of this refusal
 pub record HasNoFile (text : List ℕ) (r : Refusal) : Type 0 where

@@ -1,8 +1,7 @@
 -- The text of what ran; and why a text was not written to its end, and what the writer then holds.
 use Rattle.std.specs.Prelude.{ℕ, List, [], ◌∷◌, ◌++◌, ◌⊎◌, Option}
 use Rattle.std.specs.Io.KnownBytes.{Keeps}
-use Rattle.dv_text.specs.Merging.{text_of, trace_text}
-use Rattle.dv_text.specs.Texts.{ComponentNames, partial_ending}
+use Rattle.dv_text.specs.Texts.{ComponentNames, ending_text, part_text, partial_ending}
 use Rattle.dv_text.specs.Writing.{StopsShort}
 use Rattle.dv_text.specs.declared.writing.Ending.TheVariants as text_end
 use Rattle.dv_serial.specs.declared.alone.Ended.{Ended}
@@ -25,8 +24,8 @@ IsUnwritten error.Memory text old new = Keeps old new ⊎ StopsShort old new tex
 
 -- the text of what ran to this end, and how the run ends
 abbrev pub text_to : Ended → List ComponentNames → List (List ℕ) → (horizon : ℕ) → Ran → List ℕ
-text_to ran.Whole all outputs horizon r = text_of all outputs r.part (text_end.Whole horizon)
-text_to ran.Memory all outputs horizon r = trace_text all outputs r.part ++ partial_ending (r.clock ∷ [])
+text_to ran.Whole all outputs horizon r = part_text all outputs r.part ++ ending_text (text_end.Whole horizon)
+text_to ran.Memory all outputs horizon r = part_text all outputs r.part ++ partial_ending (r.clock ∷ [])
 
 abbrev pub ended_at : Ended → Ran → JobEnded
 ended_at ran.Whole r = ending_of r.part

@@ -2,12 +2,11 @@
 
 ghost use Rattle.std.specs.Prelude.{OnOk, IfErr};
 ghost use Rattle.dv_syntax.specs.Trees.{file_of};
-ghost use Rattle.dv_job.specs.Job.{IsCheckedFileOf};
+ghost use Rattle.dv_job.specs.Job.{IsModelOf};
 ghost use Rattle.dv_job.specs.Listed.{LeftByListing, ListsCode};
 
 use crate::ended::JobError;
-use crate::load::{load, load_links, unloaded};
-use dv_check::Checked;
+use crate::load::{accept, load};
 use dv_gen::laws::texts_are_compilable;
 use dv_listing::write_listing;
 use dv_tree::Tree;
@@ -26,37 +25,19 @@ pub fn list_code<W: Write>(alloc: Global, model: &[u8], writer: &mut W) -> Resul
     ensures error { IfErr result (λ e. LeftByListing e model.now (W.contents writer.old)
         (W.contents writer.new)) }
 {
-    match load(alloc, model) {
-        Ok(checked) => list_checked(alloc, &checked, model, writer),
-        Err(error) => Err(unloaded(model, error)),
-    }
-}
-
-/// Writes the listing of a checked text.
-fn list_checked<W: Write>(
-    alloc: Global,
-    checked: &Checked,
-    model: &[u8],
-    writer: &mut W,
-) -> Result<(), JobError>
-    requires checked { IsCheckedFileOf model.now checked.now.names (file_of checked.now.file) }
-    ensures listed { OnOk result (ListsCode model.now (W.contents writer.old)
-        (W.contents writer.new)) }
-    ensures error { IfErr result (λ e. LeftByListing e model.now (W.contents writer.old)
-        (W.contents writer.new)) }
-{
-    let tree = Tree::of(alloc, checked)?;
+    let checked = load(alloc, model)?;
+    let tree = accept(alloc, model, &checked)?;
     list_tree(alloc, &tree, model, writer)
 }
 
-/// Writes the listing of the tree of a checked text.
+// Writes the listing of an accepted text, by its tree.
 fn list_tree<W: Write>(
     alloc: Global,
     tree: &Tree,
     model: &[u8],
     writer: &mut W,
 ) -> Result<(), JobError>
-    requires checked { IsCheckedFileOf model.now tree.now.names (file_of tree.now.file) }
+    requires accepted { IsModelOf model.now tree.now.names (file_of tree.now.file) }
     ensures listed { OnOk result (ListsCode model.now (W.contents writer.old)
         (W.contents writer.new)) }
     ensures error { IfErr result (λ e. LeftByListing e model.now (W.contents writer.old)
@@ -64,7 +45,6 @@ fn list_tree<W: Write>(
 {
     // The atomic models of an accepted text have programs.
     texts_are_compilable();
-    load_links(alloc, model, tree)?;
     write_listing(alloc, tree, writer)?;
     Ok(())
 }

@@ -1,7 +1,9 @@
-//! From the bytes of a model to the checked text, from a partition to its groups, and from the bytes of inputs to the inputs.
+//! From the bytes of a model to the tree of an accepted text, from a partition to its groups, and from the bytes of inputs
+//! to the inputs.
 
-ghost use Rattle.std.specs.Prelude.{◌≡◌, ◌≤◌, ◌^◌, length, map, string_bytes, IfOk, IfErr, MatchResult, Ok, Err};
-ghost use Rattle.dv_flat.specs.Links.{direct_links, entry_links, exit_links, paths_of};
+ghost use Rattle.std.specs.Prelude.{◌≡◌, None, map, string_bytes, IfOk, IfErr, MatchResult, Ok, Err};
+ghost use Rattle.dv_check.specs.Refusals.{refusal_of};
+ghost use Rattle.dv_flat.specs.Links.{paths_of};
 ghost use Rattle.dv_partition.specs.Answers.{IsErrorOf, partition_answer};
 ghost use Rattle.dv_syntax.specs.Trees.{file_of};
 ghost use Rattle.dv_job.specs.Errors.{job_error_of_load};
@@ -12,9 +14,9 @@ ghost use Rattle.dv_job.specs.Loading.{IsUnloaded, tree_inputs};
 
 use crate::ended::JobError;
 use dv_bag::Inputs;
-use dv_check::laws::accepted_files;
+use dv_check::laws::checked_files;
 use dv_check::{Checked, check};
-use dv_flat::{Flat, flatten};
+use dv_flat::count_links;
 use dv_inputs::{InputRefusal, InputsError, read_inputs};
 use dv_lex::{LoadError, answer, tokens};
 use dv_parser::parse;
@@ -23,7 +25,22 @@ use dv_tree::Tree;
 use std::alloc::Global;
 
 /// The checked text of these bytes, whose links are still to be counted.
-pub fn load(alloc: Global, text: &[u8]) -> Result<Checked, LoadError>
+///
+/// # Errors
+///
+/// `Text` is the text's answer. `Memory`: no memory for the text.
+pub fn load(alloc: Global, text: &[u8]) -> Result<Checked, JobError>
+    ensures checked { IfOk result (λ c. IsCheckedFileOf text.now c.names (file_of c.file)) }
+    ensures refused { IfErr result (AnswersWith text.now) }
+{
+    match read(alloc, text) {
+        Ok(checked) => Ok(checked),
+        Err(error) => Err(unloaded(text, error)),
+    }
+}
+
+// The checked text, or why there is none.
+fn read(alloc: Global, text: &[u8]) -> Result<Checked, LoadError>
     ensures checked { IfOk result (λ c. IsCheckedFileOf text.now c.names (file_of c.file)) }
     ensures refused { IfErr result (λ e. IsUnloaded e text.now) }
 {
@@ -32,30 +49,19 @@ pub fn load(alloc: Global, text: &[u8]) -> Result<Checked, LoadError>
     check(alloc, file, lexed.names)
 }
 
-/// The links of the tree of a checked text. With them the text is accepted.
+/// The tree of a checked text, if it has few links. With that the text is accepted.
 ///
 /// # Errors
 ///
-/// `Text` is E17, where there are too many. `Memory`: no memory for the links.
-pub fn load_links(alloc: Global, text: &[u8], tree: &Tree) -> Result<Flat, JobError>
-    requires checked { IsCheckedFileOf text.now tree.now.names (file_of tree.now.file) }
-    ensures accepted { IfOk result
-        (λ _. IsModelOf text.now tree.now.names (file_of tree.now.file)) }
-    ensures paths { IfOk result (λ flat. map string_bytes flat.paths.items
-        ≡ paths_of tree.now.names (file_of tree.now.file)) }
-    ensures few { IfOk result (λ flat. length flat.paths.items ≤ 2 ^ 32) }
-    ensures direct { IfOk result (λ flat.
-        flat.links.direct.items ≡ direct_links (file_of tree.now.file)) }
-    ensures entries { IfOk result (λ flat.
-        flat.links.entries.items ≡ entry_links (file_of tree.now.file)) }
-    ensures exits { IfOk result (λ flat.
-        flat.links.exits.items ≡ exit_links (file_of tree.now.file)) }
+/// `Text` is E17, where there are too many links. `Memory`: no memory for the tree.
+pub fn accept<'c>(alloc: Global, text: &[u8], checked: &'c Checked) -> Result<Tree<'c>, JobError>
+    requires checked { IsCheckedFileOf text.now checked.now.names (file_of checked.now.file) }
+    ensures accepted { IfOk result (λ tree. IsModelOf text.now tree.names (file_of tree.file)) }
     ensures refused { IfErr result (AnswersWith text.now) }
 {
-    // An accepted text has few components.
-    accepted_files();
-    match flatten(alloc, tree) {
-        Ok(flat) => Ok(flat),
+    let tree = Tree::of(alloc, checked)?;
+    match count_links(alloc, &tree) {
+        Ok(_) => Ok(tree),
         Err(error) => Err(unloaded(text, error)),
     }
 }
@@ -69,12 +75,14 @@ pub fn load_groups(
 ) -> Result<Groups, PartitionError>
     requires paths { map string_bytes paths.now
         ≡ paths_of tree.now.names (file_of tree.now.file) }
-    requires few { length paths.now ≤ 2 ^ 32 }
+    requires checked { refusal_of (file_of tree.now.file) ≡ None }
     ensures { MatchResult result
         (λ parted. partition_answer (paths_of tree.now.names (file_of tree.now.file)) groups.entry
         ≡ Ok parted)
         (IsErrorOf (partition_answer (paths_of tree.now.names (file_of tree.now.file)) groups.entry)) }
 {
+    // A checked file has few components.
+    checked_files();
     partition(alloc, paths, groups)
 }
 
@@ -89,8 +97,8 @@ pub fn load_inputs(alloc: Global, text: &[u8], tree: &Tree) -> Result<Inputs, In
     read_inputs(alloc, text, &names)
 }
 
-/// The error of a text that was not loaded.
-pub fn unloaded(text: &[u8], error: LoadError) -> JobError
+// The error of a text that was not loaded.
+fn unloaded(text: &[u8], error: LoadError) -> JobError
     ensures { result ≡ job_error_of_load text.now error }
 {
     match error {

@@ -3,14 +3,14 @@
 ghost use Rattle.std.specs.Prelude.{IfOk, IfErr};
 ghost use Rattle.dv_syntax.specs.Trees.{file_of};
 ghost use Rattle.dv_job.specs.Ending.{LeftBy, PrintsTrace};
-ghost use Rattle.dv_job.specs.Job.{IsCheckedFileOf};
+ghost use Rattle.dv_job.specs.Job.{IsModelOf};
 
 use crate::ended::{JobEnded, JobError};
 use crate::faults::ending_of;
-use crate::load::{load, load_inputs, load_links, unloaded};
+use crate::load::{accept, load, load_inputs};
 use crate::options::Options;
 use dv_bag::Bags;
-use dv_check::Checked;
+use dv_devs::laws::parts::parts_are_by_time;
 use dv_plain::resultant_run;
 use dv_text::laws::a_trace_is_its_instants;
 use dv_text::{Ending, write_trace};
@@ -37,32 +37,12 @@ pub fn run_plain<W: Write>(
     ensures error { IfErr result (λ e. LeftBy e model.now inputs.now options.now.horizon
         options.now.limit (W.contents writer.old) (W.contents writer.new)) }
 {
-    match load(alloc, model) {
-        Ok(checked) => run_checked(alloc, &checked, model, inputs, options, writer),
-        Err(error) => Err(unloaded(model, error)),
-    }
-}
-
-/// Runs the model of a checked text.
-fn run_checked<W: Write>(
-    alloc: Global,
-    checked: &Checked,
-    model: &[u8],
-    inputs: &[u8],
-    options: &Options,
-    writer: &mut W,
-) -> Result<JobEnded, JobError>
-    requires checked { IsCheckedFileOf model.now checked.now.names (file_of checked.now.file) }
-    ensures printed { IfOk result (PrintsTrace model.now inputs.now options.now.horizon
-        options.now.limit (W.contents writer.old) (W.contents writer.new)) }
-    ensures error { IfErr result (λ e. LeftBy e model.now inputs.now options.now.horizon
-        options.now.limit (W.contents writer.old) (W.contents writer.new)) }
-{
-    let tree = Tree::of(alloc, checked)?;
+    let checked = load(alloc, model)?;
+    let tree = accept(alloc, model, &checked)?;
     run_tree(alloc, &tree, model, inputs, options, writer)
 }
 
-/// Runs the model of the tree of a checked text.
+// Runs the model of an accepted text, by its tree.
 fn run_tree<W: Write>(
     alloc: Global,
     tree: &Tree,
@@ -71,15 +51,15 @@ fn run_tree<W: Write>(
     options: &Options,
     writer: &mut W,
 ) -> Result<JobEnded, JobError>
-    requires checked { IsCheckedFileOf model.now tree.now.names (file_of tree.now.file) }
+    requires accepted { IsModelOf model.now tree.now.names (file_of tree.now.file) }
     ensures printed { IfOk result (PrintsTrace model.now inputs.now options.now.horizon
         options.now.limit (W.contents writer.old) (W.contents writer.new)) }
     ensures error { IfErr result (λ e. LeftBy e model.now inputs.now options.now.horizon
         options.now.limit (W.contents writer.old) (W.contents writer.new)) }
 {
-    // The text of a trace is that of its instants, one after the other.
+    // A trace stands by time, and its text is that of its instants, one after the other.
+    parts_are_by_time::<Bags>();
     a_trace_is_its_instants::<Bags>();
-    load_links(alloc, model, tree)?;
     let played = load_inputs(alloc, inputs, tree)?;
     let trace = resultant_run(alloc, tree, &played, options.horizon, options.limit)?;
     write_trace(alloc, &trace, tree, &Ending::Whole(options.horizon), writer)?;

@@ -2,15 +2,15 @@
 
 ghost use Rattle.std.specs.Prelude.{IfErr, OnOk};
 ghost use Rattle.dv_syntax.specs.Trees.{file_of};
-ghost use Rattle.dv_job.specs.Job.{IsCheckedFileOf};
+ghost use Rattle.dv_job.specs.Job.{IsModelOf};
 ghost use Rattle.dv_job.specs.Planned.{AnswersPlan, HasPlan};
 
 use crate::ended::JobError;
-use crate::load::{load, load_groups, load_links, unloaded};
+use crate::load::{accept, load, load_groups};
 use crate::names::TreeNames;
 use dv_bag::Response;
-use dv_check::Checked;
 use dv_cut::plan_json;
+use dv_flat::flatten;
 use dv_links::links_of;
 use dv_partition::Partition;
 use dv_tree::Tree;
@@ -30,39 +30,23 @@ pub fn plan_bytes(alloc: Global, model: &[u8], groups: Partition<'_>) -> Result<
     ensures planned { OnOk result (HasPlan model.now groups.entry) }
     ensures error { IfErr result (AnswersPlan model.now groups.entry) }
 {
-    match load(alloc, model) {
-        Ok(checked) => plan_checked(alloc, &checked, model, groups),
-        Err(error) => Err(unloaded(model, error)),
-    }
-}
-
-/// The plan of the model of a checked text.
-fn plan_checked(
-    alloc: Global,
-    checked: &Checked,
-    model: &[u8],
-    groups: Partition<'_>,
-) -> Result<String, JobError>
-    requires checked { IsCheckedFileOf model.now checked.now.names (file_of checked.now.file) }
-    ensures planned { OnOk result (HasPlan model.now groups.entry) }
-    ensures error { IfErr result (AnswersPlan model.now groups.entry) }
-{
-    let tree = Tree::of(alloc, checked)?;
+    let checked = load(alloc, model)?;
+    let tree = accept(alloc, model, &checked)?;
     plan_tree(alloc, &tree, model, groups)
 }
 
-/// The plan of the model of the tree of a checked text.
+// The plan of the model of an accepted text, by its tree.
 fn plan_tree(
     alloc: Global,
     tree: &Tree,
     model: &[u8],
     groups: Partition<'_>,
 ) -> Result<String, JobError>
-    requires checked { IsCheckedFileOf model.now tree.now.names (file_of tree.now.file) }
+    requires accepted { IsModelOf model.now tree.now.names (file_of tree.now.file) }
     ensures planned { OnOk result (HasPlan model.now groups.entry) }
     ensures error { IfErr result (AnswersPlan model.now groups.entry) }
 {
-    let flat = load_links(alloc, model, tree)?;
+    let flat = flatten(alloc, tree)?;
     let groups = load_groups(alloc, tree, flat.paths.as_slice(), groups)?;
     let links = links_of(alloc, &flat.links)?;
     let least = vec![in alloc; SOUND_RESPONSE; groups.processes()]?;

@@ -2,15 +2,16 @@
 
 ghost use Rattle.std.specs.Prelude.{IfOk, IfErr};
 ghost use Rattle.dv_syntax.specs.Trees.{file_of};
-ghost use Rattle.dv_job.specs.Job.{IsCheckedFileOf};
+ghost use Rattle.dv_job.specs.Job.{IsModelOf};
 ghost use Rattle.dv_job.specs.Running.{EndsBy, LeftByRun};
 
 use crate::ended::{JobEnded, JobError};
-use crate::load::{load, load_groups, load_inputs, load_links, unloaded};
+use crate::load::{accept, load, load_groups, load_inputs};
 use crate::options::Options;
 use crate::written::write_ran;
 use dv_bag::Bags;
-use dv_check::Checked;
+use dv_devs::laws::parts::parts_are_by_time;
+use dv_flat::flatten;
 use dv_partition::Partition;
 use dv_serial::compiled_run;
 use dv_sound::numbers::inputs_are_of_numbers;
@@ -41,33 +42,12 @@ pub fn run_bytes<W: Write>(
     ensures error { IfErr result (λ e. LeftByRun e model.now inputs.now groups.entry
         options.now.horizon options.now.limit (W.contents writer.old) (W.contents writer.new)) }
 {
-    match load(alloc, model) {
-        Ok(checked) => run_checked(alloc, &checked, model, inputs, groups, options, writer),
-        Err(error) => Err(unloaded(model, error)),
-    }
-}
-
-/// Runs the model of a checked text.
-fn run_checked<W: Write>(
-    alloc: Global,
-    checked: &Checked,
-    model: &[u8],
-    inputs: &[u8],
-    groups: Partition<'_>,
-    options: &Options,
-    writer: &mut W,
-) -> Result<JobEnded, JobError>
-    requires checked { IsCheckedFileOf model.now checked.now.names (file_of checked.now.file) }
-    ensures ended { IfOk result (λ ended. EndsBy ended model.now inputs.now groups.entry
-        options.now.horizon options.now.limit (W.contents writer.old) (W.contents writer.new)) }
-    ensures error { IfErr result (λ e. LeftByRun e model.now inputs.now groups.entry
-        options.now.horizon options.now.limit (W.contents writer.old) (W.contents writer.new)) }
-{
-    let tree = Tree::of(alloc, checked)?;
+    let checked = load(alloc, model)?;
+    let tree = accept(alloc, model, &checked)?;
     run_tree(alloc, &tree, model, inputs, groups, options, writer)
 }
 
-/// Runs the model of the tree of a checked text.
+// Runs the model of an accepted text, by its tree.
 fn run_tree<W: Write>(
     alloc: Global,
     tree: &Tree,
@@ -77,17 +57,18 @@ fn run_tree<W: Write>(
     options: &Options,
     writer: &mut W,
 ) -> Result<JobEnded, JobError>
-    requires checked { IsCheckedFileOf model.now tree.now.names (file_of tree.now.file) }
+    requires accepted { IsModelOf model.now tree.now.names (file_of tree.now.file) }
     ensures ended { IfOk result (λ ended. EndsBy ended model.now inputs.now groups.entry
         options.now.horizon options.now.limit (W.contents writer.old) (W.contents writer.new)) }
     ensures error { IfErr result (λ e. LeftByRun e model.now inputs.now groups.entry
         options.now.horizon options.now.limit (W.contents writer.old) (W.contents writer.new)) }
 {
-    // The text of a trace is that of its instants, one after the other.
+    // A trace stands by time, and its text is that of its instants, one after the other.
+    parts_are_by_time::<Bags>();
     a_trace_is_its_instants::<Bags>();
     // The values of inputs that were read are numbers of the language.
     inputs_are_of_numbers();
-    let flat = load_links(alloc, model, tree)?;
+    let flat = flatten(alloc, tree)?;
     let groups = load_groups(alloc, tree, flat.paths.as_slice(), groups)?;
     let played = load_inputs(alloc, inputs, tree)?;
     let ran = compiled_run(

@@ -2,9 +2,9 @@
 
 ghost use Rattle.std.specs.Prelude.{◌≡◌, ◌++◌, ◌∷◌, [], IfOk, IfErr, OnOk};
 ghost use Rattle.std.specs.Io.KnownBytes.{Appends};
-ghost use Rattle.dv_text.specs.Merging.{text_of, trace_text};
+ghost use Rattle.dv_bag.specs.Part.{IsByTime};
 ghost use Rattle.dv_text.specs.Names.{tree_names, tree_ports};
-ghost use Rattle.dv_text.specs.Texts.{partial_ending};
+ghost use Rattle.dv_text.specs.Texts.{ending_text, part_text, partial_ending};
 ghost use Rattle.dv_text.specs.declared.writing.Ending.TheVariants as text_end;
 ghost use Rattle.dv_job.specs.Ending.{ending_of};
 ghost use Rattle.dv_job.specs.Written.{IsUnwritten, ended_at, text_to};
@@ -33,6 +33,7 @@ pub fn write_ran<W: Write>(
     horizon: u64,
     writer: &mut W,
 ) -> Result<JobEnded, JobError>
+    requires by_time { IsByTime ran.now.part }
     ensures ending { IfOk result (λ ended. ended ≡ ended_at ran.now.ended ran.now) }
     ensures text { OnOk result (Appends (W.contents writer.old) (W.contents writer.new)
         (text_to ran.now.ended (tree_names tree.now) (tree_ports tree.now) horizon ran.now)) }
@@ -54,11 +55,14 @@ fn write_whole<W: Write>(
     horizon: u64,
     writer: &mut W,
 ) -> Result<JobEnded, JobError>
+    requires by_time { IsByTime trace.now }
     ensures ending { IfOk result (λ ended. ended ≡ ending_of trace.now) }
     ensures text { OnOk result (Appends (W.contents writer.old) (W.contents writer.new)
-        (text_of (tree_names tree.now) (tree_ports tree.now) trace.now (text_end.Whole horizon))) }
+        (part_text (tree_names tree.now) (tree_ports tree.now) trace.now
+        ++ ending_text (text_end.Whole horizon))) }
     ensures error { IfErr result (λ e. IsUnwritten e
-        (text_of (tree_names tree.now) (tree_ports tree.now) trace.now (text_end.Whole horizon))
+        (part_text (tree_names tree.now) (tree_ports tree.now) trace.now
+        ++ ending_text (text_end.Whole horizon))
         (W.contents writer.old) (W.contents writer.new)) }
 {
     write_trace(alloc, trace, tree, &Ending::Whole(horizon), writer)?;
@@ -73,12 +77,13 @@ fn write_cut<W: Write>(
     clock: Time,
     writer: &mut W,
 ) -> Result<JobEnded, JobError>
+    requires by_time { IsByTime part.now }
     ensures ending { IfOk result (λ ended. ended ≡ Partial why.Memory) }
     ensures text { OnOk result (Appends (W.contents writer.old) (W.contents writer.new)
-        (trace_text (tree_names tree.now) (tree_ports tree.now) part.now
+        (part_text (tree_names tree.now) (tree_ports tree.now) part.now
         ++ partial_ending (clock ∷ []))) }
     ensures error { IfErr result (λ e. IsUnwritten e
-        (trace_text (tree_names tree.now) (tree_ports tree.now) part.now
+        (part_text (tree_names tree.now) (tree_ports tree.now) part.now
         ++ partial_ending (clock ∷ []))
         (W.contents writer.old) (W.contents writer.new)) }
 {

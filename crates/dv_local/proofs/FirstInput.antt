@@ -1,15 +1,17 @@
 -- The first time at which something comes, of what is held and of inputs from outside.
-use Rattle.std.proofs.Common.{◌≡◌, inl, inr, ℕ, ◌<◌, ◌≤◌, Bool, true, false, not, cond, nat_eq, nat_lt, List, [], ◌∷◌, ◌++◌, length, map, get_or, Option, Some, None, refl, sym, ap, subst, ◌∙◌, arith}
+use Rattle.std.proofs.Common.{◌≡◌, inl, inr, ℕ, suc, ◌<◌, ◌≤◌, Bool, true, false, not, cond, nat_eq, nat_lt, List, [], ◌∷◌, ◌++◌, length, map, get_or, Option, Some, None, refl, sym, ap, subst, ◌∙◌, arith}
 use Rattle.std.specs.List.{All, Contains}
 use Rattle.std.specs.Option.{IfSome, MatchOption}
 use Rattle.std.proofs.lemmas.Bool.{le-ltb, false≢true}
 use Rattle.std.proofs.lemmas.Bool.Decides.{nat_tests}
-use Rattle.dv_time.specs.Time.{IsOfRun, is_before, micro_of, rank, tick_of, time_of}
+use Rattle.dv_time.specs.Time.{IsOfRun, is_before, rank, time_of}
 use Rattle.dv_time.specs.declared.time.Time.{Time}
 use Rattle.dv_time.proofs.Ranks.{is_before-rank, time_of-rank}
 use Rattle.dv_bag.specs.Bag.{bag_at, total}
+use Rattle.dv_bag.specs.Inputs.{IsByTime, inputs_at, is_passed, next_from}
 use Rattle.dv_bag.specs.declared.inputs.Input.{Input}
-use Rattle.dv_devs.specs.Behaviour.{Behaviour}
+use Rattle.dv_bag.proofs.InputWalks.{between, next_not_before}
+use Rattle.dv_devs.specs.Behaviour.{Behaviour, all_empty}
 use Rattle.dv_devs.specs.Idle.{no_values, nothing_sent}
 use Rattle.dv_devs.proofs.NextTimes.{rank_at_time, time_of_run}
 use Rattle.dv_conservative.specs.Flat.{network, numbers}
@@ -20,12 +22,12 @@ use Rattle.dv_agenda.specs.declared.arrival.Arrival.{Arrival}
 use Rattle.dv_share.specs.declared.tables.Member.{Member}
 use Rattle.dv_share.proofs.Places.{yes_or_no}
 use Rattle.dv_proc.specs.Local.{IsFirstInput, View, brings_at}
-use Rattle.dv_local.specs.Shares.{IsLed}
+use Rattle.dv_local.specs.Shares.{AreOfRun, IsLed}
 use Rattle.dv_local.specs.States.{AllArrive, IsOfPort, delivery_of, view_by}
-use Rattle.dv_local.specs.Undoing.{arrivals_but, start_of}
+use Rattle.dv_local.specs.Undoing.{arrivals_but}
 use Rattle.dv_local.specs.declared.state.LocalState.{LocalState}
 use Rattle.dv_local.proofs.Inboxes.{but_all, but_some}
-use Rattle.dv_local.proofs.Outside.{NoneAt, outside_none, outside_some}
+use Rattle.dv_local.proofs.Outside.{outside_some, replicate_none}
 use Rattle.dv_local.proofs.Reaching.{Reaches, entered, reaches_left, reaches_right, received_some}
 use Rattle.dv_local.proofs.Undoing.{all_first}
 
@@ -70,6 +72,19 @@ first_reaches ms (a ∷ xs) lt h =
     let q = p.1 in
     (q.0, a.port, q.1, q.3, inl (p.0, sym q.2, refl))
 
+-- the next time of an input is that of one which is there
+next_there : (limit : ℕ) (t : Time) (xs : List Input) (u : Time) → next_from limit xs t ≡ Some u → (i : Input) × Contains xs i × (i.time ≡ u)
+next_there limit t [] u e = absurd (cc)
+next_there limit t (x ∷ xs) u e = step (is_passed limit t x) (next_there limit t xs u) e
+  where
+    step : (b : Bool) → (next_from limit xs t ≡ Some u → (i : Input) × Contains xs i × (i.time ≡ u))
+        → cond b (next_from limit xs t) (Some x.time) ≡ Some u → (i : Input) × Contains (x ∷ xs) i × (i.time ≡ u)
+    step true rest h =
+        let there = rest h in
+        let c = there.1 in
+        (there.0, (suc c.0, omega (arith, c.1), c.2), there.2)
+    step false rest h = let same : x.time ≡ u = cc in (x, (0, omega arith, refl), same)
+
 module _ {S : Type 0} (behaviour : S → Behaviour) (x : LocalState S) where
   abbrev pub v : View
   v = view_by behaviour x
@@ -84,13 +99,13 @@ module _ {S : Type 0} (behaviour : S → Behaviour) (x : LocalState S) where
   QuietInside n = but (time_of limit n) ≡ []
 
   abbrev pub QuietOutside : ℕ → Type 0
-  QuietOutside n = micro_of limit n ≡ 0 → NoneAt (tick_of limit n) x.share.inputs
+  QuietOutside n = all_empty (inputs_at limit x.share.ports x.share.inputs n) ≡ true
 
   pub calm : (n : ℕ) → QuietInside n → QuietOutside n → brings_at v n ≡ false
   calm n h g =
       let f = v.share.flat in
       ap (λ (xs : List Arrival). not (no_values ((network f).arrives (nothing_sent (network f)) (v.share.outside n, map delivery_of xs)))) h
-      ∙ ap not (nothing_arrives f (v.share.outside n) (outside_none limit x.share.ports x.share.inputs n g))
+      ∙ ap not (nothing_arrives f (v.share.outside n) g)
 
   abbrev coming : ℕ → List Delivery
   coming n =
@@ -112,13 +127,13 @@ module _ {S : Type 0} (behaviour : S → Behaviour) (x : LocalState S) where
       (reaches_right m.number r.1 (carried v.share.flat.entrances (λ k. v.share.outside n)) _
       (reaches_right m.number r.1 (carried v.share.flat.links (sent_of (numbers v.share.flat.members) (nothing_sent (network v.share.flat)))) (v.held n) held))
 
-  pub loud_outside : (i : Input) → Contains x.share.inputs i → IsLed x.share i → brings_at v (rank limit (start_of i.tick)) ≡ true
-  loud_outside i c led =
-      let n = rank limit (start_of i.tick) in
+  pub loud_outside : (i : Input) → Contains x.share.inputs i → IsOfRun limit i.time → IsLed x.share i → brings_at v (rank limit i.time) ≡ true
+  loud_outside i c run led =
+      let n = rank limit i.time in
       let l = led.1.0 in
       let p = led.1.4 in
       let m = p.0 in
-      let some : 0 < total (bag_at (v.share.outside n) i.port) = outside_some limit x.share.ports x.share.inputs c.0 i c.1 c.2 led.0 in
+      let some : 0 < total (bag_at (v.share.outside n) i.port) = outside_some limit x.share.ports x.share.inputs c.0 i c.1 c.2 led.0 run in
       let r : Reaches l.to l.to_port (carried x.share.tables.entrances (λ k. v.share.outside n)) =
       entered x.share.tables.entrances led.1.1.0 l (v.share.outside n) led.1.1.1 led.1.1.2 led.1.3
       (subst (λ (q : ℕ). 0 < total (bag_at (v.share.outside n) q)) (sym led.1.2) some) in
@@ -158,40 +173,33 @@ module _ {S : Type 0} (behaviour : S → Behaviour) (x : LocalState S) where
         λ n le lt. least (time_of limit n) (at_or_after from n run le) (before t n of_run lt),
       )
 
-  same_start : (n tick : ℕ) → micro_of limit n ≡ 0 → nat_eq tick (tick_of limit n) ≡ true → start_of tick ≡ time_of limit n
-  same_start n tick m e =
-      let t : tick ≡ tick_of limit n = eq tick (tick_of limit n) e in
-      λ i. record { tick = t i; micro = sym m i }
-    where
-      eq : (a b : ℕ) → nat_eq a b ≡ true → a ≡ b
-      eq a b h = grind (arith, nat_tests)
+  -- before the next input nothing comes from outside
+  quiet_until : (from : Time) (n : ℕ) → IsOfRun limit from → IsByTime x.share.inputs → rank limit from ≤ n
+      → IfSome (next_from limit x.share.inputs from) (λ t. n < rank limit t) → QuietOutside n
+  quiet_until from n run h le next =
+      ap all_empty
+      (between limit x.share.ports (rank limit from) n x.share.inputs h le
+      (subst (λ (u : Time). IfSome (next_from limit x.share.inputs u) (λ t. n < rank limit t)) (sym (time_of-rank limit from run)) next))
+      ∙ replicate_none x.share.ports
 
-  none_at : (n : ℕ) (inputs : List Input) → (micro_of limit n ≡ 0) → ((j : ℕ) (d : Input) → j < length inputs → start_of (get_or inputs j d).tick ≡ time_of limit n → ⊥)
-      → NoneAt (tick_of limit n) inputs
-  none_at n inputs m h = λ j d lt. elim (yes_or_no (nat_eq (get_or inputs j d).tick (tick_of limit n))) [
-    | inl y ↦ absurd (h j d lt (same_start n (get_or inputs j d).tick m y))
-    | inr e ↦ e
-  ]
+  not_past : (from : Time) → IsOfRun limit from → IfSome (next_from limit x.share.inputs from) (λ t. rank limit from ≤ rank limit t)
+  not_past from run =
+      subst (λ (u : Time). IfSome (next_from limit x.share.inputs u) (λ t. rank limit from ≤ rank limit t)) (time_of-rank limit from run)
+      (next_not_before limit (rank limit from) x.share.inputs)
 
-  pub first_of_inputs : (r : Option Time) (from : Time) → IsOfRun limit from → All (IsLed x.share) x.share.inputs
-      → MatchOption r (All (λ (i : Input). is_before (start_of i.tick) from ≡ true) x.share.inputs)
-      (λ first. (is_before first from ≡ false) × ((i : Input) × Contains x.share.inputs i × (first ≡ start_of i.tick)))
-      → IfSome r (λ first. All (λ (i : Input). is_before (start_of i.tick) from ≡ false → is_before (start_of i.tick) first ≡ false) x.share.inputs)
+  pub first_of_inputs : (r : Option Time) (from : Time) → IsOfRun limit from → IsByTime x.share.inputs → All (IsLed x.share) x.share.inputs
+      → AreOfRun limit x.share.inputs → r ≡ next_from limit x.share.inputs from
       → IsFirstRank limit QuietOutside (λ n. brings_at v n ≡ true) (rank limit from) r
-  first_of_inputs None from run led there least = λ n le m.
-      none_at n x.share.inputs m
-      (λ j d lt e. false≢true (sym (at_or_after from n run le) ∙ ap (λ (t : Time). is_before t from) (sym e) ∙ there j d lt))
-  first_of_inputs (Some t) from run led there least =
-      let i = there.1.0 in
-      let c = there.1.1 in
-      let e : t ≡ start_of i.tick = there.1.2 in
-      let of_run : IsOfRun limit t = subst (λ (u : Time). IsOfRun limit u) (sym e) (omega arith) in (
-        of_run,
-        after_from t from of_run run there.0,
-        subst (λ (u : Time). brings_at v (rank limit u) ≡ true) (sym e)
-            (loud_outside i c (subst (λ (y : Input). IsLed x.share y) c.2 (led c.0 i c.1))),
-        λ n le lt m. none_at n x.share.inputs m
-            (λ j d within same. false≢true (
-            sym (least j d within (ap (λ (u : Time). is_before u from) same ∙ at_or_after from n run le))
-            ∙ ap (λ (u : Time). is_before u t) same ∙ before t n of_run lt)),
+  first_of_inputs None from run h led all is = λ n le.
+      quiet_until from n run h le (subst (λ (o : Option Time). IfSome o (λ t. n < rank limit t)) is tt)
+  first_of_inputs (Some t) from run h led all is =
+      let there = next_there limit from x.share.inputs t (sym is) in
+      let i = there.0 in
+      let c = there.1 in
+      let of_run : IsOfRun limit i.time = subst (λ (y : Input). IsOfRun limit y.time) c.2 (all c.0 i c.1) in (
+        subst (λ (u : Time). IsOfRun limit u) there.2 of_run,
+        subst (λ (o : Option Time). IfSome o (λ u. rank limit from ≤ rank limit u)) (sym is) (not_past from run),
+        subst (λ (u : Time). brings_at v (rank limit u) ≡ true) there.2
+            (loud_outside i c of_run (subst (λ (y : Input). IsLed x.share y) c.2 (led c.0 i c.1))),
+        λ n le lt. quiet_until from n run h le (subst (λ (o : Option Time). IfSome o (λ u. n < rank limit u)) is lt),
       )

@@ -3,6 +3,7 @@ pub mod Waits
 pub mod Ports
 pub mod Inboxes
 pub mod Due
+pub mod Entering
 pub mod Keeping
 pub mod FirstHeld
 pub mod InputTimes
@@ -10,7 +11,8 @@ pub mod Reaching
 pub mod Outside
 pub mod FirstInput
 pub mod Begun
-pub mod Nexts
+pub mod Commits
 pub mod TakesPlace
 pub mod Sending
 pub mod Starts
+pub mod Accesses

@@ -18,10 +18,15 @@ use Rattle.dv_react.specs.Components.{components_of}
 use Rattle.dv_react.specs.declared.outcome.Outcome.{Outcome}
 use Rattle.dv_react.specs.declared.running.Running.{Running}
 use Rattle.dv_agenda.specs.Comings.{Arrivals, arrivals_at}
-use Rattle.dv_share.specs.Share.{AreComponents, AreEmitted, AreOutcomes, flat_by, left_from, numbers_of, reactions_by, sent_in, sents_by}
+use Rattle.dv_share.specs.Places.{places_of}
+use Rattle.dv_share.specs.Share.{AreAmong, AreComponents, AreEmitted, AreOutcomes, AreReceived, StandByPlace, coming, flat_by, numbers_of, reactions_by, sent_in}
+use Rattle.dv_share.specs.declared.tables.Tables.{Tables}
+use Rattle.dv_share.proofs.Commits.{entries_of_instant}
+use Rattle.dv_share.proofs.Instants.{outcomes_are}
 use Rattle.dv_share.specs.declared.place.Placed.{Placed}
 use Rattle.dv_proc.specs.Local.{IsAfterInstant, View, input_at}
-use Rattle.dv_local.specs.Happenings.{IsHappening, delivered_by, nexts_of}
+use Rattle.dv_local.specs.Comings.{delivered_by}
+use Rattle.dv_local.specs.Commits.{HaveReacted}
 use Rattle.dv_agenda.specs.declared.arrival.Arrival.{Arrival}
 use Rattle.dv_share.specs.Links.{deliveries_of}
 use Rattle.dv_share.specs.declared.link.Delivery.{Delivery as DeliveryOfCode}
@@ -29,14 +34,11 @@ use Rattle.dv_local.specs.States.{delivery_of, held_by, view_by}
 use Rattle.dv_local.specs.Shares.{share_by}
 use Rattle.dv_agenda.proofs.RanksOfWaits.{same_as_rank}
 use Rattle.dv_share.proofs.Places.{differ}
-use Rattle.dv_local.specs.Undoing.{AreWithin, arrivals_but, is_taken, undone}
-use Rattle.dv_local.specs.declared.happening.Happening.{Happening}
+use Rattle.dv_local.specs.Undoing.{arrivals_but, is_taken}
 use Rattle.dv_local.specs.declared.state.LocalState.{LocalState}
-use Rattle.dv_local.proofs.Nexts.{nexts_put, nexts_within}
 use Rattle.dv_local.proofs.Sending.{same_numbers}
 
-module _ {S : Type 0} (behaviour : S → Behaviour) (fits : S → State → Type 0) (x : LocalState S) (n : ℕ)
-    (outside : List Counts) (ds : List Delivery) (os : List (Placed Outcome)) (h : Happening) where
+module _ {S : Type 0} (behaviour : S → Behaviour) (x : LocalState S) (n : ℕ) (outside : List Counts) (ds : List Delivery) (os : List (Placed Outcome)) where
   instant_part : AreEmitted behaviour x.share.tables n x.components.running.items x.emitted.items
       → AreOutcomes behaviour x.share.tables n x.components.running.items outside ds x.emitted.items os
       → (es : List Entry) (ls : List Outer)
@@ -56,30 +58,6 @@ module _ {S : Type 0} (behaviour : S → Behaviour) (fits : S → State → Type
       (l
       ∙ ap (λ (sent : List (List Counts)). outer_from t.limit n 0 (inbox 0 (carried t.exits (sent_from (numbers_of t.members.items) sent)) 0 t.outputs)) (sym emitted.sent)
       ∙ ap (λ (ks : List ℕ). outer_from t.limit n 0 (inbox 0 (carried t.exits (sent_from ks (emissions net.behaviours n cs))) 0 t.outputs)) (sym numbers))
-
-  pub happening_is : (input : (outside, ds) ≡ input_at (view_by behaviour x) n)
-      → AreEmitted behaviour x.share.tables n x.components.running.items x.emitted.items
-      → AreOutcomes behaviour x.share.tables n x.components.running.items outside ds x.emitted.items os
-      → AreComponents fits x.share.tables (left_from 0 x.components.running.items os)
-      → (es : List Entry) (ls : List Outer)
-      → es ≡ entries_by x.share.tables.limit n (numbers_of x.share.tables.members.items) (reactions_by x.share.tables.limit 0 x.components.running.items x.emitted.items os)
-      → ls ≡ outer_from x.share.tables.limit n 0 (inbox 0 (carried x.share.tables.exits (sent_in x.share.tables.members.items x.emitted.items)) 0 x.share.tables.outputs)
-      → h.part ≡ (let p : PartOf = record { entries = es; outer = ls } in p)
-      → h.next.items ≡ nexts_of x.components.running.items os
-      → IsHappening behaviour fits n x h
-  happening_is input emitted outcomes stand es ls e l part next =
-      let t = x.share.tables in
-      let rs = x.components.running.items in
-      let net = network (flat_by behaviour t) in
-      let put : undone h.next.items rs ≡ left_from 0 rs os = ap (λ (ys : List (Placed Running)). undone ys rs) next ∙ nexts_put rs os outcomes.places in
-      record {
-        part = part ∙ instant_part emitted outcomes es ls e l
-            ∙ ap (λ (i : List Counts × List Delivery). part_of_instant t.limit net n i (components_of t.limit rs)) input;
-        after = ap (λ (ss : List Running). components_of t.limit ss) put ∙ sym outcomes.after
-            ∙ ap (λ (i : List Counts × List Delivery). components_after t.limit net n i (components_of t.limit rs)) input;
-        components = subst (λ (ss : List Running). AreComponents fits t ss) (sym put) stand;
-        within = subst (λ (ys : List (Placed Running)). AreWithin (length rs) ys) (sym next) (nexts_within rs os outcomes.places.within);
-      }
 
 delivered : (xs : List Arrival) → deliveries_of (map delivered_by xs) ≡ map delivery_of xs
 delivered [] = refl
@@ -101,25 +79,55 @@ not_taken : (limit m : ℕ) (now : Time) → IsOfRun limit now → rank limit no
 not_taken limit m now of_run lt =
     same_as_rank limit m now of_run ∙ differ (rank limit now) m (λ e. absurd (omega (arith, lt, e)))
 
--- the instant took place
-pub took_place : {S : Type 0} (behaviour : S → Behaviour) (fits : S → State → Type 0) (x : LocalState S) (now : Time) (h : Happening)
-    (rs : List Running) (p : PartOf)
-    → IsOfRun x.share.tables.limit now → x.undo.taken ≡ None → IsHappening behaviour fits (rank x.share.tables.limit now) x h
-    → rs ≡ undone h.next.items x.components.running.items → p ≡ joined x.committed h.part
-    → IsAfterInstant (rank x.share.tables.limit now) (view_by behaviour x)
-    (let v : View = record {
-      share = share_by behaviour x.share;
-      components = components_of x.share.tables.limit rs;
-      committed = p;
-      held = held_by x.share.tables.limit (Some now) x.inbox;
-    } in v)
-took_place behaviour fits x now h rs p of_run taken happening components committed =
-    let limit = x.share.tables.limit in
-    record {
-      share = refl;
-      components = ap (λ (ss : List Running). components_of limit ss) components ∙ happening.after;
-      committed = committed ∙ ap (λ (q : PartOf). joined x.committed q) happening.part;
-      held = λ m lt.
-          ap (λ (b : Bool). map delivery_of (cond b [] (arrivals_at (time_of limit m) x.inbox))) (not_taken limit m now of_run lt)
-          ∙ ap (λ (t : Option Time). held_by limit t x.inbox m) (sym taken);
-    }
+module _ {S : Type 0} (behaviour : S → Behaviour) (fits : S → State → Type 0) (x : LocalState S) (now : Time) (outside : List Counts) (ds : List Delivery)
+    (xs : List (Placed (List Counts))) where
+  abbrev tables : Tables S
+  tables = x.share.tables
+
+  abbrev standing : List Running
+  standing = x.components.running.items
+
+  abbrev n : ℕ
+  n = rank tables.limit now
+
+  -- what components committed that reacted to all that comes is the part of the instant, and they are those after it
+  pub took_place : (ss : List Running) (p : PartOf) (visits : ℕ) → IsOfRun tables.limit now → (outside, ds) ≡ input_at (view_by behaviour x) n
+      → AreComponents fits tables standing → AreEmitted behaviour tables n standing x.emitted.items
+      → AreAmong (places_of x.emitted.items) (places_of xs) → AreReceived tables.members.items (coming tables x.emitted.items outside ds) xs
+      → HaveReacted behaviour fits tables n standing x.emitted.items xs (places_of xs) ss x.committed.entries p.entries
+      → p.outer ≡ x.committed.outer
+      ++ outer_from tables.limit n 0 (inbox 0 (carried tables.exits (sent_in tables.members.items x.emitted.items)) 0 tables.outputs)
+      → x.undo.taken ≡ None
+      → IsAfterInstant n (view_by behaviour x)
+      (let v : View = record {
+        share = share_by behaviour x.share;
+        components = components_of tables.limit ss;
+        committed = p;
+        held = held_by tables.limit (Some now) x.inbox;
+        visits = visits;
+      } in v)
+  took_place ss p visits of_run input are emitted among received reacted outer taken =
+      let limit = tables.limit in
+      let net = network (flat_by behaviour tables) in
+      let os = reacted.outcomes in
+      let outcomes : AreOutcomes behaviour tables n standing outside ds x.emitted.items os =
+      outcomes_are behaviour fits tables n standing x.emitted.items xs os outside ds are emitted among received reacted.places reacted.right in
+      let stand : StandByPlace (length tables.members.items) os =
+      subst (λ (k : ℕ). StandByPlace k os) are.count outcomes.places in
+      let entries = reacted.entries
+      ∙ ap (λ (es : List Entry). x.committed.entries ++ es)
+      (entries_of_instant limit n x.emitted.items tables.members.items standing os are.count stand) in
+      record {
+        share = refl;
+        components =
+            ap (λ (rs : List Running). components_of limit rs) reacted.components ∙ sym outcomes.after
+            ∙ ap (λ (i : List Counts × List Delivery). components_after limit net n i (components_of limit standing)) input;
+        committed =
+            ap₂ (λ (es : List Entry) (ls : List Outer). let q : PartOf = record { entries = es; outer = ls } in q) entries outer
+            ∙ ap (λ (q : PartOf). joined x.committed q)
+            (instant_part behaviour x n outside ds os emitted outcomes _ _ refl refl
+            ∙ ap (λ (i : List Counts × List Delivery). part_of_instant limit net n i (components_of limit standing)) input);
+        held = λ m lt.
+            ap (λ (b : Bool). map delivery_of (cond b [] (arrivals_at (time_of limit m) x.inbox))) (not_taken limit m now of_run lt)
+            ∙ ap (λ (t : Option Time). held_by limit t x.inbox m) (sym taken);
+      }

@@ -6,5 +6,5 @@ pub mod Undoing
 pub mod Comings
 -- What the components of a process stand at.
 pub mod States
--- What takes place at an instant.
-pub mod Happenings
+-- What is committed at an instant.
+pub mod Commits

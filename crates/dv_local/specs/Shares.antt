@@ -1,6 +1,7 @@
 -- The share of a process.
 use Rattle.std.specs.Prelude.{◌≡◌, ℕ, ◌<◌, ◌≤◌, List, map}
 use Rattle.std.specs.List.{All, Contains}
+use Rattle.dv_time.specs.Time.{IsOfRun}
 use Rattle.dv_time.specs.declared.TheConstants.{GREATEST_LIMIT, GREATEST_TICK}
 use Rattle.dv_bag.specs.Inputs.{inputs_at}
 use Rattle.dv_bag.specs.declared.inputs.Input.{Input}
@@ -37,15 +38,20 @@ numbers_of_ways ws = map (λ (w : Way). w.number) ws
 abbrev pub IsPortOf : List Member → ℕ → ℕ → Type 0
 IsPortOf ms k port = (m : Member) × Contains ms m × (m.number ≡ k) × (port < m.inputs)
 
+-- inputs at times of a run
+abbrev pub AreOfRun : ℕ → List Input → Type 0
+AreOfRun limit inputs = All (λ (i : Input). IsOfRun limit i.time) inputs
+
 -- an input from outside leads to a port of a component: an entry link takes it there
 abbrev pub IsLed : {S : Type 0} → Share S → Input → Type 0
 IsLed p i = (i.port < p.ports)
     × ((l : Link) × Contains p.tables.entrances l × (l.from_port ≡ i.port) × (0 < l.copies) × IsPortOf p.tables.members.items l.to l.to_port)
 
--- a share that can run: tables, bounds of the run, and inputs from outside that lead to components here
+-- a share that can run: tables, bounds of the run, and inputs from outside at times of the run that lead to components here
 pub record IsShare {S : Type 0} (fits : S → State → Type 0) (p : Share S) : Type 0 where
   pub tables : AreTables fits p.tables
   pub limit : p.tables.limit ≤ GREATEST_LIMIT
   pub horizon : p.horizon ≤ GREATEST_TICK
   pub hold : IsOfHold p.response
   pub led : All (IsLed p) p.inputs
+  pub of_run : AreOfRun p.tables.limit p.inputs

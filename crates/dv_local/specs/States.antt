@@ -32,6 +32,7 @@ view_by behaviour x = record {
   components = components_of x.share.tables.limit x.components.running.items;
   committed = x.committed;
   held = held_by x.share.tables.limit x.undo.taken x.inbox;
+  visits = x.components.visits;
 }
 
 -- what was seen when all was settled
@@ -41,6 +42,7 @@ settled_by behaviour x = record {
   components = components_of x.share.tables.limit (undone x.undo.before.items x.components.running.items);
   committed = record { entries = take x.undo.entries x.committed.entries; outer = take x.undo.outer x.committed.outer };
   held = held_by x.share.tables.limit None x.inbox;
+  visits = x.undo.visits;
 }
 
 -- what was sent at the time that was last asked about

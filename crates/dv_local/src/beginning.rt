@@ -50,6 +50,7 @@ pub fn begin<A: Atomic + Drop>(
     ensures standing { IfOk result (λ p. (l : ℕ) → standing_by p.outgoing.items l ≡ None) }
     ensures promised { IfOk result (λ p. (l : ℕ) → promised_by p.outgoing.items l ≡ first_time) }
     ensures clock { IfOk result (λ p. p.clock ≡ first_time) }
+    ensures visits { IfOk result (λ p. (view_by A.behaviour p.local).visits ≡ 0) }
 {
     let sources = Vec::from_slice(alloc, share.sources.as_slice())?;
     let ways = numbers_of(alloc, share.ways.as_slice())?;

@@ -28,6 +28,7 @@ impl Components {
     pub fn count(&mut self, visits: usize)
         ensures components { self.new.running ≡ self.old.running }
         ensures visits { self.new.visits ≡ min (self.old.visits + visits) (2 ^ 64 - 1) }
+        ensures never_fall { self.old.visits ≤ self.new.visits }
     {
         self.visits = self.visits.saturating_add(visits as u64);
     }

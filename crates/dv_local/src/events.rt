@@ -1,12 +1,15 @@
-//! What events bring to an inbox, and the events that deliveries are.
+//! What events bring to an inbox, the events that deliveries are, and the deliveries that arrivals and inputs are.
 
 ghost use Rattle.std.specs.Prelude.{◌≡◌, ◌++◌, IfOk, filter, map};
+ghost use Rattle.std.specs.List.{take_while};
+ghost use Rattle.dv_bag.specs.Inputs.{is_at};
 ghost use Rattle.dv_proc.specs.Packets.{meant_events};
 ghost use Rattle.dv_share.specs.Links.{deliveries_of};
 ghost use Rattle.dv_conservative.specs.Events.{event_of};
-ghost use Rattle.dv_local.specs.Comings.{brings, coming_of};
+ghost use Rattle.dv_local.specs.Comings.{brings, coming_of, delivered_by, entered_by};
 
 use dv_agenda::{Arrival, Coming};
+use dv_bag::Input;
 use dv_proc::Event;
 use dv_share::Delivery;
 use dv_time::Time;
@@ -62,4 +65,50 @@ pub(crate) fn add_events(
         })?;
     }
     Ok(())
+}
+
+/// The deliveries that arrivals are.
+///
+/// # Errors
+///
+/// No memory for them.
+pub(crate) fn deliveries_of(
+    alloc: Global,
+    arrivals: &[Arrival],
+) -> Result<Vec<Delivery>, AllocError>
+    ensures { IfOk result (λ ds. ds.items ≡ map delivered_by arrivals.now) }
+{
+    arrivals
+        .iter()
+        .map(|arrival| Delivery {
+            component: arrival.component,
+            port: arrival.port,
+            value: arrival.value,
+            copies: arrival.copies,
+        })
+        .collect(alloc)
+}
+
+/// The inputs at a time that stand in front, as deliveries to the outside.
+///
+/// # Errors
+///
+/// No memory for them.
+pub(crate) fn entering_at(
+    alloc: Global,
+    inputs: &[Input],
+    now: Time,
+) -> Result<Vec<Delivery>, AllocError>
+    ensures { IfOk result (λ ds. ds.items ≡ map entered_by (take_while (is_at now) inputs.now)) }
+{
+    inputs
+        .iter()
+        .take_while(|input| input.time.tick == now.tick && input.time.micro == now.micro)
+        .map(|input| Delivery {
+            component: 0,
+            port: input.port,
+            value: input.value,
+            copies: 1,
+        })
+        .collect(alloc)
 }

@@ -4,16 +4,17 @@
 
 /// A process as its run begins.
 pub mod beginning;
+mod commit;
 
 /// The components, each access to which is counted.
 pub mod components;
 mod events;
 
-/// What takes place at an instant.
-pub mod happening;
-
 /// What a process asks for.
 pub mod local_run;
+
+/// The lists of an instant.
+pub mod scratch;
 
 /// The share of a process.
 pub mod share;
@@ -27,8 +28,8 @@ mod waiting;
 
 pub use beginning::begin;
 pub use components::Components;
-pub use happening::Happening;
 pub use local_run::LocalRun;
+pub use scratch::Scratch;
 pub use share::{Share, Way};
 pub use state::LocalState;
 pub use undo::Undo;

@@ -89,6 +89,10 @@ impl<A: Atomic + Drop> Local for LocalRun<A> {
         self.state.send(place, now, into)
     }
 
+    fn visits(&self) -> u64 {
+        self.state.components.visits
+    }
+
     fn committed(&self) -> &Part {
         &self.state.committed
     }

@@ -6,28 +6,29 @@ ghost use Rattle.dv_devs.specs.NextTimes.{least_next};
 ghost use Rattle.dv_conservative.specs.Events.{event_of};
 ghost use Rattle.dv_conservative.specs.Process.{Outgoing, end_rank, is_port_of};
 ghost use Rattle.dv_proc.specs.Foreseeing.{IsOfHold, IsOfRunIf, rank_if, ticks_of};
+ghost use Rattle.dv_proc.specs.Accesses.{CountsInstant, IsAfterEmission};
 ghost use Rattle.dv_proc.specs.Local.{IsAfterEvents, IsAfterInstant, IsFirstInput, are_for_ports, carried_away, sent_at};
 ghost use Rattle.dv_proc.specs.Packets.{meant_events};
 ghost use Rattle.dv_bag.specs.Part.{nothing};
 ghost use Rattle.dv_react.specs.Components.{components_of};
 ghost use Rattle.dv_bag.specs.Bag.{Counts};
 ghost use Rattle.dv_share.specs.Share.{AreComponents, AreEmitted};
-ghost use Rattle.dv_local.specs.Happenings.{IsHappening};
 ghost use Rattle.dv_local.specs.Shares.{IsShare, share_by};
 ghost use Rattle.dv_local.specs.States.{IsAtRest, IsKept, sent_of, settled_by, view_by};
 
+use crate::commit::{Moment, commit};
 use crate::components::Components;
-use crate::events::{add_events, comings_of};
-use crate::happening::{Happening, deliveries_of, next_components};
+use crate::events::{add_events, comings_of, deliveries_of};
+use crate::scratch::Scratch;
 use crate::share::Share;
-use crate::undo::{Undo, agenda_of, let_go, put_all_back, put_in};
+use crate::undo::{Undo, agenda_of, let_go, put_all_back};
 use crate::waiting::{earlier, first_held, first_outside, is_taken, outside_at};
 use dv_agenda::{Agenda, Inbox};
 use dv_bag::{Fault, Part, Response, Sent};
 use dv_proc::{Event, Frame};
 use dv_react::{Atomic, Instant, Running};
 use dv_share::tables::place_of;
-use dv_share::{Placed, arrivals, away, emit, entries, outcomes, outer};
+use dv_share::{Placed, arrivals, away, emit, outer};
 use dv_time::Time;
 use std::alloc::{AllocError, Global};
 
@@ -43,6 +44,7 @@ pub struct LocalState<A> {
     pub undo: Undo,
     pub emitted: Vec<Placed<Result<Sent, Fault>>>,
     pub emitted_at: Option<Time>,
+    pub scratch: Scratch,
     pub alloc: Global,
 }
 
@@ -67,6 +69,7 @@ impl<A: Atomic + Drop> LocalState<A> {
             ≡ components_of share.tables.limit running.items) }
         ensures committed { IfOk result (λ x. (view_by A.behaviour x).committed ≡ nothing) }
         ensures held { IfOk result (λ x. (n : ℕ) → (view_by A.behaviour x).held n ≡ []) }
+        ensures visits { IfOk result (λ x. (view_by A.behaviour x).visits ≡ 0) }
         ensures settled { IfOk result (λ x. settled_by A.behaviour x ≡ view_by A.behaviour x) }
     {
         let agenda = agenda_of(alloc, &running)?;
@@ -85,6 +88,7 @@ impl<A: Atomic + Drop> LocalState<A> {
             },
             emitted: Vec::new(alloc),
             emitted_at: None,
+            scratch: Scratch::new(alloc),
             alloc,
         })
     }
@@ -187,7 +191,8 @@ impl<A: Atomic> LocalState<A> {
         ensures kept { IsKept A.behaviour A.fits A.comes self.new }
         ensures sent { OnOk result (sent_of self.new
             ≡ sent_at (view_by A.behaviour self.old) (rank (view_by A.behaviour self.old).share.limit now)) }
-        ensures view { view_by A.behaviour self.new ≡ view_by A.behaviour self.old }
+        ensures found { IsAfterEmission (rank (view_by A.behaviour self.old).share.limit now)
+            (view_by A.behaviour self.old) (view_by A.behaviour self.new) }
         ensures settled { settled_by A.behaviour self.new ≡ settled_by A.behaviour self.old }
         ensures at_rest { IsAtRest self.old → IsAtRest self.new }
         ensures emitted { OnOk result (AreEmitted A.behaviour self.new.share.tables
@@ -200,19 +205,19 @@ impl<A: Atomic> LocalState<A> {
             time: now,
             limit: self.share.tables.limit,
         };
-        let mut due = Vec::new(self.alloc);
-        self.agenda.due(now, &mut due)?;
-        let components = self.components.running.as_slice();
-        let emitted = emit(
+        self.emitted_at = None;
+        self.scratch.due.clear();
+        self.agenda.due(now, &mut self.scratch.due)?;
+        emit(
             self.alloc,
             &self.share.tables,
             work,
             &instant,
-            components,
-            &due,
+            self.components.running.as_slice(),
+            &self.scratch.due,
+            &mut self.emitted,
         )?;
-        self.components.count(due.len());
-        self.emitted = emitted;
+        self.components.count(self.scratch.due.len());
         self.emitted_at = Some(now);
         Ok(())
     }
@@ -232,56 +237,57 @@ impl<A: Atomic> LocalState<A> {
         ensures kept { IsKept A.behaviour A.fits A.comes self.new }
         ensures reacted { OnOk result (IsAfterInstant (rank (view_by A.behaviour self.old).share.limit now)
             (view_by A.behaviour self.old) (view_by A.behaviour self.new)) }
+        ensures visits { OnOk result (CountsInstant
+            (rank (view_by A.behaviour self.old).share.limit now)
+            (view_by A.behaviour self.old) (view_by A.behaviour self.new)) }
         ensures settled { settled_by A.behaviour self.new ≡ settled_by A.behaviour self.old }
     {
         self.settle();
         self.emit(work, now)?;
-        let happening = self.happening(work, now)?;
-        self.undo.before.reserve(happening.next.len())?;
-        self.committed.append(happening.part)?;
-        put_in(
-            &mut self.components,
-            &mut self.agenda,
-            happening.next,
-            &mut self.undo.before,
-        );
         self.emitted_at = None;
-        self.undo.taken = Some(now);
-        Ok(())
-    }
-
-    // What takes place at a time for which was found what is emitted.
-    fn happening(&self, work: &mut A::Work, now: Time) -> Result<Happening, AllocError>
-        requires kept { IsKept A.behaviour A.fits A.comes self.now }
-        requires of_run { IsOfRun self.now.share.tables.limit now }
-        requires before_end { rank self.now.share.tables.limit now
-            < end_rank (view_by A.behaviour self.now).share }
-        requires taken { self.now.undo.taken ≡ None }
-        requires emitted { AreEmitted A.behaviour self.now.share.tables
-            (rank self.now.share.tables.limit now) self.now.components.running.items self.now.emitted.items }
-        ensures happening { IfOk result (λ h. IsHappening A.behaviour A.fits
-            (rank self.now.share.tables.limit now) self.now h) }
-    {
         let tables = &self.share.tables;
         let instant = Instant {
             time: now,
             limit: tables.limit,
         };
-        let components = self.components.running.as_slice();
         let emitted = self.emitted.as_slice();
         let outside = outside_at(self.alloc, &self.share.inputs, self.share.ports, now)?;
         let held = deliveries_of(self.alloc, self.inbox.at(now))?;
-        let received = arrivals(self.alloc, tables, emitted, &outside, &held)?;
-        let outcomes = outcomes(
-            self.alloc, tables, work, &instant, components, emitted, &received,
+        arrivals(
+            self.alloc,
+            tables,
+            emitted,
+            &outside,
+            &held,
+            &mut self.scratch.carried,
+            &mut self.scratch.received,
         )?;
-        let outer = outer(self.alloc, tables, &instant, emitted)?;
-        let entries = entries(self.alloc, &tables.members, &instant, emitted, &outcomes)?;
-        let next = next_components(self.alloc, components, outcomes)?;
-        Ok(Happening {
-            part: Part::from_lists(entries, outer),
-            next,
-        })
+        outer(
+            self.alloc,
+            tables,
+            &instant,
+            emitted,
+            &mut self.scratch.carried,
+            &mut self.committed,
+        )?;
+        let moment = Moment {
+            tables,
+            instant: &instant,
+            emitted,
+            alloc: self.alloc,
+        };
+        commit(
+            &moment,
+            work,
+            &self.scratch.received,
+            &mut self.components,
+            &mut self.agenda,
+            &mut self.committed,
+            &mut self.undo.before,
+        )?;
+        self.components.count(self.undo.before.len());
+        self.undo.taken = Some(now);
+        Ok(())
     }
 
     /// Adds the events of what they send by the outgoing link at a place, at the time that was last asked about.

@@ -61,35 +61,8 @@ pub(crate) fn put_all_back(
     }
 }
 
-/// Puts components in, and what stood in their places into a list in which there is room for it. Each is visited once.
-pub(crate) fn put_in(
-    components: &mut Components,
-    agenda: &mut Agenda,
-    mut next: Vec<Placed<Running>>,
-    before: &mut Vec<Placed<Running>>,
-)
-    requires within { AreWithin (length components.old.running.items) next.items }
-    requires within_before { AreWithin (length components.old.running.items) before.old.items }
-    requires agenda { agenda.old ≡ waits_of components.old.running.items }
-    requires room { vec_len before.old + vec_len next ≤ vec_capacity before.old }
-    ensures components { components.new.running.items ≡ undone next.items components.old.running.items }
-    ensures visits { components.new.visits ≡ min (components.old.visits + length next.items) (2 ^ 64 - 1) }
-    ensures agenda { agenda.new ≡ waits_of components.new.running.items }
-    ensures within { AreWithin (length components.new.running.items) before.new.items }
-    ensures before { undone before.new.items components.new.running.items
-        ≡ undone before.old.items components.old.running.items }
-{
-    components.count(next.len());
-    while let Some(placed) = next.pop() {
-        let place = placed.place;
-        agenda.set(place, time_of(placed.what.wait));
-        let what = components.replace(place, placed.what);
-        push_to_room(before, Placed { place, what });
-    }
-}
-
-// Pushes where there is room.
-fn push_to_room(before: &mut Vec<Placed<Running>>, placed: Placed<Running>)
+/// Pushes where there is room.
+pub(crate) fn push_to_room(before: &mut Vec<Placed<Running>>, placed: Placed<Running>)
     requires { vec_len before.old < vec_capacity before.old }
     ensures items { before.new.items ≡ before.old.items ++ placed ∷ [] }
     ensures len { vec_len before.new ≡ vec_len before.old + 1 }

@@ -3,16 +3,17 @@
 ghost use Rattle.std.specs.Prelude.{◌≡◌, ◌<◌, ◌≤◌, ℕ, [], IfOk, IfSome, MatchOption, false, length, true};
 ghost use Rattle.dv_time.specs.Time.{IsOfRun, is_before, rank};
 ghost use Rattle.dv_time.specs.declared.time.Time.{Time as TimeOfCode};
-ghost use Rattle.std.specs.List.{All, Contains};
-ghost use Rattle.dv_bag.specs.Inputs.{IsByTick, inputs_at, inputs_before};
-ghost use Rattle.dv_bag.specs.declared.inputs.Input.{Input as InputOfCode};
+ghost use Rattle.dv_bag.specs.Inputs.{IsByTime, inputs_at, inputs_before, next_from, time_at};
 ghost use Rattle.dv_agenda.specs.Waits.{sooner};
 ghost use Rattle.dv_agenda.specs.Comings.{arrivals_at};
-ghost use Rattle.dv_local.specs.Undoing.{arrivals_but, is_taken, start_of};
+ghost use Rattle.dv_local.specs.Shares.{AreOfRun};
+ghost use Rattle.dv_local.specs.Undoing.{arrivals_but, is_taken};
 
+use crate::events::entering_at;
 use dv_agenda::Inbox;
 use dv_bag::{Bags, Input, Inputs};
 use dv_proc::window::is_same;
+use dv_share::arrival::bags_of;
 use dv_time::Time;
 use std::alloc::{AllocError, Global};
 
@@ -46,57 +47,52 @@ pub(crate) fn is_taken(taken: Option<Time>, time: Time) -> bool
     }
 }
 
-/// The first time from one on at which inputs come in: they come at the start of their tick.
+/// The first time from one on at which inputs come in, of inputs that are all at times of the run.
 pub(crate) fn first_outside(inputs: &[Input], from: Time) -> Option<Time>
-    requires { IsByTick inputs.now }
-    ensures there { MatchOption result
-        (All (λ (i : InputOfCode). is_before (start_of i.tick) from ≡ true) inputs.now)
-        (λ first. (is_before first from ≡ false)
-        × ((i : InputOfCode) × Contains inputs.now i × (first ≡ start_of i.tick))) }
-    ensures least { IfSome result (λ first. All (λ (i : InputOfCode).
-        is_before (start_of i.tick) from ≡ false → is_before (start_of i.tick) first ≡ false) inputs.now) }
+    requires { IsByTime inputs.now }
+    ensures { (limit : ℕ) → AreOfRun limit inputs.now → result ≡ next_from limit inputs.now from }
 {
-    let place = inputs.partition_point(|input| start_of(input.tick).is_before(from));
-    let input = inputs.get(place)?;
-    Some(start_of(input.tick))
+    let place = inputs_before(inputs, from);
+    time_at(inputs, place)
 }
 
-/// What comes in from outside at a time, a bag for each of so many ports.
+// The time of the input at a place, if there is one.
+fn time_at(inputs: &[Input], place: usize) -> Option<Time>
+    ensures { result ≡ time_at inputs.now place }
+{
+    inputs.get(place).map(|input| input.time)
+}
+
+/// What comes in from outside at a time of the run, a bag for each of so many ports, of inputs that are all at times of it.
+/// What comes in is sorted first, so that each value goes to the end of its bag.
 ///
 /// # Errors
 ///
-/// No memory for the bags.
+/// No memory for what comes in, or for the bags.
 pub(crate) fn outside_at(
     alloc: Global,
     inputs: &Inputs,
     ports: u32,
     now: Time,
 ) -> Result<Bags, AllocError>
+    requires { (limit : ℕ) × IsOfRun limit now × AreOfRun limit inputs.now }
     ensures { IfOk result (λ bags. (limit : ℕ) → IsOfRun limit now
         → bags ≡ inputs_at limit ports inputs.now (rank limit now)) }
 {
-    if now.micro > 0 {
-        let none = Bags::empty(alloc, ports as usize)?;
-        return Ok(none);
-    }
-    let place = inputs_before(inputs.as_slice(), now.tick);
-    let (bags, _) = inputs.bags_at(alloc, ports as usize, now.tick, place)?;
-    Ok(bags)
+    let inputs = inputs.as_slice();
+    let place = inputs_before(inputs, now);
+    let mut entering = entering_at(alloc, &inputs[place..], now)?;
+    entering.sort_unstable();
+    bags_of(alloc, 0, ports, &entering)
 }
 
-// How many inputs are before a tick, by a binary search.
-fn inputs_before(inputs: &[Input], tick: u64) -> usize
-    requires { IsByTick inputs.now }
-    ensures { result ≡ inputs_before inputs.now tick }
+// The place of the first input at a time or after it, by a binary search.
+fn inputs_before(inputs: &[Input], time: Time) -> usize
+    requires { IsByTime inputs.now }
+    ensures place { (limit : ℕ) → AreOfRun limit inputs.now → result ≡ inputs_before limit inputs.now time }
+    ensures within { result ≤ length inputs.now }
 {
-    inputs.partition_point(|input| input.tick < tick)
-}
-
-/// The start of a tick.
-pub(crate) fn start_of(tick: u64) -> Time
-    ensures { result ≡ start_of tick }
-{
-    Time { tick, micro: 0 }
+    inputs.partition_point(|input| input.time.is_before(time))
 }
 
 /// The time that is first, if either is one.

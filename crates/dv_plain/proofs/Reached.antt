@@ -2,10 +2,10 @@
 use Rattle.std.proofs.Common.{◌≡◌, ℕ, suc, ◌+◌, ◌-◌, ◌<◌, ◌≤◌, List, [], map, length, replicate, unwrap_or, Option, Some, None}
 use Rattle.std.proofs.Common.{refl, ap, sym, ◌∙◌, subst, arith}
 use Rattle.std.proofs.lemmas.List.{length-map}
-use Rattle.dv_time.specs.Time.{IsOfRun, end_of, rank}
+use Rattle.dv_time.specs.Time.{IsOfRun, end_of, rank, succ}
 use Rattle.dv_time.specs.declared.time.Time.{Time}
 use Rattle.dv_syntax.specs.Trees.{FileTree}
-use Rattle.dv_bag.specs.Inputs.{inputs_before, tick_at}
+use Rattle.dv_bag.specs.Inputs.{inputs_before, start_of, time_at}
 use Rattle.dv_bag.specs.declared.inputs.Input.{Input}
 use Rattle.dv_devs.specs.Behaviour.{Component}
 use Rattle.dv_devs.specs.Idle.{AllBringNothing, BringsNothing}
@@ -15,10 +15,10 @@ use Rattle.dv_bag.specs.Part.{PartOf, nothing, joined}
 use Rattle.dv_tree.specs.Instances.{Instance, instances}
 use Rattle.dv_tree.specs.Instances.{root_inputs}
 use Rattle.dv_react.specs.declared.running.Running.{Running}
-use Rattle.dv_plain.specs.InputTimes.{inputs_until, start_of_tick}
+use Rattle.dv_plain.specs.InputTimes.{IsOfRunIf, rank_if}
 use Rattle.dv_react.specs.Components.{component_of}
 use Rattle.dv_plain.specs.Source.{behaviour_of, network_of, outside, trace_of}
-use Rattle.dv_plain.proofs.InputWalk.{InputLaws, IsPlace, none_between, place-after, place-now, place-rises, place-start}
+use Rattle.dv_plain.proofs.InputWalk.{InputLaws, IsPlace, none_between, place-after, place-now, place-of_run, place-rises, place-start}
 use Rattle.dv_plain.proofs.Least.{IsFrom-first, IsFrom-second, earlier-from}
 
 -- the components and the trace of a text when every instant before a rank is over
@@ -60,30 +60,35 @@ work-falls e m (Some k) h g = omega arith
 -- from the next instant to the end
 abbrev pub work : ℕ → List Input → ℕ → List Running → ℕ → ℕ
 work limit inputs horizon rs place = end_of limit horizon - unwrap_or
-    (earlier (least_next (map (component_of limit) rs)) (start_of_tick limit (tick_at inputs place))) (end_of limit horizon)
+    (earlier (least_next (map (component_of limit) rs)) (rank_if limit (time_at inputs place))) (end_of limit horizon)
 
-pub reached-start : (limit : ℕ) (f : FileTree) (inputs : List Input) (horizon : ℕ) (rs : List Running) →
-    map (component_of limit) rs ≡ (network_of limit f).start → inputs_before inputs 0 ≡ 0 → Reached limit f inputs horizon rs nothing 0
-reached-start limit f inputs horizon rs e first = record {
+pub reached-start : (limit : ℕ) (f : FileTree) (inputs : List Input) (horizon : ℕ) (rs : List Running) (place : ℕ) →
+    map (component_of limit) rs ≡ (network_of limit f).start → place ≡ inputs_before limit inputs (start_of 0) →
+    Reached limit f inputs horizon rs nothing place
+reached-start limit f inputs horizon rs place e first = record {
   at = 0;
   within = omega arith;
   components = sym e;
   trace = refl;
-  walked = place-start limit inputs first;
+  walked = place-start limit inputs place first;
 }
 
 module _ (limit : ℕ) (f : FileTree) (inputs : List Input) (horizon : ℕ) (laws : Laws limit f inputs) where
   abbrev next_of : List Running → ℕ → Option ℕ
-  next_of rs place = earlier (least_next (map (component_of limit) rs)) (start_of_tick limit (tick_at inputs place))
+  next_of rs place = earlier (least_next (map (component_of limit) rs)) (rank_if limit (time_at inputs place))
 
   -- the next instant is not past
   next-rises : (rs : List Running) (t : PartOf) (place : ℕ) (r : Reached limit f inputs horizon rs t place) → IsFrom r.at (next_of rs place)
   next-rises rs t place r =
-      earlier-from r.at (least_next (map (component_of limit) rs)) (start_of_tick limit (tick_at inputs place))
+      earlier-from r.at (least_next (map (component_of limit) rs)) (rank_if limit (time_at inputs place))
       (subst (λ cs. IsFrom r.at (least_next cs)) r.components (laws.rises r.at))
       (place-rises limit (length (root_inputs f)) inputs r.at place laws.coming r.walked)
 
   module _ (rs : List Running) (t : PartOf) (place : ℕ) (r : Reached limit f inputs horizon rs t place) where
+    -- the next input to which the run comes is at a time of it
+    pub reached-coming : IsOfRunIf limit (time_at inputs place)
+    reached-coming = place-of_run limit (length (root_inputs f)) inputs r.at place laws.coming r.walked
+
     -- a component for each of the text's
     pub reached-matched : length rs ≡ length (instances f)
     reached-matched =
@@ -94,14 +99,14 @@ module _ (limit : ℕ) (f : FileTree) (inputs : List Input) (horizon : ℕ) (law
       least-from : IsFrom m (least_next (components_to limit f inputs r.at))
       least-from =
           subst (λ cs. IsFrom m (least_next cs)) (sym r.components)
-          (IsFrom-first m (least_next (map (component_of limit) rs)) (start_of_tick limit (tick_at inputs place)) from)
+          (IsFrom-first m (least_next (map (component_of limit) rs)) (rank_if limit (time_at inputs place)) from)
 
       -- before the next instant nothing comes in
       none-come : AllBringNothing (network_of limit f) (outside f limit inputs) r.at m
       none-come k low high =
           subst (BringsNothing (network_of limit f))
-          (sym (none_between limit (length (root_inputs f)) inputs r.at place m k laws.coming r.walked
-          (IsFrom-second m (least_next (map (component_of limit) rs)) (start_of_tick limit (tick_at inputs place)) from) low high))
+          (sym (none_between limit (length (root_inputs f)) inputs r.at place laws.coming r.walked m k
+          (IsFrom-second m (least_next (map (component_of limit) rs)) (rank_if limit (time_at inputs place)) from) low high))
           laws.none
 
       -- and all stays
@@ -123,17 +128,17 @@ module _ (limit : ℕ) (f : FileTree) (inputs : List Input) (horizon : ℕ) (law
       at-next = subst (IsFrom (rank limit now)) least (omega arith)
 
       -- the place in the inputs is that of the next instant
-      pub reached-place : place ≡ inputs_until inputs now
+      pub reached-place : place ≡ inputs_before limit inputs now
       reached-place =
-          place-now limit (length (root_inputs f)) inputs r.at place now laws.coming r.walked run not-past
-          (IsFrom-second (rank limit now) (least_next (map (component_of limit) rs)) (start_of_tick limit (tick_at inputs place)) at-next)
+          place-now limit (length (root_inputs f)) inputs r.at place laws.coming r.walked now run not-past
+          (IsFrom-second (rank limit now) (least_next (map (component_of limit) rs)) (rank_if limit (time_at inputs place)) at-next)
 
       module _ (new : List Running) (more : PartOf) (after : ℕ) (within : rank limit now < end_of limit horizon)
           (change : map (component_of limit) new ≡ components_after limit (network_of limit f) (rank limit now)
           (outside f limit inputs (rank limit now)) (map (component_of limit) rs))
           (part : more ≡ joined t (part_of_instant limit (network_of limit f) (rank limit now) (outside f limit inputs (rank limit now))
           (map (component_of limit) rs)))
-          (past : after ≡ inputs_before inputs (now.tick + 1)) where
+          (past : after ≡ inputs_before limit inputs (succ limit now)) where
         -- the components after the next instant
         step-components : components_to limit f inputs (suc (rank limit now)) ≡ map (component_of limit) new
         step-components =

@@ -1,13 +1,12 @@
 -- When inputs come from outside, as a run walks to them.
-use Rattle.std.specs.Prelude.{ℕ, ◌+◌, ◌*◌, nat_eq, if◌then◌else◌, List, Option, option_map}
+use Rattle.std.specs.Prelude.{ℕ, Option, option_map, IfSome}
+use Rattle.dv_time.specs.Time.{IsOfRun, rank}
 use Rattle.dv_time.specs.declared.time.Time.{Time}
-use Rattle.dv_bag.specs.Inputs.{inputs_before}
-use Rattle.dv_bag.specs.declared.inputs.Input.{Input}
 
--- the rank of the start of a tick, if there is one
-abbrev pub start_of_tick : ℕ → Option ℕ → Option ℕ
-start_of_tick limit tick = option_map (λ n. n * (limit + 1)) tick
+-- the rank of a time, if there is one
+abbrev pub rank_if : ℕ → Option Time → Option ℕ
+rank_if limit t = option_map (rank limit) t
 
--- how many inputs come before a time: each comes at the start of its tick
-abbrev pub inputs_until : List Input → Time → ℕ
-inputs_until inputs t = inputs_before inputs (if nat_eq t.micro 0 then t.tick else t.tick + 1)
+-- a time, if there is one, is one of the run
+abbrev pub IsOfRunIf : ℕ → Option Time → Type 0
+IsOfRunIf limit t = IfSome t (IsOfRun limit)

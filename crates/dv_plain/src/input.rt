@@ -1,29 +1,32 @@
 //! What comes in from outside, and when.
 
-ghost use Rattle.std.specs.Prelude.{◌≡◌, ℕ, ◌+◌, IfOk};
-ghost use Rattle.dv_time.specs.Time.{IsOfRun, next_rank, rank};
-ghost use Rattle.dv_bag.specs.Inputs.{inputs_at, inputs_before, tick_at};
-ghost use Rattle.dv_plain.specs.InputTimes.{inputs_until, start_of_tick};
-ghost use Rattle.dv_react.specs.Components.{IsNextOfRun};
+ghost use Rattle.std.specs.Prelude.{◌≡◌, ℕ, ◌≤◌, IfOk};
+ghost use Rattle.dv_time.specs.Time.{IsOfRun, next_rank, succ};
+ghost use Rattle.dv_time.specs.declared.TheConstants.{GREATEST_TICK};
+ghost use Rattle.dv_bag.specs.Inputs.{inputs_at, inputs_before, time_at};
+ghost use Rattle.dv_plain.specs.InputTimes.{IsOfRunIf, rank_if};
+ghost use Rattle.dv_react.specs.Components.{IsNextOfRun, rank_of};
 
 use dv_bag::{Bags, Inputs};
-use dv_time::{Next, Time};
+use dv_react::Instant;
+use dv_time::Next;
 use std::alloc::{AllocError, Global};
 
-/// When the input at a place comes in: at the start of its tick.
+/// When the input at a place comes in.
 pub fn next_input(inputs: &Inputs, place: usize) -> Next
     ensures rank { (limit : ℕ)
-        → next_rank limit result ≡ start_of_tick limit (tick_at inputs.now place) }
-    ensures of_run { (limit : ℕ) → IsNextOfRun limit result }
+        → next_rank limit result ≡ rank_if limit (time_at inputs.now place) }
+    ensures of_run { (limit : ℕ) → IsOfRunIf limit (time_at inputs.now place)
+        → IsNextOfRun limit result }
 {
-    match inputs.next_tick(place) {
-        Some(tick) => Next::At(Time { tick, micro: 0 }),
+    match inputs.next_time(place) {
+        Some(time) => Next::At(time),
         None => Next::Never,
     }
 }
 
-/// What comes in at a time, a bag for each of so many ports, and the place of the first input past that time. The place
-/// that is given is that of the first input that is not before it.
+/// What comes in at an instant, a bag for each of so many ports, and the place of the first input to which the run comes
+/// past it. The place that is given is that of the first to which it comes then or later.
 ///
 /// # Errors
 ///
@@ -32,16 +35,19 @@ pub fn input_at(
     alloc: Global,
     inputs: &Inputs,
     ports: usize,
-    now: Time,
+    instant: &Instant,
     place: usize,
 ) -> Result<(Bags, usize), AllocError>
-    requires { place ≡ inputs_until inputs.now now }
-    ensures bags { IfOk result (λ r. (limit : ℕ) → IsOfRun limit now
-        → r.0 ≡ inputs_at limit ports inputs.now (rank limit now)) }
-    ensures after { IfOk result (λ r. r.1 ≡ inputs_before inputs.now (now.tick + 1)) }
+    requires within { instant.now.time.tick ≤ GREATEST_TICK }
+    requires of_run { IsOfRun instant.now.limit instant.now.time }
+    requires place { place ≡ inputs_before instant.now.limit inputs.now instant.now.time }
+    ensures bags { IfOk result (λ r.
+        r.0 ≡ inputs_at instant.now.limit ports inputs.now (rank_of instant.now)) }
+    ensures after { IfOk result (λ r.
+        r.1 ≡ inputs_before instant.now.limit inputs.now (succ instant.now.limit instant.now.time)) }
 {
-    if now.micro > 0 {
-        return Ok((Bags::empty(alloc, ports)?, place));
-    }
-    inputs.bags_at(alloc, ports, now.tick, place)
+    let bags = inputs.bags_at(alloc, ports, instant.time, place)?;
+    let next = instant.time.succ(instant.limit);
+    let after = inputs.place_from(place, next, instant.limit);
+    Ok((bags, after))
 }

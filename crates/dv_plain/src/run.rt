@@ -1,14 +1,15 @@
 //! The run of a resultant.
 
-ghost use Rattle.std.specs.Prelude.{◌≡◌, ℕ, ◌+◌, ◌≤◌, IfOk, Some, length};
-ghost use Rattle.dv_time.specs.Time.{IsOfRun, next_rank, rank};
+ghost use Rattle.std.specs.Prelude.{◌≡◌, ℕ, ◌≤◌, IfOk, Some, length};
+ghost use Rattle.dv_time.specs.Time.{IsOfRun, next_rank, rank, succ};
+ghost use Rattle.dv_time.specs.declared.TheConstants.{GREATEST_TICK};
 ghost use Rattle.dv_syntax.specs.Trees.{atomic_of, file_of};
-ghost use Rattle.dv_bag.specs.Inputs.{inputs_before, tick_at};
+ghost use Rattle.dv_bag.specs.Inputs.{inputs_before, time_at};
 ghost use Rattle.dv_bag.specs.Part.{joined};
 ghost use Rattle.dv_devs.specs.NextTimes.{earlier, least_next};
 ghost use Rattle.dv_devs.specs.Network.{components_after, part_of_instant};
 ghost use Rattle.dv_tree.specs.Instances.{instances};
-ghost use Rattle.dv_plain.specs.InputTimes.{inputs_until, start_of_tick};
+ghost use Rattle.dv_plain.specs.InputTimes.{IsOfRunIf, rank_if};
 ghost use Rattle.dv_react.specs.Components.{AreWaitsOfRun, IsNextOfRun, IsWaitOfRun, component_of, components_of, next_of_wait, rank_of};
 ghost use Rattle.dv_plain.specs.Source.{network_of, outside, start_of, trace_of};
 
@@ -16,7 +17,7 @@ use crate::atom::Atom;
 use crate::input::{input_at, next_input};
 use crate::laws::networks_of_texts;
 use crate::network::run_instant;
-use dv_bag::inputs::laws::{nothing_comes_in_between, places_follow_ticks};
+use dv_bag::inputs::laws::{nothing_comes_in_between, places_follow_times};
 use dv_bag::{Bags, Inputs, Part, Trace};
 use dv_devs::laws::runs;
 use dv_eval::start_state;
@@ -50,13 +51,13 @@ pub fn resultant_run(
     networks_of_texts();
     runs::next_times_rise::<Bags>();
     runs::next_instant_is_the_least_next_time::<Bags>();
-    // Nor does an input come in between, nor is one missed, since ticks never fall.
-    places_follow_ticks();
+    // Nor does an input come in between, nor is one missed, since times never fall.
+    places_follow_times();
     nothing_comes_in_between();
     let _ = inputs.as_slice();
     let mut components = begin(alloc, tree, limit)?;
     let mut trace = Part::new(alloc);
-    let mut place = 0;
+    let mut place = inputs.place_from(0, Time::ZERO, limit);
     'instants: while let Next::At(now) = next_instant(&components, inputs, place) {
         if now.tick > horizon {
             break;
@@ -75,7 +76,7 @@ pub fn resultant_run(
     Ok(trace)
 }
 
-// One instant, with what comes in then. It gives the place of the first input past it.
+// One instant, with what comes in then. It gives the place of the first input to which the run comes past it.
 fn play(
     alloc: Global,
     tree: &Tree,
@@ -87,7 +88,9 @@ fn play(
 ) -> Result<usize, AllocError>
     requires matched { length components.old ≡ length (instances (file_of tree.now.file)) }
     requires waits { AreWaitsOfRun instant.now.limit components.old }
-    requires place { place ≡ inputs_until inputs.now instant.now.time }
+    requires within { instant.now.time.tick ≤ GREATEST_TICK }
+    requires of_run { IsOfRun instant.now.limit instant.now.time }
+    requires place { place ≡ inputs_before instant.now.limit inputs.now instant.now.time }
     ensures components { IfOk result (λ after. components_of instant.now.limit components.new
         ≡ components_after instant.now.limit (network_of instant.now.limit (file_of tree.now.file))
         (rank_of instant.now)
@@ -100,10 +103,11 @@ fn play(
         (components_of instant.now.limit components.old))) }
     ensures waits { IfOk result (λ after. AreWaitsOfRun instant.now.limit components.new) }
     ensures after { IfOk result (λ after.
-        after ≡ inputs_before inputs.now (instant.now.time.tick + 1)) }
+        after ≡ inputs_before instant.now.limit inputs.now
+        (succ instant.now.limit instant.now.time)) }
 {
     let ports = tree.input_count();
-    let (input, after) = input_at(alloc, inputs, ports, instant.time, place)?;
+    let (input, after) = input_at(alloc, inputs, ports, instant, place)?;
     run_instant(alloc, tree, instant, &input, components, trace)?;
     Ok(after)
 }
@@ -135,10 +139,12 @@ fn start(alloc: Global, limit: u32, atom: &Atom) -> Result<Running, AllocError>
 // The next instant at which anything may happen: the least of the components' next times and that of the input at a
 // place.
 fn next_instant(components: &[Running], inputs: &Inputs, place: usize) -> Next
-    ensures least { (limit : ℕ) → AreWaitsOfRun limit components.now → next_rank limit result
+    ensures least { (limit : ℕ) → AreWaitsOfRun limit components.now
+        → IsOfRunIf limit (time_at inputs.now place) → next_rank limit result
         ≡ earlier (least_next (components_of limit components.now))
-        (start_of_tick limit (tick_at inputs.now place)) }
-    ensures of_run { (limit : ℕ) → AreWaitsOfRun limit components.now → IsNextOfRun limit result }
+        (rank_if limit (time_at inputs.now place)) }
+    ensures of_run { (limit : ℕ) → AreWaitsOfRun limit components.now
+        → IsOfRunIf limit (time_at inputs.now place) → IsNextOfRun limit result }
 {
     let next = next_time(components);
     match next_input(inputs, place) {

@@ -13,6 +13,6 @@ pub mod Alike
 -- How many links between processes there are.
 pub mod Few
 -- The inputs that are kept.
-pub mod Ticks
+pub mod KeptInputs
 -- Links to a process that is not there.
 pub mod Between

@@ -1,13 +1,13 @@
 -- What comes from outside and leads to no component of a share makes no difference to it.
-use Rattle.std.proofs.Common.{◌≡◌, ◌⊎◌, ℕ, zero, suc, ◌+◌, ◌*◌, ◌<◌, ◌≤◌, Bool, true, false, ◌&&◌, ◌||◌, cond, nat_eq, nat_lt, List, [], ◌∷◌, ◌++◌, map, filter, inl, inr, refl, ap, sym, ◌∙◌, arith}
-use Rattle.std.specs.Prelude.{replicate}
+use Rattle.std.proofs.Common.{◌≡◌, ◌⊎◌, ℕ, zero, suc, ◌+◌, ◌*◌, ◌<◌, ◌≤◌, Bool, true, false, ◌&&◌, ◌||◌, cond, nat_eq, nat_le, nat_lt, List, [], ◌∷◌, ◌++◌, map, filter, inl, inr, refl, ap, sym, ◌∙◌, arith}
 use Rattle.std.specs.List.{AllByRecursion}
 use Rattle.std.proofs.Math.Nat.{mul-zero}
-use Rattle.std.proofs.lemmas.Bool.{cases_Bool, cases_lt, eq-eqb, false≢true}
+use Rattle.std.proofs.lemmas.Bool.{and_parts, cases_Bool, cases_lt, eq-eqb, eqb-true, false≢true}
 use Rattle.std.proofs.lemmas.Bool.Decides.{nat_tests}
-use Rattle.dv_time.specs.Time.{micro_of, tick_of}
+use Rattle.dv_time.specs.Time.{micro_of, tick_of, time_of}
+use Rattle.dv_time.specs.declared.time.Time.{Time}
 use Rattle.dv_bag.specs.Bag.{Counts, bag_at, capped, with_copies}
-use Rattle.dv_bag.specs.Inputs.{bags_at, bags_from, inputs_at, values_into}
+use Rattle.dv_bag.specs.Inputs.{bags_from, inputs_at, is_at, values_into}
 use Rattle.dv_bag.specs.declared.inputs.Input.{Input}
 use Rattle.dv_devs.specs.Behaviour.{Behaviour}
 use Rattle.dv_devs.specs.Inputs.{ArriveAlike}
@@ -17,7 +17,7 @@ use Rattle.dv_conservative.specs.Links.{Delivery, Link, carried, carried_by, del
 use Rattle.dv_conservative.specs.Process.{is_port_of}
 use Rattle.dv_share.specs.Share.{member_by}
 use Rattle.dv_share.specs.declared.tables.Member.{Member as MemberOfCode}
-use Rattle.dv_plan.specs.Steps.{is_led, is_port, leads, led_inputs}
+use Rattle.dv_plan.specs.Steps.{comes_here, is_led, is_port, leads, led_inputs}
 use Rattle.dv_plan.proofs.Lists.{all_weaken}
 
 -- the ports of components, as the theory has them
@@ -31,49 +31,57 @@ or_true : (a b : Bool) → b ≡ true → (a || b) ≡ true
 or_true true b h = refl
 or_true false b h = h
 
--- the bag of a port, of whose inputs none is left out
-module _ (tick : ℕ) (test : Input → Bool) where
-  values_kept : (port : ℕ) → ((i : Input) → i.port ≡ port → test i ≡ true) → (inputs : List Input) (b : Counts) →
-      values_into tick port (filter test inputs) b ≡ values_into tick port inputs b
+and_false : (a b : Bool) → b ≡ false → (a && b) ≡ false
+and_false true b h = h
+and_false false b h = refl
+
+-- the bag of a port at a time, of whose inputs then none is left out
+module _ (t : Time) (test : Input → Bool) where
+  values_kept : (port : ℕ) → ((i : Input) → is_at t i ≡ true → i.port ≡ port → test i ≡ true) → (inputs : List Input) (b : Counts) →
+      values_into t port (filter test inputs) b ≡ values_into t port inputs b
   values_kept port passes [] b = refl
   values_kept port passes (i ∷ inputs) b = by_test (test i) refl (values_kept port passes inputs)
     where
-      missed : test i ≡ false → nat_eq i.port port ≡ false
-      missed e = elim (cases_Bool (nat_eq i.port port)) [
-        | inl t ↦ let same : i.port ≡ port = grind (arith, nat_tests) in absurd (false≢true (sym e ∙ passes i same))
-        | inr f ↦ f
+      missed : test i ≡ false → (is_at t i && nat_eq i.port port) ≡ false
+      missed e = elim (cases_Bool (is_at t i)) [
+        | inr f ↦ ap (λ (a : Bool). a && nat_eq i.port port) f
+        | inl here ↦ elim (cases_Bool (nat_eq i.port port)) [
+          | inl u ↦ let same : i.port ≡ port = eqb-true i.port port u in absurd (false≢true (sym e ∙ passes i here same))
+          | inr f ↦ and_false (is_at t i) (nat_eq i.port port) f
+        ]
       ]
 
-      by_port : (t u : Bool) → u ≡ false → values_into tick port inputs b ≡ values_into tick port inputs (cond (t && u) (with_copies i.value 1 b) b)
-      by_port true u e = ap (λ c. values_into tick port inputs (cond c (with_copies i.value 1 b) b)) (sym e)
-      by_port false u e = refl
+      by_test : (c : Bool) → test i ≡ c → ((d : Counts) → values_into t port (filter test inputs) d ≡ values_into t port inputs d) →
+          values_into t port (cond c (i ∷ filter test inputs) (filter test inputs)) b ≡ values_into t port (i ∷ inputs) b
+      by_test true e rest = rest (cond (is_at t i && nat_eq i.port port) (with_copies i.value 1 b) b)
+      by_test false e rest =
+          rest b ∙ ap (λ (c : Bool). values_into t port inputs (cond c (with_copies i.value 1 b) b)) (sym (missed e))
 
-      by_test : (c : Bool) → test i ≡ c → ((d : Counts) → values_into tick port (filter test inputs) d ≡ values_into tick port inputs d) →
-          values_into tick port (cond c (i ∷ filter test inputs) (filter test inputs)) b ≡ values_into tick port (i ∷ inputs) b
-      by_test true e rest = rest (cond (nat_eq i.tick tick && nat_eq i.port port) (with_copies i.value 1 b) b)
-      by_test false e rest = rest b ∙ by_port (nat_eq i.tick tick) (nat_eq i.port port) (missed e)
-
-  same_bag : (first ports k : ℕ) (inputs : List Input) → (k < ports → (i : Input) → i.port ≡ first + k → test i ≡ true) →
-      bag_at (bags_from first ports (filter test inputs) tick) k ≡ bag_at (bags_from first ports inputs tick) k
+  same_bag : (first ports k : ℕ) (inputs : List Input) →
+      (k < ports → (i : Input) → is_at t i ≡ true → i.port ≡ first + k → test i ≡ true) →
+      bag_at (bags_from first ports (filter test inputs) t) k ≡ bag_at (bags_from first ports inputs t) k
   same_bag first zero k inputs h = refl
   same_bag first (suc ports) zero inputs h =
       let here : first + 0 ≡ first = omega arith in
-      values_kept first (λ i e. h (omega arith) i (e ∙ sym here)) inputs []
+      values_kept first (λ i a e. h (omega arith) i a (e ∙ sym here)) inputs []
   same_bag first (suc ports) (suc k) inputs h =
       let moved : first + 1 + k ≡ first + suc k = omega arith in
-      same_bag (first + 1) ports k inputs (λ lt i e. h (omega (arith, lt)) i (e ∙ moved))
+      same_bag (first + 1) ports k inputs (λ lt i a e. h (omega (arith, lt)) i a (e ∙ moved))
 
-bag_of_rank : (test : Input → Bool) (limit ports k n : ℕ) (inputs : List Input) → (k < ports → (i : Input) → i.port ≡ k → test i ≡ true) →
+bag_of_rank : (test : Input → Bool) (limit ports k n : ℕ) (inputs : List Input) →
+    (k < ports → (i : Input) → is_at (time_of limit n) i ≡ true → i.port ≡ k → test i ≡ true) →
     bag_at (inputs_at limit ports (filter test inputs) n) k ≡ bag_at (inputs_at limit ports inputs n) k
-bag_of_rank test limit ports k n inputs h = by_test (nat_eq (micro_of limit n) 0)
-  where
-    start : 0 + k ≡ k
-    start = omega arith
+bag_of_rank test limit ports k n inputs h =
+    let start : 0 + k ≡ k = omega arith in
+    same_bag (time_of limit n) test 0 ports k inputs (λ lt i a e. h lt i a (e ∙ start))
 
-    by_test : (t : Bool) → bag_at (cond t (bags_at ports (filter test inputs) (tick_of limit n)) (replicate ports [])) k
-        ≡ bag_at (cond t (bags_at ports inputs (tick_of limit n)) (replicate ports [])) k
-    by_test true = same_bag (tick_of limit n) test 0 ports k inputs (λ lt i e. h lt i (e ∙ start))
-    by_test false = refl
+-- an input at a rank is at a time of the run
+within_limit : (limit n : ℕ) (i : Input) → is_at (time_of limit n) i ≡ true → nat_le i.time.micro limit ≡ true
+within_limit limit n i e =
+    let both = and_parts (nat_eq i.time.tick (tick_of limit n)) (nat_eq i.time.micro (micro_of limit n)) e in
+    let same = eqb-true i.time.micro (micro_of limit n) both.1 in
+    let within : i.time.micro ≤ limit = omega (arith, same) in
+    grind (arith, nat_tests)
 
 module _ (k port : ℕ) where
   -- a link to another port brings nothing
@@ -176,16 +184,16 @@ received_same (m ∷ ms) ds es h =
 module _ (f : Flat) (ms : List MemberOfCode) (same : (k q : ℕ) → is_port ms k q ≡ is_port_of f.members k q)
     (limit ports : ℕ) (inputs : List Input) (n : ℕ) where
   abbrev few : List Counts
-  few = inputs_at limit ports (led_inputs ports ms f.entrances inputs) n
+  few = inputs_at limit ports (led_inputs limit ports ms f.entrances inputs) n
 
   abbrev all : List Counts
   all = inputs_at limit ports inputs n
 
   led_port : (q : ℕ) → is_led ms f.entrances q ≡ true → bag_at few q ≡ bag_at all q
   led_port q led =
-      bag_of_rank (λ (i : Input). nat_lt i.port ports && is_led ms f.entrances i.port) limit ports q n inputs (λ lt i e.
+      bag_of_rank (comes_here limit ports ms f.entrances) limit ports q n inputs (λ lt i a e.
       let below : nat_lt i.port ports ≡ true = grind (arith, nat_tests) in
-      rw below (ap (is_led ms f.entrances) e ∙ led))
+      rw (within_limit limit n i a, below) (ap (is_led ms f.entrances) e ∙ led))
 
   agree : (k q : ℕ) → is_port ms k q ≡ true → AllByRecursion (Agrees k q few all) f.entrances
   agree k q there =

@@ -1,11 +1,12 @@
 -- What is made of the components of a process is its share of the job.
-use Rattle.std.proofs.Common.{◌≡◌, inl, inr, [], ◌∷◌, ◌++◌, Some, ℕ, ◌<◌, ◌≤◌, Bool, true, false, ◌&&◌, nat_eq, nat_lt, List, length, map, get_or, Option, None, refl, ap, sym, ◌∙◌, subst, arith, zero-add}
+use Rattle.std.proofs.Common.{◌≡◌, inl, inr, [], ◌∷◌, ◌++◌, Some, ℕ, ◌<◌, ◌≤◌, Bool, true, false, ◌&&◌, nat_eq, nat_le, nat_lt, List, length, map, get_or, Option, None, refl, ap, sym, ◌∙◌, subst, arith, zero-add}
 use Rattle.std.specs.List.{All, Contains, range_with_len, slice_get}
 use Rattle.std.proofs.lemmas.Bool.{false≢true}
 use Rattle.std.proofs.lemmas.Bool.Decides.{nat_tests}
 use Rattle.std.proofs.lemmas.List.Elements.{filter_passes}
 use Rattle.std.proofs.lemmas.List.FromFn.{get_or-map-range_with_len}
 use Rattle.dv_bag.specs.Bag.{Counts}
+use Rattle.dv_time.specs.Time.{IsOfRun}
 use Rattle.dv_time.specs.declared.TheConstants.{GREATEST_LIMIT, GREATEST_TICK}
 use Rattle.dv_bag.specs.Inputs.{inputs_at}
 use Rattle.dv_bag.specs.declared.inputs.Input.{Input}
@@ -20,7 +21,7 @@ use Rattle.dv_conservative.specs.World.{Job, incoming_from, outgoing_from, share
 use Rattle.dv_share.specs.Share.{flat_by, member_by}
 use Rattle.dv_share.specs.declared.tables.Member.{Member}
 use Rattle.dv_proc.specs.Foreseeing.{ticks_of}
-use Rattle.dv_local.specs.Shares.{IsLed, IsShare, IsPortOf, outgoing_of, share_by}
+use Rattle.dv_local.specs.Shares.{AreOfRun, IsLed, IsShare, IsPortOf, outgoing_of, share_by}
 use Rattle.dv_local.specs.declared.share.Share.{Share}
 use Rattle.dv_partition.specs.Groups.{Grouping, owner_of}
 use Rattle.dv_cut.specs.Channels.{away_of}
@@ -28,7 +29,7 @@ use Rattle.dv_cut.specs.declared.channels.Away.{Away}
 use Rattle.dv_cut.specs.Cuts.{CutOf, between, entrances_to, exits_from, owned_by}
 use Rattle.dv_plan.specs.Alike.{with_outside}
 use Rattle.dv_plan.specs.Plans.{IsShareOf}
-use Rattle.dv_plan.specs.Steps.{AreMade, IsCommonOf, IsMadeOf, is_led, is_port, leads, led_inputs, members_of, way_of}
+use Rattle.dv_plan.specs.Steps.{AreMade, IsCommonOf, IsMadeOf, comes_here, is_led, is_port, leads, led_inputs, members_of, way_of}
 use Rattle.dv_plan.specs.Wholes.{AreMembers, IsMember, IsWhole, job_by}
 use Rattle.dv_plan.specs.declared.share.Common.{Common}
 use Rattle.dv_plan.specs.declared.whole.Whole.{Whole}
@@ -46,6 +47,9 @@ equal a b h = grind (arith, nat_tests)
 
 less : (a b : ℕ) → nat_lt a b ≡ true → a < b
 less a b h = grind (arith, nat_tests)
+
+at_most : (a b : ℕ) → nat_le a b ≡ true → a ≤ b
+at_most a b h = grind (arith, nat_tests)
 
 port_of : (ms : List Member) (k port : ℕ) → is_port ms k port ≡ true → IsPortOf ms k port
 port_of ms k port h =
@@ -125,16 +129,23 @@ module _ {S : Type 0} (behaviour : S → Behaviour) (fits : S → State → Type
       ∙ ap (λ (rs : List (Option ℕ)). get_or rs p None) common.responses
       ∙ get_or-map-range_with_len (λ q. least_response (owner_of g) q 0 (map ticks_of w.responses.items)) 0 g.processes p p None there (zero-add p)
 
-  inputs_same : s.inputs ≡ led_inputs w.ports own target.entrances w.inputs
+  inputs_same : s.inputs ≡ led_inputs w.limit w.ports own target.entrances w.inputs
   inputs_same =
       made.inputs
-      ∙ ap (λ (n : ℕ). led_inputs n own (entrances_to c.cut.now p) c.inputs.now) common.ports
-      ∙ ap (λ (k : CutOf). led_inputs w.ports own (entrances_to k p) c.inputs.now) common.cut
-      ∙ ap (led_inputs w.ports own target.entrances) common.inputs
+      ∙ ap (λ (n : ℕ). led_inputs n c.ports own (entrances_to c.cut.now p) c.inputs.now) common.limit
+      ∙ ap (λ (n : ℕ). led_inputs w.limit n own (entrances_to c.cut.now p) c.inputs.now) common.ports
+      ∙ ap (λ (k : CutOf). led_inputs w.limit w.ports own (entrances_to k p) c.inputs.now) common.cut
+      ∙ ap (led_inputs w.limit w.ports own target.entrances) common.inputs
 
-  led_one : (i : Input) → (nat_lt i.port w.ports && is_led own target.entrances i.port) ≡ true → IsLed s i
+  run_one : (i : Input) → comes_here w.limit w.ports own target.entrances i ≡ true → IsOfRun s.tables.limit i.time
+  run_one i e =
+      let within = (both_true (nat_le i.time.micro w.limit) (nat_lt i.port w.ports && is_led own target.entrances i.port) e).0 in
+      subst (λ (n : ℕ). i.time.micro ≤ n) (sym limit) (at_most i.time.micro w.limit within)
+
+  led_one : (i : Input) → comes_here w.limit w.ports own target.entrances i ≡ true → IsLed s i
   led_one i e =
-      let both = both_true (nat_lt i.port w.ports) (is_led own target.entrances i.port) e in
+      let here = (both_true (nat_le i.time.micro w.limit) (nat_lt i.port w.ports && is_led own target.entrances i.port) e).1 in
+      let both = both_true (nat_lt i.port w.ports) (is_led own target.entrances i.port) here in
       let some = any_some (λ (l : Link). nat_eq l.from_port i.port && leads own l) target.entrances both.1 in
       let l = some.0 in
       let from = both_true (nat_eq l.from_port i.port) (leads own l) some.2 in
@@ -156,7 +167,11 @@ module _ {S : Type 0} (behaviour : S → Behaviour) (fits : S → State → Type
     horizon = subst (λ (n : ℕ). n ≤ GREATEST_TICK) (sym (made.horizon ∙ common.horizon)) h.horizon;
     hold = least_hold (owner_of g) p w.responses.items s.response h.holds response_same;
     led = subst (λ (is : List Input). All (IsLed s) is) (sym inputs_same) (λ k d lt.
-        led_one (get_or (led_inputs w.ports own target.entrances w.inputs) k d) (filter_passes (λ (i : Input). nat_lt i.port w.ports && is_led own target.entrances i.port) w.inputs k d lt));
+        led_one (get_or (led_inputs w.limit w.ports own target.entrances w.inputs) k d)
+        (filter_passes (comes_here w.limit w.ports own target.entrances) w.inputs k d lt));
+    of_run = subst (λ (is : List Input). AreOfRun s.tables.limit is) (sym inputs_same) (λ k d lt.
+        run_one (get_or (led_inputs w.limit w.ports own target.entrances w.inputs) k d)
+        (filter_passes (comes_here w.limit w.ports own target.entrances) w.inputs k d lt));
   }
 
   same : share_by behaviour s ≡ with_outside (share_by behaviour s).outside (share_of job p)
@@ -175,7 +190,7 @@ module _ {S : Type 0} (behaviour : S → Behaviour) (fits : S → State → Type
       ∙ ap (outgoing_from job p 0) common.links)
       ∙ ap (λ (r : Option ℕ). share_with w.limit w.horizon target out t.incoming t.outgoing r) response_same
 
-  outside_same : (n : ℕ) → inputs_at s.tables.limit s.ports s.inputs n ≡ inputs_at w.limit w.ports (led_inputs w.ports own target.entrances w.inputs) n
+  outside_same : (n : ℕ) → inputs_at s.tables.limit s.ports s.inputs n ≡ inputs_at w.limit w.ports (led_inputs w.limit w.ports own target.entrances w.inputs) n
   outside_same n =
       ap (λ (l : ℕ). inputs_at l s.ports s.inputs n) limit
       ∙ ap (λ (q : ℕ). inputs_at w.limit q s.inputs n) ports

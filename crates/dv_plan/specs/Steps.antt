@@ -1,5 +1,5 @@
 -- What each part of the code does.
-use Rattle.std.specs.Prelude.{◌≡◌, ℕ, Bool, ◌&&◌, nat_eq, nat_lt, List, [], filter, map, slice_get, slice_index_or, Option, Some}
+use Rattle.std.specs.Prelude.{◌≡◌, ℕ, Bool, ◌&&◌, nat_eq, nat_le, nat_lt, List, [], filter, map, slice_get, slice_index_or, Option, Some}
 use Rattle.std.specs.List.{list_any, range_with_len}
 use Rattle.std.specs.List.Sorted.{IsNonDecreasingBy}
 use Rattle.dv_bag.specs.declared.inputs.Input.{Input}
@@ -32,10 +32,13 @@ leads ms l = nat_lt 0 l.copies && is_port ms l.to l.to_port
 abbrev pub is_led : List Member → List Link → ℕ → Bool
 is_led ms entrances port = list_any (λ (l : Link). nat_eq l.from_port port && leads ms l) entrances
 
--- the inputs that lead to one of the components
-abbrev pub led_inputs : ℕ → List Member → List Link → List Input → List Input
-led_inputs ports ms entrances inputs =
-    filter (λ (i : Input). nat_lt i.port ports && is_led ms entrances i.port) inputs
+-- does an input come to one of the components: its microstep is within the limit, and something leads there from its port
+abbrev pub comes_here : (limit ports : ℕ) → List Member → List Link → Input → Bool
+comes_here limit ports ms entrances i = nat_le i.time.micro limit && (nat_lt i.port ports && is_led ms entrances i.port)
+
+-- the inputs that come to one of the components
+abbrev pub led_inputs : (limit ports : ℕ) → List Member → List Link → List Input → List Input
+led_inputs limit ports ms entrances inputs = filter (comes_here limit ports ms entrances) inputs
 
 -- the components of a process
 abbrev pub members_of : Grouping → ℕ → List Member → List Member
@@ -60,7 +63,7 @@ pub record IsMadeOf {S : Type 0} (c : Common) (p : ℕ) (ms : List Member) (code
   pub sources : s.sources.items ≡ incoming_from p 0 (map channel_of c.links.now)
   pub ways : (job : Job) → job.owner ≡ owner_of c.cut.now.grouping → job.flat.links ≡ c.cut.now.direct
       → map outgoing_of s.ways.items ≡ outgoing_from job p 0 (map channel_of c.links.now)
-  pub inputs : s.inputs ≡ led_inputs c.ports ms (entrances_to c.cut.now p) c.inputs.now
+  pub inputs : s.inputs ≡ led_inputs c.limit c.ports ms (entrances_to c.cut.now p) c.inputs.now
 
 -- so is each of several shares, of the components of its process
 abbrev pub AreMade : {S : Type 0} → Common → List (List Member) → List S → List (Share S) → Type 0

@@ -1,23 +1,25 @@
 //! The inputs that lead to a process's components.
 
-ghost use Rattle.std.specs.Prelude.{◌≡◌, ◌&&◌, ◌||◌, ℕ, false, length, nat_eq, nat_lt, slice_index_or, IfOk};
+ghost use Rattle.std.specs.Prelude.{◌≡◌, ◌&&◌, ◌||◌, ℕ, false, length, nat_eq, nat_le, nat_lt, slice_index_or, IfOk};
 ghost use Rattle.dv_share.specs.Links.{link_of, links_of};
 ghost use Rattle.dv_share.specs.Places.{AreRising};
 ghost use Rattle.dv_share.specs.Share.{numbers_of};
 ghost use Rattle.dv_plan.specs.Steps.{is_led, is_port, leads, led_inputs};
 
-use dv_bag::Inputs;
+use dv_bag::{Input, Inputs};
 use dv_share::tables::place_of;
 use dv_share::{Link, Member};
 use std::alloc::{AllocError, Global};
 
-/// Those of the inputs that lead to one of the components by one of the links from outside.
+/// Those of the inputs that come to one of the components by one of the links from outside. One whose microstep is above
+/// the limit never comes.
 ///
 /// # Errors
 ///
 /// No memory for them.
 pub(crate) fn led_inputs(
     alloc: Global,
+    limit: u32,
     ports: u32,
     members: &[Member],
     entrances: &[Link],
@@ -25,12 +27,12 @@ pub(crate) fn led_inputs(
 ) -> Result<Inputs, AllocError>
     requires { AreRising (numbers_of members.now) }
     ensures { IfOk result (λ kept.
-        kept ≡ led_inputs ports members.now (links_of entrances.now) inputs.now) }
+        kept ≡ led_inputs limit ports members.now (links_of entrances.now) inputs.now) }
 {
     let led = led_ports(alloc, ports, members, entrances)?;
     let mut kept = Inputs::new(alloc);
     for input in inputs.as_slice() {
-        if at(&led, input.port) {
+        if is_to_come(*input, limit, &led) {
             kept.push(*input)?;
         }
     }
@@ -67,6 +69,14 @@ fn mark(port: u32, led: &mut Vec<bool>)
     if place < led.len() {
         led[place] = true;
     }
+}
+
+// Whether an input comes in a run, by a port that is marked.
+fn is_to_come(input: Input, limit: u32, led: &[bool]) -> bool
+    ensures { result
+        ≡ (nat_le input.time.micro limit && slice_index_or led.now input.port false) }
+{
+    input.time.micro <= limit && at(led, input.port)
 }
 
 // Whether a port is marked.

@@ -86,7 +86,14 @@ fn share_of_process<A: Drop>(
 {
     let place = process as usize;
     let entrances = common.cut.entrances(place);
-    let inputs = led_inputs(alloc, common.ports, &members, entrances, common.inputs)?;
+    let inputs = led_inputs(
+        alloc,
+        common.limit,
+        common.ports,
+        &members,
+        entrances,
+        common.inputs,
+    )?;
     let tables = Tables {
         limit: common.limit,
         members,

@@ -21,7 +21,7 @@ ghost use Rattle.dv_syntax.specs.Trees.{file_of};
 ghost use Rattle.dv_tree.specs.Instances.{Instance, instances};
 
 use dv_bag::{Inputs, Response};
-use dv_check::laws::accepted_files;
+use dv_check::laws::checked_files;
 use dv_coded::{Lent, Programs, lend};
 use dv_flat::LinkLists;
 use dv_links::laws::links_rise;
@@ -66,7 +66,7 @@ pub fn plan_text<'m>(
     ensures { IfOk result (IsPlanOf behaviour_of_lent lent_takes
         (job_of limit horizon (file_of tree.now.file) inputs groups.processes (owner_of groups))) }
 {
-    accepted_files();
+    checked_files();
     links_rise();
     let lent = lend(alloc, models)?;
     let between = links_of(alloc, links)?;

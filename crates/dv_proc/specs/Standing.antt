@@ -1,5 +1,5 @@
 -- What a process is: its share, what was received, its position, what it committed, and what stands behind them.
-use Rattle.std.specs.Prelude.{◌≡◌, ℕ, suc, ◌<◌, ◌≤◌, length, None, ◌⊎◌, min, true, Bool, IsTrue, List, [], map, Option, Some}
+use Rattle.std.specs.Prelude.{◌≡◌, ℕ, suc, ◌<◌, ◌≤◌, length, None, ◌⊎◌, min, true, Bool, IsTrue, List, []}
 use Rattle.dv_time.specs.Time.{IsOfRun, rank}
 use Rattle.dv_time.specs.declared.time.Time.{Time}
 use Rattle.dv_bag.specs.declared.state.State.{State}
@@ -50,9 +50,11 @@ pub record IsAccepted (s : Share) (incoming : List Incoming) (p : Packet) (place
   pub of_run : IsOfRun s.limit p.upto
   pub ports : are_for_ports s p.events ≡ true
 
--- A local run as it begins: the components start, nothing is committed or held, and no component is imminent at 0.0.
+-- A local run as it begins: the components start, nothing is committed or held, no component is imminent at 0.0, and none was
+-- looked at.
 pub record IsBegun (v : View) : Type 0 where
   pub components : v.components ≡ (network v.share.flat).start
   pub committed : v.committed ≡ nothing
   pub held : (n : ℕ) → DeliverAlike (v.held n) []
   pub later : IsFrom 1 (least_next v.components)
+  pub visits : v.visits ≡ 0

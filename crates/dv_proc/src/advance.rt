@@ -4,6 +4,7 @@ ghost use Rattle.std.specs.Prelude.{◌≡◌, ◌≤◌, ◌<◌, ℕ, IfOk, le
 ghost use Rattle.dv_time.specs.Time.{IsOfRun, end_of, rank};
 ghost use Rattle.dv_conservative.specs.Process.{at_most};
 ghost use Rattle.dv_conservative.specs.Promise.{foreseen};
+ghost use Rattle.dv_proc.specs.Accesses.{CountsInstant, CountsStep};
 ghost use Rattle.dv_proc.specs.Advancing.{AreBeside, IsAdvance, IsFresh, IsKnown, IsSameLink};
 ghost use Rattle.dv_proc.specs.declared.outgoing.Outgoing.{Outgoing};
 ghost use Rattle.dv_proc.specs.Local.{sent_at};
@@ -85,6 +86,8 @@ pub fn advance<L: Local>(
     ensures advance { IfOk result (λ now. IsAdvance (rank frame.now.limit clock)
         (rank frame.now.limit least) (L.view local.old) (L.view local.new)
         (rank frame.now.limit now)) }
+    ensures visits { IfOk result (λ _. CountsInstant (rank frame.now.limit clock)
+        (L.view local.old) (L.view local.new)) }
     ensures of_run { IfOk result (λ now. IsOfRun frame.now.limit now) }
     ensures settled { L.settled local.new ≡ L.settled local.old }
 {
@@ -118,6 +121,8 @@ pub fn step<L: Local>(
     ensures advance { IfOk result (λ now. IsAdvance (rank frame.now.limit clock)
         (rank frame.now.limit least) (L.view local.old) (L.view local.new)
         (rank frame.now.limit now)) }
+    ensures visits { IfOk result (λ now. CountsStep (rank frame.now.limit clock)
+        (rank frame.now.limit now) (L.view local.old) (L.view local.new)) }
     ensures of_run { IfOk result (λ now. IsOfRun frame.now.limit now) }
     ensures fresh { IfOk result (λ now.
         nat_lt (rank frame.now.limit now) (end_of frame.now.limit frame.now.horizon) ≡ true
@@ -128,9 +133,10 @@ pub fn step<L: Local>(
     ensures settled { L.settled local.new ≡ L.settled local.old }
 {
     let now = advance(local, work, frame, least, clock)?;
-    if now.is_before(frame.end()) {
-        local.emit(work, now)?;
-        fill_all(local, outgoing, now)?;
+    if !now.is_before(frame.end()) {
+        return Ok(now);
     }
+    local.emit(work, now)?;
+    fill_all(local, outgoing, now)?;
     Ok(now)
 }

@@ -7,6 +7,7 @@ ghost use Rattle.dv_devs.specs.NextTimes.{least_next};
 ghost use Rattle.dv_conservative.specs.Events.{event_of};
 ghost use Rattle.dv_conservative.specs.Process.{Outgoing, end_rank, is_port_of};
 ghost use Rattle.dv_proc.specs.Foreseeing.{IsOfHold, IsOfRunIf, rank_if, ticks_of};
+ghost use Rattle.dv_proc.specs.Accesses.{CountsInstant, IsAfterEmission};
 ghost use Rattle.dv_proc.specs.Local.{IsAfterEvents, IsAfterInstant, IsFirstInput, View, are_for_ports, carried_away, sent_at};
 ghost use Rattle.dv_proc.specs.Packets.{meant_events};
 
@@ -69,7 +70,8 @@ pub trait Local {
         requires { IsOfRun (view self.now).share.limit from }
         ensures { IsFirstInput (view self.now) (rank (view self.now).share.limit from) result };
 
-    /// The instant at a time.
+    /// The instant at a time. Each component that is due is looked at as it emits, unless what it emits was found, and each
+    /// to which something happens once more.
     ///
     /// # Errors
     ///
@@ -81,9 +83,11 @@ pub trait Local {
             < end_rank (view self.old).share }
         ensures reacted { OnOk result (IsAfterInstant
             (rank (view self.old).share.limit now) (view self.old) (view self.new)) }
+        ensures visits { OnOk result (CountsInstant
+            (rank (view self.old).share.limit now) (view self.old) (view self.new)) }
         ensures settled { settled self.new ≡ settled self.old };
 
-    /// Finds what they send at a time, from their states alone.
+    /// Finds what they send at a time, from their states alone. Each that is due is looked at once at most.
     ///
     /// # Errors
     ///
@@ -94,7 +98,8 @@ pub trait Local {
             < end_rank (view self.old).share }
         ensures sent { OnOk result (sent self.new
             ≡ sent_at (view self.old) (rank (view self.old).share.limit now)) }
-        ensures view { OnOk result (view self.new ≡ view self.old) }
+        ensures found { OnOk result (IsAfterEmission
+            (rank (view self.old).share.limit now) (view self.old) (view self.new)) }
         ensures settled { settled self.new ≡ settled self.old };
 
     /// Adds the events of what they send by the outgoing link at a place, at the time that was last asked about.
@@ -107,6 +112,10 @@ pub trait Local {
             → slice_get (view self.now).share.outgoing place ≡ Some out
             → meant_events into.new.items ≡ meant_events into.old.items
             ++ map (event_of now) (carried_away (view self.now) out.links (sent self.now))) };
+
+    /// How often a component was looked at. The count stays at 2^64 - 1 once there.
+    fn visits(&self) -> u64
+        ensures { result ≡ (view self.now).visits };
 
     /// What they committed.
     fn committed(&self) -> &Part

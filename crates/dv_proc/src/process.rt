@@ -6,6 +6,7 @@ ghost use Rattle.dv_time.specs.Time.{IsOfRun, rank};
 ghost use Rattle.dv_conservative.specs.Process.{Outgoing as OutgoingAsMeant, first_time, is_event_of, least_clock, refusal_of, with_packet};
 ghost use Rattle.dv_conservative.specs.Sound.{AllNumbers, IsSoundShare};
 ghost use Rattle.dv_conservative.specs.Turn.{Done, IsTurnOf, Moved, Waiting, turned};
+ghost use Rattle.dv_proc.specs.Accesses.{CountsTurn};
 ghost use Rattle.dv_proc.specs.Advancing.{HasRoom};
 ghost use Rattle.dv_proc.specs.Arriving.{AreApart, received_by};
 ghost use Rattle.dv_proc.specs.Leaving.{position_by, promised_by, standing_by};
@@ -14,7 +15,7 @@ ghost use Rattle.dv_proc.specs.Midway.{IsMidway, meant_turned};
 ghost use Rattle.dv_proc.specs.declared.outgoing.Outgoing.{Outgoing as OutgoingOfCode};
 ghost use Rattle.dv_proc.specs.Packets.{meant_events, meant_packet, meant_packets};
 ghost use Rattle.dv_proc.specs.Refusals.{IsByTest, meant_refusal};
-ghost use Rattle.dv_proc.specs.Standing.{IsAccepted, IsBegun, IsFar, IsProcess, IsStanding};
+ghost use Rattle.dv_proc.specs.Standing.{IsAccepted, IsBegun, IsDue, IsFar, IsProcess, IsStanding};
 
 use crate::advance::{promise_at, step};
 use crate::incoming::{Incoming, Refused, least_clock, new_incoming, place_of, received_on};
@@ -79,6 +80,7 @@ impl<L: Local> Process<L> {
         ensures standing { IfOk result (λ p. (l : ℕ) → standing_by p.outgoing.items l ≡ None) }
         ensures promised { IfOk result (λ p. (l : ℕ) → promised_by p.outgoing.items l ≡ first_time) }
         ensures clock { IfOk result (λ p. p.clock ≡ first_time) }
+        ensures visits { IfOk result (λ p. (L.view p.local).visits ≡ 0) }
     {
         let incoming = new_incoming(alloc, incoming)?;
         let outgoing = new_outgoing(alloc, outgoing)?;
@@ -135,6 +137,17 @@ impl<L: Local> Process<L> {
         received_on(self.incoming.as_slice(), link)
     }
 
+    /// The number of components looked at so far, 0 in a new process; it stays at 2^64-1 once there, and the bounds hold of
+    /// each turn that leaves it below that. A refused turn takes back what it added. A turn raises it by at least the number
+    /// of entries that it commits, and by at most twice the number of imminent components, plus the number of components
+    /// that receive a value, counted over the instants that it emits or commits. A turn at which nothing is due leaves it as
+    /// it was.
+    pub fn visits(&self) -> u64
+        ensures { result ≡ (L.view self.now.local).visits }
+    {
+        self.local.visits()
+    }
+
     /// What was committed.
     pub fn committed(&self) -> &Part
         ensures { result.now ≡ (L.view self.now.local).committed }
@@ -183,6 +196,7 @@ impl<L: Local> Process<L> {
         ensures share { (L.view self.new.local).share ≡ (L.view self.old.local).share }
         ensures committed { (L.view self.new.local).committed
             ≡ (L.view self.old.local).committed }
+        ensures visits { (L.view self.new.local).visits ≡ (L.view self.old.local).visits }
         ensures clock { self.new.clock ≡ self.old.clock }
         ensures outgoing { self.new.outgoing ≡ self.old.outgoing }
     {
@@ -233,6 +247,18 @@ impl<L: Local> Process<L> {
             ≡ position_by self.old.clock self.old.outgoing.items) }
         ensures err_local { OnErr result (L.view self.new.local ≡ L.view self.old.local) }
         ensures share { (L.view self.new.local).share ≡ (L.view self.old.local).share }
+        ensures visits { OnOk result (CountsTurn
+            (rank (L.view self.old.local).share.limit self.old.clock)
+            (rank (L.view self.old.local).share.limit self.new.clock)
+            (L.view self.old.local) (L.view self.new.local)) }
+        ensures visits_stay { OnOk result (¬ IsDue (L.view self.old.local).share
+            (received_by self.old.incoming.items)
+            (rank (L.view self.old.local).share.limit self.old.clock)
+            → ¬ IsDue (L.view self.old.local).share (received_by self.old.incoming.items)
+            (rank (L.view self.old.local).share.limit self.new.clock)
+            → (L.view self.new.local).visits ≡ (L.view self.old.local).visits) }
+        ensures visits_never_fall { (L.view self.old.local).visits
+            ≤ (L.view self.new.local).visits }
         ensures incoming { self.new.incoming ≡ self.old.incoming }
     {
         let frame = self.local.frame();

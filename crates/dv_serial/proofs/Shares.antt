@@ -96,7 +96,7 @@ HasBegun =
     (f : FileTree) (inputs : List Input) (limit horizon processes p : ℕ) (owner : ℕ → ℕ) (v : View)
     → v.share ≡ share_of (job_of limit horizon f inputs processes owner) p
     → v.components ≡ (network v.share.flat).start → v.committed ≡ nothing
-    → ((n : ℕ) → DeliverAlike (v.held n) []) → IsBegun v
+    → ((n : ℕ) → DeliverAlike (v.held n) []) → v.visits ≡ 0 → IsBegun v
 
 module _ (names : List (List ℕ)) (f : FileTree) (inputs : List Input) (horizon limit : ℕ) (text : AreOfOneText names f)
     (accepted : refusal_of f ≡ None) (s : Share Lent) (only : IsOnlyShareOf f inputs horizon limit s) where
@@ -134,11 +134,11 @@ module _ (names : List (List ℕ)) (f : FileTree) (inputs : List Input) (horizon
       subst (IsSoundShare (fits_number (instances f))) (sym alike.same) made
 
   abbrev begins : View
-  begins = record { share = there; components = (network there.flat).start; committed = nothing; held = λ n. [] }
+  begins = record { share = there; components = (network there.flat).start; committed = nothing; held = λ n. []; visits = 0 }
 
   pub later : HasBegun → IsFrom 1 (least_next (components_of s.tables.limit (starts_of s.tables.members.items)))
   later begun =
-      let h = begun f inputs limit horizon 1 0 only.owner begins refl refl refl (λ n k port bag. refl) in
+      let h = begun f inputs limit horizon 1 0 only.owner begins refl refl refl (λ n k port bag. refl) refl in
       let at : IsFrom 1 (least_next (network here.flat).start) =
       subst (λ (x : Flat). IsFrom 1 (least_next (network x).start)) (sym flat_is) h.later in
       subst (λ (cs : List Component). IsFrom 1 (least_next cs))

@@ -24,6 +24,11 @@ use Rattle.dv_share.proofs.Ranges.{filter_map, part_is_filter}
 abbrev pub NoneBefore : ℕ → ℕ → List Delivery → Type 0
 NoneBefore k end ds = (i : ℕ) (d : Delivery) → i < end → i < length ds → (get_or ds i d).component ≡ k → ⊥
 
+-- the deliveries before a place are for lower components than those from there on
+abbrev pub ArePartedAt : ℕ → List Delivery → Type 0
+ArePartedAt start ds = (i j : ℕ) (d : Delivery) → i < start → start ≤ j → j < length ds
+    → (get_or ds i d).component < (get_or ds j d).component
+
 -- What is collected of the deliveries before a place, of which the next ones are for later components.
 pub record Collected (ms : List Member) (ds : List Delivery) (start : ℕ) (xs : List (Placed (List Counts))) : Type 0 where
   pub places : StandByPlace (length ms) xs
@@ -31,34 +36,21 @@ pub record Collected (ms : List Member) (ds : List Delivery) (start : ℕ) (xs :
   pub stand : (p : ℕ) (m : Member) → slice_get ms p ≡ Some m → is_in p (places_of xs) ≡ false → NoneBefore m.number start ds
   pub later : All (λ (x : Placed (List Counts)). (m : Member) → slice_get ms x.place ≡ Some m → (i : ℕ) (d : Delivery) → start ≤ i → i < length ds
       → m.number < (get_or ds i d).component) xs
+  pub parted : ArePartedAt start ds
 
--- the deliveries for a component stand between two places, of which the second is past the first that is left
-pub record IsRun (ds : List Delivery) (k start first end : ℕ) : Type 0 where
-  pub order : first ≤ end
+-- the deliveries for a component are those from one place on and before another
+pub record IsRun (ds : List Delivery) (k start end : ℕ) : Type 0 where
+  pub onward : start < end
   pub within : end ≤ length ds
-  pub before : AllWithin (λ (d : Delivery). d.component < k) ds 0 first
-  pub here : AllWithin (λ (d : Delivery). d.component ≡ k) ds first end
+  pub before : AllWithin (λ (d : Delivery). d.component < k) ds 0 start
+  pub here : AllWithin (λ (d : Delivery). d.component ≡ k) ds start end
   pub behind : AllWithin (λ (d : Delivery). k < d.component) ds end (length ds)
-  pub early : start < length ds
-  pub is : (d : Delivery) → (get_or ds start d).component ≡ k
 
-pub run_moves : (ds : List Delivery) (k start first end : ℕ) (d : Delivery) → IsRun ds k start first end → start < end
-run_moves ds k start first end d r = elim (cases_lt start end) [
-  | inl lt ↦ lt
-  | inr ge ↦ absurd (omega (arith, r.is d, r.behind start d ge r.early))
-]
-
-run_starts : (ds : List Delivery) (k start first end : ℕ) (d : Delivery) → IsRun ds k start first end → first ≤ start
-run_starts ds k start first end d r = elim (cases_lt start first) [
-  | inl lt ↦ absurd (omega (arith, r.is d, r.before start d (omega arith) lt))
-  | inr ge ↦ ge
-]
-
-pub run_is_inbox : (ds : List Delivery) (k start first end ports : ℕ) → IsRun ds k start first end →
-    inbox k (deliveries_of (take (end - first) (drop first ds))) 0 ports ≡ inbox k (deliveries_of ds) 0 ports
-run_is_inbox ds k start first end ports r =
-    let run : take (end - first) (drop first ds) ≡ filter (λ (d : Delivery). nat_eq d.component k) ds =
-    part_is_filter (λ (d : Delivery). nat_eq d.component k) first end ds r.order r.within
+run_is_inbox : (ds : List Delivery) (k start end ports : ℕ) → IsRun ds k start end →
+    inbox k (deliveries_of (take (end - start) (drop start ds))) 0 ports ≡ inbox k (deliveries_of ds) 0 ports
+run_is_inbox ds k start end ports r =
+    let run : take (end - start) (drop start ds) ≡ filter (λ (d : Delivery). nat_eq d.component k) ds =
+    part_is_filter (λ (d : Delivery). nat_eq d.component k) start end ds (omega (arith, r.onward)) r.within
     (λ i d le lt. differ _ k (λ e. absurd (omega (arith, e, r.before i d le lt)))) (λ i d le lt. eq-eqb _ k (r.here i d le lt))
     (λ i d le lt. differ _ k (λ e. absurd (omega (arith, e, r.behind i d le lt)))) in
     ap (λ (es : List Meant). inbox k es 0 ports) (ap deliveries_of run ∙ sym (filter_map (λ (d : Meant). nat_eq d.component k) delivery_of ds))
@@ -66,25 +58,35 @@ run_is_inbox ds k start first end ports r =
     (λ port. delivered_filter k port (deliveries_of ds) [])
 
 -- of the deliveries before the end of a run none is for a component that had none before it, unless it is the run's
-stand_on : (ds : List Delivery) (k j start first end : ℕ) → IsRun ds k start first end → (j ≡ k → ⊥) → NoneBefore j start ds → NoneBefore j end ds
-stand_on ds k j start first end r apart none i d lt within e = elim (cases_lt i start) [
+stand_on : (ds : List Delivery) (k j start end : ℕ) → IsRun ds k start end → (j ≡ k → ⊥) → NoneBefore j start ds → NoneBefore j end ds
+stand_on ds k j start end r apart none i d lt within e = elim (cases_lt i start) [
   | inl less ↦ none i d less within e
-  | inr ge ↦ apart (sym e ∙ r.here i d (let s = run_starts ds k start first end d r in omega (arith, s, ge)) lt)
+  | inr ge ↦ apart (sym e ∙ r.here i d ge lt)
 ]
 
-pub collected_none : (ms : List Member) (ds : List Delivery) (k start first end : ℕ) (d : Delivery) (xs : List (Placed (List Counts))) → Collected ms ds start xs →
-    IsRun ds k start first end → ((p : ℕ) (m : Member) → slice_get ms p ≡ Some m → m.number ≡ k → ⊥) → Collected ms ds end xs
-collected_none ms ds k start first end d xs h r absent = record {
+-- the deliveries before the end of a run are for its component and lower ones
+parts_at_end : (ds : List Delivery) (k start end : ℕ) → IsRun ds k start end → ArePartedAt end ds
+parts_at_end ds k start end r i j d lt le within =
+    let last = r.behind j d le within in
+    elim (cases_lt i start) [
+      | inl less ↦ let low = r.before i d (omega arith) less in omega (arith, low, last)
+      | inr ge ↦ let same = r.here i d ge lt in omega (arith, same, last)
+    ]
+
+pub collected_none : (ms : List Member) (ds : List Delivery) (k start end : ℕ) (xs : List (Placed (List Counts))) → Collected ms ds start xs →
+    IsRun ds k start end → ((p : ℕ) (m : Member) → slice_get ms p ≡ Some m → m.number ≡ k → ⊥) → Collected ms ds end xs
+collected_none ms ds k start end xs h r absent = record {
   places = h.places;
   bags = h.bags;
-  stand = λ p m at out. stand_on ds k m.number start first end r (absent p m at) (h.stand p m at out);
-  later = λ i x lt m at j e le within. h.later i x lt m at j e (let moves = run_moves ds k start first end d r in omega (arith, moves, le)) within;
+  stand = λ p m at out. stand_on ds k m.number start end r (absent p m at) (h.stand p m at out);
+  later = λ i x lt m at j e le within. h.later i x lt m at j e (omega (arith, r.onward, le)) within;
+  parted = parts_at_end ds k start end r;
 }
 
-pub collected_found : (ms : List Member) (ds : List Delivery) (k start first end p : ℕ) (m : Member) (d : Delivery) (xs : List (Placed (List Counts))) (what : List Counts) →
-    AreRising (numbers_of ms) → Collected ms ds start xs → IsRun ds k start first end → slice_get ms p ≡ Some m → m.number ≡ k →
-    what ≡ inbox k (deliveries_of (take (end - first) (drop first ds))) 0 m.inputs → Collected ms ds end (xs ++ record { place = p; what = what } ∷ [])
-collected_found ms ds k start first end p m d xs what up h r at number is = record {
+pub collected_found : (ms : List Member) (ds : List Delivery) (k start end p : ℕ) (m : Member) (d : Delivery) (xs : List (Placed (List Counts))) (what : List Counts) →
+    AreRising (numbers_of ms) → Collected ms ds start xs → IsRun ds k start end → slice_get ms p ≡ Some m → m.number ≡ k →
+    what ≡ inbox k (deliveries_of (take (end - start) (drop start ds))) 0 m.inputs → Collected ms ds end (xs ++ record { place = p; what = what } ∷ [])
+collected_found ms ds k start end p m d xs what up h r at number is = record {
   places = record {
     rise =
         subst AreRising (sym (map-append (λ (x : Placed (List Counts)). x.place) xs (record { place = p; what = what } ∷ [])))
@@ -98,18 +100,19 @@ collected_found ms ds k start first end p m d xs what up h r at number is = reco
       (λ n at-n.
       let same : m ≡ n = same_Some m n (sym at ∙ at-n) in
       subst (λ (n : Member). what ≡ inbox_of n (deliveries_of ds)) same
-      (is ∙ run_is_inbox ds k start first end m.inputs r ∙ ap (λ (j : ℕ). inbox j (deliveries_of ds) 0 m.inputs) (sym number)));
+      (is ∙ run_is_inbox ds k start end m.inputs r ∙ ap (λ (j : ℕ). inbox j (deliveries_of ds) 0 m.inputs) (sym number)));
   stand = stands;
   later =
       All-push
       (λ (x : Placed (List Counts)). (n : Member) → slice_get ms x.place ≡ Some n → (i : ℕ) (d : Delivery) → end ≤ i → i < length ds
       → n.number < (get_or ds i d).component) xs (record { place = p; what = what })
       (λ i x lt n at-n j e le within.
-      h.later i x lt n at-n j e (let moves = run_moves ds k start first end d r in omega (arith, moves, le)) within)
+      h.later i x lt n at-n j e (omega (arith, r.onward, le)) within)
       (λ n at-n j e le within.
       let same : m ≡ n = same_Some m n (sym at ∙ at-n) in
       let one : n.number ≡ k = ap (λ (n : Member). n.number) (sym same) ∙ number in
       omega (arith, one, r.behind j e le within));
+  parted = parts_at_end ds k start end r;
 }
   where
     -- the places before are those of lower numbers
@@ -117,7 +120,7 @@ collected_found ms ds k start first end p m d xs what up h r at number is = reco
     below = λ i x lt.
         let q = (get_or xs i x).place in
         let member = there ms q (h.places.within i x lt) in
-        let less = h.later i x lt member.0 member.1 start d (omega arith) r.early in
+        let less = h.later i x lt member.0 member.1 start d (omega arith) (omega (arith, r.onward, r.within)) in
         elim (cases_lt q p) [
           | inl lower ↦ lower
           | inr ge ↦ elim (cases_lt p q) [
@@ -127,12 +130,12 @@ collected_found ms ds k start first end p m d xs what up h r at number is = reco
                 let second-is : get_or ms q m ≡ member.0 = same_Some _ member.0 (sym (slice_get-get_or ms q m (h.places.within i x lt)) ∙ member.1) in
                 let one = ap (λ (m : Member). m.number) first-is in
                 let two = ap (λ (m : Member). m.number) second-is in
-                absurd (omega (arith, up_there, one, two, less, r.is d, number))
+                absurd (omega (arith, up_there, one, two, less, r.here start d (omega arith) r.onward, number))
             | inr le ↦
                 let same : q ≡ p = omega (arith, ge, le) in
                 let one : member.0 ≡ m = same_Some member.0 m (sym member.1 ∙ ap (slice_get ms) same ∙ at) in
                 let two = ap (λ (m : Member). m.number) one in
-                absurd (omega (arith, two, less, r.is d, number))
+                absurd (omega (arith, two, less, r.here start d (omega arith) r.onward, number))
           ]
         ]
 
@@ -141,7 +144,7 @@ collected_found ms ds k start first end p m d xs what up h r at number is = reco
         let pushed : (is_in q (places_of xs) || nat_eq p q) ≡ false =
         sym (ap (is_in q) (map-append (λ (x : Placed (List Counts)). x.place) xs (record { place = p; what = what } ∷ [])) ∙ in_push q p (places_of xs)) ∙ out in
         let parts = both (is_in q (places_of xs)) (nat_eq p q) pushed in
-        stand_on ds k n.number start first end r (λ same. apart parts.1 same) (h.stand q n at-n parts.0)
+        stand_on ds k n.number start end r (λ same. apart parts.1 same) (h.stand q n at-n parts.0)
       where
         both : (t u : Bool) → (t || u) ≡ false → (t ≡ false) × (u ≡ false)
         both true u h = absurd (cc)
@@ -173,6 +176,7 @@ collected_new ms ds = record {
   bags = λ i x lt. absurd (omega (arith, lt));
   stand = λ p m at out i d lt within e. absurd (omega (arith, lt));
   later = λ i x lt. absurd (omega (arith, lt));
+  parted = λ i j d lt. absurd (omega (arith, lt));
 }
 
 none_for : (k : ℕ) (ds : List Delivery) → ((i : ℕ) (d : Delivery) → i < length ds → (get_or ds i d).component ≡ k → ⊥) → NoneFor k (deliveries_of ds)

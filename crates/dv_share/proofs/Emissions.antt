@@ -1,5 +1,5 @@
 -- What the output functions at the due places give is what all components send.
-use Rattle.std.proofs.Common.{◌≡◌, inl, inr, ℕ, zero, suc, ◌+◌, ◌<◌, true, false, List, [], ◌∷◌, length, get_or, map, Option, Some, Result, Ok, Err, IsTrue, refl, sym, ap, ◌∙◌, subst, arith}
+use Rattle.std.proofs.Common.{◌≡◌, inl, inr, ℕ, zero, suc, ◌+◌, ◌<◌, true, false, List, [], ◌∷◌, length, get_or, map, take, Option, Some, Result, Ok, Err, IsTrue, refl, sym, ap, ◌∙◌, subst, arith}
 use Rattle.std.specs.List.{All, slice_get}
 use Rattle.std.specs.Option.{unwrap_or}
 use Rattle.std.proofs.lemmas.Option.{same_Some}
@@ -13,8 +13,8 @@ use Rattle.dv_react.specs.declared.running.Running.{Running}
 use Rattle.dv_react.specs.declared.wait.Wait.{Wait}
 use Rattle.dv_react.specs.declared.wait.Wait.TheVariants.{Until, Forever, Quiet}
 use Rattle.dv_conservative.specs.Flat.{behaviours}
-use Rattle.dv_share.specs.Places.{AreRising, found, is_in, places_of}
-use Rattle.dv_share.specs.Share.{AreDue, AreEmitted, behaviour_of, given_at, member_by, sents_by}
+use Rattle.dv_share.specs.Places.{AreRising, RiseFrom, found, is_in, places_of}
+use Rattle.dv_share.specs.Share.{AreDue, AreEmitted, StandByPlace, behaviour_of, given_at, member_by, sents_by}
 use Rattle.dv_share.specs.declared.place.Placed.{Placed}
 use Rattle.dv_share.specs.declared.tables.Member.{Member}
 use Rattle.dv_share.specs.declared.tables.Tables.{Tables}
@@ -120,3 +120,29 @@ module _ {S : Type 0} (behaviour : S → Behaviour) (t : Tables S) (now : ℕ) (
         where
           false_true : false ≡ true → ⊥
           false_true h = cc
+
+rise_take : (low i : ℕ) (ps : List ℕ) → RiseFrom low ps → RiseFrom low (take i ps)
+rise_take low zero [] h = tt
+rise_take low zero (p ∷ ps) h = tt
+rise_take low (suc i) [] h = tt
+rise_take low (suc i) (p ∷ ps) h = (h.0, rise_take (suc p) i ps h.1)
+
+all_take : {X : Type 0} (P : X → Type 0) (i : ℕ) (xs : List X) → All P xs → All P (take i xs)
+all_take P zero [] h = h
+all_take P (suc i) [] h = h
+all_take P zero (x ∷ xs) h = λ k d lt. absurd (omega (arith, lt))
+all_take {X} P (suc i) (x ∷ xs) h = by_index (all_take P i xs (all_rest P x xs h))
+  where
+    by_index : All P (take i xs) → (k : ℕ) (d : X) → k < length (x ∷ take i xs) → P (get_or (x ∷ take i xs) k d)
+    by_index rest zero d lt = all_first P x xs h
+    by_index rest (suc k) d lt = rest k d (omega (arith, lt))
+
+-- what stands at the first of the places that are due stands by place
+pub first_stand : {X : Type 0} (count i : ℕ) (due : List ℕ) (es : List (Placed X)) → AreRising due → All (λ p. p < count) due →
+    places_of es ≡ take i due → StandByPlace count es
+first_stand {X} count i due es rise within same = record {
+  rise = subst AreRising (sym same) (rise_take 0 i due rise);
+  within =
+      all_map (λ (e : Placed X). e.place) (λ p. p < count) es
+      (subst (λ (ps : List ℕ). All (λ p. p < count) ps) (sym same) (all_take (λ p. p < count) i due within));
+}

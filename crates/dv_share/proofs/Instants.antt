@@ -1,5 +1,5 @@
 -- The outcomes of the components that are touched are the instant of the network.
-use Rattle.std.proofs.Common.{◌≡◌, inl, inr, ℕ, zero, suc, ◌+◌, Bool, true, false, not, ◌&&◌, ◌||◌, cond, List, [], ◌∷◌, ◌++◌, length, get_or, map, Option, Some, None, Result, IsTrue, refl, sym, ap, ◌∙◌, subst, arith}
+use Rattle.std.proofs.Common.{◌≡◌, inl, inr, ℕ, zero, suc, ◌+◌, ◌<◌, Bool, true, false, not, ◌&&◌, ◌||◌, cond, List, [], ◌∷◌, ◌++◌, length, get_or, map, Option, Some, None, Result, IsTrue, refl, sym, ap, ◌∙◌, subst, arith}
 use Rattle.std.specs.List.{All, slice_get}
 use Rattle.std.specs.Option.{unwrap_or}
 use Rattle.std.proofs.lemmas.Option.{same_Some, slice_get-get_or, slice_get_within}
@@ -15,27 +15,18 @@ use Rattle.dv_react.specs.declared.outcome.Outcome.TheVariants.{Nothing}
 use Rattle.dv_react.specs.declared.running.Running.{Running}
 use Rattle.dv_conservative.specs.Flat.{behaviours, network, numbers, received as received_by}
 use Rattle.dv_conservative.specs.Links.{Delivery, carried, sent_of as sent_from}
-use Rattle.dv_share.specs.Places.{found, is_in, places_of}
-use Rattle.dv_share.specs.Share.{AreAmong, AreComponents, AreEmitted, AreReceived, FitsAt, behaviour_of, coming, flat_by, given_at, inbox_of, left_from, member_by, numbers_of, outcome_at, reactions_by, sents_by}
+use Rattle.dv_share.specs.Outcomes.{IsOutcome, IsOutcomeOf, behaviour_in}
+use Rattle.dv_share.specs.Places.{AreRising, found, is_in, places_of}
+use Rattle.dv_share.specs.Share.{AreAmong, AreComponents, AreEmitted, AreOutcomes, AreReceived, FitsAt, behaviour_of, coming, flat_by, given_at}
+use Rattle.dv_share.specs.Share.{inbox_of, left_from, member_by, numbers_of, outcome_at, reactions_by, sents_by}
 use Rattle.dv_share.specs.declared.place.Placed.{Placed}
 use Rattle.dv_share.specs.declared.tables.Member.{Member}
 use Rattle.dv_share.specs.declared.tables.Tables.{Tables}
+use Rattle.dv_share.proofs.Emissions.{all_map, map_all}
 use Rattle.dv_share.proofs.Places.{found_absent, found_all, found_none, some_or_none, yes_or_no}
 
 false_true : false ≡ true → ⊥
 false_true h = cc
-
--- the behaviour at a place of the tables
-abbrev pub behaviour_in : {S : Type 0} → (S → Behaviour) → Tables S → Member → Behaviour
-behaviour_in behaviour t m = behaviour_of behaviour (slice_get t.models.items m.model)
-
--- What came of a component, at its place: its reaction to what it received, and a component that waits and fits.
-pub record IsOutcome {S : Type 0} (behaviour : S → Behaviour) (fits : S → State → Type 0) (t : Tables S) (now : ℕ) (rs : List Running)
-    (es : List (Placed (Result (List Counts) Fault))) (xs : List (Placed (List Counts))) (p : ℕ) (o : Outcome) : Type 0 where
-  pub reacts : (m : Member) (r : Running) (bags : List Counts) → slice_get t.members.items p ≡ Some m → slice_get rs p ≡ Some r → found p xs ≡ Some bags
-      → reaction t.limit (behaviour_in behaviour t m) now (component_of t.limit r) bags ≡ reaction_by t.limit r (sent_of (given_at p es)) o
-  pub waits : (r : Running) → slice_get rs p ≡ Some r → IsWaitOfRun t.limit (left_by r o).wait
-  pub fit : (m : Member) (r : Running) → slice_get t.members.items p ≡ Some m → slice_get rs p ≡ Some r → FitsAt fits t.models.items m.model (left_by r o).state
 
 -- where nothing comes and nothing is due, nothing happens
 off : (q t u : Bool) → t ≡ false → u ≡ true → (not q && (t || not u)) ≡ false
@@ -48,38 +39,24 @@ at_rest limit now b c bags late none =
     let rests : Reaction = record { event = None; component = c } in
     ap (λ (t : Bool). cond t (reaction_after_output limit b now c bags (emission b now c)) rests) (off c.quiet (is_imminent now c) (all_empty bags) late none)
 
-module _ {S : Type 0} (behaviour : S → Behaviour) (fits : S → State → Type 0) (t : Tables S) (now : ℕ) (rs : List Running)
-    (es : List (Placed (Result (List Counts) Fault))) (xs : List (Placed (List Counts))) where
-  pub emitted_at : (p : ℕ) (m : Member) (r : Running) (a : S) → AreEmitted behaviour t now rs es → slice_get t.members.items p ≡ Some m → slice_get rs p ≡ Some r →
-      slice_get t.models.items m.model ≡ Some a → given_at p es ≡ emission (behaviour a) now (component_of t.limit r)
-  emitted_at p m r a given at-m at-r at-a =
-      given.given p m r at-m at-r ∙ ap (λ (o : Option S). emission (behaviour_of behaviour o) now (component_of t.limit r)) at-a
-
-  pub outcome_one : (p : ℕ) (m : Member) (r : Running) (a : S) (bags : List Counts) (o : Outcome) → AreEmitted behaviour t now rs es →
-      slice_get t.members.items p ≡ Some m → slice_get rs p ≡ Some r → slice_get t.models.items m.model ≡ Some a → found p xs ≡ Some bags →
-      reaction t.limit (behaviour a) now (component_of t.limit r) bags
-      ≡ reaction_by t.limit r (sent_of (emission (behaviour a) now (component_of t.limit r))) o → IsWaitOfRun t.limit (left_by r o).wait →
-      fits a (left_by r o).state → IsOutcome behaviour fits t now rs es xs p o
-  outcome_one p m r a bags o given at-m at-r at-a here reacts waits fit = record {
-    reacts = λ n s b at-n at-s at-b.
-        let same-m : m ≡ n = same_Some m n (sym at-m ∙ at-n) in
-        let same-r : r ≡ s = same_Some r s (sym at-r ∙ at-s) in
-        let same-b : bags ≡ b = same_Some bags b (sym here ∙ at-b) in
-        let core : reaction t.limit (behaviour_in behaviour t m) now (component_of t.limit r) bags ≡ reaction_by t.limit r (sent_of (given_at p es)) o =
-        ap (λ (x : Option S). reaction t.limit (behaviour_of behaviour x) now (component_of t.limit r) bags) at-a
-        ∙ reacts
-        ∙ sym (ap (λ (x : Result (List Counts) Fault). reaction_by t.limit r (sent_of x) o) (emitted_at p m r a given at-m at-r at-a)) in
-        subst (λ (b : List Counts). reaction t.limit (behaviour_in behaviour t n) now (component_of t.limit s) b ≡ reaction_by t.limit s (sent_of (given_at p es)) o) same-b
-        (subst (λ (s : Running). reaction t.limit (behaviour_in behaviour t n) now (component_of t.limit s) bags ≡ reaction_by t.limit s (sent_of (given_at p es)) o) same-r
-        (subst (λ (n : Member). reaction t.limit (behaviour_in behaviour t n) now (component_of t.limit r) bags ≡ reaction_by t.limit r (sent_of (given_at p es)) o) same-m
-        core));
-    waits = λ s at-s. subst (λ (s : Running). IsWaitOfRun t.limit (left_by s o).wait) (same_Some r s (sym at-r ∙ at-s)) waits;
-    fit = λ n s at-n at-s c at-c.
-        let same-m : m ≡ n = same_Some m n (sym at-m ∙ at-n) in
-        let same-r : r ≡ s = same_Some r s (sym at-r ∙ at-s) in
-        let same-a : a ≡ c = same_Some a c (sym at-a ∙ ap (λ (n : Member). slice_get t.models.items n.model) same-m ∙ at-c) in
-        subst (λ (s : Running). fits c (left_by s o).state) same-r (subst (λ (x : S). fits x (left_by r o).state) same-a fit);
-  }
+-- what came of a component is the outcome at its place
+pub outcome_one : {S : Type 0} (behaviour : S → Behaviour) (fits : S → State → Type 0) (t : Tables S) (now : ℕ) (rs : List Running)
+    (es : List (Placed (Result (List Counts) Fault))) (xs : List (Placed (List Counts))) (x : Placed (List Counts)) (r : Running) (o : Outcome) →
+    slice_get rs x.place ≡ Some r → found x.place xs ≡ Some x.what → IsOutcomeOf behaviour fits t now r (given_at x.place es) x o →
+    IsOutcome behaviour fits t now rs es xs x.place o
+outcome_one behaviour fits t now rs es xs x r o at-r here is =
+    let Reacts : Running → Member → List Counts → Type 0 = λ s m bags.
+    reaction t.limit (behaviour_in behaviour t m) now (component_of t.limit s) bags
+    ≡ reaction_by t.limit s (sent_of (given_at x.place es)) o in
+    record {
+      reacts = λ m s bags at-m at-s at-b.
+          let same-r : r ≡ s = same_Some r s (sym at-r ∙ at-s) in
+          let same-b : x.what ≡ bags = same_Some x.what bags (sym here ∙ at-b) in
+          subst (λ (b : List Counts). Reacts s m b) same-b (subst (λ (s : Running). Reacts s m x.what) same-r (is.reacts m at-m));
+      waits = λ s at-s. subst (λ (s : Running). IsWaitOfRun t.limit (left_by s o).wait) (same_Some r s (sym at-r ∙ at-s)) is.waits;
+      fit = λ m s at-m at-s.
+          subst (λ (s : Running). FitsAt fits t.models.items m.model (left_by s o).state) (same_Some r s (sym at-r ∙ at-s)) (is.fit m at-m);
+    }
 
 module _ {S : Type 0} (behaviour : S → Behaviour) (limit now : ℕ) (models : List S) (es : List (Placed (Result (List Counts) Fault))) (os : List (Placed Outcome))
     (ds : List Delivery) where
@@ -220,3 +197,27 @@ pub components_left : (limit q : ℕ) (rs : List Running) (es : List (Placed (Re
     map (λ (r : Reaction). r.component) (reactions_by limit q rs es os) ≡ components_of limit (left_from q rs os)
 components_left limit q [] es os = refl
 components_left limit q (r ∷ rs) es os = ap (λ (cs : List Component). component_of limit (left_by r (outcome_at q os)) ∷ cs) (components_left limit (suc q) rs es os)
+
+-- outcomes at the places where something comes or was emitted are the instant, and leave components
+pub outcomes_are : {S : Type 0} (behaviour : S → Behaviour) (fits : S → State → Type 0) (t : Tables S) (now : ℕ) (rs : List Running)
+    (es : List (Placed (Result (List Counts) Fault))) (xs : List (Placed (List Counts))) (os : List (Placed Outcome))
+    (outside : List Counts) (ds : List Delivery) → AreComponents fits t rs → AreEmitted behaviour t now rs es →
+    AreAmong (places_of es) (places_of xs) → AreReceived t.members.items (coming t es outside ds) xs → places_of os ≡ places_of xs →
+    All (λ (o : Placed Outcome). IsOutcome behaviour fits t now rs es xs o.place o.what) os → AreOutcomes behaviour t now rs outside ds es os
+outcomes_are behaviour fits t now rs es xs os outside ds are emitted among received same right =
+    let below : All (λ p. p < length t.members.items) (places_of os) =
+    subst (λ (ps : List ℕ). All (λ p. p < length t.members.items) ps) (sym same)
+    (map_all (λ (x : Placed (List Counts)). x.place) (λ p. p < length t.members.items) xs received.places.within) in
+    let net = network (flat_by behaviour t) in
+    let reacts : instant t.limit net now (outside, ds) (components_of t.limit rs) ≡ reactions_by t.limit 0 rs es os =
+    instant_is behaviour fits t now rs es xs os outside ds are.count emitted among received same right in
+    record {
+      places = record {
+        rise = subst AreRising (sym same) received.places.rise;
+        within =
+            subst (λ (n : ℕ). All (λ (o : Placed Outcome). o.place < n) os) (sym are.count)
+            (all_map (λ (o : Placed Outcome). o.place) (λ p. p < length t.members.items) os below);
+      };
+      reactions = reacts;
+      after = ap (map (λ (r : Reaction). r.component)) reacts ∙ components_left t.limit 0 rs es os;
+    }

@@ -1,6 +1,8 @@
 -- What the links and deliveries of the code stand for.
-use Rattle.std.specs.Prelude.{ℕ, Bool, nat_eq, List, map}
+use Rattle.std.specs.Prelude.{ℕ, ◌*◌, Bool, nat_eq, List, map, ℤ}
 use Rattle.std.specs.List.Sorted.{IsNonDecreasingBy}
+use Rattle.dv_bag.specs.Bag.{Counts, capped}
+use Rattle.dv_bag.specs.declared.sent.Sending.{Sending}
 use Rattle.dv_conservative.specs.Links.{Link as Meant, Delivery as MeantDelivery}
 use Rattle.dv_share.specs.declared.link.Link.{Link}
 use Rattle.dv_share.specs.declared.link.Delivery.{Delivery}
@@ -16,6 +18,14 @@ delivery_of d = record { component = d.component; port = d.port; value = d.value
 
 abbrev pub deliveries_of : List Delivery → List MeantDelivery
 deliveries_of ds = map delivery_of ds
+
+-- what a link makes of so many copies of a value
+abbrev pub carried_one : Meant → ℤ → ℕ → MeantDelivery
+carried_one l value copies = record { component = l.to; port = l.to_port; value = value; copies = capped (copies * l.copies) }
+
+-- the values of sendings with their copies
+abbrev pub pairs_of : List Sending → Counts
+pairs_of ss = map (λ s. (s.value, s.copies)) ss
 
 -- links stand in the order of the components that they lead from
 abbrev pub RiseBySender : List Link → Type 0

@@ -1,7 +1,6 @@
 //! What comes to the components of a share at an instant.
 
-ghost use Rattle.std.specs.Prelude.{◌≡◌, ◌≤◌, ◌<◌, IfOk, length, slice_set};
-ghost use Rattle.std.specs.List.{AllWithin};
+ghost use Rattle.std.specs.Prelude.{◌≡◌, ◌<◌, IfOk, OnOk, length, slice_set};
 ghost use Rattle.dv_bag.specs.Bag.{bag_at, with_copies};
 ghost use Rattle.dv_share.specs.Links.{deliveries_of};
 ghost use Rattle.dv_share.specs.Places.{AreRising, places_of};
@@ -12,14 +11,15 @@ ghost use Rattle.dv_conservative.specs.Links.{inbox};
 use crate::carry::{carry_emitted, carry_outside, mark};
 use crate::link::Delivery;
 use crate::place::Placed;
+use crate::run::run_end;
 use crate::tables::{Member, Tables, place_of};
-use dv_bag::{Bag, Bags, Fault, Sent};
+use dv_bag::{Bags, Fault, Sent};
 use dv_react::Atomic;
 use std::alloc::{AllocError, Global};
 
 /// The bags that come to the components: from outside, from one another by what was emitted, and by deliveries. A place
 /// stands where something comes or something was emitted, and costs nothing elsewhere. What leads to no component or
-/// port of the share is left out.
+/// port of the share is left out. The lists are those of the instant before, whose memory serves again.
 ///
 /// # Errors
 ///
@@ -30,25 +30,22 @@ pub fn arrivals<A: Atomic>(
     emitted: &[Placed<Result<Sent, Fault>>],
     outside: &Bags,
     deliveries: &[Delivery],
-) -> Result<Vec<Placed<Bags>>, AllocError>
+    incoming: &mut Vec<Delivery>,
+    received: &mut Vec<Placed<Bags>>,
+) -> Result<(), AllocError>
     requires tables { AreTables A.fits tables.now }
     requires emitted { StandByPlace (length tables.now.members.items) emitted.now }
-    ensures received { IfOk result (λ xs. AreReceived tables.now.members.items
-        (coming tables.now emitted.now outside.now (deliveries_of deliveries.now)) xs.items) }
-    ensures emitted { IfOk result (λ xs. AreAmong (places_of emitted.now) (places_of xs.items)) }
+    ensures received { OnOk result (AreReceived tables.now.members.items
+        (coming tables.now emitted.now outside.now (deliveries_of deliveries.now)) received.new.items) }
+    ensures emitted { OnOk result (AreAmong (places_of emitted.now) (places_of received.new.items)) }
 {
-    let mut incoming = Vec::new(alloc);
-    carry_outside(&mut incoming, tables.entrances.as_slice(), outside)?;
-    carry_emitted(
-        &mut incoming,
-        &tables.members,
-        tables.links.as_slice(),
-        emitted,
-    )?;
+    incoming.clear();
+    carry_outside(incoming, tables.entrances.as_slice(), outside)?;
+    carry_emitted(incoming, &tables.members, tables.links.as_slice(), emitted)?;
     incoming.extend_from_slice(deliveries)?;
-    mark(&mut incoming, &tables.members, emitted)?;
+    mark(incoming, &tables.members, emitted)?;
     incoming.sort_unstable();
-    collect(alloc, &tables.members, &incoming)
+    collect(alloc, &tables.members, incoming, received)
 }
 
 // The bags of each component that something is delivered to.
@@ -56,46 +53,27 @@ fn collect(
     alloc: Global,
     members: &[Member],
     incoming: &[Delivery],
-) -> Result<Vec<Placed<Bags>>, AllocError>
+    received: &mut Vec<Placed<Bags>>,
+) -> Result<(), AllocError>
     requires numbers { AreRising (numbers_of members.now) }
     requires incoming { RiseByComponent incoming.now }
-    ensures received { IfOk result (λ xs. AreReceived members.now (deliveries_of incoming.now) xs.items) }
-    ensures all { IfOk result (λ xs. AllStand members.now (deliveries_of incoming.now) xs.items) }
+    ensures received { OnOk result (AreReceived members.now (deliveries_of incoming.now) received.new.items) }
+    ensures all { OnOk result (AllStand members.now (deliveries_of incoming.now) received.new.items) }
 {
-    let mut received = Vec::new(alloc);
+    received.clear();
     let mut start = 0;
     while start < incoming.len() {
         let component = incoming[start].component;
-        let (first, end) = places_for(incoming, component);
+        let end = run_end(incoming, start, component as usize);
         if let Some(place) = place_of(members, component) {
-            let what = bags_of(
-                alloc,
-                component,
-                members[place].inputs,
-                &incoming[first..end],
-            )?;
-            received.push(Placed {
-                place: place as u32,
-                what,
-            })?;
+            let inputs = members[place].inputs;
+            let what = bags_of(alloc, component, inputs, &incoming[start..end])?;
+            let place = place as u32;
+            received.push(Placed { place, what })?;
         }
         start = end;
     }
-    Ok(received)
-}
-
-// Where the deliveries for a component begin and end, by two binary searches.
-fn places_for(incoming: &[Delivery], component: u32) -> (usize, usize)
-    requires { RiseByComponent incoming.now }
-    ensures order { result.0 ≤ result.1 }
-    ensures within { result.1 ≤ length incoming.now }
-    ensures before { AllWithin (λ d. d.component < component) incoming.now 0 result.0 }
-    ensures there { AllWithin (λ d. d.component ≡ component) incoming.now result.0 result.1 }
-    ensures behind { AllWithin (λ d. component < d.component) incoming.now result.1 (length incoming.now) }
-{
-    let first = incoming.partition_point(|delivery| delivery.component < component);
-    let end = incoming.partition_point(|delivery| delivery.component <= component);
-    (first, end)
+    Ok(())
 }
 
 /// The bags that deliveries make for one component. In the order of ports and values each value goes to the end.
@@ -114,19 +92,17 @@ pub fn bags_of(
     let mut bags = Bags::empty(alloc, ports as usize)?;
     for delivery in deliveries {
         if delivery.is_for(component, ports) {
-            deliver(alloc, &mut bags, delivery)?;
+            deliver(&mut bags, delivery)?;
         }
     }
     Ok(bags)
 }
 
-// The copies of a delivery at its port. A bag of one value lies inline.
-fn deliver(alloc: Global, bags: &mut Bags, delivery: &Delivery) -> Result<(), AllocError>
+// The copies of a delivery at its port.
+fn deliver(bags: &mut Bags, delivery: &Delivery) -> Result<(), AllocError>
     requires { delivery.now.port < length bags.old }
     ensures { IfOk result (λ _. bags.new ≡ slice_set bags.old delivery.now.port
         (with_copies delivery.now.value delivery.now.copies (bag_at bags.old delivery.now.port))) }
 {
-    let mut values = Bag::new(alloc);
-    values.insert_copies(delivery.value, delivery.copies)?;
-    bags.union_at(delivery.port as usize, &values)
+    bags.insert_copies(delivery.port as usize, delivery.value, delivery.copies)
 }

@@ -4,7 +4,7 @@ ghost use Rattle.std.specs.Prelude.{◌≡◌, ℕ, ◌++◌, IfOk, IsTrue, [], 
 ghost use Rattle.dv_bag.specs.Bag.{bag_at};
 ghost use Rattle.dv_conservative.specs.Links.{carried, carried_by};
 ghost use Rattle.dv_conservative.specs.Events.{in_order};
-ghost use Rattle.dv_share.specs.Links.{RiseBySender, deliveries_of, delivery_of, link_of, links_of};
+ghost use Rattle.dv_share.specs.Links.{RiseBySender, deliveries_of, delivery_of, link_of, links_of, pairs_of};
 ghost use Rattle.dv_share.specs.Places.{AreRising};
 ghost use Rattle.dv_share.specs.Rows.{AreSorted, joined_before, marks, rows};
 ghost use Rattle.dv_share.specs.Share.{StandByPlace, numbers_of, sent_in};
@@ -12,7 +12,9 @@ ghost use Rattle.dv_share.specs.Share.{StandByPlace, numbers_of, sent_in};
 use crate::link::{Delivery, Link};
 use crate::place::Placed;
 use crate::routes::{Routes, links_from};
+use crate::run::run_of;
 use crate::tables::Member;
+use dv_bag::sent::Sending;
 use dv_bag::{Bag, Bags, Fault, Sent};
 use std::alloc::{AllocError, Global};
 
@@ -57,19 +59,29 @@ fn carry_rows(
     Ok(())
 }
 
-// What links carry of what one component sends. A bag is taken out once for links of one port that stand together.
+// What links carry of what one component sends.
 fn carry_row(deliveries: &mut Vec<Delivery>, links: &[Link], sent: &Sent) -> Result<(), AllocError>
     ensures { IfOk result (λ _. deliveries_of deliveries.new.items
         ≡ deliveries_of deliveries.old.items ++ carried (links_of links.now) (λ k. sent.now)) }
 {
-    let mut port: u32 = 0;
-    let mut bag = sent.bag(0)?;
+    let sendings = sent.as_slice();
     for link in links {
-        if link.from_port != port {
-            port = link.from_port;
-            bag = sent.bag(port as usize)?;
-        }
-        carry_bag(deliveries, link, &bag)?;
+        carry_sendings(deliveries, link, run_of(sendings, link.from_port as usize))?;
+    }
+    Ok(())
+}
+
+// What a link carries of what was sent at its port.
+fn carry_sendings(
+    deliveries: &mut Vec<Delivery>,
+    link: &Link,
+    sendings: &[Sending],
+) -> Result<(), AllocError>
+    ensures { IfOk result (λ _. deliveries_of deliveries.new.items
+        ≡ deliveries_of deliveries.old.items ++ carried_by (link_of link.now) (pairs_of sendings.now)) }
+{
+    for sending in sendings {
+        deliveries.push(link.delivery(sending.value, sending.copies))?;
     }
     Ok(())
 }
@@ -116,13 +128,7 @@ fn carry_bag(deliveries: &mut Vec<Delivery>, link: &Link, bag: &Bag) -> Result<(
         ≡ deliveries_of deliveries.old.items ++ carried_by (link_of link.now) bag.now) }
 {
     for pair in bag.pairs() {
-        let delivery = Delivery {
-            component: link.to,
-            port: link.to_port,
-            value: pair.0,
-            copies: pair.1.saturating_mul(link.copies),
-        };
-        deliveries.push(delivery)?;
+        deliveries.push(link.delivery(pair.0, pair.1))?;
     }
     Ok(())
 }

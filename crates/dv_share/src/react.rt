@@ -1,60 +1,52 @@
-//! What comes of the components of a share at an instant.
+//! What comes of a component of a share at an instant.
 
-ghost use Rattle.std.specs.Prelude.{◌≡◌, List, IfOk, length};
+ghost use Rattle.std.specs.Prelude.{◌≡◌, ◌<◌, List, Some, IfOk, length, slice_get};
 ghost use Rattle.dv_bag.specs.Bag.{Counts};
-ghost use Rattle.dv_react.specs.Components.{rank_of};
+ghost use Rattle.dv_devs.specs.Behaviour.{emission};
+ghost use Rattle.dv_react.specs.Components.{IsWaitOfRun, component_of, rank_of};
 ghost use Rattle.dv_react.specs.Outcomes.{fault_of};
+ghost use Rattle.dv_share.specs.Outcomes.{IsOutcomeOf, behaviour_in};
 ghost use Rattle.dv_share.specs.Places.{AreRising, places_of};
-ghost use Rattle.dv_share.specs.Share.{AreAmong, AreComponents, AreEmitted, AreOutcomes, AreReceived, AreTables, StandByPlace, coming, given_at, left_from};
-ghost use Rattle.dv_conservative.specs.Links.{Delivery};
+ghost use Rattle.dv_share.specs.Share.{AreTables, FitsAt, given_at};
+ghost use Rattle.dv_share.specs.declared.tables.Member.{Member};
 
 use crate::place::{Placed, index_of};
 use crate::tables::Tables;
 use dv_bag::{Bags, Fault, Sent};
 use dv_react::{Atomic, Instant, Outcome, Running, compute};
-use std::alloc::{AllocError, Global};
+use std::alloc::AllocError;
 
-/// What comes of the components that emitted or receive something. Nothing changes, and no other component is looked at.
+/// What comes of a component that emitted or receives something. Nothing changes, and no other component is looked at.
 ///
 /// # Errors
 ///
-/// No memory for the outcomes.
-pub fn outcomes<A: Atomic>(
-    alloc: Global,
+/// No memory for a state.
+pub fn outcome<A: Atomic>(
     tables: &Tables<A>,
     work: &mut A::Work,
     instant: &Instant,
-    components: &[Running],
+    component: &Running,
     emitted: &[Placed<Result<Sent, Fault>>],
-    received: &[Placed<Bags>],
-) -> Result<Vec<Placed<Outcome>>, AllocError>
+    arrival: &Placed<Bags>,
+) -> Result<Outcome, AllocError>
     requires tables { AreTables A.fits tables.now }
     requires limit { instant.now.limit ≡ tables.now.limit }
-    requires components { AreComponents A.fits tables.now components.now }
+    requires place { arrival.now.place < length tables.now.members.items }
+    requires wait { IsWaitOfRun tables.now.limit component.now.wait }
+    requires fits { (m : Member) → slice_get tables.now.members.items arrival.now.place ≡ Some m
+        → FitsAt A.fits tables.now.models.items m.model component.now.state }
     requires comes { (a : A) (bags : List Counts) → A.comes a bags }
-    requires emitted { AreEmitted A.behaviour tables.now (rank_of instant.now) components.now emitted.now }
-    requires received { StandByPlace (length tables.now.members.items) received.now }
-    requires all { AreAmong (places_of emitted.now) (places_of received.now) }
-    ensures instant { IfOk result (λ os. (outside : List Counts) (ds : List Delivery)
-        → AreReceived tables.now.members.items (coming tables.now emitted.now outside ds) received.now
-        → AreOutcomes A.behaviour tables.now (rank_of instant.now) components.now outside ds
-        emitted.now os.items) }
-    ensures components { IfOk result (λ os.
-        AreComponents A.fits tables.now (left_from 0 components.now os.items)) }
+    requires rise { AreRising (places_of emitted.now) }
+    requires given { (m : Member) → slice_get tables.now.members.items arrival.now.place ≡ Some m
+        → given_at arrival.now.place emitted.now ≡ emission (behaviour_in A.behaviour tables.now m)
+        (rank_of instant.now) (component_of tables.now.limit component.now) }
+    ensures outcome { IfOk result (IsOutcomeOf A.behaviour A.fits tables.now (rank_of instant.now)
+        component.now (given_at arrival.now.place emitted.now) arrival.now) }
 {
-    let mut outcomes = Vec::with_capacity(alloc, received.len())?;
-    for arrival in received {
-        let place = arrival.place as usize;
-        let component = &components[place];
-        let atomic = &tables.models[tables.members[place].model as usize];
-        let fault = fault_at(emitted, arrival.place);
-        let what = compute(atomic, work, instant, component, &arrival.what, fault)?;
-        outcomes.push(Placed {
-            place: arrival.place,
-            what,
-        })?;
-    }
-    Ok(outcomes)
+    let member = &tables.members[arrival.place as usize];
+    let atomic = &tables.models[member.model as usize];
+    let fault = fault_at(emitted, arrival.place);
+    compute(atomic, work, instant, component, &arrival.what, fault)
 }
 
 // The fault of the output function at a place, if it had one.

@@ -1,10 +1,10 @@
 //! Links in the order of the components that they lead from.
 
-ghost use Rattle.std.specs.Prelude.{◌≡◌, filter, length, ◌≤◌, ◌<◌};
-ghost use Rattle.std.specs.List.{AllWithin};
+ghost use Rattle.std.specs.Prelude.{◌≡◌, filter};
 ghost use Rattle.dv_share.specs.Links.{RiseBySender, leads_from, links_of};
 
 use crate::link::Link;
+use crate::run::run_of;
 use std::marker::Model;
 
 /// Links in the order of the components that they lead from.
@@ -48,20 +48,5 @@ pub fn links_from(links: &[Link], component: u32) -> &[Link]
     requires { RiseBySender links.now }
     ensures { links_of result.now ≡ filter (leads_from component) (links_of links.now) }
 {
-    let (first, end) = places_of(links, component);
-    &links[first..end]
-}
-
-// Where the links of a component begin and end, by two binary searches.
-fn places_of(links: &[Link], component: u32) -> (usize, usize)
-    requires { RiseBySender links.now }
-    ensures order { result.0 ≤ result.1 }
-    ensures within { result.1 ≤ length links.now }
-    ensures before { AllWithin (λ l. l.from < component) links.now 0 result.0 }
-    ensures there { AllWithin (λ l. l.from ≡ component) links.now result.0 result.1 }
-    ensures behind { AllWithin (λ l. component < l.from) links.now result.1 (length links.now) }
-{
-    let first = links.partition_point(|link| link.from < component);
-    let end = links.partition_point(|link| link.from <= component);
-    (first, end)
+    run_of(links, component as usize)
 }

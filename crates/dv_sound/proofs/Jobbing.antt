@@ -1,11 +1,12 @@
 -- What a text meets as a job.
-use Rattle.std.proofs.Common.{◌≡◌, ℕ, zero, suc, ◌+◌, Bool, true, false, ◌&&◌, cond, nat_eq, List, [], ◌∷◌, length, replicate, Option, Some, IsTrue, refl, sym, ap, ◌∙◌, subst, arith}
+use Rattle.std.proofs.Common.{◌≡◌, ℕ, zero, suc, ◌+◌, Bool, true, false, ◌&&◌, cond, nat_eq, List, [], ◌∷◌, length, Option, Some, IsTrue, refl, sym, ap, ◌∙◌, subst, arith}
 use Rattle.std.specs.List.{AllByRecursion, slice_get}
 use Rattle.std.proofs.lemmas.Bool.Decides.{nat_tests}
-use Rattle.dv_time.specs.Time.{micro_of, tick_of}
+use Rattle.dv_time.specs.Time.{time_of}
+use Rattle.dv_time.specs.declared.time.Time.{Time}
 use Rattle.dv_syntax.specs.Trees.{AtomicModel, AtomicTree, FileTree}
 use Rattle.dv_bag.specs.Bag.{Counts, with_copies}
-use Rattle.dv_bag.specs.Inputs.{bags_at, bags_from, inputs_at, values_at, values_into}
+use Rattle.dv_bag.specs.Inputs.{bags_from, inputs_at, is_at, values_at, values_into}
 use Rattle.dv_bag.specs.declared.inputs.Input.{Input}
 use Rattle.dv_bag.specs.declared.state.State.{State}
 use Rattle.dv_devs.specs.NextTimes.{earlier}
@@ -26,35 +27,27 @@ both_true : (a b : Bool) → a ≡ true → b ≡ true → (a && b) ≡ true
 both_true a b h k = rw (h, k) refl
 
 -- inputs of numbers stand in bags of numbers
-values_numbers : (tick port : ℕ) (inputs : List Input) (b : Counts) → AllInputNumbers inputs → is_of_numbers b ≡ true →
-    is_of_numbers (values_into tick port inputs b) ≡ true
-values_numbers tick port [] b h k = k
-values_numbers tick port (i ∷ is) b h k = by_test (values_numbers tick port is) (nat_eq i.tick tick && nat_eq i.port port)
+values_numbers : (t : Time) (port : ℕ) (inputs : List Input) (b : Counts) → AllInputNumbers inputs → is_of_numbers b ≡ true →
+    is_of_numbers (values_into t port inputs b) ≡ true
+values_numbers t port [] b h k = k
+values_numbers t port (i ∷ is) b h k = by_test (values_numbers t port is) (is_at t i && nat_eq i.port port)
   where
-    by_test : ((b : Counts) → AllInputNumbers is → is_of_numbers b ≡ true → is_of_numbers (values_into tick port is b) ≡ true) →
-        (t : Bool) →
-        is_of_numbers (values_into tick port is (cond t (with_copies i.value 1 b) b)) ≡ true
+    by_test : ((b : Counts) → AllInputNumbers is → is_of_numbers b ≡ true → is_of_numbers (values_into t port is b) ≡ true) →
+        (here : Bool) →
+        is_of_numbers (values_into t port is (cond here (with_copies i.value 1 b) b)) ≡ true
     by_test rest true = rest (with_copies i.value 1 b) h.1 (numbers_with i.value 1 b h.0 k)
     by_test rest false = rest b h.1 k
 
-bags_numbers : (port ports : ℕ) (inputs : List Input) (tick : ℕ) → AllInputNumbers inputs →
-    are_of_numbers (bags_from port ports inputs tick) ≡ true
-bags_numbers port zero inputs tick h = refl
-bags_numbers port (suc ports) inputs tick h =
-    both_true (is_of_numbers (values_at tick port inputs)) (are_of_numbers (bags_from (port + 1) ports inputs tick))
-    (values_numbers tick port inputs [] h refl) (bags_numbers (port + 1) ports inputs tick h)
-
-none_numbers : (n : ℕ) → are_of_numbers (replicate n []) ≡ true
-none_numbers zero = refl
-none_numbers (suc n) = none_numbers n
+bags_numbers : (port ports : ℕ) (inputs : List Input) (t : Time) → AllInputNumbers inputs →
+    are_of_numbers (bags_from port ports inputs t) ≡ true
+bags_numbers port zero inputs t h = refl
+bags_numbers port (suc ports) inputs t h =
+    both_true (is_of_numbers (values_at t port inputs)) (are_of_numbers (bags_from (port + 1) ports inputs t))
+    (values_numbers t port inputs [] h refl) (bags_numbers (port + 1) ports inputs t h)
 
 pub numbers_at : (limit ports : ℕ) (inputs : List Input) → AllInputNumbers inputs → (n : ℕ) →
     IsTrue (are_of_numbers (inputs_at limit ports inputs n))
-numbers_at limit ports inputs h n = by_test (nat_eq (micro_of limit n) 0)
-  where
-    by_test : (t : Bool) → are_of_numbers (cond t (bags_at ports inputs (tick_of limit n)) (replicate ports [])) ≡ true
-    by_test true = bags_numbers 0 ports inputs (tick_of limit n) h
-    by_test false = none_numbers ports
+numbers_at limit ports inputs h n = bags_numbers 0 ports inputs (time_of limit n) h
 
 pub numbers_outside : (limit : ℕ) (f : FileTree) (inputs : List Input) → AllInputNumbers inputs → (n : ℕ) →
     IsTrue (are_of_numbers (outside f limit inputs n))

@@ -20,8 +20,8 @@ use dv_conservative::shares::processes_start_sound;
 use dv_devs::laws::runs::holds_end_later;
 
 /// A process of a text is sound: its components keep to the states that fit them and hold numbers, and numbers come from
-/// outside. Where its components start, nothing is committed and nothing came, it has begun, since no hold of a start
-/// state ends at 0.0. No link that leads to a process has the number of another, and none that leads away.
+/// outside. Where its components start, nothing is committed, nothing came and none was looked at, it has begun, since no
+/// hold of a start state ends at 0.0. No link that leads to a process has the number of another, and none that leads away.
 pub fn processes_of_texts_start_sound()
     ensures sound { (names : List (List ℕ)) (f : FileTree) (inputs : List Input)
         (limit horizon processes p : ℕ) (owner : ℕ → ℕ)
@@ -33,7 +33,7 @@ pub fn processes_of_texts_start_sound()
         (owner : ℕ → ℕ) (v : View)
         → v.share ≡ share_of (job_of limit horizon f inputs processes owner) p
         → v.components ≡ (network v.share.flat).start → v.committed ≡ nothing
-        → ((n : ℕ) → DeliverAlike (v.held n) []) → IsBegun v }
+        → ((n : ℕ) → DeliverAlike (v.held n) []) → v.visits ≡ 0 → IsBegun v }
     ensures apart_in { (job : Job) (p : ℕ) → AreApart (share_of job p).incoming }
     ensures apart_out { (job : Job) (p : ℕ)
         → AreApart (map (λ (o : Outgoing). o.number) (share_of job p).outgoing) }

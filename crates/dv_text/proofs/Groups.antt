@@ -30,7 +30,8 @@ both_equal Less b h = cc
 both_equal Equal b h = (refl, h)
 both_equal Greater b h = cc
 
-same_time : (t u : Time) → is_eq (time_cmp t u) ≡ true → t ≡ u
+-- times that compare as equal are the same
+pub same_time : (t u : Time) → is_eq (time_cmp t u) ≡ true → t ≡ u
 same_time t u h =
     let both = both_equal (nat_cmp t.tick u.tick) (nat_cmp t.micro u.micro) h in
     ap (λ n. let x : Time = record { tick = n; micro = t.micro } in x) (same_number t.tick u.tick both.0) ∙ ap

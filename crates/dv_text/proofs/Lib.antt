@@ -5,4 +5,5 @@ pub mod NamesLemmas
 pub mod Rounds
 pub mod Sent
 pub mod Taking
+pub mod Times
 pub mod Values

@@ -1,7 +1,8 @@
 -- What was sent, and the variables of a state.
 use Rattle.std.proofs.Common.{◌≡◌, ◌⊎◌, inl, inr, nat_eq, cond, subst, ℕ, Bool, true, false, List, [], ◌∷◌, ◌++◌, refl, sym, ap}
-use Rattle.std.proofs.Common.{◌∙◌, append_assoc, append-nil}
-use Rattle.dv_bag.specs.Bag.{Counts, size}
+use Rattle.std.proofs.Common.{◌∙◌, append_assoc, append-nil, arith}
+use Rattle.std.proofs.lemmas.Bool.Decides.{nat_tests}
+use Rattle.dv_bag.specs.Bag.{Counts, size, size_of_all}
 use Rattle.dv_bag.specs.declared.state.Datum.{Datum}
 use Rattle.dv_tree.specs.Paths.{name_at, texts_of}
 use Rattle.dv_text.specs.Writing.{sent_from}
@@ -42,6 +43,18 @@ no_ports names bags (inr e) = ap (λ xs. ports_text names xs) e ∙ none names w
   none : (names : List (List ℕ)) → ports_text names [] ≡ []
   none [] = refl
   none (n ∷ names) = refl
+
+no_values : (b : Counts) (bags : List Counts) → nat_eq (size_of_all (b ∷ bags)) 0 ≡ true →
+    (nat_eq (size b) 0 ≡ true) × (nat_eq (size_of_all bags) 0 ≡ true)
+no_values b bags h = grind (arith, nat_tests)
+
+-- where nothing was sent there is no port with values
+pub nothing_sent : (names : List (List ℕ)) (bags : List Counts) → nat_eq (size_of_all bags) 0 ≡ true → ports_text names bags ≡ []
+nothing_sent names [] h = no_ports names [] (inr refl)
+nothing_sent [] (b ∷ bags) h = refl
+nothing_sent (n ∷ names) (b ∷ bags) h =
+    let none = no_values b bags h in
+    ap (λ e. cond e [] ((32 ∷ n) ++ (58 ∷ values_text b)) ++ ports_text names bags) none.0 ∙ nothing_sent names bags none.1
 
 either_texts : {A : Type 0} (names : List (List ℕ)) (ns : List ℕ) (xs : List A) → (ns ≡ []) ⊎ (xs ≡ []) →
     (texts_of names ns ≡ []) ⊎ (xs ≡ [])

@@ -1,5 +1,4 @@
--- Serves proofs: how a text is made of a trace alone, by merging its lines by time.
--- A law of this crate says that it is the text of the instants one after the other.
+-- Serves proofs: how the text of a part is made, by merging its lines by time. For a part that stands by time it is `part_text`.
 use Rattle.std.specs.Prelude.{ℕ, if◌then◌else◌, List, [], ◌∷◌, ◌++◌, codes}
 use Rattle.std.specs.List.{flat_map}
 use Rattle.std.specs.Ordering.{is_eq}

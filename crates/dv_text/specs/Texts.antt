@@ -1,9 +1,10 @@
 -- The bytes of a trace: the text of each instant, one after the other, and the end.
-use Rattle.std.specs.Prelude.{ℕ, zero, suc, true, false, nat_eq, if◌then◌else◌, List, [], ◌∷◌, ◌++◌, map, min, slice_get, unwrap_or, codes}
+use Rattle.std.specs.Prelude.{ℕ, zero, suc, true, false, nat_eq, if◌then◌else◌, List, [], ◌∷◌, ◌++◌, map, min, slice_get, unwrap_or, codes, filter}
 use Rattle.std.specs.Fmt.{decimal, signed_decimal}
 use Rattle.std.specs.List.{flat_map}
+use Rattle.std.specs.Ordering.{is_eq}
 use Rattle.dv_time.specs.declared.time.Time.{Time}
-use Rattle.dv_time.specs.Time.{end_of, rank, time_of, time_text}
+use Rattle.dv_time.specs.Time.{end_of, is_before, rank, time_cmp, time_of, time_text}
 use Rattle.dv_tree.specs.Paths.{name_at}
 use Rattle.dv_bag.specs.Bag.{Counts, values_of, size}
 use Rattle.dv_bag.specs.Part.{PartOf}
@@ -88,6 +89,30 @@ outers_text outputs t (o ∷ os) = time_text t ++ (codes " out" ++ (flat_map (ou
 -- the lines of an instant: those of its entries, and then that of what leaves
 abbrev pub instant_text : List ComponentNames → List (List ℕ) → Time → PartOf → List ℕ
 instant_text all outputs t p = flat_map (λ (e : Entry). entry_text (names_at all e.component) e) p.entries ++ outers_text outputs t p.outer
+
+-- what of a part is at a time
+abbrev pub only_at : Time → PartOf → PartOf
+only_at t p = record {
+  entries = filter (λ (e : Entry). is_eq (time_cmp e.time t)) p.entries;
+  outer = filter (λ (o : Outer). is_eq (time_cmp o.time t)) p.outer;
+}
+
+-- ascending times with one more; each stands once
+abbrev pub with_time : Time → List Time → List Time
+with_time t [] = t ∷ []
+with_time t (u ∷ us) = if is_before t u then t ∷ u ∷ us else (if is_before u t then u ∷ with_time t us else u ∷ us)
+
+abbrev pub ascending : List Time → List Time
+ascending [] = []
+ascending (t ∷ ts) = with_time t (ascending ts)
+
+-- the times of a part, ascending, each once
+abbrev pub times_of : PartOf → List Time
+times_of p = ascending (map (λ (e : Entry). e.time) p.entries ++ map (λ (o : Outer). o.time) p.outer)
+
+-- the lines of a part: those of each of its times, one time after the other
+abbrev pub part_text : List ComponentNames → List (List ℕ) → PartOf → List ℕ
+part_text all outputs p = flat_map (λ t. instant_text all outputs t (only_at t p)) (times_of p)
 
 -- the lines of all instants of a run before a rank, one instant after the other
 abbrev pub instants_text : {I : Type 0} → List ComponentNames → List (List ℕ) → (limit : ℕ) → Network I → (ℕ → I) → ℕ → List ℕ

@@ -5,7 +5,7 @@ ghost use Rattle.std.specs.Io.KnownBytes.{Appends};
 ghost use Rattle.dv_text.specs.Texts.{port_text, values_text};
 ghost use Rattle.dv_text.specs.Writing.{AppendsBeginning, StopsShort, TakesFront, values_from};
 
-use crate::pieces::push_value;
+use crate::pieces::{push_port_name, push_value};
 use crate::writing::WriteError;
 use dv_bag::Bag;
 use std::io::Write;
@@ -60,7 +60,7 @@ pub fn write_port<W: Write>(
     if values.is_empty() {
         return Ok(());
     }
-    write!(line, " {name}:")?;
+    push_port_name(line, name)?;
     write_values(line, writer, values)
 }
 

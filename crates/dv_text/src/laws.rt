@@ -7,26 +7,26 @@ ghost use Rattle.dv_devs.specs.Network.{Network, trace_before};
 ghost use Rattle.dv_devs.specs.Models.{clock};
 ghost use Rattle.dv_devs.specs.Rows.{no_input};
 ghost use Rattle.dv_text.specs.Clock.{clock_names, clock_outputs};
-ghost use Rattle.dv_text.specs.Merging.{text_of, trace_text};
 ghost use Rattle.dv_text.specs.declared.writing.Ending.TheVariants.{Whole};
-ghost use Rattle.dv_text.specs.Texts.{ComponentNames, instants_text, whole_text};
+ghost use Rattle.dv_text.specs.Texts.{ComponentNames, ending_text, instants_text, part_text, whole_text};
 
-use dv_devs::laws::parts::instants_are_at_their_time;
+use dv_devs::laws::parts::{instants_are_at_their_time, parts_are_by_time};
 
-/// The lines of a trace that is cut before a rank, merged by time, are those of its instants one after the other. So is a
-/// whole text.
+/// The lines of a network's trace that is cut before a rank are those of its instants one after the other. So is a whole
+/// text.
 pub fn a_trace_is_its_instants<I>()
     ensures lines { (all : List ComponentNames) (outputs : List (List ℕ))
         → (limit : ℕ) (net : Network I) (inputs : ℕ → I) (n : ℕ)
-        → trace_text all outputs (trace_before limit net inputs n)
+        → part_text all outputs (trace_before limit net inputs n)
         ≡ instants_text all outputs limit net inputs n }
     ensures whole { (all : List ComponentNames) (outputs : List (List ℕ))
         → (limit : ℕ) (net : Network I) (inputs : ℕ → I) (horizon : ℕ)
-        → text_of all outputs (trace_before limit net inputs (end_of limit horizon))
-        (Whole horizon)
+        → part_text all outputs (trace_before limit net inputs (end_of limit horizon))
+        ++ ending_text (Whole horizon)
         ≡ whole_text all outputs limit net inputs horizon }
 {
     instants_are_at_their_time::<I>();
+    parts_are_by_time::<I>();
 }
 
 /// The text of a clock to a horizon of 12: what it did, and what left, at 5.0 and at 10.0.

@@ -1,8 +1,8 @@
 //! The pieces of a line, put at the end of the text so far.
 
-ghost use Rattle.std.specs.Prelude.{◌≡◌, ◌↔◌, ◌++◌, ◌∷◌, [], IsTrue, OnOk, if◌then◌else◌, replicate, string_bytes};
+ghost use Rattle.std.specs.Prelude.{◌≡◌, ◌↔◌, ◌++◌, ◌∷◌, [], IsTrue, OnOk, codes, if◌then◌else◌, replicate, string_bytes};
 ghost use Rattle.std.specs.Ordering.{is_eq};
-ghost use Rattle.dv_time.specs.Time.{time_cmp};
+ghost use Rattle.dv_time.specs.Time.{time_cmp, time_text};
 ghost use Rattle.dv_bag.specs.Reading.{datum_of};
 ghost use Rattle.std.specs.Fmt.{signed_decimal};
 ghost use Rattle.dv_text.specs.Texts.{clock_text, clocks_text, datum_text, ending_text, port_text, values_text};
@@ -11,6 +11,7 @@ ghost use Rattle.dv_text.specs.Writing.{values_from};
 use crate::writing::Ending;
 use dv_bag::{Bag, DatumView};
 use dv_time::Time;
+use itoa::Buffer;
 use std::alloc::AllocError;
 
 pub fn is_same(first: Time, second: Time) -> bool
@@ -20,16 +21,30 @@ pub fn is_same(first: Time, second: Time) -> bool
     first == second
 }
 
+/// A time, as `tick.micro`.
+pub fn push_time(line: &mut String, time: Time) -> Result<(), AllocError>
+    ensures { OnOk result (string_bytes line.new ≡ string_bytes line.old ++ time_text time) }
+{
+    line.push_str(Buffer::new().format(time.tick))?;
+    line.push('.')?;
+    line.push_str(Buffer::new().format(time.micro))
+}
+
+fn push_number(line: &mut String, number: i64) -> Result<(), AllocError>
+    ensures { OnOk result (string_bytes line.new ≡ string_bytes line.old ++ signed_decimal number) }
+{
+    line.push_str(Buffer::new().format(number))
+}
+
 /// A value, with a comma before it unless it is the first.
 pub fn push_value(line: &mut String, is_first: bool, value: i64) -> Result<(), AllocError>
     ensures { OnOk result (string_bytes line.new ≡
         string_bytes line.old ++ ((if is_first then [] else 44 ∷ []) ++ signed_decimal value)) }
 {
-    if is_first {
-        write!(line, "{value}")
-    } else {
-        write!(line, ",{value}")
+    if !is_first {
+        line.push(',')?;
     }
+    push_number(line, value)
 }
 
 // Copies of a value, with a comma before each but the first of all.
@@ -67,8 +82,9 @@ pub fn push_datum(line: &mut String, datum: DatumView) -> Result<(), AllocError>
         string_bytes line.old ++ datum_text (datum_of datum.entry)) }
 {
     match datum {
-        DatumView::Number(number) => write!(line, "{number}"),
-        DatumView::Flag(flag) => write!(line, "{flag}"),
+        DatumView::Number(number) => push_number(line, number),
+        DatumView::Flag(true) => line.push_str("true"),
+        DatumView::Flag(false) => line.push_str("false"),
         DatumView::Bag(values) => {
             line.push('[')?;
             push_values(line, values)?;
@@ -85,8 +101,27 @@ pub fn push_port(line: &mut String, name: &str, values: &Bag) -> Result<(), Allo
     if values.is_empty() {
         return Ok(());
     }
-    write!(line, " {name}:")?;
+    push_port_name(line, name)?;
     push_values(line, values)
+}
+
+/// The name of a port, before its values.
+pub fn push_port_name(line: &mut String, name: &str) -> Result<(), AllocError>
+    ensures { OnOk result (string_bytes line.new ≡
+        string_bytes line.old ++ ((32 ∷ name.now) ++ (58 ∷ []))) }
+{
+    line.push(' ')?;
+    line.push_str(name)?;
+    line.push(':')
+}
+
+/// The front of the line of what leaves at a time.
+pub fn push_out(line: &mut String, time: Time) -> Result<(), AllocError>
+    ensures { OnOk result (string_bytes line.new ≡
+        string_bytes line.old ++ (time_text time ++ codes " out")) }
+{
+    push_time(line, time)?;
+    line.push_str(" out")
 }
 
 pub fn push_end(line: &mut String, ending: &Ending) -> Result<(), AllocError>

@@ -1,61 +1,60 @@
 //! The names by which a component is written, and the words for what happened to it.
 
 ghost use Rattle.std.specs.Prelude.{◌≡◌, ◌++◌, ◌∷◌, [], OnOk, string_bytes, ℕ, List, IfOk};
-ghost use Rattle.dv_tree.specs.Paths.{name_at, texts_of};
-ghost use Rattle.dv_text.specs.Names.{tree_names, tree_ports};
+ghost use Rattle.dv_time.specs.Time.{time_text};
+ghost use Rattle.dv_bag.specs.Bag.{bag_at};
+ghost use Rattle.dv_bag.specs.Words.{kind_word};
+ghost use Rattle.dv_tree.specs.Paths.{name_at};
+ghost use Rattle.dv_text.specs.Names.{names_found, tree_names, tree_ports};
 ghost use Rattle.dv_text.specs.Texts.{entry_text, names_at, port_text, ports_text, sent_text, variables_text, what_text};
 ghost use Rattle.dv_text.specs.Writing.{sent_from};
 
-use crate::pieces::{push_datum, push_port};
-use dv_bag::{Bag, Entry, Sent, Variables, What};
+use crate::pieces::{push_datum, push_port, push_time};
+use dv_bag::{Entry, Kind, Sent, Variables, What};
+use dv_time::Time;
 use dv_tree::Tree;
 use std::alloc::AllocError;
 
-fn path<'t>(tree: &'t Tree<'_>, component: u32) -> &'t str
-    ensures { result.now ≡ (names_at (tree_names tree.now) component).path }
-{
-    let component = component as usize;
-    if component < tree.component_count() {
-        tree.path(component)
-    } else {
-        ""
-    }
+/// The names by which a component is written: its path, and the numbers of the names that its model declares.
+#[derive(Drop)]
+pub struct Words<'t> {
+    tree: &'t Tree<'t>,
+    path: &'t str,
+    phases: &'t [u32],
+    variables: &'t [u32],
+    outputs: &'t [u32],
 }
 
-fn phase_name<'t>(tree: &'t Tree<'_>, component: u32, phase: u32) -> &'t str
-    ensures { result.now ≡ name_at (names_at (tree_names tree.now) component).phases phase }
+// They are looked up once for a line. There are none for a number that no component has.
+fn words_of<'t>(tree: &'t Tree<'t>, component: u32) -> Words<'t>
+    ensures { names_found result ≡ names_at (tree_names tree.now) component }
 {
     let component = component as usize;
     if component >= tree.component_count() {
-        return "";
+        return Words {
+            tree,
+            path: "",
+            phases: &[],
+            variables: &[],
+            outputs: &[],
+        };
     }
-    match tree.scope(component).phase_name(phase) {
-        Some(number) => tree.name(number),
+    let scope = tree.scope(component);
+    Words {
+        tree,
+        path: tree.path(component),
+        phases: scope.phases(),
+        variables: scope.variables(),
+        outputs: scope.outputs(),
+    }
+}
+
+fn phase_name<'t>(words: &Words<'t>, phase: u32) -> &'t str
+    ensures { result.now ≡ name_at (names_found words.now).phases phase }
+{
+    match words.phases.get(phase as usize) {
+        Some(number) => words.tree.name(*number),
         None => "",
-    }
-}
-
-fn variables<'t>(tree: &'t Tree<'_>, component: u32) -> &'t [u32]
-    ensures { texts_of tree.now.names result.now
-        ≡ (names_at (tree_names tree.now) component).variables }
-{
-    let component = component as usize;
-    if component < tree.component_count() {
-        tree.scope(component).variables()
-    } else {
-        &[]
-    }
-}
-
-fn outputs<'t>(tree: &'t Tree<'_>, component: u32) -> &'t [u32]
-    ensures { texts_of tree.now.names result.now
-        ≡ (names_at (tree_names tree.now) component).outputs }
-{
-    let component = component as usize;
-    if component < tree.component_count() {
-        tree.scope(component).outputs()
-    } else {
-        &[]
     }
 }
 
@@ -71,36 +70,43 @@ pub fn root_port<'t>(tree: &'t Tree<'_>, port: u32) -> &'t str
     }
 }
 
-fn push_variables(
-    line: &mut String,
-    tree: &Tree,
-    names: &[u32],
-    variables: &Variables,
-) -> Result<(), AllocError>
-    ensures { OnOk result (string_bytes line.new ≡
-        string_bytes line.old ++ variables_text (texts_of tree.now.names names.now) variables.now) }
+fn push_variables(line: &mut String, words: &Words, variables: &Variables) -> Result<(), AllocError>
+    ensures { OnOk result (string_bytes line.new ≡ string_bytes line.old
+        ++ variables_text (names_found words.now).variables variables.now) }
 {
-    for (place, name) in names.iter().enumerate() {
+    for (place, name) in words.variables.iter().enumerate() {
         let Some(datum) = variables.get(place) else {
             return Ok(());
         };
-        write!(line, " {}=", tree.name(*name))?;
+        push_variable_name(line, words.tree.name(*name))?;
         push_datum(line, datum)?;
     }
     Ok(())
 }
 
-fn push_sent(line: &mut String, tree: &Tree, names: &[u32], sent: &Sent) -> Result<(), AllocError>
+// The name of a variable, before its value.
+fn push_variable_name(line: &mut String, name: &str) -> Result<(), AllocError>
     ensures { OnOk result (string_bytes line.new ≡
-        string_bytes line.old
-        ++ sent_text (ports_text (texts_of tree.now.names names.now) sent.now)) }
+        string_bytes line.old ++ ((32 ∷ name.now) ++ (61 ∷ []))) }
 {
+    line.push(' ')?;
+    line.push_str(name)?;
+    line.push('=')
+}
+
+fn push_sent(line: &mut String, words: &Words, sent: &Sent) -> Result<(), AllocError>
+    ensures { OnOk result (string_bytes line.new ≡ string_bytes line.old
+        ++ sent_text (ports_text (names_found words.now).outputs sent.now)) }
+{
+    if sent.is_empty() {
+        return Ok(());
+    }
     let mut is_first = true;
-    for (port, name) in names.iter().enumerate() {
+    for (port, name) in words.outputs.iter().enumerate() {
         if port >= sent.len() {
             return Ok(());
         }
-        is_first = push_next_port(line, is_first, tree.name(*name), &sent.bag(port)?)?;
+        is_first = push_next_port(line, is_first, words.tree.name(*name), sent, port)?;
     }
     Ok(())
 }
@@ -111,30 +117,45 @@ fn push_next_port(
     line: &mut String,
     is_first: bool,
     name: &str,
-    values: &Bag,
+    sent: &Sent,
+    port: usize,
 ) -> Result<bool, AllocError>
     ensures { IfOk result (λ still_first. (rest : List ℕ) →
         string_bytes line.new ++ sent_from still_first rest
-        ≡ string_bytes line.old ++ sent_from is_first (port_text name.now values.now ++ rest)) }
+        ≡ string_bytes line.old
+        ++ sent_from is_first (port_text name.now (bag_at sent.now port) ++ rest)) }
 {
+    let values = sent.bag(port)?;
     if values.is_empty() {
         return Ok(is_first);
     }
     if is_first {
         line.push_str(" >")?;
     }
-    push_port(line, name, values)?;
+    push_port(line, name, &values)?;
     Ok(false)
 }
 
-fn push_what(line: &mut String, tree: &Tree, component: u32, what: &What) -> Result<(), AllocError>
+fn kind_word(kind: Kind) -> &'static str
+    ensures { result.now ≡ kind_word kind }
+{
+    match kind {
+        Kind::Internal => "i",
+        Kind::External => "e",
+        Kind::Confluent => "c",
+    }
+}
+
+fn push_what(line: &mut String, words: &Words, what: &What) -> Result<(), AllocError>
     ensures { OnOk result (string_bytes line.new ≡
-        string_bytes line.old ++ what_text (names_at (tree_names tree.now) component) what.now) }
+        string_bytes line.old ++ what_text (names_found words.now) what.now) }
 {
     match what {
         What::Transition { kind, state } => {
-            write!(line, "{kind} {}", phase_name(tree, component, state.phase))?;
-            push_variables(line, tree, variables(tree, component), &state.variables)
+            line.push_str(kind_word(*kind))?;
+            line.push(' ')?;
+            line.push_str(phase_name(words, state.phase))?;
+            push_variables(line, words, &state.variables)
         }
         What::Fault(fault) => write!(line, "fault {fault}"),
     }
@@ -146,8 +167,26 @@ pub fn push_entry(line: &mut String, tree: &Tree, entry: &Entry) -> Result<(), A
         string_bytes line.old
         ++ entry_text (names_at (tree_names tree.now) entry.now.component) entry.now) }
 {
-    write!(line, "{} {} ", entry.time, path(tree, entry.component))?;
-    push_what(line, tree, entry.component, &entry.what)?;
-    push_sent(line, tree, outputs(tree, entry.component), &entry.sent)?;
+    push_line(line, &words_of(tree, entry.component), entry)
+}
+
+fn push_line(line: &mut String, words: &Words, entry: &Entry) -> Result<(), AllocError>
+    ensures { OnOk result (string_bytes line.new ≡
+        string_bytes line.old ++ entry_text (names_found words.now) entry.now) }
+{
+    push_front(line, entry.time, words.path)?;
+    push_what(line, words, &entry.what)?;
+    push_sent(line, words, &entry.sent)?;
     line.push('\n')
+}
+
+// The front of a line: a time, and the path of a component.
+fn push_front(line: &mut String, time: Time, path: &str) -> Result<(), AllocError>
+    ensures { OnOk result (string_bytes line.new ≡
+        string_bytes line.old ++ (time_text time ++ ((32 ∷ path.now) ++ (32 ∷ [])))) }
+{
+    push_time(line, time)?;
+    line.push(' ')?;
+    line.push_str(path)?;
+    line.push(' ')
 }

@@ -3,12 +3,14 @@
 ghost use Rattle.std.specs.Prelude.{◌≡◌, ◌++◌, ◌-◌, ◌≤◌, length, OnErr, OnOk, IfOk, string_bytes};
 ghost use Rattle.std.specs.Io.KnownBytes.{Appends};
 ghost use Rattle.std.specs.List.{flat_map};
+ghost use Rattle.dv_bag.specs.Part.{IsByTime};
 ghost use Rattle.dv_text.specs.Merging.{first_text, group_text, groups_before, groups_from, groups_of, other_groups, text_of};
 ghost use Rattle.dv_text.specs.Names.{tree_names, tree_ports};
+ghost use Rattle.dv_text.specs.Texts.{ending_text, part_text};
 ghost use Rattle.dv_text.specs.Writing.{AppendsBeginning, StopsShort, TakesFront};
 
 use crate::handing::{hand_over, hand_over_if_long, write_port};
-use crate::pieces::{is_same, push_end};
+use crate::pieces::{is_same, push_end, push_out};
 use crate::words::{push_entry, root_port};
 use dv_bag::{Entry, Outer, Trace};
 use dv_time::Time;
@@ -44,13 +46,33 @@ impl From<AllocError> for WriteError {
     }
 }
 
-/// Writes the text of a trace. A write that failed is not tried again.
+/// Writes the text of a trace, whole or cut, that stands by time. A write that failed is not tried again.
 ///
 /// # Errors
 ///
 /// `WriteError::Write` where a write failed or took nothing, `WriteError::Memory` where memory was refused. A
 /// beginning of the text was written then, and not all of it.
 pub fn write_trace<W: Write>(
+    alloc: Global,
+    trace: &Trace,
+    tree: &Tree,
+    ending: &Ending,
+    writer: &mut W,
+) -> Result<(), WriteError>
+    ensures ok { IsByTime trace.now
+        → OnOk result (Appends (W.contents writer.old) (W.contents writer.new)
+        (part_text (tree_names tree.now) (tree_ports tree.now) trace.now
+        ++ ending_text ending.now)) }
+    ensures err { IsByTime trace.now
+        → OnErr result (StopsShort (W.contents writer.old) (W.contents writer.new)
+        (part_text (tree_names tree.now) (tree_ports tree.now) trace.now
+        ++ ending_text ending.now)) }
+{
+    write_merged(alloc, trace, tree, ending, writer)
+}
+
+// Writes the lines of a trace, merged by time, and the end.
+fn write_merged<W: Write>(
     alloc: Global,
     trace: &Trace,
     tree: &Tree,
@@ -151,7 +173,7 @@ fn write_group<'o, W: Write>(
     let Some((first, after)) = outer.split_first() else {
         return Ok(outer);
     };
-    write!(line, "{} out", first.time)?;
+    push_out(line, first.time)?;
     write_port(line, writer, root_port(tree, first.port), &first.values)?;
     let mut rest = after;
     while let Some((next, after)) = rest.split_first()

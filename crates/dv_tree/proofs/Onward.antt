@@ -14,7 +14,7 @@ use Rattle.dv_syntax.specs.declared.tree.Part.{Part}
 use Rattle.dv_syntax.specs.declared.tree.Link.{Link}
 use Rattle.dv_eval.specs.Scope.{place_of}
 use Rattle.dv_bag.specs.Bag.{Counts, bag_at, total}
-use Rattle.dv_check.specs.Accepted.{IsAcceptedCoupled, IsAcceptedFile, IsAcceptedModel, LeadsOn}
+use Rattle.dv_check.specs.CheckedFiles.{IsCheckedCoupled, IsCheckedFile, IsCheckedModel, LeadsOn}
 use Rattle.dv_check.specs.Names.{model_named, name_of_model, numbers_of}
 use Rattle.dv_check.specs.Couplings.{same_part}
 use Rattle.dv_check.specs.Tree.{PartTree, NoParts, AtomicPart, CoupledPart, component_count, parts_by, parts_to, tree_of, with_part}
@@ -168,7 +168,7 @@ module _ (models : List ModelTree) (m : CoupledTree) where
     links_away j links h.1,
   )
 
-  couplings_onward : IsAcceptedCoupled models m → LeadOnward (couplings_of_parts models m)
+  couplings_onward : IsCheckedCoupled models m → LeadOnward (couplings_of_parts models m)
   couplings_onward accepted j =
       let n = length (shown_parts models m) in
       let Elsewhere : List Coupling → Type 0 = LeadElsewhere j in
@@ -183,33 +183,33 @@ module _ (models : List ModelTree) (m : CoupledTree) where
       (omega (arith, past, length-map-range_with_len (part_couplings (placed_links models m)) 0 n)))) tt) (cases_lt j n)
 
 -- a model that a name stands for is accepted
-first_accepted : (all : List ModelTree) (x : ModelTree) (b : Bool) (o : Option ModelTree) → IsAcceptedModel all x →
-    IfSome o (IsAcceptedModel all) → IfSome (cond b (Some x) o) (IsAcceptedModel all)
+first_accepted : (all : List ModelTree) (x : ModelTree) (b : Bool) (o : Option ModelTree) → IsCheckedModel all x →
+    IfSome o (IsCheckedModel all) → IfSome (cond b (Some x) o) (IsCheckedModel all)
 first_accepted all x true o h rest = h
 first_accepted all x false o h rest = rest
 
-named_accepted : (all models : List ModelTree) (number : ℕ) → AllByRecursion (IsAcceptedModel all) models →
-    IfSome (model_named number models) (IsAcceptedModel all)
+named_accepted : (all models : List ModelTree) (number : ℕ) → AllByRecursion (IsCheckedModel all) models →
+    IfSome (model_named number models) (IsCheckedModel all)
 named_accepted all [] number h = tt
 named_accepted all (x ∷ models) number h =
     first_accepted all x (eqb (name_of_model x).number number) (model_named number models) h.0 (named_accepted all models number h.1)
 
 -- the parts of accepted models
 part_onward : (models : List ModelTree) (inside : CoupledTree → PartTree) → ((m : CoupledTree) → IsOnward models (inside m)) →
-    (name : Name) (o : Option ModelTree) (rest : PartTree) → IfSome o (IsAcceptedModel models) → IsOnward models rest →
+    (name : Name) (o : Option ModelTree) (rest : PartTree) → IfSome o (IsCheckedModel models) → IsOnward models rest →
     IsOnward models (with_part inside name o rest)
 part_onward models inside below name None rest h onward = onward
 part_onward models inside below name (Some (AtomicModel m)) rest h onward = onward
 part_onward models inside below name (Some (CoupledModel m)) rest h onward = (couplings_onward models m h, below m, onward)
 
-parts_onward : (models : List ModelTree) → AllByRecursion (IsAcceptedModel models) models → (inside : CoupledTree → PartTree) →
+parts_onward : (models : List ModelTree) → AllByRecursion (IsCheckedModel models) models → (inside : CoupledTree → PartTree) →
     ((m : CoupledTree) → IsOnward models (inside m)) → (parts : List Part) → IsOnward models (parts_by inside models parts)
 parts_onward models accepted inside below [] = tt
 parts_onward models accepted inside below (p ∷ parts) =
     part_onward models inside below p.name (model_named p.model.number models) (parts_by inside models parts)
     (named_accepted models models p.model.number accepted) (parts_onward models accepted inside below parts)
 
-onward_to : (models : List ModelTree) → AllByRecursion (IsAcceptedModel models) models → (depth : ℕ) (m : CoupledTree) →
+onward_to : (models : List ModelTree) → AllByRecursion (IsCheckedModel models) models → (depth : ℕ) (m : CoupledTree) →
     IsOnward models (parts_to depth models m)
 onward_to models accepted zero m = tt
 onward_to models accepted (suc depth) m = parts_onward models accepted (parts_to depth models) (onward_to models accepted depth) m.parts
@@ -368,7 +368,7 @@ module _ (models : List ModelTree) where
       (λ k other. empty_dropped n k sent (only (n + k) (λ e. other (omega (arith, e))))))) (cases_lt c n)
 
 root_arrives_empty : (models : List ModelTree) (root : Option CoupledTree) (c : ℕ) (sent : List (List Counts)) →
-    AllByRecursion (IsAcceptedModel models) models → IfSome root (IsAcceptedCoupled models) → OnlyFrom c sent →
+    AllByRecursion (IsCheckedModel models) models → IfSome root (IsCheckedCoupled models) → OnlyFrom c sent →
     IsEmpty (get_or (arrives_in_root models root sent []) c [])
 root_arrives_empty models None c sent accepted root only = λ port. refl
 root_arrives_empty models (Some m) c sent accepted root only =
@@ -377,8 +377,8 @@ root_arrives_empty models (Some m) c sent accepted root only =
     (to_part_empty models m t c sent [] (couplings_onward models m root) only (λ port. refl)) only
 
 -- of what one component sends nothing arrives at that component
-pub nothing_returns : (f : FileTree) → IsAcceptedFile f → (c : ℕ) (sent : List (List Counts)) → OnlyFrom c sent →
+pub nothing_returns : (f : FileTree) → IsCheckedFile f → (c : ℕ) (sent : List (List Counts)) → OnlyFrom c sent →
     IsEmpty (get_or (arrives f sent []) c [])
 nothing_returns f accepted c sent only =
-    let Root : Option ModelTree → Type 0 = λ o. IfSome (coupled_model o) (IsAcceptedCoupled f.models) in
+    let Root : Option ModelTree → Type 0 = λ o. IfSome (coupled_model o) (IsCheckedCoupled f.models) in
     root_arrives_empty f.models (root_of f) c sent accepted.models (subst Root (sym accepted.named) accepted.coupled) only

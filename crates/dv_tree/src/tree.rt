@@ -18,7 +18,7 @@ use crate::tables::{
     self, inputs, model_numbers, numbers, outputs, root_inputs, root_outputs, scopes,
 };
 use dv_bag::{Bags, Sent};
-use dv_check::laws::accepted_files;
+use dv_check::laws::checked_files;
 use dv_check::{Checked, GREATEST_COMPONENTS, GREATEST_DEPTH, GREATEST_NAMES};
 use dv_eval::Scope;
 use dv_lex::Names;
@@ -129,7 +129,7 @@ impl<'c> Tree<'c> {
         ensures value { result ≡ length (instances (file_of self.now.file)) }
         ensures at_most { result ≤ GREATEST_COMPONENTS }
     {
-        accepted_files();
+        checked_files();
         self.components.len()
     }
 
@@ -195,7 +195,7 @@ impl<'c> Tree<'c> {
         ensures value { result ≡ length (root_inputs (file_of self.now.file)) }
         ensures at_most { result ≤ GREATEST_NAMES }
     {
-        accepted_files();
+        checked_files();
         self.inputs.len()
     }
 
@@ -209,7 +209,7 @@ impl<'c> Tree<'c> {
             ≡ texts_of self.now.names (root_inputs (file_of self.now.file))) }
         ensures few { IfOk result (λ names. length names.items ≤ GREATEST_NAMES) }
     {
-        accepted_files();
+        checked_files();
         texts_of(alloc, &self.inputs, &self.checked.names)
     }
 
@@ -242,7 +242,7 @@ impl<'c> Tree<'c> {
             ≡ leaves (file_of self.now.file) sent.now) }
         ensures at_most { IfOk result (λ routed. length routed.leaving ≤ GREATEST_NAMES) }
     {
-        accepted_files();
+        checked_files();
         route(
             alloc,
             root_level(&self.levels, self.root),

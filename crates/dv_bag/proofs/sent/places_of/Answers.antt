@@ -1,7 +1,8 @@
 use Rattle.std.proofs.Common.{leb, ltb, inl, inr, arith, rules}
 use Rattle.std.proofs.lemmas.Bool.{cases_lt, leb-false, leb-true, ltb-false, ltb-true}
 use Rattle.std.proofs.lemmas.List.Sorted.{IsPartitionPoint-from_clause, IsPartitionedBy-leb, IsPartitionedBy-ltb}
-use Rattle.dv_bag.proofs.Sendings.{no_sending, rise_by_port}
+use Rattle.dv_bag.proofs.SendingOrder.{rise_by_port}
+use Rattle.dv_bag.proofs.Sendings.{no_sending}
 use Rattle.dv_bag.proofs.sent.places_of.Goals as goal
 
 pub returns-clause-before : goal.returns-clause-before

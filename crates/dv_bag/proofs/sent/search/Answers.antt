@@ -1,19 +1,17 @@
-use Rattle.std.proofs.Common.{rules, sym}
-use Rattle.std.proofs.lemmas.Cmp.{int_ranked}
+use Rattle.std.proofs.Common.{rules}
+use Rattle.std.proofs.lemmas.Fn.{always_returns_same}
 use Rattle.std.proofs.lemmas.Int.{to_z-of_z}
-use Rattle.std.proofs.lemmas.List.Sorted.{answers_always}
-use mir.Syntax.{w64}
-use mir.Val.{SFits}
-use Rattle.dv_bag.proofs.Sendings.{found_in_part}
+use Rattle.dv_bag.specs.Sent.{sending_cmp}
+use Rattle.dv_bag.specs.declared.sent.Sending.{Sending}
+use Rattle.dv_bag.proofs.SendingOrder.{searched_sendings}
 use Rattle.dv_bag.proofs.sent.search.Goals as goal
 
--- the closure gives the value of a sending
-pub returns-in-Ok-clause-found : goal.returns-in-Ok-clause-found
-returns-in-Ok-clause-found c =
-    let places = c.places_of-first.ensures in
-    let facts = c.in-Ok.ensures in
-    let by_value = facts.position (λ s. s.value) (answers_always _ _ _ (λ f a r g called. search rules)) in
-    let fits : SFits w64 c.args.value = c.ranges.value in
-    let by_number = simp to_z-of_z at by_value in
-    found_in_part _ _ c.args.sendings.now _ _ c.in-Ok.place places.order places.within places.there facts.bound
-    (λ d. int_ranked _ _ _ (sym (by_number d)))
+-- the closure compares a sending by port and then by value
+pub returns : goal.returns
+returns c =
+    let facts = c.binary_search_by.ensures in
+    let number = to_z-of_z _ _ c.ranges.value in
+    let by_order = λ (s : Sending). sending_cmp s.port s.value c.args.port c.args.value in
+    let compared = facts.position by_order (always_returns_same _ _ _ (λ a r g called. simp number (search rules))) in
+    let ends = searched_sendings _ _ c.args.sendings.now c.binary_search_by.result c.requires facts.bound compared in
+    record { found = ends.found; absent = ends.absent }

@@ -1,5 +1,4 @@
-use Rattle.std.proofs.Common.{◌≡◌, ◌∙◌, ℕ, List, [], length, map, sym, ap, subst}
-use Rattle.dv_bag.specs.Bag.{Counts}
+use Rattle.std.proofs.Common.{◌≡◌, ◌∙◌, List, map, sym, ap, subst}
 use Rattle.dv_conservative.specs.Flat.{network}
 use Rattle.dv_conservative.specs.Links.{Delivery, delivered}
 use Rattle.dv_conservative.specs.Process.{Outgoing, Share}
@@ -8,10 +7,9 @@ use Rattle.dv_devs.specs.NextTimes.{IsFrom, least_next}
 use Rattle.dv_proc.specs.Arriving.{AreApart}
 use Rattle.dv_proc.specs.Standing.{IsBegun}
 use Rattle.dv_react.specs.Components.{components_of}
-use Rattle.dv_react.specs.declared.running.Running.{Running}
 use Rattle.dv_share.specs.Share.{starts_of}
 use Rattle.dv_share.specs.declared.tables.Member.{Member}
-use Rattle.dv_local.specs.Shares.{numbers_of_ways, outgoing_of, share_by}
+use Rattle.dv_local.specs.Shares.{numbers_of_ways, share_by}
 use Rattle.dv_local.specs.States.{view_by}
 use Rattle.dv_local.specs.declared.share.Way.{Way}
 use Rattle.dv_local.specs.declared.state.LocalState.{LocalState}
@@ -33,6 +31,7 @@ new-requires-3-clause-begun g c =
       components = components ∙ starts_are b t.limit t.models.items t.members.items ∙ ap (λ (s : Share). (network s.flat).start) (sym share);
       committed = c.in_ok-state.ensures.committed;
       held = λ n k port bag. ap (λ (ds : List Delivery). delivered k port ds bag) (c.in_ok-state.ensures.held n);
+      visits = c.in_ok-state.ensures.visits;
       later = subst (λ (cs : List Component). IsFrom 1 (least_next cs)) (sym components) c.requires.later;
     })
 

@@ -1,12 +1,20 @@
-use Rattle.std.proofs.Common.{◌≡◌, true, false, nat_lt, arith, rules, sym}
+use Rattle.std.proofs.Common.{◌≡◌, arith, rules, sym}
+use Rattle.std.specs.Prelude.{pos}
 use Rattle.std.proofs.lemmas.List.Sorted.{IsPartitionPoint-from_clause}
+use Rattle.dv_time.specs.Time.{is_before}
+use Rattle.dv_bag.specs.Inputs.{start_of}
 use Rattle.dv_bag.specs.declared.inputs.Input.{Input as InputOfCode}
-use Rattle.dv_local.proofs.InputTimes.{before_are, parted_at}
+use Rattle.dv_local.proofs.InputTimes.{before_are, parted}
 use Rattle.dv_local.proofs.waiting.inputs_before.Goals as goal
 
-pub returns : goal.returns
-returns c =
+abbrev nothing : InputOfCode
+nothing = record { time = start_of 0; port = 0; value = pos 0 }
+
+pub returns-clause-place : goal.returns-clause-place
+returns-clause-place c = λ limit run.
     let xs = c.args.inputs.now in
-    let point = IsPartitionPoint-from_clause (λ (i : InputOfCode). nat_lt i.tick c.args.tick) _ _
-    c.partition_point.ensures.partitioned (parted_at c.args.tick xs c.requires) (λ a r q k. search rules) in
-    sym (before_are c.args.tick c.partition_point.result xs (omega arith) (λ k d lt w. point.0 k d (omega arith) lt) (λ k d le w. point.1 k d le w))
+    let t = c.args.time in
+    let p = c.partition_point.result in
+    let point = IsPartitionPoint-from_clause (λ (i : InputOfCode). is_before i.time t) _ _
+    c.partition_point.ensures.partitioned (parted xs t c.requires) (λ a r q k. search rules) in
+    sym (before_are limit t p xs nothing run (omega arith) (λ k lt. point.0 k nothing (omega arith) lt) (λ lt. point.1 p nothing (omega arith) lt))

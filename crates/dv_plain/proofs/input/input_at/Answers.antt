@@ -1,19 +1,20 @@
-use Rattle.std.proofs.Common.{◌≡◌, ℕ, ◌∙◌, sym, arith}
-use Rattle.std.proofs.lemmas.Result.{IfOk-weaker}
-use Rattle.dv_time.specs.Time.{IsOfRun, rank}
-use Rattle.dv_bag.specs.Inputs.{bags_at, inputs_at}
-use Rattle.dv_plain.proofs.InputWalk.{input-at_start, input-past_start}
+use Rattle.std.proofs.Common.{◌≡◌, ap, sym, ◌∙◌, arith}
+use Rattle.dv_bag.specs.Inputs.{bags_at, inputs_before}
+use Rattle.dv_time.proofs.Ranks.{time_of-rank}
+use Rattle.dv_plain.proofs.InputWalk.{place-moves}
 use Rattle.dv_plain.proofs.input.input_at.Goals as goal
 
-pub returns-then-now-gt0-clause-bags : goal.returns-then-now-gt0-clause-bags
-returns-then-now-gt0-clause-bags c = λ limit run.
-    c.in_ok-empty.ensures ∙ sym (input-past_start limit c.args.ports c.args.inputs.now c.args.now run (omega arith))
+pub bags_at-requires : goal.bags_at-requires
+bags_at-requires c = (c.args.instant.now.limit, c.requires.of_run, c.requires.place)
+
+pub place_from-after-requires : goal.place_from-after-requires
+place_from-after-requires c =
+    let limit = c.args.instant.now.limit in
+    let same = ap (λ t. inputs_before limit c.args.inputs.now t) c.succ-next.ensures in
+    omega (arith, same, place-moves limit c.args.inputs.now c.args.instant.now.time c.requires.of_run, c.requires.place)
 
 pub returns-clause-bags : goal.returns-clause-bags
 returns-clause-bags c =
-    let t = c.args.now in
-    IfOk-weaker c.bags_at.result
-    (λ r. r.0 ≡ bags_at c.args.ports c.args.inputs.now t.tick)
-    (λ r. (limit : ℕ) → IsOfRun limit t → r.0 ≡ inputs_at limit c.args.ports c.args.inputs.now (rank limit t))
-    (λ r is limit run. is ∙ sym (input-at_start limit c.args.ports c.args.inputs.now t run (omega arith)))
-    c.bags_at.ensures.bags
+    c.in_ok-bags.ensures
+    ∙ ap (bags_at c.args.ports c.args.inputs.now)
+    (sym (time_of-rank c.args.instant.now.limit c.args.instant.now.time c.requires.of_run))

@@ -4,16 +4,16 @@ use Rattle.std.specs.Vec.{with_items}
 use Rattle.std.proofs.lemmas.List.{with_items_is}
 use Rattle.dv_time.specs.Time.{IsOfRun, end_of, next_rank, rank}
 use Rattle.dv_syntax.specs.Trees.{file_of}
-use Rattle.dv_bag.specs.Inputs.{tick_at}
+use Rattle.dv_bag.specs.Inputs.{time_at}
 use Rattle.dv_devs.specs.Network.{components_after, part_of_instant}
 use Rattle.dv_devs.specs.NextTimes.{IsFrom, earlier, least_next}
 use Rattle.dv_bag.specs.Part.{joined}
 use Rattle.dv_tree.specs.Instances.{root_inputs}
 use Rattle.dv_react.specs.declared.running.Running.{Running}
-use Rattle.dv_plain.specs.InputTimes.{start_of_tick}
+use Rattle.dv_plain.specs.InputTimes.{IsOfRunIf, rank_if}
 use Rattle.dv_react.specs.Components.{IsWaitOfRun, component_of}
 use Rattle.dv_plain.specs.Source.{network_of, outside}
-use Rattle.dv_plain.proofs.Reached.{Reached, reached-end, reached-matched, reached-place, reached-start, reached-step, work, work-step}
+use Rattle.dv_plain.proofs.Reached.{Reached, reached-coming, reached-end, reached-matched, reached-place, reached-start, reached-step, work, work-step}
 use Rattle.dv_plain.proofs.run.resultant_run.Goals as goal
 use Rattle.dv_plain.proofs.run.resultant_run.Goals.{in-At+then-now-horizon, in_default}
 
@@ -33,18 +33,18 @@ instants-init c =
         trace = c.next_instant_is_the_least_next_time.ensures.trace limit (network_of limit f) comes ready leaves;
         none = c.networks_of_texts.ensures.inputs limit f;
         coming = record {
-          same = λ tick later. c.places_follow_ticks.ensures.same inputs tick later c.as_slice.ensures.by_tick;
-          next = λ tick. c.places_follow_ticks.ensures.next inputs tick c.as_slice.ensures.by_tick;
-          between =
-              λ tick n. c.nothing_comes_in_between.ensures.between limit (length (root_inputs f)) tick n inputs
-              c.as_slice.ensures.by_tick;
-          later = λ tick micro. c.nothing_comes_in_between.ensures.later limit (length (root_inputs f)) tick micro inputs;
+          next = λ t. c.places_follow_times.ensures.next limit inputs t;
+          of_run = λ t. c.places_follow_times.ensures.of_run limit inputs t;
+          not_before = λ n. c.places_follow_times.ensures.not_before limit n inputs;
+          same = λ n m. c.places_follow_times.ensures.same limit n m inputs;
+          between = λ n m. c.nothing_comes_in_between.ensures limit (length (root_inputs f)) n m inputs c.as_slice.ensures.by_time;
         };
       };
       reached =
-          subst (λ t. Reached limit f inputs c.args.horizon c.in_ok-components.components.items t 0) (sym c.new-trace.ensures)
-          (reached-start limit f inputs c.args.horizon c.in_ok-components.components.items c.in_ok-components.ensures.start
-          (c.places_follow_ticks.ensures.start inputs));
+          let place = c.place_from-place.result in
+          subst (λ t. Reached limit f inputs c.args.horizon c.in_ok-components.components.items t place) (sym c.new-trace.ensures)
+          (reached-start limit f inputs c.args.horizon c.in_ok-components.components.items place c.in_ok-components.ensures.start
+          c.place_from-place.ensures);
       waits = c.in_ok-components.ensures.waits;
     }
 
@@ -55,18 +55,30 @@ play-requires-clause-matched c =
     ∙ reached-matched c.args.limit (file_of c.args.tree.now.file) c.args.inputs.now c.args.horizon at.invariant.laws
     at.components.items at.trace at.place at.invariant.reached
 
+pub play-requires-clause-of_run : goal.play-requires-clause-of_run
+play-requires-clause-of_run c =
+    let limit = c.args.limit in
+    let at = c.instants in
+    let waits = subst (All (λ (r : Running). IsWaitOfRun limit r.wait)) (sym c.deref.ensures.value) at.invariant.waits in
+    c.in-At.ensures.of_run limit waits
+    (reached-coming limit (file_of c.args.tree.now.file) c.args.inputs.now c.args.horizon at.invariant.laws at.components.items at.trace
+    at.place at.invariant.reached)
+
 pub play-requires-clause-place : goal.play-requires-clause-place
 play-requires-clause-place c =
     let limit = c.args.limit in
     let inputs = c.args.inputs.now in
     let at = c.instants in
     let waits = subst (All (λ (r : Running). IsWaitOfRun limit r.wait)) (sym c.deref.ensures.value) at.invariant.waits in
+    let coming =
+    reached-coming limit (file_of c.args.tree.now.file) inputs c.args.horizon at.invariant.laws at.components.items at.trace at.place
+    at.invariant.reached in
     let least =
-    c.in-At.ensures.least limit waits
-    ∙ ap (λ (rs : List Running). earlier (least_next (map (component_of limit) rs)) (start_of_tick limit (tick_at inputs at.place)))
+    c.in-At.ensures.least limit waits coming
+    ∙ ap (λ (rs : List Running). earlier (least_next (map (component_of limit) rs)) (rank_if limit (time_at inputs at.place)))
     c.deref.ensures.value in
     reached-place limit (file_of c.args.tree.now.file) inputs c.args.horizon at.invariant.laws at.components.items at.trace at.place
-    at.invariant.reached c.in-At.now (c.in-At.ensures.of_run limit waits) least
+    at.invariant.reached c.in-At.now (c.in-At.ensures.of_run limit waits coming) least
 
 -- as many components as before
 kept : (c : goal.In_ok-place) → length c.play.new.components ≡ c.instants.components.len
@@ -78,16 +90,22 @@ written c = with_items_is c.instants.components c.play.new.components (kept c)
 waiting : (c : goal.In_ok-place) → All (λ (r : Running). IsWaitOfRun c.args.limit r.wait) c.deref.result.now
 waiting c = subst (All (λ (r : Running). IsWaitOfRun c.args.limit r.wait)) (sym c.deref.ensures.value) c.instants.invariant.waits
 
+coming : (c : goal.In_ok-place) → IsOfRunIf c.args.limit (time_at c.args.inputs.now c.instants.place)
+coming c =
+    let at = c.instants in
+    reached-coming c.args.limit (file_of c.args.tree.now.file) c.args.inputs.now c.args.horizon at.invariant.laws at.components.items
+    at.trace at.place at.invariant.reached
+
 of_run : (c : goal.In_ok-place) → IsOfRun c.args.limit c.in-At.now
-of_run c = c.in-At.ensures.of_run c.args.limit (waiting c)
+of_run c = c.in-At.ensures.of_run c.args.limit (waiting c) (coming c)
 
 least : (c : goal.In_ok-place) →
     Some (rank c.args.limit c.in-At.now) ≡ earlier (least_next (map (component_of c.args.limit) c.instants.components.items))
-    (start_of_tick c.args.limit (tick_at c.args.inputs.now c.instants.place))
+    (rank_if c.args.limit (time_at c.args.inputs.now c.instants.place))
 least c =
-    c.in-At.ensures.least c.args.limit (waiting c)
+    c.in-At.ensures.least c.args.limit (waiting c) (coming c)
     ∙ ap (λ (rs : List Running). earlier (least_next (map (component_of c.args.limit) rs))
-    (start_of_tick c.args.limit (tick_at c.args.inputs.now c.instants.place))) c.deref.ensures.value
+    (rank_if c.args.limit (time_at c.args.inputs.now c.instants.place))) c.deref.ensures.value
 
 changed : (c : goal.In_ok-place) →
     let limit = c.args.limit in
@@ -158,10 +176,13 @@ returns c =
     let at = c.instants in
     let end = end_of limit c.args.horizon in
     let Next : List Running → Option ℕ =
-    λ rs. earlier (least_next (map (component_of limit) rs)) (start_of_tick limit (tick_at c.args.inputs.now at.place)) in
+    λ rs. earlier (least_next (map (component_of limit) rs)) (rank_if limit (time_at c.args.inputs.now at.place)) in
     let waits = subst (All (λ (r : Running). IsWaitOfRun limit r.wait)) (sym c.deref.ensures.value) at.invariant.waits in
+    let coming =
+    reached-coming limit (file_of c.args.tree.now.file) c.args.inputs.now c.args.horizon at.invariant.laws at.components.items at.trace
+    at.place at.invariant.reached in
     let next : next_rank limit c.next_instant.result ≡ Next at.components.items =
-    c.next_instant.ensures.least limit waits ∙ ap Next c.deref.ensures.value in
+    c.next_instant.ensures.least limit waits coming ∙ ap Next c.deref.ensures.value in
     let ended =
     reached-end limit (file_of c.args.tree.now.file) c.args.inputs.now c.args.horizon at.invariant.laws at.components.items at.trace
     at.place at.invariant.reached in

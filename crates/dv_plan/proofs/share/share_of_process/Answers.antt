@@ -57,6 +57,8 @@ returns g c =
           ∙ c.in_ok-outgoing.ensures job;
       inputs =
           c.in_ok-inputs.ensures
-          ∙ ap (λ (ms : List Member). led_inputs common.ports ms (links_of c.entrances-entrances.result.now) common.inputs.now) c.deref.ensures.value
-          ∙ ap (λ (ls : List Link). led_inputs common.ports c.args.members.items ls common.inputs.now) c.entrances-entrances.ensures;
+          ∙ ap (λ (ms : List Member).
+          led_inputs common.limit common.ports ms (links_of c.entrances-entrances.result.now) common.inputs.now) c.deref.ensures.value
+          ∙ ap (λ (ls : List Link). led_inputs common.limit common.ports c.args.members.items ls common.inputs.now)
+          c.entrances-entrances.ensures;
     }

@@ -21,7 +21,7 @@ overflow_cast-whole-2 c =
     let f = file_of c.args.tree.now.file in
     omega (
       arith,
-      few_leave f [] (c.accepted_files.ensures f c.requires.accepted),
+      few_leave f [] (c.checked_files.ensures f c.requires.accepted),
       length-leaves f [],
       c.output_count.ensures,
     )
@@ -29,7 +29,7 @@ overflow_cast-whole-2 c =
 pub new-requires : goal.new-requires
 new-requires c =
     let f = file_of c.args.tree.now.file in
-    let few = few_components f (c.accepted_files.ensures f c.requires.accepted) in
+    let few = few_components f (c.checked_files.ensures f c.requires.accepted) in
     let members = c.args.members.items in
     let links = c.in_ok-between.between in
     let count = as_many c.args.limit c.args.models.now members (instances f) c.requires.members in

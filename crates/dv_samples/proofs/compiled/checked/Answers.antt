@@ -8,4 +8,4 @@ pub returns : goal.returns
 returns c =
     let one : AreOfOneText c.in_ok-found.found.names (file_of c.in_ok-file.file) = search rules in
     all_compilable c.in_ok-found.found.names c.in_ok-file.file c.check.result c.texts_are_compilable.ensures one c.check.ensures.file
-    c.check.ensures.accepted
+    c.check.ensures.checked

@@ -1,6 +1,6 @@
 use Rattle.std.proofs.Common.{◌≡◌, ◌∙◌, ◌++◌, List, IsPermutation, subst, ap, sym}
 use Rattle.std.proofs.lemmas.List.{map-append}
-use Rattle.std.proofs.lemmas.Result.{IfOk-weaker}
+use Rattle.std.proofs.lemmas.Result.{on_ok_weaker}
 use Rattle.dv_conservative.specs.Links.{Delivery as Meant, Link, carried}
 use Rattle.dv_share.specs.Links.{deliveries_of, delivery_of, links_of}
 use Rattle.dv_share.specs.Rows.{AllStand, RiseByComponent, marks}
@@ -26,7 +26,7 @@ returns-clause-received g c =
     let led : List Meant = carried t.links (sent_in ms es) in
     let one : deliveries_of c.carry_outside.new.deliveries.items ≡ entered =
     c.in_ok-carry_outside.ensures
-    ∙ ap (λ (ds : List Delivery). deliveries_of ds ++ carried (links_of c.as_slice.result.now) (λ k. outside)) c.new-incoming.ensures.items
+    ∙ ap (λ (ds : List Delivery). deliveries_of ds ++ carried (links_of c.as_slice.result.now) (λ k. outside)) c.clear.ensures.items
     ∙ ap (λ (ls : List Link). carried ls (λ k. outside)) c.as_slice.ensures.links in
     let two : deliveries_of c.carry_emitted.new.deliveries.items ≡ entered ++ led =
     c.in_ok-carry_emitted.ensures
@@ -43,11 +43,11 @@ returns-clause-received g c =
     ∙ ap (λ (ms : List Member). ((entered ++ led) ++ deliveries_of ds) ++ marks ms es) c.deref-2.ensures.value in
     let moved : IsPermutation c.mark.new.deliveries.items sorted =
     subst (IsPermutation c.mark.new.deliveries.items) (sym c.deref-4.ensures.value) c.sort_unstable.ensures.permutation in
-    IfOk-weaker c.collect.result _ _
-    (λ xs h.
-    received_same ms (deliveries_of sorted) (coming t es outside (deliveries_of ds)) xs.items
+    on_ok_weaker c.collect.result
+    (λ h.
+    received_same ms (deliveries_of sorted) (coming t es outside (deliveries_of ds)) c.collect.new.received.items
     (sorted_delivers ms es sorted c.mark.new.deliveries.items entered led (deliveries_of ds) moved four)
-    (subst (λ (ms : List Member). AreReceived ms (deliveries_of sorted) xs.items) c.deref-3.ensures.value h))
+    (subst (λ (ms : List Member). AreReceived ms (deliveries_of sorted) c.collect.new.received.items) c.deref-3.ensures.value h))
     c.collect.ensures.received
 
 pub returns-clause-emitted : goal.returns-clause-emitted
@@ -62,7 +62,7 @@ returns-clause-emitted g c =
     let led : List Meant = carried t.links (sent_in ms es) in
     let one : deliveries_of c.carry_outside.new.deliveries.items ≡ entered =
     c.in_ok-carry_outside.ensures
-    ∙ ap (λ (ds : List Delivery). deliveries_of ds ++ carried (links_of c.as_slice.result.now) (λ k. outside)) c.new-incoming.ensures.items
+    ∙ ap (λ (ds : List Delivery). deliveries_of ds ++ carried (links_of c.as_slice.result.now) (λ k. outside)) c.clear.ensures.items
     ∙ ap (λ (ls : List Link). carried ls (λ k. outside)) c.as_slice.ensures.links in
     let two : deliveries_of c.carry_emitted.new.deliveries.items ≡ entered ++ led =
     c.in_ok-carry_emitted.ensures
@@ -79,8 +79,8 @@ returns-clause-emitted g c =
     ∙ ap (λ (ms : List Member). ((entered ++ led) ++ deliveries_of ds) ++ marks ms es) c.deref-2.ensures.value in
     let moved : IsPermutation c.mark.new.deliveries.items sorted =
     subst (IsPermutation c.mark.new.deliveries.items) (sym c.deref-4.ensures.value) c.sort_unstable.ensures.permutation in
-    IfOk-weaker c.collect.result _ _
-    (λ xs h.
-    marked_stand ms es sorted c.mark.new.deliveries.items ((entered ++ led) ++ deliveries_of ds) xs.items c.requires.emitted moved four
-    (subst (λ (ms : List Member). AllStand ms (deliveries_of sorted) xs.items) c.deref-3.ensures.value h))
+    on_ok_weaker c.collect.result
+    (λ h.
+    marked_stand ms es sorted c.mark.new.deliveries.items ((entered ++ led) ++ deliveries_of ds) c.collect.new.received.items c.requires.emitted moved four
+    (subst (λ (ms : List Member). AllStand ms (deliveries_of sorted) c.collect.new.received.items) c.deref-3.ensures.value h))
     c.collect.ensures.all

@@ -1,5 +1,6 @@
 use Rattle.std.proofs.Common.{◌≡◌, ◌∙◌, ◌<◌, ◌^◌, ◌++◌, List, length, ap, arith, rules}
-use Rattle.std.proofs.lemmas.Result.{IfOk-weaker}
+use Rattle.std.proofs.lemmas.Result.{on_ok_weaker}
+use Rattle.dv_bag.specs.Bag.{Counts}
 use Rattle.dv_devs.specs.Network.{outer_from}
 use Rattle.dv_react.specs.Components.{rank_of}
 use Rattle.dv_conservative.specs.Links.{Delivery as Meant, Link, carried, inbox}
@@ -10,8 +11,8 @@ use Rattle.dv_share.specs.declared.tables.Member.{Member}
 use Rattle.dv_share.proofs.Inboxes.{inbox_length}
 use Rattle.dv_share.proofs.leaving.outer.Goals as goal
 
-pub lines_of-requires : goal.lines_of-requires
-lines_of-requires g c =
+pub commit_lines-requires : goal.commit_lines-requires
+commit_lines-requires g c =
     let small : c.args.tables.now.outputs < 2 ^ 32 = search rules in
     omega (
       arith,
@@ -21,15 +22,15 @@ lines_of-requires g c =
       small,
     )
 
-pub returns : goal.returns
-returns g c =
+pub returns-clause-outer : goal.returns-clause-outer
+returns-clause-outer g c =
     let t = c.args.tables.now in
     let es = c.args.emitted.now in
     let limit = c.args.instant.now.limit in
     let now = rank_of c.args.instant.now in
     let led : deliveries_of c.carry_emitted.new.deliveries.items ≡ carried t.exits (sent_in t.members.items es) =
     c.in_ok-carry_emitted.ensures
-    ∙ ap (λ (ds : List Delivery). deliveries_of ds ++ carried (links_of c.as_slice.result.now) (sent_in c.deref.result.now es)) c.new-deliveries.ensures.items
+    ∙ ap (λ (ds : List Delivery). deliveries_of ds ++ carried (links_of c.as_slice.result.now) (sent_in c.deref.result.now es)) c.clear.ensures.items
     ∙ ap (λ (ls : List Link). carried ls (sent_in c.deref.result.now es)) c.as_slice.ensures.links
     ∙ ap (λ (ms : List Member). carried t.exits (sent_in ms es)) c.deref.ensures.value in
     let bags =
@@ -37,4 +38,5 @@ returns g c =
     ∙ c.in_ok-bags.ensures
     ∙ ap (λ (ds : List Delivery). inbox 0 (deliveries_of ds) 0 t.outputs) c.deref-2.ensures.value
     ∙ ap (λ (ds : List Meant). inbox 0 ds 0 t.outputs) led in
-    IfOk-weaker c.lines_of.result _ _ (λ os h. h ∙ ap (outer_from limit now 0) bags) c.lines_of.ensures
+    on_ok_weaker c.commit_lines.result
+    (λ h. h ∙ ap (λ (xs : List Counts). c.args.committed.now.outer ++ outer_from limit now 0 xs) bags) c.commit_lines.ensures.outer

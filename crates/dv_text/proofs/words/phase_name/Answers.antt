@@ -1,19 +1,13 @@
-use Rattle.std.proofs.Common.{ℕ, List, [], Option, unwrap_or, sym, ap, ◌∙◌}
-use Rattle.std.specs.Option.{option_map}
-use Rattle.dv_tree.specs.Paths.{name_at}
-use Rattle.dv_text.proofs.NamesLemmas.{scope-names_at, name_at-texts}
+use Rattle.std.proofs.Common.{◌∙◌}
+use Rattle.dv_text.proofs.NamesLemmas.{name_at-past, name_at-there}
 use Rattle.dv_text.proofs.words.phase_name.Goals as goal
 
 pub returns-in-Some : goal.returns-in-Some
 returns-in-Some c =
-    let names = c.args.tree.now.names in
-    let shows = scope-names_at c.args.tree.now c.args.component c.scope.result.now c.scope.ensures in
-    c.name.ensures ∙ ap (λ (o : Option ℕ). unwrap_or (option_map (name_at names) o) []) c.in-Some.ensures ∙ sym
-    (name_at-texts names c.scope.result.now.phases c.args.phase) ∙ sym (ap (λ (p : List (List ℕ)). name_at p c.args.phase) shows.phases)
+    let found = c.in-Some.ensures.lookup in
+    c.name.ensures
+    ∙ name_at-there c.args.words.now.tree.now.names c.args.words.now.phases.now c.args.phase c.in-Some.number.now found.3.0 found.1
 
 pub returns-in-None : goal.returns-in-None
 returns-in-None c =
-    let names = c.args.tree.now.names in
-    let shows = scope-names_at c.args.tree.now c.args.component c.scope.result.now c.scope.ensures in
-    ap (λ (o : Option ℕ). unwrap_or (option_map (name_at names) o) []) c.in-None.ensures ∙ sym
-    (name_at-texts names c.scope.result.now.phases c.args.phase) ∙ sym (ap (λ (p : List (List ℕ)). name_at p c.args.phase) shows.phases)
+    name_at-past c.args.words.now.tree.now.names c.args.words.now.phases.now c.args.phase c.in-None.ensures.lookup.3

@@ -6,15 +6,15 @@ use Rattle.dv_text.proofs.Rounds.{port_first, port_next, time_pushed}
 use Rattle.dv_text.proofs.Taking.{TakesFront-more, AppendsBeginning-nothing, AppendsBeginning-more, OnErr-always}
 use Rattle.dv_text.proofs.writing.write_group.Goals as goal
 
-pub returns-in_err-write-clause-err : goal.returns-in_err-write-clause-err
-returns-in_err-write-clause-err g c = OnErr-always _ (AppendsBeginning-nothing _ _)
+pub returns-in_err-push_out-clause-err : goal.returns-in_err-push_out-clause-err
+returns-in_err-push_out-clause-err g c = OnErr-always _ (AppendsBeginning-nothing _ _)
 
 pub returns-in_err-write_port-clause-err : goal.returns-in_err-write_port-clause-err
 returns-in_err-write_port-clause-err g c =
     let names = tree_ports c.args.tree.now in
     let cut = c.in-Some.ensures.cases.0 in
     let known = g.W.Write.contents c.args.writer.now in
-    OnErr-always _ (AppendsBeginning-more _ _ _ _ (time_pushed names _ _ _ cut known _ _ c.in_ok-write.ensures.bytes)
+    OnErr-always _ (AppendsBeginning-more _ _ _ _ (time_pushed names _ _ _ cut known _ _ c.in_ok-push_out.ensures)
     (port_first names _ _ _ cut _ _ c.root_port.ensures) c.in_err-write_port.ensures.err)
 
 pub loop-next-init : goal.loop-next-init
@@ -25,7 +25,7 @@ loop-next-init g c =
     let known = g.W.Write.contents c.args.writer.now in
     record {
       text =
-          TakesFront-more _ _ _ _ _ (time_pushed names _ _ _ cut known _ _ c.in_ok-write.ensures.bytes)
+          TakesFront-more _ _ _ _ _ (time_pushed names _ _ _ cut known _ _ c.in_ok-push_out.ensures)
           (port_first names _ _ _ cut _ _ c.root_port.ensures) c.in_ok-write_port.ensures.ok;
       left = other_groups-at names c.args.outer.now first c.in-Some.after.now cut;
       fewer = omega (arith, c.in-Some.ensures.cases.1);

@@ -1,7 +1,8 @@
 use Rattle.std.proofs.Common.{length, set, ap, arith, ◌∙◌}
 use Rattle.std.proofs.lemmas.Int.{to_z-of_z}
 use Rattle.dv_bag.specs.Bag.{bag_at, with_copies}
-use Rattle.dv_bag.proofs.Sendings.{found, found_within, from_port_length, put, put_within}
+use Rattle.dv_bag.proofs.SendingOrder.{found, found_within, put, put_within}
+use Rattle.dv_bag.proofs.Sendings.{from_port_length}
 use Rattle.dv_bag.proofs.sent.Sent.insert.Goals as goal
 
 pub invariant_of-self : goal.invariant_of-self
@@ -11,7 +12,8 @@ invariant_of-self c =
     let long = from_port_length 0 inside.ports inside.sendings.items in
     found_within inside.ports c.args.port c.args.value _ inside.sendings.items (to_z-of_z _ _ c.ranges.value)
     c.self.invariant.0 (omega arith) _ c.in-Ok.place _ c.deref_mut.ensures.value
-    (omega (arith, c.saturating_add-copies.ensures)) c.self.invariant.1 (rw c.as_slice.ensures at c.in-Ok.ensures.found)
+    (omega (arith, c.saturating_add-copies.ensures)) (omega (arith, c.saturating_add-copies.ensures)) c.self.invariant.1
+    (rw c.as_slice.ensures at c.in-Ok.ensures.found)
 
 pub returns-in-Ok-clause-ok : goal.returns-in-Ok-clause-ok
 returns-in-Ok-clause-ok c =

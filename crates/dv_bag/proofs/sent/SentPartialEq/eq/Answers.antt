@@ -1,26 +1,23 @@
-use Rattle.std.proofs.Common.{false, sym, ◌∙◌}
-use Rattle.std.proofs.lemmas.Bool.{false≢true}
-use Rattle.dv_bag.proofs.Sendings.{as_many_ports, as_often, as_often_back, decided_by, same_views}
+use Rattle.std.proofs.Common.{ap, ◌∙◌}
+use Rattle.dv_bag.specs.Same.{same_bags}
+use Rattle.dv_bag.specs.Sent.{by_port}
+use Rattle.dv_bag.proofs.SendingOrder.{lists_compared, ports_compared}
 use Rattle.dv_bag.proofs.sent.SentPartialEq.eq.Goals as goal
 
 pub returns-then-self-other : goal.returns-then-self-other
-returns-then-self-other c = decided_by false c.args.self.now c.args.other.now
-    (λ e. absurd (false≢true e))
-    (λ same. absurd (c.if-self-other.true
-    (as_many_ports _ _ _ _ c.self.invariant.0 c.other.invariant.0 (c.self.view_is ∙ same ∙ sym c.other.view_is))))
+returns-then-self-other c =
+    let one = c.self.inside in
+    let other = c.other.inside in
+    lists_compared one.ports other.ports one.sendings.items other.sendings.items c.self.invariant.0 c.self.invariant.1
+    c.other.invariant.0 c.other.invariant.1 c.if-self-other.true c.eq.result c.eq.ensures
+    ∙ ap (λ bags. same_bags bags (by_port other.ports other.sendings.items)) c.self.view_is
+    ∙ ap (same_bags c.args.self.now) c.other.view_is
 
-pub returns-then-go_as_often : goal.returns-then-go_as_often
-returns-then-go_as_often c =
-    let there = rw (c.as_slice-ones.ensures, c.as_slice-others.ensures) at c.go_as_often.ensures in
-    let back = rw (c.as_slice-ones.ensures, c.as_slice-others.ensures) at c.go_as_often-then-go_as_often.ensures in
-    decided_by c.go_as_often-then-go_as_often.result c.args.self.now c.args.other.now
-    (λ e. sym c.self.view_is ∙ same_views _ _ _ _ c.if-self-other.false (there.0 c.if-go_as_often.true) (back.0 e)
-    ∙ c.other.view_is)
-    (λ same. back.1 (as_often_back _ _ _ _ c.self.invariant.0 c.other.invariant.0 (c.self.view_is ∙ same ∙ sym c.other.view_is)))
-
-pub returns-else-go_as_often : goal.returns-else-go_as_often
-returns-else-go_as_often c =
-    let there = rw (c.as_slice-ones.ensures, c.as_slice-others.ensures) at c.go_as_often.ensures in
-    decided_by c.go_as_often.result c.args.self.now c.args.other.now
-    (λ e. absurd (false≢true (sym c.if-go_as_often.false ∙ e)))
-    (λ same. there.1 (as_often _ _ _ _ c.self.invariant.0 c.other.invariant.0 (c.self.view_is ∙ same ∙ sym c.other.view_is)))
+pub returns-else-self-other : goal.returns-else-self-other
+returns-else-self-other c =
+    let one = c.self.inside in
+    let other = c.other.inside in
+    ports_compared one.ports other.ports one.sendings.items other.sendings.items c.self.invariant.0 c.self.invariant.1
+    c.other.invariant.0 c.other.invariant.1 c.if-self-other.false
+    ∙ ap (λ bags. same_bags bags (by_port other.ports other.sendings.items)) c.self.view_is
+    ∙ ap (same_bags c.args.self.now) c.other.view_is

@@ -65,6 +65,7 @@ returns-clause-kept g c =
       share = ap (λ (v : View). v.share) view;
       components = ap (λ (v : View). v.components) view;
       committed = ap (λ (v : View). v.committed) view;
+      visits = ap (λ (v : View). v.visits) view;
       held = λ n.
           let u = time_of limit n in
           let e : arrivals_but s.undo.taken u new ≡ arrivals_but s.undo.taken u old ++ coming_at u (map coming_of (filter (brings s.share.tables.limit) es)) =
@@ -82,6 +83,20 @@ returns-clause-settled g c =
     let limit = s.share.tables.limit in
     let new : Arrivals = c.add_all.new.self in
     let same : settled_by b s ≡ view_by b s = c.settle.ensures.settled ∙ sym c.settle.ensures.view in
-    ap (λ (v : View). let w : View = record { share = share_by b s.share; components = v.components; committed = v.committed; held = held_by limit None new } in w) same
-    ∙ ap (λ (o : Option Time). let w : View = record { share = share_by b s.share; components = (view_by b s).components; committed = (view_by b s).committed; held = held_by limit o new } in w)
+    ap (λ (v : View).
+    let w : View = record {
+      share = share_by b s.share;
+      components = v.components;
+      committed = v.committed;
+      held = held_by limit None new;
+      visits = v.visits;
+    } in w) same
+    ∙ ap (λ (o : Option Time).
+    let w : View = record {
+      share = share_by b s.share;
+      components = (view_by b s).components;
+      committed = (view_by b s).committed;
+      held = held_by limit o new;
+      visits = (view_by b s).visits;
+    } in w)
     (sym c.settle.ensures.at_rest.taken)

@@ -1,17 +1,20 @@
-use Rattle.std.proofs.Common.{take, drop, ◌++◌, ◌≡◌, ◌⊎◌, inl, inr, ◌∙◌, ℕ, ◌+◌, ◌*◌, ◌<◌, ◌≤◌, List, true, false, ap, length, nat_lt, get_or, refl, subst, sym, arith, IsTrue}
+use Rattle.std.proofs.Common.{take, drop, ◌++◌, ◌≡◌, inl, inr, ◌∙◌, ℕ, ◌<◌, ◌≤◌, List, true, false, ap, length, nat_lt, get_or, subst, sym, arith}
 use Rattle.std.proofs.lemmas.Bool.Decides.{nat_tests}
 use Rattle.dv_time.specs.Time.{IsOfRun, end_of, rank}
 use Rattle.dv_time.specs.declared.time.Time.{Time}
 use Rattle.dv_conservative.specs.Process.{Share, end_rank, least_clock}
 use Rattle.dv_conservative.specs.Turn.{IsTurnOf, Position, turned}
+use Rattle.dv_proc.specs.Accesses.{CountsTurn}
 use Rattle.dv_proc.specs.Advancing.{AreBeside, HasRoom, IsSameLink}
 use Rattle.dv_proc.specs.Arriving.{received_by}
 use Rattle.dv_proc.specs.Leaving.{position_by}
 use Rattle.dv_proc.specs.Local.{View}
-use Rattle.dv_proc.specs.Midway.{IsMidway, meant_turned}
+use Rattle.dv_proc.specs.Midway.{IsMidway}
 use Rattle.dv_proc.specs.Standing.{IsFar, IsProcess}
 use Rattle.dv_proc.specs.declared.outgoing.Outgoing.{Outgoing}
+use Rattle.dv_proc.proofs.Accesses.{counted_turn}
 use Rattle.dv_proc.proofs.Moving.{position_same}
+use Rattle.dv_proc.proofs.NothingDue.{still_unseen}
 use Rattle.dv_proc.proofs.Turns.{far_moved, midway_moved, midway_rest, process_roomy, rose_past}
 use Rattle.dv_proc.proofs.Whole.{least_before_end, least_is, written_back}
 use Rattle.dv_proc.proofs.process.Process.turn.Goals as goal
@@ -177,3 +180,72 @@ returns-clause-answer g c =
     c.finish-2.ensures.answer
     ∙ ap (λ (s : Share). turned s (position_by c.args.self.now.clock (take c.args.self.now.outgoing.len (c.step.new.outgoing ++ drop (length c.step.new.outgoing) c.args.self.now.outgoing.items))) (position_by c.finish-2.new.self.clock c.finish-2.new.self.outgoing.items)) (ap (λ (x : View). x.share) c.settle.ensures.view ∙ c.in-Ok.ensures.advance.instant.share)
     ∙ ap (λ (x : Position). turned (g.L.Local.view c.args.self.now.local).share x (position_by c.finish-2.new.self.clock c.finish-2.new.self.outgoing.items)) (ap (position_by c.args.self.now.clock) back ∙ position_same c.args.self.now.clock c.args.self.now.outgoing.items c.step.new.outgoing same)
+
+pub returns-clause-visits : goal.returns-clause-visits
+returns-clause-visits g c =
+    let v = g.L.Local.view c.args.self.now.local in
+    let w = g.L.Local.view c.step.new.local in
+    let is = c.args.self.now.incoming.items in
+    let xs = c.args.self.now.outgoing.items in
+    let clock = c.args.self.now.clock in
+    let now = c.in-Ok.now in
+    let limit = c.frame-frame.result.limit in
+    let upto = rank limit c.least_clock-least.result in
+    let same : AreBeside (λ j. IsSameLink) xs c.step.new.outgoing =
+    subst (λ (zs : List Outgoing). AreBeside (λ j. IsSameLink) zs c.step.new.outgoing) c.as_mut_slice.ensures.value c.step.ensures.same in
+    let least : upto ≡ least_clock v.share (received_by is) =
+    least_is v.share is c.as_slice.result.now xs clock c.requires.process.standing limit c.frame-frame.result.horizon upto
+    c.frame-frame.ensures.limit c.frame-frame.ensures.horizon c.as_slice.ensures.value c.least_clock-least.ensures.least in
+    let of_run : IsOfRun limit clock =
+    subst (λ (l : ℕ). IsOfRun l clock) (sym c.frame-frame.ensures.limit) c.requires.process.standing.within.0 in
+    let test : c.is_before.result ≡ nat_lt (rank limit clock) upto =
+    c.is_before.ensures.rank limit of_run c.least_clock-least.ensures.of_run in
+    let early : nat_lt (rank limit clock) upto ≡ true = sym test ∙ c.if-not-is_before.false in
+    let before : rank limit clock < upto = grind (arith, nat_tests) in
+    let rose : rank limit clock < rank limit now =
+    rose_past v w is xs c.step.new.outgoing clock now c.requires.process same limit upto c.frame-frame.ensures.limit least before
+    c.in-Ok.ensures.advance c.in-Ok.ensures.of_run in
+    let view : g.L.Local.view c.finish-2.new.self.local ≡ w =
+    ap (λ l. g.L.Local.view l) c.finish-2.ensures.local ∙ c.settle.ensures.view in
+    subst (λ (y : View). CountsTurn (rank v.share.limit clock) (rank v.share.limit c.finish-2.new.self.clock) v y) (sym view)
+    (subst (λ (u : Time). CountsTurn (rank v.share.limit clock) (rank v.share.limit u) v w) (sym c.finish-2.ensures.clock)
+    (subst (λ (l : ℕ). CountsTurn (rank l clock) (rank l now) v w) c.frame-frame.ensures.limit
+    (counted_turn (rank limit clock) (rank limit now) v w c.in-Ok.ensures.advance.instant rose c.in-Ok.ensures.visits)))
+
+pub returns-clause-visits_stay : goal.returns-clause-visits_stay
+returns-clause-visits_stay g c =
+    λ here there.
+    let v = g.L.Local.view c.args.self.now.local in
+    let w = g.L.Local.view c.step.new.local in
+    let is = c.args.self.now.incoming.items in
+    let xs = c.args.self.now.outgoing.items in
+    let clock = c.args.self.now.clock in
+    let now = c.in-Ok.now in
+    let limit = c.frame-frame.result.limit in
+    let upto = rank limit c.least_clock-least.result in
+    let same : AreBeside (λ j. IsSameLink) xs c.step.new.outgoing =
+    subst (λ (zs : List Outgoing). AreBeside (λ j. IsSameLink) zs c.step.new.outgoing) c.as_mut_slice.ensures.value c.step.ensures.same in
+    let least : upto ≡ least_clock v.share (received_by is) =
+    least_is v.share is c.as_slice.result.now xs clock c.requires.process.standing limit c.frame-frame.result.horizon upto
+    c.frame-frame.ensures.limit c.frame-frame.ensures.horizon c.as_slice.ensures.value c.least_clock-least.ensures.least in
+    let of_run : IsOfRun limit clock =
+    subst (λ (l : ℕ). IsOfRun l clock) (sym c.frame-frame.ensures.limit) c.requires.process.standing.within.0 in
+    let test : c.is_before.result ≡ nat_lt (rank limit clock) upto =
+    c.is_before.ensures.rank limit of_run c.least_clock-least.ensures.of_run in
+    let early : nat_lt (rank limit clock) upto ≡ true = sym test ∙ c.if-not-is_before.false in
+    let before : rank limit clock < upto = grind (arith, nat_tests) in
+    let rose : rank limit clock < rank limit now =
+    rose_past v w is xs c.step.new.outgoing clock now c.requires.process same limit upto c.frame-frame.ensures.limit least before
+    c.in-Ok.ensures.advance c.in-Ok.ensures.of_run in
+    let view : g.L.Local.view c.finish-2.new.self.local ≡ w =
+    ap (λ l. g.L.Local.view l) c.finish-2.ensures.local ∙ c.settle.ensures.view in
+    let counted : CountsTurn (rank v.share.limit clock) (rank v.share.limit c.finish-2.new.self.clock) v
+    (g.L.Local.view c.finish-2.new.self.local) =
+    subst (λ (y : View). CountsTurn (rank v.share.limit clock) (rank v.share.limit c.finish-2.new.self.clock) v y) (sym view)
+    (subst (λ (u : Time). CountsTurn (rank v.share.limit clock) (rank v.share.limit u) v w) (sym c.finish-2.ensures.clock)
+    (subst (λ (l : ℕ). CountsTurn (rank l clock) (rank l now) v w) c.frame-frame.ensures.limit
+    (counted_turn (rank limit clock) (rank limit now) v w c.in-Ok.ensures.advance.instant rose c.in-Ok.ensures.visits))) in
+    still_unseen v (g.L.Local.view c.finish-2.new.self.local) is c.finish-2.new.self.incoming.items xs c.finish-2.new.self.outgoing.items
+    clock c.finish-2.new.self.clock c.requires.process c.finish-2.ensures.process
+    (ap (λ (y : View). y.share) view ∙ c.in-Ok.ensures.advance.instant.share) (ap (λ is'. is'.items) c.finish-2.ensures.incoming)
+    counted here there

@@ -22,5 +22,5 @@ returns-clause-value c = count c
 
 pub returns-clause-at_most : goal.returns-clause-at_most
 returns-clause-at_most c =
-    let accepted = subst (λ (s : Source). refusal_of (file_of s.file) ≡ None) c.self.view_is c.self.inside.checked.now.accepted in
-    omega (arith, count c, few_components (file_of c.args.self.now.file) (c.accepted_files.ensures _ accepted))
+    let checked = subst (λ (s : Source). refusal_of (file_of s.file) ≡ None) c.self.view_is c.self.inside.checked.now.checked in
+    omega (arith, count c, few_components (file_of c.args.self.now.file) (c.checked_files.ensures _ checked))

@@ -12,7 +12,7 @@ use Rattle.dv_tree.proofs.tree.Tree.input_names.Goals as goal
 pub returns-clause-few : goal.returns-clause-few
 returns-clause-few c =
     let checked = c.self.inside.checked.now in
-    let few = few_inputs (file_of checked.file) (c.accepted_files.ensures _ checked.accepted) in
+    let few = few_inputs (file_of checked.file) (c.checked_files.ensures _ checked.checked) in
     let all = ap length c.deref.ensures.value in
     let inputs = ap length c.self.invariant.4 in
     IfOk-weaker c.texts_of.result (λ (texts : Vec

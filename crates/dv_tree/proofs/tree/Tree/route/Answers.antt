@@ -36,7 +36,7 @@ returns-clause-leaving c = left c
 
 pub returns-clause-at_most : goal.returns-clause-at_most
 returns-clause-at_most c =
-    let accepted = subst (λ (s : Source). refusal_of (file_of s.file) ≡ None) c.self.view_is c.self.inside.checked.now.accepted in
-    let few = few_leave (file_of c.args.self.now.file) c.args.sent.now (c.accepted_files.ensures _ accepted) in
+    let checked = subst (λ (s : Source). refusal_of (file_of s.file) ≡ None) c.self.view_is c.self.inside.checked.now.checked in
+    let few = few_leave (file_of c.args.self.now.file) c.args.sent.now (c.checked_files.ensures _ checked) in
     IfOk-weaker c.route.result (λ (routed : Routed). routed.leaving ≡ leaves (file_of c.args.self.now.file) c.args.sent.now)
     (λ (routed : Routed). length routed.leaving ≤ GREATEST_NAMES) (λ routed is. omega (arith, few, ap length is)) (left c)

@@ -1,0 +1,88 @@
+use Rattle.std.proofs.Common.{◌≡◌, ◌∙◌, ◌<◌, ◌+◌, ◌++◌, [], List, length, get_or, take, refl, sym, ap, subst, arith, append-nil}
+use Rattle.std.proofs.lemmas.List.{append_assoc, take_all}
+use Rattle.dv_bag.specs.Bag.{Counts}
+use Rattle.dv_bag.specs.declared.entry.Entry.{Entry}
+use Rattle.dv_react.specs.Components.{rank_of}
+use Rattle.dv_share.specs.Places.{places_of}
+use Rattle.dv_share.specs.declared.place.Placed.{Placed}
+use Rattle.dv_local.specs.Commits.{HasReacted, HaveReacted, IsGivenAt}
+use Rattle.dv_local.proofs.Commits.{given_now, none_reacted, one_more}
+use Rattle.dv_local.proofs.commit.commit.Goals as goal
+
+pub loop-arrival-init : goal.loop-arrival-init
+loop-arrival-init g c = record {
+  reacted =
+      none_reacted g.A.Atomic.behaviour g.A.Atomic.fits c.args.moment.now.tables.now (rank_of c.args.moment.now.instant.now)
+      c.args.components.now.running.items c.args.moment.now.emitted.now c.args.received.now c.args.committed.now.entries;
+  components = c.requires.components;
+  agenda = c.requires.agenda;
+  within = c.requires.within;
+  before = refl;
+  visits = refl;
+  count = refl;
+  entries = ([], sym (append-nil _));
+  outer = refl;
+}
+
+pub commit_one-requires : goal.commit_one-requires
+commit_one-requires g c =
+    let b = g.A.Atomic.behaviour in
+    let t = c.args.moment.now.tables.now in
+    let now = rank_of c.args.moment.now.instant.now in
+    let rs = c.args.components.now.running.items in
+    let es = c.args.moment.now.emitted.now in
+    let xs = c.args.received.now in
+    let i = c.loop-arrival.arrival-index in
+    let x = c.arrival-item.result in
+    let early : i < length xs = omega arith in
+    let inv = c.loop-arrival.invariant in
+    record {
+      tables = c.requires.tables;
+      limit = c.requires.limit;
+      components = inv.components;
+      comes = c.requires.comes;
+      place = subst (λ (y : Placed (List Counts)). y.place < length t.members.items) (sym c.arrival-item.is) (c.requires.received.within i x early);
+      rise = c.requires.emitted.places.rise;
+      given =
+          subst (λ (y : Placed (List Counts)). IsGivenAt b t now es c.loop-arrival.components.running.items y.place) (sym c.arrival-item.is)
+          (given_now b g.A.Atomic.fits t now rs es xs i x c.loop-arrival.components.running.items c.args.committed.now.entries
+          c.loop-arrival.committed.entries c.requires.received c.requires.components.count early inv.reacted c.requires.emitted);
+      agenda = inv.agenda;
+      within = inv.within;
+    }
+
+pub loop-arrival-preserved : goal.loop-arrival-preserved
+loop-arrival-preserved g c =
+    let b = g.A.Atomic.behaviour in
+    let fits = g.A.Atomic.fits in
+    let t = c.args.moment.now.tables.now in
+    let now = rank_of c.args.moment.now.instant.now in
+    let rs = c.args.components.now.running.items in
+    let es = c.args.moment.now.emitted.now in
+    let xs = c.args.received.now in
+    let i = c.loop-arrival.arrival-index in
+    let x = c.arrival-item.result in
+    let early : i < length xs = omega arith in
+    let inv = c.loop-arrival.invariant in
+    let one = c.in_ok-commit_one.ensures in
+    let ss = c.loop-arrival.components.running.items in
+    let us = c.commit_one.new.components.running.items in
+    let old = c.args.committed.now.entries in
+    let mid = c.loop-arrival.committed.entries in
+    let new = c.commit_one.new.committed.entries in
+    record {
+      reacted =
+          one_more b fits t now rs es xs i x ss old mid c.requires.received c.requires.components.count early inv.reacted us new
+          (subst (λ (y : Placed (List Counts)). HasReacted b fits t now es y ss us mid new) c.arrival-item.is one.reacted);
+      components = one.components;
+      agenda = one.agenda;
+      within = one.within;
+      before = one.before ∙ inv.before;
+      visits = one.visits ∙ inv.visits;
+      count = omega (arith, one.count, inv.count);
+      entries = (
+        inv.entries.0 ++ one.entries.0,
+        one.entries.1 ∙ ap (λ (es : List Entry). es ++ one.entries.0) inv.entries.1 ∙ append_assoc old inv.entries.0 one.entries.0,
+      );
+      outer = one.outer ∙ inv.outer;
+    }

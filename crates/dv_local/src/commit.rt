@@ -1,0 +1,210 @@
+//! The components to which something happens at an instant react, and what happens is committed.
+
+ghost use Rattle.std.specs.Prelude.{◌≡◌, ◌<◌, ◌+◌, ◌∷◌, [], List, Some, IfOk, MatchOption, OnOk, length, slice_get, slice_set, vec_capacity, vec_len};
+ghost use Rattle.std.specs.Option.{option_map};
+ghost use Rattle.dv_bag.specs.Bag.{Counts};
+ghost use Rattle.dv_react.specs.Components.{rank_of};
+ghost use Rattle.dv_react.specs.Outcomes.{happened_in, left_by, sent_of};
+ghost use Rattle.dv_devs.specs.Network.{entry_of};
+ghost use Rattle.dv_share.specs.Commits.{HasGrown};
+ghost use Rattle.dv_share.specs.Places.{AreRising, places_of};
+ghost use Rattle.dv_share.specs.Rows.{number_of};
+ghost use Rattle.dv_share.specs.Share.{AreComponents, AreEmitted, AreTables, StandByPlace, given_at};
+ghost use Rattle.dv_local.specs.Commits.{HasReacted, HaveReacted, IsGivenAt};
+ghost use Rattle.dv_local.specs.Undoing.{AreWithin, undone, waits_of};
+ghost use Rattle.dv_local.specs.declared.commit.Left.{Left};
+
+use crate::components::Components;
+use crate::undo::{push_to_room, time_of};
+use dv_agenda::Agenda;
+use dv_bag::{Bags, Entry, Fault, Part, Sent, What};
+use dv_react::{Atomic, Instant, Outcome, Running, Wait};
+use dv_share::{Placed, Tables, outcome, sent_at};
+use std::alloc::{AllocError, Global};
+
+/// What an instant is computed from, beside the components: the tables, the instant itself, and what was emitted at it.
+#[derive(Clone, Copy)]
+pub(crate) struct Moment<'a, A> {
+    pub tables: &'a Tables<A>,
+    pub instant: &'a Instant,
+    pub emitted: &'a [Placed<Result<Sent, Fault>>],
+    pub alloc: Global,
+}
+
+/// The components that emitted or receive something react, one after the other. What happens is committed; a component that
+/// changes is put in its place, and the one that stood there behind those that stood before.
+///
+/// # Errors
+///
+/// No memory. Some components may have reacted then: with those put back that stood before, the last first, all stand again
+/// as they did.
+pub(crate) fn commit<A: Atomic>(
+    moment: &Moment<'_, A>,
+    work: &mut A::Work,
+    received: &[Placed<Bags>],
+    components: &mut Components,
+    agenda: &mut Agenda,
+    committed: &mut Part,
+    before: &mut Vec<Placed<Running>>,
+) -> Result<(), AllocError>
+    requires tables { AreTables A.fits moment.now.tables.now }
+    requires limit { moment.now.instant.now.limit ≡ moment.now.tables.now.limit }
+    requires components { AreComponents A.fits moment.now.tables.now components.old.running.items }
+    requires comes { (a : A) (bags : List Counts) → A.comes a bags }
+    requires emitted { AreEmitted A.behaviour moment.now.tables.now (rank_of moment.now.instant.now)
+        components.old.running.items moment.now.emitted.now }
+    requires received { StandByPlace (length moment.now.tables.now.members.items) received.now }
+    requires agenda { agenda.old ≡ waits_of components.old.running.items }
+    requires within { AreWithin (length components.old.running.items) before.old.items }
+    ensures reacted { OnOk result (HaveReacted A.behaviour A.fits moment.now.tables.now
+        (rank_of moment.now.instant.now) components.old.running.items moment.now.emitted.now
+        received.now (places_of received.now) components.new.running.items
+        committed.old.entries committed.new.entries) }
+    ensures components { AreComponents A.fits moment.now.tables.now components.new.running.items }
+    ensures agenda { agenda.new ≡ waits_of components.new.running.items }
+    ensures within { AreWithin (length components.new.running.items) before.new.items }
+    ensures before { undone before.new.items components.new.running.items
+        ≡ undone before.old.items components.old.running.items }
+    ensures visits { components.new.visits ≡ components.old.visits }
+    ensures count { length before.new.items + length committed.old.entries
+        ≡ length before.old.items + length committed.new.entries }
+    ensures entries { HasGrown committed.old.entries committed.new.entries }
+    ensures outer { committed.new.outer ≡ committed.old.outer }
+{
+    for arrival in received {
+        commit_one(moment, work, arrival, components, agenda, committed, before)?;
+    }
+    Ok(())
+}
+
+// The component at the place of an arrival reacts.
+fn commit_one<A: Atomic>(
+    moment: &Moment<'_, A>,
+    work: &mut A::Work,
+    arrival: &Placed<Bags>,
+    components: &mut Components,
+    agenda: &mut Agenda,
+    committed: &mut Part,
+    before: &mut Vec<Placed<Running>>,
+) -> Result<(), AllocError>
+    requires tables { AreTables A.fits moment.now.tables.now }
+    requires limit { moment.now.instant.now.limit ≡ moment.now.tables.now.limit }
+    requires components { AreComponents A.fits moment.now.tables.now components.old.running.items }
+    requires comes { (a : A) (bags : List Counts) → A.comes a bags }
+    requires place { arrival.now.place < length moment.now.tables.now.members.items }
+    requires rise { AreRising (places_of moment.now.emitted.now) }
+    requires given { IsGivenAt A.behaviour moment.now.tables.now (rank_of moment.now.instant.now)
+        moment.now.emitted.now components.old.running.items arrival.now.place }
+    requires agenda { agenda.old ≡ waits_of components.old.running.items }
+    requires within { AreWithin (length components.old.running.items) before.old.items }
+    ensures reacted { OnOk result (HasReacted A.behaviour A.fits moment.now.tables.now
+        (rank_of moment.now.instant.now) moment.now.emitted.now arrival.now components.old.running.items
+        components.new.running.items committed.old.entries committed.new.entries) }
+    ensures components { AreComponents A.fits moment.now.tables.now components.new.running.items }
+    ensures agenda { agenda.new ≡ waits_of components.new.running.items }
+    ensures within { AreWithin (length components.new.running.items) before.new.items }
+    ensures before { undone before.new.items components.new.running.items
+        ≡ undone before.old.items components.old.running.items }
+    ensures visits { components.new.visits ≡ components.old.visits }
+    ensures count { length before.new.items + length committed.old.entries
+        ≡ length before.old.items + length committed.new.entries }
+    ensures entries { HasGrown committed.old.entries committed.new.entries }
+    ensures outer { committed.new.outer ≡ committed.old.outer }
+{
+    let component = &components.running[arrival.place as usize];
+    let outcome = outcome(
+        moment.tables,
+        work,
+        moment.instant,
+        component,
+        moment.emitted,
+        arrival,
+    )?;
+    let Some(left) = left_by(component, outcome)? else {
+        return Ok(());
+    };
+    let entry = entry_at(moment, arrival.place, left.what)?;
+    before.reserve(1)?;
+    committed.push_entry(entry)?;
+    put_in(components, agenda, before, arrival.place, left.after);
+    Ok(())
+}
+
+// What happened to a component, and the component after it.
+#[derive(Drop)]
+struct Left {
+    what: What,
+    after: Running,
+}
+
+// What an outcome leaves, if something happened.
+fn left_by(component: &Running, outcome: Outcome) -> Result<Option<Left>, AllocError>
+    ensures happened { IfOk result (λ left. option_map (λ (l : Left). l.what) left ≡ happened_in outcome) }
+    ensures left { IfOk result (λ left. MatchOption left (left_by component.now outcome ≡ component.now)
+        (λ l. l.after ≡ left_by component.now outcome)) }
+{
+    match outcome {
+        Outcome::Nothing => Ok(None),
+        Outcome::Faulted { fault } => Ok(Some(Left {
+            what: What::Fault(fault),
+            after: Running {
+                state: component.state.clone()?,
+                last: component.last,
+                wait: Wait::Quiet,
+            },
+        })),
+        Outcome::Changed {
+            kind,
+            entered,
+            after,
+        } => Ok(Some(Left {
+            what: What::Transition {
+                kind,
+                state: entered,
+            },
+            after,
+        })),
+    }
+}
+
+// The entry of what happened to the component at a place.
+fn entry_at<A>(moment: &Moment<'_, A>, place: u32, what: What) -> Result<Entry, AllocError>
+    requires place { place < length moment.now.tables.now.members.items }
+    requires rise { AreRising (places_of moment.now.emitted.now) }
+    ensures { IfOk result (λ entry. entry ∷ [] ≡ entry_of moment.now.instant.now.limit
+        (rank_of moment.now.instant.now) (number_of (slice_get moment.now.tables.now.members.items place))
+        (Some (what, sent_of (given_at place moment.now.emitted.now)))) }
+{
+    Ok(Entry {
+        time: moment.instant.time,
+        component: moment.tables.members[place as usize].number,
+        what,
+        sent: sent_at(moment.alloc, moment.emitted, place)?,
+    })
+}
+
+// Puts a component in its place, and the one that stood there behind those that stood before, where there is room for it.
+fn put_in(
+    components: &mut Components,
+    agenda: &mut Agenda,
+    before: &mut Vec<Placed<Running>>,
+    place: u32,
+    component: Running,
+)
+    requires place { place < length components.old.running.items }
+    requires agenda { agenda.old ≡ waits_of components.old.running.items }
+    requires within { AreWithin (length components.old.running.items) before.old.items }
+    requires room { vec_len before.old < vec_capacity before.old }
+    ensures components { components.new.running.items
+        ≡ slice_set components.old.running.items place component }
+    ensures visits { components.new.visits ≡ components.old.visits }
+    ensures count { length before.new.items ≡ length before.old.items + 1 }
+    ensures agenda { agenda.new ≡ waits_of components.new.running.items }
+    ensures within { AreWithin (length components.new.running.items) before.new.items }
+    ensures before { undone before.new.items components.new.running.items
+        ≡ undone before.old.items components.old.running.items }
+{
+    agenda.set(place, time_of(component.wait));
+    let what = components.replace(place, component);
+    push_to_room(before, Placed { place, what });
+}

@@ -1,0 +1,27 @@
+//! The lists of an instant.
+
+use dv_bag::Bags;
+use dv_share::{Delivery, Placed};
+use std::alloc::Global;
+
+/// Lists that an instant fills anew. Their memory serves again at the next one.
+#[derive(Drop)]
+pub struct Scratch {
+    /// The places of the components that are due.
+    pub due: Vec<u32>,
+    /// What comes to components, and what leaves.
+    pub carried: Vec<Delivery>,
+    /// The bags of the components that emitted or receive something.
+    pub received: Vec<Placed<Bags>>,
+}
+
+impl Scratch {
+    /// Empty lists. They take no memory yet.
+    pub fn new(alloc: Global) -> Self {
+        Scratch {
+            due: Vec::new(alloc),
+            carried: Vec::new(alloc),
+            received: Vec::new(alloc),
+        }
+    }
+}

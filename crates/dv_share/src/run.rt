@@ -1,0 +1,85 @@
+//! Lists in the order of numbers, in which what is of one number stands together.
+
+ghost use Rattle.std.specs.Prelude.{◌≡◌, ℕ, ◌<◌, ◌≤◌, filter, length, nat_eq, slice_index_or};
+ghost use Rattle.std.specs.List.{AllWithin};
+ghost use Rattle.std.specs.List.Sorted.{IsNonDecreasingBy};
+
+use crate::link::{Delivery, Link};
+use dv_bag::sent::Sending;
+
+/// What is of a number.
+pub trait Numbered {
+    /// The number.
+    ghost number: { Self → ℕ };
+
+    /// The number.
+    fn number(&self) -> usize
+        ensures { result ≡ number self.now };
+}
+
+/// A delivery is of the component that it is for.
+impl Numbered for Delivery {
+    ghost number = { λ d. d.component };
+
+    fn number(&self) -> usize {
+        self.component as usize
+    }
+}
+
+/// A link is of the component that it leads from.
+impl Numbered for Link {
+    ghost number = { λ l. l.from };
+
+    fn number(&self) -> usize {
+        self.from as usize
+    }
+}
+
+/// A sending is of its port.
+impl Numbered for Sending {
+    ghost number = { λ s. s.port };
+
+    fn number(&self) -> usize {
+        self.port
+    }
+}
+
+/// The items that are of a number, by a binary search and a walk over them.
+pub(crate) fn run_of<T: Numbered>(items: &[T], number: usize) -> &[T]
+    requires { IsNonDecreasingBy T.number items.now }
+    ensures { result.now ≡ filter (λ (x : T). nat_eq (T.number x) number) items.now }
+{
+    let (first, end) = places_of(items, number);
+    &items[first..end]
+}
+
+// Where the items of a number begin and end.
+fn places_of<T: Numbered>(items: &[T], number: usize) -> (usize, usize)
+    requires { IsNonDecreasingBy T.number items.now }
+    ensures order { result.0 ≤ result.1 }
+    ensures within { result.1 ≤ length items.now }
+    ensures before { AllWithin (λ (x : T). T.number x < number) items.now 0 result.0 }
+    ensures there { AllWithin (λ (x : T). T.number x ≡ number) items.now result.0 result.1 }
+    ensures behind { AllWithin (λ (x : T). number < T.number x) items.now result.1 (length items.now) }
+{
+    let first = items.partition_point(|item| item.number() < number);
+    (first, run_end(items, first, number))
+}
+
+/// Where the items of a number end, from a place on from which no item is of a number before it.
+pub(crate) fn run_end<T: Numbered>(items: &[T], start: usize, number: usize) -> usize
+    requires rise { IsNonDecreasingBy T.number items.now }
+    requires within { start ≤ length items.now }
+    requires from { (d : T) → start < length items.now
+        → number ≤ T.number (slice_index_or items.now start d) }
+    ensures onward { start ≤ result }
+    ensures within { result ≤ length items.now }
+    ensures there { AllWithin (λ (x : T). T.number x ≡ number) items.now start result }
+    ensures behind { AllWithin (λ (x : T). number < T.number x) items.now result (length items.now) }
+{
+    let mut end = start;
+    while end < items.len() && items[end].number() == number {
+        end += 1;
+    }
+    end
+}
