@@ -1,0 +1,48 @@
+//! The conservative process as a process of a world.
+
+ghost use Rattle.dv_core.specs.Conservative.{IsConservative, state_by};
+
+use crate::process::LogicalProcess;
+use dv_bag::Part;
+use dv_proc::{Local, Packet, Process, Refused, Turned};
+use dv_time::Time;
+use std::alloc::AllocError;
+
+impl<L: Local + Drop> LogicalProcess for Process<L> {
+    type Work = L::Work;
+
+    ghost state = { state_by L.view };
+
+    ghost valid = { IsConservative L.view L.settled };
+
+    fn turn(&mut self, work: &mut L::Work) -> Result<Turned, AllocError> {
+        Process::turn(self, work)
+    }
+
+    fn receive(&mut self, packet: Packet) -> Result<(), (Refused, Packet)> {
+        Process::receive(self, packet)
+    }
+
+    fn out(&self, link: u32) -> Option<&Packet> {
+        Process::out(self, link)
+    }
+
+    fn sent(&mut self, link: u32) -> Packet {
+        let Some(packet) = Process::sent(self, link) else {
+            unreachable!()
+        };
+        packet
+    }
+
+    fn clock(&self) -> Time {
+        Process::clock(self)
+    }
+
+    fn committed(&self) -> &Part {
+        Process::committed(self)
+    }
+
+    fn finish(self) -> (Part, Time) {
+        Process::into_part(self)
+    }
+}

@@ -1,0 +1,22 @@
+//! The world of logical processes: what may happen to them, in any order, and the driver that runs them in rounds.
+#![tactic(auto)]
+
+/// What a world asks of its processes and of their job.
+pub mod process;
+
+/// The conservative process as a process of a world.
+pub mod conservative;
+
+/// What may be done to a world, and what it answers.
+pub mod step;
+
+/// What a world keeps, and what steps do to it.
+pub mod state;
+
+/// Logical processes, the links between them, and their steps.
+pub mod world;
+
+pub use process::{LogicalProcess, PlannedJob};
+pub use state::WorldState;
+pub use step::{Channel, Ended, Reply, Step};
+pub use world::World;

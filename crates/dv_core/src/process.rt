@@ -1,0 +1,90 @@
+//! What a world asks of its processes and of their job.
+
+ghost use Rattle.std.specs.Prelude.{◌≡◌, ◌≢◌, ◌≤◌, ℕ, None, Some, IfOk, IfErr, OnErr, OnOk, MatchOption};
+ghost use Rattle.dv_conservative.specs.Process.{refusal_of};
+ghost use Rattle.dv_conservative.specs.World.{Job};
+ghost use Rattle.dv_proc.specs.Packets.{meant_packet};
+ghost use Rattle.dv_core.specs.ProcessState.{IsReceived, IsSent, IsTurned, ProcessState};
+ghost use Rattle.dv_proc.specs.Midway.{meant_turned};
+ghost use Rattle.dv_proc.specs.Refusals.{meant_refusal};
+
+use dv_bag::Part;
+use dv_proc::{Packet, Refused, Turned};
+use dv_time::{GREATEST_TICK, Time};
+use std::alloc::AllocError;
+
+/// A logical process, as a world sees it: its share of the model, the packets that it received, its position and what it has
+/// committed.
+pub trait LogicalProcess: Drop {
+    /// What a turn works with and leaves nothing in, as the stack machine; one serves all processes.
+    type Work;
+
+    ghost state: { Self → ProcessState };
+
+    /// What holds of it from one call to the next.
+    ghost valid: { Self → Type 0 };
+
+    /// One turn: commits at most one instant, raises the clock and prepares packets.
+    ///
+    /// # Errors
+    ///
+    /// No memory; the process is as before.
+    fn turn(&mut self, work: &mut Self::Work) -> Result<Turned, AllocError>
+        requires { valid self.old }
+        ensures valid { valid self.new }
+        ensures ok { IfOk result (λ answer. IsTurned (meant_turned answer)
+            (state self.old) (state self.new)) }
+        ensures err { OnErr result (state self.new ≡ state self.old) };
+
+    /// Takes a packet from a link that leads here.
+    ///
+    /// # Errors
+    ///
+    /// The first test that the packet fails, or no memory, with the packet; the process is as before.
+    fn receive(&mut self, packet: Packet) -> Result<(), (Refused, Packet)>
+        requires { valid self.old }
+        ensures valid { valid self.new }
+        ensures ok { OnOk result (IsReceived (meant_packet packet)
+            (state self.old) (state self.new)) }
+        ensures refused { IfErr result (λ e. meant_refusal e.0
+            ≡ refusal_of (state self.old).share (state self.old).received
+            (meant_packet packet)) }
+        ensures unchanged { OnErr result (state self.new ≡ state self.old) }
+        ensures handed_back { IfErr result (λ e. e.1 ≡ packet) };
+
+    /// The packet that stands for a link that leads away.
+    fn out(&self, link: u32) -> Option<&Packet>
+        ensures { MatchOption result ((state self.now).position.standing link ≡ None)
+            (λ p. (state self.now).position.standing link ≡ Some (meant_packet p.now)) };
+
+    /// Gives away the packet that stands for a link; none stands there then.
+    fn sent(&mut self, link: u32) -> Packet
+        requires valid { valid self.old }
+        requires stands { (state self.old).position.standing link ≢ None }
+        ensures valid { valid self.new }
+        ensures packet { (state self.old).position.standing link ≡ Some (meant_packet result) }
+        ensures sent { IsSent link (state self.old) (state self.new) };
+
+    /// The clock: every instant before it is committed.
+    fn clock(&self) -> Time
+        ensures { result ≡ (state self.now).position.clock };
+
+    /// What was committed.
+    fn committed(&self) -> &Part
+        ensures { result.now ≡ (state self.now).part };
+
+    /// What was committed, and the clock.
+    fn finish(self) -> (Part, Time)
+        ensures part { result.0 ≡ (state self).part }
+        ensures clock { result.1 ≡ (state self).position.clock };
+}
+
+/// What a plan says of its job: the model that is run in parts, and until when.
+pub trait PlannedJob: Drop {
+    ghost means: { Self → Job };
+
+    /// The last tick of the run.
+    fn horizon(&self) -> u64
+        ensures is { result ≡ (means self.now).horizon }
+        ensures few { result ≤ GREATEST_TICK };
+}

@@ -1,0 +1,376 @@
+//! What a world keeps, and what steps do to it.
+
+ghost use Rattle.std.specs.Prelude.{◌≡◌, ◌≢◌, ◌+◌, ◌^◌, ◌≤◌, ◌<◌, ℕ, ◌↔◌, IsTrue, IfOk, OnErr, OnOk, map, [], length, replicate, slice_get, Some, vec_len, true, false};
+ghost use Rattle.dv_time.specs.Time.{end_of};
+ghost use Rattle.dv_conservative.specs.Rounds.{IsDriven, moves_from, round};
+ghost use Rattle.dv_conservative.specs.World.{IsRun, new_world};
+ghost use Rattle.dv_proc.specs.Packets.{meant_packets};
+ghost use Rattle.dv_core.specs.Worlds.{AreMadeFor, AreTheTrace, EndsAs, IsCut, IsTrueToModel, IsWhole, kept_by, shown, with_replies};
+ghost use Rattle.dv_core.specs.Standing.{Continues, IsStepped, Stands};
+ghost use Rattle.dv_core.specs.declared.step.Ended.TheVariants as ended;
+ghost use Rattle.dv_core.specs.declared.step.Step.TheVariants as step;
+
+use crate::process::{LogicalProcess, PlannedJob};
+use crate::step::{Channel, Ended, Reply, Step};
+use dv_bag::Part;
+use dv_proc::{Packet, Refused};
+use dv_time::Time;
+use std::alloc::{AllocError, Global};
+use std::collections::VecDeque;
+
+/// What a world keeps: a job, its processes and the links between them, each by their numbers.
+#[derive(Drop)]
+pub struct WorldState<J, P> {
+    /// What is run.
+    pub job: J,
+    /// Between which processes each link leads.
+    pub channels: Vec<Channel>,
+    /// The processes.
+    pub processes: Vec<P>,
+    /// Whether each process is stopped.
+    pub stopped: Vec<bool>,
+    /// The packets on their way on each link, the oldest first.
+    pub queues: Vec<VecDeque<Packet>>,
+    /// How many packets may be on their way on each link.
+    pub capacity: usize,
+}
+
+impl<J: PlannedJob, P: LogicalProcess> WorldState<J, P> {
+    /// A new world: no packet is on its way, and nobody is stopped. The links are in the order of their numbers, and so many
+    /// packets may be on their way on each.
+    ///
+    /// # Errors
+    ///
+    /// No memory.
+    pub fn new(
+        alloc: Global,
+        job: J,
+        channels: Vec<Channel>,
+        processes: Vec<P>,
+        capacity: usize,
+    ) -> Result<Self, AllocError>
+        requires { AreMadeFor J.means P.state P.valid job channels.items processes.items }
+        ensures fresh { IfOk result (λ w. shown J.means P.state w ≡ new_world capacity) }
+        ensures stands { IfOk result (λ w. Stands J.means P.state P.valid w) }
+        ensures job { IfOk result (λ w. w.job ≡ job) }
+        ensures processes { IfOk result (λ w. w.processes ≡ processes) }
+    {
+        let stopped = vec![in alloc; false; processes.len()]?;
+        let queues = empty_queues(alloc, channels.len())?;
+        Ok(WorldState {
+            job,
+            channels,
+            processes,
+            stopped,
+            queues,
+            capacity,
+        })
+    }
+
+    /// What each process has committed, and the clock of each, by their numbers.
+    ///
+    /// # Errors
+    ///
+    /// No memory.
+    pub fn finish(self, alloc: Global) -> Result<(Vec<Part>, Vec<Time>), AllocError>
+        ensures parts { IfOk result (λ r. r.0.items
+            ≡ map (λ x. (P.state x).part) self.processes.items) }
+        ensures clocks { IfOk result (λ r. r.1.items
+            ≡ map (λ x. (P.state x).position.clock) self.processes.items) }
+    {
+        let WorldState {
+            job: _,
+            channels: _,
+            processes,
+            stopped: _,
+            queues: _,
+            capacity: _,
+        } = self;
+        let mut parts = Vec::with_capacity(alloc, processes.len())?;
+        let mut clocks = Vec::with_capacity(alloc, processes.len())?;
+        for process in processes {
+            let (part, clock) = process.finish();
+            parts.push_reserved(part);
+            clocks.push_reserved(clock);
+        }
+        Ok((parts, clocks))
+    }
+
+    /// A turn of a process.
+    fn turn(&mut self, work: &mut P::Work, process: u32) -> Reply
+        requires { Stands J.means P.state P.valid self.old }
+        ensures { IsStepped J.means P.state P.valid (step.Turn process) result
+            self.old self.new }
+    {
+        let place = process as usize;
+        if place >= self.processes.len() {
+            return Reply::Refused;
+        }
+        if self.stopped[place] {
+            return Reply::Stopped;
+        }
+        let owner = &mut self.processes[place];
+        let Ok(_answer) = owner.turn(work) else {
+            return Reply::Memory;
+        };
+        Reply::Done
+    }
+
+    /// The packet that stands at a link's sender goes to the link's end.
+    fn put(&mut self, link: u32) -> Reply
+        requires { Stands J.means P.state P.valid self.old }
+        ensures { IsStepped J.means P.state P.valid (step.Put link) result self.old self.new }
+    {
+        let place = link as usize;
+        if place >= self.channels.len() {
+            return Reply::Refused;
+        }
+        let source = self.channels[place].source as usize;
+        if self.stopped[source] {
+            return Reply::Stopped;
+        }
+        let Some(_standing) = self.processes[source].out(link) else {
+            return Reply::Empty;
+        };
+        let queue = &mut self.queues[place];
+        if queue.len() >= self.capacity {
+            return Reply::Full;
+        }
+        let Ok(()) = queue.reserve(1) else {
+            return Reply::Memory;
+        };
+        let sender = &mut self.processes[source];
+        let packet = sender.sent(link);
+        queue.push_back_reserved(packet);
+        Reply::Done
+    }
+
+    /// The front packet of a link goes to its receiver.
+    fn take(&mut self, link: u32) -> Reply
+        requires { Stands J.means P.state P.valid self.old }
+        ensures { IsStepped J.means P.state P.valid (step.Take link) result self.old self.new }
+    {
+        let place = link as usize;
+        if place >= self.channels.len() {
+            return Reply::Refused;
+        }
+        let target = self.channels[place].target as usize;
+        if self.stopped[target] {
+            return Reply::Stopped;
+        }
+        let queue = &mut self.queues[place];
+        let Some(packet) = queue.pop_front() else {
+            return Reply::Empty;
+        };
+        let receiver = &mut self.processes[target];
+        match receiver.receive(packet) {
+            Ok(()) => return Reply::Done,
+            Err((refused, packet)) => {
+                // What is on its way is true, so no test refuses it.
+                let Refused::NoMemory = refused else {
+                    unreachable!()
+                };
+                queue.push_front_reserved(packet);
+                return Reply::Memory;
+            }
+        }
+    }
+
+    /// A process is stopped for good.
+    fn stop(&mut self, process: u32) -> Reply
+        requires { Stands J.means P.state P.valid self.old }
+        ensures { IsStepped J.means P.state P.valid (step.Stop process) result
+            self.old self.new }
+    {
+        let place = process as usize;
+        if place >= self.processes.len() {
+            return Reply::Refused;
+        }
+        self.stopped[place] = true;
+        Reply::Done
+    }
+
+    /// One step.
+    pub fn step(&mut self, work: &mut P::Work, step: Step) -> Reply
+        requires { Stands J.means P.state P.valid self.old }
+        ensures { IsStepped J.means P.state P.valid step result self.old self.new }
+    {
+        match step {
+            Step::Turn(process) => self.turn(work, process),
+            Step::Put(link) => self.put(link),
+            Step::Take(link) => self.take(link),
+            Step::Stop(process) => self.stop(process),
+        }
+    }
+
+    /// Steps, one after the other, with their replies. In the world that they leave every packet is true, and each process
+    /// has committed its part of the model's trace before its clock.
+    ///
+    /// # Errors
+    ///
+    /// No memory for the replies; no step is made then.
+    pub fn run(
+        &mut self,
+        alloc: Global,
+        work: &mut P::Work,
+        steps: &[Step],
+    ) -> Result<Vec<Reply>, AllocError>
+        requires { Stands J.means P.state P.valid self.old }
+        ensures run { IfOk result (λ replies. IsRun (J.means self.old.job)
+            (with_replies steps.now replies.items)
+            (shown J.means P.state self.old) (shown J.means P.state self.new)) }
+        ensures each { IfOk result (λ replies. vec_len replies ≡ length steps.now) }
+        ensures none { OnErr result (self.new ≡ self.old) }
+        ensures true_to_model { IsTrueToModel (J.means self.new.job) (kept_by P.state self.new) }
+        ensures job { self.new.job ≡ self.old.job }
+        ensures stands { Stands J.means P.state P.valid self.new }
+    {
+        let mut replies = Vec::with_capacity(alloc, steps.len())?;
+        for step in steps {
+            let reply = self.step(work, *step);
+            replies.push_reserved(reply);
+        }
+        Ok(replies)
+    }
+
+    /// Whether every clock is at the end. The parts of the processes together are then the model's whole trace.
+    pub fn whole(&self) -> bool
+        requires { Stands J.means P.state P.valid self.now }
+        ensures whole { IsTrue result
+            ↔ IsWhole (J.means self.now.job) (shown J.means P.state self.now) }
+        ensures trace { IsTrue result
+            → AreTheTrace (J.means self.now.job) (map P.state self.now.processes.items) }
+    {
+        let end = self.job.horizon() + 1;
+        for process in &self.processes {
+            let clock = process.clock();
+            if clock.tick != end {
+                return false;
+            }
+            if clock.micro != 0 {
+                return false;
+            }
+        }
+        true
+    }
+
+    /// A turn for each process in order; whether none wanted memory.
+    fn turns(&mut self, work: &mut P::Work) -> bool
+        requires { Stands J.means P.state P.valid self.old }
+        ensures done { result ≡ true → Continues (J.means self.old.job)
+            (round (J.means self.old.job)) (moves_from 0 (J.means self.old.job).channels)
+            (shown J.means P.state self.old) (shown J.means P.state self.new) }
+        ensures cut { result ≡ false → IsCut (J.means self.old.job)
+            (round (J.means self.old.job))
+            (shown J.means P.state self.old) (shown J.means P.state self.new) }
+        ensures job { self.new.job ≡ self.old.job }
+        ensures stands { Stands J.means P.state P.valid self.new }
+    {
+        let count = self.processes.len() as u32;
+        for process in 0..count {
+            if let Reply::Memory = self.turn(work, process) {
+                return false;
+            }
+        }
+        true
+    }
+
+    /// A put and a take for each link in order; whether none wanted memory.
+    fn moves(&mut self) -> bool
+        requires { Stands J.means P.state P.valid self.old }
+        ensures done { result ≡ true → IsDriven (J.means self.old.job)
+            (moves_from 0 (J.means self.old.job).channels)
+            (shown J.means P.state self.old) (shown J.means P.state self.new) }
+        ensures cut { result ≡ false → IsCut (J.means self.old.job)
+            (moves_from 0 (J.means self.old.job).channels)
+            (shown J.means P.state self.old) (shown J.means P.state self.new) }
+        ensures job { self.new.job ≡ self.old.job }
+        ensures stands { Stands J.means P.state P.valid self.new }
+    {
+        let count = self.channels.len() as u32;
+        for link in 0..count {
+            if let Reply::Memory = self.put(link) {
+                return false;
+            }
+            if let Reply::Memory = self.take(link) {
+                return false;
+            }
+        }
+        true
+    }
+
+    /// One round; whether nothing in it wanted memory.
+    fn round(&mut self, work: &mut P::Work) -> bool
+        requires { Stands J.means P.state P.valid self.old }
+        ensures done { result ≡ true → IsDriven (J.means self.old.job)
+            (round (J.means self.old.job))
+            (shown J.means P.state self.old) (shown J.means P.state self.new) }
+        ensures cut { result ≡ false → IsCut (J.means self.old.job)
+            (round (J.means self.old.job))
+            (shown J.means P.state self.old) (shown J.means P.state self.new) }
+        ensures job { self.new.job ≡ self.old.job }
+        ensures stands { Stands J.means P.state P.valid self.new }
+    {
+        if !self.turns(work) {
+            return false;
+        }
+        self.moves()
+    }
+
+    /// Rounds, so many at most, until every clock is at the end. From a new world one round more than there are times
+    /// before the end is enough. Where memory is refused the last round is cut; what was done stands.
+    pub fn serial(&mut self, work: &mut P::Work, limit: u64) -> Ended
+        requires { Stands J.means P.state P.valid self.old }
+        ensures rounds { EndsAs (J.means self.old.job) limit result
+            (shown J.means P.state self.old) (shown J.means P.state self.new) }
+        ensures enough { (capacity : ℕ) → shown J.means P.state self.old ≡ new_world capacity
+            → 0 < capacity
+            → end_of (J.means self.old.job).limit (J.means self.old.job).horizon + 1 ≤ limit
+            → result ≢ ended.Stalled }
+        ensures trace { result ≡ ended.Whole
+            → AreTheTrace (J.means self.new.job) (map P.state self.new.processes.items) }
+        ensures true_to_model { IsTrueToModel (J.means self.new.job) (kept_by P.state self.new) }
+        ensures job { self.new.job ≡ self.old.job }
+        ensures stands { Stands J.means P.state P.valid self.new }
+    {
+        for _done in 0..limit {
+            if self.whole() {
+                return Ended::Whole;
+            }
+            if !self.round(work) {
+                return Ended::Memory;
+            }
+        }
+        if self.whole() {
+            return Ended::Whole;
+        }
+        Ended::Stalled
+    }
+
+    /// The process of a number.
+    pub fn process(&self, process: u32) -> &P
+        requires { process < vec_len self.now.processes }
+        ensures { slice_get self.now.processes.items process ≡ Some result.now }
+    {
+        &self.processes[process as usize]
+    }
+
+    /// The job that is run.
+    pub fn job(&self) -> &J
+        ensures { result.now ≡ self.now.job }
+    {
+        &self.job
+    }
+}
+
+/// So many queues, all empty.
+fn empty_queues(alloc: Global, count: usize) -> Result<Vec<VecDeque<Packet>>, AllocError>
+    ensures { IfOk result (λ queues. map (λ q. meant_packets q.items) queues.items
+        ≡ replicate count []) }
+{
+    let mut queues = Vec::with_capacity(alloc, count)?;
+    for _made in 0..count {
+        queues.push_reserved(VecDeque::new(alloc));
+    }
+    Ok(queues)
+}

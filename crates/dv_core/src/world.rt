@@ -1,0 +1,145 @@
+//! Logical processes, the links between them, and their steps.
+
+use crate::process::{LogicalProcess, PlannedJob};
+use crate::state::WorldState;
+use crate::step::{Channel, Ended, Reply, Step};
+use dv_bag::Part;
+use dv_time::Time;
+use std::alloc::{AllocError, Global};
+use std::marker::Model;
+
+/// Logical processes of a job, the links between them with the packets on their way, and which processes are stopped. Only
+/// steps lead to it, from a new world.
+#[derive(Drop)]
+pub struct World<J: PlannedJob, P: LogicalProcess> {
+    state: WorldState<J, P>,
+}
+
+impl<J: PlannedJob, P: LogicalProcess> Model for World<J, P> {
+    ghost use Rattle.dv_core.specs.declared.state.WorldState.{WorldState};
+    ghost use Rattle.dv_core.specs.Standing.{Stands};
+
+    ghost Value = { WorldState J P };
+
+    ghost view = { λ w. w.state };
+
+    ghost invariant = { λ w. Stands J.means P.state P.valid w.state };
+}
+
+impl<J: PlannedJob, P: LogicalProcess> World<J, P> {
+    ghost use Rattle.std.specs.Prelude.{◌≡◌, ◌≢◌, ◌+◌, ◌≤◌, ◌<◌, ℕ, ◌↔◌, IsTrue, IfOk, OnErr, map, length, slice_get, Some, vec_len};
+    ghost use Rattle.dv_time.specs.Time.{end_of};
+    ghost use Rattle.dv_conservative.specs.World.{IsRun, new_world};
+    ghost use Rattle.dv_core.specs.Worlds.{AreMadeFor, AreTheTrace, EndsAs, IsAnswered, IsTrueToModel, IsWhole, kept_by, shown, with_replies};
+    ghost use Rattle.dv_core.specs.declared.step.Ended.TheVariants as ended;
+
+    /// A new world: no packet is on its way, and nobody is stopped. The links are in the order of their numbers, and so many
+    /// packets may be on their way on each.
+    ///
+    /// # Errors
+    ///
+    /// No memory.
+    pub fn new(
+        alloc: Global,
+        job: J,
+        channels: Vec<Channel>,
+        processes: Vec<P>,
+        capacity: usize,
+    ) -> Result<Self, AllocError>
+        requires { AreMadeFor J.means P.state P.valid job channels.items processes.items }
+        ensures fresh { IfOk result (λ w. shown J.means P.state w ≡ new_world capacity) }
+        ensures job { IfOk result (λ w. w.job ≡ job) }
+        ensures processes { IfOk result (λ w. w.processes ≡ processes) }
+    {
+        let state = WorldState::new(alloc, job, channels, processes, capacity)?;
+        Ok(World { state })
+    }
+
+    /// One step. The answer says why it changed nothing, if it did not.
+    pub fn step(&mut self, work: &mut P::Work, step: Step) -> Reply
+        ensures { IsAnswered J.means P.state step result self.old self.new }
+    {
+        self.state.step(work, step)
+    }
+
+    /// Steps, one after the other, with their replies. In the world that they leave every packet is true, and each process
+    /// has committed its part of the model's trace before its clock.
+    ///
+    /// # Errors
+    ///
+    /// No memory for the replies; no step is made then.
+    pub fn run(
+        &mut self,
+        alloc: Global,
+        work: &mut P::Work,
+        steps: &[Step],
+    ) -> Result<Vec<Reply>, AllocError>
+        ensures run { IfOk result (λ replies. IsRun (J.means self.old.job)
+            (with_replies steps.now replies.items)
+            (shown J.means P.state self.old) (shown J.means P.state self.new)) }
+        ensures each { IfOk result (λ replies. vec_len replies ≡ length steps.now) }
+        ensures none { OnErr result (self.new ≡ self.old) }
+        ensures true_to_model { IsTrueToModel (J.means self.new.job) (kept_by P.state self.new) }
+        ensures job { self.new.job ≡ self.old.job }
+    {
+        self.state.run(alloc, work, steps)
+    }
+
+    /// Whether every clock is at the end. The parts of the processes together are then the model's whole trace.
+    pub fn whole(&self) -> bool
+        ensures whole { IsTrue result
+            ↔ IsWhole (J.means self.now.job) (shown J.means P.state self.now) }
+        ensures trace { IsTrue result
+            → AreTheTrace (J.means self.now.job) (map P.state self.now.processes.items) }
+    {
+        self.state.whole()
+    }
+
+    /// Rounds, so many at most, until every clock is at the end. A round is a turn of each process, and then for each link
+    /// one put and one take. From a new world one round more than there are times before the end is enough. Where memory is
+    /// refused the last round is cut; what was done stands, and rounds can go on.
+    pub fn serial(&mut self, work: &mut P::Work, limit: u64) -> Ended
+        ensures rounds { EndsAs (J.means self.old.job) limit result
+            (shown J.means P.state self.old) (shown J.means P.state self.new) }
+        ensures enough { (capacity : ℕ) → shown J.means P.state self.old ≡ new_world capacity
+            → 0 < capacity
+            → end_of (J.means self.old.job).limit (J.means self.old.job).horizon + 1 ≤ limit
+            → result ≢ ended.Stalled }
+        ensures trace { result ≡ ended.Whole
+            → AreTheTrace (J.means self.new.job) (map P.state self.new.processes.items) }
+        ensures true_to_model { IsTrueToModel (J.means self.new.job) (kept_by P.state self.new) }
+        ensures job { self.new.job ≡ self.old.job }
+    {
+        self.state.serial(work, limit)
+    }
+
+    /// The process of a number.
+    pub fn process(&self, process: u32) -> &P
+        requires { process < (J.means self.now.job).processes }
+        ensures process { slice_get self.now.processes.items process ≡ Some result.now }
+        ensures valid { P.valid result.now }
+    {
+        self.state.process(process)
+    }
+
+    /// The job that is run.
+    pub fn job(&self) -> &J
+        ensures { result.now ≡ self.now.job }
+    {
+        self.state.job()
+    }
+
+    /// What each process has committed, and the clock of each, by their numbers.
+    ///
+    /// # Errors
+    ///
+    /// No memory.
+    pub fn finish(self, alloc: Global) -> Result<(Vec<Part>, Vec<Time>), AllocError>
+        ensures parts { IfOk result (λ r. r.0.items
+            ≡ map (λ x. (P.state x).part) self.processes.items) }
+        ensures clocks { IfOk result (λ r. r.1.items
+            ≡ map (λ x. (P.state x).position.clock) self.processes.items) }
+    {
+        self.state.finish(alloc)
+    }
+}

@@ -1,0 +1,2 @@
+-- Two processes without components.
+pub mod Ring

@@ -1,0 +1,91 @@
+//! No components: what a process asks of them is answered by their response alone.
+
+ghost use Rattle.std.specs.Prelude.{◌≡◌, [], OnErr, OnOk};
+
+use dv_bag::{Part, Response};
+use dv_proc::{Event, Frame, Local};
+use dv_time::Time;
+use std::alloc::AllocError;
+
+/// No components, with a response all the same, and the numbers of the one link that leads here and of the one that leads
+/// away.
+#[derive(Drop)]
+pub struct Silent {
+    pub frame: Frame,
+    pub ticks: u32,
+    pub incoming: u32,
+    pub outgoing: u32,
+    pub part: Part,
+}
+
+impl Local for Silent {
+    ghost use Rattle.std.specs.Prelude.{[]};
+    ghost use Rattle.dv_ring.specs.Ring.{view_of};
+
+    type Work = ();
+
+    ghost view = { view_of };
+
+    ghost settled = { view_of };
+
+    ghost sent = { λ n. [] };
+
+    fn frame(&self) -> Frame {
+        self.frame
+    }
+
+    fn response(&self) -> Response {
+        Response::Ticks(u64::from(self.ticks))
+    }
+
+    fn is_port(&self, _component: u32, _port: u32) -> bool {
+        false
+    }
+
+    fn keep(&mut self, _events: &[Event]) -> Result<(), AllocError> {
+        Ok(())
+    }
+
+    fn next(&self) -> Option<Time> {
+        None
+    }
+
+    fn first_input(&self, _from: Time) -> Option<Time> {
+        None
+    }
+
+    fn react(&mut self, _work: &mut (), _now: Time) -> Result<(), AllocError> {
+        Ok(())
+    }
+
+    fn emit(&mut self, _work: &mut (), _now: Time) -> Result<(), AllocError> {
+        Ok(())
+    }
+
+    fn send(&self, _place: usize, _now: Time, _into: &mut Vec<Event>) -> Result<(), AllocError> {
+        Ok(())
+    }
+
+    fn visits(&self) -> u64 {
+        0
+    }
+
+    fn committed(&self) -> &Part {
+        &self.part
+    }
+
+    fn into_part(self) -> Part {
+        let Silent {
+            frame: _,
+            ticks: _,
+            incoming: _,
+            outgoing: _,
+            part,
+        } = self;
+        part
+    }
+
+    fn settle(&mut self) {}
+
+    fn roll_back(&mut self) {}
+}
