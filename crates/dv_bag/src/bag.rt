@@ -10,7 +10,6 @@ ghost use Rattle.dv_bag.specs.Numbers.{IsBagOfNumbers};
 
 use crate::GREATEST_COUNT;
 use crate::fault::Fault;
-use crate::sent::Sent;
 use smallvec::SmallVec;
 use std::alloc::{AllocError, Global};
 use std::default::MadeWith;
@@ -363,26 +362,6 @@ impl Bags {
     {
         let bag = &mut self.bags[port];
         bag.union(values)
-    }
-
-    /// What was sent at a port, beside the values that are at another.
-    ///
-    /// # Errors
-    ///
-    /// No memory for as many more values. All bags are as before.
-    pub fn union_sent(
-        &mut self,
-        port: usize,
-        sent: &Sent,
-        from_port: usize,
-    ) -> Result<(), AllocError>
-        requires { port < length self.old }
-        ensures ok { OnOk result (self.new ≡ slice_set self.old port
-            (union (bag_at self.old port) (bag_at sent.now from_port))) }
-        ensures err { OnErr result (self.new ≡ self.old) }
-    {
-        let values = sent.bag(from_port)?;
-        self.union_at(port, &values)
     }
 
     /// The number of values in all bags, each copy counted. One above 2^64-1 stands as that number.

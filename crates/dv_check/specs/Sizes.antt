@@ -1,5 +1,5 @@
 -- The sizes of models, counted from the sizes of the models of their parts, without a tree.
-use Rattle.std.specs.Prelude.{ℕ, zero, suc, ◌+◌, ◌==◌, nat_lt, max, Bool, ◌||◌, List, [], map, filter_map, fold, slice_get}
+use Rattle.std.specs.Prelude.{ℕ, zero, suc, ◌+◌, ◌==◌, nat_lt, max, Bool, ◌||◌, if◌then◌else◌, List, [], map, filter_map, fold, slice_get}
 use Rattle.std.specs.Prelude.{Option, Some, None}
 use Rattle.dv_bag.specs.Bag.{capped}
 use Rattle.dv_syntax.specs.Trees.{ModelTree, AtomicModel, CoupledModel}
@@ -8,6 +8,7 @@ use Rattle.dv_check.specs.declared.sizes.Contents.{Contents}
 use Rattle.dv_check.specs.declared.sizes.Contents.TheVariants.{Rules, Parts}
 use Rattle.dv_check.specs.declared.sizes.Size.{Size}
 use Rattle.dv_check.specs.Cycles.{position_inside}
+use Rattle.dv_check.specs.Refusals.{passes_limit}
 use Rattle.dv_check.specs.Tree.{PartTree, component_count, depth_of, instance_count, parts_to}
 
 -- an atomic model, and a coupled one without its parts
@@ -72,3 +73,7 @@ size_passes_limit s =
     s.components == 0
     || (nat_lt GREATEST_COMPONENTS s.components
     || (nat_lt GREATEST_INSTANCES s.instances || nat_lt GREATEST_DEPTH s.depth))
+
+-- the components of a tree that passes no limit
+abbrev pub components_within : PartTree → Option ℕ
+components_within t = if passes_limit t then None else Some (component_count t)

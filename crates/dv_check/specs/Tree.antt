@@ -1,6 +1,6 @@
 -- The tree of a coupled model: its parts, each with the parts inside it.
 use Rattle.std.specs.Prelude.{ℕ, zero, suc, ◌+◌, max, List, [], ◌∷◌, Option, Some, None}
-use Rattle.dv_syntax.specs.Trees.{ModelTree, AtomicModel, CoupledModel, AtomicTree, CoupledTree}
+use Rattle.dv_syntax.specs.Trees.{ModelTree, AtomicModel, CoupledModel, AtomicTree, CoupledTree, FileTree}
 use Rattle.dv_syntax.specs.declared.tree.Name.{Name}
 use Rattle.dv_syntax.specs.declared.tree.Part.{Part}
 use Rattle.dv_check.specs.Names.{model_named}
@@ -48,3 +48,12 @@ abbrev pub instance_count : PartTree → ℕ
 instance_count NoParts = 0
 instance_count (AtomicPart name m rest) = suc (instance_count rest)
 instance_count (CoupledPart name m inside rest) = suc (instance_count inside + instance_count rest)
+
+-- the components of a file: those inside its root
+abbrev pub components_at : List ModelTree → Option ModelTree → ℕ
+components_at models (Some (CoupledModel m)) = component_count (tree_of models m)
+components_at models (Some (AtomicModel m)) = 0
+components_at models None = 0
+
+abbrev pub components_of : FileTree → ℕ
+components_of f = components_at f.models (model_named f.root.number f.models)

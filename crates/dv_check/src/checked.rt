@@ -3,6 +3,7 @@
 ghost use Rattle.std.specs.Prelude.{◌≡◌, None};
 ghost use Rattle.dv_syntax.specs.Trees.{file_of};
 ghost use Rattle.dv_check.specs.Refusals.{AreOfOneText, refusal_of};
+ghost use Rattle.dv_check.specs.Tree.{components_of};
 
 use dv_lex::Names;
 use dv_syntax::File;
@@ -12,6 +13,17 @@ use dv_syntax::File;
 pub struct Checked {
     pub file: File,
     pub names: Names,
+    pub(crate) component_count: u32,
     pub ghost checked: { refusal_of (file_of file) ≡ None },
     pub ghost of_one_text: { ∥ AreOfOneText names (file_of file) ∥₁ },
+    pub ghost counted: { component_count ≡ components_of (file_of file) },
+}
+
+impl Checked {
+    /// The number of components: the atomic models inside the root, each as often as it stands there.
+    pub fn components(&self) -> u32
+        ensures { result ≡ components_of (file_of self.now.file) }
+    {
+        self.component_count
+    }
 }

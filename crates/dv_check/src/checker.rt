@@ -1,16 +1,19 @@
 //! The checks of a whole text.
 
-ghost use Rattle.std.specs.Prelude.{◌≡◌, List, map, option_map, Some, None, IfErr, IfOk, OnOk};
+ghost use Rattle.std.specs.Prelude.{◌≡◌, List, [], ◌∷◌, map, option_map, Some, None, Err, IfErr, IfOk, OnOk};
 ghost use Rattle.std.specs.Option.{option_copied};
 ghost use Rattle.std.specs.List.{flat_map};
 ghost use Rattle.dv_lex.specs.Order.{first_refusal};
+ghost use Rattle.dv_lex.specs.declared.error.LoadError.TheVariants.{Refused};
+ghost use Rattle.dv_lex.specs.declared.error.Refusal.{Refusal};
 ghost use Rattle.dv_lex.specs.declared.error.RefusalNumber.TheVariants.{E6};
-ghost use Rattle.dv_syntax.specs.Trees.{file_of, model_of, ModelTree};
+ghost use Rattle.dv_syntax.specs.Trees.{CoupledModel, coupled_of, file_of, model_of, ModelTree};
 ghost use Rattle.dv_check.specs.Findings.{with_refusals};
 ghost use Rattle.dv_check.specs.Models.{faces_by, faces_in};
 ghost use Rattle.dv_check.specs.Names.{model_named, name_of_model, repeats};
 ghost use Rattle.dv_check.specs.Refusals.{AreOfOneText, IsAnswerTo, limit_refusals, model_refusals, refusal_of, refusals};
 ghost use Rattle.dv_check.specs.Refusals.{root_limit_refusals, root_refusals};
+ghost use Rattle.dv_check.specs.Tree.{component_count, components_at, components_of, tree_of};
 
 use crate::atomic::check_atomic;
 use crate::checked::Checked;
@@ -21,9 +24,9 @@ use crate::directory::Directory;
 use crate::findings::Findings;
 use crate::models::{faces_of, name_of};
 use crate::repeats::find_repeats;
-use crate::sizes::passes_limit;
+use crate::sizes::components_within;
 use dv_lex::{LoadError, Names, Refusal, RefusalNumber};
-use dv_syntax::{File, Model, Name};
+use dv_syntax::{Coupled, File, Model, Name};
 use std::alloc::{AllocError, Global};
 
 /// Tests a file of a model text, whose names are in this table.
@@ -40,18 +43,23 @@ pub fn check(alloc: Global, file: File, names: Names) -> Result<Checked, LoadErr
     ensures checked { OnOk result (refusal_of (file_of file) ≡ None) }
     ensures refused { IfErr result (IsAnswerTo (file_of file)) }
 {
-    match refusal_of(alloc, &file)? {
-        Some(refusal) => Err(LoadError::Refused(refusal)),
-        None => Ok(Checked { file, names }),
-    }
+    let component_count = components_of(alloc, &file)?;
+    Ok(Checked {
+        file,
+        names,
+        component_count,
+    })
 }
 
-fn refusal_of(alloc: Global, file: &File) -> Result<Option<Refusal>, AllocError>
-    ensures { IfOk result (λ answer. answer ≡ refusal_of (file_of file.now)) }
+// The number of components of a file that has no refusal.
+fn components_of(alloc: Global, file: &File) -> Result<u32, LoadError>
+    ensures checked { OnOk result (refusal_of (file_of file.now) ≡ None) }
+    ensures counted { IfOk result (λ count. count ≡ components_of (file_of file.now)) }
+    ensures refused { IfErr result (IsAnswerTo (file_of file.now)) }
 {
     match broken_rule(alloc, file)? {
-        Some(refusal) => Ok(Some(refusal)),
-        None => passed_limit(alloc, file),
+        Some(refusal) => Err(LoadError::Refused(refusal)),
+        None => components_within_limits(alloc, file),
     }
 }
 
@@ -64,15 +72,62 @@ fn broken_rule(alloc: Global, file: &File) -> Result<Option<Refusal>, AllocError
     Ok(found.first)
 }
 
-// The first limit on the whole tree that a file passes.
-fn passed_limit(alloc: Global, file: &File) -> Result<Option<Refusal>, AllocError>
-    ensures { IfOk result (λ first. first ≡ first_refusal (limit_refusals (file_of file.now))) }
+// The number of components of a file whose whole tree passes no limit.
+fn components_within_limits(alloc: Global, file: &File) -> Result<u32, LoadError>
+    ensures within { OnOk result (limit_refusals (file_of file.now) ≡ []) }
+    ensures counted { IfOk result (λ count. count ≡ components_of (file_of file.now)) }
+    ensures refused { (refusal : Refusal) → result ≡ Err (Refused refusal)
+        → limit_refusals (file_of file.now) ≡ refusal ∷ [] }
 {
-    let mut found = Findings::new();
-    if let Some(model) = model_named(&file.models, file.root.number) {
-        check_root_limit(alloc, &file.models, model, file.root.place, &mut found)?;
+    match model_named(&file.models, file.root.number) {
+        Some(root) => components_of_root(alloc, &file.models, root, file.root.place),
+        None => Ok(0),
     }
-    Ok(found.first)
+}
+
+// The number of components of a root whose tree passes no limit. An atomic root has none inside.
+fn components_of_root(
+    alloc: Global,
+    models: &[Model],
+    root: &Model,
+    place: u32,
+) -> Result<u32, LoadError>
+    ensures within { OnOk result (root_limit_refusals (map model_of models.now)
+        (Some (model_of root.now)) place ≡ []) }
+    ensures counted { IfOk result (λ count. count
+        ≡ components_at (map model_of models.now) (Some (model_of root.now))) }
+    ensures refused { (refusal : Refusal) → result ≡ Err (Refused refusal)
+        → root_limit_refusals (map model_of models.now) (Some (model_of root.now)) place
+        ≡ refusal ∷ [] }
+{
+    match root {
+        Model::Atomic(_) => Ok(0),
+        Model::Coupled(coupled) => components_inside(alloc, models, coupled, place),
+    }
+}
+
+// The number of components of a coupled model whose tree passes no limit.
+fn components_inside(
+    alloc: Global,
+    models: &[Model],
+    root: &Coupled,
+    place: u32,
+) -> Result<u32, LoadError>
+    ensures within { OnOk result (root_limit_refusals (map model_of models.now)
+        (Some (CoupledModel (coupled_of root.now))) place ≡ []) }
+    ensures counted { IfOk result (λ count. count
+        ≡ component_count (tree_of (map model_of models.now) (coupled_of root.now))) }
+    ensures refused { (refusal : Refusal) → result ≡ Err (Refused refusal)
+        → root_limit_refusals (map model_of models.now) (Some (CoupledModel (coupled_of root.now)))
+        place ≡ refusal ∷ [] }
+{
+    match components_within(alloc, models, root)? {
+        Some(count) => Ok(count),
+        None => Err(LoadError::Refused(Refusal {
+            number: RefusalNumber::E17,
+            place,
+        })),
+    }
 }
 
 fn check_file(alloc: Global, file: &File, found: &mut Findings) -> Result<(), AllocError>
@@ -163,25 +218,4 @@ fn check_root_model(model: &Model, place: u32, found: &mut Findings)
         Model::Atomic(_) => found.note(RefusalNumber::E16, place),
         Model::Coupled(_) => {}
     }
-}
-
-fn check_root_limit(
-    alloc: Global,
-    models: &[Model],
-    root: &Model,
-    place: u32,
-    found: &mut Findings,
-) -> Result<(), AllocError>
-    ensures { OnOk result (found.new ≡ with_refusals found.old
-        (root_limit_refusals (map model_of models.now) (Some (model_of root.now)) place)) }
-{
-    match root {
-        Model::Atomic(_) => {}
-        Model::Coupled(coupled) => {
-            if passes_limit(alloc, models, coupled)? {
-                found.note(RefusalNumber::E17, place);
-            }
-        }
-    }
-    Ok(())
 }

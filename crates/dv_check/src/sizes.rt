@@ -2,8 +2,7 @@
 
 ghost use Rattle.std.specs.Prelude.{◌≡◌, List, fold, map, IfOk};
 ghost use Rattle.dv_syntax.specs.Trees.{coupled_of, model_of};
-ghost use Rattle.dv_check.specs.Refusals.{passes_limit};
-ghost use Rattle.dv_check.specs.Sizes.{alone, component, contents_by, contents_of, kept, size_by, size_of_tree};
+ghost use Rattle.dv_check.specs.Sizes.{alone, component, components_within, contents_by, contents_of, kept, size_by, size_of_tree};
 ghost use Rattle.dv_check.specs.Sizes.{size_passes_limit, sizes_below, with_part, with_part_at};
 ghost use Rattle.dv_check.specs.Tables.{value_for};
 ghost use Rattle.dv_check.specs.Tree.{parts_to, tree_of};
@@ -84,15 +83,22 @@ impl Size {
     }
 }
 
-/// Whether the tree of a root passes a limit: it has no component or too many, too many instances, or coupled models
-/// that lie too deep.
-#[tactic(auto, using(crate::proofs::Counting::limits_kept))]
-pub fn passes_limit(alloc: Global, models: &[Model], root: &Coupled) -> Result<bool, AllocError>
-    ensures { IfOk result (λ passes. passes
-        ≡ passes_limit (tree_of (map model_of models.now) (coupled_of root.now))) }
+/// The number of components of a root's tree, where that passes no limit: it has a component and not too many, not too
+/// many instances, and coupled models that do not lie too deep.
+pub fn components_within(
+    alloc: Global,
+    models: &[Model],
+    root: &Coupled,
+) -> Result<Option<u32>, AllocError>
+    ensures { IfOk result (λ count. count
+        ≡ components_within (tree_of (map model_of models.now) (coupled_of root.now))) }
 {
     let size = size_of_tree(alloc, GREATEST_DEPTH, models, root)?;
-    Ok(size.passes_limit())
+    if size.passes_limit() {
+        Ok(None)
+    } else {
+        Ok(Some(size.components as u32))
+    }
 }
 
 // The size of a root whose parts show down to so many levels. The sizes of all models are counted level by level, those

@@ -135,6 +135,14 @@ fn processes_argument<'a>(alloc: Global) -> Arg<'a> {
         .help("the number of processes, 1 to 64, and no more than the components (1)")
 }
 
+fn rounds_argument<'a>(alloc: Global) -> Arg<'a> {
+    Arg::new(alloc, "rounds")
+        .long("rounds")
+        .value_name("N")
+        .action(ArgAction::Set)
+        .help("the most rounds of turns and packets (as many as it takes)")
+}
+
 fn plan_command<'a>(alloc: Global) -> Result<Command<'a>, AllocError> {
     Command::new(alloc, "plan")
         .about("Prints the processes of a model and the links between them")
@@ -153,6 +161,7 @@ fn run_command<'a>(alloc: Global) -> Result<Command<'a>, AllocError> {
         .arg(processes_argument(alloc))?
         .arg(inputs_argument(alloc))?
         .arg(microsteps_argument(alloc))?
+        .arg(rounds_argument(alloc))?
         .arg(explain_argument(alloc))
 }
 
@@ -245,12 +254,14 @@ fn run_of(alloc: Global, matches: &ArgMatches) -> Result<Run, RequestError> {
     let inputs = inputs_of(alloc, matches)?;
     let horizon = horizon_of(alloc, matches)?;
     let microsteps = microsteps_of(alloc, matches)?;
+    let rounds = rounds_of(alloc, matches)?;
     Ok(Run {
         model,
         partition,
         inputs,
         horizon,
         microsteps,
+        rounds,
         explained: matches.get_flag("explain"),
     })
 }
@@ -278,6 +289,20 @@ fn microsteps_of(alloc: Global, matches: &ArgMatches) -> Result<Option<u32>, Req
     match number(text, u64::from(GREATEST_LIMIT)) {
         Some(limit) if limit >= 1 => Ok(Some(limit as u32)),
         _ => Err(refused(alloc, "the microstep limit is a number from 1 to 1000")),
+    }
+}
+
+/// The number of rounds, where one is given.
+fn rounds_of(alloc: Global, matches: &ArgMatches) -> Result<Option<u64>, RequestError> {
+    let Some(text) = matches.get_str("rounds") else {
+        return Ok(None);
+    };
+    match number(text, u64::MAX) {
+        Some(rounds) => Ok(Some(rounds)),
+        None => Err(refused(
+            alloc,
+            "the number of rounds is one from 0 to 18446744073709551615",
+        )),
     }
 }
 

@@ -61,6 +61,8 @@ pub struct Run {
     pub horizon: u64,
     /// The greatest microstep of a tick, 1 to 1,000, where it was given.
     pub microsteps: Option<u32>,
+    /// The most rounds of turns and packets, where that was given; else there are as many as it takes.
+    pub rounds: Option<u64>,
     /// Whether a refusal is explained.
     pub explained: bool,
     pub ghost in_range: { AreInRange horizon microsteps },

@@ -16,6 +16,7 @@ pub mod Numbers
 pub mod Order
 pub mod Rounding
 pub mod Running
+pub mod SameRuns
 pub mod Settled
 pub mod Silence
 pub mod Sooner

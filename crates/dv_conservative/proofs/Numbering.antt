@@ -1,6 +1,6 @@
 -- The links between processes are apart, and there are all that are needed.
-use Rattle.std.proofs.Common.{◌≡◌, inl, inr, ℕ, zero, suc, ◌+◌, ◌<◌, ◌≤◌, Bool, true, false, not, ◌&&◌, ◌||◌, cond, nat_eq, List, [], ◌∷◌, ◌++◌, append_assoc, refl, sym, ap, ◌∙◌, subst, arith}
-use Rattle.std.specs.List.{list_any}
+use Rattle.std.proofs.Common.{◌≡◌, inl, inr, ℕ, zero, suc, ◌+◌, ◌<◌, ◌≤◌, Bool, true, false, not, ◌&&◌, ◌||◌, cond, nat_eq, List, [], ◌∷◌, ◌++◌, append_assoc, Some, refl, sym, ap, ◌∙◌, subst, arith}
+use Rattle.std.specs.List.{list_any, slice_get}
 use Rattle.std.proofs.lemmas.Bool.{cases_lt}
 use Rattle.std.proofs.lemmas.Bool.Decides.{nat_tests}
 use Rattle.dv_conservative.specs.Channels.{all_channels, channels_from, channels_of, crosses, leads_between}
@@ -206,27 +206,50 @@ module _ (job : Job) (q : ℕ) (are : job.channels ≡ all_channels job.owner jo
   pub all_heard : AllHeard job q job.flat.links
   all_heard = heard_behind [] job.flat.links refl
 
--- each has a source
-sources_append : (count : ℕ) (xs ys : List Channel) → AllHaveSources count xs → AllHaveSources count ys → AllHaveSources count (xs ++ ys)
-sources_append count [] ys h k = k
-sources_append count (x ∷ xs) ys h k = (h.0, sources_append count xs ys h.1 k)
+-- each leads from a process and to one
+abbrev AllHaveEnds : ℕ → List Channel → Type 0
+AllHaveEnds count [] = Unit {0}
+AllHaveEnds count (c ∷ cs) = ((c.source < count) × (c.target < count)) × AllHaveEnds count cs
 
-row_sources : (owner : ℕ → ℕ) (model : List Link) (count p r n : ℕ) → p < count → AllHaveSources count (channels_of owner model p r n)
-row_sources owner model count p r zero lt = tt
-row_sources owner model count p r (suc n) lt = by_test (row_sources owner model count p (suc r) n lt) (crosses owner model p r)
+ends_append : (count : ℕ) (xs ys : List Channel) → AllHaveEnds count xs → AllHaveEnds count ys → AllHaveEnds count (xs ++ ys)
+ends_append count [] ys h k = k
+ends_append count (x ∷ xs) ys h k = (h.0, ends_append count xs ys h.1 k)
+
+row_ends : (owner : ℕ → ℕ) (model : List Link) (count p r n : ℕ) → p < count → r + n ≤ count
+    → AllHaveEnds count (channels_of owner model p r n)
+row_ends owner model count p r zero lt le = tt
+row_ends owner model count p r (suc n) lt le =
+    by_test (row_ends owner model count p (suc r) n lt (omega arith)) (crosses owner model p r)
   where
-    by_test : AllHaveSources count (channels_of owner model p (suc r) n) → (t : Bool) →
-        AllHaveSources count (cond t (record { source = p; target = r } ∷ channels_of owner model p (suc r) n)
+    by_test : AllHaveEnds count (channels_of owner model p (suc r) n) → (t : Bool) →
+        AllHaveEnds count (cond t (record { source = p; target = r } ∷ channels_of owner model p (suc r) n)
         (channels_of owner model p (suc r) n))
-    by_test rest true = (lt, rest)
+    by_test rest true = ((lt, omega arith), rest)
     by_test rest false = rest
 
-rows_sources : (owner : ℕ → ℕ) (model : List Link) (count p n : ℕ) → p + n ≤ count →
-    AllHaveSources count (channels_from owner model count p n)
-rows_sources owner model count p zero le = tt
-rows_sources owner model count p (suc n) le =
-    sources_append count (channels_of owner model p 0 count) (channels_from owner model count (suc p) n)
-    (row_sources owner model count p 0 count (omega arith)) (rows_sources owner model count (suc p) n (omega arith))
+rows_ends : (owner : ℕ → ℕ) (model : List Link) (count p n : ℕ) → p + n ≤ count → AllHaveEnds count (channels_from owner model count p n)
+rows_ends owner model count p zero le = tt
+rows_ends owner model count p (suc n) le =
+    ends_append count (channels_of owner model p 0 count) (channels_from owner model count (suc p) n)
+    (row_ends owner model count p 0 count (omega arith) (omega arith)) (rows_ends owner model count (suc p) n (omega arith))
+
+all_have_ends : (job : Job) → AllHaveEnds job.processes (all_channels job.owner job.flat.links job.processes)
+all_have_ends job = rows_ends job.owner job.flat.links job.processes 0 job.processes (omega arith)
+
+have_sources : (count : ℕ) (cs : List Channel) → AllHaveEnds count cs → AllHaveSources count cs
+have_sources count [] h = tt
+have_sources count (c ∷ cs) h = (h.0.0, have_sources count cs h.1)
 
 pub all_have_sources : (job : Job) → AllHaveSources job.processes (all_channels job.owner job.flat.links job.processes)
-all_have_sources job = rows_sources job.owner job.flat.links job.processes 0 job.processes (omega arith)
+all_have_sources job = have_sources job.processes (all_channels job.owner job.flat.links job.processes) (all_have_ends job)
+
+ends_at : (count : ℕ) (cs : List Channel) (l : ℕ) (c : Channel) → AllHaveEnds count cs → slice_get cs l ≡ Some c
+    → (c.source < count) × (c.target < count)
+ends_at count [] l c h e = absurd (cc)
+ends_at count (x ∷ cs) zero c h e =
+    let same : x ≡ c = cc in subst (λ (d : Channel). (d.source < count) × (d.target < count)) same h.0
+ends_at count (x ∷ cs) (suc l) c h e = ends_at count cs l c h.1 e
+
+pub channel_ends : (job : Job) (l : ℕ) (c : Channel) → slice_get (all_channels job.owner job.flat.links job.processes) l ≡ Some c
+    → (c.source < job.processes) × (c.target < job.processes)
+channel_ends job l c e = ends_at job.processes (all_channels job.owner job.flat.links job.processes) l c (all_have_ends job) e

@@ -8,6 +8,7 @@ pub mod Turn
 pub mod World
 pub mod Channels
 pub mod Responses
+pub mod Alike
 -- What the laws speak of.
 pub mod Sound
 pub mod True

@@ -24,6 +24,9 @@ pub mod shares;
 /// Every run of processes that exchange packets.
 pub mod world;
 
+/// Shares that run alike.
+pub mod alike;
+
 /// How many rounds are enough.
 pub mod rounds;
 

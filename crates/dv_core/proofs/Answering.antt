@@ -9,11 +9,12 @@ use Rattle.std.proofs.lemmas.Bool.Decides.{nat_tests}
 use Rattle.dv_conservative.specs.Rounds.{Progressed}
 use Rattle.dv_conservative.specs.World.{Channel, IsStep, Job, LinkState, World, new_world, of_process, put_reply, received_in, refusal, share_of, take_reply, Done, Empty, Full, Memory, Refused, Stopped, Turn, Put, Take, Stop}
 use Rattle.dv_conservative.specs.World as theory
-use Rattle.dv_core.specs.Answers.{meant_channel, meant_reply, meant_step}
+use Rattle.dv_proc.specs.Channels.{meant_channel}
+use Rattle.dv_core.specs.Answers.{meant_reply, meant_step}
 use Rattle.dv_core.specs.Kept.{Kept, is_stopped, link_of, queue_of, received_of, world_of}
 use Rattle.dv_proc.specs.Packets.{meant_packet, meant_packets}
 use Rattle.dv_proc.specs.declared.packet.Packet.{Packet as PacketOfCode}
-use Rattle.dv_core.specs.declared.step.Channel.{Channel as ChannelOfCode}
+use Rattle.dv_proc.specs.declared.channel.Channel.{Channel as ChannelOfCode}
 use Rattle.std.specs.declared.collections.VecDeque.{VecDeque}
 use Rattle.dv_core.specs.ProcessState.{IsReceived, IsSent, IsTurned, ProcessState}
 use Rattle.dv_core.specs.Worlds.{AllValid, kept_by, shown}
@@ -25,8 +26,9 @@ use Rattle.std.specs.Vec.{vec_len, with_item}
 use Rattle.std.specs.VecDeque.{deque_len}
 use Rattle.std.specs.declared.vec.Vec.{Vec}
 use Rattle.std.specs.declared.alloc.Global.{Global}
-use Rattle.dv_conservative.specs.Process.{Packet, Share, refusal_of}
+use Rattle.dv_conservative.specs.Process.{Packet, refusal_of}
 use Rattle.dv_conservative.proofs.Accepted.{accepted}
+use Rattle.dv_conservative.proofs.SameRuns.{same_refusal}
 use Rattle.dv_conservative.proofs.Holding.{holds_after, holds_at_first}
 use Rattle.dv_core.proofs.Alike.{refusal_alike}
 use Rattle.dv_proc.specs.declared.incoming.Refused.{Refused as RefusedOfCode}
@@ -412,7 +414,8 @@ module _ {J P : Type 0} {IsValid : P → Type 0} {means : J → Job} {state : P 
           ∙ ap (λ (o : Option ProcessState). received_of o l) take_seen in
           let same : (state x).received packet.link ≡ received_in world packet.link
           = subst (λ (n : ℕ). (state x).received n ≡ received_in world n) (sym of_link) (sym on) in
-          ap (λ (s : Share). refusal_of s (state x).received (meant_packet packet)) (stands.kept.shares c.target (state x) take_seen)
+          same_refusal (state x).share (share_of the_job c.target) (stands.kept.shares c.target (state x) take_seen)
+          (state x).received (meant_packet packet)
           ∙ refusal_alike (share_of the_job c.target) (state x).received (received_in world) (meant_packet packet) same
           ∙ accepted reached.fits the_job reached.sound world
           (holds_after reached.fits the_job reached.sound (new_world reached.capacity) world reached.steps

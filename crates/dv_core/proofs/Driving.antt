@@ -14,13 +14,15 @@ use Rattle.dv_devs.proofs.Parts.{part_entries}
 use Rattle.dv_conservative.specs.True.{united}
 use Rattle.dv_conservative.proofs.Wholes.{all_united}
 use Rattle.dv_conservative.specs.Flat.{whole}
-use Rattle.dv_conservative.specs.Process.{Share, events_by, least_clock, part_by}
+use Rattle.dv_conservative.specs.Process.{IsWithin, events_by, least_clock, part_by}
 use Rattle.dv_conservative.specs.Rounds.{AllHaveSources, AreRounds, HadMemory, Progressed, moves_from, turns_from}
 use Rattle.dv_conservative.specs.World.{Channel, IsRun, IsStep, Job, World, Put, Take, Turn, all_of, new_world, owned, received_in, share_of}
 use Rattle.dv_conservative.specs.World as theory
+use Rattle.dv_conservative.proofs.SameRuns.{same_limit, same_part}
 use Rattle.dv_conservative.proofs.Holding.{Holds, holds_after, holds_at_first, part_now}
 use Rattle.dv_conservative.proofs.Rounding.{all_at_end}
-use Rattle.dv_core.specs.Answers.{meant_channel, meant_reply, meant_step}
+use Rattle.dv_proc.specs.Channels.{meant_channel}
+use Rattle.dv_core.specs.Answers.{meant_reply, meant_step}
 use Rattle.dv_core.specs.Kept.{Kept, clock_of, world_of}
 use Rattle.dv_core.specs.ProcessState.{ProcessState}
 use Rattle.dv_core.specs.Worlds.{AreTheTrace, HaveAllParts, IsAnswered, IsCut, IsTrueToModel, IsWhole, end_time, kept_by, outer_of, shown, with_replies}
@@ -104,7 +106,9 @@ module _ {J P : Type 0} {IsValid : P → Type 0} {means : J → Job} {state : P 
   its_part p x there =
       let clock : shown_world.clock p ≡ x.position.clock = ap clock_of there in
       stands.kept.committed p x there
-      ∙ ap (λ (s : Share). part_by s (events_by x.received) (rank s.limit x.position.clock)) (stands.kept.shares p x there)
+      ∙ same_part x.share (share_of job p) (stands.kept.shares p x there) (events_by x.received) (rank x.share.limit x.position.clock)
+      ∙ ap (λ (limit : ℕ). part_by (share_of job p) (events_by x.received) (rank limit x.position.clock))
+      (same_limit x.share (share_of job p) (stands.kept.shares p x there))
       ∙ part_alike (share_of job p) x.received (received_in shown_world) (agree_received job k p x there) (rank job.limit x.position.clock)
       ∙ ap (λ (t : Time). part_by (share_of job p) (events_by (received_in shown_world)) (rank job.limit t)) (sym clock)
       ∙ part_now stands.reached.fits job stands.reached.sound shown_world holds p
@@ -112,10 +116,12 @@ module _ {J P : Type 0} {IsValid : P → Type 0} {means : J → Job} {state : P 
 
   pub true_to_model : IsTrueToModel job k
   true_to_model = record {
+    count = stands.kept.processes;
     packets = holds.truth;
     clocks = λ p x there.
         subst (λ (t : Time). rank job.limit t ≤ least_clock (share_of job p) (received_in shown_world)) (ap clock_of there)
         (holds.clocks p);
+    within = λ p x there. subst (IsWithin (share_of job p)) (ap clock_of there) (holds.within p);
     parts = its_part;
   }
 

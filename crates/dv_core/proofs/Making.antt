@@ -6,14 +6,15 @@ use Rattle.std.proofs.lemmas.List.{length-map, length-replicate}
 use Rattle.std.proofs.lemmas.Option.{slice_get-map}
 use Rattle.std.specs.Option.{option_map}
 use Rattle.dv_time.specs.declared.time.Time.{Time}
+use Rattle.dv_conservative.specs.Alike.{AreAlike}
 use Rattle.dv_conservative.specs.Process.{Packet, first_time}
 use Rattle.dv_conservative.specs.World.{Channel, Job, LinkState, World, new_world, promised_on, share_of}
-use Rattle.dv_core.specs.Answers.{meant_channel}
+use Rattle.dv_proc.specs.Channels.{meant_channel}
 use Rattle.dv_core.specs.Kept.{Kept, clock_of, is_stopped, link_of, queue_of, received_of, standing_of, world_of}
 use Rattle.dv_core.specs.Standing.{IsReached, StandsFor}
 use Rattle.dv_core.specs.ProcessState.{IsNew, ProcessState}
 use Rattle.dv_core.specs.Worlds.{AreMadeFor}
-use Rattle.dv_core.specs.declared.step.Channel.{Channel as ChannelOfCode}
+use Rattle.dv_proc.specs.declared.channel.Channel.{Channel as ChannelOfCode}
 use mathlib.Core.Path.{fun_ext}
 
 none_stopped : (n p : ℕ) → is_stopped (slice_get (replicate n false) p) ≡ false
@@ -101,7 +102,7 @@ module _ (states : List ProcessState) (new : (p : ℕ) (x : ProcessState) → sl
 
     pub fresh_stands : length states ≡ job.processes → n ≡ job.processes → m ≡ length job.channels →
         ((l : ℕ) (c : Channel) → slice_get job.channels l ≡ Some c → (c.source < job.processes) × (c.target < job.processes))
-        → ((p : ℕ) (x : ProcessState) → slice_get states p ≡ Some x → x.share ≡ share_of job p)
+        → ((p : ℕ) (x : ProcessState) → slice_get states p ≡ Some x → AreAlike x.share (share_of job p))
         → StandsFor job k
     fresh_stands count flags links ends shares = record {
       processes = count;
@@ -116,17 +117,17 @@ module _ (states : List ProcessState) (new : (p : ℕ) (x : ProcessState) → sl
 module _ {J P : Type 0} {IsValid : P → Type 0} {means : J → Job} {state : P → ProcessState} (job : J) (channels : List ChannelOfCode)
     (processes : List P)
     (made : AreMadeFor means state IsValid job channels processes) where
-  each_made : (p : ℕ) (x : ProcessState) → slice_get (map state processes) p ≡ Some x → (x.share ≡ share_of (means job) p) × IsNew x
+  each_made : (p : ℕ) (x : ProcessState) → slice_get (map state processes) p ≡ Some x → AreAlike x.share (share_of (means job) p) × IsNew x
   each_made p x e = by_process (slice_get processes p) refl
     where
-      by_process : (o : Option P) → slice_get processes p ≡ o → (x.share ≡ share_of (means job) p) × IsNew x
+      by_process : (o : Option P) → slice_get processes p ≡ o → AreAlike x.share (share_of (means job) p) × IsNew x
       by_process None f =
           let none : Some x ≡ None = sym e ∙ slice_get-map state processes p ∙ ap (option_map state) f in absurd (cc)
       by_process (Some y) f =
           let some : Some (state y) ≡ Some x = sym (slice_get-map state processes p ∙ ap (option_map state) f) ∙ e in
           let same : state y ≡ x = cc in
           let both = made.shares p y f in
-          (subst (λ (s : ProcessState). s.share ≡ share_of (means job) p) same both.0, subst IsNew same both.1)
+          (subst (λ (s : ProcessState). AreAlike s.share (share_of (means job) p)) same both.0, subst IsNew same both.1)
 
   abbrev states : List ProcessState
   states = map state processes

@@ -4,6 +4,7 @@ use Rattle.std.specs.List.{slice_get}
 use Rattle.std.proofs.Math.ListN.{set, length-set}
 use Rattle.dv_time.specs.Time.{rank}
 use Rattle.dv_time.specs.declared.time.Time.{Time}
+use Rattle.dv_conservative.specs.Alike.{AreAlike}
 use Rattle.dv_conservative.specs.Process.{Packet, Share, clock_after, events_by, first_time, part_by, with_packet}
 use Rattle.dv_conservative.specs.True.{AreTrue, IsTruePacket}
 use Rattle.dv_conservative.specs.Turn.{Position}
@@ -86,7 +87,8 @@ module _ (job : Job) (k : Kept) (stands : StandsFor job k) (p : ℕ) (x y : Proc
     flags = stands.flags;
     links = length-set k.queued l next ∙ stands.links;
     ends = stands.ends;
-    shares = set_each (λ q z. z.share ≡ share_of job q) k.states p x y there stands.shares (share ∙ stands.shares p x there);
+    shares = set_each (λ q z. AreAlike z.share (share_of job q)) k.states p x y there stands.shares
+        (subst (λ (s : Share). AreAlike s (share_of job p)) (sym share) (stands.shares p x there));
     committed = set_each (λ q z. HasCommitted z) k.states p x y there stands.committed committed;
     promised = λ m d z f now.
         set_each (λ q s. (i : ℕ) (g : Channel) → slice_get job.channels i ≡ Some g → g.source ≡ q

@@ -2,10 +2,12 @@
 use Rattle.std.proofs.Common.{◌≡◌, inl, inr, ℕ, ◌+◌, Bool, true, false, nat_eq, List, [], ◌∷◌, ◌++◌, Option, Some, None, refl, sym, ap, subst, ◌∙◌, arith, append_assoc}
 use Rattle.std.specs.List.{slice_get}
 use Rattle.std.proofs.Math.ListN.{set, length-set}
+use Rattle.dv_conservative.specs.Alike.{AreAlike}
 use Rattle.dv_conservative.specs.Process.{Packet, Share, clock_after, events_by, first_time, packet_of}
 use Rattle.dv_conservative.specs.Rounds.{Progressed}
 use Rattle.dv_conservative.specs.Turn.{IsTurnOf, MayBecome}
 use Rattle.dv_conservative.specs.World.{Channel, IsStep, IsTurn, Job, LinkState, Reply, StaysBeside, Step, World, Answers, AnswersBy, new_world, of_process, outgoing_on, position_in, promised_on, received_in, refusal, share_of, Done, Turn}
+use Rattle.dv_conservative.proofs.SameRuns.{same_turn}
 use Rattle.dv_conservative.proofs.Holding.{holds_after, holds_at_first}
 use Rattle.dv_conservative.proofs.Lists.{became_of}
 use Rattle.dv_conservative.proofs.Turning.{turn_is_step}
@@ -71,11 +73,11 @@ module _ (job : Job) (k : Kept) (stands : StandsFor job k) (p : ℕ) (x y : Proc
   abbrev v : World
   v = world_of job after
 
-  own_share : x.share ≡ share_of job p
+  own_share : AreAlike x.share (share_of job p)
   own_share = stands.shares p x there
 
   own_turn : IsTurnOf (share_of job p) x.received x.position y.position
-  own_turn = subst (λ (s : Share). IsTurnOf s x.received x.position y.position) own_share turn
+  own_turn = same_turn x.share (share_of job p) own_share x.received x.position y.position turn
 
   now_there : slice_get (set k.states p y) p ≡ Some y
   now_there = set_same k.states p x y there
@@ -139,7 +141,8 @@ module _ (job : Job) (k : Kept) (stands : StandsFor job k) (p : ℕ) (x y : Proc
     flags = stands.flags;
     links = stands.links;
     ends = stands.ends;
-    shares = set_each (λ q z. z.share ≡ share_of job q) k.states p x y there stands.shares (share ∙ own_share);
+    shares = set_each (λ q z. AreAlike z.share (share_of job q)) k.states p x y there stands.shares
+        (subst (λ (s : Share). AreAlike s (share_of job p)) (sym share) own_share);
     committed = set_each (λ q z. HasCommitted z) k.states p x y there stands.committed committed;
     promised = λ l c z e at. by_source l c z e at (nat_eq c.source p) refl;
   }

@@ -1,13 +1,9 @@
 -- What the steps and answers of the code stand for.
 use Rattle.dv_conservative.specs.World
-use Rattle.dv_core.specs.declared.step.Channel.{Channel}
 use Rattle.dv_core.specs.declared.step.Step.{Step}
 use Rattle.dv_core.specs.declared.step.Step.TheVariants as step
 use Rattle.dv_core.specs.declared.step.Reply.{Reply}
 use Rattle.dv_core.specs.declared.step.Reply.TheVariants as reply
-
-abbrev pub meant_channel : Channel → World.Channel
-meant_channel c = record { source = c.source; target = c.target }
 
 abbrev pub meant_step : Step → World.Step
 meant_step (step.Turn p) = World.Turn p

@@ -2,11 +2,12 @@
 use Rattle.std.specs.Prelude.{◌≡◌, ℕ, ◌^◌, ◌<◌, Bool, List, length, map, slice_get, Some}
 use Rattle.std.specs.Vec.{vec_len}
 use Rattle.dv_bag.specs.declared.state.State.{State}
+use Rattle.dv_conservative.specs.Alike.{AreAlike}
 use Rattle.dv_conservative.specs.Rounds.{IsDriven}
 use Rattle.dv_conservative.specs.Sound.{IsJob}
 use Rattle.dv_conservative.specs.World.{Channel, IsRun, Job, World, new_world, promised_on, share_of}
 use Rattle.dv_conservative.specs.World as theory
-use Rattle.dv_core.specs.Answers.{meant_channel}
+use Rattle.dv_proc.specs.Channels.{meant_channel}
 use Rattle.dv_core.specs.Kept.{Kept, link_of}
 use Rattle.dv_core.specs.ProcessState.{HasCommitted, ProcessState}
 use Rattle.dv_core.specs.Worlds.{AllValid, IsAnswered, IsCut, kept_by, shown}
@@ -22,14 +23,14 @@ pub record IsReached (job : Job) (w : World) : Type 0 where
   pub steps : List (theory.Step × theory.Reply)
   pub run : IsRun job steps (new_world capacity) w
 
--- What is kept stands for a world of a job: there are its processes and its links; each process has its share of the job and has
--- committed its part; and where the last window on a link ends is what its sender has promised.
+-- What is kept stands for a world of a job: there are its processes and its links; each process has a share that runs as its
+-- share of the job, and has committed its part; and where the last window on a link ends is what its sender has promised.
 pub record StandsFor (job : Job) (k : Kept) : Type 0 where
   pub processes : length k.states ≡ job.processes
   pub flags : length k.stopped ≡ job.processes
   pub links : length k.queued ≡ length job.channels
   pub ends : (l : ℕ) (c : Channel) → slice_get job.channels l ≡ Some c → (c.source < job.processes) × (c.target < job.processes)
-  pub shares : (p : ℕ) (x : ProcessState) → slice_get k.states p ≡ Some x → x.share ≡ share_of job p
+  pub shares : (p : ℕ) (x : ProcessState) → slice_get k.states p ≡ Some x → AreAlike x.share (share_of job p)
   pub committed : (p : ℕ) (x : ProcessState) → slice_get k.states p ≡ Some x → HasCommitted x
   pub promised : (l : ℕ) (c : Channel) (x : ProcessState)
       → slice_get job.channels l ≡ Some c → slice_get k.states c.source ≡ Some x

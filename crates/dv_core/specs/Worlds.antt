@@ -1,6 +1,7 @@
 -- A world of the code as one of the theory: its steps, how its rounds end, and what its processes have committed.
 use Rattle.std.specs.Prelude.{◌≡◌, ℕ, ◌+◌, ◌^◌, ◌<◌, ◌≤◌, ◌⊎◌, List, [], ◌∷◌, Bool, length, map, filter, slice_get, Option, Some, None}
 use Rattle.dv_time.specs.declared.time.Time.{Time}
+use Rattle.dv_conservative.specs.Alike.{AreAlike}
 use Rattle.dv_conservative.specs.Rounds.{AreRounds, HadMemory, Progressed, round}
 use Rattle.dv_time.specs.Time.{end_of, rank}
 use Rattle.dv_bag.specs.declared.state.State.{State}
@@ -12,18 +13,19 @@ use Rattle.dv_devs.specs.NextTimes.{IsReady}
 use Rattle.dv_devs.specs.Outside.{LeavesLinearly, SendsBags}
 use Rattle.dv_devs.specs.Parts.{part_before}
 use Rattle.dv_conservative.specs.Flat.{whole}
-use Rattle.dv_conservative.specs.Process.{first_time, least_clock}
+use Rattle.dv_conservative.specs.Process.{IsWithin, first_time, least_clock}
 use Rattle.dv_conservative.specs.Sound.{IsJob}
 use Rattle.dv_conservative.specs.True.{AreTrue, united}
 use Rattle.dv_conservative.specs.World.{Channel, IsStep, Job, World, Memory, all_of, owned, received_in, share_of}
 use Rattle.dv_conservative.specs.World as theory
-use Rattle.dv_core.specs.Answers.{meant_channel, meant_reply, meant_step}
+use Rattle.dv_proc.specs.Channels.{meant_channel}
+use Rattle.dv_core.specs.Answers.{meant_reply, meant_step}
 use Rattle.dv_core.specs.Kept.{Kept, world_of}
 use Rattle.dv_proc.specs.Packets.{meant_packets}
 use Rattle.dv_core.specs.ProcessState.{IsNew, ProcessState}
 use Rattle.dv_core.specs.declared.step.Ended.{Ended}
 use Rattle.dv_core.specs.declared.step.Ended.TheVariants as ended
-use Rattle.dv_core.specs.declared.step.Channel.{Channel as ChannelOfCode}
+use Rattle.dv_proc.specs.declared.channel.Channel.{Channel as ChannelOfCode}
 use Rattle.dv_core.specs.declared.step.Step.{Step}
 use Rattle.dv_core.specs.declared.step.Reply.{Reply}
 use Rattle.dv_core.specs.declared.state.WorldState.{WorldState}
@@ -78,12 +80,14 @@ with_replies [] rs = []
 with_replies (s ∷ ss) [] = []
 with_replies (s ∷ ss) (r ∷ rs) = (meant_step s, meant_reply r) ∷ with_replies ss rs
 
--- The headline: every packet that stands, is on its way or was received is true, and the windows of each link join from the start;
--- no clock passes a channel clock; and each process has committed exactly its part of the whole run before its clock.
+-- The headline: all processes are there; every packet that stands, is on its way or was received is true, and the windows of each link join from the start;
+-- no clock passes a channel clock or the end; and each process has committed exactly its part of the whole run before its clock.
 pub record IsTrueToModel (job : Job) (k : Kept) : Type 0 where
+  pub count : length k.states ≡ job.processes
   pub packets : (l : ℕ) (c : Channel) → slice_get job.channels l ≡ Some c → AreTrue job l c first_time (all_of ((world_of job k).link l))
   pub clocks : (p : ℕ) (x : ProcessState) → slice_get k.states p ≡ Some x
       → rank job.limit x.position.clock ≤ least_clock (share_of job p) (received_in (world_of job k))
+  pub within : (p : ℕ) (x : ProcessState) → slice_get k.states p ≡ Some x → IsWithin (share_of job p) x.position.clock
   pub parts : (p : ℕ) (x : ProcessState) → slice_get k.states p ≡ Some x
       → x.part ≡ part_before (owned job p) job.limit (whole job.flat) job.outside (rank job.limit x.position.clock)
 
@@ -110,7 +114,8 @@ pub record AreTheTrace (job : Job) (states : List ProcessState) : Type 0 where
       → united (λ p. outer_of (slice_get states p)) job.processes
       ≡ (trace_before job.limit (whole job.flat) job.outside (end_of job.limit job.horizon)).outer
 
--- what a world is made of: a job that can be run in parts, its links, and a new and valid process for each of its shares
+-- What a world is made of: a job that can be run in parts, its links, and for each of its shares a new and valid process that has
+-- one which runs alike.
 pub record AreMadeFor {J P : Type 0} (means : J → Job) (state : P → ProcessState) (IsValid : P → Type 0)
     (job : J) (channels : List ChannelOfCode) (processes : List P) : Type 0 where
   pub valid : AllValid IsValid processes
@@ -120,5 +125,5 @@ pub record AreMadeFor {J P : Type 0} (means : J → Job) (state : P → ProcessS
   pub count : length processes ≡ (means job).processes
   pub ends : (l : ℕ) (c : Channel) → slice_get (means job).channels l ≡ Some c
       → (c.source < (means job).processes) × (c.target < (means job).processes)
-  pub shares : (p : ℕ) (x : P) → slice_get processes p ≡ Some x → ((state x).share ≡ share_of (means job) p) × IsNew (state x)
+  pub shares : (p : ℕ) (x : P) → slice_get processes p ≡ Some x → AreAlike (state x).share (share_of (means job) p) × IsNew (state x)
   pub few : (length processes < 2 ^ 32) × (length channels < 2 ^ 32)

@@ -18,5 +18,5 @@ pub mod world;
 
 pub use process::{LogicalProcess, PlannedJob};
 pub use state::WorldState;
-pub use step::{Channel, Ended, Reply, Step};
+pub use step::{Ended, Reply, Step};
 pub use world::World;

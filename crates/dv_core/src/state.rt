@@ -11,9 +11,9 @@ ghost use Rattle.dv_core.specs.declared.step.Ended.TheVariants as ended;
 ghost use Rattle.dv_core.specs.declared.step.Step.TheVariants as step;
 
 use crate::process::{LogicalProcess, PlannedJob};
-use crate::step::{Channel, Ended, Reply, Step};
+use crate::step::{Ended, Reply, Step};
 use dv_bag::Part;
-use dv_proc::{Packet, Refused};
+use dv_proc::{Channel, Packet, Refused};
 use dv_time::Time;
 use std::alloc::{AllocError, Global};
 use std::collections::VecDeque;

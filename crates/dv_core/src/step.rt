@@ -1,12 +1,5 @@
 //! What may be done to a world, and what it answers.
 
-/// The ends of a link between processes, by the numbers of the processes.
-#[derive(Clone, Copy, Debug, PartialEq, Eq)]
-pub struct Channel {
-    pub source: u32,
-    pub target: u32,
-}
-
 /// What may happen in a world. Processes and links are said by their numbers.
 #[derive(Clone, Copy, Debug, PartialEq, Eq)]
 pub enum Step {

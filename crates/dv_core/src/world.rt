@@ -2,8 +2,9 @@
 
 use crate::process::{LogicalProcess, PlannedJob};
 use crate::state::WorldState;
-use crate::step::{Channel, Ended, Reply, Step};
+use crate::step::{Ended, Reply, Step};
 use dv_bag::Part;
+use dv_proc::Channel;
 use dv_time::Time;
 use std::alloc::{AllocError, Global};
 use std::marker::Model;

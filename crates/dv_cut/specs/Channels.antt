@@ -1,12 +1,8 @@
 -- What the links between processes stand for.
 use Rattle.std.specs.Prelude.{ℕ}
 use Rattle.dv_conservative.specs.Process.{Outgoing}
-use Rattle.dv_conservative.specs.World.{Channel as Meant, Job, outgoing_on}
+use Rattle.dv_conservative.specs.World.{Job, outgoing_on}
 use Rattle.dv_cut.specs.declared.channels.Away.{Away}
-use Rattle.dv_cut.specs.declared.channels.Channel.{Channel}
-
-abbrev pub channel_of : Channel → Meant
-channel_of c = record { source = c.source; target = c.target }
 
 -- a link that leads away from a process, with the links between components that cross there
 abbrev pub away_of : Job → ℕ → Away → Outgoing

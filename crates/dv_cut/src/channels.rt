@@ -2,18 +2,13 @@
 
 ghost use Rattle.std.specs.Prelude.{◌≡◌, ◌*◌, ◌<◌, ◌≤◌, ◌^◌, ◌++◌, length, map, IfOk, OnOk};
 ghost use Rattle.dv_conservative.specs.World.{Job, incoming_from, outgoing_from};
-ghost use Rattle.dv_cut.specs.Channels.{away_of, channel_of};
+ghost use Rattle.dv_cut.specs.Channels.{away_of};
+ghost use Rattle.dv_proc.specs.Channels.{meant_channel};
 ghost use Rattle.dv_cut.specs.Keys.{all_sent, sends, sent_by};
 
+use dv_proc::Channel;
 use dv_share::Link;
 use std::alloc::{AllocError, Global};
-
-/// The ends of a link between processes.
-#[derive(Clone, Copy, Debug, PartialEq, Eq)]
-pub struct Channel {
-    pub source: u32,
-    pub target: u32,
-}
 
 /// A link between processes that leads away from one: its number, and where it leads.
 #[derive(Clone, Copy, Debug, PartialEq, Eq)]
@@ -30,7 +25,7 @@ pub struct Away {
 pub fn incoming(alloc: Global, channels: &[Channel], process: u32) -> Result<Vec<u32>, AllocError>
     requires { length channels.now ≤ 2 ^ 32 }
     ensures { IfOk result (λ found. found.items
-        ≡ incoming_from process 0 (map channel_of channels.now)) }
+        ≡ incoming_from process 0 (map meant_channel channels.now)) }
 {
     let mut found = Vec::new(alloc);
     for (number, channel) in channels.iter().enumerate() {
@@ -49,7 +44,7 @@ pub fn incoming(alloc: Global, channels: &[Channel], process: u32) -> Result<Vec
 pub fn outgoing(alloc: Global, channels: &[Channel], process: u32) -> Result<Vec<Away>, AllocError>
     requires { length channels.now ≤ 2 ^ 32 }
     ensures { IfOk result (λ found. (job : Job) → map (away_of job process) found.items
-        ≡ outgoing_from job process 0 (map channel_of channels.now)) }
+        ≡ outgoing_from job process 0 (map meant_channel channels.now)) }
 {
     let mut found = Vec::new(alloc);
     for (number, channel) in channels.iter().enumerate() {
@@ -75,7 +70,7 @@ pub(crate) fn channels(
 ) -> Result<Vec<Channel>, AllocError>
     requires few { processes ≤ 64 }
     requires long { length pairs.now ≡ processes * processes }
-    ensures { IfOk result (λ found. map channel_of found.items
+    ensures { IfOk result (λ found. map meant_channel found.items
         ≡ all_sent (sends processes (map (λ list. list.items) pairs.now)) processes 0 processes) }
 {
     let mut found = Vec::new(alloc);
@@ -95,8 +90,8 @@ fn add_channels(
     requires few { processes ≤ 64 }
     requires there { source < processes }
     requires long { length pairs.now ≡ processes * processes }
-    ensures { OnOk result (map channel_of found.new.items
-        ≡ map channel_of found.old.items
+    ensures { OnOk result (map meant_channel found.new.items
+        ≡ map meant_channel found.old.items
         ++ sent_by (sends processes (map (λ list. list.items) pairs.now)) source 0 processes) }
 {
     for target in 0..processes {

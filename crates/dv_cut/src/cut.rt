@@ -4,29 +4,30 @@
 ghost use Rattle.std.specs.Prelude.{◌≡◌, ◌<◌, [], length, map, slice_index_or, IfOk};
 ghost use Rattle.dv_conservative.specs.Channels.{all_channels};
 ghost use Rattle.dv_partition.specs.Groups.{owner_of};
-ghost use Rattle.dv_cut.specs.Channels.{channel_of};
+ghost use Rattle.dv_proc.specs.Channels.{meant_channel};
 ghost use Rattle.dv_cut.specs.Cuts.{between, entrances_to, exits_from};
 ghost use Rattle.dv_share.specs.Links.{links_of};
 
-use crate::channels::{Channel, channels};
+use crate::channels::channels;
 use crate::keys::{by_pair, by_receiver, by_sender};
 use crate::links::Links;
 use dv_partition::Groups;
+use dv_proc::Channel;
 use dv_share::Link;
 use std::alloc::{AllocError, Global};
 use std::marker::Model;
 
 /// A model's links, cut to the processes of its components. Each list is in the order of the model's.
 #[derive(Drop)]
-pub struct Cut {
-    groups: Groups,
+pub struct Cut<'g> {
+    groups: &'g Groups,
     links: Links,
     pairs: Vec<Vec<Link>>,
     entrances: Vec<Vec<Link>>,
     exits: Vec<Vec<Link>>,
 }
 
-impl Model for Cut {
+impl<'g> Model for Cut<'g> {
     ghost use Rattle.std.specs.Prelude.{map};
     ghost use Rattle.dv_cut.specs.Cuts.{CutOf};
     ghost use Rattle.dv_share.specs.Links.{links_of};
@@ -35,34 +36,34 @@ impl Model for Cut {
     ghost Value = { CutOf };
 
     ghost view = { λ c. record {
-      grouping = c.groups;
+      grouping = c.groups.now;
       direct = links_of c.links.direct.items;
       entrances = links_of c.links.entrances.items;
       exits = links_of c.links.exits.items;
     } };
 
-    ghost invariant = { λ c. IsCut c.groups c.links.direct.items c.links.entrances.items c.links.exits.items
+    ghost invariant = { λ c. IsCut c.groups.now c.links.direct.items c.links.entrances.items c.links.exits.items
         (map (λ list. list.items) c.pairs.items) (map (λ list. list.items) c.entrances.items)
         (map (λ list. list.items) c.exits.items) };
 }
 
-impl Cut {
+impl<'g> Cut<'g> {
     /// The model of these links, cut to these groups, in one pass over the links.
     ///
     /// # Errors
     ///
     /// No memory for the lists.
-    pub fn new(alloc: Global, groups: Groups, links: Links) -> Result<Cut, AllocError>
+    pub fn new(alloc: Global, groups: &'g Groups, links: Links) -> Result<Self, AllocError>
         ensures { IfOk result (λ cut. cut ≡ record {
-          grouping = groups;
+          grouping = groups.now;
           direct = links_of links.direct.items;
           entrances = links_of links.entrances.items;
           exits = links_of links.exits.items;
         }) }
     {
-        let pairs = by_pair(alloc, &groups, &links.direct)?;
-        let entrances = by_receiver(alloc, &groups, &links.entrances)?;
-        let exits = by_sender(alloc, &groups, &links.exits)?;
+        let pairs = by_pair(alloc, groups, &links.direct)?;
+        let entrances = by_receiver(alloc, groups, &links.entrances)?;
+        let exits = by_sender(alloc, groups, &links.exits)?;
         Ok(Cut {
             groups,
             links,
@@ -76,7 +77,7 @@ impl Cut {
     pub fn groups(&self) -> &Groups
         ensures { result.now ≡ self.now.grouping }
     {
-        &self.groups
+        self.groups
     }
 
     /// The links between processes, in the order of their numbers.
@@ -85,7 +86,7 @@ impl Cut {
     ///
     /// No memory for the list.
     pub fn channels(&self, alloc: Global) -> Result<Vec<Channel>, AllocError>
-        ensures { IfOk result (λ found. map channel_of found.items
+        ensures { IfOk result (λ found. map meant_channel found.items
             ≡ all_channels (owner_of self.now.grouping) self.now.direct self.now.grouping.processes) }
     {
         channels(alloc, self.groups.processes() as u32, &self.pairs)

@@ -20,7 +20,7 @@ mod tests;
 /// The text of a plan.
 pub mod text;
 
-pub use channels::{Away, Channel};
+pub use channels::Away;
 pub use cut::Cut;
 pub use links::Links;
 pub use models::Models;

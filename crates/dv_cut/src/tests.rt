@@ -118,7 +118,7 @@ fn two_idle_components(rt: HostRuntime) -> Result<(), Fail> {
         text.as_str(),
         "{\"components\":[\"a\",\"b\"],\"entries\":[{\"copies\":1,\"from\":\"x\",\"to\":\"a.x\"}],\"exits\":[],\"links\":[{\"copies\":1,\"from\":\"a.y\",\"to\":\"b.x\"},{\"copies\":1,\"from\":\"b.y\",\"to\":\"a.x\"}],\"processes\":[{\"components\":[\"a\"],\"response\":0},{\"components\":[\"b\"],\"response\":0}]}"
     );
-    let cut = Cut::new(alloc, groups, links)?;
+    let cut = Cut::new(alloc, &groups, links)?;
     let channels = cut.channels(alloc)?;
     let shown = format!(in alloc; "{channels:?}")?;
     assert_eq!(rt;

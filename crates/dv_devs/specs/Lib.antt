@@ -2,6 +2,7 @@
 pub mod Behaviour
 pub mod Network
 pub mod Parts
+pub mod Clocks
 -- What the laws speak of.
 pub mod Cuts
 pub mod Fits

@@ -4,7 +4,7 @@
 //! the lines that it prints, or the answer to a refused text, as `E7 line 3` between backquotes. A command that names a file
 //! which is here prints them of that file too.
 
-use crate::outcome::{checked, listed, printed};
+use crate::outcome::{checked, in_processes, listed, planned, printed};
 use std::alloc::{AllocError, Global};
 use std::rt::Files;
 use std::{fs, io};
@@ -172,7 +172,7 @@ fn got_by<R: AllocGlobal + Files>(rt: &R, telling: &Telling, command: &str) -> i
     Ok(got)
 }
 
-/// What a command prints of a model: `check`, `code`, or `run` with its options.
+/// What a command prints of a model: `check`, `code`, `plan`, or `run` with its options.
 fn outcome_of(
     alloc: Global,
     telling: &Telling,
@@ -185,6 +185,10 @@ fn outcome_of(
     if command.starts_with("code ") {
         return listed(alloc, model);
     }
+    let processes = number_behind(command, "--processes");
+    if command.starts_with("plan ") {
+        return planned(alloc, model, processes.unwrap_or(1));
+    }
     if !command.starts_with("run ") {
         return Ok(String::new(alloc));
     }
@@ -195,7 +199,14 @@ fn outcome_of(
     };
     let horizon = number_behind(command, "--horizon").unwrap_or(0);
     let limit = number_behind(command, "--microsteps").unwrap_or(20);
-    printed(alloc, model, inputs, horizon, limit.min(1_000) as u32)
+    let limit = limit.min(1_000) as u32;
+    match processes {
+        Some(count) => {
+            let rounds = number_behind(command, "--rounds");
+            in_processes(alloc, model, inputs, horizon, limit, count, rounds)
+        }
+        None => printed(alloc, model, inputs, horizon, limit),
+    }
 }
 
 /// The number behind an option in a command.

@@ -1,6 +1,7 @@
 //! What comes of a model.
 
-use dv_job::{JobError, Options, check_bytes, list_code, run_plain};
+use dv_job::{JobError, Options, check_bytes, list_code, plan_bytes, run_bytes, run_plain};
+use dv_partition::Partition;
 use std::alloc::{AllocError, Global};
 
 /// What `check` prints of a model.
@@ -20,7 +21,44 @@ pub fn listed(alloc: Global, model: &str) -> Result<String, AllocError> {
     }
 }
 
-/// What `run` prints of a model with inputs.
+/// What `plan` prints of a model in so many processes.
+pub fn planned(alloc: Global, model: &str, processes: u64) -> Result<String, AllocError> {
+    let groups = Partition::Count(processes.min(64) as u32);
+    match plan_bytes(alloc, model.as_bytes(), groups) {
+        Ok(plan) => format!(in alloc; "{plan}\n"),
+        Err(error) => refused(alloc, &error),
+    }
+}
+
+/// What `run` prints of a model with inputs, in so many processes and at most so many rounds.
+pub fn in_processes(
+    alloc: Global,
+    model: &str,
+    inputs: &str,
+    horizon: u64,
+    limit: u32,
+    processes: u64,
+    rounds: Option<u64>,
+) -> Result<String, AllocError> {
+    let Some(options) = Options::new(horizon, limit, None, rounds, 16) else {
+        return String::from_str(alloc, "no options\n");
+    };
+    let groups = Partition::Count(processes.min(64) as u32);
+    let mut trace = Vec::new(alloc);
+    match run_bytes(
+        alloc,
+        model.as_bytes(),
+        inputs.as_bytes(),
+        groups,
+        &options,
+        &mut trace,
+    ) {
+        Ok(_) => String::from_str(alloc, str::from_utf8(&trace).unwrap_or("not text\n")),
+        Err(error) => refused(alloc, &error),
+    }
+}
+
+/// What `run` prints of a model with inputs, by the plain run.
 pub fn printed(
     alloc: Global,
     model: &str,

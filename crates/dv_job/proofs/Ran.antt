@@ -1,12 +1,12 @@
 -- From what ran and what was written of it to what a run of bytes leaves.
-use Rattle.std.proofs.Common.{◌≡◌, ℕ, ◌<◌, Bool, true, false, List, [], ◌∷◌, ◌++◌, Option, Some, None, Result, Ok, Err, IfOk, IfErr, refl, ap, ◌∙◌, sym, subst, inl, inr, arith}
+use Rattle.std.proofs.Common.{◌≡◌, ℕ, ◌≤◌, Bool, true, false, List, ◌++◌, Option, Result, Ok, Err, IfOk, IfErr, refl, ap, ◌∙◌, sym, subst, inl, inr}
 use Rattle.std.specs.Prelude.{OnOk}
 use Rattle.std.specs.Io.KnownBytes.{Appends, Keeps}
-use Rattle.dv_time.specs.Time.{end_of, rank}
-use Rattle.dv_time.specs.declared.time.Time.{Time}
+use Rattle.dv_time.specs.Time.{end_of}
 use Rattle.dv_bag.specs.Bag.{Counts}
 use Rattle.dv_bag.specs.Part.{IsByTime, PartOf}
 use Rattle.dv_bag.specs.declared.inputs.Input.{Input}
+use Rattle.dv_devs.specs.Clocks.{least_rank}
 use Rattle.dv_devs.specs.Network.{Network, trace_before}
 use Rattle.dv_syntax.specs.Trees.{FileTree, file_of}
 use Rattle.dv_flat.specs.Links.{paths_of}
@@ -15,10 +15,10 @@ use Rattle.dv_partition.specs.Answers.{partition_answer}
 use Rattle.dv_partition.specs.Groups.{Grouping}
 use Rattle.dv_partition.specs.declared.choice.Partition.{Partition}
 use Rattle.dv_plain.specs.Source.{network_of, outside, trace_of}
-use Rattle.dv_serial.specs.Runs.{IsRunOf}
+use Rattle.dv_run.specs.Runs.{IsRunOf, LedTo}
 use Rattle.dv_serial.specs.declared.ran.Ran.{Ran}
-use Rattle.dv_serial.specs.declared.alone.Ended.{Ended}
-use Rattle.dv_serial.specs.declared.alone.Ended.TheVariants as ran
+use Rattle.dv_core.specs.declared.step.Ended.{Ended}
+use Rattle.dv_core.specs.declared.step.Ended.TheVariants as ran
 use Rattle.dv_text.specs.declared.writing.Ending.TheVariants as text_end
 use Rattle.dv_text.specs.Names.{component_names, root_ports}
 use Rattle.dv_text.specs.Texts.{ComponentNames, ending_text, instants_text, part_text, partial_ending}
@@ -26,9 +26,12 @@ use Rattle.dv_text.specs.Writing.{StopsShort}
 use Rattle.dv_job.specs.Ending.{ending_of, has_fault}
 use Rattle.dv_job.specs.Job.{IsModelOf, run_text}
 use Rattle.dv_job.specs.Planned.{AnswersPlan}
-use Rattle.dv_job.specs.Running.{EndsBy, IsPlanned, IsTextOf, LeftByRun, PrintsSome, PrintsWhole, cut_text}
+use Rattle.dv_job.specs.Running.{EndsBy, IsPlanned, IsTextOf, LeftByRun, PrintsSome, PrintsWhole, cut_text, ended_for, granted}
+use Rattle.dv_job.specs.Stepping.{AnswersSteps}
 use Rattle.dv_job.specs.Written.{IsUnwritten, ended_at, text_to}
+use Rattle.dv_job.specs.declared.ended.Why.{Why}
 use Rattle.dv_job.specs.declared.ended.Why.TheVariants as why
+use Rattle.dv_job.specs.declared.options.Options.{Options}
 use Rattle.dv_job.specs.declared.ended.JobEnded.{JobEnded}
 use Rattle.dv_job.specs.declared.ended.JobEnded.TheVariants as ended
 use Rattle.dv_job.specs.declared.ended.JobError.{JobError}
@@ -50,139 +53,150 @@ AreLines =
     (all : List ComponentNames) (outputs : List (List ℕ)) (limit : ℕ) (net : Network (List Counts)) (inputs : ℕ → List Counts) (n : ℕ)
     → part_text all outputs (trace_before limit net inputs n) ≡ instants_text all outputs limit net inputs n
 
+-- what ran of a text
+abbrev pub RanSo : FileTree → List Input → Grouping → Options → Ran → Type 0
+RanSo f played groups o r = IsRunOf f played groups o.horizon o.limit o.capacity (granted o) r
+
 -- what ran stands by time
-pub ran_by_time : (f : FileTree) (played : List Input) (h l : ℕ) (r : Ran) → AreByTime → IsRunOf f played h l r → IsByTime r.part
-ran_by_time f played h l r are is =
-    subst IsByTime (sym is.part) (are l (network_of l f) (outside f l played) (rank l r.clock))
+pub ran_by_time : (f : FileTree) (played : List Input) (groups : Grouping) (h l capacity rounds : ℕ) (r : Ran) → AreByTime
+    → IsRunOf f played groups h l capacity rounds r → IsByTime r.trace
+ran_by_time f played groups h l capacity rounds r are is =
+    subst IsByTime (sym is.trace) (are l (network_of l f) (outside f l played) (least_rank l r.clocks.items))
 
--- what ran whole is the trace
-pub whole_is_the_trace : (f : FileTree) (played : List Input) (h l : ℕ) (r : Ran) → IsRunOf f played h l r → r.ended ≡ ran.Whole
-    → r.part ≡ trace_of f played h l
-whole_is_the_trace f played h l r is whole =
-    is.part ∙ ap (trace_before l (network_of l f) (outside f l played)) (is.whole whole)
+module _ (names : List (List ℕ)) (f : FileTree) (played : List Input) (groups : Grouping) (o : Options) (r : Ran)
+    (is : RanSo f played groups o r) where
+  -- what ran whole is the trace
+  whole_is_the_trace : r.ended ≡ ran.Whole → r.trace ≡ trace_of f played o.horizon o.limit
+  whole_is_the_trace whole =
+      is.trace ∙ ap (trace_before o.limit (network_of o.limit f) (outside f o.limit played)) (is.whole whole)
 
--- its text is that of the run
-pub whole_text_is : (names : List (List ℕ)) (f : FileTree) (played : List Input) (h l : ℕ) (r : Ran) → AreInstants
-    → IsRunOf f played h l r → r.ended ≡ ran.Whole
-    → part_text (component_names names f) (root_ports names f) r.part ++ ending_text (text_end.Whole h) ≡ run_text names f played h l
-whole_text_is names f played h l r are is whole =
-    ap (λ (t : PartOf). part_text (component_names names f) (root_ports names f) t ++ ending_text (text_end.Whole h))
-    (whole_is_the_trace f played h l r is whole)
-    ∙ are (component_names names f) (root_ports names f) l (network_of l f) (outside f l played) h
+  -- its text is that of the run
+  whole_text_is : AreInstants → r.ended ≡ ran.Whole
+      → part_text (component_names names f) (root_ports names f) r.trace ++ ending_text (text_end.Whole o.horizon)
+      ≡ run_text names f played o.horizon o.limit
+  whole_text_is are whole =
+      ap (λ (t : PartOf). part_text (component_names names f) (root_ports names f) t ++ ending_text (text_end.Whole o.horizon))
+      (whole_is_the_trace whole)
+      ∙ are (component_names names f) (root_ports names f) o.limit (network_of o.limit f) (outside f o.limit played) o.horizon
 
--- the text of what ran to a clock is that of the trace, cut there
-pub cut_text_is : (names : List (List ℕ)) (f : FileTree) (played : List Input) (h l : ℕ) (r : Ran) → AreLines → IsRunOf f played h l r
-    → part_text (component_names names f) (root_ports names f) r.part ++ partial_ending (r.clock ∷ [])
-    ≡ cut_text names f played l (r.clock ∷ [])
-cut_text_is names f played h l r are is =
-    ap (λ (t : PartOf). part_text (component_names names f) (root_ports names f) t ++ partial_ending (r.clock ∷ [])) is.part
-    ∙ ap (λ (t : List ℕ). t ++ partial_ending (r.clock ∷ []))
-    (are (component_names names f) (root_ports names f) l (network_of l f) (outside f l played) (rank l r.clock))
+  -- the text of what ran to some clocks is that of the trace, cut there
+  cut_text_is : AreLines
+      → part_text (component_names names f) (root_ports names f) r.trace ++ partial_ending r.clocks.items
+      ≡ cut_text names f played o.limit r.clocks.items
+  cut_text_is are =
+      ap (λ (t : PartOf). part_text (component_names names f) (root_ports names f) t ++ partial_ending r.clocks.items) is.trace
+      ∙ ap (λ (t : List ℕ). t ++ partial_ending r.clocks.items)
+      (are (component_names names f) (root_ports names f) o.limit (network_of o.limit f) (outside f o.limit played)
+      (least_rank o.limit r.clocks.items))
 
-module _ (model inputs : List ℕ) (partition : Partition) (h l : ℕ) (old new : Option (List ℕ)) (names : List (List ℕ)) (f : FileTree)
-    (groups : Grouping) (played : List Input) (planned : IsPlanned model inputs partition names f groups played) where
-  -- an ending that a trace has is whole or faulted
-  ends_whole : (fault : Bool) (e : JobEnded) (t : PartOf) → has_fault t ≡ fault → e ≡ ending_of t
-      → PrintsWhole model inputs partition h l old new e → EndsBy e model inputs partition h l old new
-  ends_whole fault ended.Whole t is ending prints = prints
-  ends_whole fault ended.Faulted t is ending prints = prints
-  ends_whole true (ended.Partial why) t is ending prints =
-      let no : ended.Partial why ≡ ended.Faulted = rw is at ending in cc
-  ends_whole false (ended.Partial why) t is ending prints =
-      let no : ended.Partial why ≡ ended.Whole = rw is at ending in cc
+  text_of_it : (at : Ended) → AreInstants → AreLines → r.ended ≡ at
+      → IsTextOf names f played o.horizon o.limit (text_to at (component_names names f) (root_ports names f) o.horizon r)
+  text_of_it ran.Whole whole lines at = inl (whole_text_is whole at)
+  text_of_it ran.Stalled whole lines at = inr (r.clocks.items, is.some, cut_text_is lines)
+  text_of_it ran.Memory whole lines at = inr (r.clocks.items, is.some, cut_text_is lines)
 
-  pub ends_at_the_horizon : (e : JobEnded) (r : Ran) → AreInstants → IsRunOf f played h l r → r.ended ≡ ran.Whole
-      → e ≡ ending_of r.part
-      → Appends old new (part_text (component_names names f) (root_ports names f) r.part ++ ending_text (text_end.Whole h))
-      → EndsBy e model inputs partition h l old new
-  ends_at_the_horizon e r are is whole ending written =
-      let at : e ≡ ending_of (trace_of f played h l) = ending ∙ ap ending_of (whole_is_the_trace f played h l r is whole) in
-      ends_whole (has_fault (trace_of f played h l)) e (trace_of f played h l) refl at
-      (record {
-        names = names;
-        file = f;
-        groups = groups;
-        played = played;
-        planned = planned;
-        ending = at;
-        written = subst (λ (t : List ℕ). Appends old new t) (whole_text_is names f played h l r are is whole) written;
-      })
+  module _ (model inputs : List ℕ) (partition : Partition) (old new : Option (List ℕ))
+      (planned : IsPlanned model inputs partition names f groups played) where
+    -- an ending that a trace has is whole or faulted
+    ends_whole : (fault : Bool) (e : JobEnded) (t : PartOf) → has_fault t ≡ fault → e ≡ ending_of t
+        → PrintsWhole model inputs partition o old new e → EndsBy e model inputs partition o old new
+    ends_whole fault ended.Whole t is ending prints = prints
+    ends_whole fault ended.Faulted t is ending prints = prints
+    ends_whole true (ended.Partial why) t is ending prints =
+        let no : ended.Partial why ≡ ended.Faulted = rw is at ending in cc
+    ends_whole false (ended.Partial why) t is ending prints =
+        let no : ended.Partial why ≡ ended.Whole = rw is at ending in cc
 
-  pub ends_at_a_clock : (e : JobEnded) (why : _) (r : Ran) → AreLines → IsRunOf f played h l r → e ≡ ended.Partial why
-      → Appends old new (part_text (component_names names f) (root_ports names f) r.part ++ partial_ending (r.clock ∷ []))
-      → EndsBy e model inputs partition h l old new
-  ends_at_a_clock e why r are is ending written =
-      subst (λ (e : JobEnded). EndsBy e model inputs partition h l old new) (sym ending)
-      (record {
-        names = names;
-        file = f;
-        groups = groups;
-        played = played;
-        planned = planned;
-        clocks = r.clock ∷ [];
-        some = omega arith;
-        written = subst (λ (t : List ℕ). Appends old new t) (cut_text_is names f played h l r are is) written;
-      })
+    ends_at_the_horizon : (e : JobEnded) → AreInstants → r.ended ≡ ran.Whole → e ≡ ending_of r.trace
+        → Appends old new (part_text (component_names names f) (root_ports names f) r.trace ++ ending_text (text_end.Whole o.horizon))
+        → EndsBy e model inputs partition o old new
+    ends_at_the_horizon e are whole ending written =
+        let at : e ≡ ending_of (trace_of f played o.horizon o.limit) = ending ∙ ap ending_of (whole_is_the_trace whole) in
+        ends_whole (has_fault (trace_of f played o.horizon o.limit)) e (trace_of f played o.horizon o.limit) refl at
+        (record {
+          names = names;
+          file = f;
+          groups = groups;
+          played = played;
+          planned = planned;
+          ending = at;
+          written = subst (λ (t : List ℕ). Appends old new t) (whole_text_is are whole) written;
+        })
 
-  stops : (text : List ℕ) → IsTextOf names f played h l text → StopsShort old new text → PrintsSome model inputs partition h l old new
-  stops text is written = record {
-    names = names;
-    file = f;
-    groups = groups;
-    played = played;
-    planned = planned;
-    text = text;
-    is_text = is;
-    written = written;
-  }
+    -- a run that is cut, for a reason
+    ends_at_clocks : (e : JobEnded) (reason : Why) → AreLines → r.ended ≡ ended_for reason
+        → (reason ≡ why.Rounds → granted o ≤ end_of o.limit o.horizon) → e ≡ ended.Partial reason
+        → Appends old new (part_text (component_names names f) (root_ports names f) r.trace ++ partial_ending r.clocks.items)
+        → EndsBy e model inputs partition o old new
+    ends_at_clocks e reason are at few ending written =
+        subst (λ (e : JobEnded). EndsBy e model inputs partition o old new) (sym ending)
+        (record {
+          names = names;
+          file = f;
+          groups = groups;
+          played = played;
+          planned = planned;
+          clocks = r.clocks.items;
+          some = is.some;
+          led =
+              subst (λ (x : Ended). LedTo f played groups o.horizon o.limit o.capacity (granted o) x r.clocks.items) at is.led;
+          stalls = few;
+          written = subst (λ (t : List ℕ). Appends old new t) (cut_text_is are) written;
+        })
 
-  -- whichever way the writing of one of its texts failed
-  left_unwritten : (e : JobError) (text : List ℕ) → IsTextOf names f played h l text → IsUnwritten e text old new
-      → LeftByRun e model inputs partition h l old new
-  left_unwritten (error.Text r) text is unwritten = absurd unwritten
-  left_unwritten (error.Partition r) text is unwritten = absurd unwritten
-  left_unwritten (error.Inputs r) text is unwritten = absurd unwritten
-  left_unwritten error.Write text is short = stops text is short
-  left_unwritten error.Memory text is (inl same) = inl same
-  left_unwritten error.Memory text is (inr short) = inr (stops text is short)
+    stops : (text : List ℕ) → IsTextOf names f played o.horizon o.limit text → StopsShort old new text
+        → PrintsSome model inputs partition o old new
+    stops text is written = record {
+      names = names;
+      file = f;
+      groups = groups;
+      played = played;
+      planned = planned;
+      text = text;
+      is_text = is;
+      written = written;
+    }
 
-  -- a run that was written to its end, whichever end it came to
-  ends_so : (at : Ended) (e : JobEnded) (r : Ran) → AreInstants → AreLines → IsRunOf f played h l r → r.ended ≡ at → e ≡ ended_at at r
-      → Appends old new (text_to at (component_names names f) (root_ports names f) h r)
-      → EndsBy e model inputs partition h l old new
-  ends_so ran.Whole e r whole lines is at ending written = ends_at_the_horizon e r whole is at ending written
-  ends_so ran.Memory e r whole lines is at ending written = ends_at_a_clock e why.Memory r lines is ending written
+    -- whichever way the writing of one of its texts failed
+    left_unwritten : (e : JobError) (text : List ℕ) → IsTextOf names f played o.horizon o.limit text → IsUnwritten e text old new
+        → LeftByRun e model inputs partition o old new
+    left_unwritten (error.Text r) text is unwritten = absurd unwritten
+    left_unwritten (error.Partition r) text is unwritten = absurd unwritten
+    left_unwritten (error.Inputs r) text is unwritten = absurd unwritten
+    left_unwritten error.Write text is short = stops text is short
+    left_unwritten error.Memory text is (inl same) = inl same
+    left_unwritten error.Memory text is (inr short) = inr (stops text is short)
 
-  ends_as_it_ran : (e : JobEnded) (r : Ran) → AreInstants → AreLines → IsRunOf f played h l r → e ≡ ended_at r.ended r
-      → Appends old new (text_to r.ended (component_names names f) (root_ports names f) h r)
-      → EndsBy e model inputs partition h l old new
-  ends_as_it_ran e r whole lines is ending written = ends_so r.ended e r whole lines is refl ending written
+    -- a run that was written to its end, whichever end it came to
+    ends_so : (at : Ended) (e : JobEnded) → AreInstants → AreLines → r.ended ≡ at → e ≡ ended_at at r.trace
+        → Appends old new (text_to at (component_names names f) (root_ports names f) o.horizon r)
+        → EndsBy e model inputs partition o old new
+    ends_so ran.Whole e whole lines at ending written = ends_at_the_horizon e whole at ending written
+    ends_so ran.Stalled e whole lines at ending written =
+        ends_at_clocks e why.Rounds lines at (λ _. is.stalls at o.in_range.some_capacity) ending written
+    ends_so ran.Memory e whole lines at ending written =
+        ends_at_clocks e why.Memory lines at (λ no. absurd (cc)) ending written
 
-  text_of_it : (at : Ended) (r : Ran) → AreInstants → AreLines → IsRunOf f played h l r → r.ended ≡ at
-      → IsTextOf names f played h l (text_to at (component_names names f) (root_ports names f) h r)
-  text_of_it ran.Whole r whole lines is at = inl (whole_text_is names f played h l r whole is at)
-  text_of_it ran.Memory r whole lines is at = inr (r.clock ∷ [], omega arith, cut_text_is names f played h l r lines is)
+    left_as_it_ran : (e : JobError) → AreInstants → AreLines
+        → IsUnwritten e (text_to r.ended (component_names names f) (root_ports names f) o.horizon r) old new
+        → LeftByRun e model inputs partition o old new
+    left_as_it_ran e whole lines unwritten =
+        left_unwritten e (text_to r.ended (component_names names f) (root_ports names f) o.horizon r)
+        (text_of_it r.ended whole lines refl) unwritten
 
-  -- one that was not
-  left_as_it_ran : (e : JobError) (r : Ran) → AreInstants → AreLines → IsRunOf f played h l r
-      → IsUnwritten e (text_to r.ended (component_names names f) (root_ports names f) h r) old new
-      → LeftByRun e model inputs partition h l old new
-  left_as_it_ran e r whole lines is unwritten =
-      left_unwritten e (text_to r.ended (component_names names f) (root_ports names f) h r) (text_of_it r.ended r whole lines is refl) unwritten
+    -- whatever became of it
+    pub if_it_ended : (result : Result JobEnded JobError) → AreInstants → AreLines
+        → IfOk result (λ (e : JobEnded). e ≡ ended_at r.ended r.trace)
+        → OnOk result (Appends old new (text_to r.ended (component_names names f) (root_ports names f) o.horizon r))
+        → IfOk result (λ (e : JobEnded). EndsBy e model inputs partition o old new)
+    if_it_ended (Ok e) whole lines ending written = ends_so r.ended e whole lines refl ending written
+    if_it_ended (Err e) whole lines ending written = tt
 
-  -- whatever became of it
-  pub if_it_ended : (result : Result JobEnded JobError) (r : Ran) → AreInstants → AreLines → IsRunOf f played h l r
-      → IfOk result (λ (e : JobEnded). e ≡ ended_at r.ended r)
-      → OnOk result (Appends old new (text_to r.ended (component_names names f) (root_ports names f) h r))
-      → IfOk result (λ (e : JobEnded). EndsBy e model inputs partition h l old new)
-  if_it_ended (Ok e) r whole lines is ending written = ends_as_it_ran e r whole lines is ending written
-  if_it_ended (Err e) r whole lines is ending written = tt
-
-  pub if_it_was_left : (result : Result JobEnded JobError) (r : Ran) → AreInstants → AreLines → IsRunOf f played h l r
-      → IfErr result (λ (e : JobError). IsUnwritten e (text_to r.ended (component_names names f) (root_ports names f) h r) old new)
-      → IfErr result (λ (e : JobError). LeftByRun e model inputs partition h l old new)
-  if_it_was_left (Ok e) r whole lines is unwritten = tt
-  if_it_was_left (Err e) r whole lines is unwritten = left_as_it_ran e r whole lines is unwritten
+    pub if_it_was_left : (result : Result JobEnded JobError) → AreInstants → AreLines
+        → IfErr result (λ (e : JobError). IsUnwritten e (text_to r.ended (component_names names f) (root_ports names f) o.horizon r) old new)
+        → IfErr result (λ (e : JobError). LeftByRun e model inputs partition o old new)
+    if_it_was_left (Ok e) whole lines unwritten = tt
+    if_it_was_left (Err e) whole lines unwritten = left_as_it_ran e whole lines unwritten
 
 -- a model, its inputs and its groups, all read
 pub planned_tree : (model inputs : List ℕ) (partition : Partition) (tree : Source) (groups : Grouping) (played : List Input)
@@ -195,13 +209,13 @@ planned_tree model inputs partition tree groups played m cut read = record {
 }
 
 -- a partition that is refused
-pub left_by_partition : (e : PartitionError) (model inputs : List ℕ) (partition : Partition) (h l : ℕ) (old : Option (List ℕ))
+pub left_by_partition : (e : PartitionError) (model inputs : List ℕ) (partition : Partition) (o : Options) (old : Option (List ℕ))
     (tree : Source) → IsModelOf model tree.names (file_of tree.file)
     → IsErrorOf (partition_answer (paths_of tree.names (file_of tree.file)) partition) e
-    → LeftByRun (job_error_of_partition e) model inputs partition h l old old
-left_by_partition (parting.Refused r) model inputs partition h l old tree m refused =
+    → LeftByRun (job_error_of_partition e) model inputs partition o old old
+left_by_partition (parting.Refused r) model inputs partition o old tree m refused =
     (record { names = tree.names; file = file_of tree.file; accepted = m; refused = refused }, kept old)
-left_by_partition parting.Memory model inputs partition h l old tree m refused = inl (kept old)
+left_by_partition parting.Memory model inputs partition o old tree m refused = inl (kept old)
 
 -- no plan of a partition that is refused
 pub unplanned : (e : PartitionError) (model : List ℕ) (partition : Partition) (tree : Source)
@@ -213,13 +227,13 @@ unplanned (parting.Refused r) model partition tree m refused =
 unplanned parting.Memory model partition tree m refused = tt
 
 -- inputs that were not read
-pub left_by_last : (e : InputsError) (model inputs : List ℕ) (partition : Partition) (h l : ℕ) (old : Option (List ℕ)) (tree : Source)
+pub left_by_last : (e : InputsError) (model inputs : List ℕ) (partition : Partition) (o : Options) (old : Option (List ℕ)) (tree : Source)
     (groups : Grouping) → IsModelOf model tree.names (file_of tree.file)
     → partition_answer (paths_of tree.names (file_of tree.file)) partition ≡ Ok groups
     → ((r : InputRefusal) → ◌≡◌ {A = Result (List Input) InputsError} (Err e) (Err (input.Refused r))
     → reading_of inputs (tree_inputs tree) ≡ Err r)
-    → LeftByRun (job_error_of_inputs e) model inputs partition h l old old
-left_by_last (input.Refused r) model inputs partition h l old tree groups m cut refused = (
+    → LeftByRun (job_error_of_inputs e) model inputs partition o old old
+left_by_last (input.Refused r) model inputs partition o old tree groups m cut refused = (
   record {
     names = tree.names;
     file = file_of tree.file;
@@ -230,4 +244,32 @@ left_by_last (input.Refused r) model inputs partition h l old tree groups m cut 
   },
   kept old,
 )
-left_by_last input.Memory model inputs partition h l old tree groups m cut refused = inl (kept old)
+left_by_last input.Memory model inputs partition o old tree groups m cut refused = inl (kept old)
+
+-- ---- Steps
+
+-- no steps of a partition that is refused
+pub unstepped_groups : (e : PartitionError) (model inputs : List ℕ) (partition : Partition) (tree : Source)
+    → IsModelOf model tree.names (file_of tree.file)
+    → IsErrorOf (partition_answer (paths_of tree.names (file_of tree.file)) partition) e
+    → AnswersSteps model inputs partition (job_error_of_partition e)
+unstepped_groups (parting.Refused r) model inputs partition tree m refused =
+    record { names = tree.names; file = file_of tree.file; accepted = m; refused = refused }
+unstepped_groups parting.Memory model inputs partition tree m refused = tt
+
+-- nor where the inputs were not read
+pub unstepped_inputs : (e : InputsError) (model inputs : List ℕ) (partition : Partition) (tree : Source) (groups : Grouping)
+    → IsModelOf model tree.names (file_of tree.file)
+    → partition_answer (paths_of tree.names (file_of tree.file)) partition ≡ Ok groups
+    → ((r : InputRefusal) → ◌≡◌ {A = Result (List Input) InputsError} (Err e) (Err (input.Refused r))
+    → reading_of inputs (tree_inputs tree) ≡ Err r)
+    → AnswersSteps model inputs partition (job_error_of_inputs e)
+unstepped_inputs (input.Refused r) model inputs partition tree groups m cut refused = record {
+  names = tree.names;
+  file = file_of tree.file;
+  groups = groups;
+  accepted = m;
+  parted = cut;
+  refused = refused r refl;
+}
+unstepped_inputs input.Memory model inputs partition tree groups m cut refused = tt

@@ -1,17 +1,21 @@
 -- How a run in processes ends, and what the writer then holds.
-use Rattle.std.specs.Prelude.{◌≡◌, ℕ, ◌<◌, List, length, ◌⊎◌, Option, Ok, Err}
+use Rattle.std.specs.Prelude.{◌≡◌, ℕ, ◌+◌, ◌<◌, ◌≤◌, List, length, ◌⊎◌, Option, unwrap_or, Ok, Err}
 use Rattle.std.specs.Io.KnownBytes.{Appends, Keeps}
+use Rattle.dv_time.specs.Time.{end_of}
 use Rattle.dv_time.specs.declared.time.Time.{Time}
 use Rattle.dv_bag.specs.declared.inputs.Input.{Input}
 use Rattle.dv_syntax.specs.Trees.{FileTree}
 use Rattle.dv_inputs.specs.Reading.{reading_of}
 use Rattle.dv_inputs.specs.declared.error.InputRefusal.{InputRefusal}
+use Rattle.dv_core.specs.declared.step.Ended.{Ended}
+use Rattle.dv_core.specs.declared.step.Ended.TheVariants.{Memory, Stalled}
 use Rattle.dv_flat.specs.Links.{paths_of}
 use Rattle.dv_partition.specs.Answers.{partition_answer}
 use Rattle.dv_partition.specs.Groups.{Grouping}
 use Rattle.dv_partition.specs.declared.choice.Partition.{Partition}
 use Rattle.dv_partition.specs.declared.error.PartitionRefusal.{PartitionRefusal}
 use Rattle.dv_plain.specs.Source.{network_of, outside, trace_of}
+use Rattle.dv_run.specs.Runs.{LedTo}
 use Rattle.dv_text.specs.Names.{component_names, root_ports}
 use Rattle.dv_text.specs.Texts.{partial_text}
 use Rattle.dv_text.specs.Writing.{StopsShort}
@@ -19,6 +23,9 @@ use Rattle.dv_job.specs.Ending.{IsJob, ending_of}
 use Rattle.dv_job.specs.Job.{IsAnswer, IsModelOf, input_ports, run_text}
 use Rattle.dv_job.specs.declared.ended.JobEnded.{JobEnded}
 use Rattle.dv_job.specs.declared.ended.JobEnded.TheVariants as ended
+use Rattle.dv_job.specs.declared.ended.Why.{Why}
+use Rattle.dv_job.specs.declared.ended.Why.TheVariants as why
+use Rattle.dv_job.specs.declared.options.Options.{Options}
 use Rattle.dv_job.specs.declared.ended.JobError.{JobError}
 use Rattle.dv_job.specs.declared.ended.JobError.TheVariants as error
 
@@ -40,19 +47,30 @@ IsTextOf names f inputs horizon limit text =
     (text ≡ run_text names f inputs horizon limit)
     ⊎ ((clocks : List Time) × (0 < length clocks) × (text ≡ cut_text names f inputs limit clocks))
 
+-- how many rounds a run has: those of the options, or else one more than there are ranks before the end, which is enough
+abbrev pub granted : Options → ℕ
+granted o = unwrap_or o.rounds (end_of o.limit o.horizon + 1)
+
 -- All is accepted, the writer's bytes grew by the whole text of the trace, and the answer says whether that holds a fault.
-pub record PrintsWhole (model inputs : List ℕ) (partition : Partition) (horizon limit : ℕ) (old new : Option (List ℕ)) (e : JobEnded)
+pub record PrintsWhole (model inputs : List ℕ) (partition : Partition) (o : Options) (old new : Option (List ℕ)) (e : JobEnded)
     : Type 0 where
   pub names : List (List ℕ)
   pub file : FileTree
   pub groups : Grouping
   pub played : List Input
   pub planned : IsPlanned model inputs partition names file groups played
-  pub ending : e ≡ ending_of (trace_of file played horizon limit)
-  pub written : Appends old new (run_text names file played horizon limit)
+  pub ending : e ≡ ending_of (trace_of file played o.horizon o.limit)
+  pub written : Appends old new (run_text names file played o.horizon o.limit)
 
--- All is accepted, and the writer's bytes grew by the text of the trace, cut at the clocks of some processes.
-pub record PrintsCut (model inputs : List ℕ) (partition : Partition) (limit : ℕ) (old new : Option (List ℕ)) : Type 0 where
+-- how the rounds of a run ended that is not whole
+abbrev pub ended_for : Why → Ended
+ended_for why.Rounds = Stalled
+ended_for why.Memory = Memory
+
+-- All is accepted, and the writer's bytes grew by the text of the trace, cut at the clocks to which rounds of the processes led. For
+-- want of rounds a run ends only where there are no more than ranks before the end.
+pub record PrintsCut (model inputs : List ℕ) (partition : Partition) (o : Options) (old new : Option (List ℕ)) (reason : Why)
+    : Type 0 where
   pub names : List (List ℕ)
   pub file : FileTree
   pub groups : Grouping
@@ -60,26 +78,26 @@ pub record PrintsCut (model inputs : List ℕ) (partition : Partition) (limit : 
   pub planned : IsPlanned model inputs partition names file groups played
   pub clocks : List Time
   pub some : 0 < length clocks
-  pub written : Appends old new (cut_text names file played limit clocks)
+  pub led : LedTo file played groups o.horizon o.limit o.capacity (granted o) (ended_for reason) clocks
+  pub stalls : reason ≡ why.Rounds → granted o ≤ end_of o.limit o.horizon
+  pub written : Appends old new (cut_text names file played o.limit clocks)
 
 -- All is accepted, and the writer's bytes grew by a beginning of such a text, but not by all of it.
-pub record PrintsSome (model inputs : List ℕ) (partition : Partition) (horizon limit : ℕ) (old new : Option (List ℕ)) : Type 0 where
+pub record PrintsSome (model inputs : List ℕ) (partition : Partition) (o : Options) (old new : Option (List ℕ)) : Type 0 where
   pub names : List (List ℕ)
   pub file : FileTree
   pub groups : Grouping
   pub played : List Input
   pub planned : IsPlanned model inputs partition names file groups played
   pub text : List ℕ
-  pub is_text : IsTextOf names file played horizon limit text
+  pub is_text : IsTextOf names file played o.horizon o.limit text
   pub written : StopsShort old new text
 
 -- what an answer says of the writer's bytes
-abbrev pub EndsBy : JobEnded → (model inputs : List ℕ) → Partition → (horizon limit : ℕ) → (old new : Option (List ℕ)) → Type 0
-EndsBy ended.Whole model inputs partition horizon limit old new =
-    PrintsWhole model inputs partition horizon limit old new ended.Whole
-EndsBy ended.Faulted model inputs partition horizon limit old new =
-    PrintsWhole model inputs partition horizon limit old new ended.Faulted
-EndsBy (ended.Partial why) model inputs partition horizon limit old new = PrintsCut model inputs partition limit old new
+abbrev pub EndsBy : JobEnded → (model inputs : List ℕ) → Partition → Options → (old new : Option (List ℕ)) → Type 0
+EndsBy ended.Whole model inputs partition o old new = PrintsWhole model inputs partition o old new ended.Whole
+EndsBy ended.Faulted model inputs partition o old new = PrintsWhole model inputs partition o old new ended.Faulted
+EndsBy (ended.Partial reason) model inputs partition o old new = PrintsCut model inputs partition o old new reason
 
 -- the model is accepted, and this is the answer to the partition of its components
 pub record IsAnswerToPartition (model : List ℕ) (partition : Partition) (r : PartitionRefusal) : Type 0 where
@@ -100,11 +118,11 @@ pub record IsLastAnswer (model inputs : List ℕ) (partition : Partition) (r : I
 -- What an error leaves: at a refusal nothing was written, and the answer is that of the model's text, or where that is accepted
 -- that of the partition, or else that of the inputs' text; at a failed write a beginning of a text that is not all of it; at want
 -- of memory nothing or such a beginning.
-abbrev pub LeftByRun : JobError → (model inputs : List ℕ) → Partition → (horizon limit : ℕ) → (old new : Option (List ℕ)) → Type 0
-LeftByRun (error.Text e) model inputs partition horizon limit old new = IsAnswer model e × Keeps old new
-LeftByRun (error.Partition r) model inputs partition horizon limit old new =
+abbrev pub LeftByRun : JobError → (model inputs : List ℕ) → Partition → Options → (old new : Option (List ℕ)) → Type 0
+LeftByRun (error.Text e) model inputs partition o old new = IsAnswer model e × Keeps old new
+LeftByRun (error.Partition r) model inputs partition o old new =
     IsAnswerToPartition model partition r × Keeps old new
-LeftByRun (error.Inputs r) model inputs partition horizon limit old new = IsLastAnswer model inputs partition r × Keeps old new
-LeftByRun error.Write model inputs partition horizon limit old new = PrintsSome model inputs partition horizon limit old new
-LeftByRun error.Memory model inputs partition horizon limit old new =
-    Keeps old new ⊎ PrintsSome model inputs partition horizon limit old new
+LeftByRun (error.Inputs r) model inputs partition o old new = IsLastAnswer model inputs partition r × Keeps old new
+LeftByRun error.Write model inputs partition o old new = PrintsSome model inputs partition o old new
+LeftByRun error.Memory model inputs partition o old new =
+    Keeps old new ⊎ PrintsSome model inputs partition o old new

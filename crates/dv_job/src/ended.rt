@@ -25,7 +25,9 @@ pub enum JobEnded {
 /// Why a trace is not whole.
 #[derive(Clone, Copy, Debug, PartialEq, Eq)]
 pub enum Why {
-    /// An allocation was refused while a process took its turn.
+    /// The rounds that were granted are used up.
+    Rounds,
+    /// An allocation was refused while a process took its turn, or a packet was on its way.
     Memory,
 }
 

@@ -21,8 +21,12 @@ pub mod options;
 pub mod plain;
 /// The plan of a model, as text.
 pub mod planned;
+/// How many rounds a run has.
+mod rounds;
 /// The run of a model in processes.
 pub mod run;
+/// The run of a model by a list of steps of its processes.
+pub mod steps;
 /// What ran, written.
 mod written;
 
@@ -33,3 +37,4 @@ pub use options::{GREATEST_CAPACITY, MOST_WORKERS, Options};
 pub use plain::run_plain;
 pub use planned::plan_bytes;
 pub use run::run_bytes;
+pub use steps::run_steps;

@@ -1,4 +1,4 @@
-//! The options of a run. Workers, rounds and capacity are for processes that are to come: no run reads them yet.
+//! The options of a run. Workers are for threads that are to come: no run reads them yet.
 
 ghost use Rattle.std.specs.Prelude.{◌≡◌, ◌≤◌, ◌↔◌, IsSome, IfSome, IsTrue};
 ghost use Rattle.dv_job.specs.Ranges.{AreInRange, AreWorkers, NotBoth};
@@ -8,7 +8,7 @@ use dv_time::{GREATEST_LIMIT, GREATEST_TICK};
 /// The most workers that are to run processes; no run reads this yet.
 pub const MOST_WORKERS: u32 = 64;
 
-/// The most packets that a link between processes is to hold; no run reads this yet.
+/// The most packets that may be on their way on a link between processes.
 pub const GREATEST_CAPACITY: u32 = 1_024;
 
 /// How far to run, and how. Its values are within their ranges: its type keeps that.
@@ -18,11 +18,11 @@ pub struct Options {
     pub horizon: u64,
     /// The greatest microstep of a tick, 1 to 1,000.
     pub limit: u32,
-    /// The threads that are to run processes, 1 to 64; without them one driver is to run all. No run reads this yet.
+    /// The threads that are to run processes, 1 to 64; without them one driver runs all. No run reads this yet.
     pub workers: Option<u32>,
-    /// The greatest number of rounds of the one driver, which is not given beside workers. No run reads this yet.
+    /// The greatest number of rounds of the one driver, which is not given beside workers; without it there are enough.
     pub rounds: Option<u64>,
-    /// The packets that a link between processes is to hold, 1 to 1,024. No run reads this yet.
+    /// How many packets may be on their way on a link between processes, 1 to 1,024.
     pub capacity: u32,
     pub ghost in_range: { AreInRange horizon limit workers rounds capacity },
 }

@@ -8,16 +8,13 @@ ghost use Rattle.dv_job.specs.Planned.{AnswersPlan, HasPlan};
 use crate::ended::JobError;
 use crate::load::{accept, load, load_groups};
 use crate::names::TreeNames;
-use dv_bag::Response;
 use dv_cut::plan_json;
 use dv_flat::flatten;
 use dv_links::links_of;
 use dv_partition::Partition;
+use dv_planned::least_responses;
 use dv_tree::Tree;
 use std::alloc::Global;
-
-/// The response that every process has, until processes make promises to one another. It is always sound.
-const SOUND_RESPONSE: Response = Response::Ticks(0);
 
 /// The plan of the model of a text, as one JSON object: its components by their paths, the links between them, and of each
 /// process its components and its response.
@@ -49,7 +46,7 @@ fn plan_tree(
     let flat = flatten(alloc, tree)?;
     let groups = load_groups(alloc, tree, flat.paths.as_slice(), groups)?;
     let links = links_of(alloc, &flat.links)?;
-    let least = vec![in alloc; SOUND_RESPONSE; groups.processes()]?;
+    let least = least_responses(alloc, tree, &groups)?;
     let names = TreeNames::of(alloc, tree)?;
     Ok(plan_json(alloc, &names, &links, &groups, &least)?)
 }

@@ -8,12 +8,14 @@ ghost use Rattle.dv_job.specs.Running.{EndsBy, LeftByRun};
 use crate::ended::{JobEnded, JobError};
 use crate::load::{accept, load, load_groups, load_inputs};
 use crate::options::Options;
+use crate::rounds::granted;
 use crate::written::write_ran;
 use dv_bag::Bags;
 use dv_devs::laws::parts::parts_are_by_time;
 use dv_flat::flatten;
 use dv_partition::Partition;
-use dv_serial::compiled_run;
+use dv_planned::TextJob;
+use dv_run::compiled_run;
 use dv_sound::numbers::inputs_are_of_numbers;
 use dv_text::laws::a_trace_is_its_instants;
 use dv_tree::Tree;
@@ -21,8 +23,8 @@ use std::alloc::Global;
 use std::io::Write;
 
 /// Runs the model of a text in processes, by programs and direct links, on one thread, with the inputs that another text
-/// says, and writes the trace to the horizon. Inputs past the horizon are tested and not played; an empty text has none.
-/// Today all groups of the partition run in one process.
+/// says, and writes the trace to the horizon. Inputs past the horizon are tested and not played; an empty text has none. Each
+/// group of the partition is one process; processes exchange packets in rounds.
 ///
 /// # Errors
 ///
@@ -38,9 +40,9 @@ pub fn run_bytes<W: Write>(
     writer: &mut W,
 ) -> Result<JobEnded, JobError>
     ensures ended { IfOk result (λ ended. EndsBy ended model.now inputs.now groups.entry
-        options.now.horizon options.now.limit (W.contents writer.old) (W.contents writer.new)) }
+        options.now (W.contents writer.old) (W.contents writer.new)) }
     ensures error { IfErr result (λ e. LeftByRun e model.now inputs.now groups.entry
-        options.now.horizon options.now.limit (W.contents writer.old) (W.contents writer.new)) }
+        options.now (W.contents writer.old) (W.contents writer.new)) }
 {
     let checked = load(alloc, model)?;
     let tree = accept(alloc, model, &checked)?;
@@ -59,9 +61,9 @@ fn run_tree<W: Write>(
 ) -> Result<JobEnded, JobError>
     requires accepted { IsModelOf model.now tree.now.names (file_of tree.now.file) }
     ensures ended { IfOk result (λ ended. EndsBy ended model.now inputs.now groups.entry
-        options.now.horizon options.now.limit (W.contents writer.old) (W.contents writer.new)) }
+        options.now (W.contents writer.old) (W.contents writer.new)) }
     ensures error { IfErr result (λ e. LeftByRun e model.now inputs.now groups.entry
-        options.now.horizon options.now.limit (W.contents writer.old) (W.contents writer.new)) }
+        options.now (W.contents writer.old) (W.contents writer.new)) }
 {
     // A trace stands by time, and its text is that of its instants, one after the other.
     parts_are_by_time::<Bags>();
@@ -71,13 +73,14 @@ fn run_tree<W: Write>(
     let flat = flatten(alloc, tree)?;
     let groups = load_groups(alloc, tree, flat.paths.as_slice(), groups)?;
     let played = load_inputs(alloc, inputs, tree)?;
-    let ran = compiled_run(
-        alloc,
+    let job = TextJob {
         tree,
-        &flat.links,
-        played,
-        options.horizon,
-        options.limit,
-    )?;
+        inputs: &played,
+        groups: &groups,
+        horizon: options.horizon,
+        limit: options.limit,
+    };
+    let capacity = options.capacity as usize;
+    let ran = compiled_run(alloc, &job, &flat.links, granted(options), capacity)?;
     write_ran(alloc, tree, &ran, options.horizon, writer)
 }

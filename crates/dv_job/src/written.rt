@@ -1,6 +1,6 @@
 //! What ran, written.
 
-ghost use Rattle.std.specs.Prelude.{◌≡◌, ◌++◌, ◌∷◌, [], IfOk, IfErr, OnOk};
+ghost use Rattle.std.specs.Prelude.{◌≡◌, ◌++◌, IfOk, IfErr, OnOk};
 ghost use Rattle.std.specs.Io.KnownBytes.{Appends};
 ghost use Rattle.dv_bag.specs.Part.{IsByTime};
 ghost use Rattle.dv_text.specs.Names.{tree_names, tree_ports};
@@ -9,16 +9,15 @@ ghost use Rattle.dv_text.specs.declared.writing.Ending.TheVariants as text_end;
 ghost use Rattle.dv_job.specs.Ending.{ending_of};
 ghost use Rattle.dv_job.specs.Written.{IsUnwritten, ended_at, text_to};
 ghost use Rattle.dv_job.specs.declared.ended.JobEnded.TheVariants.{Partial};
-ghost use Rattle.dv_job.specs.declared.ended.Why.TheVariants as why;
 
 use crate::ended::{JobEnded, JobError, Why};
 use crate::faults::ending_of;
-use dv_bag::{Part, Trace};
-use dv_serial::{Ended, Ran};
+use dv_bag::Trace;
+use dv_core::Ended;
+use dv_serial::Ran;
 use dv_text::{Ending, write_trace};
-use dv_time::Time;
 use dv_tree::Tree;
-use std::alloc::{AllocError, Global};
+use std::alloc::Global;
 use std::io::Write;
 
 /// Writes the text of what ran.
@@ -33,8 +32,8 @@ pub fn write_ran<W: Write>(
     horizon: u64,
     writer: &mut W,
 ) -> Result<JobEnded, JobError>
-    requires by_time { IsByTime ran.now.part }
-    ensures ending { IfOk result (λ ended. ended ≡ ended_at ran.now.ended ran.now) }
+    requires by_time { IsByTime ran.now.trace }
+    ensures ending { IfOk result (λ ended. ended ≡ ended_at ran.now.ended ran.now.trace) }
     ensures text { OnOk result (Appends (W.contents writer.old) (W.contents writer.new)
         (text_to ran.now.ended (tree_names tree.now) (tree_ports tree.now) horizon ran.now)) }
     ensures error { IfErr result (λ e. IsUnwritten e
@@ -42,8 +41,9 @@ pub fn write_ran<W: Write>(
         (W.contents writer.old) (W.contents writer.new)) }
 {
     match ran.ended {
-        Ended::Whole => write_whole(alloc, tree, &ran.part, horizon, writer),
-        Ended::Memory => write_cut(alloc, tree, &ran.part, ran.clock, writer),
+        Ended::Whole => write_whole(alloc, tree, &ran.trace, horizon, writer),
+        Ended::Stalled => write_cut(alloc, tree, ran, Why::Rounds, writer),
+        Ended::Memory => write_cut(alloc, tree, ran, Why::Memory, writer),
     }
 }
 
@@ -69,34 +69,25 @@ fn write_whole<W: Write>(
     Ok(ending_of(trace))
 }
 
-// Writes the text of a trace that is cut at the clock of its one process, which memory was refused.
+// Writes the text of a trace that is cut at the clocks of its processes, for this reason.
 fn write_cut<W: Write>(
     alloc: Global,
     tree: &Tree,
-    part: &Part,
-    clock: Time,
+    ran: &Ran,
+    why: Why,
     writer: &mut W,
 ) -> Result<JobEnded, JobError>
-    requires by_time { IsByTime part.now }
-    ensures ending { IfOk result (λ ended. ended ≡ Partial why.Memory) }
+    requires by_time { IsByTime ran.now.trace }
+    ensures ending { IfOk result (λ ended. ended ≡ Partial why) }
     ensures text { OnOk result (Appends (W.contents writer.old) (W.contents writer.new)
-        (part_text (tree_names tree.now) (tree_ports tree.now) part.now
-        ++ partial_ending (clock ∷ []))) }
+        (part_text (tree_names tree.now) (tree_ports tree.now) ran.now.trace
+        ++ partial_ending ran.now.clocks.items)) }
     ensures error { IfErr result (λ e. IsUnwritten e
-        (part_text (tree_names tree.now) (tree_ports tree.now) part.now
-        ++ partial_ending (clock ∷ []))
+        (part_text (tree_names tree.now) (tree_ports tree.now) ran.now.trace
+        ++ partial_ending ran.now.clocks.items)
         (W.contents writer.old) (W.contents writer.new)) }
 {
-    let clocks = only(alloc, clock)?;
-    write_trace(alloc, part, tree, &Ending::Partial(clocks), writer)?;
-    Ok(JobEnded::Partial(Why::Memory))
-}
-
-// The list of one clock.
-fn only(alloc: Global, clock: Time) -> Result<Vec<Time>, AllocError>
-    ensures { IfOk result (λ clocks. clocks.items ≡ clock ∷ []) }
-{
-    let mut clocks = Vec::new(alloc);
-    clocks.push(clock)?;
-    Ok(clocks)
+    let clocks = Vec::from_slice(alloc, ran.clocks.as_slice())?;
+    write_trace(alloc, &ran.trace, tree, &Ending::Partial(clocks), writer)?;
+    Ok(JobEnded::Partial(why))
 }

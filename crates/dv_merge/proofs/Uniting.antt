@@ -1,5 +1,5 @@
 -- Lines, united in any grouping.
-use Rattle.std.proofs.Common.{◌≡◌, ℕ, zero, suc, ◌+◌, ◌<◌, ◌≤◌, List, [], ◌∷◌, ◌++◌, length, take, drop, slice_get, slice_index_or, Option, None, Some, refl, sym, ap, ap₂, ◌∙◌, subst, arith, nat_lt, unwrap_or, ⊎_elim}
+use Rattle.std.proofs.Common.{◌≡◌, ℕ, zero, suc, ◌+◌, ◌<◌, ◌≤◌, List, [], ◌∷◌, ◌++◌, length, take, drop, slice_index_or, Option, None, Some, refl, sym, ap, ap₂, ◌∙◌, subst, arith, nat_lt, ⊎_elim}
 use Rattle.std.specs.List.{All}
 use Rattle.std.specs.Option.{option_to_list}
 use Rattle.std.specs.Ordering.{match_ordering}
@@ -7,8 +7,7 @@ use Rattle.std.specs.declared.cmp.Ordering.{Ordering}
 use Rattle.std.specs.declared.cmp.Ordering.TheVariants.{Less, Equal, Greater}
 use Rattle.std.proofs.lemmas.Bool.{cases_Bool, ltb-true, ltb-false}
 use Rattle.std.proofs.lemmas.Bool.Decides.{nat_tests}
-use Rattle.std.proofs.lemmas.List.{get_or-drop, get_or-take}
-use Rattle.std.proofs.lemmas.Option.{get_or_from_slice_get, unwrap_or-slice_get}
+use Rattle.std.proofs.lemmas.List.{get_or_past, get_or-drop, get_or-take, length-drop, length-take}
 use Rattle.std.proofs.lemmas.List.Elements.{All-cons, All-head, All-nil, All-tail, All-weaker}
 use Rattle.dv_time.specs.declared.time.Time.{Time}
 use Rattle.dv_bag.specs.Bag.{Counts, IsBag, union}
@@ -16,9 +15,7 @@ use Rattle.dv_bag.specs.declared.entry.Outer.{Outer}
 use Rattle.dv_bag.proofs.Monoid.{union_assoc, union_bag, union_comm}
 use Rattle.dv_devs.specs.Outside.{line_cmp, union_of_lines, with_line}
 use Rattle.dv_conservative.specs.True.{united}
-use Rattle.dv_bag.specs.Part.{PartOf, nothing}
-use Rattle.dv_merge.specs.Lines.{AllLines, AreLines, lines_at, merged_lines, with_values}
-use Rattle.dv_merge.proofs.Merging.{get_take, get_drop}
+use Rattle.dv_merge.specs.Lines.{AreLines, list_at, merged_lines, with_values}
 
 -- ---- the order of lines
 
@@ -310,7 +307,7 @@ united_bagged : (f : ℕ → List Outer) (n : ℕ) → ((p : ℕ) → All Bagged
 united_bagged f zero h = All-nil Bagged
 united_bagged f (suc n) h = bagged_union (united f n) (f n) (united_bagged f n h) (h n)
 
-pub united_lines : (f : ℕ → List Outer) (n : ℕ) → ((p : ℕ) → AreLines (f p)) → AreLines (united f n)
+united_lines : (f : ℕ → List Outer) (n : ℕ) → ((p : ℕ) → AreLines (f p)) → AreLines (united f n)
 united_lines f zero h = tt
 united_lines f (suc n) h = lines_union (united f n) (f n) (united_lines f n h) (bagged (f n) (h n))
 
@@ -364,31 +361,34 @@ first_sooner x y xs (y0 ∷ ys) rest (Some z) l here there t e =
     ∙ ap (λ (r : Ordering). match_ordering r (y0 ∷ merged_lines (z ∷ rest) ys) (with_values z y0 ∷ merged_lines rest ys) (z ∷ merged_lines rest (y0 ∷ ys)))
     (ap₂ line_cmp (sym there) same ∙ t)
 
--- ---- parts in turn
+-- ---- lists of lines
 
-pub lines_all : (parts : List PartOf) → AllLines parts → (p : ℕ) → AreLines (lines_at parts p)
-lines_all parts h p = subst (λ (x : PartOf). AreLines x.outer) (unwrap_or-slice_get parts p nothing) (by_get (slice_get parts p) (h p))
-  where
-    by_get : (o : Option PartOf) → ((x : PartOf) → o ≡ Some x → AreLines x.outer) → AreLines (unwrap_or o nothing).outer
-    by_get None k = tt
-    by_get (Some x) k = k x refl
+lines_all : (lists : List (List Outer)) → All AreLines lists → (p : ℕ) → AreLines (list_at lists p)
+lines_all lists h p =
+    ⊎_elim (λ t. h p [] (ltb-true p (length lists) t))
+    (λ f. subst AreLines (sym (get_or_past lists p [] (ltb-false p (length lists) f))) tt)
+    (cases_Bool (nat_lt p (length lists)))
 
-pub lines_front : (parts : List PartOf) (m : ℕ) → AllLines parts → AllLines (take m parts)
-lines_front parts m h p x e = h p x (get_take m parts p x e)
+pub are_united : (lists : List (List Outer)) → All AreLines lists → AreLines (united (list_at lists) (length lists))
+are_united lists h = united_lines (list_at lists) (length lists) (lines_all lists h)
 
-pub lines_back : (parts : List PartOf) (m : ℕ) → AllLines parts → AllLines (drop m parts)
-lines_back parts m h p x e = h (m + p) x (get_drop m parts p x e)
+pub one_list : (lists : List (List Outer)) (os : List Outer) → All AreLines lists → lists ≡ os ∷ []
+    → os ≡ united (list_at lists) (length lists)
+one_list lists os h only =
+    subst (λ (l : List (List Outer)). All AreLines l → os ≡ united (list_at l) (length l)) (sym only)
+    (λ k. sym (united_one (list_at (os ∷ [])) (lines_all (os ∷ []) k 0))) h
 
-pub one_part : (parts : List PartOf) (x : PartOf) (n : ℕ) → AllLines parts → slice_get parts 0 ≡ Some x → n ≡ 1
-    → x.outer ≡ united (lines_at parts) n
-one_part parts x n h e one =
-    let same : (lines_at parts 0) ≡ x.outer = ap (λ (y : PartOf). y.outer) (get_or_from_slice_get parts 0 x nothing e) in
-    sym same ∙ (sym (united_one (lines_at parts) (lines_all parts h 0)) ∙ ap (united (lines_at parts)) (sym one))
-
-pub two_halves : (parts : List PartOf) (m n : ℕ) → AllLines parts
-    → union_of_lines (united (lines_at (take m parts)) m) (united (lines_at (drop m parts)) n) ≡ united (lines_at parts) (m + n)
-two_halves parts m n h =
+pub two_halves : (lists : List (List Outer)) (m : ℕ) → m ≤ length lists → All AreLines lists
+    → union_of_lines
+    (united (list_at (take m lists)) (length (take m lists)))
+    (united (list_at (drop m lists)) (length (drop m lists)))
+    ≡ united (list_at lists) (length lists)
+two_halves lists m le h =
+    let n : ℕ = length (drop m lists) in
+    let front : length (take m lists) ≡ m = omega (arith, length-take m lists) in
+    let all : m + n ≡ length lists = omega (arith, length-drop m lists) in
     ap₂ union_of_lines
-    (united_agree (lines_at (take m parts)) (lines_at parts) m (λ p l. ap (λ (x : PartOf). x.outer) (get_or-take m parts p nothing l)))
-    (united_agree (lines_at (drop m parts)) (λ p. lines_at parts (m + p)) n (λ p l. ap (λ (x : PartOf). x.outer) (get_or-drop m parts p nothing)))
-    ∙ united_more (lines_at parts) m n (λ p. bagged (lines_at parts p) (lines_all parts h p))
+    (ap (united (list_at (take m lists))) front
+    ∙ united_agree (list_at (take m lists)) (list_at lists) m (λ p l. get_or-take m lists p [] l))
+    (united_agree (list_at (drop m lists)) (λ p. list_at lists (m + p)) n (λ p l. get_or-drop m lists p []))
+    ∙ (united_more (list_at lists) m n (λ p. bagged (list_at lists p) (lines_all lists h p)) ∙ ap (united (list_at lists)) all)

@@ -1,12 +1,14 @@
 -- Parts of a run's trace.
-use Rattle.std.proofs.Common.{◌≡◌, ℕ, zero, suc, ◌+◌, ◌<◌, Bool, true, false, ◌&&◌, nat_eq, nat_le, nat_lt, cond, List, [], ◌∷◌, ◌++◌, length, map, slice_get, slice_index_or, Some, refl, sym, ap, ap₂, ◌∙◌, subst, arith}
+use Rattle.std.proofs.Common.{◌≡◌, ℕ, zero, suc, ◌+◌, ◌<◌, Bool, true, false, ◌&&◌, nat_eq, nat_le, nat_lt, cond, List, [], ◌∷◌, ◌++◌, length, map, slice_get, slice_index_or, Option, None, Some, option_map, refl, sym, ap, ap₂, ◌∙◌, subst, arith}
 use Rattle.std.specs.List.{All}
 use Rattle.std.specs.Ordering.{is_lt, nat_cmp, ordering_then}
 use Rattle.std.specs.declared.cmp.Ordering.{Ordering}
 use Rattle.std.specs.declared.cmp.Ordering.TheVariants.{Less, Equal}
+use Rattle.std.proofs.Math.ListN.{get_or-map}
 use Rattle.std.proofs.lemmas.Bool.Decides.{nat_tests}
-use Rattle.std.proofs.lemmas.List.Elements.{All-append, All-cons, All-head, All-nil, All-tail, All-weaker}
-use Rattle.std.proofs.lemmas.Option.{slice_get-get_or, slice_get_within}
+use Rattle.std.proofs.lemmas.List.{length-map}
+use Rattle.std.proofs.lemmas.List.Elements.{All-append, All-cons, All-head, All-map, All-nil, All-tail, All-weaker}
+use Rattle.std.proofs.lemmas.Option.{slice_get-get_or, slice_get-map, slice_get_within}
 use Rattle.dv_time.specs.Time.{time_cmp, time_of}
 use Rattle.dv_time.specs.declared.time.Time.{Time}
 use Rattle.dv_bag.specs.Bag.{Counts, IsBag, size}
@@ -22,17 +24,37 @@ use Rattle.dv_devs.proofs.Parts.{part_entries}
 use Rattle.dv_conservative.specs.True.{united}
 use Rattle.dv_conservative.proofs.Wholes.{all_united}
 use Rattle.dv_merge.specs.Entries.{AreInOrder, AreOwned, of_process, of_processes, precedes}
-use Rattle.dv_merge.specs.Lines.{AreLines, lines_at}
+use Rattle.dv_merge.specs.Lines.{AllLines, AreLines, list_at, lines_at}
 use Rattle.dv_merge.specs.Whole.{AreCommitted, ArePartsOf}
 use Rattle.dv_merge.proofs.Uniting.{united_agree}
 use Rattle.dv_devs.proofs.Cuts.{lines_at as lines_of_instant}
 
 -- ---- parts of a whole
 
-pub are_owned : (owner : ℕ → ℕ) (whole : PartOf) (parts : List PartOf) → ArePartsOf owner whole parts → AreOwned owner 0 whole.entries parts
-are_owned owner whole parts h p x e =
-    let same : p ≡ 0 + p = omega arith in
-    h.entries p x e ∙ ap (λ (n : ℕ). of_process owner n whole.entries) same
+-- the lists of parts
+abbrev pub entry_lists : List PartOf → List (List Entry)
+entry_lists parts = map (λ (x : PartOf). x.entries) parts
+
+abbrev pub line_lists : List PartOf → List (List Outer)
+line_lists parts = map (λ (x : PartOf). x.outer) parts
+
+pub are_owned : (owner : ℕ → ℕ) (whole : PartOf) (parts : List PartOf) → ArePartsOf owner whole parts
+    → AreOwned owner 0 whole.entries (entry_lists parts)
+are_owned owner whole parts h p es e =
+    by_get (slice_get parts p) refl (sym (slice_get-map (λ (x : PartOf). x.entries) parts p) ∙ e)
+  where
+    by_get : (o : Option PartOf) → slice_get parts p ≡ o → option_map (λ (x : PartOf). x.entries) o ≡ Some es
+        → es ≡ of_process owner (0 + p) whole.entries
+    by_get None at is = absurd (cc)
+    by_get (Some x) at is =
+        let same : p ≡ 0 + p = omega arith in
+        let entries : es ≡ x.entries = cc in
+        entries ∙ (h.entries p x at ∙ ap (λ (n : ℕ). of_process owner n whole.entries) same)
+
+pub are_lines : (parts : List PartOf) → AllLines parts → All AreLines (line_lists parts)
+are_lines parts h =
+    All-map AreLines (λ (x : PartOf). x.outer) parts
+    (λ k d lt. h k (slice_index_or parts k d) (slice_get-get_or parts k d lt))
 
 all_processes : (owner : ℕ → ℕ) (n : ℕ) (es : List Entry) → All (λ (e : Entry). owner e.component < n) es → of_processes owner 0 (0 + n) es ≡ es
 all_processes owner n es h =
@@ -43,12 +65,23 @@ all_processes owner n es h =
     within : (k : ℕ) → k < n → nat_le 0 k && nat_lt k (0 + n) ≡ true
     within k lt = grind (arith, nat_tests)
 
-pub whole_again : (owner : ℕ → ℕ) (whole : PartOf) (parts : List PartOf) (es : List Entry) (os : List Outer) → ArePartsOf owner whole parts
-    → es ≡ of_processes owner 0 (0 + length parts) whole.entries → os ≡ united (lines_at parts) (length parts)
+united_lists : (parts : List PartOf)
+    → united (list_at (line_lists parts)) (length (line_lists parts)) ≡ united (lines_at parts) (length parts)
+united_lists parts =
+    ap (united (list_at (line_lists parts))) (length-map parts (λ (x : PartOf). x.outer))
+    ∙ united_agree (list_at (line_lists parts)) (lines_at parts) (length parts)
+    (λ p lt. get_or-map (λ (x : PartOf). x.outer) parts p nothing)
+
+pub whole_again : (owner : ℕ → ℕ) (whole : PartOf) (parts : List PartOf) (es : List Entry) (os : List Outer)
+    → ArePartsOf owner whole parts
+    → es ≡ of_processes owner 0 (0 + length (entry_lists parts)) whole.entries
+    → os ≡ united (list_at (line_lists parts)) (length (line_lists parts))
     → record { entries = es; outer = os } ≡ whole
 whole_again owner whole parts es os h e o =
     ap₂ (λ (es : List Entry) (os : List Outer). record { entries = es; outer = os })
-    (e ∙ all_processes owner (length parts) whole.entries h.within) (o ∙ h.outer)
+    (e ∙ (ap (λ (n : ℕ). of_processes owner 0 (0 + n) whole.entries) (length-map parts (λ (x : PartOf). x.entries))
+    ∙ all_processes owner (length parts) whole.entries h.within))
+    (o ∙ (united_lists parts ∙ h.outer))
 
 -- no parts are of nothing
 pub no_parts : (parts : List PartOf) → length parts ≡ 0 → ArePartsOf (λ k. 0) nothing parts

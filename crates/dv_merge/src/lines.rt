@@ -1,12 +1,13 @@
 //! Lines of what left the model, by time and port.
 
-ghost use Rattle.std.specs.Prelude.{◌≡◌, ◌+◌, ◌<◌, ◌≤◌, ◌++◌, [], length, None, IfOk};
+ghost use Rattle.std.specs.Prelude.{◌≡◌, ◌+◌, ◌<◌, ◌≤◌, ◌++◌, [], length, map, None, IfOk};
+ghost use Rattle.std.specs.List.{All};
 ghost use Rattle.std.specs.Option.{option_to_list};
 ghost use Rattle.dv_devs.specs.Outside.{line_cmp, union_of_lines};
 ghost use Rattle.dv_conservative.specs.True.{united};
-ghost use Rattle.dv_merge.specs.Lines.{AllLines, AreBoth, AreLines, lines_at, merged_lines};
+ghost use Rattle.dv_merge.specs.Lines.{AreBoth, AreLines, list_at, merged_lines};
 
-use dv_bag::{Outer, Part};
+use dv_bag::Outer;
 use std::alloc::{AllocError, Global};
 use std::cmp::Ordering;
 use std::collections::VecDeque;
@@ -68,43 +69,34 @@ fn next_line(
 fn unite_two(alloc: Global, first: Vec<Outer>, second: Vec<Outer>) -> Result<Vec<Outer>, AllocError>
     ensures { IfOk result (λ all. AreLines second.items → all.items ≡ union_of_lines first.items second.items) }
 {
+    let count = first.len() + second.len();
     let mut first = VecDeque::from_vec(first);
     let mut second = VecDeque::from_vec(second);
-    let mut all = Vec::new(alloc);
+    let mut all = Vec::with_capacity(alloc, count)?;
     while let Some(line) = next_line(&mut first, &mut second)? {
-        all.push(line)?;
+        all.push_reserved(line);
     }
     Ok(all)
 }
 
-// A copy of the lines of a part.
-fn lines_of(alloc: Global, part: &Part) -> Result<Vec<Outer>, AllocError>
-    ensures { IfOk result (λ all. all.items ≡ part.now.outer) }
-{
-    let mut all = Vec::new(alloc);
-    for line in part.outer().as_slice() {
-        all.push(line.clone()?)?;
-    }
-    Ok(all)
-}
-
-/// The lines of parts, united by time and port.
+/// The lines of lists, united by time and port. They are moved, and one list alone is handed back as it is.
 ///
 /// # Errors
 ///
-/// No memory for a copy of them.
-pub fn unite_lines(alloc: Global, parts: &[Part]) -> Result<Vec<Outer>, AllocError>
-    ensures { IfOk result (λ all. AllLines parts.now
-        → all.items ≡ united (lines_at parts.now) (length parts.now)) }
+/// No memory for lists united.
+pub fn unite_lines(alloc: Global, mut lists: Vec<Vec<Outer>>) -> Result<Vec<Outer>, AllocError>
+    ensures { let lines = map (λ list. list.items) lists.items in IfOk result (λ all.
+        All AreLines lines → all.items ≡ united (list_at lines) (length lines)) }
 {
-    if parts.is_empty() {
-        return Ok(Vec::new(alloc));
+    if lists.len() < 2 {
+        return match lists.pop() {
+            Some(list) => Ok(list),
+            None => Ok(Vec::new(alloc)),
+        };
     }
-    if parts.len() == 1 {
-        return Ok(lines_of(alloc, &parts[0])?);
-    }
-    let (front, back) = parts.split_at(parts.len() / 2);
-    let first = unite_lines(alloc, front)?;
+    let half = lists.len() / 2;
+    let back = lists.split_off(half)?;
+    let first = unite_lines(alloc, lists)?;
     let second = unite_lines(alloc, back)?;
     Ok(unite_two(alloc, first, second)?)
 }

@@ -8,8 +8,6 @@ pub mod Outside
 pub mod Holds
 -- What is made is a share.
 pub mod Shares
--- Shares that are alike.
-pub mod Alike
 -- How many links between processes there are.
 pub mod Few
 -- The inputs that are kept.

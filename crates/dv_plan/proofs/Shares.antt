@@ -27,7 +27,7 @@ use Rattle.dv_partition.specs.Groups.{Grouping, owner_of}
 use Rattle.dv_cut.specs.Channels.{away_of}
 use Rattle.dv_cut.specs.declared.channels.Away.{Away}
 use Rattle.dv_cut.specs.Cuts.{CutOf, between, entrances_to, exits_from, owned_by}
-use Rattle.dv_plan.specs.Alike.{with_outside}
+use Rattle.dv_conservative.specs.Alike.{with_outside}
 use Rattle.dv_plan.specs.Plans.{IsShareOf}
 use Rattle.dv_plan.specs.Steps.{AreMade, IsCommonOf, IsMadeOf, comes_here, is_led, is_port, leads, led_inputs, members_of, way_of}
 use Rattle.dv_plan.specs.Wholes.{AreMembers, IsMember, IsWhole, job_by}
@@ -72,11 +72,11 @@ share_with limit horizon f outside incoming outgoing response = record {
   response = response;
 }
 
-module _ {S : Type 0} (behaviour : S → Behaviour) (fits : S → State → Type 0) (w : Whole S) (g : Grouping) (c : Common)
-    (h : IsWhole fits w) (common : IsCommonOf w g c) (p : ℕ) (there : p < g.processes) (s : Share S)
+module _ {S : Type 0} (behaviour : S → Behaviour) (fits : S → State → Type 0) (w : Whole S) (inputs : List Input) (g : Grouping) (c : Common)
+    (h : IsWhole fits w) (common : IsCommonOf w inputs g c) (p : ℕ) (there : p < g.processes) (s : Share S)
     (made : IsMadeOf c p (members_of g p w.members.items) w.models.items s) where
   abbrev job : Job
-  job = job_by behaviour w g
+  job = job_by behaviour w inputs g
 
   abbrev own : List Member
   own = members_of g p w.members.items
@@ -129,7 +129,7 @@ module _ {S : Type 0} (behaviour : S → Behaviour) (fits : S → State → Type
       ∙ ap (λ (rs : List (Option ℕ)). get_or rs p None) common.responses
       ∙ get_or-map-range_with_len (λ q. least_response (owner_of g) q 0 (map ticks_of w.responses.items)) 0 g.processes p p None there (zero-add p)
 
-  inputs_same : s.inputs ≡ led_inputs w.limit w.ports own target.entrances w.inputs
+  inputs_same : s.inputs ≡ led_inputs w.limit w.ports own target.entrances inputs
   inputs_same =
       made.inputs
       ∙ ap (λ (n : ℕ). led_inputs n c.ports own (entrances_to c.cut.now p) c.inputs.now) common.limit
@@ -167,11 +167,11 @@ module _ {S : Type 0} (behaviour : S → Behaviour) (fits : S → State → Type
     horizon = subst (λ (n : ℕ). n ≤ GREATEST_TICK) (sym (made.horizon ∙ common.horizon)) h.horizon;
     hold = least_hold (owner_of g) p w.responses.items s.response h.holds response_same;
     led = subst (λ (is : List Input). All (IsLed s) is) (sym inputs_same) (λ k d lt.
-        led_one (get_or (led_inputs w.limit w.ports own target.entrances w.inputs) k d)
-        (filter_passes (comes_here w.limit w.ports own target.entrances) w.inputs k d lt));
+        led_one (get_or (led_inputs w.limit w.ports own target.entrances inputs) k d)
+        (filter_passes (comes_here w.limit w.ports own target.entrances) inputs k d lt));
     of_run = subst (λ (is : List Input). AreOfRun s.tables.limit is) (sym inputs_same) (λ k d lt.
-        run_one (get_or (led_inputs w.limit w.ports own target.entrances w.inputs) k d)
-        (filter_passes (comes_here w.limit w.ports own target.entrances) w.inputs k d lt));
+        run_one (get_or (led_inputs w.limit w.ports own target.entrances inputs) k d)
+        (filter_passes (comes_here w.limit w.ports own target.entrances) inputs k d lt));
   }
 
   same : share_by behaviour s ≡ with_outside (share_by behaviour s).outside (share_of job p)
@@ -190,7 +190,7 @@ module _ {S : Type 0} (behaviour : S → Behaviour) (fits : S → State → Type
       ∙ ap (outgoing_from job p 0) common.links)
       ∙ ap (λ (r : Option ℕ). share_with w.limit w.horizon target out t.incoming t.outgoing r) response_same
 
-  outside_same : (n : ℕ) → inputs_at s.tables.limit s.ports s.inputs n ≡ inputs_at w.limit w.ports (led_inputs w.limit w.ports own target.entrances w.inputs) n
+  outside_same : (n : ℕ) → inputs_at s.tables.limit s.ports s.inputs n ≡ inputs_at w.limit w.ports (led_inputs w.limit w.ports own target.entrances inputs) n
   outside_same n =
       ap (λ (l : ℕ). inputs_at l s.ports s.inputs n) limit
       ∙ ap (λ (q : ℕ). inputs_at w.limit q s.inputs n) ports
@@ -202,7 +202,7 @@ module _ {S : Type 0} (behaviour : S → Behaviour) (fits : S → State → Type
       subst (λ (bags : List Counts). ArriveAlike (network target) (bags, ds) (job.outside n, ds)) (sym (outside_same n))
       (arrive_led target own
       (λ k q. same_port behaviour w.limit w.models.items own k q ∙ ap (λ (ms : List Meant). is_port_of ms k q) own_members)
-      w.limit w.ports w.inputs n ds)
+      w.limit w.ports inputs n ds)
 
   pub made_is_share : IsShareOf behaviour fits job p s
   made_is_share = record {
@@ -215,16 +215,16 @@ module _ {S : Type 0} (behaviour : S → Behaviour) (fits : S → State → Type
   }
 
 -- so is each of several
-pub shares_of_plan : {S : Type 0} (behaviour : S → Behaviour) (fits : S → State → Type 0) (w : Whole S) (g : Grouping) {c : Common}
-    (lists : List (List Member)) (code : List S) (shares : List (Share S)) → AreMade c lists code shares → IsWhole fits w → IsCommonOf w g c
+pub shares_of_plan : {S : Type 0} (behaviour : S → Behaviour) (fits : S → State → Type 0) (w : Whole S) (inputs : List Input) (g : Grouping) {c : Common}
+    (lists : List (List Member)) (code : List S) (shares : List (Share S)) → AreMade c lists code shares → IsWhole fits w → IsCommonOf w inputs g c
     → lists ≡ map (λ p. members_of g p w.members.items) (range_with_len 0 g.processes) → code ≡ w.models.items → length shares ≡ g.processes
-    → (p : ℕ) (s : Share S) → slice_get shares p ≡ Some s → IsShareOf behaviour fits (job_by behaviour w g) p s
-shares_of_plan {S} behaviour fits w g {c} lists code shares all h common listed coded long p s e =
+    → (p : ℕ) (s : Share S) → slice_get shares p ≡ Some s → IsShareOf behaviour fits (job_by behaviour w inputs g) p s
+shares_of_plan {S} behaviour fits w inputs g {c} lists code shares all h common listed coded long p s e =
     let within = get_within shares s p e in
     let there : p < g.processes = omega (arith, within, long) in
     let own : get_or lists p [] ≡ members_of g p w.members.items =
     ap (λ ls. get_or ls p []) listed ∙ get_or-map-range_with_len (λ q. members_of g q w.members.items) 0 g.processes p p [] there (zero-add p) in
-    made_is_share behaviour fits w g c h common p there s
+    made_is_share behaviour fits w inputs g c h common p there s
     (subst (λ (ms : List Member). IsMadeOf c p ms w.models.items s) own
     (subst (λ (xs : List S). IsMadeOf c p (get_or lists p []) xs s) coded (all p s e)))
 

@@ -3,10 +3,10 @@ use Rattle.std.specs.Prelude.{◌≡◌, ℕ, ◌<◌, ◌^◌, length, map, sli
 use Rattle.dv_bag.specs.declared.state.State.{State}
 use Rattle.dv_devs.specs.Behaviour.{Behaviour}
 use Rattle.dv_conservative.specs.World.{Job, share_of}
-use Rattle.dv_cut.specs.Channels.{channel_of}
+use Rattle.dv_proc.specs.Channels.{meant_channel}
 use Rattle.dv_local.specs.Shares.{IsShare, share_by}
 use Rattle.dv_local.specs.declared.share.Share.{Share}
-use Rattle.dv_plan.specs.Alike.{AreAlike}
+use Rattle.dv_conservative.specs.Alike.{AreAlike}
 use Rattle.dv_plan.specs.declared.plan.Plan.{Plan}
 
 -- the share of a process: it is one that can be run, and runs as the process's share of the job
@@ -16,6 +16,6 @@ pub record IsShareOf {S : Type 0} (behaviour : S → Behaviour) (fits : S → St
   pub alike : AreAlike (share_by behaviour s) (share_of job p)
 
 pub record IsPlanOf {S : Type 0} (behaviour : S → Behaviour) (fits : S → State → Type 0) (job : Job) (plan : Plan S) : Type 0 where
-  pub links : map channel_of plan.links.items ≡ job.channels
+  pub links : map meant_channel plan.links.items ≡ job.channels
   pub count : length plan.shares.items ≡ job.processes
   pub shares : (p : ℕ) (s : Share S) → slice_get plan.shares.items p ≡ Some s → IsShareOf behaviour fits job p s

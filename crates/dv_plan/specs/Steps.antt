@@ -14,7 +14,7 @@ use Rattle.dv_proc.specs.Foreseeing.{ticks_of}
 use Rattle.dv_local.specs.Shares.{outgoing_of}
 use Rattle.dv_local.specs.declared.share.Share.{Share}
 use Rattle.dv_partition.specs.Groups.{Grouping, owner_of}
-use Rattle.dv_cut.specs.Channels.{channel_of}
+use Rattle.dv_proc.specs.Channels.{meant_channel}
 use Rattle.dv_cut.specs.Cuts.{CutOf, between, entrances_to, exits_from, owned_by}
 use Rattle.dv_cut.specs.declared.channels.Away.{Away}
 use Rattle.dv_plan.specs.declared.share.Common.{Common}
@@ -60,9 +60,9 @@ pub record IsMadeOf {S : Type 0} (c : Common) (p : ℕ) (ms : List Member) (code
   pub outputs : s.tables.outputs ≡ c.outputs
   pub ports : s.ports ≡ c.ports
   pub response : (d : Option ℕ) → ticks_of s.response ≡ slice_index_or (map ticks_of c.responses.now) p d
-  pub sources : s.sources.items ≡ incoming_from p 0 (map channel_of c.links.now)
+  pub sources : s.sources.items ≡ incoming_from p 0 (map meant_channel c.links.now)
   pub ways : (job : Job) → job.owner ≡ owner_of c.cut.now.grouping → job.flat.links ≡ c.cut.now.direct
-      → map outgoing_of s.ways.items ≡ outgoing_from job p 0 (map channel_of c.links.now)
+      → map outgoing_of s.ways.items ≡ outgoing_from job p 0 (map meant_channel c.links.now)
   pub inputs : s.inputs ≡ led_inputs c.limit c.ports ms (entrances_to c.cut.now p) c.inputs.now
 
 -- so is each of several shares, of the components of its process
@@ -85,14 +85,14 @@ cut_of w g = record {
   exits = links_of w.links.exits.items;
 }
 
--- What all shares have in common, of a whole in groups.
-pub record IsCommonOf {S : Type 0} (w : Whole S) (g : Grouping) (c : Common) : Type 0 where
+-- What all shares have in common, of a whole in groups and of what comes to it.
+pub record IsCommonOf {S : Type 0} (w : Whole S) (played : List Input) (g : Grouping) (c : Common) : Type 0 where
   pub limit : c.limit ≡ w.limit
   pub horizon : c.horizon ≡ w.horizon
   pub ports : c.ports ≡ w.ports
   pub outputs : c.outputs ≡ w.outputs
   pub cut : c.cut.now ≡ cut_of w g
-  pub links : map channel_of c.links.now ≡ all_channels (owner_of g) (links_of w.links.direct.items) g.processes
+  pub links : map meant_channel c.links.now ≡ all_channels (owner_of g) (links_of w.links.direct.items) g.processes
   pub responses : map ticks_of c.responses.now
       ≡ map (λ p. least_response (owner_of g) p 0 (map ticks_of w.responses.items)) (range_with_len 0 g.processes)
-  pub inputs : c.inputs.now ≡ w.inputs
+  pub inputs : c.inputs.now ≡ played

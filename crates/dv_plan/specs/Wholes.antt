@@ -3,6 +3,7 @@ use Rattle.std.specs.Prelude.{ℕ, ◌<◌, ◌≤◌, ◌^◌, List, length, ma
 use Rattle.std.specs.List.{All, AllByRecursion}
 use Rattle.dv_time.specs.declared.TheConstants.{GREATEST_LIMIT, GREATEST_TICK}
 use Rattle.dv_bag.specs.Inputs.{inputs_at}
+use Rattle.dv_bag.specs.declared.inputs.Input.{Input}
 use Rattle.dv_bag.specs.declared.response.Response.{Response}
 use Rattle.dv_bag.specs.declared.state.State.{State}
 use Rattle.dv_devs.specs.Behaviour.{Behaviour}
@@ -31,13 +32,13 @@ tables_of w = record {
   outputs = w.outputs;
 }
 
--- the job that it is, in these processes
-abbrev pub job_by : {S : Type 0} → (S → Behaviour) → Whole S → Grouping → Job
-job_by behaviour w g = record {
+-- the job that it is with what comes from outside, in these processes
+abbrev pub job_by : {S : Type 0} → (S → Behaviour) → Whole S → List Input → Grouping → Job
+job_by behaviour w inputs g = record {
   limit = w.limit;
   horizon = w.horizon;
   flat = flat_by behaviour (tables_of w);
-  outside = inputs_at w.limit w.ports w.inputs;
+  outside = inputs_at w.limit w.ports inputs;
   processes = g.processes;
   owner = owner_of g;
   channels = all_channels (owner_of g) (links_of w.links.direct.items) g.processes;

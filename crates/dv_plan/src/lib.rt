@@ -2,8 +2,6 @@
 //! processes.
 #![tactic(auto)]
 
-/// Laws of plans.
-pub mod laws;
 /// The inputs that lead to a process's components.
 mod led;
 /// A plan.

@@ -1,18 +1,21 @@
 //! A plan of a run in processes.
 
-ghost use Rattle.std.specs.Prelude.{◌≡◌, map, IfOk};
+ghost use Rattle.std.specs.Prelude.{◌≡◌, ◌≤◌, length, map, IfOk};
 ghost use Rattle.std.specs.List.{range_with_len};
 ghost use Rattle.dv_share.specs.declared.tables.Member.{Member as MemberOfCode};
 ghost use Rattle.dv_partition.specs.Groups.{owner_of};
+ghost use Rattle.dv_partition.specs.declared.TheConstants.{GREATEST_PROCESSES};
 ghost use Rattle.dv_plan.specs.Steps.{members_of};
 
 use crate::share::{Common, shares};
 use crate::whole::Whole;
+use dv_bag::Inputs;
+use dv_cut::Cut;
 use dv_cut::responses::responses;
-use dv_cut::{Channel, Cut};
 use dv_local::Share;
 use dv_partition::Groups;
 use dv_partition::parted::parted;
+use dv_proc::Channel;
 use dv_react::Atomic;
 use dv_share::Member;
 use std::alloc::{AllocError, Global};
@@ -37,10 +40,15 @@ impl<A: Atomic + Copy> Plan<A> {
     /// # Errors
     ///
     /// No memory for the lists of the shares.
-    pub fn new(alloc: Global, whole: Whole<A>, groups: Groups) -> Result<Plan<A>, AllocError>
+    pub fn new(
+        alloc: Global,
+        whole: Whole<A>,
+        inputs: &Inputs,
+        groups: &Groups,
+    ) -> Result<Plan<A>, AllocError>
         requires { IsWhole A.fits whole }
         ensures { IfOk result (λ plan.
-            IsPlanOf A.behaviour A.fits (job_by A.behaviour whole groups) plan) }
+            IsPlanOf A.behaviour A.fits (job_by A.behaviour whole inputs.now groups.now) plan) }
     {
         let Whole {
             limit,
@@ -51,10 +59,9 @@ impl<A: Atomic + Copy> Plan<A> {
             links,
             ports,
             outputs,
-            inputs,
         } = whole;
-        let least = responses(alloc, &groups, &each)?;
-        let members = members_of_each(alloc, &groups, members)?;
+        let least = responses(alloc, groups, &each)?;
+        let members = members_of_each(alloc, groups, members)?;
         let cut = Cut::new(alloc, groups, links)?;
         let channels = cut.channels(alloc)?;
         let common = Common {
@@ -65,7 +72,7 @@ impl<A: Atomic + Copy> Plan<A> {
             cut: &cut,
             links: &channels,
             responses: &least,
-            inputs: &inputs,
+            inputs,
         };
         let shares = shares(alloc, &common, members, &models)?;
         Ok(Plan {
@@ -81,11 +88,13 @@ fn members_of_each(
     groups: &Groups,
     members: Vec<Member>,
 ) -> Result<Vec<Vec<Member>>, AllocError>
-    ensures { IfOk result (λ lists. map (λ list. list.items) lists.items
+    ensures each { IfOk result (λ lists. map (λ list. list.items) lists.items
         ≡ map (λ p. members_of groups.now p members.items) (range_with_len 0 groups.now.processes)) }
+    ensures few { IfOk result (λ lists. length lists.items ≤ GREATEST_PROCESSES) }
 {
     let owners = owners(alloc, groups, &members)?;
-    parted(alloc, groups.processes(), &owners, members)
+    let lists = parted(alloc, groups.processes(), &owners, members)?;
+    Ok(lists)
 }
 
 // The process of each component.

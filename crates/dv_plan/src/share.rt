@@ -15,8 +15,9 @@ ghost use Rattle.dv_plan.specs.Steps.{AreMade, IsMadeOf, Rises, way_of};
 use crate::led::led_inputs;
 use dv_bag::{Inputs, Response};
 use dv_cut::channels::{incoming, outgoing};
-use dv_cut::{Away, Channel, Cut};
+use dv_cut::{Away, Cut};
 use dv_local::{Share, Way};
+use dv_proc::Channel;
 use dv_share::{Link, Member, Routes, Tables};
 use std::alloc::{AllocError, Global};
 
@@ -28,7 +29,7 @@ pub struct Common<'a> {
     pub horizon: u64,
     pub ports: u32,
     pub outputs: u32,
-    pub cut: &'a Cut,
+    pub cut: &'a Cut<'a>,
     pub links: &'a [Channel],
     pub responses: &'a [Response],
     pub inputs: &'a Inputs,
@@ -120,7 +121,7 @@ fn share_of_process<A: Drop>(
 }
 
 // The links that lead away from a process, with what each is made of.
-fn ways(alloc: Global, cut: &Cut, process: u32, away: &[Away]) -> Result<Vec<Way>, AllocError>
+fn ways(alloc: Global, cut: &Cut<'_>, process: u32, away: &[Away]) -> Result<Vec<Way>, AllocError>
     requires there { process < cut.now.grouping.processes }
     requires rises { Rises cut.now }
     ensures { IfOk result (λ found. map outgoing_of found.items ≡ map (way_of cut.now process) away.now) }
@@ -136,7 +137,7 @@ fn ways(alloc: Global, cut: &Cut, process: u32, away: &[Away]) -> Result<Vec<Way
 }
 
 // The links from the components of a process to those of another, if there is one.
-fn links_to(cut: &Cut, source: u32, target: u32) -> &[Link]
+fn links_to<'c>(cut: &'c Cut<'_>, source: u32, target: u32) -> &'c [Link]
     requires { source < cut.now.grouping.processes }
     ensures { links_of result.now ≡ between cut.now source target }
 {

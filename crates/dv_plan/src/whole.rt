@@ -1,10 +1,10 @@
-//! What is planned: a flat model with what comes to it.
+//! What is planned: a flat model.
 
-use dv_bag::{Inputs, Response};
+use dv_bag::Response;
 use dv_cut::Links;
 use dv_share::Member;
 
-/// A flat model with what comes to it from outside, to be run in processes.
+/// A flat model to be run in processes.
 #[derive(Drop)]
 pub struct Whole<A> {
     /// The greatest microstep of a tick.
@@ -23,6 +23,4 @@ pub struct Whole<A> {
     pub ports: u32,
     /// How many output ports the outside has.
     pub outputs: u32,
-    /// What comes in from outside.
-    pub inputs: Inputs,
 }

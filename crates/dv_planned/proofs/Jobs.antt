@@ -1,6 +1,7 @@
 -- What is planned of a text is the text's job.
-use Rattle.std.proofs.Common.{◌≡◌, length, map}
+use Rattle.std.proofs.Common.{◌≡◌, List, length, map}
 use Rattle.dv_bag.specs.Inputs.{inputs_at}
+use Rattle.dv_bag.specs.declared.inputs.Input.{Input}
 use Rattle.dv_coded.specs.Lent.{behaviour_of_lent}
 use Rattle.dv_coded.specs.declared.lent.Lent.{Lent}
 use Rattle.dv_conservative.specs.Channels.{all_channels}
@@ -27,9 +28,9 @@ pub record IsWholeOf (f : FileTree) (w : Whole Lent) : Type 0 where
   pub ports : w.ports ≡ length (root_inputs f)
   pub outputs : w.outputs ≡ length (root_outputs f)
 
-pub job_of_text : (f : FileTree) (w : Whole Lent) (g : Grouping) → IsWholeOf f w →
-    job_by behaviour_of_lent w g ≡ job_of w.limit w.horizon f w.inputs g.processes (owner_of g)
-job_of_text f w g h =
+pub job_of_text : (f : FileTree) (w : Whole Lent) (inputs : List Input) (g : Grouping) → IsWholeOf f w →
+    job_by behaviour_of_lent w inputs g ≡ job_of w.limit w.horizon f inputs g.processes (owner_of g)
+job_of_text f w inputs g h =
     λ i. record {
       limit = w.limit;
       horizon = w.horizon;
@@ -40,7 +41,7 @@ job_of_text f w g h =
         exits = h.exits i;
         outputs = h.outputs i;
       };
-      outside = inputs_at w.limit (h.ports i) w.inputs;
+      outside = inputs_at w.limit (h.ports i) inputs;
       processes = g.processes;
       owner = owner_of g;
       channels = all_channels (owner_of g) (h.direct i) g.processes;

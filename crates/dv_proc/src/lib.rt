@@ -5,6 +5,9 @@
 /// The clock of a process moves.
 pub mod advance;
 
+/// The ends of a link between processes.
+pub mod channel;
+
 /// The links that lead here.
 pub mod incoming;
 
@@ -26,6 +29,7 @@ pub mod promise;
 /// The frame of a run, and the tests of a packet that arrives.
 pub mod window;
 
+pub use channel::Channel;
 pub use incoming::{Incoming, Refused};
 pub use local::Local;
 pub use outgoing::Outgoing;

@@ -2,12 +2,14 @@
 use Rattle.std.proofs.Common.{◌≡◌, ◌<◌, ℕ, zero, suc, true, false, List, [], ◌∷◌, Some, nat_eq, refl, sym, subst, ◌∙◌, arith, lit<}
 use Rattle.std.specs.List.{slice_get}
 use Rattle.std.proofs.lemmas.Bool.Decides.{nat_tests}
+use Rattle.dv_conservative.specs.Alike.{AreAlike}
 use Rattle.dv_conservative.specs.Sound.{AreApart, IsJob}
 use Rattle.dv_conservative.specs.World.{Channel, share_of}
+use Rattle.dv_conservative.proofs.SameRuns.{equal_alike}
 use Rattle.dv_core.specs.Conservative.{IsConservative, state_by}
 use Rattle.dv_core.specs.ProcessState.{IsNew}
 use Rattle.dv_core.specs.Worlds.{AreMadeFor}
-use Rattle.dv_core.specs.declared.step.Channel.{Channel as ChannelOfCode}
+use Rattle.dv_proc.specs.declared.channel.Channel.{Channel as ChannelOfCode}
 use Rattle.dv_proc.specs.declared.process.Process.{Process}
 use Rattle.dv_ring.specs.Ring.{job_by, job_of, share_by, view_of}
 use Rattle.dv_ring.specs.declared.job.RingJob.{RingJob}
@@ -72,7 +74,7 @@ module _ (job : RingJob) (one other : Process Silent (Unit {0}))
     links = refl;
     count = refl;
     ends = ends;
-    shares = by_place (λ p x. ((state_by view_of x).share ≡ share_of (job_of job) p) × IsNew (state_by view_of x))
-        (one_share, one_new) (other_share, other_new);
+    shares = by_place (λ p x. AreAlike (state_by view_of x).share (share_of (job_of job) p) × IsNew (state_by view_of x))
+        (equal_alike _ _ one_share, one_new) (equal_alike _ _ other_share, other_new);
     few = (lit< tt, lit< tt);
   }

@@ -10,8 +10,8 @@ ghost use Rattle.dv_ring.specs.Ring.{job_of, share_by, view_of};
 use crate::job::RingJob;
 use crate::silent::Silent;
 use dv_bag::Part;
-use dv_core::{Channel, World};
-use dv_proc::{Frame, Process};
+use dv_core::World;
+use dv_proc::{Channel, Frame, Process};
 use std::alloc::{AllocError, Global};
 
 /// A process without components, which promises so many ticks ahead, with the numbers of its two links.

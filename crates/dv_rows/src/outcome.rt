@@ -7,8 +7,11 @@ use std::alloc::{AllocError, Global};
 /// The microstep limit where a command names none.
 const USUAL_LIMIT: u64 = 20;
 
-/// The packets that a link between processes is to hold.
-const LINK_CAPACITY: u32 = 16;
+/// How many packets may be on their way on a link between processes, where a command names no number.
+const LINK_CAPACITY: u64 = 16;
+
+/// The most processes that a partition has.
+const MOST_PROCESSES: u32 = 64;
 
 /// What a command reads.
 #[derive(Clone, Copy)]
@@ -27,6 +30,22 @@ pub fn outcome_of(alloc: Global, command: &str, texts: Texts<'_>) -> Result<Stri
         Some("run") => ran(alloc, command, texts),
         Some(_) | None => String::from_str(alloc, "no command"),
     }
+}
+
+/// What a run of one process prints where each component has a process of its own, and one packet may be on its way on a
+/// link; of any other command nothing.
+pub fn outcome_in_processes(
+    alloc: Global,
+    command: &str,
+    texts: Texts<'_>,
+) -> Result<Option<String>, AllocError> {
+    if !command.starts_with("run") || command.contains("--p") || command.contains("--rounds") {
+        return Ok(None);
+    }
+    let count = check_bytes(alloc, texts.model).unwrap_or(1);
+    let count = count.min(MOST_PROCESSES);
+    let parted = format!(in alloc; "{command} --processes {count} --capacity 1")?;
+    Ok(Some(outcome_of(alloc, parted.as_str(), texts)?))
 }
 
 fn checked(alloc: Global, model: &[u8]) -> Result<String, AllocError> {
@@ -62,7 +81,10 @@ fn ran(alloc: Global, command: &str, texts: Texts<'_>) -> Result<String, AllocEr
     let horizon = number_behind(command, "--horizon").unwrap_or(0);
     let limit = number_behind(command, "--microsteps").unwrap_or(USUAL_LIMIT);
     let limit = limit.min(1_000) as u32;
-    let Some(options) = Options::new(horizon, limit, None, None, LINK_CAPACITY) else {
+    let rounds = number_behind(command, "--rounds");
+    let capacity = number_behind(command, "--capacity").unwrap_or(LINK_CAPACITY);
+    let capacity = capacity.min(1_024) as u32;
+    let Some(options) = Options::new(horizon, limit, None, rounds, capacity) else {
         return String::from_str(alloc, "no options");
     };
     let mut printed = Vec::new(alloc);

@@ -3,7 +3,7 @@
 //! A line that begins with `= ` is a heading, and what follows it, up to the next one, its text. `data/README.md` says what
 //! the headings are.
 
-use crate::outcome::{Texts, outcome_of};
+use crate::outcome::{Texts, outcome_in_processes, outcome_of};
 use crate::text::Text;
 use std::alloc::{AllocError, Global};
 use std::rt::Files;
@@ -51,7 +51,8 @@ impl Telling {
         Ok(model)
     }
 
-    /// Compares what comes of the model by a command with what is wanted, and tells where it differs.
+    /// Compares what comes of the model by a command with what is wanted, and tells where it differs. A run of one process has to
+    /// give the same in several.
     fn compare<R: AllocGlobal + Print>(
         &mut self,
         rt: &R,
@@ -64,7 +65,12 @@ impl Telling {
             partition: &self.partition,
             inputs: &self.inputs,
         };
-        let got = outcome_of(rt.alloc(), command, texts)?;
+        let mut got = outcome_of(rt.alloc(), command, texts)?;
+        if got.as_str() == wanted
+            && let Some(parted) = outcome_in_processes(rt.alloc(), command, texts)?
+        {
+            got = parted;
+        }
         if got.as_str() == wanted {
             self.holding = self.holding.saturating_add(1);
             return Ok(());

@@ -1,4 +1,4 @@
--- What a process commits that received nothing.
-pub mod Unheard
--- The share of the one process that has all components of a text: what it starts from, and what it commits.
-pub mod Shares
+-- Processes as they begin, and a world that is made of them.
+pub mod Beginning
+-- What the processes of a world hand over.
+pub mod Running

@@ -1,26 +1,37 @@
--- What ran of a text, and the share of the one process that runs it.
-use Rattle.std.specs.Prelude.{◌≡◌, ℕ, List}
-use Rattle.dv_time.specs.Time.{end_of, rank}
-use Rattle.dv_bag.specs.declared.inputs.Input.{Input}
-use Rattle.dv_syntax.specs.Trees.{FileTree}
-use Rattle.dv_devs.specs.Network.{trace_before}
-use Rattle.dv_plain.specs.Source.{network_of, outside}
-use Rattle.dv_coded.specs.Lent.{behaviour_of_lent, lent_takes}
-use Rattle.dv_coded.specs.declared.lent.Lent.{Lent}
-use Rattle.dv_local.specs.declared.share.Share.{Share}
-use Rattle.dv_plan.specs.Plans.{IsShareOf}
-use Rattle.dv_sound.specs.Jobs.{job_of}
-use Rattle.dv_serial.specs.declared.alone.Ended.TheVariants.{Whole}
-use Rattle.dv_serial.specs.declared.ran.Ran.{Ran}
+-- What ran of a job.
+use Rattle.std.specs.Prelude.{◌≡◌, ℕ, List, length, slice_get, Some}
+use Rattle.std.specs.Vec.{vec_len}
+use Rattle.dv_time.specs.Time.{rank}
+use Rattle.dv_time.specs.declared.time.Time.{Time}
+use Rattle.dv_bag.specs.Part.{PartOf}
+use Rattle.dv_devs.specs.Parts.{part_before}
+use Rattle.dv_conservative.specs.Flat.{whole}
+use Rattle.dv_conservative.specs.Process.{IsWithin}
+use Rattle.dv_conservative.specs.World.{IsRun, Job, World, new_world, owned, share_of}
+use Rattle.dv_core.specs.Worlds.{EndsAs, with_replies}
+use Rattle.dv_core.specs.declared.step.Step.{Step}
+use Rattle.dv_serial.specs.declared.ran.Committed.{Committed}
+use Rattle.dv_serial.specs.declared.ran.Stepped.{Stepped}
 
--- The part is the trace of the text's resultant with these inputs, cut before the clock; and where the run is whole, the clock is
--- at the end.
-pub record IsRunOf (f : FileTree) (played : List Input) (horizon limit : ℕ) (ran : Ran) : Type 0 where
-  pub part : ran.part ≡ trace_before limit (network_of limit f) (outside f limit played) (rank limit ran.clock)
-  pub whole : ran.ended ≡ Whole → rank limit ran.clock ≡ end_of limit horizon
+-- What the processes of a world have handed over, by their numbers: the clock of each, which is within the run, and its part of the
+-- whole run before its clock.
+pub record AreOfWorld (job : Job) (w : World) (committed : List PartOf) (times : List Time) : Type 0 where
+  pub count : length times ≡ job.processes
+  pub clocks : (p : ℕ) (t : Time) → slice_get times p ≡ Some t → w.clock p ≡ t
+  pub within : (p : ℕ) (t : Time) → slice_get times p ≡ Some t → IsWithin (share_of job p) t
+  pub long : length committed ≡ job.processes
+  pub parts : (p : ℕ) (x : PartOf) (t : Time) → slice_get committed p ≡ Some x → slice_get times p ≡ Some t
+      → x ≡ part_before (owned job p) job.limit (whole job.flat) job.outside (rank job.limit t)
 
--- the share of the one process that has all components of a text
-pub record IsOnlyShareOf (f : FileTree) (played : List Input) (horizon limit : ℕ) (s : Share Lent) : Type 0 where
-  pub owner : ℕ → ℕ
-  pub all : (k : ℕ) → owner k ≡ 0
-  pub share : IsShareOf behaviour_of_lent lent_takes (job_of limit horizon f played 1 owner) 0 s
+-- Rounds of a new world, so many at most, led to what was handed over.
+pub record HasRun (job : Job) (capacity rounds : ℕ) (c : Committed) : Type 0 where
+  pub world : World
+  pub ends : EndsAs job rounds c.ended (new_world capacity) world
+  pub handed : AreOfWorld job world c.parts.items c.clocks.items
+
+-- The steps of a list, each with its reply, led from a new world to what was handed over.
+pub record HasStepped (job : Job) (capacity : ℕ) (steps : List Step) (s : Stepped) : Type 0 where
+  pub world : World
+  pub run : IsRun job (with_replies steps s.replies.items) (new_world capacity) world
+  pub each : vec_len s.replies ≡ length steps
+  pub handed : AreOfWorld job world s.parts.items s.clocks.items

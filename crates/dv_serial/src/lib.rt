@@ -1,16 +1,22 @@
-//! The compiled model of a text, run on one thread.
+//! The processes of a plan, run in rounds or by steps on one thread, and the trace of what they committed.
 #![tactic(auto)]
 
-/// A process that exchanges packets with nobody.
-pub mod alone;
-/// The compiled model of a text, run in one process.
-pub mod compiled;
+/// The least clock of processes, and what they committed before it.
+pub mod least;
+/// The processes of a plan, as they begin.
+pub mod processes;
 /// What ran.
 pub mod ran;
-/// The share of a process, run from its start.
-pub mod share;
+/// The processes of a plan, run in rounds.
+pub mod rounds;
+/// The processes of a plan, run by a list of steps.
+pub mod steps;
+/// The trace of what processes committed.
+pub mod trace;
+/// A world of the processes of a plan.
+pub mod worlds;
 
-pub use alone::{Ended, run_alone};
-pub use compiled::compiled_run;
-pub use ran::Ran;
-pub use share::run_share;
+pub use ran::{Committed, Ran, Stepped};
+pub use rounds::run_plan;
+pub use steps::step_plan;
+pub use trace::trace_of;

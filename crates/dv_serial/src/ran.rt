@@ -1,13 +1,29 @@
 //! What ran.
 
-use crate::alone::Ended;
-use dv_bag::Part;
+use dv_bag::{Part, Trace};
+use dv_core::{Ended, Reply};
 use dv_time::Time;
 
-/// What ran: a part of a trace, the clock before which it has all, and how far the run came.
+/// What the processes of a run committed, each before its clock, by their numbers; and how their rounds ended.
+#[derive(Drop)]
+pub struct Committed {
+    pub parts: Vec<Part>,
+    pub clocks: Vec<Time>,
+    pub ended: Ended,
+}
+
+/// What processes committed by a list of steps, each before its clock, by their numbers; and what each step was answered.
+#[derive(Drop)]
+pub struct Stepped {
+    pub parts: Vec<Part>,
+    pub clocks: Vec<Time>,
+    pub replies: Vec<Reply>,
+}
+
+/// What ran of a model: its trace before the least of the clocks of its processes, and how their rounds ended.
 #[derive(Drop)]
 pub struct Ran {
-    pub part: Part,
-    pub clock: Time,
+    pub trace: Trace,
+    pub clocks: Vec<Time>,
     pub ended: Ended,
 }

@@ -1,10 +1,10 @@
 -- The bytes of a trace: the text of each instant, one after the other, and the end.
-use Rattle.std.specs.Prelude.{ℕ, zero, suc, true, false, nat_eq, if◌then◌else◌, List, [], ◌∷◌, ◌++◌, map, min, slice_get, unwrap_or, codes, filter}
+use Rattle.std.specs.Prelude.{ℕ, zero, suc, true, false, nat_eq, if◌then◌else◌, List, [], ◌∷◌, ◌++◌, map, slice_get, unwrap_or, codes, filter}
 use Rattle.std.specs.Fmt.{decimal, signed_decimal}
 use Rattle.std.specs.List.{flat_map}
 use Rattle.std.specs.Ordering.{is_eq}
 use Rattle.dv_time.specs.declared.time.Time.{Time}
-use Rattle.dv_time.specs.Time.{end_of, is_before, rank, time_cmp, time_of, time_text}
+use Rattle.dv_time.specs.Time.{end_of, is_before, time_cmp, time_of, time_text}
 use Rattle.dv_tree.specs.Paths.{name_at}
 use Rattle.dv_bag.specs.Bag.{Counts, values_of, size}
 use Rattle.dv_bag.specs.Part.{PartOf}
@@ -16,6 +16,7 @@ use Rattle.dv_bag.specs.declared.entry.What.TheVariants as what
 use Rattle.dv_bag.specs.declared.entry.Entry.{Entry}
 use Rattle.dv_bag.specs.declared.entry.Outer.{Outer}
 use Rattle.dv_devs.specs.Network.{Network, components_at, part_of_instant}
+use Rattle.dv_devs.specs.Clocks.{least_rank}
 use Rattle.dv_text.specs.declared.writing.Ending.{Ending}
 use Rattle.dv_text.specs.declared.writing.Ending.TheVariants.{Whole, Partial}
 
@@ -143,12 +144,6 @@ ending_text (Partial clocks) = partial_ending clocks.items
 abbrev pub whole_text : {I : Type 0} → List ComponentNames → List (List ℕ) → (limit : ℕ) → Network I → (ℕ → I) → (horizon : ℕ) → List ℕ
 whole_text all outputs limit net inputs horizon =
     instants_text all outputs limit net inputs (end_of limit horizon) ++ ending_text (Whole horizon)
-
--- the rank of the least of clocks
-abbrev pub least_rank : ℕ → List Time → ℕ
-least_rank limit [] = 0
-least_rank limit (t ∷ []) = rank limit t
-least_rank limit (t ∷ u ∷ ts) = min (rank limit t) (least_rank limit (u ∷ ts))
 
 -- the text of a run of a network that came to these clocks: the lines of all instants before the least one
 abbrev pub partial_text : {I : Type 0} → List ComponentNames → List (List ℕ) → (limit : ℕ) → Network I → (ℕ → I) → List Time → List ℕ

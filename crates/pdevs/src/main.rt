@@ -226,7 +226,7 @@ fn run_model<R: AllocGlobal + Files + Print + Eprint>(rt: &R, run: &Run) -> io::
         return Ok(REFUSED);
     };
     let limit = run.microsteps.unwrap_or(USUAL_LIMIT);
-    let Some(options) = Options::new(run.horizon, limit, None, None, LINK_CAPACITY) else {
+    let Some(options) = Options::new(run.horizon, limit, None, run.rounds, LINK_CAPACITY) else {
         return Ok(USAGE);
     };
     let mut writer = io::writer(rt);

@@ -45,7 +45,7 @@ fn plan_text(alloc: Global, plan: &Plan) -> Result<String, AllocError> {
     Ok(text)
 }
 
-// Model, horizon, microstep limit, partition and inputs.
+// Model, horizon, microstep limit, partition, rounds and inputs.
 fn run_text(alloc: Global, run: &Run) -> Result<String, AllocError> {
     let way = if run.explained { "explained " } else { "" };
     let mut text = format!(in alloc; "{way}{} {}", run.model, run.horizon)?;
@@ -53,6 +53,9 @@ fn run_text(alloc: Global, run: &Run) -> Result<String, AllocError> {
         write!(text, " {limit}")?;
     }
     push_partition(&mut text, run.partition.as_ref())?;
+    if let Some(rounds) = run.rounds {
+        write!(text, " for {rounds}")?;
+    }
     if let Some(inputs) = &run.inputs {
         write!(text, " with {inputs}")?;
     }
@@ -162,6 +165,20 @@ fn a_run_is_asked_for(rt: HostRuntime) {
                 ],
                 "m.pd 5 3 with i.txt",
             ),
+            (
+                &["run", "m.pd", "--horizon", "5", "--rounds", "0"],
+                "m.pd 5 for 0",
+            ),
+            (
+                &[
+                    "run",
+                    "--rounds=18446744073709551615",
+                    "--processes=2",
+                    "m.pd",
+                    "--horizon=5",
+                ],
+                "m.pd 5 in 2 for 18446744073709551615",
+            ),
             (&["run", "--horizon", "5", "--", "-m"], "-m 5"),
             (&["run", "-", "--horizon", "5"], "- 5"),
             (
@@ -262,6 +279,22 @@ fn other_words_are_usage(rt: HostRuntime) {
             (&["check", "m.pd", "--inputs", "i.txt"], "usage"),
             (&["run", "m.pd", "--horizon", "1000000000001"], "usage"),
             (&["run", "m.pd", "--horizon", "+5"], "usage"),
+            (
+                &["run", "m.pd", "--horizon", "5", "--rounds", "-1"],
+                "usage",
+            ),
+            (
+                &[
+                    "run",
+                    "m.pd",
+                    "--horizon",
+                    "5",
+                    "--rounds",
+                    "18446744073709551616",
+                ],
+                "usage",
+            ),
+            (&["plan", "m.pd", "--rounds", "5"], "usage"),
             (&["run", "m.pd", "--horizon", "-5"], "usage"),
             (&["run", "m.pd", "--horizon", ""], "usage"),
             (&["run", "m.pd", "--horizon", "\u{665}"], "usage"),

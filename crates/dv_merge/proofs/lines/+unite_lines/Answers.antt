@@ -1,38 +1,48 @@
-use Rattle.std.proofs.Common.{◌≡◌, ℕ, ◌+◌, ◌/◌, ◌∙◌, List, refl, sym, ap, ap₂, length, arith, subst}
-use Rattle.std.proofs.lemmas.Bool.Decides.{nat_tests}
-use Rattle.std.proofs.lemmas.Option.{slice_get_read}
-use Rattle.dv_bag.specs.Part.{PartOf}
+use Rattle.std.proofs.Common.{◌≡◌, ℕ, ◌/◌, ◌≤◌, ◌∙◌, List, [], sym, ap, ap₂, length, map, take, drop, arith, subst}
+use Rattle.std.specs.Global.{Vec}
+use Rattle.std.specs.List.{All}
+use Rattle.std.proofs.lemmas.List.{drop-map, length-map, nil_from_length, take-map}
+use Rattle.std.proofs.lemmas.List.Elements.{All-drop, All-take}
+use Rattle.dv_bag.specs.declared.entry.Outer.{Outer}
 use Rattle.dv_devs.specs.Outside.{union_of_lines}
 use Rattle.dv_conservative.specs.True.{united}
-use Rattle.dv_merge.specs.Lines.{AllLines, AreLines, lines_at}
-use Rattle.dv_merge.proofs.Uniting.{lines_all, lines_front, lines_back, one_part, two_halves, united_lines}
+use Rattle.dv_merge.specs.Lines.{AreLines, list_at}
+use Rattle.dv_merge.proofs.Merging.{alone}
+use Rattle.dv_merge.proofs.Uniting.{are_united, one_list, two_halves}
 use Rattle.dv_merge.proofs.lines.+unite_lines.Goals as goal
+use Rattle.dv_merge.proofs.lines.+unite_lines.Goals.{in-Some, in-None}
 
-pub returns-then-is_empty : goal.returns-then-is_empty
-returns-then-is_empty t c = λ lines.
-    let none : length c.args.parts.now ≡ 0 = grind (arith, nat_tests) in
-    c.new.ensures.items ∙ sym (ap (united (lines_at c.args.parts.now)) none)
+abbrev items : Vec Outer → List Outer
+items list = list.items
 
-pub returns-then-parts-eq1 : goal.returns-then-parts-eq1
-returns-then-parts-eq1 t c = λ lines.
-    let parts = c.args.parts.now in
-    c.in_ok-lines_of.ensures
-    ∙ one_part parts c.index-parts-0.result (length parts) lines
-    (slice_get_read parts (length parts) 0 c.index-parts-0.result refl (omega arith) c.index-parts-0.is) (omega arith)
+abbrev all_of : List (List Outer) → List Outer
+all_of lists = united (list_at lists) (length lists)
+
+pub returns-then-len-lt2 : goal.returns-then-len-lt2
+returns-then-len-lt2 t c =
+    elim c.match-pop.branch [
+      | in-Some w ↦ rw w.result-is (λ h.
+          let lists = c.args.lists.items in
+          one_list (map items lists) w.in-Some.list.items h
+          (alone items lists c.pop.new.self.items w.in-Some.list w.in-Some.ensures.items (omega arith)))
+      | in-None w ↦ rw w.result-is (λ h.
+          let lists = c.args.lists.items in
+          let none : lists ≡ [] = nil_from_length lists (omega (arith, c.args.lists.ok.0, w.in-None.ensures.cases.0)) in
+          w.new.ensures.items ∙ sym (ap (λ (l : List (Vec Outer)). all_of (map items l)) none))
+    ]
 
 pub returns : goal.returns
-returns t c = λ lines.
-    let parts = c.args.parts.now in
-    let front = c.split_at.result.0.now in
-    let back = c.split_at.result.1.now in
-    let half : ℕ = length parts / 2 in
-    let front_lines : AllLines front = subst AllLines (sym c.split_at.ensures.front) (lines_front parts half lines) in
-    let back_lines : AllLines back = subst AllLines (sym c.split_at.ensures.back) (lines_back parts half lines) in
-    let one = c.in_ok-first.ensures front_lines in
-    let two = c.in_ok-second.ensures back_lines in
-    let all : half + length back ≡ length parts = omega (arith, c.split_at.ensures.back_len) in
-    c.in_ok-unite_two.ensures (subst AreLines (sym two) (united_lines (lines_at back) (length back) (lines_all back back_lines)))
-    ∙ (ap₂ union_of_lines
-    (one ∙ ap₂ (λ (l : List PartOf) (n : ℕ). united (lines_at l) n) c.split_at.ensures.front c.split_at.ensures.front_len)
-    (two ∙ ap (λ (l : List PartOf). united (lines_at l) (length back)) c.split_at.ensures.back)
-    ∙ (two_halves parts half (length back) lines ∙ ap (united (lines_at parts)) all))
+returns t c = λ h.
+    let lists = c.args.lists.items in
+    let lines = map items lists in
+    let front = c.split_off.new.self.items in
+    let back = c.in_ok-back.back.items in
+    let half : ℕ = c.len-half.result / 2 in
+    let within : half ≤ length lines = omega (arith, c.args.lists.ok.0, length-map lists items) in
+    let front_is : map items front ≡ take half lines = ap (map items) c.in_ok-back.ensures.items ∙ sym (take-map items half lists) in
+    let back_is : map items back ≡ drop half lines = ap (map items) c.in_ok-back.ensures.tail ∙ sym (drop-map items half lists) in
+    let one = c.in_ok-first.ensures (subst (All AreLines) (sym front_is) (All-take AreLines half lines h)) in
+    let two = c.in_ok-second.ensures (subst (All AreLines) (sym back_is) (All-drop AreLines half lines h)) in
+    let second : c.in_ok-second.second.items ≡ all_of (drop half lines) = two ∙ ap all_of back_is in
+    c.in_ok-unite_two.ensures (subst AreLines (sym second) (are_united (drop half lines) (All-drop AreLines half lines h)))
+    ∙ (ap₂ union_of_lines (one ∙ ap all_of front_is) second ∙ two_halves lines half within h)

@@ -18,7 +18,7 @@ use Rattle.dv_planned.proofs.plan.plan_text.Goals as goal
 -- an accepted text has few output ports
 pub overflow_cast-whole-2 : goal.overflow_cast-whole-2
 overflow_cast-whole-2 c =
-    let f = file_of c.args.tree.now.file in
+    let f = file_of c.args.job.now.tree.now.file in
     omega (
       arith,
       few_leave f [] (c.checked_files.ensures f c.requires.accepted),
@@ -28,53 +28,52 @@ overflow_cast-whole-2 c =
 
 pub new-requires : goal.new-requires
 new-requires c =
-    let f = file_of c.args.tree.now.file in
+    let f = file_of c.args.job.now.tree.now.file in
     let few = few_components f (c.checked_files.ensures f c.requires.accepted) in
     let members = c.args.members.items in
     let links = c.in_ok-between.between in
-    let count = as_many c.args.limit c.args.models.now members (instances f) c.requires.members in
-    let answers = as_many_responses c.args.responses.items (instances f) c.requires.responses in
+    let count = as_many c.args.job.now.limit c.args.models.now members (instances f) c.requires.components.members in
+    let answers = as_many_responses c.args.responses.items (instances f) c.requires.components.responses in
     record {
       members = record {
-        rise = c.requires.rise;
-        each = all_lent c.args.limit c.in_ok-lent.lent.items c.args.models.now members c.in_ok-lent.ensures c.requires.among;
+        rise = c.requires.components.rise;
+        each = all_lent c.args.job.now.limit c.in_ok-lent.lent.items c.args.models.now members c.in_ok-lent.ensures c.requires.components.among;
       };
       few = omega (arith, few, count);
       direct =
-          links_rise links.direct.items (map direct_of (direct_links f)) (c.in_ok-between.ensures.direct ∙ ap (map direct_of) c.requires.direct)
+          links_rise links.direct.items (map direct_of (direct_links f)) (c.in_ok-between.ensures.direct ∙ ap (map direct_of) c.requires.links.direct)
           (c.links_rise.ensures.direct f);
       entrances =
-          links_rise links.entrances.items (map entry_of (entry_links f)) (c.in_ok-between.ensures.entrances ∙ ap (map entry_of) c.requires.entries)
+          links_rise links.entrances.items (map entry_of (entry_links f)) (c.in_ok-between.ensures.entrances ∙ ap (map entry_of) c.requires.links.entries)
           (entries_rise (entry_links f));
       exits =
-          links_rise links.exits.items (map exit_of (exit_links f)) (c.in_ok-between.ensures.exits ∙ ap (map exit_of) c.requires.exits)
+          links_rise links.exits.items (map exit_of (exit_links f)) (c.in_ok-between.ensures.exits ∙ ap (map exit_of) c.requires.links.exits)
           (c.links_rise.ensures.exits f);
-      holds = holds c.args.responses.items c.requires.short;
+      holds = holds c.args.responses.items c.requires.components.short;
       responses = omega (arith, few, answers);
-      limit = c.requires.limit;
-      horizon = c.requires.horizon;
+      limit = c.args.job.now.limit_in_range;
+      horizon = c.args.job.now.horizon_in_range;
     }
 
 pub returns : goal.returns
 returns c =
-    let f = file_of c.args.tree.now.file in
+    let f = file_of c.args.job.now.tree.now.file in
     let whole : Whole Lent = record {
-      limit = c.args.limit;
-      horizon = c.args.horizon;
+      limit = c.args.job.now.limit;
+      horizon = c.args.job.now.horizon;
       members = c.args.members;
       models = c.in_ok-lent.lent;
       responses = c.args.responses;
       links = c.in_ok-between.between;
       ports = c.input_count.result;
       outputs = c.output_count.result;
-      inputs = c.args.inputs;
     } in
-    subst (λ (job : Job). IfOk c.new.result (IsPlanOf behaviour_of_lent lent_takes job)) (job_of_text f whole c.args.groups (record {
-      members = members_lent c.args.limit c.in_ok-lent.lent.items c.args.models.now c.args.members.items c.in_ok-lent.ensures ∙ c.requires.members;
-      direct = c.in_ok-between.ensures.direct ∙ ap (map direct_of) c.requires.direct;
-      entrances = c.in_ok-between.ensures.entrances ∙ ap (map entry_of) c.requires.entries;
-      exits = c.in_ok-between.ensures.exits ∙ ap (map exit_of) c.requires.exits;
-      responses = all_ticks c.args.responses.items ∙ c.requires.responses;
+    subst (λ (job : Job). IfOk c.new.result (IsPlanOf behaviour_of_lent lent_takes job)) (job_of_text f whole c.args.job.now.inputs.now c.args.job.now.groups.now (record {
+      members = members_lent c.args.job.now.limit c.in_ok-lent.lent.items c.args.models.now c.args.members.items c.in_ok-lent.ensures ∙ c.requires.components.members;
+      direct = c.in_ok-between.ensures.direct ∙ ap (map direct_of) c.requires.links.direct;
+      entrances = c.in_ok-between.ensures.entrances ∙ ap (map entry_of) c.requires.links.entries;
+      exits = c.in_ok-between.ensures.exits ∙ ap (map exit_of) c.requires.links.exits;
+      responses = all_ticks c.args.responses.items ∙ c.requires.components.responses;
       ports = c.input_count.ensures.value;
       outputs = c.output_count.ensures;
     })) c.new.ensures

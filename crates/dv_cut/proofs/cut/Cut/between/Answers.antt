@@ -11,7 +11,7 @@ use Rattle.dv_cut.proofs.cut.Cut.between.Goals as goal
 
 pub list_at-requires : goal.list_at-requires
 list_at-requires c =
-    let g = c.self.inside.groups in
+    let g = c.self.inside.groups.now in
     let n = g.processes in
     let p = c.args.source in
     let q = c.args.target in
@@ -26,7 +26,7 @@ list_at-requires c =
 
 pub returns : goal.returns
 returns c =
-    let g = c.self.inside.groups in
+    let g = c.self.inside.groups.now in
     let n = g.processes in
     let p = c.args.source in
     let q = c.args.target in

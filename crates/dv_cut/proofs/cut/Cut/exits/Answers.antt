@@ -9,7 +9,7 @@ use Rattle.dv_cut.proofs.cut.Cut.exits.Goals as goal
 
 pub list_at-requires : goal.list_at-requires
 list_at-requires c =
-    let g = c.self.inside.groups in
+    let g = c.self.inside.groups.now in
     let p = c.args.process in
     let all = sym (ap (λ v. v.grouping.processes) c.self.view_is) in
     let long =
@@ -21,7 +21,7 @@ list_at-requires c =
 
 pub returns : goal.returns
 returns c =
-    let g = c.self.inside.groups in
+    let g = c.self.inside.groups.now in
     let p = c.args.process in
     let links = c.self.inside.links.exits.items in
     let lp = subst (λ k. p < k) (sym (ap (λ v. v.grouping.processes) c.self.view_is)) c.requires in

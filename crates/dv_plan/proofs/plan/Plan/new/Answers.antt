@@ -12,9 +12,9 @@ use Rattle.dv_share.specs.Share.{numbers_of}
 use Rattle.dv_share.specs.declared.tables.Member.{Member}
 use Rattle.dv_proc.specs.Foreseeing.{ticks_of}
 use Rattle.dv_partition.specs.Groups.{Grouping, owner_of}
-use Rattle.dv_cut.specs.Channels.{channel_of}
+use Rattle.dv_proc.specs.Channels.{meant_channel}
 use Rattle.dv_cut.specs.Cuts.{CutOf, owned_by}
-use Rattle.dv_cut.specs.declared.channels.Channel.{Channel}
+use Rattle.dv_proc.specs.declared.channel.Channel.{Channel}
 use Rattle.dv_cut.proofs.Rising.{rises_after}
 use Rattle.dv_plan.specs.Steps.{Rises, members_of}
 use Rattle.dv_plan.proofs.Few.{few_channels}
@@ -24,10 +24,10 @@ use Rattle.dv_plan.proofs.plan.Plan.new.Goals as goal
 
 pub shares-requires-clause-count : goal.shares-requires-clause-count
 shares-requires-clause-count g c =
-    let groups = c.args.groups in
+    let groups = c.args.groups.now in
     let members = c.in_ok-members.members.items in
     let least = c.in_ok-least.least.items in
-    let one = sym (length-map members (λ l. l.items)) ∙ ap length c.in_ok-members.ensures
+    let one = sym (length-map members (λ l. l.items)) ∙ ap length c.in_ok-members.ensures.each
     ∙ length-map-range_with_len (λ p. members_of groups p c.args.whole.members.items) 0 groups.processes in
     let other = sym (length-map least ticks_of) ∙ ap length c.in_ok-least.ensures
     ∙ length-map-range_with_len (λ p. least_response (owner_of groups) p 0 (map ticks_of c.deref.result.now)) 0 groups.processes in
@@ -35,31 +35,28 @@ shares-requires-clause-count g c =
 
 pub shares-requires-clause-there : goal.shares-requires-clause-there
 shares-requires-clause-there g c =
-    let groups = c.args.groups in
+    let groups = c.args.groups.now in
     let members = c.in_ok-members.members.items in
-    let one = sym (length-map members (λ l. l.items)) ∙ ap length c.in_ok-members.ensures
+    let one = sym (length-map members (λ l. l.items)) ∙ ap length c.in_ok-members.ensures.each
     ∙ length-map-range_with_len (λ p. members_of groups p c.args.whole.members.items) 0 groups.processes in
     let all = ap (λ (k : CutOf). k.grouping.processes) c.in_ok-cut.ensures in
     omega (arith, one, all)
 
 pub shares-requires-clause-processes : goal.shares-requires-clause-processes
-shares-requires-clause-processes g c =
-    let groups = c.args.groups in
-    let members = c.in_ok-members.members.items in
-    let one = sym (length-map members (λ l. l.items)) ∙ ap length c.in_ok-members.ensures
-    ∙ length-map-range_with_len (λ p. members_of groups p c.args.whole.members.items) 0 groups.processes in
-    let count = ap (λ (v : Grouping). v.processes) c.groups.view_is in
-    omega (arith, one, count, c.groups.invariant.few)
+shares-requires-clause-processes g c = c.in_ok-members.ensures.few
 
 pub shares-requires-clause-few : goal.shares-requires-clause-few
 shares-requires-clause-few g c =
+    let groups = c.args.groups.now in
     let cut = c.in_ok-cut.cut in
+    let members = c.in_ok-members.members.items in
     let channels = c.in_ok-channels.channels.items in
-    let count = ap (λ (v : Grouping). v.processes) c.groups.view_is in
+    let count = sym (length-map members (λ l. l.items)) ∙ ap length c.in_ok-members.ensures.each
+    ∙ length-map-range_with_len (λ p. members_of groups p c.args.whole.members.items) 0 groups.processes in
     let all = ap (λ (k : CutOf). k.grouping.processes) c.in_ok-cut.ensures in
-    let few : cut.grouping.processes ≤ 64 = omega (arith, count, all, c.groups.invariant.few) in
+    let few : cut.grouping.processes ≤ 64 = omega (arith, count, all, c.in_ok-members.ensures.few) in
     let small = few_channels (owner_of cut.grouping) cut.direct cut.grouping.processes few in
-    let long = sym (length-map channels channel_of) ∙ ap length c.in_ok-channels.ensures in
+    let long = sym (length-map channels meant_channel) ∙ ap length c.in_ok-channels.ensures in
     omega (arith, small, long, ap length c.deref-2.ensures.value)
 
 pub shares-requires-clause-rises : goal.shares-requires-clause-rises
@@ -73,18 +70,18 @@ shares-requires-clause-rises g c =
 
 pub shares-requires-clause-rise : goal.shares-requires-clause-rise
 shares-requires-clause-rise g c =
-    let groups = c.args.groups in
+    let groups = c.args.groups.now in
     let ms = c.args.whole.members.items in
-    subst (λ (lists : List (List Member)). AllByRecursion (λ (xs : List Member). AreRising (numbers_of xs)) lists) (sym c.in_ok-members.ensures)
+    subst (λ (lists : List (List Member)). AllByRecursion (λ (xs : List Member). AreRising (numbers_of xs)) lists) (sym c.in_ok-members.ensures.each)
     (all_made (λ (xs : List Member). AreRising (numbers_of xs)) (λ p. members_of groups p ms)
     (λ p. rise_kept (λ (m : Member). owned_by groups p m.number) 0 ms c.requires.members.rise) (range_with_len 0 groups.processes))
 
 pub returns : goal.returns
 returns g c =
-    let groups = c.args.groups in
+    let groups = c.args.groups.now in
     let w = c.args.whole in
     let members = c.in_ok-members.members.items in
-    let long = sym (length-map members (λ l. l.items)) ∙ ap length c.in_ok-members.ensures
+    let long = sym (length-map members (λ l. l.items)) ∙ ap length c.in_ok-members.ensures.each
     ∙ length-map-range_with_len (λ p. members_of groups p w.members.items) 0 groups.processes in
     let links = c.in_ok-channels.ensures
     ∙ ap (λ (k : CutOf). all_channels (owner_of k.grouping) k.direct k.grouping.processes) c.in_ok-cut.ensures in
@@ -93,19 +90,19 @@ returns g c =
       links = links;
       count = count;
       shares =
-          shares_of_plan g.A.Atomic.behaviour g.A.Atomic.fits w groups (map (λ l. l.items) members) c.deref-4.result.now c.in_ok-shares.shares.items
+          shares_of_plan g.A.Atomic.behaviour g.A.Atomic.fits w c.args.inputs.now groups (map (λ l. l.items) members) c.deref-4.result.now c.in_ok-shares.shares.items
           c.in_ok-shares.ensures.made c.requires (record {
             limit = refl;
             horizon = refl;
             ports = refl;
             outputs = refl;
             cut = c.in_ok-cut.ensures;
-            links = ap (λ (cs : List Channel). map channel_of cs) c.deref-2.ensures.value ∙ links;
+            links = ap (λ (cs : List Channel). map meant_channel cs) c.deref-2.ensures.value ∙ links;
             responses =
                 ap (λ (rs : List Response). map ticks_of rs) c.deref-3.ensures.value ∙ c.in_ok-least.ensures
                 ∙ ap (λ (rs : List Response). map (λ p. least_response (owner_of groups) p 0 (map ticks_of rs)) (range_with_len 0 groups.processes))
                 c.deref.ensures.value;
             inputs = refl;
           })
-          c.in_ok-members.ensures c.deref-4.ensures.value count;
+          c.in_ok-members.ensures.each c.deref-4.ensures.value count;
     }

@@ -1,0 +1,28 @@
+//! How many rounds a run has.
+
+ghost use Rattle.std.specs.Prelude.{◌≡◌, ◌≤◌, ◌^◌};
+ghost use Rattle.dv_time.specs.Time.{end_of};
+ghost use Rattle.dv_time.specs.declared.TheConstants.{GREATEST_LIMIT, GREATEST_TICK};
+ghost use Rattle.dv_job.specs.Running.{granted};
+
+use crate::options::Options;
+
+/// How many rounds a run has: those of the options, or else enough.
+pub fn granted(options: &Options) -> u64
+    ensures { result ≡ granted options.now }
+{
+    match options.rounds {
+        Some(rounds) => rounds,
+        None => times_before_end(options.horizon, options.limit) + 1,
+    }
+}
+
+// How many times of a run there are before its end.
+fn times_before_end(horizon: u64, limit: u32) -> u64
+    requires horizon { horizon ≤ GREATEST_TICK }
+    requires limit { limit ≤ GREATEST_LIMIT }
+    ensures exact { result ≡ end_of limit horizon }
+    ensures few { result ≤ 2 ^ 60 }
+{
+    (horizon + 1) * (u64::from(limit) + 1)
+}

@@ -1,0 +1,76 @@
+//! The run of a model by a list of steps of its processes.
+
+ghost use Rattle.std.specs.Prelude.{IfOk, IfErr};
+ghost use Rattle.dv_syntax.specs.Trees.{file_of};
+ghost use Rattle.dv_job.specs.Job.{IsModelOf};
+ghost use Rattle.dv_job.specs.Stepping.{AnswersSteps, HasSteppedText};
+
+use crate::ended::JobError;
+use crate::load::{accept, load, load_groups, load_inputs};
+use crate::options::Options;
+use dv_core::Step;
+use dv_flat::flatten;
+use dv_partition::Partition;
+use dv_planned::TextJob;
+use dv_run::compiled_steps;
+use dv_serial::Stepped;
+use dv_sound::numbers::inputs_are_of_numbers;
+use dv_tree::Tree;
+use std::alloc::Global;
+
+/// Makes the steps of a list with the processes of the model of a text, from their start, with the inputs that another text
+/// says: turns, deliveries and stops, in any order. Whatever the list and the partition, each process has committed exactly
+/// its components' part, before its clock, of the trace that the text's resultant has. Of the options the horizon, the
+/// microstep limit and the capacity of links are read.
+///
+/// # Errors
+///
+/// `Text` is the answer to the model's text; `Partition`, where the model is accepted, that to the partition; `Inputs`,
+/// where both are, that to the inputs' text. It is never `Write`.
+pub fn run_steps(
+    alloc: Global,
+    model: &[u8],
+    inputs: &[u8],
+    groups: Partition<'_>,
+    options: &Options,
+    steps: &[Step],
+) -> Result<Stepped, JobError>
+    ensures stepped { IfOk result (HasSteppedText model.now inputs.now groups.entry options.now
+        steps.now) }
+    ensures error { IfErr result (AnswersSteps model.now inputs.now groups.entry) }
+{
+    let checked = load(alloc, model)?;
+    let tree = accept(alloc, model, &checked)?;
+    step_tree(alloc, &tree, model, inputs, groups, options, steps)
+}
+
+// Makes the steps with the processes of an accepted text, by its tree.
+fn step_tree(
+    alloc: Global,
+    tree: &Tree,
+    model: &[u8],
+    inputs: &[u8],
+    groups: Partition<'_>,
+    options: &Options,
+    steps: &[Step],
+) -> Result<Stepped, JobError>
+    requires accepted { IsModelOf model.now tree.now.names (file_of tree.now.file) }
+    ensures stepped { IfOk result (HasSteppedText model.now inputs.now groups.entry options.now
+        steps.now) }
+    ensures error { IfErr result (AnswersSteps model.now inputs.now groups.entry) }
+{
+    // The values of inputs that were read are numbers of the language.
+    inputs_are_of_numbers();
+    let flat = flatten(alloc, tree)?;
+    let groups = load_groups(alloc, tree, flat.paths.as_slice(), groups)?;
+    let played = load_inputs(alloc, inputs, tree)?;
+    let job = TextJob {
+        tree,
+        inputs: &played,
+        groups: &groups,
+        horizon: options.horizon,
+        limit: options.limit,
+    };
+    let capacity = options.capacity as usize;
+    Ok(compiled_steps(alloc, &job, &flat.links, steps, capacity)?)
+}

@@ -1,0 +1,2 @@
+-- What is planned of a text.
+pub mod Texts

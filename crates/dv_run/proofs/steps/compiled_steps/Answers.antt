@@ -1,0 +1,25 @@
+use Rattle.dv_syntax.specs.Trees.{file_of}
+use Rattle.dv_run.proofs.Traces.{is_stepped}
+use Rattle.dv_run.proofs.steps.compiled_steps.Goals as goal
+
+pub components_of-requires : goal.components_of-requires
+components_of-requires c = record {
+  compilable =
+      c.texts_are_compilable.ensures c.args.job.now.tree.now.names (file_of c.args.job.now.tree.now.file) c.requires.text c.requires.accepted;
+}
+
+pub step_components-requires-clause-components : goal.step_components-requires-clause-components
+step_components-requires-clause-components c = record {
+  members = c.in_ok-components.ensures.members;
+  rise = c.in_ok-components.ensures.rise;
+  among = c.in_ok-components.ensures.among;
+  responses = c.in_ok-components.ensures.responses;
+  short = c.in_ok-components.ensures.short;
+}
+
+pub returns : goal.returns
+returns c =
+    let j = c.args.job.now in
+    is_stepped j.tree.now.names j c.requires.text c.requires.accepted
+    c.parts_of_the_flat_model_are_those_of_the_text.ensures.part c.args.capacity c.args.steps.now c.in_ok-step_components.field-0
+    c.in_ok-step_components.ensures

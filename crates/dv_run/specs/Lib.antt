@@ -1,0 +1,2 @@
+-- What ran of a text.
+pub mod Runs

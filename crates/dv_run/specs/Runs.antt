@@ -1,0 +1,50 @@
+-- What ran of a text.
+use Rattle.std.specs.Prelude.{◌≡◌, ℕ, ◌<◌, ◌≤◌, nat_eq, List, length, slice_get, Some}
+use Rattle.std.specs.Vec.{vec_len}
+use Rattle.dv_time.specs.Time.{end_of, rank}
+use Rattle.dv_time.specs.declared.time.Time.{Time}
+use Rattle.dv_bag.specs.Part.{PartOf}
+use Rattle.dv_bag.specs.declared.inputs.Input.{Input}
+use Rattle.dv_syntax.specs.Trees.{FileTree}
+use Rattle.dv_devs.specs.Clocks.{least_rank}
+use Rattle.dv_devs.specs.Network.{trace_before}
+use Rattle.dv_devs.specs.Parts.{part_before}
+use Rattle.dv_conservative.specs.World.{IsRun, World, new_world}
+use Rattle.dv_core.specs.Worlds.{EndsAs, with_replies}
+use Rattle.dv_core.specs.declared.step.Step.{Step}
+use Rattle.dv_core.specs.declared.step.Ended.{Ended}
+use Rattle.dv_core.specs.declared.step.Ended.TheVariants.{Stalled, Whole}
+use Rattle.dv_partition.specs.Groups.{Grouping, owner_of}
+use Rattle.dv_plain.specs.Source.{network_of, outside}
+use Rattle.dv_serial.specs.declared.ran.Ran.{Ran}
+use Rattle.dv_serial.specs.declared.ran.Stepped.{Stepped}
+use Rattle.dv_sound.specs.Jobs.{job_of}
+
+-- Rounds of the processes of a text, so many at most, led from a new world to these clocks, by the numbers of the processes.
+pub record LedTo (f : FileTree) (played : List Input) (groups : Grouping) (horizon limit capacity rounds : ℕ) (ended : Ended)
+    (times : List Time) : Type 0 where
+  pub world : World
+  pub ends : EndsAs (job_of limit horizon f played groups.processes (owner_of groups)) rounds ended (new_world capacity) world
+  pub clocks : (p : ℕ) (t : Time) → slice_get times p ≡ Some t → world.clock p ≡ t
+
+-- The trace of the text's resultant with these inputs, before the least of the clocks to which its processes came. Where the run is
+-- whole, that is the end; it stalls only where there are no more rounds than ranks before the end.
+pub record IsRunOf (f : FileTree) (played : List Input) (groups : Grouping) (horizon limit capacity rounds : ℕ) (ran : Ran) : Type 0 where
+  pub trace : ran.trace ≡ trace_before limit (network_of limit f) (outside f limit played) (least_rank limit ran.clocks.items)
+  pub some : 0 < length ran.clocks.items
+  pub whole : ran.ended ≡ Whole → least_rank limit ran.clocks.items ≡ end_of limit horizon
+  pub stalls : ran.ended ≡ Stalled → 0 < capacity → rounds ≤ end_of limit horizon
+  pub led : LedTo f played groups horizon limit capacity rounds ran.ended ran.clocks.items
+
+-- The headline. The steps of a list, each with its reply, led from a new world of the text's processes to these clocks; and what each
+-- process has committed is exactly its components' part, before its clock, of the trace of the text's resultant with these inputs.
+pub record IsStepped (f : FileTree) (played : List Input) (groups : Grouping) (horizon limit capacity : ℕ) (steps : List Step)
+    (s : Stepped) : Type 0 where
+  pub world : World
+  pub run : IsRun (job_of limit horizon f played groups.processes (owner_of groups)) (with_replies steps s.replies.items)
+      (new_world capacity) world
+  pub each : vec_len s.replies ≡ length steps
+  pub clocks : (p : ℕ) (t : Time) → slice_get s.clocks.items p ≡ Some t → world.clock p ≡ t
+  pub count : (length s.clocks.items ≡ groups.processes) × (length s.parts.items ≡ groups.processes)
+  pub parts : (p : ℕ) (x : PartOf) (t : Time) → slice_get s.parts.items p ≡ Some x → slice_get s.clocks.items p ≡ Some t
+      → x ≡ part_before (λ k. nat_eq (owner_of groups k) p) limit (network_of limit f) (outside f limit played) (rank limit t)

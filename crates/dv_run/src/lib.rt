@@ -1,0 +1,14 @@
+//! The compiled model of a text, run in processes on one thread.
+#![tactic(auto)]
+
+/// The compiled model of a text, run in rounds.
+pub mod compiled;
+/// The values of inputs are numbers of the language.
+mod numbers;
+/// A plan of a text that can be run.
+mod plan;
+/// The compiled model of a text, run by a list of steps.
+pub mod steps;
+
+pub use compiled::compiled_run;
+pub use steps::compiled_steps;

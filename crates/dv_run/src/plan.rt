@@ -1,0 +1,54 @@
+//! A plan of a text that can be run.
+
+ghost use Rattle.std.specs.Prelude.{◌<◌, ◌≡◌, None, IfOk};
+ghost use Rattle.dv_check.specs.Refusals.{AreOfOneText, refusal_of};
+ghost use Rattle.dv_coded.specs.Lent.{behaviour_of_lent, lent_takes};
+ghost use Rattle.dv_planned.specs.Texts.{AreComponentsOf, AreLinksOf, text_job};
+ghost use Rattle.dv_serial.specs.Beginning.{CanRun};
+ghost use Rattle.dv_sound.specs.Jobs.{AllInputNumbers};
+ghost use Rattle.dv_syntax.specs.Trees.{file_of};
+
+use crate::numbers::shares_have_numbers;
+use dv_bag::Response;
+use dv_coded::{Lent, Programs};
+use dv_conservative::channels::channels_are_where_links_cross;
+use dv_flat::LinkLists;
+use dv_plan::Plan;
+use dv_planned::{TextJob, plan_text};
+use dv_share::Member;
+use dv_sound::jobs::texts_are_jobs;
+use dv_sound::shares::processes_of_texts_start_sound;
+use std::alloc::{AllocError, Global};
+
+/// The plan of an accepted text, with which a run can begin. The programs stay where they lie.
+///
+/// # Errors
+///
+/// No memory for the lists.
+pub fn plan_of<'m>(
+    alloc: Global,
+    job: &TextJob<'_, '_>,
+    models: &'m [Programs],
+    members: Vec<Member>,
+    responses: Vec<Response>,
+    links: &LinkLists,
+) -> Result<Plan<Lent<'m>>, AllocError>
+    requires text { AreOfOneText job.now.tree.now.names (file_of job.now.tree.now.file) }
+    requires accepted { refusal_of (file_of job.now.tree.now.file) ≡ None }
+    requires numbers { AllInputNumbers job.now.inputs.now }
+    requires components { AreComponentsOf (file_of job.now.tree.now.file) job.now.limit models.now
+        members.items responses.items }
+    requires links { AreLinksOf (file_of job.now.tree.now.file) links.now }
+    ensures run { IfOk result (CanRun text_job behaviour_of_lent lent_takes job.now) }
+    ensures some { 0 < (text_job job.now).processes }
+{
+    // An accepted text is a job, whose processes start sound, with links wherever something crosses.
+    texts_are_jobs();
+    processes_of_texts_start_sound();
+    channels_are_where_links_cross();
+    // There are some processes and not too many, and each component is in one.
+    let _processes = job.groups.processes();
+    let plan = plan_text(alloc, job, models, members, responses, links)?;
+    shares_have_numbers(&plan.shares);
+    Ok(plan)
+}

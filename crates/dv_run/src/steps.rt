@@ -1,0 +1,76 @@
+//! The compiled model of a text, run by a list of steps.
+
+ghost use Rattle.std.specs.Prelude.{◌≡◌, None, IfOk};
+ghost use Rattle.dv_check.specs.Refusals.{AreOfOneText, refusal_of};
+ghost use Rattle.dv_planned.specs.Texts.{AreComponentsOf, AreLinksOf, text_job};
+ghost use Rattle.dv_run.specs.Runs.{IsStepped};
+ghost use Rattle.dv_serial.specs.Runs.{HasStepped};
+ghost use Rattle.dv_sound.specs.Jobs.{AllInputNumbers};
+ghost use Rattle.dv_syntax.specs.Trees.{file_of};
+
+use crate::plan::plan_of;
+use dv_coded::{Bench, Components, components_of};
+use dv_core::Step;
+use dv_flat::LinkLists;
+use dv_gen::laws::texts_are_compilable;
+use dv_planned::TextJob;
+use dv_serial::{Stepped, step_plan};
+use dv_sound::jobs::parts_of_the_flat_model_are_those_of_the_text;
+use std::alloc::{AllocError, Global};
+
+/// Makes the steps of a list with the processes of a text and its inputs, from their start: turns, deliveries and stops, in any
+/// order. Whatever the list and the partition, each process has committed exactly its components' part, before its clock, of
+/// the trace that the text's resultant has. A link holds so many packets at most.
+///
+/// # Errors
+///
+/// No memory for the programs, the processes and the replies, or to hand over what was committed.
+pub fn compiled_steps(
+    alloc: Global,
+    job: &TextJob<'_, '_>,
+    links: &LinkLists,
+    steps: &[Step],
+    capacity: usize,
+) -> Result<Stepped, AllocError>
+    requires text { AreOfOneText job.now.tree.now.names (file_of job.now.tree.now.file) }
+    requires accepted { refusal_of (file_of job.now.tree.now.file) ≡ None }
+    requires numbers { AllInputNumbers job.now.inputs.now }
+    requires links { AreLinksOf (file_of job.now.tree.now.file) links.now }
+    ensures { IfOk result (IsStepped (file_of job.now.tree.now.file) job.now.inputs.now
+        job.now.groups.now job.now.horizon job.now.limit capacity steps.now) }
+{
+    // The atomic models of an accepted text have programs.
+    texts_are_compilable();
+    // The parts of its flat model are those of the text.
+    parts_of_the_flat_model_are_those_of_the_text();
+    let mut bench = Bench::new(alloc);
+    let components = components_of(&mut bench, job.tree, job.limit)?;
+    Ok(step_components(alloc, job, components, links, &mut bench, steps, capacity)?)
+}
+
+// What the processes of a text commit by steps.
+fn step_components(
+    alloc: Global,
+    job: &TextJob<'_, '_>,
+    components: Components,
+    links: &LinkLists,
+    bench: &mut Bench,
+    steps: &[Step],
+    capacity: usize,
+) -> Result<Stepped, AllocError>
+    requires text { AreOfOneText job.now.tree.now.names (file_of job.now.tree.now.file) }
+    requires accepted { refusal_of (file_of job.now.tree.now.file) ≡ None }
+    requires numbers { AllInputNumbers job.now.inputs.now }
+    requires components { AreComponentsOf (file_of job.now.tree.now.file) job.now.limit
+        components.models.items components.members.items components.responses.items }
+    requires links { AreLinksOf (file_of job.now.tree.now.file) links.now }
+    ensures { IfOk result (HasStepped (text_job job.now) capacity steps.now) }
+{
+    let Components {
+        models,
+        members,
+        responses,
+    } = components;
+    let plan = plan_of(alloc, job, &models, members, responses, links)?;
+    step_plan(alloc, *job, plan, bench, steps, capacity)
+}

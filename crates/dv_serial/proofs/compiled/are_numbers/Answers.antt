@@ -1,6 +1,0 @@
-use Rattle.std.proofs.Common.{get_or, IsTrue, subst, rules}
-use Rattle.dv_serial.proofs.Shares.{one_more_number}
-use Rattle.dv_serial.proofs.compiled.are_numbers.Goals as goal
-
-pub loop-input-preserved : goal.loop-input-preserved
-loop-input-preserved c = search (rules, one_more_number)

@@ -1,6 +1,0 @@
-use Rattle.std.proofs.Common.{take}
-use Rattle.dv_sound.specs.Jobs.{AllInputNumbers}
-use Rattle.dv_serial.proofs.compiled.are_numbers.Given as goal
-
-abbrev pub invariant-loop-input : goal.invariant-loop-input
-invariant-loop-input l = AllInputNumbers (take l.input-index l.input-items)

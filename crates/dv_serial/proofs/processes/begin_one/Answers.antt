@@ -1,0 +1,16 @@
+use Rattle.dv_serial.proofs.processes.begin_one.Goals as goal
+
+pub returns : goal.returns
+returns g c =
+    let h = c.in_ok-process.ensures in
+    record {
+      valid = record { process = h.process; at_rest = h.settled };
+      share = h.share;
+      new = record {
+        received = h.received;
+        clock = h.clock;
+        standing = h.standing;
+        promised = h.promised;
+        committed = h.process.run.committed;
+      };
+    }

@@ -1,0 +1,48 @@
+//! The processes of a plan, as they begin.
+
+ghost use Rattle.std.specs.Prelude.{IfOk, List, map};
+ghost use Rattle.std.specs.List.{AllByRecursion};
+ghost use Rattle.dv_bag.specs.Bag.{Counts};
+ghost use Rattle.dv_local.specs.Shares.{share_by};
+ghost use Rattle.dv_local.specs.States.{settled_by, view_by};
+ghost use Rattle.dv_serial.specs.Beginning.{AllBegun, CanBegin, HasBegun};
+
+use dv_local::{LocalRun, Share, begin};
+use dv_proc::Process;
+use dv_react::Atomic;
+use std::alloc::{AllocError, Global};
+
+/// A process for each share, in their order: nothing came to any, and none has committed or sent anything.
+///
+/// # Errors
+///
+/// No memory for the components and the tables of the processes.
+pub fn begin_each<A: Atomic + Drop>(
+    alloc: Global,
+    shares: Vec<Share<A>>,
+) -> Result<Vec<Process<LocalRun<A>>>, AllocError>
+    requires comes { (a : A) (bags : List Counts) → A.comes a bags }
+    requires begin { AllByRecursion (CanBegin A.behaviour A.fits) shares.items }
+    ensures { IfOk result (λ processes. AllBegun (view_by A.behaviour) (settled_by A.behaviour)
+        (map (share_by A.behaviour) shares.items) processes.items) }
+{
+    let mut processes = Vec::with_capacity(alloc, shares.len())?;
+    for share in shares {
+        processes.push(begin_one(alloc, share)?)?;
+    }
+    Ok(processes)
+}
+
+// The process of a share, as its run begins.
+fn begin_one<A: Atomic + Drop>(
+    alloc: Global,
+    share: Share<A>,
+) -> Result<Process<LocalRun<A>>, AllocError>
+    requires comes { (a : A) (bags : List Counts) → A.comes a bags }
+    requires begin { CanBegin A.behaviour A.fits share }
+    ensures { IfOk result (HasBegun (view_by A.behaviour) (settled_by A.behaviour)
+        (share_by A.behaviour share)) }
+{
+    let process = begin(alloc, share)?;
+    Ok(process)
+}

@@ -1,0 +1,80 @@
+//! Random partitions and random lists of steps.
+
+use dv_core::Step;
+use std::alloc::{AllocError, Global};
+
+/// How many steps a list has.
+const STEPS: usize = 400;
+
+/// The numbers of links below this one are tried.
+const LINKS: u64 = 20;
+
+/// A source of numbers that look random: a shift register with feedback (Marsaglia).
+#[derive(Clone, Copy)]
+pub struct Source {
+    state: u64,
+}
+
+impl Source {
+    pub fn new(seed: u64) -> Self {
+        Source {
+            state: seed.wrapping_mul(0x9E37_79B9_7F4A_7C15) | 1,
+        }
+    }
+
+    fn next(&mut self) -> u64 {
+        let mut state = self.state;
+        state ^= state << 13;
+        state ^= state >> 7;
+        state ^= state << 17;
+        self.state = state;
+        state
+    }
+
+    /// A number below a bound; 0 where that is 0.
+    pub fn below(&mut self, bound: u64) -> u64 {
+        let next = self.next();
+        if bound == 0 { 0 } else { (next >> 11) % bound }
+    }
+}
+
+/// The process of each component: some number of processes, each of which has one at least.
+pub fn owners(
+    alloc: Global,
+    source: &mut Source,
+    components: usize,
+) -> Result<(Vec<u64>, u64), AllocError> {
+    let most = if components < 8 { components as u64 } else { 8 };
+    let processes = source.below(most).saturating_add(1);
+    let mut owners = Vec::new(alloc);
+    for component in 0..components {
+        let first = component as u64;
+        let owner = if first < processes {
+            first
+        } else {
+            source.below(processes)
+        };
+        owners.push(owner)?;
+    }
+    Ok((owners, processes))
+}
+
+/// A list of steps: turns, puts and takes, now and then a stop, and now and then one of what is not there.
+pub fn steps(alloc: Global, source: &mut Source, processes: u64) -> Result<Vec<Step>, AllocError> {
+    let mut steps = Vec::new(alloc);
+    for _step in 0..STEPS {
+        steps.push(step(source, processes))?;
+    }
+    Ok(steps)
+}
+
+fn step(source: &mut Source, processes: u64) -> Step {
+    let process = source.below(processes.saturating_add(1)) as u32;
+    let link = source.below(LINKS) as u32;
+    match source.below(200) {
+        0 => Step::Stop(process),
+        1..=79 => Step::Turn(process),
+        80..=139 => Step::Put(link),
+        _ => Step::Take(link),
+    }
+}
