@@ -49,10 +49,10 @@ fn stepped(
     text: &str,
     groups: &str,
     source: &mut Source,
-    processes: u64,
+    processes: u32,
 ) -> Result<Option<Stepped>, AllocError> {
     let steps = steps(alloc, source, processes)?;
-    let capacity = source.below(3).saturating_add(1) as u32;
+    let capacity = source.below(3).saturating_add(1);
     let Some(options) = Options::new(HORIZON, LIMIT, None, None, capacity) else {
         return Ok(None);
     };
@@ -67,8 +67,8 @@ fn stepped(
 fn groups_text(
     alloc: Global,
     tree: &Tree,
-    owners: &[u64],
-    processes: u64,
+    owners: &[u32],
+    processes: u32,
 ) -> Result<String, AllocError> {
     let mut text = String::from_str(alloc, "{\"processes\":[")?;
     for process in 0..processes {
@@ -85,8 +85,8 @@ fn groups_text(
 fn push_group(
     text: &mut String,
     tree: &Tree,
-    owners: &[u64],
-    process: u64,
+    owners: &[u32],
+    process: u32,
 ) -> Result<(), AllocError> {
     let mut mark = '[';
     for component in 0..tree.component_count() {
@@ -102,20 +102,22 @@ fn push_group(
 }
 
 /// Whether parts are those of their processes before their clocks.
-fn are_parts(plain: &Part, owners: &[u64], stepped: &Stepped) -> Result<bool, AllocError> {
-    for (process, part) in stepped.parts.iter().enumerate() {
-        let Some(clock) = stepped.clocks.get(process) else {
+fn are_parts(plain: &Part, owners: &[u32], stepped: &Stepped) -> Result<bool, AllocError> {
+    let mut process: u32 = 0;
+    for part in &stepped.parts {
+        let Some(clock) = stepped.clocks.get(process as usize) else {
             return Ok(false);
         };
-        if !is_part(plain, owners, process as u64, *clock, part) {
+        if !is_part(plain, owners, process, *clock, part) {
             return Ok(false);
         }
+        process = process.saturating_add(1);
     }
     Ok(true)
 }
 
 /// Whether a part has the entries of a process before its clock.
-fn is_part(plain: &Part, owners: &[u64], process: u64, clock: Time, part: &Part) -> bool {
+fn is_part(plain: &Part, owners: &[u32], process: u32, clock: Time, part: &Part) -> bool {
     let mut rest = part.entries();
     for entry in plain.entries() {
         if is_entry_of(entry, owners, process, clock) && rest.next() != Some(entry) {
@@ -126,6 +128,6 @@ fn is_part(plain: &Part, owners: &[u64], process: u64, clock: Time, part: &Part)
 }
 
 /// Whether an entry is of a process, and before a clock.
-fn is_entry_of(entry: &Entry, owners: &[u64], process: u64, clock: Time) -> bool {
+fn is_entry_of(entry: &Entry, owners: &[u32], process: u32, clock: Time) -> bool {
     entry.time.is_before(clock) && owners.get(entry.component as usize) == Some(&process)
 }

@@ -7,7 +7,7 @@ use std::alloc::{AllocError, Global};
 const STEPS: usize = 400;
 
 /// The numbers of links below this one are tried.
-const LINKS: u64 = 20;
+const LINKS: u32 = 20;
 
 /// A source of numbers that look random: a shift register with feedback (Marsaglia).
 #[derive(Clone, Copy)]
@@ -32,9 +32,9 @@ impl Source {
     }
 
     /// A number below a bound; 0 where that is 0.
-    pub fn below(&mut self, bound: u64) -> u64 {
-        let next = self.next();
-        if bound == 0 { 0 } else { (next >> 11) % bound }
+    pub fn below(&mut self, bound: u32) -> u32 {
+        let next = u32::try_from(self.next() >> 32).unwrap_or(0);
+        if bound == 0 { 0 } else { next % bound }
     }
 }
 
@@ -43,24 +43,26 @@ pub fn owners(
     alloc: Global,
     source: &mut Source,
     components: usize,
-) -> Result<(Vec<u64>, u64), AllocError> {
-    let most = if components < 8 { components as u64 } else { 8 };
+) -> Result<(Vec<u32>, u32), AllocError> {
+    let most = if components < 8 { components as u32 } else { 8 };
     let processes = source.below(most).saturating_add(1);
     let mut owners = Vec::new(alloc);
     for component in 0..components {
-        let first = component as u64;
-        let owner = if first < processes {
-            first
-        } else {
-            source.below(processes)
-        };
-        owners.push(owner)?;
+        owners.push(owner(source, component, processes))?;
     }
     Ok((owners, processes))
 }
 
+/// The first components have a process each.
+fn owner(source: &mut Source, component: usize, processes: u32) -> u32 {
+    match u32::try_from(component) {
+        Ok(first) if first < processes => first,
+        _ => source.below(processes),
+    }
+}
+
 /// A list of steps: turns, puts and takes, now and then a stop, and now and then one of what is not there.
-pub fn steps(alloc: Global, source: &mut Source, processes: u64) -> Result<Vec<Step>, AllocError> {
+pub fn steps(alloc: Global, source: &mut Source, processes: u32) -> Result<Vec<Step>, AllocError> {
     let mut steps = Vec::new(alloc);
     for _step in 0..STEPS {
         steps.push(step(source, processes))?;
@@ -68,9 +70,9 @@ pub fn steps(alloc: Global, source: &mut Source, processes: u64) -> Result<Vec<S
     Ok(steps)
 }
 
-fn step(source: &mut Source, processes: u64) -> Step {
-    let process = source.below(processes.saturating_add(1)) as u32;
-    let link = source.below(LINKS) as u32;
+fn step(source: &mut Source, processes: u32) -> Step {
+    let process = source.below(processes.saturating_add(1));
+    let link = source.below(LINKS);
     match source.below(200) {
         0 => Step::Stop(process),
         1..=79 => Step::Turn(process),
