@@ -11,6 +11,9 @@ use dv_explain::{
 use dv_time::{GREATEST_LIMIT, GREATEST_TICK};
 use std::alloc::{AllocError, Global};
 
+/// The most workers that a run may have.
+const MOST_WORKERS: u64 = 64;
+
 /// What the words ask for; the first word is the program's name.
 ///
 /// # Errors
@@ -143,6 +146,16 @@ fn rounds_argument<'a>(alloc: Global) -> Arg<'a> {
         .help("the most rounds of turns and packets (as many as it takes)")
 }
 
+fn workers_argument<'a>(alloc: Global) -> Arg<'a> {
+    Arg::new(alloc, "workers")
+        .long("workers")
+        .value_name("N")
+        .action(ArgAction::Set)
+        .help(
+            "the threads that run the processes, 1 to 64; not with --rounds (none but the program's own)",
+        )
+}
+
 fn plan_command<'a>(alloc: Global) -> Result<Command<'a>, AllocError> {
     Command::new(alloc, "plan")
         .about("Prints the processes of a model and the links between them")
@@ -162,6 +175,7 @@ fn run_command<'a>(alloc: Global) -> Result<Command<'a>, AllocError> {
         .arg(inputs_argument(alloc))?
         .arg(microsteps_argument(alloc))?
         .arg(rounds_argument(alloc))?
+        .arg(workers_argument(alloc))?
         .arg(explain_argument(alloc))
 }
 
@@ -255,6 +269,10 @@ fn run_of(alloc: Global, matches: &ArgMatches) -> Result<Run, RequestError> {
     let horizon = horizon_of(alloc, matches)?;
     let microsteps = microsteps_of(alloc, matches)?;
     let rounds = rounds_of(alloc, matches)?;
+    let workers = workers_of(alloc, matches)?;
+    if rounds.is_some() && workers.is_some() {
+        return Err(refused(alloc, "rounds are not counted where there are workers"));
+    }
     Ok(Run {
         model,
         partition,
@@ -262,6 +280,7 @@ fn run_of(alloc: Global, matches: &ArgMatches) -> Result<Run, RequestError> {
         horizon,
         microsteps,
         rounds,
+        workers,
         explained: matches.get_flag("explain"),
     })
 }
@@ -303,6 +322,17 @@ fn rounds_of(alloc: Global, matches: &ArgMatches) -> Result<Option<u64>, Request
             alloc,
             "the number of rounds is one from 0 to 18446744073709551615",
         )),
+    }
+}
+
+/// The number of workers, where one is given.
+fn workers_of(alloc: Global, matches: &ArgMatches) -> Result<Option<u32>, RequestError> {
+    let Some(text) = matches.get_str("workers") else {
+        return Ok(None);
+    };
+    match number(text, MOST_WORKERS) {
+        Some(workers) if workers >= 1 => Ok(Some(workers as u32)),
+        _ => Err(refused(alloc, "the number of workers is one from 1 to 64")),
     }
 }
 

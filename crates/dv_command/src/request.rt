@@ -63,6 +63,8 @@ pub struct Run {
     pub microsteps: Option<u32>,
     /// The most rounds of turns and packets, where that was given; else there are as many as it takes.
     pub rounds: Option<u64>,
+    /// The threads that run the processes, where that was given; it is not beside rounds.
+    pub workers: Option<u32>,
     /// Whether a refusal is explained.
     pub explained: bool,
     pub ghost in_range: { AreInRange horizon microsteps },

@@ -1,3 +1,4 @@
+pub mod Counted
 pub mod Loading
 pub mod Printing
 pub mod Ran

@@ -15,7 +15,7 @@ use Rattle.dv_partition.specs.Answers.{partition_answer}
 use Rattle.dv_partition.specs.Groups.{Grouping}
 use Rattle.dv_partition.specs.declared.choice.Partition.{Partition}
 use Rattle.dv_plain.specs.Source.{network_of, outside, trace_of}
-use Rattle.dv_run.specs.Runs.{IsRunOf, LedTo}
+use Rattle.dv_run.specs.Runs.{IsRunOf, IsTraceOf, LedTo}
 use Rattle.dv_serial.specs.declared.ran.Ran.{Ran}
 use Rattle.dv_core.specs.declared.step.Ended.{Ended}
 use Rattle.dv_core.specs.declared.step.Ended.TheVariants as ran
@@ -26,7 +26,7 @@ use Rattle.dv_text.specs.Writing.{StopsShort}
 use Rattle.dv_job.specs.Ending.{ending_of, has_fault}
 use Rattle.dv_job.specs.Job.{IsModelOf, run_text}
 use Rattle.dv_job.specs.Planned.{AnswersPlan}
-use Rattle.dv_job.specs.Running.{EndsBy, IsPlanned, IsTextOf, LeftByRun, PrintsSome, PrintsWhole, cut_text, ended_for, granted}
+use Rattle.dv_job.specs.Running.{EndsBy, EndsByWorkers, IsPlanned, IsTextOf, LeftByRun, PrintsCutAt, PrintsSome, PrintsWhole, cut_text, ended_for, granted}
 use Rattle.dv_job.specs.Stepping.{AnswersSteps}
 use Rattle.dv_job.specs.Written.{IsUnwritten, ended_at, text_to}
 use Rattle.dv_job.specs.declared.ended.Why.{Why}
@@ -57,14 +57,18 @@ AreLines =
 abbrev pub RanSo : FileTree → List Input → Grouping → Options → Ran → Type 0
 RanSo f played groups o r = IsRunOf f played groups o.horizon o.limit o.capacity (granted o) r
 
--- what ran stands by time
-pub ran_by_time : (f : FileTree) (played : List Input) (groups : Grouping) (h l capacity rounds : ℕ) (r : Ran) → AreByTime
-    → IsRunOf f played groups h l capacity rounds r → IsByTime r.trace
-ran_by_time f played groups h l capacity rounds r are is =
+-- what ran of it in rounds is its trace
+pub traced : (f : FileTree) (played : List Input) (groups : Grouping) (h l capacity rounds : ℕ) (r : Ran)
+    → IsRunOf f played groups h l capacity rounds r → IsTraceOf f played h l r
+traced f played groups h l capacity rounds r is = record { trace = is.trace; some = is.some; whole = is.whole }
+
+-- a trace that ran stands by time
+pub ran_by_time : (f : FileTree) (played : List Input) (h l : ℕ) (r : Ran) → AreByTime → IsTraceOf f played h l r → IsByTime r.trace
+ran_by_time f played h l r are is =
     subst IsByTime (sym is.trace) (are l (network_of l f) (outside f l played) (least_rank l r.clocks.items))
 
 module _ (names : List (List ℕ)) (f : FileTree) (played : List Input) (groups : Grouping) (o : Options) (r : Ran)
-    (is : RanSo f played groups o r) where
+    (is : IsTraceOf f played o.horizon o.limit r) where
   -- what ran whole is the trace
   whole_is_the_trace : r.ended ≡ ran.Whole → r.trace ≡ trace_of f played o.horizon o.limit
   whole_is_the_trace whole =
@@ -97,52 +101,33 @@ module _ (names : List (List ℕ)) (f : FileTree) (played : List Input) (groups 
 
   module _ (model inputs : List ℕ) (partition : Partition) (old new : Option (List ℕ))
       (planned : IsPlanned model inputs partition names f groups played) where
-    -- an ending that a trace has is whole or faulted
-    ends_whole : (fault : Bool) (e : JobEnded) (t : PartOf) → has_fault t ≡ fault → e ≡ ending_of t
-        → PrintsWhole model inputs partition o old new e → EndsBy e model inputs partition o old new
-    ends_whole fault ended.Whole t is ending prints = prints
-    ends_whole fault ended.Faulted t is ending prints = prints
-    ends_whole true (ended.Partial why) t is ending prints =
-        let no : ended.Partial why ≡ ended.Faulted = rw is at ending in cc
-    ends_whole false (ended.Partial why) t is ending prints =
-        let no : ended.Partial why ≡ ended.Whole = rw is at ending in cc
-
-    ends_at_the_horizon : (e : JobEnded) → AreInstants → r.ended ≡ ran.Whole → e ≡ ending_of r.trace
+    -- a run to the horizon
+    prints_whole : (e : JobEnded) → AreInstants → r.ended ≡ ran.Whole → e ≡ ending_of r.trace
         → Appends old new (part_text (component_names names f) (root_ports names f) r.trace ++ ending_text (text_end.Whole o.horizon))
-        → EndsBy e model inputs partition o old new
-    ends_at_the_horizon e are whole ending written =
-        let at : e ≡ ending_of (trace_of f played o.horizon o.limit) = ending ∙ ap ending_of (whole_is_the_trace whole) in
-        ends_whole (has_fault (trace_of f played o.horizon o.limit)) e (trace_of f played o.horizon o.limit) refl at
-        (record {
-          names = names;
-          file = f;
-          groups = groups;
-          played = played;
-          planned = planned;
-          ending = at;
-          written = subst (λ (t : List ℕ). Appends old new t) (whole_text_is are whole) written;
-        })
+        → PrintsWhole model inputs partition o old new e
+    prints_whole e are whole ending written = record {
+      names = names;
+      file = f;
+      groups = groups;
+      played = played;
+      planned = planned;
+      ending = ending ∙ ap ending_of (whole_is_the_trace whole);
+      written = subst (λ (t : List ℕ). Appends old new t) (whole_text_is are whole) written;
+    }
 
-    -- a run that is cut, for a reason
-    ends_at_clocks : (e : JobEnded) (reason : Why) → AreLines → r.ended ≡ ended_for reason
-        → (reason ≡ why.Rounds → granted o ≤ end_of o.limit o.horizon) → e ≡ ended.Partial reason
-        → Appends old new (part_text (component_names names f) (root_ports names f) r.trace ++ partial_ending r.clocks.items)
-        → EndsBy e model inputs partition o old new
-    ends_at_clocks e reason are at few ending written =
-        subst (λ (e : JobEnded). EndsBy e model inputs partition o old new) (sym ending)
-        (record {
-          names = names;
-          file = f;
-          groups = groups;
-          played = played;
-          planned = planned;
-          clocks = r.clocks.items;
-          some = is.some;
-          led =
-              subst (λ (x : Ended). LedTo f played groups o.horizon o.limit o.capacity (granted o) x r.clocks.items) at is.led;
-          stalls = few;
-          written = subst (λ (t : List ℕ). Appends old new t) (cut_text_is are) written;
-        })
+    -- a run that is cut
+    abbrev prints_cut : AreLines → Appends old new (part_text (component_names names f) (root_ports names f) r.trace ++ partial_ending r.clocks.items)
+        → PrintsCutAt model inputs partition o old new
+    prints_cut are written = record {
+      names = names;
+      file = f;
+      groups = groups;
+      played = played;
+      planned = planned;
+      clocks = r.clocks.items;
+      some = is.some;
+      written = subst (λ (t : List ℕ). Appends old new t) (cut_text_is are) written;
+    }
 
     stops : (text : List ℕ) → IsTextOf names f played o.horizon o.limit text → StopsShort old new text
         → PrintsSome model inputs partition o old new
@@ -167,16 +152,6 @@ module _ (names : List (List ℕ)) (f : FileTree) (played : List Input) (groups 
     left_unwritten error.Memory text is (inl same) = inl same
     left_unwritten error.Memory text is (inr short) = inr (stops text is short)
 
-    -- a run that was written to its end, whichever end it came to
-    ends_so : (at : Ended) (e : JobEnded) → AreInstants → AreLines → r.ended ≡ at → e ≡ ended_at at r.trace
-        → Appends old new (text_to at (component_names names f) (root_ports names f) o.horizon r)
-        → EndsBy e model inputs partition o old new
-    ends_so ran.Whole e whole lines at ending written = ends_at_the_horizon e whole at ending written
-    ends_so ran.Stalled e whole lines at ending written =
-        ends_at_clocks e why.Rounds lines at (λ _. is.stalls at o.in_range.some_capacity) ending written
-    ends_so ran.Memory e whole lines at ending written =
-        ends_at_clocks e why.Memory lines at (λ no. absurd (cc)) ending written
-
     left_as_it_ran : (e : JobError) → AreInstants → AreLines
         → IsUnwritten e (text_to r.ended (component_names names f) (root_ports names f) o.horizon r) old new
         → LeftByRun e model inputs partition o old new
@@ -185,6 +160,56 @@ module _ (names : List (List ℕ)) (f : FileTree) (played : List Input) (groups 
         (text_of_it r.ended whole lines refl) unwritten
 
     -- whatever became of it
+    pub if_it_was_left : (result : Result JobEnded JobError) → AreInstants → AreLines
+        → IfErr result (λ (e : JobError). IsUnwritten e (text_to r.ended (component_names names f) (root_ports names f) o.horizon r) old new)
+        → IfErr result (λ (e : JobError). LeftByRun e model inputs partition o old new)
+    if_it_was_left (Ok e) whole lines unwritten = tt
+    if_it_was_left (Err e) whole lines unwritten = left_as_it_ran e whole lines unwritten
+
+-- an ending that a trace has is whole or faulted
+whole_or_faulted : (Q : JobEnded → Type 0) (fault : Bool) (e : JobEnded) (t : PartOf) → has_fault t ≡ fault → e ≡ ending_of t
+    → (e ≡ ended.Whole → Q ended.Whole) → (e ≡ ended.Faulted → Q ended.Faulted) → Q e
+whole_or_faulted Q fault ended.Whole t is ending whole faulted = whole refl
+whole_or_faulted Q fault ended.Faulted t is ending whole faulted = faulted refl
+whole_or_faulted Q true (ended.Partial why) t is ending whole faulted =
+    let no : ended.Partial why ≡ ended.Faulted = rw is at ending in cc
+whole_or_faulted Q false (ended.Partial why) t is ending whole faulted =
+    let no : ended.Partial why ≡ ended.Whole = rw is at ending in cc
+
+module _ (names : List (List ℕ)) (f : FileTree) (played : List Input) (groups : Grouping) (o : Options) (r : Ran)
+    (model inputs : List ℕ) (partition : Partition) (old new : Option (List ℕ))
+    (planned : IsPlanned model inputs partition names f groups played) where
+  -- a run in rounds
+  module _ (is : RanSo f played groups o r) where
+    its_trace : IsTraceOf f played o.horizon o.limit r
+    its_trace = traced f played groups o.horizon o.limit o.capacity (granted o) r is
+
+    ends_at_clocks : (e : JobEnded) (reason : Why) → AreLines → r.ended ≡ ended_for reason
+        → (reason ≡ why.Rounds → granted o ≤ end_of o.limit o.horizon) → e ≡ ended.Partial reason
+        → Appends old new (part_text (component_names names f) (root_ports names f) r.trace ++ partial_ending r.clocks.items)
+        → EndsBy e model inputs partition o old new
+    ends_at_clocks e reason are at few ending written =
+        subst (λ (e : JobEnded). EndsBy e model inputs partition o old new) (sym ending)
+        (record {
+          cut = prints_cut names f played groups o r its_trace model inputs partition old new planned are written;
+          led =
+              subst (λ (x : Ended). LedTo f played groups o.horizon o.limit o.capacity (granted o) x r.clocks.items) at is.led;
+          stalls = few;
+        })
+
+    ends_so : (at : Ended) (e : JobEnded) → AreInstants → AreLines → r.ended ≡ at → e ≡ ended_at at r.trace
+        → Appends old new (text_to at (component_names names f) (root_ports names f) o.horizon r)
+        → EndsBy e model inputs partition o old new
+    ends_so ran.Whole e whole lines at ending written =
+        let prints = prints_whole names f played groups o r its_trace model inputs partition old new planned e whole at ending written in
+        whole_or_faulted (λ (e : JobEnded). EndsBy e model inputs partition o old new) (has_fault r.trace) e r.trace refl ending
+        (λ is_whole. subst (PrintsWhole model inputs partition o old new) is_whole prints)
+        (λ is_faulted. subst (PrintsWhole model inputs partition o old new) is_faulted prints)
+    ends_so ran.Stalled e whole lines at ending written =
+        ends_at_clocks e why.Rounds lines at (λ _. is.stalls at o.in_range.some_capacity) ending written
+    ends_so ran.Memory e whole lines at ending written =
+        ends_at_clocks e why.Memory lines at (λ no. absurd (cc)) ending written
+
     pub if_it_ended : (result : Result JobEnded JobError) → AreInstants → AreLines
         → IfOk result (λ (e : JobEnded). e ≡ ended_at r.ended r.trace)
         → OnOk result (Appends old new (text_to r.ended (component_names names f) (root_ports names f) o.horizon r))
@@ -192,11 +217,27 @@ module _ (names : List (List ℕ)) (f : FileTree) (played : List Input) (groups 
     if_it_ended (Ok e) whole lines ending written = ends_so r.ended e whole lines refl ending written
     if_it_ended (Err e) whole lines ending written = tt
 
-    pub if_it_was_left : (result : Result JobEnded JobError) → AreInstants → AreLines
-        → IfErr result (λ (e : JobError). IsUnwritten e (text_to r.ended (component_names names f) (root_ports names f) o.horizon r) old new)
-        → IfErr result (λ (e : JobError). LeftByRun e model inputs partition o old new)
-    if_it_was_left (Ok e) whole lines unwritten = tt
-    if_it_was_left (Err e) whole lines unwritten = left_as_it_ran e whole lines unwritten
+  -- a run by workers
+  module _ (is : IsTraceOf f played o.horizon o.limit r) (unstalled : r.ended ≡ ran.Stalled → ⊥) where
+    worked_so : (at : Ended) (e : JobEnded) → AreInstants → AreLines → r.ended ≡ at → e ≡ ended_at at r.trace
+        → Appends old new (text_to at (component_names names f) (root_ports names f) o.horizon r)
+        → EndsByWorkers e model inputs partition o old new
+    worked_so ran.Whole e whole lines at ending written =
+        let prints = prints_whole names f played groups o r is model inputs partition old new planned e whole at ending written in
+        whole_or_faulted (λ (e : JobEnded). EndsByWorkers e model inputs partition o old new) (has_fault r.trace) e r.trace refl ending
+        (λ is_whole. subst (PrintsWhole model inputs partition o old new) is_whole prints)
+        (λ is_faulted. subst (PrintsWhole model inputs partition o old new) is_faulted prints)
+    worked_so ran.Stalled e whole lines at ending written = absurd (unstalled at)
+    worked_so ran.Memory e whole lines at ending written =
+        subst (λ (e : JobEnded). EndsByWorkers e model inputs partition o old new) (sym ending)
+        (prints_cut names f played groups o r is model inputs partition old new planned lines written)
+
+    pub if_workers_ended : (result : Result JobEnded JobError) → AreInstants → AreLines
+        → IfOk result (λ (e : JobEnded). e ≡ ended_at r.ended r.trace)
+        → OnOk result (Appends old new (text_to r.ended (component_names names f) (root_ports names f) o.horizon r))
+        → IfOk result (λ (e : JobEnded). EndsByWorkers e model inputs partition o old new)
+    if_workers_ended (Ok e) whole lines ending written = worked_so r.ended e whole lines refl ending written
+    if_workers_ended (Err e) whole lines ending written = tt
 
 -- a model, its inputs and its groups, all read
 pub planned_tree : (model inputs : List ℕ) (partition : Partition) (tree : Source) (groups : Grouping) (played : List Input)

@@ -67,10 +67,8 @@ abbrev pub ended_for : Why → Ended
 ended_for why.Rounds = Stalled
 ended_for why.Memory = Memory
 
--- All is accepted, and the writer's bytes grew by the text of the trace, cut at the clocks to which rounds of the processes led. For
--- want of rounds a run ends only where there are no more than ranks before the end.
-pub record PrintsCut (model inputs : List ℕ) (partition : Partition) (o : Options) (old new : Option (List ℕ)) (reason : Why)
-    : Type 0 where
+-- All is accepted, and the writer's bytes grew by the text of the trace, cut at the clocks of the processes.
+pub record PrintsCutAt (model inputs : List ℕ) (partition : Partition) (o : Options) (old new : Option (List ℕ)) : Type 0 where
   pub names : List (List ℕ)
   pub file : FileTree
   pub groups : Grouping
@@ -78,9 +76,15 @@ pub record PrintsCut (model inputs : List ℕ) (partition : Partition) (o : Opti
   pub planned : IsPlanned model inputs partition names file groups played
   pub clocks : List Time
   pub some : 0 < length clocks
-  pub led : LedTo file played groups o.horizon o.limit o.capacity (granted o) (ended_for reason) clocks
-  pub stalls : reason ≡ why.Rounds → granted o ≤ end_of o.limit o.horizon
   pub written : Appends old new (cut_text names file played o.limit clocks)
+
+-- The same of a run in rounds, which led to those clocks. For want of rounds it ends only where there are no more than ranks before
+-- the end.
+pub record PrintsCut (model inputs : List ℕ) (partition : Partition) (o : Options) (old new : Option (List ℕ)) (reason : Why)
+    : Type 0 where
+  pub cut : PrintsCutAt model inputs partition o old new
+  pub led : LedTo cut.file cut.played cut.groups o.horizon o.limit o.capacity (granted o) (ended_for reason) cut.clocks
+  pub stalls : reason ≡ why.Rounds → granted o ≤ end_of o.limit o.horizon
 
 -- All is accepted, and the writer's bytes grew by a beginning of such a text, but not by all of it.
 pub record PrintsSome (model inputs : List ℕ) (partition : Partition) (o : Options) (old new : Option (List ℕ)) : Type 0 where
@@ -98,6 +102,13 @@ abbrev pub EndsBy : JobEnded → (model inputs : List ℕ) → Partition → Opt
 EndsBy ended.Whole model inputs partition o old new = PrintsWhole model inputs partition o old new ended.Whole
 EndsBy ended.Faulted model inputs partition o old new = PrintsWhole model inputs partition o old new ended.Faulted
 EndsBy (ended.Partial reason) model inputs partition o old new = PrintsCut model inputs partition o old new reason
+
+-- the same of a run by workers, which has no rounds
+abbrev pub EndsByWorkers : JobEnded → (model inputs : List ℕ) → Partition → Options → (old new : Option (List ℕ)) → Type 0
+EndsByWorkers ended.Whole model inputs partition o old new = PrintsWhole model inputs partition o old new ended.Whole
+EndsByWorkers ended.Faulted model inputs partition o old new = PrintsWhole model inputs partition o old new ended.Faulted
+EndsByWorkers (ended.Partial why.Memory) model inputs partition o old new = PrintsCutAt model inputs partition o old new
+EndsByWorkers (ended.Partial why.Rounds) model inputs partition o old new = ⊥
 
 -- the model is accepted, and this is the answer to the partition of its components
 pub record IsAnswerToPartition (model : List ℕ) (partition : Partition) (r : PartitionRefusal) : Type 0 where

@@ -5,6 +5,7 @@ ghost use Rattle.dv_job.specs.Ending.{AnswersWith, HasComponents};
 
 use crate::ended::JobError;
 use crate::load::{accept, load};
+use dv_check::laws::checked_files;
 use std::alloc::Global;
 
 /// How many components the model of a text has.
@@ -16,7 +17,9 @@ pub fn check_bytes(alloc: Global, model: &[u8]) -> Result<u32, JobError>
     ensures accepted { IfOk result (HasComponents model.now) }
     ensures error { IfErr result (AnswersWith model.now) }
 {
+    // The components of a checked file are its instances of atomic models.
+    checked_files();
     let checked = load(alloc, model)?;
-    let tree = accept(alloc, model, &checked)?;
-    Ok(tree.component_count() as u32)
+    let _tree = accept(alloc, model, &checked)?;
+    Ok(checked.components())
 }

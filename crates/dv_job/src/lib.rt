@@ -27,6 +27,8 @@ mod rounds;
 pub mod run;
 /// The run of a model by a list of steps of its processes.
 pub mod steps;
+/// The run of a model in processes on threads.
+pub mod workers;
 /// What ran, written.
 mod written;
 
@@ -38,3 +40,4 @@ pub use plain::run_plain;
 pub use planned::plan_bytes;
 pub use run::run_bytes;
 pub use steps::run_steps;
+pub use workers::run_by_workers;

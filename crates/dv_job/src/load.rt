@@ -57,6 +57,7 @@ fn read(alloc: Global, text: &[u8]) -> Result<Checked, LoadError>
 pub fn accept<'c>(alloc: Global, text: &[u8], checked: &'c Checked) -> Result<Tree<'c>, JobError>
     requires checked { IsCheckedFileOf text.now checked.now.names (file_of checked.now.file) }
     ensures accepted { IfOk result (λ tree. IsModelOf text.now tree.names (file_of tree.file)) }
+    ensures of_checked { IfOk result (λ tree. tree.file ≡ checked.now.file) }
     ensures refused { IfErr result (AnswersWith text.now) }
 {
     let tree = Tree::of(alloc, checked)?;

@@ -1,11 +1,11 @@
-//! The options of a run. Workers are for threads that are to come: no run reads them yet.
+//! The options of a run.
 
 ghost use Rattle.std.specs.Prelude.{◌≡◌, ◌≤◌, ◌↔◌, IsSome, IfSome, IsTrue};
 ghost use Rattle.dv_job.specs.Ranges.{AreInRange, AreWorkers, NotBoth};
 
 use dv_time::{GREATEST_LIMIT, GREATEST_TICK};
 
-/// The most workers that are to run processes; no run reads this yet.
+/// The most workers that run processes.
 pub const MOST_WORKERS: u32 = 64;
 
 /// The most packets that may be on their way on a link between processes.
@@ -18,7 +18,7 @@ pub struct Options {
     pub horizon: u64,
     /// The greatest microstep of a tick, 1 to 1,000.
     pub limit: u32,
-    /// The threads that are to run processes, 1 to 64; without them one driver runs all. No run reads this yet.
+    /// The threads that run processes, 1 to 64; without them one driver runs all.
     pub workers: Option<u32>,
     /// The greatest number of rounds of the one driver, which is not given beside workers; without it there are enough.
     pub rounds: Option<u64>,

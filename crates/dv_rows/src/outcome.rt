@@ -1,8 +1,12 @@
 //! What comes of a text by a command.
 
-use dv_job::{JobError, Options, check_bytes, list_code, plan_bytes, run_bytes, status};
+use dv_job::{
+    JobError, Options, check_bytes, list_code, plan_bytes, run_by_workers, run_bytes, status,
+};
 use dv_partition::Partition;
 use std::alloc::{AllocError, Global};
+use std::sync::Wait;
+use std::thread::Threads;
 
 /// The microstep limit where a command names none.
 const USUAL_LIMIT: u64 = 20;
@@ -13,6 +17,11 @@ const LINK_CAPACITY: u64 = 16;
 /// The most processes that a partition has.
 const MOST_PROCESSES: u32 = 64;
 
+/// The numbers of workers and of packets on a link with which each run has to print the same.
+const WORKERS: [u32; 4] = [1, 2, 3, 8];
+
+const CAPACITIES: [u32; 3] = [1, 2, 16];
+
 /// What a command reads.
 #[derive(Clone, Copy)]
 pub struct Texts<'a> {
@@ -22,30 +31,64 @@ pub struct Texts<'a> {
 }
 
 /// What a command prints of its texts, and then its status, as `status 3`, or the error.
-pub fn outcome_of(alloc: Global, command: &str, texts: Texts<'_>) -> Result<String, AllocError> {
+pub fn outcome_of<R: AllocGlobal + Threads + Wait + Sync>(
+    rt: &R,
+    command: &str,
+    texts: Texts<'_>,
+) -> Result<String, AllocError> {
+    let alloc = rt.alloc();
     match command.split_whitespace().next() {
         Some("check") => checked(alloc, texts.model),
         Some("code") => listed(alloc, texts.model),
         Some("plan") => planned(alloc, command, texts),
-        Some("run") => ran(alloc, command, texts),
+        Some("run") => ran(rt, command, texts),
         Some(_) | None => String::from_str(alloc, "no command"),
     }
 }
 
-/// What a run of one process prints where each component has a process of its own, and one packet may be on its way on a
-/// link; of any other command nothing.
-pub fn outcome_in_processes(
-    alloc: Global,
+/// What a run of one process prints where each component has a process of its own and that is not what is wanted: in rounds
+/// with one packet on a link at most, and by workers. Of any other command nothing.
+pub fn other_outcome<R: AllocGlobal + Threads + Wait + Sync>(
+    rt: &R,
     command: &str,
     texts: Texts<'_>,
+    wanted: &str,
 ) -> Result<Option<String>, AllocError> {
     if !command.starts_with("run") || command.contains("--p") || command.contains("--rounds") {
         return Ok(None);
     }
-    let count = check_bytes(alloc, texts.model).unwrap_or(1);
+    let count = check_bytes(rt.alloc(), texts.model).unwrap_or(1);
     let count = count.min(MOST_PROCESSES);
-    let parted = format!(in alloc; "{command} --processes {count} --capacity 1")?;
-    Ok(Some(outcome_of(alloc, parted.as_str(), texts)?))
+    let parted = format!(in rt.alloc(); "{command} --processes {count}")?;
+    let in_rounds = format!(in rt.alloc(); "{parted} --capacity 1")?;
+    let outcome = outcome_of(rt, in_rounds.as_str(), texts)?;
+    if outcome.as_str() != wanted {
+        return Ok(Some(outcome));
+    }
+    for workers in WORKERS {
+        let worked = format!(in rt.alloc(); "{parted} --workers {workers}")?;
+        if let Some(outcome) = outcome_by_workers(rt, worked.as_str(), texts, wanted)? {
+            return Ok(Some(outcome));
+        }
+    }
+    Ok(None)
+}
+
+/// What a run by workers prints where that is not what is wanted, with one packet on a link at most, or more.
+fn outcome_by_workers<R: AllocGlobal + Threads + Wait + Sync>(
+    rt: &R,
+    command: &str,
+    texts: Texts<'_>,
+    wanted: &str,
+) -> Result<Option<String>, AllocError> {
+    for capacity in CAPACITIES {
+        let worked = format!(in rt.alloc(); "{command} --capacity {capacity}")?;
+        let outcome = outcome_of(rt, worked.as_str(), texts)?;
+        if outcome.as_str() != wanted {
+            return Ok(Some(outcome));
+        }
+    }
+    Ok(None)
 }
 
 fn checked(alloc: Global, model: &[u8]) -> Result<String, AllocError> {
@@ -77,27 +120,51 @@ fn partition_of<'a>(command: &str, partition: &'a [u8]) -> Partition<'a> {
     Partition::Count(count.min(u64::from(u32::MAX)) as u32)
 }
 
-fn ran(alloc: Global, command: &str, texts: Texts<'_>) -> Result<String, AllocError> {
+fn ran<R: AllocGlobal + Threads + Wait + Sync>(
+    rt: &R,
+    command: &str,
+    texts: Texts<'_>,
+) -> Result<String, AllocError> {
+    let alloc = rt.alloc();
+    let Some(options) = options_of(command) else {
+        return String::from_str(alloc, "no options");
+    };
+    let groups = partition_of(command, texts.partition);
+    let mut printed = Vec::new(alloc);
+    let ended = match options.workers {
+        Some(workers) => run_by_workers(
+            rt,
+            alloc,
+            texts.model,
+            texts.inputs,
+            groups,
+            &options,
+            workers,
+            &mut printed,
+        ),
+        None => run_bytes(
+            alloc,
+            texts.model,
+            texts.inputs,
+            groups,
+            &options,
+            &mut printed,
+        ),
+    };
+    let status = status(&ended);
+    told(alloc, &printed, status, ended.err())
+}
+
+/// The options that a command names.
+fn options_of(command: &str) -> Option<Options> {
     let horizon = number_behind(command, "--horizon").unwrap_or(0);
     let limit = number_behind(command, "--microsteps").unwrap_or(USUAL_LIMIT);
     let limit = limit.min(1_000) as u32;
+    let workers = number_behind(command, "--workers").map(|workers| workers.min(65) as u32);
     let rounds = number_behind(command, "--rounds");
     let capacity = number_behind(command, "--capacity").unwrap_or(LINK_CAPACITY);
     let capacity = capacity.min(1_024) as u32;
-    let Some(options) = Options::new(horizon, limit, None, rounds, capacity) else {
-        return String::from_str(alloc, "no options");
-    };
-    let mut printed = Vec::new(alloc);
-    let ended = run_bytes(
-        alloc,
-        texts.model,
-        texts.inputs,
-        partition_of(command, texts.partition),
-        &options,
-        &mut printed,
-    );
-    let status = status(&ended);
-    told(alloc, &printed, status, ended.err())
+    Options::new(horizon, limit, workers, rounds, capacity)
 }
 
 /// What was printed, and then the error, or where there is none the status.

@@ -3,10 +3,12 @@
 //! A line that begins with `= ` is a heading, and what follows it, up to the next one, its text. `data/README.md` says what
 //! the headings are.
 
-use crate::outcome::{Texts, outcome_in_processes, outcome_of};
+use crate::outcome::{Texts, other_outcome, outcome_of};
 use crate::text::Text;
 use std::alloc::{AllocError, Global};
 use std::rt::Files;
+use std::sync::Wait;
+use std::thread::Threads;
 use std::{fs, io};
 
 /// What the file has told so far: the model, as what stands before, in and behind a row's own piece, the partition and the
@@ -52,8 +54,8 @@ impl Telling {
     }
 
     /// Compares what comes of the model by a command with what is wanted, and tells where it differs. A run of one process has to
-    /// give the same in several.
-    fn compare<R: AllocGlobal + Print>(
+    /// give the same in several, and by workers.
+    fn compare<R: AllocGlobal + Print + Threads + Wait + Sync>(
         &mut self,
         rt: &R,
         command: &str,
@@ -65,11 +67,11 @@ impl Telling {
             partition: &self.partition,
             inputs: &self.inputs,
         };
-        let mut got = outcome_of(rt.alloc(), command, texts)?;
+        let mut got = outcome_of(rt, command, texts)?;
         if got.as_str() == wanted
-            && let Some(parted) = outcome_in_processes(rt.alloc(), command, texts)?
+            && let Some(other) = other_outcome(rt, command, texts, wanted)?
         {
-            got = parted;
+            got = other;
         }
         if got.as_str() == wanted {
             self.holding = self.holding.saturating_add(1);
@@ -81,7 +83,7 @@ impl Telling {
     }
 
     /// Takes a heading with its text.
-    fn take<R: AllocGlobal + Print>(
+    fn take<R: AllocGlobal + Print + Threads + Wait + Sync>(
         &mut self,
         rt: &R,
         heading: &str,
@@ -113,7 +115,10 @@ impl Telling {
 }
 
 /// Runs the rows of a file. Tells how many hold, and answers whether all do.
-pub fn do_hold<R: AllocGlobal + Files + Print>(rt: &R, name: &str) -> io::Result<bool> {
+pub fn do_hold<R: AllocGlobal + Files + Print + Threads + Wait + Sync>(
+    rt: &R,
+    name: &str,
+) -> io::Result<bool> {
     let rows = fs::read_to_string(rt, name)?;
     let telling = follow_lines(rt, rows.as_str())?;
     if telling.failing == 0 {
@@ -127,7 +132,10 @@ pub fn do_hold<R: AllocGlobal + Files + Print>(rt: &R, name: &str) -> io::Result
     Ok(telling.failing == 0)
 }
 
-fn follow_lines<R: AllocGlobal + Print>(rt: &R, rows: &str) -> io::Result<Telling> {
+fn follow_lines<R: AllocGlobal + Print + Threads + Wait + Sync>(
+    rt: &R,
+    rows: &str,
+) -> io::Result<Telling> {
     let mut telling = Telling::new(rt.alloc());
     let mut heading: Option<&str> = None;
     let mut text = Text::new(rt.alloc());

@@ -16,7 +16,7 @@ use Rattle.dv_devs.specs.Network.{Network, trace_before}
 use Rattle.dv_devs.specs.Parts.{part_before}
 use Rattle.dv_conservative.specs.Flat.{whole}
 use Rattle.dv_conservative.specs.World.{Job, new_world, owned}
-use Rattle.dv_core.specs.Worlds.{EndsAs, IsWhole, end_time}
+use Rattle.dv_core.specs.Worlds.{EndsAs, IsWhole}
 use Rattle.dv_core.specs.declared.step.Step.{Step}
 use Rattle.dv_core.specs.declared.step.Ended.{Ended}
 use Rattle.dv_core.specs.declared.step.Ended.TheVariants.{Memory, Stalled, Whole}
@@ -32,7 +32,8 @@ use Rattle.dv_serial.specs.declared.ran.Stepped.{Stepped}
 use Rattle.dv_serial.proofs.Beginning.{given_at}
 use Rattle.dv_sound.specs.Members.{flat_of}
 use Rattle.dv_partition.specs.Groups.{owner_of}
-use Rattle.dv_run.specs.Runs.{IsRunOf, IsStepped}
+use Rattle.dv_work.specs.Reached.{AreReached}
+use Rattle.dv_run.specs.Runs.{AreAtEnd, IsRunOf, IsStepped, IsTraceOf}
 use Rattle.dv_run.proofs.Least.{AllOfRun, least_below, least_of_same, least_time_of_run, least_time_rank}
 
 -- ---- The laws on which it rests
@@ -68,8 +69,8 @@ plus_nothing x = omega arith
 -- ---- What ran
 
 module _ (names : List (List ℕ)) (j : TextJob) (text : AreOfOneText names (file_of j.tree.now.file))
-    (accepted : refusal_of (file_of j.tree.now.file) ≡ None) (capacity rounds : ℕ) (c : Committed)
-    (ran : HasRun (text_job j) capacity rounds c) where
+    (accepted : refusal_of (file_of j.tree.now.file) ≡ None) (c : Committed)
+    (reached : AreReached (text_job j) c.parts.items c.clocks.items) (whole_at_end : AreAtEnd (text_job j) c) where
   abbrev f : FileTree
   f = file_of j.tree.now.file
 
@@ -83,7 +84,7 @@ module _ (names : List (List ℕ)) (j : TextJob) (text : AreOfOneText names (fil
   least = least_rank j.limit clocks
 
   of_run : AllOfRun j.limit clocks
-  of_run p t e = let h = ran.handed.within p t e in h.0
+  of_run p t e = let h = reached.within p t e in h.0
 
   -- the part of a process before a rank
   abbrev part_to : ℕ → ℕ → PartOf
@@ -92,24 +93,14 @@ module _ (names : List (List ℕ)) (j : TextJob) (text : AreOfOneText names (fil
   clock_at : (p : ℕ) (x : PartOf) → slice_get c.parts.items p ≡ Some x → (t : Time) × (slice_get clocks p ≡ Some t)
   clock_at p x e =
       let within = place_within c.parts.items p x e in
-      let count = ran.handed.count in
-      let long = ran.handed.long in
+      let count = reached.count in
+      let long = reached.long in
       some_at clocks p (omega (arith, within, count, long))
 
   -- ---- A whole run
 
-  is_whole : c.ended ≡ Whole → IsWhole job ran.world
-  is_whole e =
-      let h : EndsAs job rounds Whole (new_world capacity) ran.world
-      = subst (λ (x : Ended). EndsAs job rounds x (new_world capacity) ran.world) e ran.ends in
-      h.3
-
   at_end : c.ended ≡ Whole → (p : ℕ) (t : Time) → slice_get clocks p ≡ Some t → rank j.limit t ≡ end_of j.limit j.horizon
-  at_end e p t at =
-      let within = place_within clocks p t at in
-      let count = ran.handed.count in
-      ap (rank j.limit) (sym (ran.handed.clocks p t at) ∙ is_whole e p (omega (arith, within, count)))
-      ∙ plus_nothing (end_of j.limit j.horizon)
+  at_end e p t at = ap (rank j.limit) (whole_at_end e p t at) ∙ plus_nothing (end_of j.limit j.horizon)
 
   pub whole_rank : 0 < length clocks → c.ended ≡ Whole → least ≡ end_of j.limit j.horizon
   whole_rank some e = least_of_same j.limit (end_of j.limit j.horizon) clocks some (at_end e)
@@ -117,7 +108,7 @@ module _ (names : List (List ℕ)) (j : TextJob) (text : AreOfOneText names (fil
   whole_each : 0 < length clocks → c.ended ≡ Whole → (p : ℕ) (x : PartOf) → slice_get c.parts.items p ≡ Some x → x ≡ part_to p least
   whole_each some e p x there =
       let t = clock_at p x there in
-      ran.handed.parts p x t.0 there t.1
+      reached.parts p x t.0 there t.1
       ∙ ap (part_to p) (at_end e p t.0 t.1 ∙ sym (whole_rank some e))
 
   -- ---- A run that is cut
@@ -131,7 +122,7 @@ module _ (names : List (List ℕ)) (j : TextJob) (text : AreOfOneText names (fil
       ap (time_of j.limit) (sym (least_time_rank j.limit clocks some of_run))
       ∙ time_of-rank j.limit (least_time clocks) (least_time_of_run j.limit clocks of_run) in
       sym given.given
-      ∙ ap (before (least_time clocks)) (ran.handed.parts p given.item t.0 given.there t.1)
+      ∙ ap (before (least_time clocks)) (reached.parts p given.item t.0 given.there t.1)
       ∙ ap (λ (u : Time). before u (part_to p (rank j.limit t.0))) (sym time)
       ∙ earlier j.limit (whole (flat_of j.limit f)) (outside f j.limit j.inputs.now) (λ k. nat_eq (job.owner k) p) least (rank j.limit t.0)
       (least_below j.limit clocks p t.0 t.1)
@@ -145,9 +136,9 @@ module _ (names : List (List ℕ)) (j : TextJob) (text : AreOfOneText names (fil
   kept_each earlier some Memory is p x at = cut_each earlier some p x at
 
   kept_long : (e : Ended) → length (parts_before_least e clocks c.parts.items) ≡ job.processes
-  kept_long Whole = ran.handed.long
-  kept_long Stalled = length-map c.parts.items (before (least_time clocks)) ∙ ran.handed.long
-  kept_long Memory = length-map c.parts.items (before (least_time clocks)) ∙ ran.handed.long
+  kept_long Whole = reached.long
+  kept_long Stalled = length-map c.parts.items (before (least_time clocks)) ∙ reached.long
+  kept_long Memory = length-map c.parts.items (before (least_time clocks)) ∙ reached.long
 
   pub are_committed : EarlierParts → CommitTheRun → ((k : ℕ) → job.owner k < job.processes) → 0 < length clocks
       → AreCommitted j.limit (network_of j.limit f) (outside f j.limit j.inputs.now) job.owner least
@@ -158,20 +149,55 @@ module _ (names : List (List ℕ)) (j : TextJob) (text : AreOfOneText names (fil
       (kept_each earlier some c.ended refl)
 
   pub some_clocks : 0 < job.processes → 0 < length clocks
-  some_clocks some = subst (λ (n : ℕ). 0 < n) (sym ran.handed.count) some
+  some_clocks some = subst (λ (n : ℕ). 0 < n) (sym reached.count) some
 
-  pub is_run : (r : Ran) → 0 < length clocks → r.clocks ≡ c.clocks → r.ended ≡ c.ended
+  pub is_traced : (r : Ran) → 0 < length clocks → r.clocks ≡ c.clocks → r.ended ≡ c.ended
       → r.trace ≡ trace_before j.limit (network_of j.limit f) (outside f j.limit j.inputs.now) least
-      → (0 < capacity → end_of j.limit j.horizon + 1 ≤ rounds → c.ended ≢ Stalled)
-      → IsRunOf f j.inputs.now j.groups.now j.horizon j.limit capacity rounds r
-  is_run r some same ended trace enough = record {
+      → IsTraceOf f j.inputs.now j.horizon j.limit r
+  is_traced r some same ended trace = record {
     trace = trace ∙ ap (λ ts. trace_before j.limit (network_of j.limit f) (outside f j.limit j.inputs.now) (least_rank j.limit ts.items)) (sym same);
     some = subst (λ ts. 0 < length ts.items) (sym same) some;
     whole = λ e. ap (λ ts. least_rank j.limit ts.items) same ∙ whole_rank some (sym ended ∙ e);
+  }
+
+-- ---- In rounds
+
+module _ (j : TextJob) (capacity rounds : ℕ) (c : Committed) (ran : HasRun (text_job j) capacity rounds c) where
+  abbrev ran_job : Job
+  ran_job = text_job j
+
+  pub ran_reached : AreReached ran_job c.parts.items c.clocks.items
+  ran_reached = record {
+    count = ran.handed.count;
+    within = ran.handed.within;
+    long = ran.handed.long;
+    parts = ran.handed.parts;
+  }
+
+  is_whole : c.ended ≡ Whole → IsWhole ran_job ran.world
+  is_whole e =
+      let h : EndsAs ran_job rounds Whole (new_world capacity) ran.world
+      = subst (λ (x : Ended). EndsAs ran_job rounds x (new_world capacity) ran.world) e ran.ends in
+      h.3
+
+  pub ran_at_end : AreAtEnd ran_job c
+  ran_at_end e p t at =
+      let within = place_within c.clocks.items p t at in
+      let count = ran.handed.count in
+      sym (ran.handed.clocks p t at) ∙ is_whole e p (omega (arith, within, count))
+
+  pub is_run : (r : Ran) → r.clocks ≡ c.clocks → r.ended ≡ c.ended
+      → IsTraceOf (file_of j.tree.now.file) j.inputs.now j.horizon j.limit r
+      → (0 < capacity → end_of j.limit j.horizon + 1 ≤ rounds → c.ended ≢ Stalled)
+      → IsRunOf (file_of j.tree.now.file) j.inputs.now j.groups.now j.horizon j.limit capacity rounds r
+  is_run r same ended traced enough = record {
+    trace = traced.trace;
+    some = traced.some;
+    whole = traced.whole;
     stalls = λ e holds. few (sym ended ∙ e) holds;
     led = record {
       world = ran.world;
-      ends = subst (λ (x : Ended). EndsAs job rounds x (new_world capacity) ran.world) (sym ended) ran.ends;
+      ends = subst (λ (x : Ended). EndsAs ran_job rounds x (new_world capacity) ran.world) (sym ended) ran.ends;
       clocks = λ p t at. ran.handed.clocks p t (ap (λ ts. slice_get ts.items p) (sym same) ∙ at);
     };
   }

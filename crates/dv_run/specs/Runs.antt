@@ -9,13 +9,14 @@ use Rattle.dv_syntax.specs.Trees.{FileTree}
 use Rattle.dv_devs.specs.Clocks.{least_rank}
 use Rattle.dv_devs.specs.Network.{trace_before}
 use Rattle.dv_devs.specs.Parts.{part_before}
-use Rattle.dv_conservative.specs.World.{IsRun, World, new_world}
-use Rattle.dv_core.specs.Worlds.{EndsAs, with_replies}
+use Rattle.dv_conservative.specs.World.{IsRun, Job, World, new_world}
+use Rattle.dv_core.specs.Worlds.{EndsAs, end_time, with_replies}
 use Rattle.dv_core.specs.declared.step.Step.{Step}
 use Rattle.dv_core.specs.declared.step.Ended.{Ended}
 use Rattle.dv_core.specs.declared.step.Ended.TheVariants.{Stalled, Whole}
 use Rattle.dv_partition.specs.Groups.{Grouping, owner_of}
 use Rattle.dv_plain.specs.Source.{network_of, outside}
+use Rattle.dv_serial.specs.declared.ran.Committed.{Committed}
 use Rattle.dv_serial.specs.declared.ran.Ran.{Ran}
 use Rattle.dv_serial.specs.declared.ran.Stepped.{Stepped}
 use Rattle.dv_sound.specs.Jobs.{job_of}
@@ -27,8 +28,18 @@ pub record LedTo (f : FileTree) (played : List Input) (groups : Grouping) (horiz
   pub ends : EndsAs (job_of limit horizon f played groups.processes (owner_of groups)) rounds ended (new_world capacity) world
   pub clocks : (p : ℕ) (t : Time) → slice_get times p ≡ Some t → world.clock p ≡ t
 
+-- where it is whole, all clocks are at the end
+abbrev pub AreAtEnd : Job → Committed → Type 0
+AreAtEnd job c = c.ended ≡ Whole → (p : ℕ) (t : Time) → slice_get c.clocks.items p ≡ Some t → t ≡ end_time job
+
 -- The trace of the text's resultant with these inputs, before the least of the clocks to which its processes came. Where the run is
--- whole, that is the end; it stalls only where there are no more rounds than ranks before the end.
+-- whole, that is the end.
+pub record IsTraceOf (f : FileTree) (played : List Input) (horizon limit : ℕ) (ran : Ran) : Type 0 where
+  pub trace : ran.trace ≡ trace_before limit (network_of limit f) (outside f limit played) (least_rank limit ran.clocks.items)
+  pub some : 0 < length ran.clocks.items
+  pub whole : ran.ended ≡ Whole → least_rank limit ran.clocks.items ≡ end_of limit horizon
+
+-- The same of a run in rounds, which led to those clocks: it stalls only where there are no more rounds than ranks before the end.
 pub record IsRunOf (f : FileTree) (played : List Input) (groups : Grouping) (horizon limit capacity rounds : ℕ) (ran : Ran) : Type 0 where
   pub trace : ran.trace ≡ trace_before limit (network_of limit f) (outside f limit played) (least_rank limit ran.clocks.items)
   pub some : 0 < length ran.clocks.items

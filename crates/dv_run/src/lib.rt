@@ -1,4 +1,4 @@
-//! The compiled model of a text, run in processes on one thread.
+//! The compiled model of a text, run in processes: on one thread, or by workers.
 #![tactic(auto)]
 
 /// The compiled model of a text, run in rounds.
@@ -9,6 +9,9 @@ mod numbers;
 mod plan;
 /// The compiled model of a text, run by a list of steps.
 pub mod steps;
+/// The compiled model of a text, run by workers on threads.
+pub mod workers;
 
 pub use compiled::compiled_run;
 pub use steps::compiled_steps;
+pub use workers::compiled_workers;

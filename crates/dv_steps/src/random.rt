@@ -1,5 +1,6 @@
 //! Random partitions and random lists of steps.
 
+use crate::parted::Owners;
 use dv_core::Step;
 use std::alloc::{AllocError, Global};
 
@@ -7,7 +8,7 @@ use std::alloc::{AllocError, Global};
 const STEPS: usize = 400;
 
 /// The numbers of links below this one are tried.
-const LINKS: u32 = 20;
+pub const LINKS: u32 = 20;
 
 /// A source of numbers that look random: a shift register with feedback (Marsaglia).
 #[derive(Clone, Copy)]
@@ -36,21 +37,25 @@ impl Source {
         let next = u32::try_from(self.next() >> 32).unwrap_or(0);
         if bound == 0 { 0 } else { next % bound }
     }
+
+    /// Yes, about once in so many times.
+    pub fn is_one_in(&mut self, times: u32) -> bool {
+        self.below(times) == 0
+    }
 }
 
-/// The process of each component: some number of processes, each of which has one at least.
-pub fn owners(
-    alloc: Global,
-    source: &mut Source,
-    components: usize,
-) -> Result<(Vec<u32>, u32), AllocError> {
+/// Some number of processes, and the process of each component.
+pub fn owners(alloc: Global, source: &mut Source, components: usize) -> Result<Owners, AllocError> {
     let most = if components < 8 { components as u32 } else { 8 };
     let processes = source.below(most).saturating_add(1);
-    let mut owners = Vec::new(alloc);
+    let mut of_components = Vec::new(alloc);
     for component in 0..components {
-        owners.push(owner(source, component, processes))?;
+        of_components.push(owner(source, component, processes))?;
     }
-    Ok((owners, processes))
+    Ok(Owners {
+        of_components,
+        processes,
+    })
 }
 
 /// The first components have a process each.

@@ -7,7 +7,10 @@ mod report;
 mod tests;
 
 use dv_command::{ModelFile, PartitionChoice, Plan, Request, RequestError, Run, request_of};
-use dv_job::{JobError, Options, check_bytes, list_code, plan_bytes, run_bytes, status};
+use dv_job::{
+    JobEnded, JobError, Options, check_bytes, list_code, plan_bytes, run_by_workers, run_bytes,
+    status,
+};
 use dv_partition::Partition;
 use report::{explained, explanation_text};
 use std::alloc::AllocError;
@@ -15,12 +18,14 @@ use std::fmt::Display;
 use std::io::{ErrorKind, Write};
 use std::process::ExitCode;
 use std::rt::{Env, Files};
+use std::sync::Wait;
+use std::thread::Threads;
 use std::{fs, io};
 
 /// The microstep limit where none is asked for.
 const USUAL_LIMIT: u32 = 20;
 
-/// The packets that a link between processes is to hold. No run reads this yet.
+/// The packets that a link between processes holds.
 const LINK_CAPACITY: u32 = 16;
 
 /// A model that is accepted.
@@ -59,7 +64,9 @@ fn main(rt: HostRuntime) -> ExitCode {
 }
 
 /// Does what the words ask for, and answers the status. An error is of the system: a write that failed, or no memory.
-fn answer<R: AllocGlobal + Env + Files + Print + Eprint>(rt: &R) -> io::Result<u8> {
+fn answer<R: AllocGlobal + Env + Files + Print + Eprint + Threads + Wait + Sync>(
+    rt: &R,
+) -> io::Result<u8> {
     let words = match std::env::args(rt) {
         Ok(words) => words.collect::<Vec<String>>(rt.alloc())?,
         Err(error) if matches!(error.kind(), ErrorKind::InvalidData) => {
@@ -214,8 +221,35 @@ fn inputs_of<R: AllocGlobal + Files + Eprint>(rt: &R, run: &Run) -> io::Result<O
     }
 }
 
+/// Prints the trace, by workers where there are some.
+fn print_trace<R: AllocGlobal + Threads + Wait + Sync, W: Write>(
+    rt: &R,
+    model: &[u8],
+    inputs: &[u8],
+    groups: Partition<'_>,
+    options: &Options,
+    writer: &mut W,
+) -> Result<JobEnded, JobError> {
+    match options.workers {
+        Some(workers) => run_by_workers(
+            rt,
+            rt.alloc(),
+            model,
+            inputs,
+            groups,
+            options,
+            workers,
+            writer,
+        ),
+        None => run_bytes(rt.alloc(), model, inputs, groups, options, writer),
+    }
+}
+
 /// Runs what was asked for, and answers the status. Files are read in the order model, partition, inputs.
-fn run_model<R: AllocGlobal + Files + Print + Eprint>(rt: &R, run: &Run) -> io::Result<u8> {
+fn run_model<R: AllocGlobal + Files + Print + Eprint + Threads + Wait + Sync>(
+    rt: &R,
+    run: &Run,
+) -> io::Result<u8> {
     let Some(model) = bytes_of(rt, run.model.as_str())? else {
         return Ok(REFUSED);
     };
@@ -226,12 +260,13 @@ fn run_model<R: AllocGlobal + Files + Print + Eprint>(rt: &R, run: &Run) -> io::
         return Ok(REFUSED);
     };
     let limit = run.microsteps.unwrap_or(USUAL_LIMIT);
-    let Some(options) = Options::new(run.horizon, limit, None, run.rounds, LINK_CAPACITY) else {
+    let Some(options) = Options::new(run.horizon, limit, run.workers, run.rounds, LINK_CAPACITY)
+    else {
         return Ok(USAGE);
     };
     let mut writer = io::writer(rt);
-    let mut result = run_bytes(
-        rt.alloc(),
+    let mut result = print_trace(
+        rt,
         &model,
         &inputs,
         parting.partition(),

@@ -3,7 +3,7 @@ use Rattle.dv_devs.specs.Clocks.{least_rank}
 use Rattle.dv_partition.specs.Groups.{owner_of}
 use Rattle.dv_plain.specs.Source.{network_of, outside}
 use Rattle.dv_syntax.specs.Trees.{file_of}
-use Rattle.dv_run.proofs.Traces.{are_committed, is_run, some_clocks}
+use Rattle.dv_run.proofs.Traces.{are_committed, is_run, is_traced, ran_at_end, ran_reached, some_clocks}
 use Rattle.dv_run.proofs.compiled.compiled_run.Goals as goal
 
 pub components_of-requires : goal.components_of-requires
@@ -23,8 +23,12 @@ run_components-requires-clause-components c = record {
 
 pub trace_of-requires : goal.trace_of-requires
 trace_of-requires c =
-    some_clocks c.args.job.now.tree.now.names c.args.job.now c.requires.text c.requires.accepted c.args.capacity c.args.rounds
-    c.in_ok-committed.committed c.in_ok-committed.ensures.run c.in_ok-committed.ensures.some
+    let j = c.args.job.now in
+    let ran = c.in_ok-committed.ensures.run in
+    let committed = c.in_ok-committed.committed in
+    some_clocks j.tree.now.names j c.requires.text c.requires.accepted committed
+    (ran_reached j c.args.capacity c.args.rounds committed ran) (ran_at_end j c.args.capacity c.args.rounds committed ran)
+    c.in_ok-committed.ensures.some
 
 pub returns : goal.returns
 returns c =
@@ -32,18 +36,19 @@ returns c =
     let names = j.tree.now.names in
     let ran = c.in_ok-committed.ensures.run in
     let committed = c.in_ok-committed.committed in
-    let some =
-    some_clocks names j c.requires.text c.requires.accepted c.args.capacity c.args.rounds committed ran c.in_ok-committed.ensures.some in
-    let laws = c.cuts_are_earlier_parts.ensures.part in
+    let reached = ran_reached j c.args.capacity c.args.rounds committed ran in
+    let at_end = ran_at_end j c.args.capacity c.args.rounds committed ran in
+    let some = some_clocks names j c.requires.text c.requires.accepted committed reached at_end c.in_ok-committed.ensures.some in
     let least = least_rank j.limit committed.clocks.items in
     let traced = c.in_ok-trace_of.ensures in
     let owned : (k : ℕ) → owner_of j.groups.now k < j.groups.now.processes =
     λ k. subst (λ (n : ℕ). owner_of j.groups.now k < n) c.processes-processes.ensures.exact (c.processes-processes.ensures.owned k) in
     let are =
-    are_committed names j c.requires.text c.requires.accepted c.args.capacity c.args.rounds committed ran laws
+    are_committed names j c.requires.text c.requires.accepted committed reached at_end c.cuts_are_earlier_parts.ensures.part
     c.processes_commit_the_run_of_the_text.ensures owned some in
-    is_run names j c.requires.text c.requires.accepted c.args.capacity c.args.rounds committed ran c.in_ok-trace_of.field-0 some
+    is_run j c.args.capacity c.args.rounds committed ran c.in_ok-trace_of.field-0 traced.clocks traced.ended
+    (is_traced names j c.requires.text c.requires.accepted committed reached at_end c.in_ok-trace_of.field-0 some
     traced.clocks traced.ended
     (traced.trace j.limit (network_of j.limit (file_of j.tree.now.file)) (outside (file_of j.tree.now.file) j.limit j.inputs.now)
-    (owner_of j.groups.now) least are)
+    (owner_of j.groups.now) least are))
     c.in_ok-committed.ensures.enough

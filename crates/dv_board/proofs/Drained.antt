@@ -1,0 +1,126 @@
+-- A board, drained up to its least clock.
+use Rattle.std.proofs.Common.{◌≡◌, ℕ, suc, ◌<◌, false, List, [], ◌∷◌, length, map, slice_get, slice_index_or, Some, refl, sym, ap, ap₂, subst, ◌∙◌, arith}
+use Rattle.std.specs.List.{All}
+use Rattle.std.proofs.lemmas.List.{get_or-map, length-map}
+use Rattle.std.proofs.lemmas.List.Elements.{All-contains, All-get_or, All-map}
+use Rattle.std.proofs.lemmas.Option.{get_or_from_slice_get, slice_get-get_or, slice_get_within}
+use Rattle.dv_time.specs.Time.{IsOfRun, is_before, rank, time_of}
+use Rattle.dv_time.specs.declared.time.Time.{Time}
+use Rattle.dv_time.proofs.Ranks.{time_of-rank}
+use Rattle.dv_bag.specs.Part.{IsByTime, PartOf, before, since}
+use Rattle.dv_devs.proofs.Cuts.{part_since, trace_since}
+use Rattle.dv_conservative.specs.Flat.{whole}
+use Rattle.dv_conservative.specs.Process.{first_time}
+use Rattle.dv_conservative.specs.World.{Job, owned}
+use Rattle.dv_merge.specs.Whole.{ArePartsOf}
+use Rattle.dv_board.specs.declared.held.Held.{Held}
+use Rattle.dv_board.specs.Boards.{AreHeld, IsHeld}
+use Rattle.dv_board.specs.Clocks.{IsLeast, IsNoLater}
+use Rattle.dv_board.specs.Jobs.{trace}
+use Rattle.dv_board.specs.Places.{rest_of}
+use Rattle.dv_board.proofs.Between.{committed_before, committed_by_time, committed_since}
+use Rattle.dv_board.proofs.Places.{clocks_of, no_later}
+use Rattle.dv_board.proofs.Wholes.{get_map, many_parts, part_at_place, part_of_process, parts_before, parts_of_trace, parts_since, trace_of_job}
+
+-- lists that agree place by place
+same_places : {X : Type 0} (xs ys : List X) → length xs ≡ length ys
+    → ((k : ℕ) (x y : X) → slice_get xs k ≡ Some x → slice_get ys k ≡ Some y → x ≡ y) → xs ≡ ys
+same_places [] [] len same = refl
+same_places [] (y ∷ ys) len same = absurd (omega arith)
+same_places (x ∷ xs) [] len same = absurd (omega arith)
+same_places {X} (x ∷ xs) (y ∷ ys) len same =
+    ap₂ (λ (z : X) (zs : List X). z ∷ zs) (same 0 x y refl refl) (same_places xs ys (omega arith) (λ k. same (suc k)))
+
+module _ (job : Job) (mark : Time) (held : List Held) (all : AreHeld job mark held) where
+  -- a fact of each place
+  each_place : (P : Held → Type 0) → ((p : ℕ) (h : Held) → IsHeld job mark p h → P h) → All P held
+  each_place P f k d lt = f k (slice_index_or held k d) (all.each k (slice_index_or held k d) (slice_get-get_or held k d lt))
+
+  pub all_by_time : All (λ (h : Held). IsByTime h.part) held
+  all_by_time = each_place (λ (h : Held). IsByTime h.part) (λ p h is.
+      subst IsByTime (sym is.part) (committed_by_time job p mark h.clock is.order))
+
+  module _ (least : Time) (is_least : IsLeast least (clocks_of held)) where
+    of_a_clock : (P : Time → Type 0) → ((p : ℕ) (h : Held) → IsHeld job mark p h → P h.clock) → P least
+    of_a_clock P f =
+        All-contains P (clocks_of held) least (All-map P (λ (h : Held). h.clock) held (each_place (λ (h : Held). P h.clock) f)) is_least.is
+
+    pub least_of_run : IsOfRun job.limit least
+    least_of_run = of_a_clock (IsOfRun job.limit) (λ p h is. is.of_run)
+
+    pub mark_no_later : IsNoLater job mark least
+    mark_no_later = of_a_clock (IsNoLater job mark) (λ p h is. is.order)
+
+    least_no_later : (p : ℕ) (h : Held) → slice_get held p ≡ Some h → IsNoLater job least h.clock
+    least_no_later p h at =
+        let lt = slice_get_within held p h at in
+        let many = length-map held (λ (g : Held). g.clock) in
+        let read : slice_index_or (clocks_of held) p first_time ≡ h.clock
+        = get_or-map (λ (g : Held). g.clock) held p h first_time lt ∙ ap (λ (g : Held). g.clock) (get_or_from_slice_get held p h h at) in
+        no_later job h.clock least (all.each p h at).of_run least_of_run
+        (subst (λ (c : Time). is_before c least ≡ false) read
+        (All-get_or (λ (c : Time). is_before c least ≡ false) (clocks_of held) p first_time (subst (λ (n : ℕ). p < n) (sym many) lt)
+        is_least.none_before))
+
+    -- what is left, from the least clock on
+    pub rest_is_held : AreHeld job least (map (rest_of least) held)
+    rest_is_held = record {
+      merges = all.merges;
+      some = all.some;
+      of_run = least_of_run;
+      many = length-map held (rest_of least) ∙ all.many;
+      each = λ p h at.
+          let found = get_map (rest_of least) held p h at in
+          subst (IsHeld job least p) found.2 (rest_at p found.0 found.1);
+    }
+      where
+        rest_at : (p : ℕ) (h : Held) → slice_get held p ≡ Some h → IsHeld job least p (rest_of least h)
+        rest_at p h at =
+            let is = all.each p h at in
+            let low = mark_no_later in
+            let high = least_no_later p h at in
+            record {
+              of_run = is.of_run;
+              order = high;
+              part = ap (since least) is.part ∙ committed_since job p mark least h.clock low high least_of_run;
+            }
+
+    -- what goes, of each process
+    abbrev pub pieces : List PartOf
+    pieces = map (λ (h : Held). before least h.part) held
+
+    mark_of_run : time_of job.limit (rank job.limit mark) ≡ mark
+    mark_of_run = time_of-rank job.limit mark all.of_run
+
+    -- the rank of the least clock, and the parts before it
+    abbrev end : ℕ
+    end = rank job.limit least
+
+    abbrev parts : List PartOf
+    parts = parts_before job end
+
+    pieces_since : pieces ≡ map (since mark) parts
+    pieces_since =
+        same_places pieces (map (since mark) parts)
+        (length-map held (λ (h : Held). before least h.part) ∙ (all.many ∙ sym (length-map parts (since mark) ∙ many_parts job end)))
+        (λ k x y at also.
+        let one = get_map (λ (h : Held). before least h.part) held k x at in
+        let other = get_map (since mark) parts k y also in
+        sym one.2 ∙ (piece_at k one.0 one.1 ∙ (ap (since mark) (sym (part_at_place job end k other.0 other.1)) ∙ other.2)))
+      where
+        piece_at : (p : ℕ) (h : Held) → slice_get held p ≡ Some h → before least h.part ≡ since mark (part_of_process job end p)
+        piece_at p h at =
+            let is = all.each p h at in
+            ap (before least) is.part
+            ∙ (committed_before job p mark least h.clock mark_no_later (least_no_later p h at) least_of_run
+            ∙ (sym (part_since job.limit (whole job.flat) job.outside (owned job p) (rank job.limit mark) end mark_no_later)
+            ∙ ap (λ (t : Time). since t (part_of_process job end p)) mark_of_run))
+
+    -- it is the trace, in parts
+    pub pieces_of_trace : ArePartsOf job.owner (trace job mark least) pieces
+    pieces_of_trace =
+        subst (ArePartsOf job.owner (trace job mark least)) (sym pieces_since)
+        (subst (λ (t : PartOf). ArePartsOf job.owner t (map (since mark) parts))
+        (ap (λ (t : Time). since t (trace_of_job job end)) (sym mark_of_run)
+        ∙ trace_since job.limit (whole job.flat) job.outside (rank job.limit mark) end mark_no_later)
+        (parts_since mark job.owner (trace_of_job job end) parts (parts_of_trace job end all.merges)))

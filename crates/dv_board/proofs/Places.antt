@@ -1,0 +1,148 @@
+-- What a board keeps of each process, place by place.
+use Rattle.std.proofs.Common.{◌≡◌, ℕ, zero, suc, ◌+◌, ◌<◌, ◌≤◌, Bool, true, false, cond, List, [], ◌∷◌, length, map, replicate, take, set, slice_get, slice_index_or, Some, refl, sym, ap, ap₂, subst, ◌∙◌, arith, ⊎_elim}
+use Rattle.std.specs.List.{All, Contains}
+use Rattle.std.proofs.lemmas.Bool.{cases_Bool, cond-false, cond-true, ltb-false, ltb-true}
+use Rattle.std.proofs.lemmas.Bool.Decides.{nat_tests}
+use Rattle.std.proofs.lemmas.List.{get_or-map, length-map, length-set, map-set, take_all}
+use Rattle.std.proofs.lemmas.List.Elements.{All-map, All-more, All-weaker}
+use Rattle.std.proofs.lemmas.Option.{same_Some}
+use Rattle.dv_time.specs.Time.{IsOfRun, is_before, rank}
+use Rattle.dv_time.specs.declared.time.Time.{Time}
+use Rattle.dv_time.proofs.Ranks.{is_before-rank}
+use Rattle.dv_bag.specs.Part.{PartOf, joined, since}
+use Rattle.dv_conservative.specs.Process.{first_time}
+use Rattle.dv_conservative.specs.World.{Job}
+use Rattle.dv_board.specs.declared.held.Held.{Held}
+use Rattle.dv_board.specs.Boards.{AreHeld, IsHeld}
+use Rattle.dv_board.specs.Clocks.{IsLeast, IsNoLater, IsSooner, later}
+use Rattle.dv_board.specs.Jobs.{committed}
+use Rattle.dv_board.specs.Places.{rest_of, with_piece}
+use Rattle.dv_board.proofs.Between.{committed_joined, committed_since}
+
+-- ---- times in order
+
+not_before_itself : (a : Time) → is_before a a ≡ false
+not_before_itself a = grind (arith, nat_tests)
+
+not_before_sooner : (a b c : Time) → is_before a b ≡ true → is_before c b ≡ false → is_before c a ≡ false
+not_before_sooner a b c h k = grind (arith, nat_tests)
+
+module _ (job : Job) (a b : Time) (h : IsOfRun job.limit a) (k : IsOfRun job.limit b) where
+  pub sooner : is_before a b ≡ true → IsSooner job a b
+  sooner e = ltb-true (rank job.limit a) (rank job.limit b) (sym (is_before-rank job.limit a b h k) ∙ e)
+
+  pub no_later : is_before a b ≡ false → IsNoLater job b a
+  no_later e = ltb-false (rank job.limit a) (rank job.limit b) (sym (is_before-rank job.limit a b h k) ∙ e)
+
+-- ---- the least clock
+
+abbrev pub clocks_of : List Held → List Time
+clocks_of held = map (λ (h : Held). h.clock) held
+
+-- the least clock of the first places, which is that of a place
+pub record IsLeastOf (held : List Held) (k : ℕ) (least : Time) : Type 0 where
+  pub is : Contains (clocks_of held) least
+  pub none_before : All (λ (h : Held). is_before h.clock least ≡ false) (take k held)
+
+clock_is_in : (held : List Held) (k : ℕ) (h : Held) → k < length held → h ≡ slice_index_or held k h → Contains (clocks_of held) h.clock
+clock_is_in held k h lt at = (
+  k,
+  subst (λ (n : ℕ). k < n) (sym (length-map held (λ (h : Held). h.clock))) lt,
+  get_or-map (λ (h : Held). h.clock) held k h h.clock lt ∙ ap (λ (h : Held). h.clock) (sym at),
+)
+
+pub first_least : (held : List Held) (h : Held) → 0 < length held → h ≡ slice_index_or held 0 h → IsLeastOf held 0 h.clock
+first_least held h lt at = record { is = clock_is_in held 0 h lt at; none_before = λ k d none. absurd (omega arith) }
+
+module _ (held : List Held) (k : ℕ) (least : Time) (h : Held) (lt : k < length held) (at : h ≡ slice_index_or held k h)
+    (so_far : IsLeastOf held k least) where
+  pub least_falls : is_before h.clock least ≡ true → IsLeastOf held (k + 1) h.clock
+  least_falls e = record {
+    is = clock_is_in held k h lt at;
+    none_before = All-more (λ (g : Held). is_before g.clock h.clock ≡ false) held k h lt
+        (All-weaker (λ (g : Held). is_before g.clock least ≡ false) (λ (g : Held). is_before g.clock h.clock ≡ false)
+        (λ g f. not_before_sooner h.clock least g.clock e f) (take k held) so_far.none_before)
+        (subst (λ (g : Held). is_before g.clock h.clock ≡ false) at (not_before_itself h.clock));
+  }
+
+  pub least_stays : is_before h.clock least ≡ false → IsLeastOf held (k + 1) least
+  least_stays e = record {
+    is = so_far.is;
+    none_before = All-more (λ (g : Held). is_before g.clock least ≡ false) held k h lt so_far.none_before
+        (subst (λ (g : Held). is_before g.clock least ≡ false) at e);
+  }
+
+pub least_of_all : (held : List Held) (k : ℕ) (least : Time) → length held ≤ k → IsLeastOf held k least → IsLeast least (clocks_of held)
+least_of_all held k least le so_far = record {
+  is = so_far.is;
+  none_before = All-map (λ (c : Time). is_before c least ≡ false) (λ (h : Held). h.clock) held
+      (subst (All (λ (h : Held). is_before h.clock least ≡ false)) (take_all k held le) so_far.none_before);
+}
+
+-- ---- one place
+
+-- of each place, after one is set
+each_set : {X : Type 0} (P : ℕ → X → Type 0) (xs : List X) (k : ℕ) (y : X) → ((p : ℕ) (x : X) → slice_get xs p ≡ Some x → P p x) → P k y
+    → (p : ℕ) (x : X) → slice_get (set xs k y) p ≡ Some x → P p x
+each_set P [] k y all new p x at = all p x at
+each_set P (z ∷ zs) zero y all new zero x at = subst (P 0) (same_Some y x at) new
+each_set P (z ∷ zs) zero y all new (suc p) x at = all (suc p) x at
+each_set P (z ∷ zs) (suc k) y all new zero x at = all 0 x at
+each_set P (z ∷ zs) (suc k) y all new (suc p) x at = each_set (λ (q : ℕ). P (suc q)) zs k y (λ q w e. all (suc q) w e) new p x at
+
+pub held_set : (job : Job) (mark : Time) (held : List Held) (p : ℕ) (y : Held) → AreHeld job mark held → IsHeld job mark p y
+    → AreHeld job mark (set held p y)
+held_set job mark held p y all new = record {
+  merges = all.merges;
+  some = all.some;
+  of_run = all.of_run;
+  many = length-set held p y ∙ all.many;
+  each = each_set (λ (k : ℕ) (h : Held). IsHeld job mark k h) held p y all.each new;
+}
+
+-- a clock, read and written
+pub clock_read : (held : List Held) (p : ℕ) (h : Held) → p < length held → h ≡ slice_index_or held p h
+    → slice_index_or (clocks_of held) p first_time ≡ h.clock
+clock_read held p h lt at = get_or-map (λ (h : Held). h.clock) held p h first_time lt ∙ ap (λ (h : Held). h.clock) (sym at)
+
+pub clocks_set : (held : List Held) (p : ℕ) (y : Held) → clocks_of (set held p y) ≡ set (clocks_of held) p y.clock
+clocks_set = map-set (λ (h : Held). h.clock)
+
+-- the clocks of a new board, and those that stay where it is drained
+pub clocks_new : (n : ℕ) (h : Held) → clocks_of (replicate n h) ≡ replicate n h.clock
+clocks_new zero h = refl
+clocks_new (suc n) h = ap (λ (cs : List Time). h.clock ∷ cs) (clocks_new n h)
+
+pub clocks_stay : (time : Time) (held : List Held) → clocks_of (map (rest_of time) held) ≡ clocks_of held
+clocks_stay time [] = refl
+clocks_stay time (h ∷ hs) = ap (λ (cs : List Time). h.clock ∷ cs) (clocks_stay time hs)
+
+pub clock_of_piece : (h : Held) (piece : PartOf) (clock : Time) → (with_piece h piece clock).clock ≡ later h.clock clock
+clock_of_piece h piece clock = by_test (is_before h.clock clock)
+  where
+    more : Held
+    more = record { clock = clock; part = joined h.part (since h.clock piece) }
+
+    by_test : (t : Bool) → (cond t more h).clock ≡ cond t clock h.clock
+    by_test true = refl
+    by_test false = refl
+
+-- a piece that begins no later than the clock is joined
+pub piece_is_held : (job : Job) (mark : Time) (p : ℕ) (h : Held) (piece : PartOf) (from clock : Time)
+    → IsHeld job mark p h → IsOfRun job.limit clock → IsNoLater job from h.clock → piece ≡ committed job p from clock
+    → IsHeld job mark p (with_piece h piece clock)
+piece_is_held job mark p h piece from clock held of_run low is = ⊎_elim
+    (λ yes.
+    let more : Held = record { clock = clock; part = joined h.part (since h.clock piece) } in
+    let high = sooner job h.clock clock held.of_run of_run yes in
+    let below = held.order in
+    subst (IsHeld job mark p) (sym (cond-true (is_before h.clock clock) more h yes)) (record {
+      of_run = of_run;
+      order = omega (arith, high, below);
+      part = ap₂ joined held.part (ap (since h.clock) is ∙ committed_since job p from h.clock clock low (omega (arith, high)) held.of_run)
+          ∙ committed_joined job p mark h.clock clock below (omega (arith, high));
+    }))
+    (λ no.
+    let more : Held = record { clock = clock; part = joined h.part (since h.clock piece) } in
+    subst (IsHeld job mark p) (sym (cond-false (is_before h.clock clock) more h no)) held)
+    (cases_Bool (is_before h.clock clock))

@@ -1,0 +1,32 @@
+-- What a board keeps, and what callers see of it.
+use Rattle.std.specs.Prelude.{◌≡◌, ℕ, ◌<◌, List, length, slice_get, slice_index_or, Some}
+use Rattle.dv_time.specs.Time.{IsOfRun}
+use Rattle.dv_time.specs.declared.time.Time.{Time}
+use Rattle.dv_conservative.specs.Process.{first_time}
+use Rattle.dv_conservative.specs.World.{Job}
+use Rattle.dv_board.specs.declared.held.Held.{Held}
+use Rattle.dv_board.specs.Clocks.{IsNoLater}
+use Rattle.dv_board.specs.Jobs.{IsMergeable, committed}
+
+-- from when on the trace was not drained yet, and up to when each process is kept
+pub record BoardOf : Type 0 where
+  pub mark : Time
+  pub clocks : List Time
+
+-- up to when a process is kept
+abbrev pub clock_of : BoardOf → ℕ → Time
+clock_of board p = slice_index_or board.clocks p first_time
+
+-- what a process commits between the mark and its clock
+pub record IsHeld (job : Job) (mark : Time) (p : ℕ) (h : Held) : Type 0 where
+  pub of_run : IsOfRun job.limit h.clock
+  pub order : IsNoLater job mark h.clock
+  pub part : h.part ≡ committed job p mark h.clock
+
+-- a place for each process
+pub record AreHeld (job : Job) (mark : Time) (held : List Held) : Type 0 where
+  pub merges : IsMergeable job
+  pub some : 0 < job.processes
+  pub of_run : IsOfRun job.limit mark
+  pub many : length held ≡ job.processes
+  pub each : (p : ℕ) (h : Held) → slice_get held p ≡ Some h → IsHeld job mark p h

@@ -1,0 +1,5 @@
+pub mod Answers
+pub mod Boards
+pub mod Clocks
+pub mod Jobs
+pub mod Places

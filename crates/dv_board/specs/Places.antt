@@ -1,0 +1,15 @@
+-- What becomes of a process's place on a board.
+use Rattle.std.specs.Prelude.{if◌then◌else◌}
+use Rattle.dv_time.specs.Time.{is_before}
+use Rattle.dv_time.specs.declared.time.Time.{Time}
+use Rattle.dv_bag.specs.Part.{PartOf, joined, since}
+use Rattle.dv_board.specs.declared.held.Held.{Held}
+
+-- with what a piece has from the clock on, where it reaches past it
+abbrev pub with_piece : Held → PartOf → Time → Held
+with_piece h piece clock =
+    if is_before h.clock clock then record { clock = clock; part = joined h.part (since h.clock piece) } else h
+
+-- less what is before a time
+abbrev pub rest_of : Time → Held → Held
+rest_of time h = record { clock = h.clock; part = since time h.part }

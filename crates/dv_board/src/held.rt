@@ -1,0 +1,43 @@
+//! What a board keeps of one process.
+
+ghost use Rattle.std.specs.Prelude.{◌≡◌, true, OnOk, OnErr};
+ghost use Rattle.dv_time.specs.Time.{is_before};
+ghost use Rattle.dv_board.specs.Places.{rest_of, with_piece};
+
+use dv_bag::Part;
+use dv_time::Time;
+use std::alloc::AllocError;
+
+/// What one process committed before its clock and nobody has drained yet.
+#[derive(Drop)]
+pub struct Held {
+    pub clock: Time,
+    pub part: Part,
+}
+
+impl Held {
+    /// Joins what a piece has from the clock on, and the clock becomes the later of the two.
+    ///
+    /// # Errors
+    ///
+    /// No memory for what is joined. Nothing has changed.
+    pub fn join(&mut self, piece: Part, clock: Time) -> Result<(), AllocError>
+        ensures ok { OnOk result (self.new ≡ with_piece self.old piece clock) }
+        ensures err { OnErr result (self.new ≡ self.old) }
+        ensures more { OnErr result (is_before self.old.clock clock ≡ true) }
+    {
+        if !self.clock.is_before(clock) {
+            return Ok(());
+        }
+        self.part.append(piece.since(self.clock))?;
+        self.clock = clock;
+        Ok(())
+    }
+
+    /// What is before a time goes.
+    pub fn let_go(&mut self, time: Time)
+        ensures { self.new ≡ rest_of time self.old }
+    {
+        self.part.keep_since(time);
+    }
+}

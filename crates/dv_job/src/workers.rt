@@ -1,0 +1,93 @@
+//! The run of a model in processes on threads.
+
+ghost use Rattle.std.specs.Prelude.{◌<◌, IfOk, IfErr};
+ghost use Rattle.dv_syntax.specs.Trees.{file_of};
+ghost use Rattle.dv_job.specs.Job.{IsModelOf};
+ghost use Rattle.dv_job.specs.Running.{EndsByWorkers, LeftByRun};
+
+use crate::ended::{JobEnded, JobError};
+use crate::load::{accept, load, load_groups, load_inputs};
+use crate::options::Options;
+use crate::written::write_ran;
+use dv_bag::Bags;
+use dv_devs::laws::parts::parts_are_by_time;
+use dv_flat::flatten;
+use dv_partition::Partition;
+use dv_planned::TextJob;
+use dv_run::compiled_workers;
+use dv_sound::numbers::inputs_are_of_numbers;
+use dv_text::laws::a_trace_is_its_instants;
+use dv_tree::Tree;
+use std::alloc::Global;
+use std::io::Write;
+use std::sync::Wait;
+use std::thread::Threads;
+
+/// Runs the model of a text in processes, as `run_bytes` does, by so many workers on threads of their own: process p is run by
+/// worker p mod `workers`. Whatever the timing of the threads, a run that is reported whole prints exactly the trace to the
+/// horizon. Rounds that the options have are not read.
+///
+/// # Errors
+///
+/// As of `run_bytes`.
+pub fn run_by_workers<R: Threads + Wait + Sync, W: Write>(
+    rt: &R,
+    alloc: Global,
+    model: &[u8],
+    inputs: &[u8],
+    groups: Partition<'_>,
+    options: &Options,
+    workers: u32,
+    writer: &mut W,
+) -> Result<JobEnded, JobError>
+    requires workers { 0 < workers }
+    ensures ended { IfOk result (λ ended. EndsByWorkers ended model.now inputs.now groups.entry
+        options.now (W.contents writer.old) (W.contents writer.new)) }
+    ensures error { IfErr result (λ e. LeftByRun e model.now inputs.now groups.entry
+        options.now (W.contents writer.old) (W.contents writer.new)) }
+{
+    let checked = load(alloc, model)?;
+    let tree = accept(alloc, model, &checked)?;
+    work_tree(
+        rt, alloc, &tree, model, inputs, groups, options, workers, writer,
+    )
+}
+
+// Runs the model of an accepted text, by its tree.
+fn work_tree<R: Threads + Wait + Sync, W: Write>(
+    rt: &R,
+    alloc: Global,
+    tree: &Tree,
+    model: &[u8],
+    inputs: &[u8],
+    groups: Partition<'_>,
+    options: &Options,
+    workers: u32,
+    writer: &mut W,
+) -> Result<JobEnded, JobError>
+    requires accepted { IsModelOf model.now tree.now.names (file_of tree.now.file) }
+    requires workers { 0 < workers }
+    ensures ended { IfOk result (λ ended. EndsByWorkers ended model.now inputs.now groups.entry
+        options.now (W.contents writer.old) (W.contents writer.new)) }
+    ensures error { IfErr result (λ e. LeftByRun e model.now inputs.now groups.entry
+        options.now (W.contents writer.old) (W.contents writer.new)) }
+{
+    // A trace stands by time, and its text is that of its instants, one after the other.
+    parts_are_by_time::<Bags>();
+    a_trace_is_its_instants::<Bags>();
+    // The values of inputs that were read are numbers of the language.
+    inputs_are_of_numbers();
+    let flat = flatten(alloc, tree)?;
+    let groups = load_groups(alloc, tree, flat.paths.as_slice(), groups)?;
+    let played = load_inputs(alloc, inputs, tree)?;
+    let job = TextJob {
+        tree,
+        inputs: &played,
+        groups: &groups,
+        horizon: options.horizon,
+        limit: options.limit,
+    };
+    let capacity = options.capacity as usize;
+    let ran = compiled_workers(rt, alloc, &job, &flat.links, workers as usize, capacity)?;
+    write_ran(alloc, tree, &ran, options.horizon, writer)
+}

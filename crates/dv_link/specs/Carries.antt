@@ -1,0 +1,34 @@
+-- The rule of a link's queue.
+use Rattle.std.specs.Prelude.{◌≡◌, ℕ, true, List, ◌++◌, slice_get, Some}
+use mathlib.Core.Option.{some}
+use lib.ListN.{get_elem?}
+use Rattle.dv_conservative.specs.Process.{clock_after, first_time}
+use Rattle.dv_conservative.specs.True.{AreTrue, IsTruePacket}
+use Rattle.dv_conservative.specs.World.{Channel, Job}
+use Rattle.dv_proc.specs.Packets.{meant_packet, meant_packets}
+use Rattle.dv_proc.specs.declared.packet.Packet.{Packet}
+use Rattle.dv_link.specs.declared.rule.EndView.{EndView}
+
+-- they are true packets of a link of the job, whose windows join from the start
+abbrev pub AllTrue : Job → ℕ → List Packet → Type 0
+AllTrue job link ps = (c : Channel) → slice_get job.channels link ≡ Some c → AreTrue job link c first_time (meant_packets ps)
+
+-- a true packet of the link, whose window joins the last of those
+abbrev pub IsNext : Job → ℕ → List Packet → Packet → Type 0
+IsNext job link ps p =
+    (c : Channel) → slice_get job.channels link ≡ Some c
+    → (p.from ≡ clock_after first_time (meant_packets ps)) × IsTruePacket job link c (meant_packet p)
+
+-- at most one end puts, and knows the link and all that was put; and the same for what was taken
+abbrev pub Fits : ℕ → ℕ → ℕ → List Packet → List Packet → ℕ → EndView → Type 0
+Fits sender receiver link put taken end v =
+    (v.puts ≡ true → (end ≡ sender) × (v.link ≡ link) × (v.put ≡ put))
+    × (v.takes ≡ true → (end ≡ receiver) × (v.link ≡ link) × (v.taken ≡ taken))
+
+-- what was put is what was taken and then what the queue holds, and it is true packets whose windows join
+abbrev pub Carries : Job → List Packet → List EndView → Type 0
+Carries job items views =
+    (sender : ℕ) × (receiver : ℕ) × (link : ℕ) × (put : List Packet) × (taken : List Packet)
+    × (put ≡ taken ++ items)
+    × AllTrue job link put
+    × ((end : ℕ) (v : EndView) → get_elem? views end ≡ some v → Fits sender receiver link put taken end v)

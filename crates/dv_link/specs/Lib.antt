@@ -1,0 +1,7 @@
+-- The job that a mark has before a call picks one.
+pub mod Jobs
+-- What an end of a link knows, and the rule of its queue.
+pub mod Views
+pub mod Carries
+-- The two ends of a link.
+pub mod Ends

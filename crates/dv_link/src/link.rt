@@ -1,0 +1,118 @@
+//! A link and its two passes.
+
+ghost use Rattle.std.specs.Prelude.{◌≡◌, ◌<◌, true, [], IfOk, MatchResult, MatchOption};
+ghost use Rattle.crossbeam_queue.specs.Passes.{view, IsPassOf};
+ghost use Rattle.dv_link.specs.Views.{end_view};
+ghost use Rattle.dv_link.specs.Carries.{AllTrue, IsNext};
+ghost use Rattle.dv_link.specs.Ends.{IsSendPassOf, IsTakePassOf, after_put, after_take, new_receiver, new_sender, receiver, sender};
+
+use crate::job::OfJob;
+use crate::rule::{EndView, Ends, OfLink, Puts, Relay, Takes};
+use crossbeam_queue::{Pass, RuledArrayQueue};
+use dv_proc::Packet;
+use std::alloc::{AllocError, Global};
+use std::marker::Brand;
+use std::sync::Wait;
+
+type Line<N> = RuledArrayQueue<Packet, EndView, Relay<N>>;
+
+/// A link of a job, which threads share by reference: so many packets may be on their way on it.
+#[derive(Drop)]
+pub struct Link<N: OfJob> {
+    line: Line<N>,
+}
+
+/// The pass of the one who puts. It takes no memory.
+#[derive(Drop)]
+pub struct SendPass {
+    pass: Pass<Packet, EndView>,
+}
+
+/// The pass of the one who takes. It takes no memory.
+#[derive(Drop)]
+pub struct TakePass {
+    pass: Pass<Packet, EndView>,
+}
+
+/// The packet that a full link did not take.
+#[derive(Drop)]
+pub struct Full<T> {
+    pub value: T,
+}
+
+// Makes of the one pass of a new queue its two ends.
+fn ends<N: OfJob, L: OfLink>(
+    line: &Line<N>,
+    mut pass: Pass<Packet, EndView>,
+    link: u32,
+) -> (Pass<Packet, EndView>, Pass<Packet, EndView>)
+    requires number { L.link ≡ link }
+    requires new { IsPassOf line.now pass × (view pass ≡ end_view 0 true true [] []) }
+    ensures sender { IsPassOf line.now result.0 × (view result.0 ≡ new_sender link) }
+    ensures receiver { IsPassOf line.now result.1 × (view result.1 ≡ new_receiver link) }
+{
+    let _ = link;
+    let taker = line.another::<Ends<L>>(&mut pass);
+    (pass, taker)
+}
+
+impl<N: OfJob> Link<N> {
+    /// The link of a number, with room for so many packets, and the passes of its two ends, which have put and taken nothing.
+    ///
+    /// # Errors
+    ///
+    /// No memory.
+    pub fn new(
+        alloc: Global,
+        link: u32,
+        capacity: usize,
+    ) -> Result<(Self, SendPass, TakePass), AllocError>
+        requires { 0 < capacity }
+        ensures sender { IfOk result (λ r. IsSendPassOf r.0 r.1 × (sender r.1 ≡ new_sender link)) }
+        ensures receiver { IfOk result (λ r. IsTakePassOf r.0 r.2 × (receiver r.2 ≡ new_receiver link)) }
+    {
+        let (line, pass) = Line::<N>::ruled(alloc, capacity)?;
+        let (send, take) = ends::<N, Brand>(&line, pass, link);
+        Ok((
+            Link { line },
+            SendPass { pass: send },
+            TakePass { pass: take },
+        ))
+    }
+
+    /// Puts a packet at the end. It has to be the next true one: its window joins the last one that was put, and its events are
+    /// exactly those that cross within it.
+    ///
+    /// # Errors
+    ///
+    /// `Full`: there is no room for it. It is handed back.
+    pub fn put<R: Wait>(
+        &self,
+        rt: &R,
+        pass: &mut SendPass,
+        packet: Packet,
+    ) -> Result<(), Full<Packet>>
+        requires link { IsSendPassOf self.now pass.old }
+        requires next { IsNext N.job (sender pass.old).link (sender pass.old).put packet }
+        ensures link { IsSendPassOf self.now pass.new }
+        ensures put { MatchResult result
+            (λ _. sender pass.new ≡ after_put (sender pass.old) packet)
+            (λ e. (e.value ≡ packet) × (sender pass.new ≡ sender pass.old)) }
+    {
+        match self.line.push_as::<Puts, R>(rt, &mut pass.pass, packet) {
+            Ok(()) => Ok(()),
+            Err(value) => Err(Full { value }),
+        }
+    }
+
+    /// Takes the packet at the front, if there is one. All that was taken is true, and its windows join from the start.
+    pub fn take<R: Wait>(&self, rt: &R, pass: &mut TakePass) -> Option<Packet>
+        requires link { IsTakePassOf self.now pass.old }
+        ensures link { IsTakePassOf self.now pass.new }
+        ensures taken { MatchOption result (receiver pass.new ≡ receiver pass.old)
+            (λ p. receiver pass.new ≡ after_take (receiver pass.old) p) }
+        ensures all_true { AllTrue N.job (receiver pass.new).link (receiver pass.new).taken }
+    {
+        self.line.pop_as::<Takes<N>, R>(rt, &mut pass.pass)
+    }
+}

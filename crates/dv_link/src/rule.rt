@@ -1,0 +1,86 @@
+//! The rule of a link's queue, and what a step tells.
+
+ghost use Rattle.std.specs.Prelude.{◌≡◌, ⊤, true, false, [], ◌∷◌, ◌++◌};
+ghost use Rattle.dv_link.specs.Views.{end_view};
+ghost use Rattle.dv_link.specs.Carries.{AllTrue, Carries};
+
+use crate::job::OfJob;
+use crossbeam_queue::protocol::{Lesson, Outcome, Protocol, Split};
+use dv_proc::Packet;
+use std::collections::LinkedList;
+use std::marker::{Brand, PhantomData};
+
+/// What an end of a link knows: the link's number, whether it puts and takes, and what it has put and taken. No value of it is
+/// made.
+pub struct EndView {
+    pub link: u32,
+    pub puts: bool,
+    pub takes: bool,
+    pub put: LinkedList<Packet>,
+    pub taken: LinkedList<Packet>,
+}
+
+/// The rule of the links of a job.
+pub struct Relay<N> {
+    of: PhantomData<N>,
+}
+
+impl<N: OfJob> Protocol<Packet, EndView> for Relay<N> {
+    ghost use Rattle.std.specs.Prelude.{true, []};
+    ghost use Rattle.dv_link.specs.Views.{end_view};
+    ghost use Rattle.dv_link.specs.Carries.{Carries};
+
+    ghost holds = { Carries N.job };
+
+    ghost first = { end_view 0 true true [] [] };
+}
+
+/// The number of a link, which a call picks.
+pub trait OfLink {
+    ghost use Rattle.std.specs.Prelude.{ℕ};
+
+    ghost link: { ℕ };
+}
+
+impl OfLink for Brand {
+    ghost link = { 0 };
+}
+
+/// The two ends of a link that has carried nothing.
+pub struct Ends<L> {
+    of: PhantomData<L>,
+}
+
+impl<L: OfLink> Split<EndView> for Ends<L> {
+    ghost use Rattle.std.specs.Prelude.{true, false, []};
+    ghost use Rattle.dv_link.specs.Views.{end_view};
+
+    ghost left = { λ v. end_view L.link true false [] [] };
+
+    ghost right = { λ v. end_view L.link false true [] [] };
+}
+
+/// A packet is put.
+pub struct Puts;
+
+impl Outcome<Packet, EndView> for Puts {
+    ghost then = { λ v p w. w ≡ end_view v.link v.puts v.takes (v.put ++ p ∷ []) v.taken };
+}
+
+impl Lesson<Packet, EndView> for Puts {
+    ghost fact = { λ v items. ⊤ };
+}
+
+/// A packet is taken, and all that were taken are true.
+pub struct Takes<N> {
+    of: PhantomData<N>,
+}
+
+impl<N: OfJob> Outcome<Packet, EndView> for Takes<N> {
+    ghost then = { λ v p w. (w ≡ end_view v.link v.puts v.takes v.put (v.taken ++ p ∷ []))
+        × AllTrue N.job v.link w.taken };
+}
+
+impl<N: OfJob> Lesson<Packet, EndView> for Takes<N> {
+    ghost fact = { λ v items. AllTrue N.job v.link v.taken };
+}

@@ -1,0 +1,126 @@
+//! Cases, and whether a process does as they say.
+
+ghost use Rattle.std.specs.Prelude.{IfOk};
+
+use dv_bag::{Entry, Fault, What};
+use dv_core::LogicalProcess;
+use dv_proc::{Event, Packet, Refused};
+use dv_time::Time;
+use std::alloc::{AllocError, Global};
+
+/// A process takes more turns than it needs to commit all that it knows.
+const TURNS: usize = 8;
+
+/// A packet, and how it is refused; without a refusal it is taken.
+pub struct Row {
+    pub link: u32,
+    pub from: Time,
+    pub upto: Time,
+    pub events: &'static [Event],
+    pub refusal: Option<Refused>,
+}
+
+/// What a process commits.
+pub enum Committed {
+    Nothing,
+    /// One fault of a component.
+    Fault(Time, u32, Fault),
+}
+
+/// Packets for a new process, one after the other, and what it commits then, up to a clock.
+pub struct Case {
+    pub name: &'static str,
+    pub rows: &'static [Row],
+    pub committed: Committed,
+    pub clock: Time,
+}
+
+impl Row {
+    fn packet(&self, alloc: Global) -> Result<Packet, AllocError> {
+        Ok(Packet {
+            link: self.link,
+            from: self.from,
+            upto: self.upto,
+            events: Vec::from_slice(alloc, self.events)?,
+        })
+    }
+
+    /// Whether an answer is the one that the packet has to have.
+    fn is_answer(&self, answer: Result<(), (Refused, Packet)>) -> bool {
+        match answer {
+            Ok(()) => self.refusal.is_none(),
+            Err((refused, _packet)) => self.refusal == Some(refused),
+        }
+    }
+}
+
+impl Committed {
+    /// Whether an entry is the one that is committed.
+    fn is_entry(&self, entry: &Entry) -> bool {
+        match self {
+            Committed::Nothing => false,
+            Committed::Fault(time, component, fault) => {
+                entry.time == *time
+                    && entry.component == *component
+                    && entry.what == What::Fault(*fault)
+            }
+        }
+    }
+
+    /// How many entries are committed.
+    fn count(&self) -> usize {
+        match self {
+            Committed::Nothing => 0,
+            Committed::Fault(..) => 1,
+        }
+    }
+}
+
+/// Whether a new process does as a case says.
+pub fn does_hold<P: LogicalProcess>(
+    alloc: Global,
+    mut process: P,
+    work: &mut P::Work,
+    case: &Case,
+) -> Result<bool, AllocError>
+    requires { P.valid process }
+{
+    if !does_answer(alloc, &mut process, case.rows)? {
+        return Ok(false);
+    }
+    take_turns(&mut process, work)?;
+    let committed = process.committed();
+    let is_count = committed.entry_count() == case.committed.count();
+    let mut entries = committed.entries();
+    let are_entries = entries.all(|entry| case.committed.is_entry(entry));
+    Ok(is_count && are_entries && process.clock() == case.clock)
+}
+
+/// Whether a process answers packets as a table says.
+fn does_answer<P: LogicalProcess>(
+    alloc: Global,
+    process: &mut P,
+    rows: &[Row],
+) -> Result<bool, AllocError>
+    requires { P.valid process.old }
+    ensures { P.valid process.new }
+{
+    for row in rows {
+        let packet = row.packet(alloc)?;
+        let answer = process.receive(packet);
+        if !row.is_answer(answer) {
+            return Ok(false);
+        }
+    }
+    Ok(true)
+}
+
+fn take_turns<P: LogicalProcess>(process: &mut P, work: &mut P::Work) -> Result<(), AllocError>
+    requires { P.valid process.old }
+    ensures { P.valid process.new }
+{
+    for _turn in 0..TURNS {
+        let _turned = process.turn(work)?;
+    }
+    Ok(())
+}

@@ -1,0 +1,143 @@
+//! A process of a text, as its run begins.
+
+ghost use Rattle.std.specs.Prelude.{◌≡◌, ◌-◌, ℕ, [], None, Some, IfOk, IfSome, length, slice_get};
+ghost use Rattle.dv_check.specs.Refusals.{AreOfOneText, refusal_of};
+ghost use Rattle.dv_coded.specs.declared.lent.Lent.{Lent};
+ghost use Rattle.dv_coded.specs.Lent.{behaviour_of_lent, lent_takes};
+ghost use Rattle.dv_core.specs.Conservative.{IsConservative};
+ghost use Rattle.dv_flat.specs.Limit.{link_refusal};
+ghost use Rattle.dv_local.specs.declared.share.Share.{Share};
+ghost use Rattle.dv_local.specs.States.{settled_by, view_by};
+ghost use Rattle.dv_planned.specs.Texts.{AreLinksOf};
+ghost use Rattle.dv_serial.specs.Beginning.{CanBegin};
+ghost use Rattle.dv_syntax.specs.Trees.{file_of};
+
+use crate::cases;
+use crate::cases::Case;
+use dv_bag::Inputs;
+use dv_check::{Checked, check};
+use dv_coded::{Bench, Components, Lent, components_of};
+use dv_flat::{LinkLists, count_links, flatten};
+use dv_gen::laws::texts_are_compilable;
+use dv_lex::{LoadError, tokens};
+use dv_local::{LocalRun, begin};
+use dv_parser::parse;
+use dv_partition::Groups;
+use dv_plan::Plan;
+use dv_planned::{TextJob, plan_text};
+use dv_proc::Process;
+use dv_sound::shares::processes_of_texts_start_sound;
+use dv_tree::Tree;
+use std::alloc::{AllocError, Global};
+
+/// The last tick of the run, and its microstep limit.
+const HORIZON: u64 = 4;
+
+const LIMIT: u32 = 3;
+
+/// Whether the process of the second component of a text does as a case says. A text that is refused has none.
+pub fn does_hold(alloc: Global, text: &str, case: &Case) -> Result<bool, AllocError> {
+    match checked(alloc, text) {
+        Ok(checked) => does_hold_of_checked(alloc, &checked, case),
+        Err(_) => Ok(false),
+    }
+}
+
+// Whether that process of a checked text does as a case says.
+fn does_hold_of_checked(alloc: Global, checked: &Checked, case: &Case) -> Result<bool, AllocError>
+    requires text { AreOfOneText checked.now.names (file_of checked.now.file) }
+    requires accepted { refusal_of (file_of checked.now.file) ≡ None }
+{
+    let tree = Tree::of(alloc, checked)?;
+    match count_links(alloc, &tree) {
+        Ok(_count) => does_hold_of_tree(alloc, &tree, case),
+        Err(_) => Ok(false),
+    }
+}
+
+// The checked file of a text.
+fn checked(alloc: Global, text: &str) -> Result<Checked, LoadError>
+    ensures text { IfOk result (λ c. AreOfOneText c.names (file_of c.file)) }
+    ensures accepted { IfOk result (λ c. refusal_of (file_of c.file) ≡ None) }
+{
+    let found = tokens(alloc, text.as_bytes())?;
+    let file = parse(alloc, &found.tokens, text.len() as u32)?;
+    check(alloc, file, found.names)
+}
+
+// Whether that process of an accepted text does as a case says. Each of two components has a process.
+fn does_hold_of_tree(alloc: Global, tree: &Tree, case: &Case) -> Result<bool, AllocError>
+    requires text { AreOfOneText tree.now.names (file_of tree.now.file) }
+    requires accepted { refusal_of (file_of tree.now.file) ≡ None }
+    requires few { link_refusal (file_of tree.now.file) ≡ None }
+{
+    let flat = flatten(alloc, tree)?;
+    let owners = vec![in alloc; 0, 1]?;
+    let groups = Groups::new(alloc, owners.len(), owners)?;
+    let inputs = Inputs::new(alloc);
+    let job = TextJob {
+        tree,
+        inputs: &inputs,
+        groups: &groups,
+        horizon: HORIZON,
+        limit: LIMIT,
+    };
+    does_hold_of_job(alloc, &job, &flat.links, case)
+}
+
+// Whether the last process of a job without inputs does as a case says.
+fn does_hold_of_job(
+    alloc: Global,
+    job: &TextJob<'_, '_>,
+    links: &LinkLists,
+    case: &Case,
+) -> Result<bool, AllocError>
+    requires text { AreOfOneText job.now.tree.now.names (file_of job.now.tree.now.file) }
+    requires accepted { refusal_of (file_of job.now.tree.now.file) ≡ None }
+    requires inputs { job.now.inputs.now ≡ [] }
+    requires links { AreLinksOf (file_of job.now.tree.now.file) links.now }
+{
+    // The atomic models of an accepted text have programs, and its processes start sound.
+    texts_are_compilable();
+    processes_of_texts_start_sound();
+    // Each component is in a process.
+    let _processes = job.groups.processes();
+    let mut bench = Bench::new(alloc);
+    let Components {
+        models,
+        members,
+        responses,
+    } = components_of(&mut bench, job.tree, job.limit)?;
+    let plan = plan_text(alloc, job, &models, members, responses, links)?;
+    match last_process(alloc, plan)? {
+        Some(process) => cases::does_hold(alloc, process, &mut bench, case),
+        None => Ok(false),
+    }
+}
+
+// The last process of a plan, where nothing comes to it from outside.
+fn last_process<'m>(
+    alloc: Global,
+    plan: Plan<Lent<'m>>,
+) -> Result<Option<Process<LocalRun<Lent<'m>>>>, AllocError>
+    requires begin { (p : ℕ) (s : Share Lent) → slice_get plan.shares.items p ≡ Some s
+        → s.inputs ≡ [] → CanBegin behaviour_of_lent lent_takes s }
+    ensures { IfOk result (λ found. IfSome found (λ p.
+        IsConservative (view_by behaviour_of_lent) (settled_by behaviour_of_lent) p)) }
+{
+    let Some(share) = last(plan.shares) else {
+        return Ok(None);
+    };
+    if !share.inputs.is_empty() {
+        return Ok(None);
+    }
+    let process = begin(alloc, share)?;
+    Ok(Some(process))
+}
+
+// The last of a list.
+fn last<T: Drop>(mut items: Vec<T>) -> Option<T>
+    ensures { IfSome result (λ item. slice_get items.items (length items.items - 1) ≡ Some item) }
+{
+    items.pop()
+}

@@ -1,0 +1,46 @@
+use Rattle.std.proofs.Common.{◌<◌, length, refl, arith}
+use Rattle.std.proofs.lemmas.Option.{slice_get_read}
+use Rattle.dv_work.proofs.Sitting.{given_outs}
+use Rattle.dv_work.proofs.Speaking.{given_is_true}
+use Rattle.dv_work.proofs.seat.Seat.put.Goals as goal
+
+pub put_held-requires-clause-all_true : goal.put_held-requires-clause-all_true
+put_held-requires-clause-all_true g c =
+    let s = c.hold.new.self in
+    let xs = s.outs.items in
+    let inside : c.args.place < length xs = omega (arith, c.requires.place, c.hold.ensures.ends) in
+    let read = slice_get_read xs (length xs) c.args.place c.index_mut-end.result.now refl inside c.index_mut-end.ensures.value in
+    given_is_true g.N.OfJob.job s.number (g.P.LogicalProcess.state s.process) c.index_mut-end.result.now
+    (c.hold.ensures.sits.outs.gives c.args.place c.index_mut-end.result.now read)
+
+pub returns-then-not-put_held-clause-sits : goal.returns-then-not-put_held-clause-sits
+returns-then-not-put_held-clause-sits g c =
+    let s = c.hold.new.self in
+    let sits = c.hold.ensures.sits in
+    let xs = s.outs.items in
+    let inside : c.args.place < length xs = omega (arith, c.requires.place, c.hold.ensures.ends) in
+    let read = slice_get_read xs (length xs) c.args.place c.index_mut-end.result.now refl inside c.index_mut-end.ensures.value in
+    record {
+      valid = sits.valid;
+      fed = sits.fed;
+      outs = given_outs g.N.OfJob.job g.P.LogicalProcess.state g.P.LogicalProcess.valid c.args.floor.now.links.now s sits
+          c.args.place c.index_mut-end.result.now c.put_held.new.end read c.put_held.ensures.number c.put_held.ensures.end
+          c.put_held.ensures.given;
+      ins = sits.ins;
+    }
+
+pub returns-clause-sits : goal.returns-clause-sits
+returns-clause-sits g c =
+    let s = c.hold.new.self in
+    let sits = c.hold.ensures.sits in
+    let xs = s.outs.items in
+    let inside : c.args.place < length xs = omega (arith, c.requires.place, c.hold.ensures.ends) in
+    let read = slice_get_read xs (length xs) c.args.place c.index_mut-end.result.now refl inside c.index_mut-end.ensures.value in
+    record {
+      valid = sits.valid;
+      fed = sits.fed;
+      outs = given_outs g.N.OfJob.job g.P.LogicalProcess.state g.P.LogicalProcess.valid c.args.floor.now.links.now s sits
+          c.args.place c.index_mut-end.result.now c.put_held.new.end read c.put_held.ensures.number c.put_held.ensures.end
+          c.put_held.ensures.given;
+      ins = sits.ins;
+    }

@@ -1,0 +1,9 @@
+-- The ends of links, and what is known of a process that a worker owns.
+pub mod Ends
+pub mod Seats
+-- The processes of one worker, and what it leaves.
+pub mod Crews
+-- Processes as they get the ends of their links.
+pub mod Making
+-- What a run is made of, and what it reports.
+pub mod Reached

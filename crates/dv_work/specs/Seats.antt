@@ -1,0 +1,74 @@
+-- What is known of a process that a worker owns, and of what it reports in the end.
+use Rattle.std.specs.Prelude.{◌≡◌, ℕ, ◌<◌, ◌≤◌, Bool, List, ◌++◌, slice_get, Some}
+use Rattle.dv_time.specs.Time.{rank}
+use Rattle.dv_bag.specs.declared.state.State.{State}
+use Rattle.dv_devs.specs.Parts.{part_before}
+use Rattle.dv_conservative.specs.Alike.{AreAlike}
+use Rattle.dv_conservative.specs.Flat.{whole}
+use Rattle.dv_conservative.specs.Process.{IsWithin, Packet, clock_after, first_time, least_clock}
+use Rattle.dv_conservative.specs.Sound.{IsJob}
+use Rattle.dv_conservative.specs.True.{AreTrue}
+use Rattle.dv_conservative.specs.World.{Channel, Job, owned, packets_in, share_of}
+use Rattle.dv_core.specs.ProcessState.{HasCommitted, ProcessState}
+use Rattle.dv_link.specs.declared.link.Link.{Link}
+use Rattle.dv_work.specs.Ends.{IsIn, IsOut, given, taken}
+use Rattle.dv_work.specs.declared.seat.In.{In}
+use Rattle.dv_work.specs.declared.seat.Out.{Out}
+use Rattle.dv_work.specs.declared.seat.Seat.{Seat}
+
+-- A process of a job that was fed truly: its share runs as the job's, it has committed what its local run has, all that it received
+-- is true, and its clock passes no channel clock and not the end.
+pub record IsFedTruly (job : Job) (p : ℕ) (x : ProcessState) : Type 0 where
+  pub fits : ℕ → State → Bool
+  pub sound : IsJob fits job
+  pub there : p < job.processes
+  pub alike : AreAlike x.share (share_of job p)
+  pub committed : HasCommitted x
+  pub truth : (l : ℕ) (c : Channel) → slice_get job.channels l ≡ Some c → AreTrue job l c first_time (x.received l)
+  pub heard : rank job.limit x.position.clock ≤ least_clock (share_of job p) x.received
+  pub within : IsWithin (share_of job p) x.position.clock
+
+-- all packets that were prepared for a link: those that were given to its end, and the one that stands
+abbrev pub prepared : ProcessState → Out → List Packet
+prepared x o = given o ++ packets_in (x.position.standing o.number)
+
+-- what a process prepares for a link that leads away from it is true, and joins
+pub record Gives (job : Job) (p : ℕ) (x : ProcessState) (o : Out) : Type 0 where
+  pub channel : Channel
+  pub there : slice_get job.channels o.number ≡ Some channel
+  pub own : channel.source ≡ p
+  pub truth : AreTrue job o.number channel first_time (prepared x o)
+  pub promised : x.position.promised o.number ≡ clock_after first_time (prepared x o)
+
+-- the ends of links that lead away, no two of one link
+pub record AreOuts {N : Type 0} (job : Job) (links : List (Link N)) (p : ℕ) (x : ProcessState) (outs : List Out) : Type 0 where
+  pub ends : (i : ℕ) (o : Out) → slice_get outs i ≡ Some o → IsOut links o
+  pub gives : (i : ℕ) (o : Out) → slice_get outs i ≡ Some o → Gives job p x o
+  pub apart : (i j : ℕ) (o q : Out) → slice_get outs i ≡ Some o → slice_get outs j ≡ Some q → o.number ≡ q.number → i ≡ j
+
+-- there is a link of that number
+pub record IsLinkOf (job : Job) (l : ℕ) : Type 0 where
+  pub channel : Channel
+  pub there : slice_get job.channels l ≡ Some channel
+
+-- the ends of links that lead here, no two of one link: the process received what was taken
+pub record AreIns {N : Type 0} (job : Job) (links : List (Link N)) (x : ProcessState) (ins : List In) : Type 0 where
+  pub ends : (i : ℕ) (e : In) → slice_get ins i ≡ Some e → IsIn links e
+  pub channels : (i : ℕ) (e : In) → slice_get ins i ≡ Some e → IsLinkOf job e.number
+  pub received : (i : ℕ) (e : In) → slice_get ins i ≡ Some e → x.received e.number ≡ taken e
+  pub apart : (i j : ℕ) (e d : In) → slice_get ins i ≡ Some e → slice_get ins j ≡ Some d → e.number ≡ d.number → i ≡ j
+
+-- a process with its ends
+pub record Sits {N P : Type 0} (job : Job) (state : P → ProcessState) (IsValid : P → Type 0) (links : List (Link N)) (s : Seat P)
+    : Type 0 where
+  pub valid : IsValid s.process
+  pub fed : IsFedTruly job s.number (state s.process)
+  pub outs : AreOuts job links s.number (state s.process) s.outs.items
+  pub ins : AreIns job links (state s.process) s.ins.items
+
+-- what a process has committed is its part of the whole run before its clock
+pub record Reports {P : Type 0} (job : Job) (state : P → ProcessState) (s : Seat P) : Type 0 where
+  pub there : s.number < job.processes
+  pub within : IsWithin (share_of job s.number) (state s.process).position.clock
+  pub part : (state s.process).part
+      ≡ part_before (owned job s.number) job.limit (whole job.flat) job.outside (rank job.limit (state s.process).position.clock)

@@ -1,0 +1,35 @@
+//! Logical processes on threads: each worker owns its processes and the ends of their links.
+//!
+//! # Why no ring of a bell is lost, and why not all wait
+//!
+//! A worker reads the count of its bell, then visits all its processes, and waits only while the count is still the one that it
+//! read. What would give it work is a packet that is put on a link to one of its processes, room on a full link that leads away
+//! from one, or the flag. Whoever puts a packet does so first and rings the receiver's bell after it; whoever takes one rings the
+//! sender's bell after it; the flag is set before all bells ring. So what a visit missed came after the count was read, and its
+//! ring has raised the count or will: the count is read and changed under the bell's lock alone, and the wait begins under it.
+//!
+//! If all workers waited with work left, every queue that a visit found empty is empty still, and every one that it found full is
+//! full still. A full queue's receiver takes from it at each visit, so none is full, and so all that was prepared was put, and all
+//! that was put was taken. Of the processes that are not at the end, take one with the least clock. Its channel clocks are past it,
+//! since each sender's clock is not before it and a turn promises past the clock that it leaves; so its next turn moves it, and its
+//! worker does not wait.
+#![tactic(auto)]
+
+/// Bells, and the flag at which all workers end.
+pub mod bell;
+/// Who watches the turns.
+pub mod gate;
+/// What a run reports.
+pub mod report;
+/// Runs processes by workers.
+pub mod run;
+/// A process with the ends of its links.
+pub mod seat;
+/// The processes of each worker, and the links between them.
+pub mod setup;
+/// Workers.
+pub mod worker;
+
+pub use gate::{Gate, Open};
+pub use report::{Ended, Report};
+pub use run::run_workers;

@@ -1,0 +1,284 @@
+//! Runs processes by workers.
+
+ghost use Rattle.std.specs.Prelude.{◌≡◌, ◌<◌, ◌≤◌, ◌↔◌, ◌+◌, ◌^◌, ℕ, length, map, slice_get, IfErr, IfOk, IfSome, Some};
+ghost use Rattle.std.specs.List.{All};
+ghost use Rattle.dv_conservative.specs.World.{Channel as MeantChannel};
+ghost use Rattle.dv_core.specs.Worlds.{AreMadeFor, end_time};
+ghost use Rattle.dv_proc.specs.Channels.{meant_channel};
+ghost use Rattle.dv_time.specs.declared.time.Time.{Time as MeantTime};
+ghost use Rattle.dv_work.specs.declared.report.Ended.TheVariants.{Whole};
+ghost use Rattle.dv_work.specs.Crews.{Reported, Seated};
+ghost use Rattle.dv_work.specs.Making.{AreNew};
+ghost use Rattle.dv_work.specs.Reached.{AreReached};
+
+use crate::bell::{Bell, Flag};
+use crate::gate::Gate;
+use crate::report::{Report, report_of};
+use crate::seat::{Floor, Seat};
+use crate::setup::{connect, crews_of, seats_of};
+use crate::worker::{Halt, Worked, work_at};
+use dv_core::{LogicalProcess, PlannedJob};
+use dv_link::{Link, OfJob};
+use dv_proc::Channel;
+use std::alloc::{AllocError, Global};
+use std::marker::{Brand, PhantomData};
+use std::sync::Wait;
+use std::thread;
+use std::thread::{Promise, PromisedHandle, Scope, Threads};
+
+/// What a worker leaves is parts of this job.
+#[derive(Drop)]
+pub struct Kept<N, P> {
+    of: PhantomData<(N, P)>,
+}
+
+impl<N: OfJob, P: LogicalProcess, C> Promise<Worked<P, C>> for Kept<N, P> {
+    ghost use Rattle.dv_work.specs.Crews.{Reported};
+
+    ghost kept_by = { λ p r. Reported N.job P.state r };
+}
+
+type Handle<N, P, C> = PromisedHandle<Worked<P, C>, Kept<N, P>>;
+
+// Starts a thread for a worker. Where none can be made, it raises the flag, at which the worker ends, and counts that as want
+// of memory.
+fn start<
+    's,
+    E,
+    N: OfJob + Send + Sync + 's,
+    P: LogicalProcess + Send + 's,
+    G: Gate<P>,
+    R: Threads + Wait + Sync,
+>(
+    scope: &'s Scope<'s, E>,
+    rt: &'s R,
+    floor: &'s Floor<'s, N>,
+    gate: &'s G,
+    number: usize,
+    crew: Vec<Seat<P>>,
+    work: P::Work,
+) -> Result<Handle<N, P, G::Cause>, Worked<P, G::Cause>>
+where
+    P::Work: Send + Drop + 's,
+    requires seated { Seated N.job P.state P.valid floor.now.links.now crew }
+    requires bells { number < length floor.now.bells.now }
+    ensures { IfErr result (Reported N.job P.state) }
+{
+    let started = scope.spawn_with(
+        Kept { of: PhantomData },
+        move || -> Worked<P, G::Cause>
+            requires { Seated N.job P.state P.valid floor.now.links.now crew × (number < length floor.now.bells.now) }
+            ensures { Reported N.job P.state result }
+        { work_at(rt, floor, gate, number, crew, work) },
+    );
+    match started {
+        Ok(handle) => Ok(handle),
+        Err(refused) => {
+            floor.flag.raise(rt, floor.bells);
+            let mut worked = (refused.value)();
+            worked.halt = Some(Halt::Memory);
+            Err(worked)
+        }
+    }
+}
+
+// Keeps what a worker left.
+fn add_worked<N: OfJob, P: LogicalProcess, C: Drop>(
+    all: &mut Vec<Worked<P, C>>,
+    worked: Worked<P, C>,
+) -> Result<(), AllocError>
+    requires worked { Reported N.job P.state worked }
+    requires all { All (Reported N.job P.state) all.old.items }
+    ensures { All (Reported N.job P.state) all.new.items }
+{
+    Ok(all.push(worked)?)
+}
+
+// Takes the last crew out, with what it works with.
+fn last_crew<N: OfJob, P: LogicalProcess>(
+    links: &[Link<N>],
+    crews: &mut Vec<Vec<Seat<P>>>,
+    works: &mut Vec<P::Work>,
+) -> Option<(Vec<Seat<P>>, P::Work)>
+where
+    P::Work: Drop,
+    requires { All (Seated N.job P.state P.valid links.now) crews.old.items }
+    ensures one { IfSome result (λ r. Seated N.job P.state P.valid links.now r.0) }
+    ensures rest { All (Seated N.job P.state P.valid links.now) crews.new.items }
+    ensures count { IfSome result (λ _. length crews.new.items + 1 ≡ length crews.old.items) }
+{
+    let _ = links.len();
+    let work = works.pop()?;
+    let crew = crews.pop()?;
+    Some((crew, work))
+}
+
+// Joins the last thread.
+fn join_last<N: OfJob, P: LogicalProcess, C: Drop, R: Threads>(
+    rt: &R,
+    handles: &mut Vec<Handle<N, P, C>>,
+) -> Option<Worked<P, C>>
+    ensures one { IfSome result (Reported N.job P.state) }
+    ensures count { IfSome result (λ _. length handles.new.items + 1 ≡ length handles.old.items) }
+{
+    let handle = handles.pop()?;
+    Some(handle.join(rt))
+}
+
+// Starts a thread for each worker, and joins them.
+fn start_and_join<
+    's,
+    E,
+    N: OfJob + Send + Sync + 's,
+    P: LogicalProcess + Send + 's,
+    G: Gate<P>,
+    R: Threads + Wait + Sync,
+>(
+    scope: &'s Scope<'s, E>,
+    rt: &'s R,
+    alloc: Global,
+    floor: &'s Floor<'s, N>,
+    gate: &'s G,
+    mut crews: Vec<Vec<Seat<P>>>,
+    mut works: Vec<P::Work>,
+) -> Result<Vec<Worked<P, G::Cause>>, AllocError>
+where
+    P::Work: Send + Drop + 's,
+    requires seated { All (Seated N.job P.state P.valid floor.now.links.now) crews.items }
+    requires bells { length crews.items ≤ length floor.now.bells.now }
+    ensures { IfOk result (λ all. All (Reported N.job P.state) all.items) }
+{
+    let mut handles: Vec<Handle<N, P, G::Cause>> = Vec::with_capacity(alloc, crews.len())?;
+    let mut all = Vec::with_capacity(alloc, crews.len())?;
+    while let Some((crew, work)) = last_crew(floor.links, &mut crews, &mut works) {
+        let number = crews.len();
+        match start(scope, rt, floor, gate, number, crew, work) {
+            Ok(handle) => handles.push(handle)?,
+            Err(worked) => add_worked::<N, P, G::Cause>(&mut all, worked)?,
+        }
+    }
+    while let Some(worked) = join_last(rt, &mut handles) {
+        add_worked::<N, P, G::Cause>(&mut all, worked)?;
+    }
+    Ok(all)
+}
+
+// Runs the crews of a job, each on a thread of its own.
+fn run_crews<
+    N: OfJob + Send + Sync,
+    P: LogicalProcess + Send,
+    G: Gate<P>,
+    R: Threads + Wait + Sync,
+>(
+    rt: &R,
+    alloc: Global,
+    floor: &Floor<'_, N>,
+    gate: &G,
+    crews: Vec<Vec<Seat<P>>>,
+    works: Vec<P::Work>,
+) -> Result<Vec<Worked<P, G::Cause>>, AllocError>
+where
+    P::Work: Send + Drop,
+    requires seated { All (Seated N.job P.state P.valid floor.now.links.now) crews.items }
+    requires bells { length crews.items ≤ length floor.now.bells.now }
+    ensures { IfOk result (λ all. All (Reported N.job P.state) all.items) }
+{
+    thread::scope(
+        thread::scope_env(),
+        rt,
+        |scope| -> Result<Vec<Worked<P, G::Cause>>, AllocError>
+            requires { All (Seated N.job P.state P.valid floor.now.links.now) crews.items
+                × (length crews.items ≤ length floor.now.bells.now) }
+            ensures { IfOk result (λ all. All (Reported N.job P.state) all.items) }
+        { start_and_join(scope, rt, alloc, floor, gate, crews, works) },
+    )
+}
+
+// A bell for each of so many workers.
+fn bells_of(alloc: Global, workers: usize) -> Result<Vec<Bell>, AllocError>
+    ensures { IfOk result (λ bells. length bells.items ≡ workers) }
+{
+    let mut bells = Vec::with_capacity(alloc, workers)?;
+    for _worker in 0..workers {
+        bells.push(Bell::new())?;
+    }
+    Ok(bells)
+}
+
+// Runs the processes of a job, with the links between them, by a worker for each of `works`.
+fn run_job<
+    N: OfJob + Send + Sync,
+    J: PlannedJob,
+    P: LogicalProcess + Send,
+    G: Gate<P>,
+    R: Threads + Wait + Sync,
+>(
+    rt: &R,
+    alloc: Global,
+    job: &J,
+    channels: &[Channel],
+    processes: Vec<P>,
+    works: Vec<P::Work>,
+    capacity: usize,
+    gate: &G,
+) -> Result<Vec<Worked<P, G::Cause>>, AllocError>
+where
+    P::Work: Send + Drop,
+    requires job { N.job ≡ J.means job.now }
+    requires processes { AreNew N.job P.state P.valid processes.items }
+    requires links { map meant_channel channels.now ≡ N.job.channels }
+    requires ends { (l : ℕ) (c : MeantChannel) → slice_get N.job.channels l ≡ Some c
+        → (c.source < N.job.processes) × (c.target < N.job.processes) }
+    requires few { length channels.now < 2 ^ 32 }
+    requires capacity { 0 < capacity }
+    requires workers { 0 < length works.items }
+    ensures { IfOk result (λ all. All (Reported N.job P.state) all.items) }
+{
+    let _ = job;
+    let workers = works.len();
+    let mut seats = seats_of::<N, P>(alloc, processes)?;
+    let links = connect::<N, P>(alloc, channels, capacity, workers, &mut seats)?;
+    let crews = crews_of(alloc, &links, workers, seats)?;
+    let bells = bells_of(alloc, workers)?;
+    let flag = Flag::new();
+    let floor = Floor {
+        links: &links,
+        bells: &bells,
+        flag: &flag,
+    };
+    run_crews(rt, alloc, &floor, gate, crews, works)
+}
+
+/// Runs new processes of a job on threads, one thread for each of `works`, which is what a worker's turns work with. Process p
+/// belongs to worker p mod the number of workers. So many packets may be on their way on each link; one more may be in the hand
+/// of its sender. Whatever the gate and the timing of the threads, each part in the report is its process's part of the whole run
+/// before its clock; and the run is reported whole exactly where every clock is at the end.
+///
+/// # Errors
+///
+/// No memory for the links and the threads, or for the report.
+pub fn run_workers<J: PlannedJob, P: LogicalProcess + Send, G: Gate<P>, R: Threads + Wait + Sync>(
+    rt: &R,
+    alloc: Global,
+    job: &J,
+    channels: &[Channel],
+    processes: Vec<P>,
+    works: Vec<P::Work>,
+    capacity: usize,
+    gate: &G,
+) -> Result<Report<G::Cause>, AllocError>
+where
+    P::Work: Send + Drop,
+    requires made { AreMadeFor J.means P.state P.valid job.now channels.now processes.items }
+    requires capacity { 0 < capacity }
+    requires workers { 0 < length works.items }
+    ensures reached { IfOk result (λ r. AreReached (J.means job.now) r.parts.items r.clocks.items) }
+    ensures whole { IfOk result (λ r. (r.ended ≡ Whole)
+        ↔ ((p : ℕ) (t : MeantTime) → slice_get r.clocks.items p ≡ Some t → t ≡ end_time (J.means job.now))) }
+{
+    let count = processes.len();
+    let all = run_job::<Brand, J, P, G, R>(
+        rt, alloc, job, channels, processes, works, capacity, gate,
+    )?;
+    report_of::<Brand, J, P, G::Cause>(alloc, job, count, all)
+}

@@ -1,0 +1,187 @@
+//! A process with the ends of its links.
+
+ghost use Rattle.std.specs.Prelude.{◌≡◌, ◌<◌, ◌++◌, [], ◌∷◌, length, IfErr, OnOk, OnErr, MatchOption, slice_get, Some};
+ghost use Rattle.dv_conservative.specs.Process.{first_time};
+ghost use Rattle.dv_conservative.specs.True.{AreTrue};
+ghost use Rattle.dv_conservative.specs.World.{Channel};
+ghost use Rattle.dv_proc.specs.Packets.{meant_packet};
+ghost use Rattle.dv_work.specs.Ends.{IsIn, IsOut, given, taken};
+ghost use Rattle.dv_work.specs.Seats.{Reports, Sits};
+
+use crate::bell::Bell;
+use dv_core::LogicalProcess;
+use dv_link::{Link, OfJob, SendPass, TakePass};
+use dv_proc::{Packet, Turned};
+use std::alloc::AllocError;
+use std::sync::Wait;
+
+/// The end of a link that leads away: its number, the pass to put with, a packet that found no room yet, and the worker of the
+/// process to which it leads.
+#[derive(Drop)]
+pub struct Out {
+    pub number: u32,
+    pub pass: SendPass,
+    pub held: Option<Packet>,
+    pub receiver: usize,
+}
+
+/// The end of a link that leads here: its number, the pass to take with, and the worker of the process from which it comes.
+#[derive(Drop)]
+pub struct In {
+    pub number: u32,
+    pub pass: TakePass,
+    pub sender: usize,
+}
+
+/// A process, by its number, with the ends of its links.
+#[derive(Drop)]
+pub struct Seat<P> {
+    pub number: u32,
+    pub process: P,
+    pub outs: Vec<Out>,
+    pub ins: Vec<In>,
+}
+
+/// All that a worker's visits need of the others: the links, the bells, and the flag.
+#[derive(Drop)]
+pub struct Floor<'a, N: OfJob> {
+    pub links: &'a [Link<N>],
+    pub bells: &'a [Bell],
+    pub flag: &'a crate::bell::Flag,
+}
+
+// Rings a worker's bell, if there is one.
+fn ring<R: Wait>(rt: &R, bells: &[Bell], worker: usize) {
+    if let Some(bell) = bells.get(worker) {
+        bell.ring(rt);
+    }
+}
+
+// Takes the packet at the front of a link, if there is one.
+fn take_from<N: OfJob, R: Wait>(rt: &R, links: &[Link<N>], end: &mut In) -> Option<Packet>
+    requires end { IsIn links.now end.old }
+    ensures end { IsIn links.now end.new }
+    ensures number { end.new.number ≡ end.old.number }
+    ensures taken { MatchOption result (taken end.new ≡ taken end.old)
+        (λ p. taken end.new ≡ taken end.old ++ meant_packet p ∷ []) }
+    ensures all_true { (c : Channel) → slice_get N.job.channels end.new.number ≡ Some c
+        → AreTrue N.job end.new.number c first_time (taken end.new) }
+{
+    links[end.number as usize].take(rt, &mut end.pass)
+}
+
+// Puts the packet that is held, where its link has room. What was given to this end stays the same. Tells whether it was put.
+fn put_held<N: OfJob, R: Wait>(rt: &R, links: &[Link<N>], end: &mut Out) -> bool
+    requires end { IsOut links.now end.old }
+    requires all_true { (c : Channel) → slice_get N.job.channels end.old.number ≡ Some c
+        → AreTrue N.job end.old.number c first_time (given end.old) }
+    ensures end { IsOut links.now end.new }
+    ensures number { end.new.number ≡ end.old.number }
+    ensures given { given end.new ≡ given end.old }
+{
+    let Some(packet) = end.held.take() else {
+        return false;
+    };
+    match links[end.number as usize].put(rt, &mut end.pass, packet) {
+        Ok(()) => return true,
+        Err(full) => {
+            end.held = Some(full.value);
+            return false;
+        }
+    }
+}
+
+impl<P: LogicalProcess> Seat<P> {
+    /// Takes the packet at the front of the link at a place, if there is one, and gives it to the process.
+    ///
+    /// # Errors
+    ///
+    /// No memory to keep it. The process is as before, and what it has committed stays true.
+    pub fn take<N: OfJob, R: Wait>(
+        &mut self,
+        rt: &R,
+        floor: &Floor<'_, N>,
+        place: usize,
+    ) -> Result<bool, AllocError>
+        requires sits { Sits N.job P.state P.valid floor.now.links.now self.old }
+        requires place { place < length self.old.ins.items }
+        ensures ok { OnOk result (Sits N.job P.state P.valid floor.now.links.now self.new) }
+        ensures err { OnErr result (Reports N.job P.state self.new) }
+        ensures ends { length self.new.ins.items ≡ length self.old.ins.items }
+    {
+        let end = &mut self.ins[place];
+        let Some(packet) = take_from(rt, floor.links, end) else {
+            return Ok(false);
+        };
+        ring(rt, floor.bells, end.sender);
+        if let Err(_refused) = self.process.receive(packet) {
+            return Err(AllocError);
+        }
+        Ok(true)
+    }
+
+    /// One turn of the process.
+    ///
+    /// # Errors
+    ///
+    /// No memory; all is as before.
+    pub fn turn<N: OfJob>(
+        &mut self,
+        floor: &Floor<'_, N>,
+        work: &mut P::Work,
+    ) -> Result<Turned, AllocError>
+        requires { Sits N.job P.state P.valid floor.now.links.now self.old }
+        ensures { Sits N.job P.state P.valid floor.now.links.now self.new }
+    {
+        let _ = floor.links.len();
+        self.process.turn(work)
+    }
+
+    // Holds the packet that stands on the link at a place, if none is held there yet.
+    fn hold<N: OfJob>(&mut self, floor: &Floor<'_, N>, place: usize)
+        requires sits { Sits N.job P.state P.valid floor.now.links.now self.old }
+        requires place { place < length self.old.outs.items }
+        ensures sits { Sits N.job P.state P.valid floor.now.links.now self.new }
+        ensures ends { length self.new.outs.items ≡ length self.old.outs.items }
+    {
+        let _ = floor.links.len();
+        let end = &mut self.outs[place];
+        let None = end.held else {
+            return;
+        };
+        let Some(_standing) = self.process.out(end.number) else {
+            return;
+        };
+        end.held = Some(self.process.sent(end.number));
+    }
+
+    /// Puts the packet that stands on the link at a place, or that is held there, where the link has room. Tells whether it was
+    /// put.
+    pub fn put<N: OfJob, R: Wait>(&mut self, rt: &R, floor: &Floor<'_, N>, place: usize) -> bool
+        requires sits { Sits N.job P.state P.valid floor.now.links.now self.old }
+        requires place { place < length self.old.outs.items }
+        ensures sits { Sits N.job P.state P.valid floor.now.links.now self.new }
+        ensures ends { length self.new.outs.items ≡ length self.old.outs.items }
+    {
+        self.hold(floor, place);
+        let end = &mut self.outs[place];
+        if !put_held(rt, floor.links, end) {
+            return false;
+        }
+        ring(rt, floor.bells, end.receiver);
+        true
+    }
+
+    /// Whether a packet is held for a link that was full.
+    pub fn holds_packets(&self) -> bool {
+        self.outs.iter().any(|end| end.held.is_some())
+    }
+
+    /// What the process has committed is its part of the whole run.
+    pub fn account<N: OfJob>(&self, floor: &Floor<'_, N>)
+        requires { Sits N.job P.state P.valid floor.now.links.now self.now }
+        ensures { Reports N.job P.state self.now }
+    {
+        let _ = floor.links.len();
+    }
+}

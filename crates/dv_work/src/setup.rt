@@ -1,0 +1,169 @@
+//! The processes of each worker, and the links between them.
+
+ghost use Rattle.std.specs.Prelude.{◌≡◌, ◌<◌, ◌+◌, ◌^◌, ℕ, List, [], length, map, slice_get, IfOk, OnOk, Some};
+ghost use Rattle.std.specs.List.{All};
+ghost use Rattle.dv_conservative.specs.World.{Channel as MeantChannel};
+ghost use Rattle.dv_proc.specs.Channels.{meant_channel};
+ghost use Rattle.dv_work.specs.Crews.{Seated};
+ghost use Rattle.dv_work.specs.Making.{AreNew, AreSeated, IsNewIn, IsNewOut, IsSeat, no_links};
+ghost use Rattle.dv_work.specs.Seats.{Sits};
+
+use crate::seat::{In, Out, Seat};
+use dv_core::LogicalProcess;
+use dv_link::{Link, OfJob};
+use dv_proc::Channel;
+use std::alloc::{AllocError, Global};
+
+/// The processes of a job, by their numbers, with no links yet.
+///
+/// # Errors
+///
+/// No memory.
+pub fn seats_of<N: OfJob, P: LogicalProcess>(
+    alloc: Global,
+    processes: Vec<P>,
+) -> Result<Vec<Seat<P>>, AllocError>
+    requires { AreNew N.job P.state P.valid processes.items }
+    ensures { IfOk result (λ seats. AreSeated N.job P.state P.valid (no_links {N = N}) 0 0 seats.items) }
+{
+    let mut seats = Vec::with_capacity(alloc, processes.len())?;
+    for process in processes {
+        let number = seats.len() as u32;
+        seats.push(Seat {
+            number,
+            process,
+            outs: Vec::new(alloc),
+            ins: Vec::new(alloc),
+        })?;
+    }
+    Ok(seats)
+}
+
+// Gives a process the end of a link that leads away from it.
+fn add_out<N: OfJob, P: LogicalProcess>(
+    links: &[Link<N>],
+    seat: &mut Seat<P>,
+    out: Out,
+) -> Result<(), AllocError>
+    requires seat { IsSeat N.job P.state P.valid links.now out.number out.number seat.old }
+    requires out { IsNewOut N.job links.now seat.old.number out }
+    ensures seat { OnOk result (IsSeat N.job P.state P.valid links.now (out.number + 1) out.number seat.new) }
+    ensures number { seat.new.number ≡ seat.old.number }
+{
+    let _ = links.len();
+    Ok(seat.outs.push(out)?)
+}
+
+// Gives a process the end of a link that leads to it.
+fn add_in<N: OfJob, P: LogicalProcess>(
+    links: &[Link<N>],
+    seat: &mut Seat<P>,
+    end: In,
+) -> Result<(), AllocError>
+    requires seat { IsSeat N.job P.state P.valid links.now (end.number + 1) end.number seat.old }
+    requires end { IsNewIn N.job links.now end }
+    ensures seat { OnOk result (IsSeat N.job P.state P.valid links.now (end.number + 1) (end.number + 1) seat.new) }
+    ensures number { seat.new.number ≡ seat.old.number }
+{
+    let _ = links.len();
+    Ok(seat.ins.push(end)?)
+}
+
+/// Makes the links of a job, in the order of their numbers, with room for so many packets on each, and gives their ends to
+/// processes. Process p will be that of worker p mod `workers`.
+///
+/// # Errors
+///
+/// No memory.
+pub fn connect<N: OfJob, P: LogicalProcess>(
+    alloc: Global,
+    channels: &[Channel],
+    capacity: usize,
+    workers: usize,
+    seats: &mut Vec<Seat<P>>,
+) -> Result<Vec<Link<N>>, AllocError>
+    requires seats { AreSeated N.job P.state P.valid (no_links {N = N}) 0 0 seats.old.items }
+    requires links { map meant_channel channels.now ≡ N.job.channels }
+    requires ends { (l : ℕ) (c : MeantChannel) → slice_get N.job.channels l ≡ Some c
+        → (c.source < N.job.processes) × (c.target < N.job.processes) }
+    requires few { length channels.now < 2 ^ 32 }
+    requires capacity { 0 < capacity }
+    requires workers { 0 < workers }
+    ensures { IfOk result (λ links. (count : ℕ) × AreSeated N.job P.state P.valid links.items count count seats.new.items) }
+{
+    let mut links = Vec::with_capacity(alloc, channels.len())?;
+    for channel in channels {
+        let number = links.len() as u32;
+        let (link, send, take) = Link::<N>::new(alloc, number, capacity)?;
+        links.push(link)?;
+        let out = Out {
+            number,
+            pass: send,
+            held: None,
+            receiver: channel.target as usize % workers,
+        };
+        add_out(&links, &mut seats[channel.source as usize], out)?;
+        let end = In {
+            number,
+            pass: take,
+            sender: channel.source as usize % workers,
+        };
+        add_in(&links, &mut seats[channel.target as usize], end)?;
+    }
+    Ok(links)
+}
+
+// As many crews, of nobody yet.
+fn empty_crews<N: OfJob, P: LogicalProcess>(
+    alloc: Global,
+    links: &[Link<N>],
+    workers: usize,
+) -> Result<Vec<Vec<Seat<P>>>, AllocError>
+    ensures count { IfOk result (λ crews. length crews.items ≡ workers) }
+    ensures seated { IfOk result (λ crews. All (Seated N.job P.state P.valid links.now) crews.items) }
+{
+    let _ = links.len();
+    let mut crews = Vec::with_capacity(alloc, workers)?;
+    for _worker in 0..workers {
+        crews.push(Vec::new(alloc))?;
+    }
+    Ok(crews)
+}
+
+// Gives a crew a process more.
+fn add_seat<N: OfJob, P: LogicalProcess>(
+    links: &[Link<N>],
+    crew: &mut Vec<Seat<P>>,
+    seat: Seat<P>,
+) -> Result<(), AllocError>
+    requires crew { Seated N.job P.state P.valid links.now crew.old }
+    requires seat { Sits N.job P.state P.valid links.now seat }
+    ensures { OnOk result (Seated N.job P.state P.valid links.now crew.new) }
+{
+    let _ = links.len();
+    Ok(crew.push(seat)?)
+}
+
+/// The processes of each worker: process p is that of worker p mod `workers`.
+///
+/// # Errors
+///
+/// No memory.
+pub fn crews_of<N: OfJob, P: LogicalProcess>(
+    alloc: Global,
+    links: &[Link<N>],
+    workers: usize,
+    seats: Vec<Seat<P>>,
+) -> Result<Vec<Vec<Seat<P>>>, AllocError>
+    requires seats { All (Sits N.job P.state P.valid links.now) seats.items }
+    requires workers { 0 < workers }
+    ensures count { IfOk result (λ crews. length crews.items ≡ workers) }
+    ensures seated { IfOk result (λ crews. All (Seated N.job P.state P.valid links.now) crews.items) }
+{
+    let mut crews = empty_crews(alloc, links, workers)?;
+    for seat in seats {
+        let worker = seat.number as usize % workers;
+        add_seat(links, &mut crews[worker], seat)?;
+    }
+    Ok(crews)
+}

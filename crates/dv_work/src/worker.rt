@@ -1,0 +1,202 @@
+//! A worker: it visits its processes until they are done, and waits at its bell where nothing moved.
+
+ghost use Rattle.std.specs.Prelude.{◌<◌, length, OnErr, OnOk};
+ghost use Rattle.std.specs.List.{All};
+ghost use Rattle.dv_work.specs.Crews.{Reported, Seated};
+ghost use Rattle.dv_work.specs.Seats.{Reports, Sits};
+
+use crate::bell::Bell;
+use crate::gate::Gate;
+use crate::seat::{Floor, Seat};
+use dv_core::LogicalProcess;
+use dv_link::OfJob;
+use dv_proc::Turned;
+use std::alloc::AllocError;
+use std::sync::Wait;
+
+/// Why a worker ended before its processes were done.
+#[derive(Drop)]
+pub enum Halt<C> {
+    /// The flag was raised.
+    Flag,
+    /// No memory.
+    Memory,
+    /// The gate's.
+    Cause(C),
+}
+
+/// What a worker leaves.
+#[derive(Drop)]
+pub struct Worked<P, C> {
+    pub seats: Vec<Seat<P>>,
+    pub halt: Option<Halt<C>>,
+}
+
+// Takes a packet from each link that leads here. Tells whether one had come.
+fn take_all<N: OfJob, P: LogicalProcess, R: Wait>(
+    rt: &R,
+    floor: &Floor<'_, N>,
+    seat: &mut Seat<P>,
+) -> Result<bool, AllocError>
+    requires { Sits N.job P.state P.valid floor.now.links.now seat.old }
+    ensures ok { OnOk result (Sits N.job P.state P.valid floor.now.links.now seat.new) }
+    ensures err { OnErr result (Reports N.job P.state seat.new) }
+{
+    let mut moved = false;
+    for place in 0..seat.ins.len() {
+        if seat.take(rt, floor, place)? {
+            moved = true;
+        }
+    }
+    Ok(moved)
+}
+
+// Puts a packet on each link that leads away, where one stands or is held. Tells whether one was put.
+fn put_all<N: OfJob, P: LogicalProcess, R: Wait>(
+    rt: &R,
+    floor: &Floor<'_, N>,
+    seat: &mut Seat<P>,
+) -> bool
+    requires { Sits N.job P.state P.valid floor.now.links.now seat.old }
+    ensures { Sits N.job P.state P.valid floor.now.links.now seat.new }
+{
+    let mut moved = false;
+    for place in 0..seat.outs.len() {
+        if seat.put(rt, floor, place) {
+            moved = true;
+        }
+    }
+    moved
+}
+
+// A visit moved its process where packets moved too; and while one is held, the process is not done.
+fn progress(turned: Turned, moved: bool, holds: bool) -> Turned {
+    match turned {
+        _ if moved => Turned::Moved,
+        Turned::Done if holds => Turned::Waiting,
+        _ => turned,
+    }
+}
+
+// Takes, makes one turn if the gate lets it, and puts.
+fn visit<N: OfJob, P: LogicalProcess, G: Gate<P>, R: Wait>(
+    rt: &R,
+    floor: &Floor<'_, N>,
+    gate: &G,
+    worker: usize,
+    seat: &mut Seat<P>,
+    work: &mut P::Work,
+) -> Result<Turned, Halt<G::Cause>>
+    requires { Sits N.job P.state P.valid floor.now.links.now seat.old }
+    ensures ok { OnOk result (Sits N.job P.state P.valid floor.now.links.now seat.new) }
+    ensures err { OnErr result (Reports N.job P.state seat.new) }
+{
+    let Ok(took) = take_all(rt, floor, seat) else {
+        return Err(Halt::Memory);
+    };
+    seat.account(floor);
+    if floor.flag.is_raised() {
+        return Err(Halt::Flag);
+    }
+    if let Some(cause) = gate.before_turn(worker, seat.number, &seat.process) {
+        return Err(Halt::Cause(cause));
+    }
+    let Ok(turned) = seat.turn(floor, work) else {
+        seat.account(floor);
+        return Err(Halt::Memory);
+    };
+    gate.after_turn(worker, seat.number, &seat.process);
+    let put = put_all(rt, floor, seat);
+    Ok(progress(turned, took || put, seat.holds_packets()))
+}
+
+// One visit of each process.
+fn round<N: OfJob, P: LogicalProcess, G: Gate<P>, R: Wait>(
+    rt: &R,
+    floor: &Floor<'_, N>,
+    gate: &G,
+    worker: usize,
+    seats: &mut [Seat<P>],
+    work: &mut P::Work,
+) -> Result<Turned, Halt<G::Cause>>
+    requires { All (Sits N.job P.state P.valid floor.now.links.now) seats.old }
+    ensures ok { OnOk result (All (Sits N.job P.state P.valid floor.now.links.now) seats.new) }
+    ensures all { All (Reports N.job P.state) seats.new }
+{
+    let mut all = Turned::Done;
+    for i in 0..seats.len() {
+        let seat = &mut seats[i];
+        match visit(rt, floor, gate, worker, seat, work) {
+            Ok(turned) => all = of_both(all, turned),
+            Err(halt) => return Err(halt),
+        }
+    }
+    Ok(all)
+}
+
+// Moved where either moved, and done where both are.
+fn of_both(one: Turned, other: Turned) -> Turned {
+    match (one, other) {
+        (Turned::Done, _) => other,
+        (_, Turned::Done) => one,
+        (Turned::Waiting, _) => other,
+        _ => one,
+    }
+}
+
+// Makes rounds until all are done, or the worker has to end.
+fn rounds<N: OfJob, P: LogicalProcess, G: Gate<P>, R: Wait>(
+    rt: &R,
+    floor: &Floor<'_, N>,
+    gate: &G,
+    worker: usize,
+    bell: &Bell,
+    seats: &mut [Seat<P>],
+    work: &mut P::Work,
+) -> Option<Halt<G::Cause>>
+    requires { All (Sits N.job P.state P.valid floor.now.links.now) seats.old }
+    ensures { All (Reports N.job P.state) seats.new }
+{
+    for _ in rt.forever() {
+        let seen = bell.rings(rt);
+        match round(rt, floor, gate, worker, seats, work) {
+            Ok(Turned::Moved) => {}
+            Ok(Turned::Waiting) => bell.wait_past(rt, seen),
+            Ok(Turned::Done) => return None,
+            Err(halt) => return Some(halt),
+        }
+    }
+    unreachable!()
+}
+
+/// Works until all its processes are done, or it has to end. Then it raises the flag, unless it ended for the flag.
+pub fn work_at<N: OfJob, P: LogicalProcess, G: Gate<P>, R: Wait>(
+    rt: &R,
+    floor: &Floor<'_, N>,
+    gate: &G,
+    worker: usize,
+    mut seats: Vec<Seat<P>>,
+    mut work: P::Work,
+) -> Worked<P, G::Cause>
+where
+    P::Work: Drop,
+    requires seats { Seated N.job P.state P.valid floor.now.links.now seats }
+    requires bell { worker < length floor.now.bells.now }
+    ensures { Reported N.job P.state result }
+{
+    let bell = &floor.bells[worker];
+    let halt = rounds(
+        rt,
+        floor,
+        gate,
+        worker,
+        bell,
+        seats.as_mut_slice(),
+        &mut work,
+    );
+    match &halt {
+        None | Some(Halt::Flag) => {}
+        Some(_) => floor.flag.raise(rt, floor.bells),
+    }
+    Worked { seats, halt }
+}
