@@ -1,3 +1,4 @@
+pub mod Endings
 pub mod Groups
 pub mod Instants
 pub mod Merging

@@ -1,67 +1,82 @@
 -- One round of a walk that writes: the piece that goes through the line, and what is left behind it.
-use Rattle.std.proofs.Common.{◌≡◌, ℕ, ◌+◌, ◌<◌, List, ◌∷◌, [], ◌++◌, codes, length, get_or, drop, Option, true, refl, ap, sym}
-use Rattle.std.proofs.Common.{◌∙◌}
+use Rattle.std.proofs.Common.{◌≡◌, ℕ, ◌+◌, ◌<◌, ◌≤◌, List, ◌∷◌, [], ◌++◌, codes, length, get_or, drop, Option, true, refl, ap, sym}
+use Rattle.std.proofs.Common.{◌∙◌, append-nil}
+use Rattle.std.specs.List.{flat_map}
 use Rattle.std.specs.Ordering.{is_eq}
 use Rattle.dv_time.specs.declared.time.Time.{Time}
 use Rattle.dv_time.specs.Time.{time_cmp, time_text}
 use Rattle.dv_bag.specs.declared.entry.Entry.{Entry}
 use Rattle.dv_bag.specs.declared.entry.Outer.{Outer}
-use Rattle.dv_text.specs.Merging.{first_text, groups_before, groups_from, groups_of, lines_by_time}
+use Rattle.dv_text.specs.Merging.{first_text, group_text, groups_before, groups_from, groups_of, lines_by_time}
 use Rattle.dv_tree.specs.Paths.{name_at}
 use Rattle.dv_text.specs.Texts.{ComponentNames, entry_text, names_at, outer_text, port_text}
-use Rattle.dv_text.specs.Writing.{AppendsBeginning, StopsShort, TakesFront}
+use Rattle.dv_text.specs.Writing.{AppendsBeginning, TakesFront}
 use Rattle.dv_text.proofs.Groups.{first_text-at, ports_at, ports_at-same}
-use Rattle.dv_text.proofs.Merging.{next_entry}
-use Rattle.dv_text.proofs.Taking.{StopsShort-from, StopsShort-handed, StopsShort-more, TakesFront-handed, TakesFront-more}
-use Rattle.dv_text.proofs.Taking.{TakesFront-nothing, TakesFront-pushed, some-behind}
+use Rattle.dv_text.proofs.Merging.{last_groups, next_entry}
+use Rattle.dv_text.proofs.Taking.{AppendsBeginning-from, AppendsBeginning-handed, AppendsBeginning-more, TakesFront-handed}
+use Rattle.dv_text.proofs.Taking.{TakesFront-more, TakesFront-nothing, TakesFront-pushed, TakesFront-rest}
 
 -- ---- An entry: the lines of what left before it, and its own
 
 module _ (all : List ComponentNames) (items : List Entry) (i : ℕ) (e : Entry) (groups left : List (Time × List ℕ))
-    (ending : List ℕ)
-    (within : i < length items) (is : e ≡ get_or items i e) (from : left ≡ groups_from e.time groups) (some : 0 < length ending)
+    (within : i < length items) (is : e ≡ get_or items i e) (from : left ≡ groups_from e.time groups)
   where
     abbrev own : List ℕ
     own = entry_text (names_at all e.component) e
 
     abbrev more : List ℕ
-    more = lines_by_time all (drop (i + 1) items) left ++ ending
+    more = lines_by_time all (drop (i + 1) items) left
 
     abbrev due : List ℕ
-    due = lines_by_time all (drop i items) groups ++ ending
-
-    some_more : 0 < length more
-    some_more = some-behind (lines_by_time all (drop (i + 1) items) left) ending some
+    due = lines_by_time all (drop i items) groups
 
     parts : due ≡ groups_before e.time groups ++ (own ++ more)
-    parts = next_entry all items i e groups left ending within is from
+    parts = next_entry all items i e groups left within is from
 
     module _ {a b : Option (List ℕ)} {whole : List ℕ} (line : List ℕ) (held : TakesFront a b whole (line ++ due)) where
       -- the lines before it failed
-      pub stops_before_entry : {c : Option (List ℕ)} → AppendsBeginning b c (line ++ groups_before e.time groups)
-          → StopsShort a c whole
-      stops_before_entry next =
-          StopsShort-more line due (groups_before e.time groups) (own ++ more) held parts (some-behind own more some_more) next
+      pub fails_before_entry : {c : Option (List ℕ)} → AppendsBeginning b c (line ++ groups_before e.time groups)
+          → AppendsBeginning a c whole
+      fails_before_entry next = AppendsBeginning-more line due (groups_before e.time groups) (own ++ more) held parts next
 
       module _ {c : Option (List ℕ)} (before : List ℕ) (taken : TakesFront b c (line ++ groups_before e.time groups) before) where
         at_entry : TakesFront a c whole (before ++ (own ++ more))
         at_entry = TakesFront-more line before due (groups_before e.time groups) (own ++ more) held parts taken
 
         -- there was no room for its own line
-        pub stops_at_entry : StopsShort a c whole
-        stops_at_entry = StopsShort-from at_entry (some-behind before (own ++ more) (some-behind own more some_more))
+        pub fails_at_entry : AppendsBeginning a c whole
+        fails_at_entry = AppendsBeginning-from at_entry
 
         module _ (pushed : List ℕ) (put : pushed ≡ before ++ own) where
           behind_entry : TakesFront a c whole (pushed ++ more)
           behind_entry = TakesFront-pushed before pushed (own ++ more) own more at_entry refl put
 
           -- the line was not handed over, or it was
-          pub stops_behind_entry : {d : Option (List ℕ)} → AppendsBeginning c d pushed → StopsShort a d whole
-          stops_behind_entry next = StopsShort-handed pushed more behind_entry some_more next
+          pub fails_behind_entry : {d : Option (List ℕ)} → AppendsBeginning c d pushed → AppendsBeginning a d whole
+          fails_behind_entry next = AppendsBeginning-handed pushed more behind_entry next
 
           pub entry_handed : {d : Option (List ℕ)} (handed : List ℕ) → TakesFront c d pushed handed
               → TakesFront a d whole (handed ++ more)
           entry_handed handed next = TakesFront-handed pushed handed more behind_entry next
+
+-- ---- After the last entry: the lines of what left later
+
+module _ (all : List ComponentNames) (items : List Entry) (i : ℕ) (groups : List (Time × List ℕ)) (done : length items ≤ i)
+    {a b : Option (List ℕ)} {whole : List ℕ} (line : List ℕ)
+    (held : TakesFront a b whole (line ++ lines_by_time all (drop i items) groups))
+  where
+    left_are : lines_by_time all (drop i items) groups ≡ flat_map group_text groups ++ []
+    left_are = last_groups all items i groups done ∙ sym (append-nil (flat_map group_text groups))
+
+    pub fails_in_groups : {c : Option (List ℕ)} → AppendsBeginning b c (line ++ flat_map group_text groups) → AppendsBeginning a c whole
+    fails_in_groups next =
+        AppendsBeginning-more line (lines_by_time all (drop i items) groups) (flat_map group_text groups) [] held left_are next
+
+    pub groups_taken : {c : Option (List ℕ)} (line' : List ℕ) → TakesFront b c (line ++ flat_map group_text groups) line' →
+        TakesFront a c whole line'
+    groups_taken line' next =
+        TakesFront-rest line' [] refl
+        (TakesFront-more line line' (lines_by_time all (drop i items) groups) (flat_map group_text groups) [] held left_are next)
 
 -- ---- A group: its time, and its ports
 

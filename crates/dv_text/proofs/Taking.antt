@@ -80,6 +80,22 @@ pub AppendsBeginning-longer : {a b : Option (List ℕ)} {s : List ℕ} (more : L
     AppendsBeginning a b (s ++ more)
 AppendsBeginning-longer more p = record { rest = p.rest ++ more; takes = TakesFront-before more p.takes }
 
+-- one text was written whole; the next one, or a beginning of it, comes behind it
+pub TakesFront-whole : {a b : Option (List ℕ)} (s t : List ℕ) → Appends a b s → TakesFront a b (s ++ t) t
+TakesFront-whole s t p = record { front = s; whole = refl; appends = p }
+
+pub AppendsBeginning-behind : {a b c : Option (List ℕ)} (s t : List ℕ) → Appends a b s → AppendsBeginning b c t →
+    AppendsBeginning a c (s ++ t)
+AppendsBeginning-behind s t p q = AppendsBeginning-after (TakesFront-whole s t p) q
+
+pub StopsShort-behind : {a b c : Option (List ℕ)} (s t : List ℕ) → Appends a b s → StopsShort b c t → StopsShort a c (s ++ t)
+StopsShort-behind s t p q = StopsShort-after (TakesFront-whole s t p) q
+
+-- the next one failed, and some text was to come behind it
+pub StopsShort-between : {a b c : Option (List ℕ)} (s t u : List ℕ) → Appends a b s → AppendsBeginning b c t → 0 < length u →
+    StopsShort a c (s ++ (t ++ u))
+StopsShort-between s t u p q some = StopsShort-behind s (t ++ u) p (StopsShort-longer u some q)
+
 -- the same of an equal text
 pub TakesFront-text : {a b : Option (List ℕ)} {s t r : List ℕ} → s ≡ t → TakesFront a b s r → TakesFront a b t r
 TakesFront-text {a} {b} {s} {t} {r} e p = let P : List ℕ → Type 0 = λ z. TakesFront a b z r in subst P e p
@@ -119,16 +135,6 @@ AppendsBeginning-more line left text more before e next =
 pub AppendsBeginning-handed : {a b c : Option (List ℕ)} {whole : List ℕ} (line more : List ℕ) → TakesFront a b whole (line ++ more) →
     AppendsBeginning b c line → AppendsBeginning a c whole
 AppendsBeginning-handed line more before next = AppendsBeginning-after before (AppendsBeginning-longer more next)
-
--- the next text failed, and more was to come
-pub StopsShort-more : {a b c : Option (List ℕ)} {whole : List ℕ} (line left text more : List ℕ) → TakesFront a b whole (line ++ left) →
-    left ≡ text ++ more → 0 < length more → AppendsBeginning b c (line ++ text) → StopsShort a c whole
-StopsShort-more line left text more before e some next =
-    StopsShort-after (TakesFront-left (apart line left text more e) before) (StopsShort-longer more some next)
-
-pub StopsShort-handed : {a b c : Option (List ℕ)} {whole : List ℕ} (line more : List ℕ) → TakesFront a b whole (line ++ more) →
-    0 < length more → AppendsBeginning b c line → StopsShort a c whole
-StopsShort-handed line more before some next = StopsShort-after before (StopsShort-longer more some next)
 
 -- nothing is left
 pub TakesFront-rest : {a b : Option (List ℕ)} {whole : List ℕ} (line more : List ℕ) → more ≡ [] → TakesFront a b whole (line ++ more) →

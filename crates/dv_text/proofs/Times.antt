@@ -12,9 +12,8 @@ use Rattle.dv_bag.specs.Part.{IsByTime, PartOf, before, since}
 use Rattle.dv_bag.specs.declared.entry.Entry.{Entry}
 use Rattle.dv_bag.specs.declared.entry.Outer.{Outer}
 use Rattle.dv_bag.proofs.Cuts.{parted}
-use Rattle.dv_text.specs.Merging.{groups_of, lines_by_time, text_of, trace_text}
-use Rattle.dv_text.specs.Texts.{ComponentNames, ascending, ending_text, instant_text, only_at, part_text, times_of, with_time}
-use Rattle.dv_text.specs.declared.writing.Ending.{Ending}
+use Rattle.dv_text.specs.Merging.{groups_of, lines_by_time, trace_text}
+use Rattle.dv_text.specs.Texts.{ComponentNames, ascending, instant_text, only_at, part_text, times_of, with_time}
 use Rattle.dv_text.proofs.Groups.{same_time}
 use Rattle.dv_text.proofs.Instants.{AllOf-weaker, IsEarly, IsLate, IsOnlyAt, text-append, text-at}
 
@@ -188,16 +187,16 @@ still_in t u us (inl e) h = absurd (false≢true (sym h ∙ ap (λ (v : Time). i
 still_in t u us (inr there) h = there
 
 module _ {X : Type 0} (time : X → Time) (t : Time) where
-  passed : (xs : List X) → AllOf (λ x. is_before (time x) (next t) ≡ true) (filter (λ x. is_before (time x) (next t)) xs)
+  passed : (xs : List X) → AllOf (λ x. is_before (time x) t ≡ true) (filter (λ x. is_before (time x) t) xs)
   passed xs =
-      AllOf-weaker (λ x. Unit {0} × (is_before (time x) (next t) ≡ true)) (λ x. is_before (time x) (next t) ≡ true) (λ x h. h.1) _
-      (filter-passed (λ x. Unit {0}) (λ x. is_before (time x) (next t)) xs (AllOf-any xs))
+      AllOf-weaker (λ x. Unit {0} × (is_before (time x) t ≡ true)) (λ x. is_before (time x) t ≡ true) (λ x h. h.1) _
+      (filter-passed (λ x. Unit {0}) (λ x. is_before (time x) t) xs (AllOf-any xs))
 
-  failed : (xs : List X) → AllOf (λ x. is_before (time x) (next t) ≡ false) (filter (λ x. not (is_before (time x) (next t))) xs)
+  failed : (xs : List X) → AllOf (λ x. is_before (time x) t ≡ false) (filter (λ x. not (is_before (time x) t)) xs)
   failed xs =
-      AllOf-weaker (λ x. Unit {0} × (not (is_before (time x) (next t)) ≡ true)) (λ x. is_before (time x) (next t) ≡ false)
-      (λ x h. is_false (is_before (time x) (next t)) h.1) _
-      (filter-passed (λ x. Unit {0}) (λ x. not (is_before (time x) (next t))) xs (AllOf-any xs))
+      AllOf-weaker (λ x. Unit {0} × (not (is_before (time x) t) ≡ true)) (λ x. is_before (time x) t ≡ false)
+      (λ x h. is_false (is_before (time x) t) h.1) _
+      (filter-passed (λ x. Unit {0}) (λ x. not (is_before (time x) t)) xs (AllOf-any xs))
 
   at_it : (xs : List X) → AllOf (λ x. time x ≡ t) (filter (λ x. is_eq (time_cmp (time x) t)) xs)
   at_it xs =
@@ -251,13 +250,27 @@ times_of-all p =
     let halves = AllOf-map (λ t. IsIn t (times_of p)) entry_time p.entries (map outer_time p.outer) (ascending-has every) in
     (halves.0, AllOf-mapped (λ t. IsIn t (times_of p)) outer_time p.outer halves.1)
 
-since_by_time : (c : Time) (p : PartOf) → IsByTime p → IsByTime (since c p)
+before_by_time : (c : Time) (p : PartOf) → IsByTime p → IsByTime (before c p)
+before_by_time c p by = (
+  AllPairs-filter (λ (a b : Entry). is_before b.time a.time ≡ false) (λ (e : Entry). is_before e.time c) p.entries by.0,
+  AllPairs-filter (λ (a b : Outer). is_before b.time a.time ≡ false) (λ (o : Outer). is_before o.time c) p.outer by.1,
+)
+
+pub since_by_time : (c : Time) (p : PartOf) → IsByTime p → IsByTime (since c p)
 since_by_time c p by = (
   AllPairs-filter (λ (a b : Entry). is_before b.time a.time ≡ false) (λ (e : Entry). not (is_before e.time c)) p.entries by.0,
   AllPairs-filter (λ (a b : Outer). is_before b.time a.time ≡ false) (λ (o : Outer). not (is_before o.time c)) p.outer by.1,
 )
 
 module _ (all : List ComponentNames) (outputs : List (List ℕ)) where
+  -- the lines before a time, and those since it
+  lines_cut : (c : Time) (p : PartOf) → IsByTime p →
+      trace_text all outputs p ≡ trace_text all outputs (before c p) ++ trace_text all outputs (since c p)
+  lines_cut c p by =
+      let early : IsEarly c (before c p) = (passed entry_time c p.entries, passed outer_time c p.outer) in
+      let late : IsLate c (since c p) = (failed entry_time c p.entries, failed outer_time c p.outer) in
+      ap (trace_text all outputs) (sym (parted c p by)) ∙ text-append all outputs c (before c p) (since c p) early late
+
   abbrev lines_of : PartOf → Time → List ℕ
   lines_of p t = instant_text all outputs t (only_at t p)
 
@@ -272,15 +285,12 @@ module _ (all : List ComponentNames) (outputs : List (List ℕ)) where
       let firsts_are : before c p ≡ only_at t p =
       both _ _ _ _ (firsts entry_time t us up.0 p.entries of_it.0) (firsts outer_time t us up.0 p.outer of_it.1) in
       let at_first : IsOnlyAt t (only_at t p) = (at_it entry_time t p.entries, at_it outer_time t p.outer) in
-      let early : IsEarly c (before c p) = (passed entry_time t p.entries, passed outer_time t p.outer) in
-      let late : IsLate c rest = (failed entry_time t p.entries, failed outer_time t p.outer) in
       let left : AreTimesOf us rest = (others entry_time t us up.0 p.entries of_it.0, others outer_time t us up.0 p.outer of_it.1) in
       let same : AllOf (λ u. lines_of rest u ≡ lines_of p u) us =
       AllOf-weaker (λ u. is_before t u ≡ true) (λ u. lines_of rest u ≡ lines_of p u)
       (λ u h. ap (instant_text all outputs u) (both _ _ _ _ (at_later entry_time t u h p.entries) (at_later outer_time t u h p.outer)))
       us up.0 in
-      ap (trace_text all outputs) (sym (parted c p by))
-      ∙ text-append all outputs c (before c p) rest early late
+      lines_cut c p by
       ∙ ap (λ x. x ++ trace_text all outputs rest)
       (ap (trace_text all outputs) firsts_are ∙ text-at all outputs t (only_at t p) at_first)
       ∙ ap (λ x. lines_of p t ++ x)
@@ -291,6 +301,11 @@ module _ (all : List ComponentNames) (outputs : List (List ℕ)) where
   part_text-merged p by =
       lines_by_times (times_of p) p (ascending-ascends (map entry_time p.entries ++ map outer_time p.outer)) (times_of-all p) by
 
-  pub text_of-merged : (p : PartOf) (ending : Ending) → IsByTime p →
-      text_of all outputs p ending ≡ part_text all outputs p ++ ending_text ending
-  text_of-merged p ending by = ap (λ x. x ++ ending_text ending) (part_text-merged p by)
+  -- a time cuts the text of a part that stands by time in two
+  pub part_text-cut : (c : Time) (p : PartOf) → IsByTime p →
+      part_text all outputs (before c p) ++ part_text all outputs (since c p) ≡ part_text all outputs p
+  part_text-cut c p by =
+      ap (λ x. x ++ part_text all outputs (since c p)) (sym (part_text-merged (before c p) (before_by_time c p by)))
+      ∙ ap (λ x. trace_text all outputs (before c p) ++ x) (sym (part_text-merged (since c p) (since_by_time c p by)))
+      ∙ sym (lines_cut c p by)
+      ∙ part_text-merged p by

@@ -8,8 +8,7 @@ use Rattle.dv_bag.specs.Part.{PartOf}
 use Rattle.dv_time.specs.Time.{is_before}
 use Rattle.dv_bag.specs.declared.entry.Entry.{Entry}
 use Rattle.dv_bag.specs.declared.entry.Outer.{Outer}
-use Rattle.dv_text.specs.Texts.{ComponentNames, entry_text, ending_text, names_at, outer_text}
-use Rattle.dv_text.specs.declared.writing.Ending.{Ending}
+use Rattle.dv_text.specs.Texts.{ComponentNames, entry_text, names_at, outer_text}
 
 -- groups with a text before the others of its time
 abbrev pub with_text : Time → List ℕ → List (Time × List ℕ) → List (Time × List ℕ)
@@ -50,10 +49,6 @@ lines_by_time all [] gs = flat_map group_text gs
 lines_by_time all (e ∷ es) gs =
     groups_before e.time gs ++ (entry_text (names_at all e.component) e ++ lines_by_time all es (groups_from e.time gs))
 
--- the lines of a trace
+-- the lines of a part
 abbrev pub trace_text : List ComponentNames → List (List ℕ) → PartOf → List ℕ
 trace_text all outputs p = lines_by_time all p.entries (groups_of outputs p.outer)
-
--- the lines of a trace, and the end
-abbrev pub text_of : List ComponentNames → List (List ℕ) → PartOf → Ending → List ℕ
-text_of all outputs p ending = trace_text all outputs p ++ ending_text ending

@@ -1,8 +1,10 @@
 //! Laws of the text of a trace. Each function stands for the law in its contract; its body only names
 //! those that it rests on.
 
-ghost use Rattle.std.specs.Prelude.{◌≡◌, ℕ, [], ◌∷◌, ◌++◌, List, codes};
+ghost use Rattle.std.specs.Prelude.{◌≡◌, ◌≤◌, ℕ, [], ◌∷◌, ◌++◌, List, codes};
 ghost use Rattle.dv_time.specs.Time.{end_of};
+ghost use Rattle.dv_bag.specs.Part.{IsByTime};
+ghost use Rattle.dv_devs.specs.Cuts.{trace_between};
 ghost use Rattle.dv_devs.specs.Network.{Network, trace_before};
 ghost use Rattle.dv_devs.specs.Models.{clock};
 ghost use Rattle.dv_devs.specs.Rows.{no_input};
@@ -10,7 +12,9 @@ ghost use Rattle.dv_text.specs.Clock.{clock_names, clock_outputs};
 ghost use Rattle.dv_text.specs.declared.writing.Ending.TheVariants.{Whole};
 ghost use Rattle.dv_text.specs.Texts.{ComponentNames, ending_text, instants_text, part_text, whole_text};
 
-use dv_devs::laws::parts::{instants_are_at_their_time, parts_are_by_time};
+use dv_devs::laws::parts::{
+    cuts_are_earlier_parts, instants_are_at_their_time, parts_are_by_time, the_rest_is_between,
+};
 
 /// The lines of a network's trace that is cut before a rank are those of its instants one after the other. So is a whole
 /// text.
@@ -27,6 +31,23 @@ pub fn a_trace_is_its_instants<I>()
 {
     instants_are_at_their_time::<I>();
     parts_are_by_time::<I>();
+}
+
+/// What the instants from one rank on and before another add to the trace stands by time, and its lines continue those of
+/// the instants before it. So a text that is written piece by piece is that of the instants.
+pub fn a_trace_is_its_pieces<I>()
+    ensures by_time { (limit : ℕ) (net : Network I) (inputs : ℕ → I) (n m : ℕ) → n ≤ m
+        → IsByTime (trace_between limit net inputs n m) }
+    ensures lines { (all : List ComponentNames) (outputs : List (List ℕ))
+        → (limit : ℕ) (net : Network I) (inputs : ℕ → I) (n m : ℕ) → n ≤ m
+        → instants_text all outputs limit net inputs n
+        ++ part_text all outputs (trace_between limit net inputs n m)
+        ≡ instants_text all outputs limit net inputs m }
+{
+    a_trace_is_its_instants::<I>();
+    parts_are_by_time::<I>();
+    cuts_are_earlier_parts::<I>();
+    the_rest_is_between::<I>();
 }
 
 /// The text of a clock to a horizon of 12: what it did, and what left, at 5.0 and at 10.0.

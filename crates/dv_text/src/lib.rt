@@ -4,6 +4,9 @@
 /// The door: the text of a trace, given to a writer.
 pub mod writing;
 
+/// The same part by part, while a run goes on; the lines by time.
+mod trace_writer;
+
 /// A trace's text is the texts of its instants one after the other; a worked text.
 pub mod laws;
 
@@ -17,4 +20,5 @@ mod pieces;
 mod words;
 
 pub use handing::{hand_over, hand_over_if_long};
+pub use trace_writer::TraceWriter;
 pub use writing::{Ending, WriteError, write_trace};

@@ -1,23 +1,42 @@
-use Rattle.std.proofs.Common.{ℕ, List, subst}
-use Rattle.std.specs.Prelude.{OnErr, OnOk}
+use Rattle.std.proofs.Common.{ℕ, List, ap, subst}
+use Rattle.std.proofs.lemmas.Result.{on_err_weaker, on_ok_weaker}
 use Rattle.std.specs.Io.KnownBytes.{Appends}
+use Rattle.dv_bag.specs.Part.{PartOf}
+use Rattle.dv_tree.specs.Tables.{Source}
 use Rattle.dv_text.specs.Names.{tree_names, tree_ports}
+use Rattle.dv_text.specs.Texts.{ending_text, part_text}
 use Rattle.dv_text.specs.Writing.{StopsShort}
-use Rattle.dv_text.proofs.Times.{text_of-merged}
+use Rattle.dv_text.proofs.Endings.{ending-some}
+use Rattle.dv_text.proofs.Taking.{Appends-append, AppendsBeginning-text, OnErr-always, StopsShort-behind, StopsShort-longer}
 use Rattle.dv_text.proofs.writing.write_trace.Goals as goal
+
+abbrev lines : PartOf → Source → List ℕ
+lines p s = part_text (tree_names s) (tree_ports s) p
+
+pub returns-in_err-part-clause-err : goal.returns-in_err-part-clause-err
+returns-in_err-part-clause-err g c = λ by.
+    OnErr-always _
+    (StopsShort-longer (ending_text c.args.ending.now) (ending-some c.args.ending.now)
+    (AppendsBeginning-text (ap (lines c.args.trace.now) c.new-lines.ensures) (c.in_err-part.ensures.err by)))
 
 pub returns-clause-ok : goal.returns-clause-ok
 returns-clause-ok g c = λ by.
-    subst
-    (λ (t : List ℕ). OnOk c.write_merged.result
-    (Appends (g.W.Write.contents c.args.writer.now) (g.W.Write.contents c.write_merged.new.writer) t))
-    (text_of-merged (tree_names c.args.tree.now) (tree_ports c.args.tree.now) c.args.trace.now c.args.ending.now by)
-    c.write_merged.ensures.ok
+    let before = g.W.Write.contents c.args.writer.now in
+    let between = g.W.Write.contents c.part.new.writer in
+    let after = g.W.Write.contents c.end.new.writer in
+    let first =
+    subst (λ (t : List ℕ). Appends before between t) (ap (lines c.args.trace.now) c.new-lines.ensures) (c.in_ok-part.ensures.ok by) in
+    on_ok_weaker c.end.result
+    (λ (p : Appends between after (ending_text c.args.ending.now)). Appends-append before between after
+    (lines c.args.trace.now c.args.tree.now) (ending_text c.args.ending.now) first p) c.end.ensures.ok
 
 pub returns-clause-err : goal.returns-clause-err
 returns-clause-err g c = λ by.
-    subst
-    (λ (t : List ℕ). OnErr c.write_merged.result
-    (StopsShort (g.W.Write.contents c.args.writer.now) (g.W.Write.contents c.write_merged.new.writer) t))
-    (text_of-merged (tree_names c.args.tree.now) (tree_ports c.args.tree.now) c.args.trace.now c.args.ending.now by)
-    c.write_merged.ensures.err
+    let before = g.W.Write.contents c.args.writer.now in
+    let between = g.W.Write.contents c.part.new.writer in
+    let after = g.W.Write.contents c.end.new.writer in
+    let first =
+    subst (λ (t : List ℕ). Appends before between t) (ap (lines c.args.trace.now) c.new-lines.ensures) (c.in_ok-part.ensures.ok by) in
+    on_err_weaker c.end.result
+    (λ (p : StopsShort between after (ending_text c.args.ending.now)). StopsShort-behind
+    (lines c.args.trace.now c.args.tree.now) (ending_text c.args.ending.now) first p) c.end.ensures.err

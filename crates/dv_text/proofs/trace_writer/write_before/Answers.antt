@@ -3,7 +3,7 @@ use Rattle.dv_text.specs.Merging.{first_text, groups_before, groups_from, groups
 use Rattle.dv_text.specs.Names.{tree_ports}
 use Rattle.dv_text.proofs.Groups.{groups_before-more, groups_from-more}
 use Rattle.dv_text.proofs.Taking.{TakesFront-more, AppendsBeginning-more, OnErr-always}
-use Rattle.dv_text.proofs.writing.write_before.Goals as goal
+use Rattle.dv_text.proofs.trace_writer.write_before.Goals as goal
 
 pub returns-in_err-rest-clause-err : goal.returns-in_err-rest-clause-err
 returns-in_err-rest-clause-err g c =

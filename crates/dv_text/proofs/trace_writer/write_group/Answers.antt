@@ -4,7 +4,7 @@ use Rattle.dv_text.specs.Names.{tree_ports}
 use Rattle.dv_text.proofs.Groups.{after_at-same, other_groups-at}
 use Rattle.dv_text.proofs.Rounds.{port_first, port_next, time_pushed}
 use Rattle.dv_text.proofs.Taking.{TakesFront-more, AppendsBeginning-nothing, AppendsBeginning-more, OnErr-always}
-use Rattle.dv_text.proofs.writing.write_group.Goals as goal
+use Rattle.dv_text.proofs.trace_writer.write_group.Goals as goal
 
 pub returns-in_err-push_out-clause-err : goal.returns-in_err-push_out-clause-err
 returns-in_err-push_out-clause-err g c = OnErr-always _ (AppendsBeginning-nothing _ _)

@@ -4,7 +4,7 @@ use Rattle.dv_text.specs.Merging.{first_text, group_text, groups_of, other_group
 use Rattle.dv_text.specs.Names.{tree_ports}
 use Rattle.dv_text.proofs.Groups.{lines_of_groups}
 use Rattle.dv_text.proofs.Taking.{TakesFront-more, AppendsBeginning-more, OnErr-always}
-use Rattle.dv_text.proofs.writing.write_groups.Goals as goal
+use Rattle.dv_text.proofs.trace_writer.write_groups.Goals as goal
 
 pub returns-in_err-rest-clause-err : goal.returns-in_err-rest-clause-err
 returns-in_err-rest-clause-err g c =

@@ -3,7 +3,7 @@ use Rattle.std.specs.List.{flat_map}
 use Rattle.dv_text.specs.Merging.{group_text, groups_of}
 use Rattle.dv_text.specs.Names.{tree_ports}
 use Rattle.dv_text.specs.Writing.{TakesFront}
-use Rattle.dv_text.proofs.writing.write_groups.Given as goal
+use Rattle.dv_text.proofs.trace_writer.write_groups.Given as goal
 
 abbrev pub invariant-loop-rest : goal.invariant-loop-rest
 invariant-loop-rest g l =

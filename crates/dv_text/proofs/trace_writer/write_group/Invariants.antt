@@ -3,7 +3,7 @@ use Rattle.dv_text.specs.Merging.{first_text, groups_of, other_groups}
 use Rattle.dv_text.specs.Names.{tree_ports}
 use Rattle.dv_text.specs.Writing.{TakesFront}
 use Rattle.dv_text.proofs.Groups.{ports_at, after_at}
-use Rattle.dv_text.proofs.writing.write_group.Given as goal
+use Rattle.dv_text.proofs.trace_writer.write_group.Given as goal
 
 abbrev pub invariant-loop-next : goal.invariant-loop-next
 invariant-loop-next g l = record {

@@ -2,7 +2,7 @@ use Rattle.std.proofs.Common.{◌≡◌, ◌++◌, length, string_bytes}
 use Rattle.dv_text.specs.Merging.{groups_before, groups_from, groups_of}
 use Rattle.dv_text.specs.Names.{tree_ports}
 use Rattle.dv_text.specs.Writing.{TakesFront}
-use Rattle.dv_text.proofs.writing.write_before.Given as goal
+use Rattle.dv_text.proofs.trace_writer.write_before.Given as goal
 
 abbrev pub invariant-loop-first : goal.invariant-loop-first
 invariant-loop-first g l = record {
