@@ -1,10 +1,10 @@
 -- A board, drained up to its least clock.
-use Rattle.std.proofs.Common.{◌≡◌, ℕ, suc, ◌<◌, false, List, [], ◌∷◌, length, map, slice_get, slice_index_or, Some, refl, sym, ap, ap₂, subst, ◌∙◌, arith}
+use Rattle.std.proofs.Common.{◌≡◌, ℕ, suc, ◌<◌, ◌≤◌, false, List, [], ◌∷◌, length, map, slice_get, slice_index_or, Some, refl, sym, ap, ap₂, subst, ◌∙◌, arith}
 use Rattle.std.specs.List.{All}
 use Rattle.std.proofs.lemmas.List.{get_or-map, length-map}
 use Rattle.std.proofs.lemmas.List.Elements.{All-contains, All-get_or, All-map}
 use Rattle.std.proofs.lemmas.Option.{get_or_from_slice_get, slice_get-get_or, slice_get_within}
-use Rattle.dv_time.specs.Time.{IsOfRun, is_before, rank, time_of}
+use Rattle.dv_time.specs.Time.{IsOfRun, end_of, is_before, rank, time_of}
 use Rattle.dv_time.specs.declared.time.Time.{Time}
 use Rattle.dv_time.proofs.Ranks.{time_of-rank}
 use Rattle.dv_bag.specs.Part.{IsByTime, PartOf, before, since}
@@ -23,7 +23,7 @@ use Rattle.dv_board.proofs.Places.{clocks_of, no_later}
 use Rattle.dv_board.proofs.Wholes.{get_map, many_parts, part_at_place, part_of_process, parts_before, parts_of_trace, parts_since, trace_of_job}
 
 -- lists that agree place by place
-same_places : {X : Type 0} (xs ys : List X) → length xs ≡ length ys
+pub same_places : {X : Type 0} (xs ys : List X) → length xs ≡ length ys
     → ((k : ℕ) (x y : X) → slice_get xs k ≡ Some x → slice_get ys k ≡ Some y → x ≡ y) → xs ≡ ys
 same_places [] [] len same = refl
 same_places [] (y ∷ ys) len same = absurd (omega arith)
@@ -47,6 +47,9 @@ module _ (job : Job) (mark : Time) (held : List Held) (all : AreHeld job mark he
 
     pub least_of_run : IsOfRun job.limit least
     least_of_run = of_a_clock (IsOfRun job.limit) (λ p h is. is.of_run)
+
+    pub least_within : rank job.limit least ≤ end_of job.limit job.horizon
+    least_within = of_a_clock (λ (t : Time). rank job.limit t ≤ end_of job.limit job.horizon) (λ p h is. is.within)
 
     pub mark_no_later : IsNoLater job mark least
     mark_no_later = of_a_clock (IsNoLater job mark) (λ p h is. is.order)
@@ -81,6 +84,7 @@ module _ (job : Job) (mark : Time) (held : List Held) (all : AreHeld job mark he
             let high = least_no_later p h at in
             record {
               of_run = is.of_run;
+              within = is.within;
               order = high;
               part = ap (since least) is.part ∙ committed_since job p mark least h.clock low high least_of_run;
             }

@@ -6,7 +6,7 @@ use Rattle.std.proofs.lemmas.Bool.Decides.{nat_tests}
 use Rattle.std.proofs.lemmas.List.{get_or-map, length-map, length-set, map-set, take_all}
 use Rattle.std.proofs.lemmas.List.Elements.{All-map, All-more, All-weaker}
 use Rattle.std.proofs.lemmas.Option.{same_Some}
-use Rattle.dv_time.specs.Time.{IsOfRun, is_before, rank}
+use Rattle.dv_time.specs.Time.{IsOfRun, end_of, is_before, rank}
 use Rattle.dv_time.specs.declared.time.Time.{Time}
 use Rattle.dv_time.proofs.Ranks.{is_before-rank}
 use Rattle.dv_bag.specs.Part.{PartOf, joined, since}
@@ -129,15 +129,16 @@ clock_of_piece h piece clock = by_test (is_before h.clock clock)
 
 -- a piece that begins no later than the clock is joined
 pub piece_is_held : (job : Job) (mark : Time) (p : ℕ) (h : Held) (piece : PartOf) (from clock : Time)
-    → IsHeld job mark p h → IsOfRun job.limit clock → IsNoLater job from h.clock → piece ≡ committed job p from clock
-    → IsHeld job mark p (with_piece h piece clock)
-piece_is_held job mark p h piece from clock held of_run low is = ⊎_elim
+    → IsHeld job mark p h → IsOfRun job.limit clock → rank job.limit clock ≤ end_of job.limit job.horizon → IsNoLater job from h.clock
+    → piece ≡ committed job p from clock → IsHeld job mark p (with_piece h piece clock)
+piece_is_held job mark p h piece from clock held of_run within low is = ⊎_elim
     (λ yes.
     let more : Held = record { clock = clock; part = joined h.part (since h.clock piece) } in
     let high = sooner job h.clock clock held.of_run of_run yes in
     let below = held.order in
     subst (IsHeld job mark p) (sym (cond-true (is_before h.clock clock) more h yes)) (record {
       of_run = of_run;
+      within = within;
       order = omega (arith, high, below);
       part = ap₂ joined held.part (ap (since h.clock) is ∙ committed_since job p from h.clock clock low (omega (arith, high)) held.of_run)
           ∙ committed_joined job p mark h.clock clock below (omega (arith, high));

@@ -1,6 +1,6 @@
 -- What a board keeps, and what callers see of it.
-use Rattle.std.specs.Prelude.{◌≡◌, ℕ, ◌<◌, List, length, slice_get, slice_index_or, Some}
-use Rattle.dv_time.specs.Time.{IsOfRun}
+use Rattle.std.specs.Prelude.{◌≡◌, ℕ, ◌<◌, ◌≤◌, List, length, slice_get, slice_index_or, Some}
+use Rattle.dv_time.specs.Time.{IsOfRun, end_of, rank}
 use Rattle.dv_time.specs.declared.time.Time.{Time}
 use Rattle.dv_conservative.specs.Process.{first_time}
 use Rattle.dv_conservative.specs.World.{Job}
@@ -17,9 +17,10 @@ pub record BoardOf : Type 0 where
 abbrev pub clock_of : BoardOf → ℕ → Time
 clock_of board p = slice_index_or board.clocks p first_time
 
--- what a process commits between the mark and its clock
+-- what a process commits between the mark and its clock, which is not past the end
 pub record IsHeld (job : Job) (mark : Time) (p : ℕ) (h : Held) : Type 0 where
   pub of_run : IsOfRun job.limit h.clock
+  pub within : rank job.limit h.clock ≤ end_of job.limit job.horizon
   pub order : IsNoLater job mark h.clock
   pub part : h.part ≡ committed job p mark h.clock
 

@@ -1,7 +1,7 @@
 //! The board under its lock.
 
-ghost use Rattle.std.specs.Prelude.{◌≡◌, ◌<◌, IfOk, IfErr, IfSome};
-ghost use Rattle.dv_time.specs.Time.{IsOfRun};
+ghost use Rattle.std.specs.Prelude.{◌≡◌, ◌<◌, ◌≤◌, IfOk, IfErr, IfSome};
+ghost use Rattle.dv_time.specs.Time.{IsOfRun, end_of, rank};
 ghost use Rattle.dv_board.specs.Answers.{IsUnjoined};
 ghost use Rattle.dv_board.specs.Clocks.{IsNoLater};
 ghost use Rattle.dv_board.specs.Jobs.{IsMergeable, committed, trace};
@@ -36,6 +36,15 @@ impl<N: OfJob> Board<N> {
         })
     }
 
+    /// Up to when a process is kept. A piece that begins there leaves no gap, whatever was drained meanwhile; so where only one
+    /// thread posts a process, what it once could not join comes with its next piece.
+    pub fn clock<R: Wait>(&self, rt: &R, process: u32) -> Time
+        requires { process < N.job.processes }
+        ensures { IsOfRun N.job.limit result }
+    {
+        self.state.lock(rt).clock(process)
+    }
+
     /// Joins what a process has committed from one time on and before its clock, as [`BoardState::extend`] does.
     ///
     /// # Errors
@@ -52,6 +61,7 @@ impl<N: OfJob> Board<N> {
     ) -> Result<(), Unjoined>
         requires process { process < N.job.processes }
         requires times { IsOfRun N.job.limit from × IsOfRun N.job.limit clock }
+        requires within { rank N.job.limit clock ≤ end_of N.job.limit N.job.horizon }
         requires order { IsNoLater N.job from clock }
         requires piece { piece ≡ committed N.job process from clock }
         ensures { IfErr result (IsUnjoined N.job from clock) }
@@ -75,6 +85,8 @@ impl<N: OfJob> Board<N> {
             d.0 ≡ trace N.job from d.1)) }
         ensures order { IfOk result (λ drained. IfSome drained (λ d. IsNoLater N.job from d.1)) }
         ensures of_run { IfOk result (λ drained. IfSome drained (λ d. IsOfRun N.job.limit d.1)) }
+        ensures within { IfOk result (λ drained. IfSome drained (λ d.
+            rank N.job.limit d.1 ≤ end_of N.job.limit N.job.horizon)) }
     {
         self.state.lock(rt).drain(alloc, from)
     }

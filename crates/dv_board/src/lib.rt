@@ -12,5 +12,5 @@ mod piece;
 pub mod state;
 
 pub use board::Board;
-pub use piece::piece_since;
+pub use piece::{piece_between, piece_since};
 pub use state::{BoardState, Unjoined};

@@ -52,6 +52,25 @@ pub fn piece_before(alloc: Global, part: &Part, time: Time) -> Result<Part, Allo
     Ok(Part::from_lists(entries, lines))
 }
 
+/// A copy of what a part has from one time on and before another, for a part that stands by time. It costs time and memory in
+/// proportion to what is copied.
+///
+/// # Errors
+///
+/// No memory for the copy.
+pub fn piece_between(alloc: Global, part: &Part, from: Time, upto: Time) -> Result<Part, AllocError>
+    requires { IsByTime part.now }
+    ensures { IfOk result (λ piece. piece ≡ since from (before upto part.now)) }
+{
+    let entries = part.entries().as_slice();
+    let lines = part.outer().as_slice();
+    let entries = &entries[..entries_before(entries, upto)];
+    let lines = &lines[..lines_before(lines, upto)];
+    let entries = entries[entries_before(entries, from)..].to_vec(alloc)?;
+    let lines = lines[lines_before(lines, from)..].to_vec(alloc)?;
+    Ok(Part::from_lists(entries, lines))
+}
+
 /// A copy of what a part has from a time on, for a part that stands by time, as those of a run do. The place is found by
 /// bisection, so it costs time and memory in proportion to what is copied.
 ///

@@ -1,8 +1,8 @@
 //! The value under a board's lock.
 
-ghost use Rattle.std.specs.Prelude.{◌≡◌, ◌<◌, IfErr, IfNone, IfOk, IfSome, OnErr, OnOk, OnSome, length, map, replicate, set};
+ghost use Rattle.std.specs.Prelude.{◌≡◌, ◌<◌, ◌≤◌, IfErr, IfNone, IfOk, IfSome, OnErr, OnOk, OnSome, length, map, replicate, set};
 ghost use Rattle.std.specs.List.{All};
-ghost use Rattle.dv_time.specs.Time.{IsOfRun};
+ghost use Rattle.dv_time.specs.Time.{IsOfRun, end_of, rank};
 ghost use Rattle.dv_bag.specs.Part.{IsByTime, before, nothing};
 ghost use Rattle.dv_conservative.specs.Process.{first_time};
 ghost use Rattle.dv_board.specs.Answers.{IsRefused};
@@ -118,6 +118,15 @@ impl<N: OfJob> BoardState<N> {
         })
     }
 
+    /// Up to when a process is kept.
+    pub fn clock(&self, process: u32) -> Time
+        requires { process < N.job.processes }
+        ensures kept { result ≡ clock_of self.now process }
+        ensures of_run { IsOfRun N.job.limit result }
+    {
+        self.held[process as usize].clock
+    }
+
     /// Joins what a process has committed from one time on and before its clock. What is kept already is not joined again,
     /// and the clock that is kept becomes the later of the two.
     ///
@@ -134,6 +143,7 @@ impl<N: OfJob> BoardState<N> {
     ) -> Result<(), Unjoined>
         requires process { process < N.job.processes }
         requires times { IsOfRun N.job.limit from × IsOfRun N.job.limit clock }
+        requires within { rank N.job.limit clock ≤ end_of N.job.limit N.job.horizon }
         requires order { IsNoLater N.job from clock }
         requires piece { piece ≡ committed N.job process from clock }
         ensures mark { self.new.mark ≡ self.old.mark }
@@ -170,6 +180,8 @@ impl<N: OfJob> BoardState<N> {
             d.0 ≡ trace N.job from d.1)) }
         ensures order { IfOk result (λ drained. IfSome drained (λ d. IsNoLater N.job from d.1)) }
         ensures of_run { IfOk result (λ drained. IfSome drained (λ d. IsOfRun N.job.limit d.1)) }
+        ensures within { IfOk result (λ drained. IfSome drained (λ d.
+            rank N.job.limit d.1 ≤ end_of N.job.limit N.job.horizon)) }
         ensures least { IfOk result (λ drained. IfSome drained (λ d.
             IsLeast d.1 self.old.clocks)) }
         ensures mark { IfOk result (λ drained. IfSome drained (λ d. self.new.mark ≡ d.1)) }

@@ -1,21 +1,20 @@
 -- What one take and one put leave of the end of a link.
-use Rattle.std.proofs.Common.{◌≡◌, ℕ, ◌<◌, List, [], ◌∷◌, ◌++◌, length, Option, Some, None, MatchOption, refl, sym, ap, ◌∙◌, subst}
+use Rattle.std.proofs.Common.{◌≡◌, ℕ, ◌<◌, List, ◌++◌, length, Option, Some, None, MatchOption, refl, sym, ap, ◌∙◌, subst}
 use Rattle.std.specs.Prelude.{slice_index_or}
 use Rattle.std.specs.List.{slice_get}
 use Rattle.std.proofs.lemmas.Option.{slice_get_read, slice_get_within}
 use Rattle.dv_conservative.specs.Process.{first_time}
-use Rattle.dv_conservative.specs.Process as theory
 use Rattle.dv_conservative.specs.True.{AreTrue}
 use Rattle.dv_conservative.specs.World.{Channel, Job}
 use Rattle.dv_proc.specs.Packets.{meant_packet, meant_packets}
 use Rattle.dv_proc.specs.declared.packet.Packet.{Packet}
 use Rattle.dv_link.specs.Carries.{AllTrue, IsNext}
-use Rattle.dv_link.specs.Ends.{IsSendPassOf, IsTakePassOf, after_put, after_take, receiver, sender}
+use Rattle.dv_link.specs.Ends.{IsSendPassOf, IsTakePassOf, after_take, receiver, sender}
 use Rattle.dv_link.specs.declared.link.Link.{Link}
 use Rattle.dv_link.specs.declared.link.SendPass.{SendPass}
 use Rattle.dv_link.specs.declared.link.TakePass.{TakePass}
 use Rattle.dv_link.specs.declared.rule.EndView.{EndView}
-use Rattle.dv_work.specs.Ends.{IsIn, IsOut, given, packets_held, taken}
+use Rattle.dv_work.specs.Ends.{IsIn, IsOut, given, packets_held}
 use Rattle.dv_work.specs.declared.seat.In.{In}
 use Rattle.dv_work.specs.declared.seat.Out.{Out}
 use Rattle.dv_work.proofs.Packets.{last_of_true}

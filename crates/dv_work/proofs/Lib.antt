@@ -5,3 +5,4 @@ pub mod Sitting
 pub mod Ends
 pub mod Making
 pub mod Reporting
+pub mod Posting

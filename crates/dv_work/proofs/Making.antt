@@ -1,5 +1,5 @@
 -- Processes as they get the ends of their links.
-use Rattle.std.proofs.Common.{◌≡◌, ◌⊎◌, inl, inr, ℕ, zero, suc, ◌+◌, ◌<◌, ◌≤◌, Bool, true, false, nat_eq, List, [], ◌∷◌, ◌++◌, append-nil, get_or, length, map, Option, Some, None, refl, sym, ap, subst, ◌∙◌, arith}
+use Rattle.std.proofs.Common.{◌≡◌, ◌⊎◌, inl, inr, ℕ, zero, suc, ◌+◌, ◌<◌, ◌≤◌, List, [], ◌∷◌, ◌++◌, append-nil, get_or, length, map, Option, Some, None, refl, sym, ap, subst, ◌∙◌, arith}
 use Rattle.std.specs.List.{All, slice_get}
 use Rattle.std.proofs.Math.ListN.{length-set, set}
 use Rattle.std.proofs.lemmas.Option.{slice_get_within}
@@ -21,7 +21,7 @@ use Rattle.dv_link.specs.declared.link.SendPass.{SendPass}
 use Rattle.dv_link.specs.declared.link.TakePass.{TakePass}
 use Rattle.dv_link.specs.declared.rule.EndView.{EndView}
 use Rattle.dv_link.specs.declared.link.Link.{Link}
-use Rattle.dv_work.specs.Ends.{IsIn, IsOut, given, taken}
+use Rattle.dv_work.specs.Ends.{IsIn, IsOut, taken}
 use Rattle.dv_work.specs.Making.{AreNew, AreSeated, IsNewIn, IsNewOut, IsSeat, no_links}
 use Rattle.dv_work.specs.Seats.{AreIns, AreOuts, Gives, IsLinkOf, Sits, prepared}
 use Rattle.dv_work.specs.declared.seat.In.{In}

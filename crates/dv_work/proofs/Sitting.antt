@@ -1,5 +1,5 @@
 -- What becomes of a process with its ends when a packet comes or leaves, and when it takes a turn.
-use Rattle.std.proofs.Common.{◌≡◌, ℕ, IfOk, OnErr, Bool, true, false, nat_eq, List, [], ◌∷◌, ◌++◌, Option, Some, None, refl, sym, ap, subst, ◌∙◌}
+use Rattle.std.proofs.Common.{◌≡◌, ℕ, IfOk, OnErr, Bool, true, false, nat_eq, List, [], ◌∷◌, ◌++◌, Some, refl, sym, ap, subst, ◌∙◌}
 use Rattle.std.specs.List.{slice_get}
 use Rattle.std.specs.Prelude.{Err, Ok, Result}
 use Rattle.std.proofs.Math.ListN.{set}

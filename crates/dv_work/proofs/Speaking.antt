@@ -1,6 +1,6 @@
 -- A process that was fed truly has committed its part, and what it prepares is true; turns, packets that come and packets that leave
 -- keep that.
-use Rattle.std.proofs.Common.{◌≡◌, inl, inr, ℕ, suc, ◌+◌, ◌-◌, ◌<◌, ◌≤◌, Bool, true, false, nat_eq, if◌then◌else◌, List, [], ◌∷◌, ◌++◌, append-nil, append_assoc, Option, Some, None, refl, sym, ap, subst, ◌∙◌, arith}
+use Rattle.std.proofs.Common.{◌≡◌, inl, inr, ℕ, ◌+◌, ◌-◌, ◌≤◌, Bool, true, false, nat_eq, if◌then◌else◌, List, [], ◌∷◌, ◌++◌, append-nil, Option, Some, refl, sym, ap, subst, ◌∙◌, arith}
 use Rattle.std.specs.List.{slice_get}
 use Rattle.dv_time.specs.Time.{rank}
 use Rattle.dv_time.specs.declared.time.Time.{Time}
@@ -8,7 +8,7 @@ use Rattle.dv_devs.specs.Parts.{part_before}
 use Rattle.dv_conservative.specs.Alike.{AreAlike}
 use Rattle.dv_conservative.specs.Events.{deliveries_at}
 use Rattle.dv_conservative.specs.Flat.{whole}
-use Rattle.dv_conservative.specs.Process.{IsWithin, Packet, Share, all_events, channel_clock, clock_after, end_rank, events_by, first_time, least_clock, packet_of, part_by, sent_on, with_packet}
+use Rattle.dv_conservative.specs.Process.{IsWithin, Packet, Share, all_events, channel_clock, clock_after, end_rank, events_by, first_time, least_clock, packet_of, part_by, sent_on}
 use Rattle.dv_conservative.specs.True.{AreTrue, IsTruePacket, crossing_by}
 use Rattle.dv_conservative.specs.Turn.{IsTurnOf, MayBecome, Turned}
 use Rattle.dv_conservative.specs.World.{Channel, Job, incoming_from, outgoing_on, owned, packets_in, share_of}
@@ -21,7 +21,7 @@ use Rattle.dv_conservative.proofs.SameRuns.{same_limit, same_part, same_turn}
 use Rattle.dv_conservative.proofs.Settled.{promise_settled}
 use Rattle.dv_conservative.proofs.Turning.{share_is_sound}
 use Rattle.dv_conservative.proofs.Windows.{same_windows}
-use Rattle.dv_core.specs.ProcessState.{HasCommitted, IsReceived, IsSent, IsTurned, ProcessState}
+use Rattle.dv_core.specs.ProcessState.{IsReceived, IsSent, IsTurned, ProcessState}
 use Rattle.dv_core.proofs.Lookups.{number_itself}
 use Rattle.dv_work.specs.Ends.{given}
 use Rattle.dv_work.specs.Seats.{Gives, IsFedTruly, prepared}

@@ -1,9 +1,11 @@
-//! Bells, and the flag at which all workers end.
+//! Bells, and flags at which others end.
 
 use std::sync::atomic::{AtomicBool, Ordering};
 use std::sync::{Condvar, Mutex, Wait};
 
-/// Where a worker waits. It counts its rings, so that one that comes between a look and the wait is not lost.
+/// Where a thread waits for work. It counts its rings, so that one that comes between a look and the wait is not lost: whoever
+/// waits reads the count, looks, and waits only past the count that it read; whoever has something for it does that and rings
+/// after it.
 #[derive(Drop)]
 pub struct Bell {
     rings: Mutex<u64>,
@@ -11,6 +13,7 @@ pub struct Bell {
 }
 
 impl Bell {
+    /// A bell that has not rung.
     pub fn new() -> Bell {
         Bell {
             rings: Mutex::new(0),
@@ -18,19 +21,19 @@ impl Bell {
         }
     }
 
-    /// Wakes who waits.
+    /// Counts a ring, and wakes all who wait.
     pub fn ring<R: Wait>(&self, rt: &R) {
         let mut rings = self.rings.lock(rt);
         *rings = rings.wrapping_add(1);
         self.rung.notify_all();
     }
 
-    /// How often it rang: what a worker remembers before it looks for work.
+    /// How often it rang: what is read before a look for work. It counts modulo 2^64.
     pub fn rings<R: Wait>(&self, rt: &R) -> u64 {
         *self.rings.lock(rt)
     }
 
-    /// Waits for a ring after so many.
+    /// Waits until the count is no longer this; where it is another already, not at all.
     pub fn wait_past<R: Wait>(&self, rt: &R, seen: u64) {
         let _rings = self
             .rung
@@ -38,24 +41,26 @@ impl Bell {
     }
 }
 
-/// The flag at which each worker ends.
+/// A flag at which others end. Once it is raised it stays so.
 #[derive(Drop)]
 pub struct Flag {
     raised: AtomicBool,
 }
 
 impl Flag {
+    /// A flag that is not raised.
     pub fn new() -> Flag {
         Flag {
             raised: AtomicBool::new(false),
         }
     }
 
+    /// Whether it was raised.
     pub fn is_raised(&self) -> bool {
         self.raised.load(Ordering::SeqCst)
     }
 
-    /// Raises the flag, and rings all bells.
+    /// Raises the flag, and rings these bells after it.
     pub fn raise<R: Wait>(&self, rt: &R, bells: &[Bell]) {
         self.raised.store(true, Ordering::SeqCst);
         for bell in bells {

@@ -13,12 +13,27 @@
 //! that was put was taken. Of the processes that are not at the end, take one with the least clock. Its channel clocks are past it,
 //! since each sender's clock is not before it and a turn promises past the clock that it leaves; so its next turn moves it, and its
 //! worker does not wait.
+//!
+//! The caller of a streamed run may stop it by a flag of its own, which rings no worker's bell. Each worker looks at it before each
+//! turn. Until the run is at its end not all wait, so one sees it, ends, and raises the workers' flag, at which the others wake.
+//!
+//! # What is posted
+//!
+//! A piece is what one process has committed from the time on up to which the board keeps it, and before its clock. Only its own
+//! worker posts a process, so no piece leaves a gap; and where there was no memory for one, the next begins where that one did.
+//!
+//! A worker posts all its processes now and then while they move, and always after a round in which nothing moved, before it waits
+//! at its bell or ends. While it waits its processes commit nothing. So all that a waiting worker knows is on the board, but for
+//! what found no memory. The bell for news rings after that: whoever drains the board reads the bell's count, drains, and waits
+//! past that count, so it wakes for what it missed. No worker holds the board's lock during a turn.
 #![tactic(auto)]
 
-/// Bells, and the flag at which all workers end.
+/// Bells, and flags at which others end.
 pub mod bell;
 /// Who watches the turns.
 pub mod gate;
+/// What processes committed, posted on a board while the run goes on.
+pub mod post;
 /// What a run reports.
 pub mod report;
 /// Runs processes by workers.
@@ -30,6 +45,7 @@ pub mod setup;
 /// Workers.
 pub mod worker;
 
+pub use bell::{Bell, Flag};
 pub use gate::{Gate, Open};
 pub use report::{Ended, Report};
-pub use run::run_workers;
+pub use run::{run_streamed, run_workers};

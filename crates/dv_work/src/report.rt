@@ -22,8 +22,10 @@ use std::alloc::{AllocError, Global};
 pub enum Ended<C> {
     /// Every clock is at the end.
     Whole,
-    /// The gate stopped it.
+    /// The gate stopped it, for this cause.
     Stopped(C),
+    /// The caller stopped it.
+    Cancelled,
     /// No memory, or no thread for a worker.
     Memory,
 }
@@ -114,7 +116,7 @@ fn all_are(clocks: &[Time], end: Time) -> bool
     clocks.iter().all(|clock| *clock == end)
 }
 
-// Whole where it is, else for want of memory where a worker met it, else by the cause.
+// Whole where it is, else for want of memory where a worker met it, else stopped by the gate for a cause, or by the caller.
 fn how_ended<C: Drop>(is_whole: bool, memory: bool, cause: Option<C>) -> Ended<C>
     ensures { (result ≡ Whole) ↔ IsTrue is_whole }
 {
@@ -126,7 +128,7 @@ fn how_ended<C: Drop>(is_whole: bool, memory: bool, cause: Option<C>) -> Ended<C
     }
     match cause {
         Some(cause) => Ended::Stopped(cause),
-        None => Ended::Memory,
+        None => Ended::Cancelled,
     }
 }
 

@@ -13,10 +13,12 @@ ghost use Rattle.dv_work.specs.Reached.{AreReached};
 
 use crate::bell::{Bell, Flag};
 use crate::gate::Gate;
+use crate::post::Stream;
 use crate::report::{Report, report_of};
 use crate::seat::{Floor, Seat};
 use crate::setup::{connect, crews_of, seats_of};
 use crate::worker::{Halt, Worked, work_at};
+use dv_board::Board;
 use dv_core::{LogicalProcess, PlannedJob};
 use dv_link::{Link, OfJob};
 use dv_proc::Channel;
@@ -205,7 +207,7 @@ fn bells_of(alloc: Global, workers: usize) -> Result<Vec<Bell>, AllocError>
     Ok(bells)
 }
 
-// Runs the processes of a job, with the links between them, by a worker for each of `works`.
+// Runs the processes of a job, with the links between them, by a worker for each of `works`, and posts if there is a board.
 fn run_job<
     N: OfJob + Send + Sync,
     J: PlannedJob,
@@ -221,6 +223,7 @@ fn run_job<
     works: Vec<P::Work>,
     capacity: usize,
     gate: &G,
+    stream: Option<Stream<'_, N>>,
 ) -> Result<Vec<Worked<P, G::Cause>>, AllocError>
 where
     P::Work: Send + Drop,
@@ -245,8 +248,82 @@ where
         links: &links,
         bells: &bells,
         flag: &flag,
+        stream,
     };
     run_crews(rt, alloc, &floor, gate, crews, works)
+}
+
+// Runs the processes of a job, posts if there is a board, and reports.
+fn run_reported<
+    N: OfJob + Send + Sync,
+    J: PlannedJob,
+    P: LogicalProcess + Send,
+    G: Gate<P>,
+    R: Threads + Wait + Sync,
+>(
+    rt: &R,
+    alloc: Global,
+    job: &J,
+    channels: &[Channel],
+    processes: Vec<P>,
+    works: Vec<P::Work>,
+    capacity: usize,
+    gate: &G,
+    stream: Option<Stream<'_, N>>,
+) -> Result<Report<G::Cause>, AllocError>
+where
+    P::Work: Send + Drop,
+    requires job { N.job ≡ J.means job.now }
+    requires made { AreMadeFor J.means P.state P.valid job.now channels.now processes.items }
+    requires capacity { 0 < capacity }
+    requires workers { 0 < length works.items }
+    ensures reached { IfOk result (λ r.
+        AreReached (J.means job.now) r.parts.items r.clocks.items) }
+    ensures whole { IfOk result (λ r. (r.ended ≡ Whole)
+        ↔ ((p : ℕ) (t : MeantTime) → slice_get r.clocks.items p ≡ Some t
+        → t ≡ end_time (J.means job.now))) }
+{
+    let count = processes.len();
+    let all = run_job::<N, J, P, G, R>(
+        rt, alloc, job, channels, processes, works, capacity, gate, stream,
+    )?;
+    report_of::<N, J, P, G::Cause>(alloc, job, count, all)
+}
+
+// Runs the processes of a job with no board, and reports. It names the job in no type, so that a caller can pick it.
+fn run_unposted<
+    'a,
+    N: OfJob + Send + Sync + 'a,
+    J: PlannedJob,
+    P: LogicalProcess + Send,
+    G: Gate<P>,
+    R: Threads + Wait + Sync,
+>(
+    rt: &'a R,
+    alloc: Global,
+    job: &J,
+    channels: &[Channel],
+    processes: Vec<P>,
+    works: Vec<P::Work>,
+    capacity: usize,
+    gate: &G,
+) -> Result<Report<G::Cause>, AllocError>
+where
+    P::Work: Send + Drop,
+    requires job { N.job ≡ J.means job.now }
+    requires made { AreMadeFor J.means P.state P.valid job.now channels.now processes.items }
+    requires capacity { 0 < capacity }
+    requires workers { 0 < length works.items }
+    ensures reached { IfOk result (λ r.
+        AreReached (J.means job.now) r.parts.items r.clocks.items) }
+    ensures whole { IfOk result (λ r. (r.ended ≡ Whole)
+        ↔ ((p : ℕ) (t : MeantTime) → slice_get r.clocks.items p ≡ Some t
+        → t ≡ end_time (J.means job.now))) }
+{
+    let nowhere: Option<Stream<'a, N>> = None;
+    run_reported::<N, J, P, G, R>(
+        rt, alloc, job, channels, processes, works, capacity, gate, nowhere,
+    )
 }
 
 /// Runs new processes of a job on threads, one thread for each of `works`, which is what a worker's turns work with. Process p
@@ -272,13 +349,71 @@ where
     requires made { AreMadeFor J.means P.state P.valid job.now channels.now processes.items }
     requires capacity { 0 < capacity }
     requires workers { 0 < length works.items }
-    ensures reached { IfOk result (λ r. AreReached (J.means job.now) r.parts.items r.clocks.items) }
+    ensures reached { IfOk result (λ r.
+        AreReached (J.means job.now) r.parts.items r.clocks.items) }
     ensures whole { IfOk result (λ r. (r.ended ≡ Whole)
-        ↔ ((p : ℕ) (t : MeantTime) → slice_get r.clocks.items p ≡ Some t → t ≡ end_time (J.means job.now))) }
+        ↔ ((p : ℕ) (t : MeantTime) → slice_get r.clocks.items p ≡ Some t
+        → t ≡ end_time (J.means job.now))) }
 {
-    let count = processes.len();
-    let all = run_job::<Brand, J, P, G, R>(
-        rt, alloc, job, channels, processes, works, capacity, gate,
-    )?;
-    report_of::<Brand, J, P, G::Cause>(alloc, job, count, all)
+    run_unposted::<Brand, J, P, G, R>(rt, alloc, job, channels, processes, works, capacity, gate)
+}
+
+/// Runs as [`run_workers`] does, and posts on a board of the job meanwhile. Each worker posts what its processes committed, a
+/// piece of each that begins where the board stands: now and then while it goes on, before it waits, and before it ends. It rings
+/// `news` after that. A piece for which there is no memory is let go, and comes with the next one of its process; what no piece
+/// brought is in the report. Once the caller has raised `stop`, each worker ends before its next turn, and a run that is not
+/// whole, and was not out of memory, is reported cancelled.
+///
+/// # Errors
+///
+/// No memory for the links and the threads, or for the report.
+pub fn run_streamed<
+    'a,
+    N: OfJob + Send + Sync,
+    J: PlannedJob,
+    P: LogicalProcess + Send,
+    G: Gate<P>,
+    R: Threads + Wait + Sync,
+>(
+    rt: &R,
+    alloc: Global,
+    job: &J,
+    channels: &[Channel],
+    processes: Vec<P>,
+    works: Vec<P::Work>,
+    capacity: usize,
+    gate: &G,
+    board: &'a Board<N>,
+    news: &'a Bell,
+    stop: &'a Flag,
+) -> Result<Report<G::Cause>, AllocError>
+where
+    P::Work: Send + Drop,
+    requires job { N.job ≡ J.means job.now }
+    requires made { AreMadeFor J.means P.state P.valid job.now channels.now processes.items }
+    requires capacity { 0 < capacity }
+    requires workers { 0 < length works.items }
+    ensures reached { IfOk result (λ r.
+        AreReached (J.means job.now) r.parts.items r.clocks.items) }
+    ensures whole { IfOk result (λ r. (r.ended ≡ Whole)
+        ↔ ((p : ℕ) (t : MeantTime) → slice_get r.clocks.items p ≡ Some t
+        → t ≡ end_time (J.means job.now))) }
+{
+    let stream = Stream {
+        alloc,
+        board,
+        news,
+        stop,
+    };
+    run_reported::<N, J, P, G, R>(
+        rt,
+        alloc,
+        job,
+        channels,
+        processes,
+        works,
+        capacity,
+        gate,
+        Some(stream),
+    )
 }

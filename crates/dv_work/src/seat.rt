@@ -8,7 +8,8 @@ ghost use Rattle.dv_proc.specs.Packets.{meant_packet};
 ghost use Rattle.dv_work.specs.Ends.{IsIn, IsOut, given, taken};
 ghost use Rattle.dv_work.specs.Seats.{Reports, Sits};
 
-use crate::bell::Bell;
+use crate::bell::{Bell, Flag};
+use crate::post::Stream;
 use dv_core::LogicalProcess;
 use dv_link::{Link, OfJob, SendPass, TakePass};
 use dv_proc::{Packet, Turned};
@@ -42,12 +43,23 @@ pub struct Seat<P> {
     pub ins: Vec<In>,
 }
 
-/// All that a worker's visits need of the others: the links, the bells, and the flag.
+/// All that a worker's visits need of the others: the links, the bells, the flag, and where they post, if they do.
 #[derive(Drop)]
 pub struct Floor<'a, N: OfJob> {
     pub links: &'a [Link<N>],
     pub bells: &'a [Bell],
-    pub flag: &'a crate::bell::Flag,
+    pub flag: &'a Flag,
+    pub stream: Option<Stream<'a, N>>,
+}
+
+impl<N: OfJob> Floor<'_, N> {
+    /// Whether the caller of the run stops it.
+    pub fn is_stopped(&self) -> bool {
+        match &self.stream {
+            Some(stream) => stream.stop.is_raised(),
+            None => false,
+        }
+    }
 }
 
 // Rings a worker's bell, if there is one.

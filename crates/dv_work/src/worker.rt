@@ -7,6 +7,7 @@ ghost use Rattle.dv_work.specs.Seats.{Reports, Sits};
 
 use crate::bell::Bell;
 use crate::gate::Gate;
+use crate::post::{ROUNDS_TO_A_POST, post_all};
 use crate::seat::{Floor, Seat};
 use dv_core::LogicalProcess;
 use dv_link::OfJob;
@@ -19,6 +20,8 @@ use std::sync::Wait;
 pub enum Halt<C> {
     /// The flag was raised.
     Flag,
+    /// The caller of the run stopped it.
+    Stop,
     /// No memory.
     Memory,
     /// The gate's.
@@ -98,6 +101,9 @@ fn visit<N: OfJob, P: LogicalProcess, G: Gate<P>, R: Wait>(
     if floor.flag.is_raised() {
         return Err(Halt::Flag);
     }
+    if floor.is_stopped() {
+        return Err(Halt::Stop);
+    }
     if let Some(cause) = gate.before_turn(worker, seat.number, &seat.process) {
         return Err(Halt::Cause(cause));
     }
@@ -144,6 +150,14 @@ fn of_both(one: Turned, other: Turned) -> Turned {
     }
 }
 
+// Whether a worker posts after a round: now and then where it goes on, and always where it will wait or end.
+fn posts_after<C>(round: u64, ended: &Result<Turned, Halt<C>>) -> bool {
+    match ended {
+        Ok(Turned::Moved) => round % ROUNDS_TO_A_POST == 0,
+        _ => true,
+    }
+}
+
 // Makes rounds until all are done, or the worker has to end.
 fn rounds<N: OfJob, P: LogicalProcess, G: Gate<P>, R: Wait>(
     rt: &R,
@@ -157,9 +171,15 @@ fn rounds<N: OfJob, P: LogicalProcess, G: Gate<P>, R: Wait>(
     requires { All (Sits N.job P.state P.valid floor.now.links.now) seats.old }
     ensures { All (Reports N.job P.state) seats.new }
 {
+    let mut count: u64 = 0;
     for _ in rt.forever() {
         let seen = bell.rings(rt);
-        match round(rt, floor, gate, worker, seats, work) {
+        let ended = round(rt, floor, gate, worker, seats, work);
+        count = count.wrapping_add(1);
+        if posts_after(count, &ended) {
+            post_all(rt, floor, seats);
+        }
+        match ended {
             Ok(Turned::Moved) => {}
             Ok(Turned::Waiting) => bell.wait_past(rt, seen),
             Ok(Turned::Done) => return None,
@@ -169,7 +189,8 @@ fn rounds<N: OfJob, P: LogicalProcess, G: Gate<P>, R: Wait>(
     unreachable!()
 }
 
-/// Works until all its processes are done, or it has to end. Then it raises the flag, unless it ended for the flag.
+/// Works until all its processes are done, or it has to end. Then it raises the flag, unless it ended for the flag. What its
+/// processes committed is posted before it waits, and before it ends.
 pub fn work_at<N: OfJob, P: LogicalProcess, G: Gate<P>, R: Wait>(
     rt: &R,
     floor: &Floor<'_, N>,

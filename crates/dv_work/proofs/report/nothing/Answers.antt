@@ -1,4 +1,4 @@
-use Rattle.std.proofs.Common.{◌≡◌, ℕ, [], ◌∷◌, length, refl, sym, ◌∙◌, arith, ap, length-append}
+use Rattle.std.proofs.Common.{[], ◌∷◌, length, refl, arith, ap, length-append}
 use Rattle.dv_bag.specs.Part.{nothing}
 use Rattle.dv_conservative.specs.Process.{first_time}
 use Rattle.dv_work.proofs.Reporting.{all_more, none_reached}

@@ -1,4 +1,3 @@
-use Rattle.std.specs.List.{All}
 use Rattle.std.proofs.lemmas.List.Elements.{All-set, All-weaker}
 use Rattle.dv_work.specs.Seats.{Reports, Sits}
 use Rattle.dv_work.specs.declared.seat.Seat.{Seat}

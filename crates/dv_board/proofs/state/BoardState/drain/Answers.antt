@@ -7,7 +7,7 @@ use Rattle.dv_board.specs.declared.held.Held.{Held}
 use Rattle.dv_board.specs.Boards.{AreHeld, BoardOf}
 use Rattle.dv_board.specs.Clocks.{IsLeast, IsNoLater}
 use Rattle.dv_board.specs.Jobs.{trace}
-use Rattle.dv_board.proofs.Drained.{all_by_time, least_of_run, mark_no_later, pieces_of_trace, rest_is_held}
+use Rattle.dv_board.proofs.Drained.{all_by_time, least_of_run, least_within, mark_no_later, pieces_of_trace, rest_is_held}
 use Rattle.dv_board.proofs.Places.{clocks_of, clocks_stay}
 use Rattle.dv_board.proofs.state.BoardState.drain.Goals as goal
 
@@ -57,3 +57,10 @@ returns-clause-of_run g c =
     let least = c.least_clock-least.result in
     let is = subst (λ (l : List Held). IsLeast least (clocks_of l)) c.deref.ensures.value c.least_clock-least.ensures in
     least_of_run g.N.OfJob.job s.mark s.held.items c.self.invariant least is
+
+pub returns-clause-within : goal.returns-clause-within
+returns-clause-within g c =
+    let s = c.self.inside in
+    let least = c.least_clock-least.result in
+    let is = subst (λ (l : List Held). IsLeast least (clocks_of l)) c.deref.ensures.value c.least_clock-least.ensures in
+    least_within g.N.OfJob.job s.mark s.held.items c.self.invariant least is

@@ -36,7 +36,7 @@ invariant_of-self-2 g c =
     let low = no_later job h.clock c.args.from is.of_run c.requires.times.0 (sym c.is_before.ensures.order ∙ c.if-is_before.false) in
     held_set job mark held p c.join.new.self c.self.invariant
     (subst (IsHeld job mark p) (sym c.in_default.ensures.ok)
-    (piece_is_held job mark p h c.args.piece c.args.from c.args.clock is c.requires.times.1 low c.requires.piece))
+    (piece_is_held job mark p h c.args.piece c.args.from c.args.clock is c.requires.times.1 c.requires.within low c.requires.piece))
 
 pub returns-clause-clocks : goal.returns-clause-clocks
 returns-clause-clocks g c =

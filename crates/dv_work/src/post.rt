@@ -1,0 +1,83 @@
+//! What processes committed, posted on a board while the run goes on.
+
+ghost use Rattle.std.specs.List.{All};
+ghost use Rattle.dv_work.specs.Seats.{Reports};
+
+use crate::bell::{Bell, Flag};
+use crate::seat::{Floor, Seat};
+use dv_board::{Board, piece_since};
+use dv_core::LogicalProcess;
+use dv_link::OfJob;
+use std::alloc::Global;
+use std::sync::Wait;
+
+/// So many rounds a worker makes at most from one post to the next: a look at the board, a copy and a ring cost more than a
+/// turn, and next to nothing beside so many.
+pub const ROUNDS_TO_A_POST: u64 = 64;
+
+/// Where workers post what their processes committed.
+#[derive(Drop)]
+pub struct Stream<'a, N: OfJob> {
+    /// Where pieces are made.
+    pub alloc: Global,
+    pub board: &'a Board<N>,
+    /// Rings after what was posted.
+    pub news: &'a Bell,
+    /// Once it is raised, the run ends.
+    pub stop: &'a Flag,
+}
+
+// Posts what a process committed from where the board keeps it on. Tells whether there was something, and it was joined.
+fn post<N: OfJob, P: LogicalProcess, R: Wait>(
+    rt: &R,
+    stream: &Stream<'_, N>,
+    seat: &Seat<P>,
+) -> bool
+    requires { Reports N.job P.state seat.now }
+{
+    let kept = stream.board.clock(rt, seat.number);
+    let clock = seat.process.clock();
+    if !kept.is_before(clock) {
+        return false;
+    }
+    let Ok(piece) = piece_since(stream.alloc, seat.process.committed(), kept) else {
+        return false;
+    };
+    stream
+        .board
+        .extend(rt, seat.number, piece, kept, clock)
+        .is_ok()
+}
+
+// Posts what the processes of a worker committed, and rings for it.
+fn post_each<N: OfJob, P: LogicalProcess, R: Wait>(
+    rt: &R,
+    stream: &Stream<'_, N>,
+    seats: &[Seat<P>],
+)
+    requires { All (Reports N.job P.state) seats.now }
+{
+    let mut news = false;
+    for seat in seats {
+        if post(rt, stream, seat) {
+            news = true;
+        }
+    }
+    if news {
+        stream.news.ring(rt);
+    }
+}
+
+/// Posts what the processes of a worker committed, if the run has a board. For what finds no memory the board stays where it
+/// is: it comes with the next piece, and if there is none it is in the report alone.
+pub fn post_all<N: OfJob, P: LogicalProcess, R: Wait>(
+    rt: &R,
+    floor: &Floor<'_, N>,
+    seats: &[Seat<P>],
+)
+    requires { All (Reports N.job P.state) seats.now }
+{
+    if let Some(stream) = &floor.stream {
+        post_each(rt, stream, seats);
+    }
+}
