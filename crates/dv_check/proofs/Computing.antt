@@ -17,5 +17,5 @@ link_rows = tt
 
 -- those of models that contain themselves
 unfoldable pub cycle_rows : Unit {0}
-unfolding containment cycle_refusals position_of
+unfolding no_number with_number containment cycle_refusals position_of
 cycle_rows = tt

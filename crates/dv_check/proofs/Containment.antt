@@ -13,7 +13,7 @@ use Rattle.dv_syntax.specs.declared.tree.Part.{Part}
 use Rattle.dv_syntax.specs.Trees.{ModelTree, AtomicModel, CoupledModel}
 use Rattle.dv_check.specs.Cycles.{Test, containment, cycle_refusal, cycle_refusals, cycle_refusals_from, model_cycle_refusals}
 use Rattle.dv_check.specs.Cycles.{models_inside, part_cycle_refusals, position_inside, position_of, positions_inside, same_number}
-use Rattle.dv_check.specs.Names.{refusal_if}
+use Rattle.dv_check.specs.Names.{first_parts, refusal_if}
 use Rattle.dv_check.proofs.ModelPositions.{IsFound, IsMissing, named_at}
 
 -- ---- The graph of the models
@@ -44,7 +44,7 @@ parts_within models n count (p ∷ parts) =
 model_within : (models : List ModelTree) (n : ℕ) → length models ≡ n → (m : ModelTree)
     → AllByRecursion (λ k. k < n) (models_inside models m)
 model_within models n count (AtomicModel m) = tt
-model_within models n count (CoupledModel m) = parts_within models n count m.parts
+model_within models n count (CoupledModel m) = parts_within models n count (first_parts m.parts)
 
 models_within : (all : List ModelTree) (n : ℕ) → length all ≡ n → (models : List ModelTree)
     → AllByRecursion (All (λ k. k < n)) (map (models_inside all) models)
@@ -100,7 +100,7 @@ module _ (f g : Test) (position : ℕ → Option ℕ) where
       → ((inner : ℕ) → is_in inner (positions_inside position m) ≡ true → f inner outer ≡ g inner outer)
       → model_cycle_refusals f position outer m ≡ model_cycle_refusals g position outer m
   agree_on_model outer (AtomicModel m) same = refl
-  agree_on_model outer (CoupledModel m) same = agree_on_parts outer m.parts same
+  agree_on_model outer (CoupledModel m) same = agree_on_parts outer (first_parts m.parts) same
 
   -- what agrees on each model and those inside it agrees on all
   agree : (outer : ℕ) (models : List ModelTree)

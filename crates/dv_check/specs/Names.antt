@@ -74,3 +74,18 @@ model_named number (m ∷ models) = if (name_of_model m).number == number then S
 abbrev pub part_named : ℕ → List Part → Option Part
 part_named number [] = None
 part_named number (p ∷ parts) = if p.name.number == number then Some p else part_named number parts
+
+-- a part in front of others, unless its name was seen before
+abbrev pub with_part_unless : Bool → Part → List Part → List Part
+with_part_unless true p parts = parts
+with_part_unless false p parts = p ∷ parts
+
+-- the parts whose numbers were not seen before
+abbrev pub first_parts_after : (ℕ → Bool) → List Part → List Part
+first_parts_after seen [] = []
+first_parts_after seen (p ∷ parts) =
+    with_part_unless (seen p.name.number) p (first_parts_after (with_number seen p.name.number) parts)
+
+-- the parts that count: of each name the first
+abbrev pub first_parts : List Part → List Part
+first_parts parts = first_parts_after no_number parts

@@ -11,12 +11,14 @@ ghost use Rattle.dv_check.specs.Tables.{value_for};
 use crate::directory::Directory;
 use crate::findings::Findings;
 use crate::positions::{positions_inside, positions_of};
+use crate::repeats::first_parts;
 use dv_cycles::{Graph, strong_components};
 use dv_lex::RefusalNumber;
 use dv_syntax::{Model, Part};
 use std::alloc::{AllocError, Global};
 
-/// Tests that no model of a text contains itself: notes each part whose model leads back to the model around it.
+/// Tests that no model of a text contains itself: notes each part whose model leads back to the model around it. Of the
+/// parts of one name the first counts.
 pub fn check_cycles(alloc: Global, models: &[Model], found: &mut Findings) -> Result<(), AllocError>
     ensures { OnOk result (found.new
         ≡ with_refusals found.old (cycle_refusals (map model_of models.now))) }
@@ -24,11 +26,10 @@ pub fn check_cycles(alloc: Global, models: &[Model], found: &mut Findings) -> Re
     let positions = positions_of(alloc, models)?;
     let graph = containment(alloc, &positions, models)?;
     let numbers = strong_components(alloc, &graph)?;
-    find_cycles(&positions, &numbers, models, found);
-    Ok(())
+    find_cycles(alloc, &positions, &numbers, models, found)
 }
 
-// The graph of the models: each leads to the models of its parts.
+// The graph of the models: each leads to the models of its parts that count.
 fn containment(
     alloc: Global,
     positions: &Directory<usize>,
@@ -55,39 +56,49 @@ fn inside(
 {
     match model {
         Model::Atomic(_) => Ok(Vec::new(alloc)),
-        Model::Coupled(coupled) => positions_inside(alloc, positions, &coupled.parts),
+        Model::Coupled(coupled) => {
+            let parts = first_parts(alloc, &coupled.parts)?;
+            positions_inside(alloc, positions, &parts)
+        }
     }
 }
 
 // Notes the parts whose models have the number of the model around them: the models that lead to each other have one
-// number, and a model leads to that of each of its parts.
+// number, and a model leads to that of each of its parts that count.
 fn find_cycles(
+    alloc: Global,
     positions: &Directory<usize>,
     numbers: &[usize],
     models: &[Model],
     found: &mut Findings,
-)
-    ensures { found.new ≡ with_refusals found.old (cycle_refusals_from (same_number numbers.now)
-        (value_for positions.now) 0 (map model_of models.now)) }
+) -> Result<(), AllocError>
+    ensures { OnOk result (found.new ≡ with_refusals found.old (cycle_refusals_from
+        (same_number numbers.now) (value_for positions.now) 0 (map model_of models.now))) }
 {
     for (outer, model) in models.iter().enumerate() {
-        check_model(positions, numbers, outer, model, found);
+        check_model(alloc, positions, numbers, outer, model, found)?;
     }
+    Ok(())
 }
 
 fn check_model(
+    alloc: Global,
     positions: &Directory<usize>,
     numbers: &[usize],
     outer: usize,
     model: &Model,
     found: &mut Findings,
-)
-    ensures { found.new ≡ with_refusals found.old (model_cycle_refusals (same_number numbers.now)
-        (value_for positions.now) outer (model_of model.now)) }
+) -> Result<(), AllocError>
+    ensures { OnOk result (found.new ≡ with_refusals found.old (model_cycle_refusals
+        (same_number numbers.now) (value_for positions.now) outer (model_of model.now))) }
 {
     match model {
-        Model::Atomic(_) => {}
-        Model::Coupled(coupled) => check_parts(positions, numbers, outer, &coupled.parts, found),
+        Model::Atomic(_) => Ok(()),
+        Model::Coupled(coupled) => {
+            let parts = first_parts(alloc, &coupled.parts)?;
+            check_parts(positions, numbers, outer, &parts, found);
+            Ok(())
+        }
     }
 }
 

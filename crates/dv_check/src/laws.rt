@@ -15,7 +15,7 @@ ghost use Rattle.dv_check.specs.CheckedFiles.{IsCheckedFile, IsThrough};
 ghost use Rattle.dv_check.specs.Loops.{bag_at, flag_at, input_at, loop_at, name_at, one_at, wrong_inside, wrong_outside, wrong_under};
 ghost use Rattle.dv_check.specs.Cycles.{cycle_refusals};
 ghost use Rattle.dv_check.specs.Names.{model_named, refusal};
-ghost use Rattle.dv_check.specs.Nests.{around, rooted, tower};
+ghost use Rattle.dv_check.specs.Nests.{around, part_at, rooted, tower};
 ghost use Rattle.dv_check.specs.Refusals.{limit_refusals, refusal_of};
 ghost use Rattle.dv_check.specs.Relays.{link_at, wrong_links};
 ghost use Rattle.dv_check.specs.Tree.{parts_to, tree_of};
@@ -170,15 +170,25 @@ pub fn coupled_parts_show_their_ports()
 /// No model contains itself: a part whose model leads back to the model around it is refused at the name of its model.
 /// A part that leads to such models without lying among them is fine.
 pub fn no_model_contains_itself()
-    ensures itself { refusal_of (rooted (around 1 (name_at 1 30 ∷ []) ∷ []) 1)
+    ensures itself { refusal_of (rooted (around 1 (part_at 22 0 1 ∷ []) ∷ []) 1)
         ≡ Some (refusal number.E15 30) }
-    ensures each_other { cycle_refusals (around 1 (name_at 2 30 ∷ [])
-        ∷ (around 2 (name_at 1 50 ∷ []) ∷ []))
+    ensures each_other { cycle_refusals (around 1 (part_at 22 0 2 ∷ [])
+        ∷ (around 2 (part_at 42 0 1 ∷ []) ∷ []))
         ≡ refusal number.E15 30 ∷ (refusal number.E15 50 ∷ []) }
-    ensures leads_to_one { cycle_refusals (around 1 (name_at 2 30 ∷ [])
-        ∷ (around 2 (name_at 2 50 ∷ []) ∷ [])) ≡ refusal number.E15 50 ∷ [] }
-    ensures twice_inside { cycle_refusals (around 1 (name_at 2 30 ∷ (name_at 2 40 ∷ []))
+    ensures leads_to_one { cycle_refusals (around 1 (part_at 22 0 2 ∷ [])
+        ∷ (around 2 (part_at 42 0 2 ∷ []) ∷ [])) ≡ refusal number.E15 50 ∷ [] }
+    ensures twice_inside { cycle_refusals (around 1 (part_at 22 0 2 ∷ (part_at 32 1 2 ∷ []))
         ∷ (around 2 [] ∷ [])) ≡ [] }
+{}
+
+/// Of the parts of one name the first counts: a second one contains nothing, and is refused at its name.
+pub fn parts_of_a_repeated_name_contain_nothing()
+    ensures second_leads_back { refusal_of (rooted (around 1 (part_at 22 0 2 ∷ [])
+        ∷ (around 2 (part_at 42 0 3 ∷ (part_at 52 0 1 ∷ [])) ∷ (around 3 [] ∷ []))) 1)
+        ≡ Some (refusal number.E6 57) }
+    ensures first_leads_back { refusal_of (rooted (around 1 (part_at 22 0 2 ∷ [])
+        ∷ (around 2 (part_at 42 0 1 ∷ (part_at 52 0 3 ∷ [])) ∷ (around 3 [] ∷ []))) 1)
+        ≡ Some (refusal number.E15 30) }
 {}
 
 /// Coupled models lie at most 16 deep, the root counted, and a root has a component; else its name is refused.

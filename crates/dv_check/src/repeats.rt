@@ -1,14 +1,14 @@
-//! Names that are declared twice or too often.
+//! Names that are declared twice or too often, and the parts that count.
 
-ghost use Rattle.std.specs.Prelude.{◌≡◌, OnOk};
+ghost use Rattle.std.specs.Prelude.{◌≡◌, IfOk, OnOk};
 ghost use Rattle.dv_check.specs.Findings.{with_refusals};
-ghost use Rattle.dv_check.specs.Names.{excess, excess_past, repeats, within_limit};
+ghost use Rattle.dv_check.specs.Names.{excess, excess_past, first_parts, repeats, within_limit};
 
 use crate::findings::Findings;
 use crate::limits::GREATEST_NAMES;
 use crate::number_set::NumberSet;
 use dv_lex::RefusalNumber;
-use dv_syntax::Name;
+use dv_syntax::{Name, Part};
 use std::alloc::{AllocError, Global};
 
 /// Notes each name that stands again behind an earlier one.
@@ -27,6 +27,20 @@ pub fn find_repeats(
         }
     }
     Ok(())
+}
+
+/// The parts that count: of each name the first, in their order.
+pub fn first_parts(alloc: Global, parts: &[Part]) -> Result<Vec<Part>, AllocError>
+    ensures { IfOk result (λ firsts. firsts.items ≡ first_parts parts.now) }
+{
+    let mut seen = NumberSet::new(alloc);
+    let mut firsts = Vec::new(alloc);
+    for part in parts {
+        if seen.insert(part.name.number)? {
+            firsts.push(*part)?;
+        }
+    }
+    Ok(firsts)
 }
 
 /// Notes the first name past the greatest number of names of a kind.

@@ -1,4 +1,5 @@
-use Rattle.std.proofs.Common.{map, ap, ◌∙◌}
+use Rattle.std.proofs.Common.{◌≡◌, map, ap, ◌∙◌, subst}
+use Rattle.std.specs.Result.{OnOk}
 use Rattle.dv_syntax.specs.Trees.{model_of}
 use Rattle.dv_check.specs.Cycles.{cycle_refusals_from, same_number}
 use Rattle.dv_check.specs.Findings.{with_refusals}
@@ -19,6 +20,5 @@ returns c =
     let numbers = c.in_ok-numbers.numbers.items in
     let together = c.in_ok-numbers.ensures.together in
     let told = made_by_numbers models positions c.in_ok-positions.ensures c.in_ok-graph.graph numbers c.in_ok-graph.ensures together in
-    c.find_cycles.ensures
-    ∙ ap (with_refusals c.args.found.now)
-    (ap (λ ns. cycle_refusals_from (same_number ns) positions 0 models) c.deref.ensures.value ∙ told)
+    subst (λ rs. OnOk c.find_cycles.result (c.find_cycles.new.found ≡ with_refusals c.args.found.now rs))
+    (ap (λ ns. cycle_refusals_from (same_number ns) positions 0 models) c.deref.ensures.value ∙ told) c.find_cycles.ensures
