@@ -123,6 +123,13 @@ impl<J: PlannedJob, P: LogicalProcess> World<J, P> {
         self.state.process(process)
     }
 
+    /// All processes, by their numbers.
+    pub fn processes(&self) -> &[P]
+        ensures { result.now ≡ self.now.processes.items }
+    {
+        self.state.processes.as_slice()
+    }
+
     /// The job that is run.
     pub fn job(&self) -> &J
         ensures { result.now ≡ self.now.job }

@@ -34,7 +34,7 @@ use Rattle.dv_sound.specs.Members.{flat_of}
 use Rattle.dv_partition.specs.Groups.{owner_of}
 use Rattle.dv_work.specs.Reached.{AreReached}
 use Rattle.dv_run.specs.Runs.{AreAtEnd, IsRunOf, IsStepped, IsTraceOf}
-use Rattle.dv_run.proofs.Least.{AllOfRun, least_below, least_of_same, least_time_of_run, least_time_rank}
+use Rattle.dv_serial.proofs.LeastClock.{AllOfRun, least_below, least_of_same, least_time_of_run, least_time_rank}
 
 -- ---- The laws on which it rests
 

@@ -147,7 +147,9 @@ fn committed_of(report: Report<()>) -> Committed
     } = report;
     let ended = match ended {
         dv_work::Ended::Whole => Ended::Whole,
-        dv_work::Ended::Stopped(_) | dv_work::Ended::Memory => Ended::Memory,
+        dv_work::Ended::Stopped(_) | dv_work::Ended::Cancelled | dv_work::Ended::Memory => {
+            Ended::Memory
+        }
     };
     Committed {
         parts,

@@ -2,3 +2,5 @@
 pub mod Beginning
 -- What the processes of a world hand over.
 pub mod Running
+-- The least of clocks.
+pub mod LeastClock

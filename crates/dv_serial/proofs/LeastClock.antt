@@ -1,5 +1,5 @@
 -- The least of clocks.
-use Rattle.std.proofs.Common.{◌≡◌, inl, inr, ℕ, zero, suc, ◌<◌, ◌≤◌, min, Bool, true, false, if◌then◌else◌, nat_lt, List, [], ◌∷◌, length, Some, refl, sym, ap, ◌∙◌, subst, arith}
+use Rattle.std.proofs.Common.{◌≡◌, ℕ, zero, suc, ◌<◌, ◌≤◌, min, Bool, true, false, if◌then◌else◌, nat_lt, List, [], ◌∷◌, length, Some, refl, sym, ap, ◌∙◌, arith}
 use Rattle.std.specs.List.{slice_get}
 use Rattle.dv_time.specs.Time.{IsOfRun, is_before, rank}
 use Rattle.dv_time.specs.declared.time.Time.{Time}
@@ -67,3 +67,13 @@ least_time_rank limit (t ∷ ts) some all = after_rank limit t ts (all 0 t refl)
 pub least_time_of_run : (limit : ℕ) (ts : List Time) → AllOfRun limit ts → IsOfRun limit (least_time ts)
 least_time_of_run limit [] all = omega arith
 least_time_of_run limit (t ∷ ts) all = after_of_run limit t ts (all 0 t refl) (λ p v e. all (suc p) v e)
+
+-- what is before each of them is before the least
+pub least_above : (limit n : ℕ) (ts : List Time) → 0 < length ts
+    → ((p : ℕ) (t : Time) → slice_get ts p ≡ Some t → n ≤ rank limit t) → n ≤ least_rank limit ts
+least_above limit n [] some all = absurd (omega arith)
+least_above limit n (t ∷ []) some all = all 0 t refl
+least_above limit n (t ∷ u ∷ ts) some all =
+    let one = all 0 t refl in
+    let rest = least_above limit n (u ∷ ts) (omega arith) (λ p v e. all (suc p) v e) in
+    omega (arith, one, rest)

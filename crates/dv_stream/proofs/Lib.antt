@@ -1,0 +1,8 @@
+-- What processes committed between two times, as pieces of the trace.
+pub mod Between
+-- No clock falls, and rounds after rounds are rounds.
+pub mod Rising
+-- What the processes of a world have committed, and that their clocks do not fall.
+pub mod Worlds
+-- What was written, mark after mark.
+pub mod Writing

@@ -1,0 +1,5 @@
+-- ---- What a reader believes
+-- Whether a trace holds a fault.
+pub mod Faults
+-- What was written of the trace of a job.
+pub mod Written

@@ -1,0 +1,58 @@
+//! What was written of a trace, and the next piece of it.
+
+ghost use Rattle.std.specs.Prelude.{◌≡◌, ◌||◌, IfOk, OnErr, OnOk};
+ghost use Rattle.std.specs.Io.KnownBytes.{Appends};
+ghost use Rattle.dv_bag.specs.Part.{IsByTime};
+ghost use Rattle.dv_stream.specs.Faults.{has_fault};
+ghost use Rattle.dv_text.specs.Names.{tree_names, tree_ports};
+ghost use Rattle.dv_text.specs.Texts.{part_text};
+ghost use Rattle.dv_text.specs.Writing.{AppendsBeginning};
+
+use crate::faults::has_fault;
+use dv_bag::Trace;
+use dv_text::{TraceWriter, WriteError};
+use dv_time::Time;
+use std::io::Write;
+
+/// Up to when the trace was written: all that is before the mark, and nothing since it.
+#[derive(Clone, Copy, Debug, PartialEq, Eq)]
+pub struct Written {
+    pub mark: Time,
+    /// Whether a fault is among the entries that were written.
+    pub faulted: bool,
+}
+
+impl Written {
+    /// Before anything was written.
+    pub const NOTHING: Written = Written {
+        mark: Time::ZERO,
+        faulted: false,
+    };
+}
+
+/// Writes the lines of a piece of the trace that begins where the one before it ended, and ends at a mark.
+///
+/// # Errors
+///
+/// A write failed, or there is no memory for a line. The writer holds a beginning of the lines.
+pub fn write_piece<W: Write>(
+    before: Written,
+    piece: &Trace,
+    mark: Time,
+    lines: &mut TraceWriter<'_>,
+    writer: &mut W,
+) -> Result<Written, WriteError>
+    requires by_time { IsByTime piece.now }
+    ensures tree { lines.new ≡ lines.old }
+    ensures text { OnOk result (Appends (W.contents writer.old) (W.contents writer.new)
+        (part_text (tree_names lines.old) (tree_ports lines.old) piece.now)) }
+    ensures mark { IfOk result (λ after. after.mark ≡ mark) }
+    ensures faults { IfOk result (λ after.
+        after.faulted ≡ (before.faulted || has_fault piece.now)) }
+    ensures err { OnErr result (AppendsBeginning (W.contents writer.old) (W.contents writer.new)
+        (part_text (tree_names lines.old) (tree_ports lines.old) piece.now)) }
+{
+    lines.part(piece, writer)?;
+    let faulted = before.faulted || has_fault(piece);
+    Ok(Written { mark, faulted })
+}
