@@ -6,10 +6,27 @@ use crate::request::{ModelFile, PartitionChoice, Plan, Request, RequestError, Ru
 use clap::error::ErrorKind;
 use clap::{Arg, ArgAction, ArgMatches, Command};
 use dv_explain::{
-    Explanation, explanation_of, faults, input_refusals, partition_refusals, refusals,
+    Explanation, explanation_in_any_case, faults, input_refusals, partition_refusals, refusals,
 };
 use dv_time::{GREATEST_LIMIT, GREATEST_TICK};
 use std::alloc::{AllocError, Global};
+
+/// The version of the program; it stands here alone.
+const VERSION: &str = "0.1.0";
+
+/// What stands below the help of the program.
+const AFTER_HELP: &str = "\
+Exit status:
+  0  an accepted model, and what was asked for; a whole trace without a fault
+  1  refused, not read, not written to the end, or out of memory
+  2  no command, or help
+  3  a whole trace with a fault of a component
+  4  a partial trace: the rounds were used up, or memory ran out
+
+A file of inputs has a line TICK PORT VALUE for each value that comes to an
+input port of the root; '#' begins a comment line. docs/TUTORIAL.md teaches the
+language of models, docs/REFERENCE.md has all of it with the inputs and the
+trace, and docs/ERRORS.md the refusals and faults, as 'pdevs explain CODE'.";
 
 /// The most workers that a run may have.
 const MOST_WORKERS: u64 = 64;
@@ -22,6 +39,9 @@ const MOST_WORKERS: u64 = 64;
 pub fn request_of(alloc: Global, words: &[String]) -> Result<Request, RequestError> {
     match command(alloc)?.try_get_matches_from(words) {
         Ok(matches) => request_in(alloc, &matches),
+        Err(error) if matches!(error.kind(), ErrorKind::DisplayVersion) => {
+            Ok(Request::Version(format!(in alloc; "{error}")?))
+        }
         Err(error) => Err(error_of(alloc, &error)),
     }
 }
@@ -42,7 +62,9 @@ fn request_in(alloc: Global, matches: &ArgMatches) -> Result<Request, RequestErr
 fn command<'a>(alloc: Global) -> Result<Command<'a>, AllocError> {
     let program = Command::new(alloc, "pdevs")
         .bin_name("pdevs")?
+        .version(VERSION)
         .about("Checks and runs Parallel DEVS models")
+        .after_help(AFTER_HELP)
         .subcommand_required(true);
     let checks = with_subcommand(program, check_command(alloc))?;
     let runs = with_subcommand(checks, run_command(alloc))?;
@@ -238,7 +260,7 @@ fn explanation_for(
     alloc: Global,
     matches: &ArgMatches,
 ) -> Result<&'static Explanation, RequestError> {
-    match matches.get_str("code").and_then(explanation_of) {
+    match explanation_in_any_case(alloc, matches.get_str("code").unwrap_or(""))? {
         Some(explanation) => Ok(explanation),
         None => Err(unknown_code(alloc)?),
     }

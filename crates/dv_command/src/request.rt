@@ -17,6 +17,8 @@ pub enum Request {
     Plan(Plan),
     /// Print what a refusal or a fault means.
     Explain(&'static Explanation),
+    /// Print the program's name and version, which is this text.
+    Version(String),
 }
 
 /// A model that is asked for by itself.

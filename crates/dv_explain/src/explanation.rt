@@ -1,8 +1,10 @@
 //! Explanations, found by their codes.
 
-ghost use Rattle.std.specs.Prelude.{◌≡◌, IfSome};
+ghost use Rattle.std.specs.Char.{to_ascii_uppercase};
+ghost use Rattle.std.specs.Prelude.{◌≡◌, ◌⊎◌, IfOk, IfSome, map};
 
 use crate::words::{faults, input_refusals, partition_refusals, refusals};
+use std::alloc::{AllocError, Global};
 
 /// What a refusal or a fault means, and its cure.
 #[derive(Clone, Copy, Debug)]
@@ -38,6 +40,27 @@ pub fn explanation_of(code: &str) -> Option<&'static Explanation>
         .or_else(|| find(input_refusals(), code))
         .or_else(|| find(partition_refusals(), code))
         .or_else(|| find(faults(), code))
+}
+
+/// The explanation of a code that may be written in small letters, as `e7`.
+///
+/// # Errors
+///
+/// No memory for the code in capitals.
+pub fn explanation_in_any_case(
+    alloc: Global,
+    code: &str,
+) -> Result<Option<&'static Explanation>, AllocError>
+    ensures { IfOk result (λ found. IfSome found (λ explanation.
+        (explanation.now.code.now ≡ code.now)
+        ⊎ (explanation.now.code.now ≡ map to_ascii_uppercase code.now))) }
+{
+    let as_written = explanation_of(code);
+    if as_written.is_some() {
+        return Ok(as_written);
+    }
+    let capitals = code.to_ascii_uppercase(alloc)?;
+    Ok(explanation_of(capitals.as_str()))
 }
 
 fn find(explanations: &'static [Explanation], code: &str) -> Option<&'static Explanation>

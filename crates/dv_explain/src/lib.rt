@@ -5,9 +5,12 @@
 pub mod explanation;
 /// The line of a text that a refusal points at.
 pub mod pointing;
+/// Characters that can't be seen, and their names.
+pub mod unseen;
 /// The words of the explanations.
 pub mod words;
 
-pub use explanation::{Example, Explanation, explanation_of};
+pub use explanation::{Example, Explanation, explanation_in_any_case, explanation_of};
 pub use pointing::{excerpt, excerpt_of_line};
+pub use unseen::{unseen_at, unseen_name};
 pub use words::{faults, input_refusals, partition_refusals, refusals};

@@ -1,36 +1,52 @@
 //! The line of a text that a refusal points at, with a mark under the token.
 
+use crate::unseen::unseen_name;
 use std::alloc::{AllocError, Global};
 
 /// The most characters that are shown on each side of the mark.
 const SHOWN: usize = 60;
 
-/// The line of a text around a place, and below it a mark under the place. `line` is the number of the line, which is
-/// shown before it; `place` is the number of bytes before the token. Of a long line the 60 characters before the place
-/// and the 60 behind it are shown, and no bytes that are not UTF-8.
+/// Stands where a line is cut.
+const CUT: char = '…';
+
+/// Where a place is, as `FILE:LINE:COLUMN`; then the line of the text around it, and below that a mark under the place.
+/// `name` is that of the file, `line` is the number of the line, and `place` is the number of bytes before the token.
+/// Columns count characters from 1. Of a long line the 60 characters before the place and the 60 behind it are shown,
+/// with a `…` on a side where it is cut, and no bytes that are not UTF-8.
 ///
 /// # Errors
 ///
-/// No memory for the two lines.
-pub fn excerpt(alloc: Global, text: &[u8], line: u64, place: usize) -> Result<String, AllocError> {
+/// No memory for the three lines.
+pub fn excerpt(
+    alloc: Global,
+    name: &str,
+    text: &[u8],
+    line: u64,
+    place: usize,
+) -> Result<String, AllocError> {
     let (before, after) = text.split_at(place.min(text.len()));
     let before = str::from_utf8(last_line(before)).unwrap_or("");
     let after = str::from_utf8(first_line(after)).unwrap_or("");
-    marked(alloc, line, before, after)
+    marked(alloc, name, line, before, after)
 }
 
-/// The line of this number, and below it a mark under its first character; as `excerpt` shows it.
+/// The line of this number with a mark under its first character, as `excerpt` shows it.
 ///
 /// # Errors
 ///
-/// No memory for the two lines.
-pub fn excerpt_of_line(alloc: Global, text: &[u8], line: u64) -> Result<String, AllocError> {
+/// No memory for the three lines.
+pub fn excerpt_of_line(
+    alloc: Global,
+    name: &str,
+    text: &[u8],
+    line: u64,
+) -> Result<String, AllocError> {
     let mut rest = text;
     for _ in 1..line {
         rest = after_first_line(rest);
     }
     let shown = str::from_utf8(first_line(rest)).unwrap_or("");
-    marked(alloc, line, "", shown)
+    marked(alloc, name, line, "", shown)
 }
 
 /// What stands behind the first line feed.
@@ -61,15 +77,40 @@ fn first_line(bytes: &[u8]) -> &[u8] {
     bytes.get(..end).unwrap_or(bytes)
 }
 
-/// The two lines, out of what stands on the line before the place and from it on.
-fn marked(alloc: Global, line: u64, before: &str, after: &str) -> Result<String, AllocError> {
-    let hidden = before.chars().count().saturating_sub(SHOWN);
-    let mut text = format!(in alloc; "{line} | ")?;
-    let margin = text.len().saturating_sub(2);
-    push_shown(&mut text, before, hidden)?;
-    push_shown(&mut text, after, 0)?;
+/// The three lines, out of what stands on the line before the place and from it on.
+fn marked(
+    alloc: Global,
+    name: &str,
+    line: u64,
+    before: &str,
+    after: &str,
+) -> Result<String, AllocError> {
+    let column = before.chars().count().saturating_add(1);
+    let hidden = column.saturating_sub(SHOWN.saturating_add(1));
+    let number = format!(in alloc; "{line} ")?;
+    let margin = number.len();
+    let mut text = format!(in alloc; "{name}:{line}:{column}\n{number}| ")?;
+    push_before(&mut text, before, hidden)?;
+    push_after(&mut text, after)?;
     push_mark(&mut text, margin, before, hidden)?;
     Ok(text)
+}
+
+/// What is shown of a line before the place, behind so many hidden characters.
+fn push_before(text: &mut String, before: &str, hidden: usize) -> Result<(), AllocError> {
+    if hidden > 0 {
+        text.push(CUT)?;
+    }
+    push_shown(text, before, hidden)
+}
+
+/// What is shown of a line from the place on.
+fn push_after(text: &mut String, after: &str) -> Result<(), AllocError> {
+    push_shown(text, after, 0)?;
+    if after.chars().count() > SHOWN {
+        text.push(CUT)?;
+    }
+    Ok(())
 }
 
 /// The characters that are shown of a line, behind so many hidden ones.
@@ -80,7 +121,7 @@ fn push_shown(text: &mut String, line: &str, hidden: usize) -> Result<(), AllocE
     Ok(())
 }
 
-/// The second line: the mark behind the margin and what is shown before the place.
+/// The last line: the mark behind the margin and what is shown before the place.
 fn push_mark(
     text: &mut String,
     margin: usize,
@@ -88,15 +129,18 @@ fn push_mark(
     hidden: usize,
 ) -> Result<(), AllocError> {
     write!(text, "\n{:margin$}| ", "")?;
+    if hidden > 0 {
+        text.push(' ')?;
+    }
     for character in before.chars().skip(hidden) {
         text.push(blank(character))?;
     }
     text.push_str("^\n")
 }
 
-/// A character as it is shown: a blank for one that moves the cursor, but a tab.
+/// A character as it is shown: a blank for one that can't be seen, but a tab.
 fn visible(character: char) -> char {
-    if character < ' ' && character != '\t' {
+    if character != '\t' && (character < ' ' || unseen_name(character).is_some()) {
         ' '
     } else {
         character

@@ -54,7 +54,7 @@ const REFUSALS: &[Explanation] = &[
     },
     Explanation {
         code: "E4",
-        words: "This token can't stand here. It is the first one with which no text goes on; where a text ends too early, its end is named. Look up in the grammar what may stand at this place. In the example a colon is missing before `A`.",
+        words: "This token can't stand here. It is the first one with which no text goes on; where a text ends too early, its end is named. Look just before it, too: a missing `;`, `:` or `}` is found at the token after it. A reserved word can't be a name. The grammar, in `docs/REFERENCE.md`, says what may stand here.",
         example: Some(Example {
             model: "coupled T { part a A; }\nroot T;\n",
             inputs: "",

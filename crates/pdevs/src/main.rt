@@ -12,7 +12,7 @@ use dv_job::{
     status,
 };
 use dv_partition::Partition;
-use report::{explained, explanation_text};
+use report::{Source, explained, explanation_text};
 use std::alloc::AllocError;
 use std::fmt::Display;
 use std::io::{ErrorKind, Write};
@@ -84,6 +84,10 @@ fn answer<R: AllocGlobal + Env + Files + Print + Eprint + Threads + Wait + Sync>
             print!(rt; "{}", explanation_text(rt.alloc(), explanation)?)?;
             Ok(ACCEPTED)
         }
+        Ok(Request::Version(text)) => {
+            print!(rt; "{text}")?;
+            Ok(ACCEPTED)
+        }
         Err(RequestError::Usage(usage)) => {
             tell_text(rt, usage.text.as_str());
             Ok(USAGE)
@@ -125,8 +129,8 @@ fn bytes_of<R: AllocGlobal + Files + Eprint>(rt: &R, name: &str) -> io::Result<O
 /// Tells an error: its line, and where it is to be explained and memory suffices, what it means.
 fn tell<R: AllocGlobal + Eprint>(
     rt: &R,
-    model: &[u8],
-    inputs: &[u8],
+    model: Source<'_>,
+    inputs: Source<'_>,
     error: &JobError,
     is_explained: bool,
 ) {
@@ -137,6 +141,22 @@ fn tell<R: AllocGlobal + Eprint>(
     if let Ok(text) = explained(rt.alloc(), model, inputs, error) {
         tell_text(rt, text.as_str());
     }
+}
+
+/// Tells an error where no inputs are read.
+fn tell_of_model<R: AllocGlobal + Eprint>(
+    rt: &R,
+    name: &str,
+    model: &[u8],
+    error: &JobError,
+    is_explained: bool,
+) {
+    let model = Source { name, bytes: model };
+    let inputs = Source {
+        name: "",
+        bytes: &[],
+    };
+    tell(rt, model, inputs, error, is_explained);
 }
 
 /// Checks what was asked for, and answers the status.
@@ -153,7 +173,7 @@ fn check_model<R: AllocGlobal + Files + Print + Eprint>(
             Ok(ACCEPTED)
         }
         Err(error) => {
-            tell(rt, &model, &[], &error, check.explained);
+            tell_of_model(rt, check.model.as_str(), &model, &error, check.explained);
             Ok(REFUSED)
         }
     }
@@ -172,7 +192,7 @@ fn list_model<R: AllocGlobal + Files + Print + Eprint>(rt: &R, code: &ModelFile)
     match result {
         Ok(()) => Ok(ACCEPTED),
         Err(error) => {
-            tell(rt, &model, &[], &error, code.explained);
+            tell_of_model(rt, code.model.as_str(), &model, &error, code.explained);
             Ok(REFUSED)
         }
     }
@@ -192,7 +212,7 @@ fn plan_model<R: AllocGlobal + Files + Print + Eprint>(rt: &R, plan: &Plan) -> i
             Ok(ACCEPTED)
         }
         Err(error) => {
-            tell(rt, &model, &[], &error, plan.explained);
+            tell_of_model(rt, plan.model.as_str(), &model, &error, plan.explained);
             Ok(REFUSED)
         }
     }
@@ -277,7 +297,30 @@ fn run_model<R: AllocGlobal + Files + Print + Eprint + Threads + Wait + Sync>(
         result = Err(JobError::Write);
     }
     if let Err(error) = &result {
-        tell(rt, &model, &inputs, error, run.explained);
+        tell_of_run(rt, run, &model, &inputs, error);
     }
     Ok(status(&result))
+}
+
+/// Tells an error of a run.
+fn tell_of_run<R: AllocGlobal + Eprint>(
+    rt: &R,
+    run: &Run,
+    model: &[u8],
+    inputs: &[u8],
+    error: &JobError,
+) {
+    let model = Source {
+        name: run.model.as_str(),
+        bytes: model,
+    };
+    let name = match &run.inputs {
+        Some(name) => name.as_str(),
+        None => "",
+    };
+    let inputs = Source {
+        name,
+        bytes: inputs,
+    };
+    tell(rt, model, inputs, error, run.explained);
 }

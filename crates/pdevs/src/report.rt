@@ -1,25 +1,36 @@
 //! What the program tells of an error, and what it explains.
 
-use dv_explain::{Example, Explanation, excerpt, excerpt_of_line, explanation_of};
+use dv_explain::{Example, Explanation, excerpt, excerpt_of_line, explanation_of, unseen_at};
 use dv_job::JobError;
 use std::alloc::{AllocError, Global};
 
-/// What an error means, with the line of the model or of the inputs at which it was found. Nothing where no text is at
-/// fault.
+/// A file that was read: its name, as the words of the command line have it, and its bytes.
+#[derive(Clone, Copy)]
+pub struct Source<'a> {
+    pub name: &'a str,
+    pub bytes: &'a [u8],
+}
+
+/// What an error means, with the place and the line of the model or of the inputs at which it was found. Nothing where no
+/// text is at fault.
 pub fn explained(
     alloc: Global,
-    model: &[u8],
-    inputs: &[u8],
+    model: Source<'_>,
+    inputs: Source<'_>,
     error: &JobError,
 ) -> Result<String, AllocError> {
     match error {
         JobError::Text(refusal) => {
-            let shown = excerpt(alloc, model, refusal.line, refusal.place as usize)?;
+            let place = refusal.place as usize;
+            let mut shown = excerpt(alloc, model.name, model.bytes, refusal.line, place)?;
             let code = format!(in alloc; "{}", refusal.number)?;
+            if code.as_str() == "E2" {
+                shown.push_str(unseen_at(alloc, model.bytes, place)?.as_str())?;
+            }
             with_words(alloc, shown, code.as_str())
         }
         JobError::Inputs(refusal) => {
-            let shown = excerpt_of_line(alloc, inputs, refusal.line)?;
+            let shown = excerpt_of_line(alloc, inputs.name, inputs.bytes, refusal.line)?;
             let code = format!(in alloc; "{}", refusal.number)?;
             with_words(alloc, shown, code.as_str())
         }

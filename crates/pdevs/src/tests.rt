@@ -1,6 +1,6 @@
 //! What the words of a command line ask for, and what is reported of how a run ended.
 
-use crate::report::{explained, explanation_text};
+use crate::report::{Source, explained, explanation_text};
 use dv_command::{PartitionChoice, Plan, Request, RequestError, Run, request_of};
 use dv_explain::{Example, Explanation};
 use dv_inputs::{InputRefusal, InputRefusalNumber};
@@ -78,6 +78,7 @@ fn summary(alloc: Global, words: &[String]) -> Result<String, AllocError> {
         Ok(Request::Plan(plan)) => plan_text(alloc, &plan),
         Ok(Request::Run(run)) => run_text(alloc, &run),
         Ok(Request::Explain(explanation)) => format!(in alloc; "explain {}", explanation.code),
+        Ok(Request::Version(text)) => format!(in alloc; "version {text}"),
         Err(RequestError::Usage(usage)) if usage.text.is_empty() => String::from_str(
             alloc, "nothing",
         ),
@@ -246,10 +247,26 @@ fn an_explanation_is_asked_for(rt: HostRuntime) {
             (&["explain", "I2"], "explain I2"),
             (&["explain", "Q4"], "explain Q4"),
             (&["explain", "overflow"], "explain overflow"),
-            (&["explain", "e7"], "usage"),
+            (&["explain", "e7"], "explain E7"),
+            (&["explain", "q4"], "explain Q4"),
+            (&["explain", "e19"], "usage"),
+            (&["explain", ""], "usage"),
             (&["explain", "E19"], "usage"),
             (&["explain", "Q5"], "usage"),
             (&["explain"], "usage"),
+        ],
+    );
+}
+
+#[test]
+fn the_version_is_asked_for(rt: HostRuntime) {
+    rows(
+        &rt,
+        &[
+            (&["--version"], "version pdevs 0.1.0\n"),
+            (&["-V"], "version pdevs 0.1.0\n"),
+            (&["run", "--version"], "usage"),
+            (&["version"], "usage"),
         ],
     );
 }
@@ -342,8 +359,17 @@ fn a_refusal_is_reported_with_its_line(rt: HostRuntime) {
 // What is told beside the line of a text's answer.
 fn same_explained<R: Abort + AllocGlobal>(rt: &R, model: &str, wanted: &str) {
     let error = check_bytes(rt.alloc(), model.as_bytes()).expect_err(rt, "the text is taken");
-    let got = explained(rt.alloc(), model.as_bytes(), b"", &error).expect(rt, "memory");
-    expect_same(rt, model, got.as_str().starts_with(wanted), true);
+    let model = Source {
+        name: "a b.pd",
+        bytes: model.as_bytes(),
+    };
+    let inputs = Source {
+        name: "",
+        bytes: &[],
+    };
+    let got = explained(rt.alloc(), model, inputs, &error).expect(rt, "memory");
+    let beginning = got.as_str().get(..wanted.len()).unwrap_or(got.as_str());
+    expect_same(rt, "an explanation", beginning, wanted);
 }
 
 #[test]
@@ -351,14 +377,78 @@ fn a_refusal_is_explained_where_it_stands(rt: HostRuntime) {
     same_explained(
         &rt,
         "# é\n\tréal $;\n",
-        "2 | \tréal $;\n  | \t     ^\nNo token begins with this character. ",
+        "a b.pd:2:7\n2 | \tréal $;\n  | \t     ^\nNo token begins with this character. ",
     );
-    same_explained(&rt, "", "1 | \n  | ^\nThis token can't stand here. ");
+    same_explained(
+        &rt,
+        "",
+        "a b.pd:1:1\n1 | \n  | ^\nThis token can't stand here. ",
+    );
     same_explained(
         &rt,
         "atomic A { }\r\nroot A;",
-        "1 | atomic A { } \n  |        ^\nThe item `phases`, ",
+        "a b.pd:1:8\n1 | atomic A { } \n  |        ^\nThe item `phases`, ",
     );
+}
+
+#[test]
+fn a_character_that_cannot_be_seen_is_named(rt: HostRuntime) {
+    same_explained(
+        &rt,
+        "\u{feff}root A;",
+        "a b.pd:1:1\n1 |  root A;\n  | ^\nThe character is U+FEFF, a byte order mark.\nNo token ",
+    );
+    same_explained(
+        &rt,
+        "root\u{a0}A;",
+        "a b.pd:1:5\n1 | root A;\n  |     ^\nThe character is U+00A0, a no-break space.\nNo token ",
+    );
+    same_explained(
+        &rt,
+        "\u{c}",
+        "a b.pd:1:1\n1 |  \n  | ^\nThe character is U+000C, a form feed.\nNo token ",
+    );
+}
+
+// Signs of a kind, so many.
+fn signs(alloc: Global, sign: char, count: usize) -> Result<String, AllocError> {
+    let mut text = String::new(alloc);
+    for _ in 0..count {
+        text.push(sign)?;
+    }
+    Ok(text)
+}
+
+// A line with a wrong sign behind and before so many stars, and what is shown of it: behind the mark 60 characters stand,
+// the one at it counted.
+fn same_cut<R: Abort + AllocGlobal>(rt: &R, before: usize, after: usize, wanted: (&str, &str)) {
+    let alloc = rt.alloc();
+    let left = signs(alloc, '*', before).expect(rt, "memory");
+    let right = signs(alloc, '*', after).expect(rt, "memory");
+    let model = format!(in alloc; "{left}${right}\n").expect(rt, "memory");
+    let left = signs(alloc, '*', before.min(60)).expect(rt, "memory");
+    let right = signs(alloc, '*', after.min(59)).expect(rt, "memory");
+    let blanks = signs(
+        alloc,
+        ' ',
+        before.min(60).saturating_add(wanted.0.chars().count()),
+    )
+    .expect(rt, "memory");
+    let shown = format!(in alloc;
+        "a b.pd:1:{}\n1 | {}{left}${right}{}\n  | {blanks}^\nNo token ",
+        before.saturating_add(1),
+        wanted.0,
+        wanted.1
+    );
+    same_explained(rt, model.as_str(), shown.expect(rt, "memory").as_str());
+}
+
+#[test]
+fn a_line_that_is_cut_says_where(rt: HostRuntime) {
+    same_cut(&rt, 60, 59, ("", ""));
+    same_cut(&rt, 61, 59, ("…", ""));
+    same_cut(&rt, 60, 60, ("", "…"));
+    same_cut(&rt, 200, 200, ("…", "…"));
 }
 
 // What is told beside the line of an answer to inputs.
@@ -370,8 +460,16 @@ fn a_refusal_of_inputs_is_explained(rt: HostRuntime) {
     };
     let error = JobError::Inputs(refusal);
     same_line(&rt, &error, "I2 line 2");
-    let got = explained(rt.alloc(), b"", b"5 x 1\n6 z 1\n", &error).expect(&rt, "memory");
-    let wanted = "2 | 6 z 1\n  | ^\nThe root has no input port of this name. ";
+    let model = Source {
+        name: "m.pd",
+        bytes: b"",
+    };
+    let inputs = Source {
+        name: "i.txt",
+        bytes: b"5 x 1\n6 z 1\n",
+    };
+    let got = explained(rt.alloc(), model, inputs, &error).expect(&rt, "memory");
+    let wanted = "i.txt:2:1\n2 | 6 z 1\n  | ^\nThe root has no input port of this name. ";
     expect_same(&rt, "inputs", got.as_str().starts_with(wanted), true);
 }
 

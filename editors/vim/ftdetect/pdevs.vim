@@ -1,0 +1,1 @@
+autocmd BufRead,BufNewFile *.pd setfiletype pdevs

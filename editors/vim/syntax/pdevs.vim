@@ -1,0 +1,26 @@
+" Vim syntax for the rule text of Parallel DEVS models.
+if exists("b:current_syntax")
+  finish
+endif
+
+syntax keyword pdevsStructure atomic coupled root
+syntax keyword pdevsDeclaration in out var flag bag phases start hold part link
+syntax keyword pdevsRule output internal external confluent
+syntax keyword pdevsStatement if else for add to drop from send goto
+syntax keyword pdevsOperator not and or
+syntax keyword pdevsFunction size sum least most times
+syntax keyword pdevsConstant forever true false elapsed self
+syntax match pdevsNumber "\<\d\+\>"
+syntax match pdevsComment "#.*$" contains=@Spell
+
+highlight default link pdevsStructure Structure
+highlight default link pdevsDeclaration StorageClass
+highlight default link pdevsRule Label
+highlight default link pdevsStatement Statement
+highlight default link pdevsOperator Operator
+highlight default link pdevsFunction Function
+highlight default link pdevsConstant Constant
+highlight default link pdevsNumber Number
+highlight default link pdevsComment Comment
+
+let b:current_syntax = "pdevs"
