@@ -1,31 +1,20 @@
 -- How a check and a run of bytes end, and what the writer then holds.
-use Rattle.std.specs.Prelude.{◌≡◌, ℕ, Bool, true, false, if◌then◌else◌, List, length, ◌⊎◌, Option, Ok, Err}
-use Rattle.std.specs.List.{list_any}
+use Rattle.std.specs.Prelude.{◌≡◌, ℕ, if◌then◌else◌, List, length, ◌⊎◌, Option, Ok, Err}
 use Rattle.std.specs.Io.KnownBytes.{Appends, Keeps}
 use Rattle.dv_bag.specs.Part.{PartOf}
-use Rattle.dv_bag.specs.declared.entry.Entry.{Entry}
-use Rattle.dv_bag.specs.declared.entry.What.{What}
-use Rattle.dv_bag.specs.declared.entry.What.TheVariants as what
 use Rattle.dv_syntax.specs.Trees.{FileTree}
 use Rattle.dv_bag.specs.declared.inputs.Input.{Input}
 use Rattle.dv_inputs.specs.Reading.{reading_of}
 use Rattle.dv_inputs.specs.declared.error.InputRefusal.{InputRefusal}
 use Rattle.dv_tree.specs.Instances.{instances}
 use Rattle.dv_plain.specs.Source.{trace_of}
+use Rattle.dv_stream.specs.Faults.{has_fault}
 use Rattle.dv_text.specs.Writing.{StopsShort}
 use Rattle.dv_job.specs.Job.{IsAnswer, IsModelOf, input_ports, run_text}
 use Rattle.dv_job.specs.declared.ended.JobEnded.{JobEnded}
 use Rattle.dv_job.specs.declared.ended.JobEnded.TheVariants.{Whole, Faulted}
 use Rattle.dv_job.specs.declared.ended.JobError.{JobError}
 use Rattle.dv_job.specs.declared.ended.JobError.TheVariants as error
-
-abbrev pub is_fault : What → Bool
-is_fault (what.Fault f) = true
-is_fault (what.Transition k s) = false
-
--- some component had a fault
-abbrev pub has_fault : PartOf → Bool
-has_fault p = list_any (λ (e : Entry). is_fault e.what) p.entries
 
 abbrev pub ending_of : PartOf → JobEnded
 ending_of p = if has_fault p then Faulted else Whole

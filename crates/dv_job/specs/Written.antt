@@ -1,14 +1,12 @@
--- The text of what ran; and why a text was not written to its end, and what the writer then holds.
-use Rattle.std.specs.Prelude.{ℕ, List, ◌++◌, ◌⊎◌, Option}
+-- How the text of what ran ends; and why a text was not written to its end, and what the writer then holds.
+use Rattle.std.specs.Prelude.{ℕ, Bool, if◌then◌else◌, List, ◌⊎◌, Option}
 use Rattle.std.specs.Io.KnownBytes.{Keeps}
-use Rattle.dv_bag.specs.Part.{PartOf}
-use Rattle.dv_text.specs.Texts.{ComponentNames, ending_text, part_text, partial_ending}
+use Rattle.dv_time.specs.declared.time.Time.{Time}
+use Rattle.dv_text.specs.Texts.{ending_text, partial_ending}
 use Rattle.dv_text.specs.Writing.{StopsShort}
 use Rattle.dv_text.specs.declared.writing.Ending.TheVariants as text_end
 use Rattle.dv_core.specs.declared.step.Ended.{Ended}
 use Rattle.dv_core.specs.declared.step.Ended.TheVariants as ran
-use Rattle.dv_serial.specs.declared.ran.Ran.{Ran}
-use Rattle.dv_job.specs.Ending.{ending_of}
 use Rattle.dv_job.specs.declared.ended.JobEnded.{JobEnded}
 use Rattle.dv_job.specs.declared.ended.JobEnded.TheVariants as ended
 use Rattle.dv_job.specs.declared.ended.Why.TheVariants as why
@@ -23,13 +21,14 @@ IsUnwritten (error.Inputs r) text old new = ⊥
 IsUnwritten error.Write text old new = StopsShort old new text
 IsUnwritten error.Memory text old new = Keeps old new ⊎ StopsShort old new text
 
--- the text of what ran to this end, and how the run ends
-abbrev pub text_to : Ended → List ComponentNames → List (List ℕ) → (horizon : ℕ) → Ran → List ℕ
-text_to ran.Whole all outputs horizon r = part_text all outputs r.trace ++ ending_text (text_end.Whole horizon)
-text_to ran.Stalled all outputs horizon r = part_text all outputs r.trace ++ partial_ending r.clocks.items
-text_to ran.Memory all outputs horizon r = part_text all outputs r.trace ++ partial_ending r.clocks.items
+-- how the text of a run ends that came to this end, at these clocks
+abbrev pub end_text : Ended → (horizon : ℕ) → List Time → List ℕ
+end_text ran.Whole horizon clocks = ending_text (text_end.Whole horizon)
+end_text ran.Stalled horizon clocks = partial_ending clocks
+end_text ran.Memory horizon clocks = partial_ending clocks
 
-abbrev pub ended_at : Ended → PartOf → JobEnded
-ended_at ran.Whole trace = ending_of trace
-ended_at ran.Stalled trace = ended.Partial why.Rounds
-ended_at ran.Memory trace = ended.Partial why.Memory
+-- how a run ends, some component of which had a fault or none
+abbrev pub ended_at : Ended → Bool → JobEnded
+ended_at ran.Whole faulted = if faulted then ended.Faulted else ended.Whole
+ended_at ran.Stalled faulted = ended.Partial why.Rounds
+ended_at ran.Memory faulted = ended.Partial why.Memory

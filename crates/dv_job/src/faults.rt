@@ -1,36 +1,27 @@
-//! Whether a trace holds a fault.
+//! How a whole run ended: whether its trace holds a fault.
 
-ghost use Rattle.std.specs.Prelude.{◌≡◌};
-ghost use Rattle.std.specs.List.{list_any};
-ghost use Rattle.dv_bag.specs.declared.entry.Entry.{Entry};
-ghost use Rattle.dv_job.specs.Ending.{ending_of, is_fault};
+ghost use Rattle.std.specs.Prelude.{◌≡◌, if◌then◌else◌};
+ghost use Rattle.dv_job.specs.Ending.{ending_of};
+ghost use Rattle.dv_job.specs.declared.ended.JobEnded.TheVariants.{Faulted, Whole};
 
 use crate::ended::JobEnded;
-use dv_bag::{Entry, Trace, What};
+use dv_bag::Trace;
+use dv_stream::faults::has_fault;
 
 /// How a run with this whole trace ended.
 pub fn ending_of(trace: &Trace) -> JobEnded
     ensures { result ≡ ending_of trace.now }
 {
-    if has_fault(trace.entries().as_slice()) {
+    whole_ending(has_fault(trace))
+}
+
+/// How a whole run ended in which some component had a fault, or none.
+pub fn whole_ending(faulted: bool) -> JobEnded
+    ensures { result ≡ (if faulted then Faulted else Whole) }
+{
+    if faulted {
         JobEnded::Faulted
     } else {
         JobEnded::Whole
-    }
-}
-
-/// Whether some entry is a fault.
-fn has_fault(entries: &[Entry]) -> bool
-    ensures { result ≡ list_any (λ (e : Entry). is_fault e.what) entries.now }
-{
-    entries.iter().any(|entry| is_fault(&entry.what))
-}
-
-fn is_fault(what: &What) -> bool
-    ensures { result ≡ is_fault what.now }
-{
-    match what {
-        What::Fault(_) => true,
-        What::Transition { .. } => false,
     }
 }

@@ -7,7 +7,7 @@ pub mod check;
 pub mod code;
 /// How a run ends.
 pub mod ended;
-/// Whether a trace holds a fault.
+/// How a whole run ended.
 mod faults;
 /// Laws of texts and models.
 pub mod laws;
@@ -29,7 +29,7 @@ pub mod run;
 pub mod steps;
 /// The run of a model in processes on threads.
 pub mod workers;
-/// What ran, written.
+/// How the text of what ran ends.
 mod written;
 
 pub use check::check_bytes;

@@ -9,22 +9,21 @@ use crate::ended::{JobEnded, JobError};
 use crate::load::{accept, load, load_groups, load_inputs};
 use crate::options::Options;
 use crate::rounds::granted;
-use crate::written::write_ran;
+use crate::written::write_end;
 use dv_bag::Bags;
-use dv_devs::laws::parts::parts_are_by_time;
 use dv_flat::flatten;
 use dv_partition::Partition;
 use dv_planned::TextJob;
 use dv_run::compiled_run;
 use dv_sound::numbers::inputs_are_of_numbers;
-use dv_text::laws::a_trace_is_its_instants;
+use dv_text::laws::a_trace_is_its_pieces;
 use dv_tree::Tree;
 use std::alloc::Global;
 use std::io::Write;
 
 /// Runs the model of a text in processes, by programs and direct links, on one thread, with the inputs that another text
-/// says, and writes the trace to the horizon. Inputs past the horizon are tested and not played; an empty text has none. Each
-/// group of the partition is one process; processes exchange packets in rounds.
+/// says, and writes the trace to the horizon while it runs. Inputs past the horizon are tested and not played; an empty text has
+/// none. Each group of the partition is one process; processes exchange packets in rounds.
 ///
 /// # Errors
 ///
@@ -65,9 +64,8 @@ fn run_tree<W: Write>(
     ensures error { IfErr result (λ e. LeftByRun e model.now inputs.now groups.entry
         options.now (W.contents writer.old) (W.contents writer.new)) }
 {
-    // A trace stands by time, and its text is that of its instants, one after the other.
-    parts_are_by_time::<Bags>();
-    a_trace_is_its_instants::<Bags>();
+    // The lines of a trace are continued by those of what is since.
+    a_trace_is_its_pieces::<Bags>();
     // The values of inputs that were read are numbers of the language.
     inputs_are_of_numbers();
     let flat = flatten(alloc, tree)?;
@@ -81,6 +79,7 @@ fn run_tree<W: Write>(
         limit: options.limit,
     };
     let capacity = options.capacity as usize;
-    let ran = compiled_run(alloc, &job, &flat.links, granted(options), capacity)?;
-    write_ran(alloc, tree, &ran, options.horizon, writer)
+    let rounds = granted(options);
+    let ran = compiled_run(alloc, &job, &flat.links, rounds, capacity, writer)?;
+    write_end(alloc, tree, &ran, options.horizon, writer)
 }

@@ -8,15 +8,14 @@ ghost use Rattle.dv_job.specs.Running.{EndsByWorkers, LeftByRun};
 use crate::ended::{JobEnded, JobError};
 use crate::load::{accept, load, load_groups, load_inputs};
 use crate::options::Options;
-use crate::written::write_ran;
+use crate::written::write_end;
 use dv_bag::Bags;
-use dv_devs::laws::parts::parts_are_by_time;
 use dv_flat::flatten;
 use dv_partition::Partition;
 use dv_planned::TextJob;
 use dv_run::compiled_workers;
 use dv_sound::numbers::inputs_are_of_numbers;
-use dv_text::laws::a_trace_is_its_instants;
+use dv_text::laws::a_trace_is_its_pieces;
 use dv_tree::Tree;
 use std::alloc::Global;
 use std::io::Write;
@@ -72,9 +71,8 @@ fn work_tree<R: Threads + Wait + Sync, W: Write>(
     ensures error { IfErr result (λ e. LeftByRun e model.now inputs.now groups.entry
         options.now (W.contents writer.old) (W.contents writer.new)) }
 {
-    // A trace stands by time, and its text is that of its instants, one after the other.
-    parts_are_by_time::<Bags>();
-    a_trace_is_its_instants::<Bags>();
+    // The lines of a trace are continued by those of what is since.
+    a_trace_is_its_pieces::<Bags>();
     // The values of inputs that were read are numbers of the language.
     inputs_are_of_numbers();
     let flat = flatten(alloc, tree)?;
@@ -88,6 +86,7 @@ fn work_tree<R: Threads + Wait + Sync, W: Write>(
         limit: options.limit,
     };
     let capacity = options.capacity as usize;
-    let ran = compiled_workers(rt, alloc, &job, &flat.links, workers as usize, capacity)?;
-    write_ran(alloc, tree, &ran, options.horizon, writer)
+    let workers = workers as usize;
+    let ran = compiled_workers(rt, alloc, &job, &flat.links, workers, capacity, writer)?;
+    write_end(alloc, tree, &ran, options.horizon, writer)
 }

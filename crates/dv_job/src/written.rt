@@ -1,75 +1,66 @@
-//! What ran, written.
+//! How the text of what ran ends.
 
-ghost use Rattle.std.specs.Prelude.{◌≡◌, ◌++◌, IfOk, IfErr, OnOk};
+ghost use Rattle.std.specs.Prelude.{◌≡◌, if◌then◌else◌, IfOk, IfErr, OnOk};
 ghost use Rattle.std.specs.Io.KnownBytes.{Appends};
-ghost use Rattle.dv_bag.specs.Part.{IsByTime};
-ghost use Rattle.dv_text.specs.Names.{tree_names, tree_ports};
-ghost use Rattle.dv_text.specs.Texts.{ending_text, part_text, partial_ending};
+ghost use Rattle.dv_text.specs.Texts.{ending_text, partial_ending};
 ghost use Rattle.dv_text.specs.declared.writing.Ending.TheVariants as text_end;
-ghost use Rattle.dv_job.specs.Ending.{ending_of};
-ghost use Rattle.dv_job.specs.Written.{IsUnwritten, ended_at, text_to};
-ghost use Rattle.dv_job.specs.declared.ended.JobEnded.TheVariants.{Partial};
+ghost use Rattle.dv_job.specs.Written.{IsUnwritten, end_text, ended_at};
+ghost use Rattle.dv_job.specs.declared.ended.JobEnded.TheVariants.{Faulted, Partial, Whole};
 
 use crate::ended::{JobEnded, JobError, Why};
-use crate::faults::ending_of;
-use dv_bag::Trace;
+use crate::faults::whole_ending;
 use dv_core::Ended;
-use dv_serial::Ran;
-use dv_text::{Ending, write_trace};
+use dv_run::Ran;
+use dv_text::{Ending, TraceWriter};
 use dv_tree::Tree;
 use std::alloc::Global;
 use std::io::Write;
 
-/// Writes the text of what ran.
+/// Writes how the text of what ran ends.
 ///
 /// # Errors
 ///
-/// `Write` and `Memory`: the writer holds a beginning of the text that is not all of it, for `Memory` perhaps nothing.
-pub fn write_ran<W: Write>(
+/// `Write` and `Memory`: the writer holds a beginning of the ending that is not all of it, for `Memory` perhaps nothing.
+pub fn write_end<W: Write>(
     alloc: Global,
     tree: &Tree,
     ran: &Ran,
     horizon: u64,
     writer: &mut W,
 ) -> Result<JobEnded, JobError>
-    requires by_time { IsByTime ran.now.trace }
-    ensures ending { IfOk result (λ ended. ended ≡ ended_at ran.now.ended ran.now.trace) }
+    ensures ending { IfOk result (λ ended. ended ≡ ended_at ran.now.ended ran.now.faulted) }
     ensures text { OnOk result (Appends (W.contents writer.old) (W.contents writer.new)
-        (text_to ran.now.ended (tree_names tree.now) (tree_ports tree.now) horizon ran.now)) }
+        (end_text ran.now.ended horizon ran.now.clocks.items)) }
     ensures error { IfErr result (λ e. IsUnwritten e
-        (text_to ran.now.ended (tree_names tree.now) (tree_ports tree.now) horizon ran.now)
+        (end_text ran.now.ended horizon ran.now.clocks.items)
         (W.contents writer.old) (W.contents writer.new)) }
 {
     match ran.ended {
-        Ended::Whole => write_whole(alloc, tree, &ran.trace, horizon, writer),
+        Ended::Whole => write_whole(alloc, tree, ran, horizon, writer),
         Ended::Stalled => write_cut(alloc, tree, ran, Why::Rounds, writer),
         Ended::Memory => write_cut(alloc, tree, ran, Why::Memory, writer),
     }
 }
 
-// Writes the text of a whole trace.
+// Writes that the text is whole.
 fn write_whole<W: Write>(
     alloc: Global,
     tree: &Tree,
-    trace: &Trace,
+    ran: &Ran,
     horizon: u64,
     writer: &mut W,
 ) -> Result<JobEnded, JobError>
-    requires by_time { IsByTime trace.now }
-    ensures ending { IfOk result (λ ended. ended ≡ ending_of trace.now) }
+    ensures ending { IfOk result (λ ended. ended ≡ (if ran.now.faulted then Faulted else Whole)) }
     ensures text { OnOk result (Appends (W.contents writer.old) (W.contents writer.new)
-        (part_text (tree_names tree.now) (tree_ports tree.now) trace.now
-        ++ ending_text (text_end.Whole horizon))) }
-    ensures error { IfErr result (λ e. IsUnwritten e
-        (part_text (tree_names tree.now) (tree_ports tree.now) trace.now
-        ++ ending_text (text_end.Whole horizon))
+        (ending_text (text_end.Whole horizon))) }
+    ensures error { IfErr result (λ e. IsUnwritten e (ending_text (text_end.Whole horizon))
         (W.contents writer.old) (W.contents writer.new)) }
 {
-    write_trace(alloc, trace, tree, &Ending::Whole(horizon), writer)?;
-    Ok(ending_of(trace))
+    TraceWriter::new(alloc, tree).end(&Ending::Whole(horizon), writer)?;
+    Ok(whole_ending(ran.faulted))
 }
 
-// Writes the text of a trace that is cut at the clocks of its processes, for this reason.
+// Writes to which clocks the processes came, for this reason.
 fn write_cut<W: Write>(
     alloc: Global,
     tree: &Tree,
@@ -77,17 +68,13 @@ fn write_cut<W: Write>(
     why: Why,
     writer: &mut W,
 ) -> Result<JobEnded, JobError>
-    requires by_time { IsByTime ran.now.trace }
     ensures ending { IfOk result (λ ended. ended ≡ Partial why) }
     ensures text { OnOk result (Appends (W.contents writer.old) (W.contents writer.new)
-        (part_text (tree_names tree.now) (tree_ports tree.now) ran.now.trace
-        ++ partial_ending ran.now.clocks.items)) }
-    ensures error { IfErr result (λ e. IsUnwritten e
-        (part_text (tree_names tree.now) (tree_ports tree.now) ran.now.trace
-        ++ partial_ending ran.now.clocks.items)
+        (partial_ending ran.now.clocks.items)) }
+    ensures error { IfErr result (λ e. IsUnwritten e (partial_ending ran.now.clocks.items)
         (W.contents writer.old) (W.contents writer.new)) }
 {
     let clocks = Vec::from_slice(alloc, ran.clocks.as_slice())?;
-    write_trace(alloc, &ran.trace, tree, &Ending::Partial(clocks), writer)?;
+    TraceWriter::new(alloc, tree).end(&Ending::Partial(clocks), writer)?;
     Ok(JobEnded::Partial(why))
 }

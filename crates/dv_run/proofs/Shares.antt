@@ -6,7 +6,7 @@ use Rattle.dv_bag.specs.declared.inputs.Input.{Input}
 use Rattle.dv_check.specs.Refusals.{AreOfOneText, refusal_of}
 use Rattle.dv_syntax.specs.Trees.{FileTree}
 use Rattle.dv_tree.specs.Instances.{instances}
-use Rattle.dv_conservative.specs.Alike.{AreAlike, with_outside}
+use Rattle.dv_conservative.specs.Alike.{with_outside}
 use Rattle.dv_conservative.specs.Flat.{Flat, network}
 use Rattle.dv_conservative.specs.Process.{Outgoing, Share as Meant}
 use Rattle.dv_conservative.specs.Sound.{IsSoundShare}
@@ -15,7 +15,7 @@ use Rattle.dv_devs.specs.Behaviour.{Component}
 use Rattle.dv_devs.specs.NextTimes.{IsFrom, least_next}
 use Rattle.dv_coded.specs.Lent.{behaviour_of_lent, lent_takes}
 use Rattle.dv_coded.specs.declared.lent.Lent.{Lent}
-use Rattle.dv_local.specs.Shares.{numbers_of_ways, outgoing_of, share_by}
+use Rattle.dv_local.specs.Shares.{share_by}
 use Rattle.dv_local.specs.declared.share.Share.{Share}
 use Rattle.dv_local.proofs.Starts.{away_numbers, starts_are}
 use Rattle.dv_plan.specs.Plans.{IsPlanOf, IsShareOf}

@@ -1,6 +1,7 @@
--- What ran of a text.
-use Rattle.std.specs.Prelude.{◌≡◌, ℕ, ◌<◌, ◌≤◌, nat_eq, List, length, slice_get, Some}
+-- What ran of a text, and what was printed of it.
+use Rattle.std.specs.Prelude.{◌≡◌, ℕ, ◌<◌, ◌≤◌, nat_eq, List, length, slice_get, Option, Some}
 use Rattle.std.specs.Vec.{vec_len}
+use Rattle.std.specs.Io.KnownBytes.{Appends}
 use Rattle.dv_time.specs.Time.{end_of, rank}
 use Rattle.dv_time.specs.declared.time.Time.{Time}
 use Rattle.dv_bag.specs.Part.{PartOf}
@@ -16,10 +17,13 @@ use Rattle.dv_core.specs.declared.step.Ended.{Ended}
 use Rattle.dv_core.specs.declared.step.Ended.TheVariants.{Stalled, Whole}
 use Rattle.dv_partition.specs.Groups.{Grouping, owner_of}
 use Rattle.dv_plain.specs.Source.{network_of, outside}
-use Rattle.dv_serial.specs.declared.ran.Committed.{Committed}
-use Rattle.dv_serial.specs.declared.ran.Ran.{Ran}
 use Rattle.dv_serial.specs.declared.ran.Stepped.{Stepped}
 use Rattle.dv_sound.specs.Jobs.{job_of}
+use Rattle.dv_stream.specs.Faults.{has_fault}
+use Rattle.dv_text.specs.Names.{component_names, root_ports}
+use Rattle.dv_text.specs.Texts.{instants_text}
+use Rattle.dv_text.specs.Writing.{AppendsBeginning}
+use Rattle.dv_run.specs.declared.ran.Ran.{Ran}
 
 -- Rounds of the processes of a text, so many at most, led from a new world to these clocks, by the numbers of the processes.
 pub record LedTo (f : FileTree) (played : List Input) (groups : Grouping) (horizon limit capacity rounds : ℕ) (ended : Ended)
@@ -29,23 +33,36 @@ pub record LedTo (f : FileTree) (played : List Input) (groups : Grouping) (horiz
   pub clocks : (p : ℕ) (t : Time) → slice_get times p ≡ Some t → world.clock p ≡ t
 
 -- where it is whole, all clocks are at the end
-abbrev pub AreAtEnd : Job → Committed → Type 0
-AreAtEnd job c = c.ended ≡ Whole → (p : ℕ) (t : Time) → slice_get c.clocks.items p ≡ Some t → t ≡ end_time job
+abbrev pub AreAtEnd : Job → Ended → List Time → Type 0
+AreAtEnd job ended clocks = ended ≡ Whole → (p : ℕ) (t : Time) → slice_get clocks p ≡ Some t → t ≡ end_time job
 
--- The trace of the text's resultant with these inputs, before the least of the clocks to which its processes came. Where the run is
--- whole, that is the end.
-pub record IsTraceOf (f : FileTree) (played : List Input) (horizon limit : ℕ) (ran : Ran) : Type 0 where
-  pub trace : ran.trace ≡ trace_before limit (network_of limit f) (outside f limit played) (least_rank limit ran.clocks.items)
+-- the lines of the instants of a text's resultant, with these inputs, before a rank
+abbrev pub lines_before : List (List ℕ) → FileTree → List Input → (limit : ℕ) → ℕ → List ℕ
+lines_before names f played limit n =
+    instants_text (component_names names f) (root_ports names f) limit (network_of limit f) (outside f limit played) n
+
+-- What a writer got of a text that ran: the lines of the trace of its resultant with these inputs, before the least of the clocks to
+-- which its processes came. Where the run is whole, that is the end.
+pub record IsPrinted (names : List (List ℕ)) (f : FileTree) (played : List Input) (horizon limit : ℕ) (old new : Option (List ℕ))
+    (ran : Ran) : Type 0 where
+  pub lines : Appends old new (lines_before names f played limit (least_rank limit ran.clocks.items))
+  pub faults : ran.faulted ≡ has_fault (trace_before limit (network_of limit f) (outside f limit played) (least_rank limit ran.clocks.items))
   pub some : 0 < length ran.clocks.items
   pub whole : ran.ended ≡ Whole → least_rank limit ran.clocks.items ≡ end_of limit horizon
 
 -- The same of a run in rounds, which led to those clocks: it stalls only where there are no more rounds than ranks before the end.
-pub record IsRunOf (f : FileTree) (played : List Input) (groups : Grouping) (horizon limit capacity rounds : ℕ) (ran : Ran) : Type 0 where
-  pub trace : ran.trace ≡ trace_before limit (network_of limit f) (outside f limit played) (least_rank limit ran.clocks.items)
-  pub some : 0 < length ran.clocks.items
-  pub whole : ran.ended ≡ Whole → least_rank limit ran.clocks.items ≡ end_of limit horizon
+pub record IsRunOf (names : List (List ℕ)) (f : FileTree) (played : List Input) (groups : Grouping)
+    (horizon limit capacity rounds : ℕ) (old new : Option (List ℕ)) (ran : Ran) : Type 0 where
+  pub printed : IsPrinted names f played horizon limit old new ran
   pub stalls : ran.ended ≡ Stalled → 0 < capacity → rounds ≤ end_of limit horizon
   pub led : LedTo f played groups horizon limit capacity rounds ran.ended ran.clocks.items
+
+-- A writer got a beginning of the lines before some rank, which is not past the end.
+pub record IsCutShort (names : List (List ℕ)) (f : FileTree) (played : List Input) (horizon limit : ℕ) (old new : Option (List ℕ))
+    : Type 0 where
+  pub upto : ℕ
+  pub within : upto ≤ end_of limit horizon
+  pub lines : AppendsBeginning old new (lines_before names f played limit upto)
 
 -- The headline. The steps of a list, each with its reply, led from a new world of the text's processes to these clocks; and what each
 -- process has committed is exactly its components' part, before its clock, of the trace of the text's resultant with these inputs.

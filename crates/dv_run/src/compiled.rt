@@ -1,62 +1,83 @@
 //! The compiled model of a text, run in rounds.
 
-ghost use Rattle.std.specs.Prelude.{◌≢◌, ◌+◌, ◌<◌, ◌≤◌, ◌≡◌, None, IfOk};
-ghost use Rattle.dv_time.specs.Time.{end_of};
+ghost use Rattle.std.specs.Prelude.{◌≢◌, ◌+◌, ◌<◌, ◌≤◌, ◌≡◌, None, IfOk, OnErr};
+ghost use Rattle.dv_board.specs.Jobs.{IsMergeable};
 ghost use Rattle.dv_check.specs.Refusals.{AreOfOneText, refusal_of};
 ghost use Rattle.dv_core.specs.declared.step.Ended.TheVariants as ended;
 ghost use Rattle.dv_planned.specs.Texts.{AreComponentsOf, AreLinksOf, text_job};
-ghost use Rattle.dv_run.specs.Runs.{IsRunOf};
+ghost use Rattle.dv_run.specs.Runs.{IsCutShort, IsRunOf};
+ghost use Rattle.dv_serial.specs.Clocks.{least_time};
 ghost use Rattle.dv_serial.specs.Runs.{HasRun};
 ghost use Rattle.dv_sound.specs.Jobs.{AllInputNumbers};
+ghost use Rattle.dv_stream.specs.Written.{IsBegun, IsWrittenTo};
 ghost use Rattle.dv_syntax.specs.Trees.{file_of};
+ghost use Rattle.dv_time.specs.Time.{end_of};
 
 use crate::plan::plan_of;
+use crate::ran::{Ran, ran_of};
 use dv_bag::Bags;
 use dv_coded::{Bench, Components, components_of};
-use dv_devs::laws::parts::cuts_are_earlier_parts;
+use dv_devs::laws::parts::parts_are_of_the_trace;
 use dv_flat::LinkLists;
 use dv_gen::laws::texts_are_compilable;
+use dv_plain::laws::networks_of_texts;
 use dv_planned::TextJob;
-use dv_serial::{Committed, Ran, run_plan, trace_of};
-use dv_sound::parts::processes_commit_the_run_of_the_text;
-use std::alloc::{AllocError, Global};
+use dv_sound::jobs::parts_of_the_flat_model_are_those_of_the_text;
+use dv_sound::outside::what_leaves_a_flat_model_is_linear;
+use dv_stream::{Streamed, stream_plan};
+use dv_text::laws::a_trace_is_its_instants;
+use dv_text::{TraceWriter, WriteError};
+use std::alloc::Global;
+use std::io::Write;
 
 /// Runs the compiled model of a text by its programs and its links, with inputs, in processes that exchange packets, in so
-/// many rounds at most, to a horizon in ticks. A link holds so many packets at most. What ran is the trace before the least
-/// clock; where memory is refused to a turn or to a packet, it is what was known then.
+/// many rounds at most, to a horizon in ticks, and writes the lines of the trace before the least clock while it runs. A link
+/// holds so many packets at most. Where memory is refused to a turn or to a packet, that is what was known then.
 ///
 /// # Errors
 ///
-/// No memory for the programs and the tables of the processes, or for the trace.
-pub fn compiled_run(
+/// A write failed, or there is no memory for the programs and the tables of the processes, or for a piece of the trace. The
+/// writer holds a beginning of the lines.
+pub fn compiled_run<W: Write>(
     alloc: Global,
     job: &TextJob<'_, '_>,
     links: &LinkLists,
     rounds: u64,
     capacity: usize,
-) -> Result<Ran, AllocError>
+    writer: &mut W,
+) -> Result<Ran, WriteError>
     requires text { AreOfOneText job.now.tree.now.names (file_of job.now.tree.now.file) }
     requires accepted { refusal_of (file_of job.now.tree.now.file) ≡ None }
     requires numbers { AllInputNumbers job.now.inputs.now }
     requires links { AreLinksOf (file_of job.now.tree.now.file) links.now }
-    ensures { IfOk result (IsRunOf (file_of job.now.tree.now.file) job.now.inputs.now
-        job.now.groups.now job.now.horizon job.now.limit capacity rounds) }
+    ensures run { IfOk result (IsRunOf job.now.tree.now.names (file_of job.now.tree.now.file)
+        job.now.inputs.now job.now.groups.now job.now.horizon job.now.limit capacity rounds
+        (W.contents writer.old) (W.contents writer.new)) }
+    ensures err { OnErr result (IsCutShort job.now.tree.now.names
+        (file_of job.now.tree.now.file) job.now.inputs.now job.now.horizon job.now.limit
+        (W.contents writer.old) (W.contents writer.new)) }
 {
     // The atomic models of an accepted text have programs.
     texts_are_compilable();
-    // Parts before one clock, of all processes, are the trace before it.
-    processes_commit_the_run_of_the_text();
-    cuts_are_earlier_parts::<Bags>();
+    // The flat model of a text has its trace, whose lines are those of its instants.
+    parts_of_the_flat_model_are_those_of_the_text();
+    parts_are_of_the_trace::<Bags>();
+    networks_of_texts();
+    a_trace_is_its_instants::<Bags>();
+    // What its processes commit can be merged.
+    what_leaves_a_flat_model_is_linear();
     // Each component is in a process.
     let _processes = job.groups.processes();
     let mut bench = Bench::new(alloc);
     let components = components_of(&mut bench, job.tree, job.limit)?;
-    let committed = run_components(alloc, job, components, links, &mut bench, rounds, capacity)?;
-    Ok(trace_of(alloc, committed)?)
+    let streamed = run_components(
+        alloc, job, components, links, &mut bench, rounds, capacity, writer,
+    )?;
+    Ok(ran_of(streamed))
 }
 
-// What the processes of a text commit in rounds.
-fn run_components(
+// What the processes of a text commit in rounds, written meanwhile.
+fn run_components<W: Write>(
     alloc: Global,
     job: &TextJob<'_, '_>,
     components: Components,
@@ -64,18 +85,25 @@ fn run_components(
     bench: &mut Bench,
     rounds: u64,
     capacity: usize,
-) -> Result<Committed, AllocError>
+    writer: &mut W,
+) -> Result<Streamed, WriteError>
     requires text { AreOfOneText job.now.tree.now.names (file_of job.now.tree.now.file) }
     requires accepted { refusal_of (file_of job.now.tree.now.file) ≡ None }
     requires numbers { AllInputNumbers job.now.inputs.now }
     requires components { AreComponentsOf (file_of job.now.tree.now.file) job.now.limit
         components.models.items components.members.items components.responses.items }
     requires links { AreLinksOf (file_of job.now.tree.now.file) links.now }
+    requires merges { IsMergeable (text_job job.now) }
     ensures some { IfOk result (λ _. 0 < (text_job job.now).processes) }
-    ensures run { IfOk result (HasRun (text_job job.now) capacity rounds) }
-    ensures enough { IfOk result (λ c. 0 < capacity
+    ensures run { IfOk result (λ s. HasRun (text_job job.now) capacity rounds s.committed) }
+    ensures enough { IfOk result (λ s. 0 < capacity
         → end_of (text_job job.now).limit (text_job job.now).horizon + 1 ≤ rounds
-        → c.ended ≢ ended.Stalled) }
+        → s.committed.ended ≢ ended.Stalled) }
+    ensures written { IfOk result (λ s. IsWrittenTo (text_job job.now) job.now.tree.now
+        (W.contents writer.old) (W.contents writer.new) s.written) }
+    ensures least { IfOk result (λ s. s.written.mark ≡ least_time s.committed.clocks.items) }
+    ensures err { OnErr result (IsBegun (text_job job.now) job.now.tree.now
+        (W.contents writer.old) (W.contents writer.new)) }
 {
     let Components {
         models,
@@ -83,5 +111,8 @@ fn run_components(
         responses,
     } = components;
     let plan = plan_of(alloc, job, &models, members, responses, links)?;
-    run_plan(alloc, *job, plan, bench, rounds, capacity)
+    let mut lines = TraceWriter::new(alloc, job.tree);
+    stream_plan(
+        alloc, *job, plan, bench, rounds, capacity, &mut lines, writer,
+    )
 }

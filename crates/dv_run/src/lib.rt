@@ -7,11 +7,14 @@ pub mod compiled;
 mod numbers;
 /// A plan of a text that can be run.
 mod plan;
+/// What ran of a text.
+pub mod ran;
 /// The compiled model of a text, run by a list of steps.
 pub mod steps;
 /// The compiled model of a text, run by workers on threads.
 pub mod workers;
 
 pub use compiled::compiled_run;
+pub use ran::Ran;
 pub use steps::compiled_steps;
 pub use workers::compiled_workers;

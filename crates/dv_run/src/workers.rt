@@ -1,71 +1,93 @@
 //! The compiled model of a text, run by workers on threads.
 
-ghost use Rattle.std.specs.Prelude.{◌≢◌, ◌<◌, ◌≡◌, None, IfOk, length};
+ghost use Rattle.std.specs.Prelude.{◌≢◌, ◌<◌, ◌≡◌, ℕ, None, Some, IfOk, OnErr, length, slice_get};
+ghost use Rattle.dv_board.specs.Jobs.{IsMergeable};
 ghost use Rattle.dv_check.specs.Refusals.{AreOfOneText, refusal_of};
 ghost use Rattle.dv_coded.specs.Lent.{behaviour_of_lent, lent_takes};
+ghost use Rattle.dv_core.specs.Worlds.{end_time};
 ghost use Rattle.dv_core.specs.declared.step.Ended.TheVariants as ended;
+ghost use Rattle.dv_devs.specs.Clocks.{least_rank};
 ghost use Rattle.dv_planned.specs.Texts.{AreComponentsOf, AreLinksOf, text_job};
-ghost use Rattle.dv_run.specs.Runs.{AreAtEnd, IsTraceOf};
+ghost use Rattle.dv_run.specs.Runs.{IsCutShort, IsPrinted};
 ghost use Rattle.dv_serial.specs.Beginning.{CanRun};
 ghost use Rattle.dv_sound.specs.Jobs.{AllInputNumbers};
+ghost use Rattle.dv_stream.specs.Written.{IsBegun, IsWrittenTo};
 ghost use Rattle.dv_syntax.specs.Trees.{file_of};
-ghost use Rattle.dv_work.specs.Reached.{AreReached};
-ghost use Rattle.dv_work.specs.declared.report.Ended.TheVariants as worked;
+ghost use Rattle.dv_time.specs.Time.{rank};
+ghost use Rattle.dv_time.specs.declared.time.Time.{Time as MeantTime};
+ghost use Rattle.dv_work.specs.declared.report.Ended.TheVariants as reported;
 
 use crate::plan::plan_of;
+use crate::ran::Ran;
 use dv_bag::Bags;
 use dv_coded::{Bench, Components, Lent, components_of};
 use dv_core::Ended;
-use dv_devs::laws::parts::cuts_are_earlier_parts;
+use dv_devs::laws::parts::parts_are_of_the_trace;
 use dv_flat::LinkLists;
 use dv_gen::laws::texts_are_compilable;
+use dv_plain::laws::networks_of_texts;
 use dv_plan::Plan;
 use dv_planned::TextJob;
 use dv_serial::processes::begin_each;
-use dv_serial::{Committed, Ran, trace_of};
-use dv_sound::parts::processes_commit_the_run_of_the_text;
-use dv_work::{Open, Report, run_workers};
+use dv_sound::jobs::parts_of_the_flat_model_are_those_of_the_text;
+use dv_sound::outside::what_leaves_a_flat_model_is_linear;
+use dv_stream::{Crew, Worked, stream_workers};
+use dv_text::WriteError;
+use dv_text::laws::a_trace_is_its_instants;
+use dv_work::Open;
 use std::alloc::{AllocError, Global};
+use std::io::Write;
 use std::sync::Wait;
 use std::thread::Threads;
 
 /// Runs the compiled model of a text by its programs and its links, with inputs, in processes on so many threads, to a horizon in
-/// ticks. Process p is run by worker p mod `workers`. A link holds so many packets at most. What ran is the trace before the
-/// least clock, whatever the timing of the threads; where memory is refused to a worker, or a thread, it is what was known then.
+/// ticks, and writes the lines of the trace before the least clock while it runs, whatever the timing of the threads. Process p is
+/// run by worker p mod `workers`. A link holds so many packets at most. Where memory is refused to a worker, or a thread, that is
+/// what was known then.
 ///
 /// # Errors
 ///
-/// No memory for the programs, the tables of the processes and the links, or for the trace.
-pub fn compiled_workers<R: Threads + Wait + Sync>(
+/// A write failed, or there is no memory for the programs, the tables of the processes and the links, or for a piece of the trace.
+/// All threads have ended, and the writer holds a beginning of the lines.
+pub fn compiled_workers<R: Threads + Wait + Sync, W: Write>(
     rt: &R,
     alloc: Global,
     job: &TextJob<'_, '_>,
     links: &LinkLists,
     workers: usize,
     capacity: usize,
-) -> Result<Ran, AllocError>
+    writer: &mut W,
+) -> Result<Ran, WriteError>
     requires text { AreOfOneText job.now.tree.now.names (file_of job.now.tree.now.file) }
     requires accepted { refusal_of (file_of job.now.tree.now.file) ≡ None }
     requires numbers { AllInputNumbers job.now.inputs.now }
     requires links { AreLinksOf (file_of job.now.tree.now.file) links.now }
     requires workers { 0 < workers }
     requires capacity { 0 < capacity }
-    ensures trace { IfOk result (IsTraceOf (file_of job.now.tree.now.file) job.now.inputs.now
-        job.now.horizon job.now.limit) }
+    ensures printed { IfOk result (IsPrinted job.now.tree.now.names
+        (file_of job.now.tree.now.file) job.now.inputs.now job.now.horizon job.now.limit
+        (W.contents writer.old) (W.contents writer.new)) }
     ensures ended { IfOk result (λ ran. ran.ended ≢ ended.Stalled) }
+    ensures err { OnErr result (IsCutShort job.now.tree.now.names
+        (file_of job.now.tree.now.file) job.now.inputs.now job.now.horizon job.now.limit
+        (W.contents writer.old) (W.contents writer.new)) }
 {
     // The atomic models of an accepted text have programs.
     texts_are_compilable();
-    // Parts before one clock, of all processes, are the trace before it.
-    processes_commit_the_run_of_the_text();
-    cuts_are_earlier_parts::<Bags>();
+    // The flat model of a text has its trace, whose lines are those of its instants.
+    parts_of_the_flat_model_are_those_of_the_text();
+    parts_are_of_the_trace::<Bags>();
+    networks_of_texts();
+    a_trace_is_its_instants::<Bags>();
+    // What its processes commit can be merged.
+    what_leaves_a_flat_model_is_linear();
     // Each component is in a process.
     let _processes = job.groups.processes();
     let mut bench = Bench::new(alloc);
     let components = components_of(&mut bench, job.tree, job.limit)?;
     let benches = benches_of(alloc, workers)?;
-    let committed = work_components(rt, alloc, job, components, links, benches, capacity)?;
-    Ok(trace_of(alloc, committed)?)
+    let worked = work_components(rt, alloc, job, components, links, benches, capacity, writer)?;
+    Ok(ran_by_workers(worked))
 }
 
 // A bench for each worker.
@@ -79,8 +101,8 @@ fn benches_of(alloc: Global, workers: usize) -> Result<Vec<Bench>, AllocError>
     Ok(benches)
 }
 
-// What the processes of a text commit on threads.
-fn work_components<R: Threads + Wait + Sync>(
+// What the processes of a text commit on threads, written meanwhile.
+fn work_components<R: Threads + Wait + Sync, W: Write>(
     rt: &R,
     alloc: Global,
     job: &TextJob<'_, '_>,
@@ -88,19 +110,27 @@ fn work_components<R: Threads + Wait + Sync>(
     links: &LinkLists,
     benches: Vec<Bench>,
     capacity: usize,
-) -> Result<Committed, AllocError>
+    writer: &mut W,
+) -> Result<Worked<()>, WriteError>
     requires text { AreOfOneText job.now.tree.now.names (file_of job.now.tree.now.file) }
     requires accepted { refusal_of (file_of job.now.tree.now.file) ≡ None }
     requires numbers { AllInputNumbers job.now.inputs.now }
     requires components { AreComponentsOf (file_of job.now.tree.now.file) job.now.limit
         components.models.items components.members.items components.responses.items }
     requires links { AreLinksOf (file_of job.now.tree.now.file) links.now }
+    requires merges { IsMergeable (text_job job.now) }
     requires workers { 0 < length benches.items }
     requires capacity { 0 < capacity }
-    ensures some { IfOk result (λ _. 0 < (text_job job.now).processes) }
-    ensures reached { IfOk result (λ c. AreReached (text_job job.now) c.parts.items c.clocks.items) }
-    ensures at_end { IfOk result (AreAtEnd (text_job job.now)) }
-    ensures ended { IfOk result (λ c. c.ended ≢ ended.Stalled) }
+    ensures written { IfOk result (λ w. IsWrittenTo (text_job job.now) job.now.tree.now
+        (W.contents writer.old) (W.contents writer.new) w.written) }
+    ensures some_clocks { IfOk result (λ w. 0 < length w.clocks.items) }
+    ensures least { IfOk result (λ w. rank job.now.limit w.written.mark
+        ≡ least_rank job.now.limit w.clocks.items) }
+    ensures whole { IfOk result (λ w. w.ended ≡ reported.Whole
+        → (p : ℕ) (t : MeantTime) → slice_get w.clocks.items p ≡ Some t
+        → t ≡ end_time (text_job job.now)) }
+    ensures err { OnErr result (IsBegun (text_job job.now) job.now.tree.now
+        (W.contents writer.old) (W.contents writer.new)) }
 {
     let Components {
         models,
@@ -108,52 +138,67 @@ fn work_components<R: Threads + Wait + Sync>(
         responses,
     } = components;
     let plan = plan_of(alloc, job, &models, members, responses, links)?;
-    work_plan(rt, alloc, job, plan, benches, capacity)
+    work_plan(rt, alloc, job, plan, benches, capacity, writer)
 }
 
-// What the processes of a plan commit on threads.
-fn work_plan<R: Threads + Wait + Sync>(
+// What the processes of a plan commit on threads, written meanwhile.
+fn work_plan<R: Threads + Wait + Sync, W: Write>(
     rt: &R,
     alloc: Global,
     job: &TextJob<'_, '_>,
     plan: Plan<Lent<'_>>,
     benches: Vec<Bench>,
     capacity: usize,
-) -> Result<Committed, AllocError>
+    writer: &mut W,
+) -> Result<Worked<()>, WriteError>
     requires run { CanRun text_job behaviour_of_lent lent_takes job.now plan }
+    requires merges { IsMergeable (text_job job.now) }
+    requires some { 0 < (text_job job.now).processes }
     requires workers { 0 < length benches.items }
     requires capacity { 0 < capacity }
-    ensures reached { IfOk result (λ c. AreReached (text_job job.now) c.parts.items c.clocks.items) }
-    ensures at_end { IfOk result (AreAtEnd (text_job job.now)) }
-    ensures ended { IfOk result (λ c. c.ended ≢ ended.Stalled) }
+    ensures written { IfOk result (λ w. IsWrittenTo (text_job job.now) job.now.tree.now
+        (W.contents writer.old) (W.contents writer.new) w.written) }
+    ensures some_clocks { IfOk result (λ w. 0 < length w.clocks.items) }
+    ensures least { IfOk result (λ w. rank job.now.limit w.written.mark
+        ≡ least_rank job.now.limit w.clocks.items) }
+    ensures whole { IfOk result (λ w. w.ended ≡ reported.Whole
+        → (p : ℕ) (t : MeantTime) → slice_get w.clocks.items p ≡ Some t
+        → t ≡ end_time (text_job job.now)) }
+    ensures err { OnErr result (IsBegun (text_job job.now) job.now.tree.now
+        (W.contents writer.old) (W.contents writer.new)) }
 {
     let Plan { links, shares } = plan;
     let processes = begin_each(alloc, shares)?;
-    let report = run_workers(rt, alloc, job, &links, processes, benches, capacity, &Open)?;
-    Ok(committed_of(report))
+    let crew = Crew {
+        processes,
+        works: benches,
+    };
+    stream_workers(
+        rt, alloc, job, &links, crew, capacity, &Open, job.tree, writer,
+    )
 }
 
-// What was reached without a gate. It is whole exactly where the report is.
-fn committed_of(report: Report<()>) -> Committed
-    ensures parts { result.parts ≡ report.parts }
-    ensures clocks { result.clocks ≡ report.clocks }
-    ensures whole { result.ended ≡ ended.Whole → report.ended ≡ worked.Whole }
+// What is known of a run without a gate once its lines are printed. It is whole only where the run is.
+fn ran_by_workers(worked: Worked<()>) -> Ran
+    ensures clocks { result.clocks ≡ worked.clocks }
+    ensures whole { result.ended ≡ ended.Whole → worked.ended ≡ reported.Whole }
     ensures ended { result.ended ≢ ended.Stalled }
+    ensures faults { result.faulted ≡ worked.written.faulted }
 {
-    let Report {
-        parts,
+    let Worked {
         clocks,
         ended,
-    } = report;
+        written,
+    } = worked;
     let ended = match ended {
         dv_work::Ended::Whole => Ended::Whole,
         dv_work::Ended::Stopped(_) | dv_work::Ended::Cancelled | dv_work::Ended::Memory => {
             Ended::Memory
         }
     };
-    Committed {
-        parts,
+    Ran {
         clocks,
         ended,
+        faulted: written.faulted,
     }
 }

@@ -1,12 +1,9 @@
-//! The least clock of processes, and what they committed before it.
+//! The least clock of processes.
 
-ghost use Rattle.std.specs.Prelude.{◌≡◌, ◌<◌, IfOk, length, map};
-ghost use Rattle.dv_bag.specs.Part.{before};
+ghost use Rattle.std.specs.Prelude.{◌≡◌, ◌<◌, length};
 ghost use Rattle.dv_serial.specs.Clocks.{least_time};
 
-use dv_bag::Part;
 use dv_time::Time;
-use std::alloc::{AllocError, Global};
 
 /// The least of some clocks.
 pub fn least_clock(clocks: &[Time]) -> Time
@@ -20,19 +17,4 @@ pub fn least_clock(clocks: &[Time]) -> Time
         }
     }
     least
-}
-
-/// What each process committed before a time.
-///
-/// # Errors
-///
-/// No memory for the list.
-pub fn cut_at(alloc: Global, parts: Vec<Part>, time: Time) -> Result<Vec<Part>, AllocError>
-    ensures { IfOk result (λ cut. cut.items ≡ map (before time) parts.items) }
-{
-    let mut cut = Vec::with_capacity(alloc, parts.len())?;
-    for part in parts {
-        cut.push(part.before(time))?;
-    }
-    Ok(cut)
 }

@@ -1,6 +1,6 @@
 //! What ran.
 
-use dv_bag::{Part, Trace};
+use dv_bag::Part;
 use dv_core::{Ended, Reply};
 use dv_time::Time;
 
@@ -18,12 +18,4 @@ pub struct Stepped {
     pub parts: Vec<Part>,
     pub clocks: Vec<Time>,
     pub replies: Vec<Reply>,
-}
-
-/// What ran of a model: its trace before the least of the clocks of its processes, and how their rounds ended.
-#[derive(Drop)]
-pub struct Ran {
-    pub trace: Trace,
-    pub clocks: Vec<Time>,
-    pub ended: Ended,
 }

@@ -63,26 +63,6 @@ module _ (job : Job) (parts : List PartOf) (times : List Time) (reached : AreRea
         let high = (reached.within 0 first.0 first.1).1 in
         omega (arith, low, high)
 
-    -- what each committed before the least clock is its part of the trace before it
-    pub parts_to_least : IsMergeable job → ArePartsOf job.owner (trace_of_job job (rank job.limit least)) (map (before least) parts)
-    parts_to_least merges =
-        subst (ArePartsOf job.owner (trace_of_job job (rank job.limit least))) (sym all)
-        (parts_of_trace job (rank job.limit least) merges)
-      where
-        all : map (before least) parts ≡ parts_before job (rank job.limit least)
-        all =
-            same_places (map (before least) parts) (parts_before job (rank job.limit least))
-            (length-map parts (before least) ∙ (reached.long ∙ sym (many_parts job (rank job.limit least))))
-            (λ k x y at also.
-            let one = get_map (before least) parts k x at in
-            let t = clock_at k one.0 one.1 in
-            sym one.2
-            ∙ (ap (before least) (reached.parts k one.0 t.0 one.1 t.1)
-            ∙ (ap (λ (u : Time). before u (part_of_process job (rank job.limit t.0) k)) (sym (time_of-rank job.limit least least_of_run))
-            ∙ (part_cut job.limit (whole job.flat) job.outside (owned job k) (rank job.limit least) (rank job.limit t.0)
-            (least_no_later k t.0 t.1)
-            ∙ sym (part_at_place job (rank job.limit least) k y also)))))
-
     module _ (from : Time) (of_run : IsOfRun job.limit from)
         (known : (p : ℕ) (t : Time) → slice_get times p ≡ Some t → IsNoLater job from t) where
       pub in_order : IsNoLater job from least
@@ -139,16 +119,14 @@ module _ (job : Job) (parts : List PartOf) (times : List Time) (reached : AreRea
   mark_within =
       subst (λ (t : Time). rank job.limit t ≤ end_of job.limit job.horizon) (sym is) (least_within job parts times reached some)
 
-  -- merged, the pieces up to there are the trace
-  pub piece_is_trace : IsMergeable job → (pieces : List PartOf) → pieces ≡ map (λ (x : PartOf). since from (before mark x)) parts
-      → (piece : PartOf) → ((owner : ℕ → ℕ) (whole : PartOf) → ArePartsOf owner whole pieces → piece ≡ whole)
-      → piece ≡ trace job from mark
-  piece_is_trace merges pieces are piece merged =
-      merged job.owner (trace job from mark)
-      (subst (λ (t : Time). ArePartsOf job.owner (trace job from t) pieces) (sym is)
+  -- the pieces up to there are those of the trace
+  pub pieces_are : IsMergeable job → (pieces : List PartOf) → pieces ≡ map (λ (x : PartOf). since from (before mark x)) parts
+      → ArePartsOf job.owner (trace job from mark) pieces
+  pieces_are merges pieces are =
+      subst (λ (t : Time). ArePartsOf job.owner (trace job from t) pieces) (sym is)
       (subst (ArePartsOf job.owner (trace job from (least_time times)))
       (sym (are ∙ ap (λ (t : Time). map (λ (x : PartOf). since from (before t x)) parts) is))
-      (pieces_of_trace job parts times reached some from of_run known merges)))
+      (pieces_of_trace job parts times reached some from of_run known merges))
 
 -- ---- Of processes
 

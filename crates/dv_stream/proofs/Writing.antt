@@ -1,15 +1,15 @@
 -- What was written, mark after mark.
-use Rattle.std.proofs.Common.{◌≡◌, ℕ, ◌≤◌, ◌||◌, Bool, false, List, ◌++◌, Option, Result, Ok, Err, IfOk, OnErr, sym, ap, subst, ◌∙◌, arith}
+use Rattle.std.proofs.Common.{◌≡◌, ℕ, ◌+◌, ◌-◌, ◌≤◌, ◌||◌, Bool, true, false, List, ◌++◌, Option, Result, Ok, Err, IfOk, OnErr, refl, sym, ap, subst, ◌∙◌, arith}
 use Rattle.std.specs.Prelude.{OnOk}
 use Rattle.std.specs.Io.KnownBytes.{Appends}
 use Rattle.std.proofs.lemmas.List.Folds.{list_any-append}
 use Rattle.dv_time.specs.Time.{IsOfRun, end_of, rank}
 use Rattle.dv_time.specs.declared.time.Time.{Time}
 use Rattle.dv_bag.specs.Bag.{Counts}
-use Rattle.dv_bag.specs.Part.{PartOf, joined}
+use Rattle.dv_bag.specs.Part.{PartOf, joined, nothing}
 use Rattle.dv_bag.specs.declared.entry.Entry.{Entry}
 use Rattle.dv_devs.specs.Cuts.{trace_between}
-use Rattle.dv_devs.specs.Network.{Network, trace_at, trace_before}
+use Rattle.dv_devs.specs.Network.{Network, all_before, trace_at, trace_before}
 use Rattle.dv_devs.proofs.Cuts.{join_between}
 use Rattle.dv_board.specs.Clocks.{IsNoLater}
 use Rattle.dv_board.specs.Jobs.{trace}
@@ -115,6 +115,29 @@ module _ (job : Job) (tree : Source) (old new : Option (List ℕ)) (v : Written)
     text = subst (λ (p : PartOf). AppendsBeginning old new (text_of tree p)) is text;
   }
 
+-- ---- Where nothing more is written
+
+or_false : (b : Bool) → b ≡ (b || false)
+or_false true = refl
+or_false false = refl
+
+pub stays : (job : Job) (tree : Source) (known : Option (List ℕ)) (v : Written) → IsOfRun job.limit v.mark → GoesOn job tree known known v v
+stays job tree known v of_run = record {
+  of_run = of_run;
+  order = omega arith;
+  text = subst (λ (p : PartOf). Appends known known (text_of tree p)) (sym none) (Appends-nothing known);
+  faults = or_false v.faulted ∙ ap (λ (p : PartOf). v.faulted || has_fault p) (sym none);
+}
+  where
+    n : ℕ
+    n = rank job.limit v.mark
+
+    gone : n - n ≡ 0
+    gone = omega arith
+
+    none : trace job v.mark v.mark ≡ nothing
+    none = ap (all_before (λ k. trace_at job.limit (whole job.flat) job.outside (n + k))) gone
+
 -- where nothing was written yet
 pub falters_at_once : (job : Job) (tree : Source) (known : Option (List ℕ)) (v : Written) (upto : Time) → IsNoLater job v.mark upto
     → rank job.limit upto ≤ end_of job.limit job.horizon → Falters job tree known known v
@@ -125,43 +148,19 @@ falters_at_once job tree known v upto order within = record {
   text = AppendsBeginning-nothing known (lines_between job tree v.mark upto);
 }
 
+-- before anything was written
+pub not_begun : (job : Job) (tree : Source) (known : Option (List ℕ)) → IsBegun job tree known known
+not_begun job tree known =
+    record { upto = 0; within = omega arith; text = AppendsBeginning-nothing known (lines_before job tree 0) }
+
 -- what was written to a mark is a beginning of the lines to the end
 pub begun_to : (job : Job) (tree : Source) (old new : Option (List ℕ)) (w : Written) → IsWrittenTo job tree old new w
     → rank job.limit w.mark ≤ end_of job.limit job.horizon → IsBegun job tree old new
 begun_to job tree old new w written within =
     record { upto = rank job.limit w.mark; within = within; text = AppendsBeginning-from (TakesFront-all written.text) }
 
--- ---- A whole part of the trace, before a rank
-
-abbrev pub AreLines : Type 0
-AreLines =
-    (all : List ComponentNames) (outputs : List (List ℕ)) (limit : ℕ) (net : Network (List Counts)) (inputs : ℕ → List Counts) (n : ℕ)
-    → part_text all outputs (trace_before limit net inputs n) ≡ instants_text all outputs limit net inputs n
-
-abbrev pub IfMark : Time → Result Written WriteError → Type 0
-IfMark t r = IfOk r (λ w. w.mark ≡ t)
-
-module _ (job : Job) (tree : Source) (old new : Option (List ℕ)) (lines : AreLines) where
-  abbrev trace_at_rank : ℕ → PartOf
-  trace_at_rank n = trace_before job.limit (whole job.flat) job.outside n
-
-  text_at_rank : (n : ℕ) → text_of tree (trace_at_rank n) ≡ lines_before job tree n
-  text_at_rank n = lines (tree_names tree) (tree_ports tree) job.limit (whole job.flat) job.outside n
-
-  pub written_lines : (mark : Time) → IsOfRun job.limit mark → (piece : PartOf) → piece ≡ trace_at_rank (rank job.limit mark)
-      → (r : Result Written WriteError) → OnOk r (Appends old new (text_of tree piece)) → IfMark mark r
-      → IfOk r (λ w. w.faulted ≡ (false || has_fault piece)) → IfOk r (IsWrittenTo job tree old new)
-  written_lines mark of_run piece is (Ok w) text at faults = record {
-    of_run = subst (IsOfRun job.limit) (sym at) of_run;
-    text =
-        subst (λ (t : Time). Appends old new (lines_before job tree (rank job.limit t))) (sym at)
-        (subst (Appends old new) (ap (text_of tree) is ∙ text_at_rank (rank job.limit mark)) text);
-    faults = faults ∙ ap has_fault is ∙ ap (λ (t : Time). has_fault (trace_at_rank (rank job.limit t))) (sym at);
-  }
-  written_lines mark of_run piece is (Err e) text at faults = tt
-
-  pub begun_of_lines : (n : ℕ) → n ≤ end_of job.limit job.horizon → (piece : PartOf) → piece ≡ trace_at_rank n
-      → (r : Result Written WriteError) → OnErr r (AppendsBeginning old new (text_of tree piece)) → OnErr r (IsBegun job tree old new)
-  begun_of_lines n within piece is (Ok w) text = tt
-  begun_of_lines n within piece is (Err e) text =
-      record { upto = n; within = within; text = AppendsBeginning-text (ap (text_of tree) is ∙ text_at_rank n) text }
+-- the mark of what was written is a time of the run
+pub of_run_of : (job : Job) (tree : Source) (old new : Option (List ℕ)) (r : Result Written WriteError) → IfOk r (IsWrittenTo job tree old new)
+    → IfOk r (λ w. IsOfRun job.limit w.mark)
+of_run_of job tree old new (Ok w) written = written.of_run
+of_run_of job tree old new (Err e) written = tt

@@ -3,3 +3,5 @@
 pub mod Faults
 -- What was written of the trace of a job.
 pub mod Written
+-- Workers, for whom a job is a type.
+pub mod Workers

@@ -14,11 +14,11 @@ ghost use Rattle.dv_time.specs.Time.{IsOfRun};
 ghost use Rattle.dv_time.specs.declared.time.Time.{Time as MeantTime};
 ghost use Rattle.dv_work.specs.Reached.{AreReached};
 
+use crate::merged::write_merged;
 use crate::pieces::{clocks_of, pieces_of};
-use crate::written::{Written, write_piece};
+use crate::written::Written;
 use dv_bag::Bags;
 use dv_core::{Ended, LogicalProcess, PlannedJob, World};
-use dv_merge::merge;
 use dv_plan::Plan;
 use dv_react::Atomic;
 use dv_serial::Committed;
@@ -65,14 +65,10 @@ fn write_more<J: PlannedJob, P: LogicalProcess, W: Write>(
     ensures err { OnErr result (Falters (J.means job.now) lines.old
         (W.contents writer.old) (W.contents writer.new) before) }
 {
-    let _ = job;
-    // A piece of the trace stands by time.
-    a_trace_is_its_pieces::<Bags>();
     let clocks = clocks_of(alloc, processes)?;
     let mark = least_clock(&clocks);
     let pieces = pieces_of(alloc, processes, before.mark, mark)?;
-    let piece = merge(alloc, pieces)?;
-    write_piece(before, &piece, mark, lines, writer)
+    write_merged(alloc, job, pieces, before, mark, lines, writer)
 }
 
 // So many rounds, and then what is new of the trace is written.

@@ -1,5 +1,5 @@
 use Rattle.std.proofs.lemmas.Result.{err_from_is_err_and}
-use Rattle.dv_job.proofs.Ran.{if_it_was_left, if_workers_ended, left_by_last, left_by_partition, planned_tree, ran_by_time}
+use Rattle.dv_job.proofs.Ran.{if_it_was_left, if_workers_ended, left_by_cut, left_by_last, left_by_partition, planned_tree}
 use Rattle.dv_job.proofs.workers.work_tree.Goals as goal
 
 pub returns-in_err-groups-clause-error : goal.returns-in_err-groups-clause-error
@@ -15,25 +15,28 @@ returns-in_err-played-clause-error g c =
     (left_by_last c.in_err-played.field-0.0 _ _ _ _ _ c.args.tree.now c.in_ok-groups.groups c.requires.accepted
     c.in_ok-groups.ensures c.in_err-played.ensures.refused)
 
+pub returns-in_err-ran-clause-error : goal.returns-in_err-ran-clause-error
+returns-in_err-ran-clause-error g c =
+    let p = err_from_is_err_and c.from_residual-in_err-ran.result c.from_residual-in_err-ran.ensures.1 in
+    rw (p.1, p.2)
+    (left_by_cut _ _ _ _ _ _ _ _
+    (planned_tree _ _ _ c.args.tree.now _ _ c.requires.accepted c.in_ok-groups.ensures c.in_ok-played.ensures.inputs)
+    c.in_err-ran.field-0.0 c.a_trace_is_its_pieces.ensures.lines c.in_err-ran.ensures.err)
+
 pub returns-clause-ended : goal.returns-clause-ended
 returns-clause-ended g c =
-    if_workers_ended _ _ _ _ _ c.in_ok-ran.ran _ _ _ _ _
+    if_workers_ended _ _ _ _ c.args.options.now _ _ _
     (planned_tree _ _ _ c.args.tree.now _ _ c.requires.accepted c.in_ok-groups.ensures c.in_ok-played.ensures.inputs)
-    c.in_ok-ran.ensures.trace c.in_ok-ran.ensures.ended
-    c.write_ran.result c.a_trace_is_its_instants.ensures.whole c.a_trace_is_its_instants.ensures.lines
-    c.write_ran.ensures.ending c.write_ran.ensures.text
+    c.in_ok-ran.ran (g.W.Write.contents c.args.writer.now) (g.W.Write.contents c.compiled_workers.new.writer)
+    (g.W.Write.contents c.write_end.new.writer) c.in_ok-ran.ensures.printed c.in_ok-ran.ensures.ended
+    c.write_end.result c.write_end.ensures.ending c.write_end.ensures.text
 
 pub returns-clause-error : goal.returns-clause-error
 returns-clause-error g c =
-    if_it_was_left _ _ _ _ _ c.in_ok-ran.ran c.in_ok-ran.ensures.trace _ _ _ _ _
+    if_it_was_left _ _ _ _ c.args.options.now _ _ _
     (planned_tree _ _ _ c.args.tree.now _ _ c.requires.accepted c.in_ok-groups.ensures c.in_ok-played.ensures.inputs)
-    c.write_ran.result c.a_trace_is_its_instants.ensures.whole c.a_trace_is_its_instants.ensures.lines
-    c.write_ran.ensures.error
-
-pub write_ran-requires : goal.write_ran-requires
-write_ran-requires g c = record {
-  by_time = ran_by_time _ _ _ _ c.in_ok-ran.ran c.parts_are_by_time.ensures.trace c.in_ok-ran.ensures.trace;
-}
+    c.in_ok-ran.ran (g.W.Write.contents c.args.writer.now) (g.W.Write.contents c.compiled_workers.new.writer)
+    (g.W.Write.contents c.write_end.new.writer) c.in_ok-ran.ensures.printed c.write_end.result c.write_end.ensures.error
 
 pub compiled_workers-requires-clause-links : goal.compiled_workers-requires-clause-links
 compiled_workers-requires-clause-links g c κs _ = record {

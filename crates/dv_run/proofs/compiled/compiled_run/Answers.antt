@@ -1,19 +1,25 @@
-use Rattle.std.proofs.Common.{ℕ, ◌<◌, subst}
+use Rattle.std.proofs.Common.{◌≡◌, ℕ, ◌<◌, length, sym, ap, subst, ◌∙◌}
 use Rattle.dv_devs.specs.Clocks.{least_rank}
+use Rattle.dv_time.specs.Time.{rank}
 use Rattle.dv_partition.specs.Groups.{owner_of}
-use Rattle.dv_plain.specs.Source.{network_of, outside}
 use Rattle.dv_syntax.specs.Trees.{file_of}
-use Rattle.dv_run.proofs.Traces.{are_committed, is_run, is_traced, ran_at_end, ran_reached, some_clocks}
+use Rattle.dv_core.specs.declared.step.Ended.{Ended}
+use Rattle.dv_planned.specs.Texts.{text_job}
+use Rattle.dv_text.proofs.Taking.{OnErr-always}
+use Rattle.dv_serial.proofs.LeastClock.{least_time_rank}
+use Rattle.dv_run.specs.Runs.{AreAtEnd}
+use Rattle.dv_run.proofs.Merging.{Leaves, merges}
+use Rattle.dv_run.proofs.Traces.{Laws, is_cut_short, is_printed, is_run, nothing_printed, ran_at_end, ran_of_run, some_clocks}
 use Rattle.dv_run.proofs.compiled.compiled_run.Goals as goal
 
 pub components_of-requires : goal.components_of-requires
-components_of-requires c = record {
+components_of-requires g c = record {
   compilable =
       c.texts_are_compilable.ensures c.args.job.now.tree.now.names (file_of c.args.job.now.tree.now.file) c.requires.text c.requires.accepted;
 }
 
 pub run_components-requires-clause-components : goal.run_components-requires-clause-components
-run_components-requires-clause-components c = record {
+run_components-requires-clause-components g c = record {
   members = c.in_ok-components.ensures.members;
   rise = c.in_ok-components.ensures.rise;
   among = c.in_ok-components.ensures.among;
@@ -21,34 +27,69 @@ run_components-requires-clause-components c = record {
   short = c.in_ok-components.ensures.short;
 }
 
-pub trace_of-requires : goal.trace_of-requires
-trace_of-requires c =
+pub run_components-requires-clause-merges : goal.run_components-requires-clause-merges
+run_components-requires-clause-merges g c =
     let j = c.args.job.now in
-    let ran = c.in_ok-committed.ensures.run in
-    let committed = c.in_ok-committed.committed in
-    some_clocks j.tree.now.names j c.requires.text c.requires.accepted committed
-    (ran_reached j c.args.capacity c.args.rounds committed ran) (ran_at_end j c.args.capacity c.args.rounds committed ran)
-    c.in_ok-committed.ensures.some
-
-pub returns : goal.returns
-returns c =
-    let j = c.args.job.now in
-    let names = j.tree.now.names in
-    let ran = c.in_ok-committed.ensures.run in
-    let committed = c.in_ok-committed.committed in
-    let reached = ran_reached j c.args.capacity c.args.rounds committed ran in
-    let at_end = ran_at_end j c.args.capacity c.args.rounds committed ran in
-    let some = some_clocks names j c.requires.text c.requires.accepted committed reached at_end c.in_ok-committed.ensures.some in
-    let least = least_rank j.limit committed.clocks.items in
-    let traced = c.in_ok-trace_of.ensures in
+    let f = file_of j.tree.now.file in
+    let leaves : Leaves f j.limit = record {
+      ready = c.what_leaves_a_flat_model_is_linear.ensures.ready j.limit f;
+      rise = c.what_leaves_a_flat_model_is_linear.ensures.numbers j.limit f;
+      outputs = c.what_leaves_a_flat_model_is_linear.ensures.outputs j.limit f;
+      linear = c.what_leaves_a_flat_model_is_linear.ensures.linear j.limit f;
+      bags = λ names inputs n. c.what_leaves_a_flat_model_is_linear.ensures.bags names f inputs j.limit n;
+    } in
     let owned : (k : ℕ) → owner_of j.groups.now k < j.groups.now.processes =
     λ k. subst (λ (n : ℕ). owner_of j.groups.now k < n) c.processes-processes.ensures.exact (c.processes-processes.ensures.owned k) in
-    let are =
-    are_committed names j c.requires.text c.requires.accepted committed reached at_end c.cuts_are_earlier_parts.ensures.part
-    c.processes_commit_the_run_of_the_text.ensures owned some in
-    is_run j c.args.capacity c.args.rounds committed ran c.in_ok-trace_of.field-0 traced.clocks traced.ended
-    (is_traced names j c.requires.text c.requires.accepted committed reached at_end c.in_ok-trace_of.field-0 some
-    traced.clocks traced.ended
-    (traced.trace j.limit (network_of j.limit (file_of j.tree.now.file)) (outside (file_of j.tree.now.file) j.limit j.inputs.now)
-    (owner_of j.groups.now) least are))
-    c.in_ok-committed.ensures.enough
+    merges j c.requires.text c.requires.accepted leaves owned
+
+pub returns-in_err-components-clause-err : goal.returns-in_err-components-clause-err
+returns-in_err-components-clause-err g c =
+    let j = c.args.job.now in
+    OnErr-always _ (nothing_printed j.tree.now.names (file_of j.tree.now.file) j.inputs.now j.horizon j.limit
+    (g.W.Write.contents c.args.writer.now))
+
+pub returns-in_err-streamed-clause-err : goal.returns-in_err-streamed-clause-err
+returns-in_err-streamed-clause-err g c =
+    let j = c.args.job.now in
+    let f = file_of j.tree.now.file in
+    let laws : Laws f j.limit = record {
+      parts = c.parts_of_the_flat_model_are_those_of_the_text.ensures.part;
+      all = c.parts_are_of_the_trace.ensures.all;
+      lines = c.a_trace_is_its_instants.ensures.lines;
+      flat = c.what_leaves_a_flat_model_is_linear.ensures.ready j.limit f;
+      ready = c.networks_of_texts.ensures.ready j.limit f;
+    } in
+    OnErr-always _ (is_cut_short j c.requires.text c.requires.accepted laws {old = g.W.Write.contents c.args.writer.now}
+    {new = g.W.Write.contents c.run_components.new.writer} c.in_err-streamed.ensures.err)
+
+pub returns-clause-run : goal.returns-clause-run
+returns-clause-run g c =
+    let j = c.args.job.now in
+    let f = file_of j.tree.now.file in
+    let laws : Laws f j.limit = record {
+      parts = c.parts_of_the_flat_model_are_those_of_the_text.ensures.part;
+      all = c.parts_are_of_the_trace.ensures.all;
+      lines = c.a_trace_is_its_instants.ensures.lines;
+      flat = c.what_leaves_a_flat_model_is_linear.ensures.ready j.limit f;
+      ready = c.networks_of_texts.ensures.ready j.limit f;
+    } in
+    let capacity = c.args.capacity in
+    let rounds = c.args.rounds in
+    let s = c.in_ok-streamed.streamed in
+    let ran = c.in_ok-streamed.ensures.run in
+    let r = c.ran_of.result in
+    let of = c.ran_of.ensures in
+    let some = some_clocks j capacity rounds s.committed ran c.in_ok-streamed.ensures.some in
+    let mark : rank j.limit s.written.mark ≡ least_rank j.limit r.clocks.items =
+    ap (rank j.limit) c.in_ok-streamed.ensures.least
+    ∙ least_time_rank j.limit s.committed.clocks.items some (ran_of_run j capacity rounds s.committed ran)
+    ∙ ap (λ ts. least_rank j.limit ts.items) (sym of.clocks) in
+    let at_end : AreAtEnd (text_job j) r.ended r.clocks.items =
+    subst (λ ts. AreAtEnd (text_job j) r.ended ts.items) (sym of.clocks)
+    (subst (λ (e : Ended). AreAtEnd (text_job j) e s.committed.clocks.items) (sym of.ended)
+    (ran_at_end j capacity rounds s.committed ran)) in
+    is_run j capacity rounds s.committed ran {old = g.W.Write.contents c.args.writer.now}
+    {new = g.W.Write.contents c.run_components.new.writer} r of.clocks of.ended
+    (is_printed j c.requires.text c.requires.accepted laws s.written r c.in_ok-streamed.ensures.written mark of.faults
+    (subst (λ ts. 0 < length ts.items) (sym of.clocks) some) at_end)
+    c.in_ok-streamed.ensures.enough

@@ -1,4 +1,4 @@
-use Rattle.std.proofs.Common.{get_or, IsTrue, subst, rules}
+use Rattle.std.proofs.Common.{rules}
 use Rattle.dv_run.proofs.Numbered.{one_more_number}
 use Rattle.dv_run.proofs.numbers.are_numbers.Goals as goal
 

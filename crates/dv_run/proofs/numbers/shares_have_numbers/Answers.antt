@@ -1,4 +1,4 @@
-use Rattle.std.proofs.Common.{get_or, subst, rules}
+use Rattle.std.proofs.Common.{rules}
 use Rattle.dv_run.proofs.Numbered.{one_more_share}
 use Rattle.dv_run.proofs.numbers.shares_have_numbers.Goals as goal
 

@@ -1,9 +1,16 @@
-use Rattle.std.proofs.Common.{ℕ, ◌<◌, subst}
+use Rattle.std.proofs.Common.{◌≡◌, ℕ, ◌<◌, Some, length, ap, sym, subst, ◌∙◌}
+use Rattle.std.specs.List.{slice_get}
+use Rattle.dv_core.specs.Worlds.{end_time}
 use Rattle.dv_devs.specs.Clocks.{least_rank}
 use Rattle.dv_partition.specs.Groups.{owner_of}
-use Rattle.dv_plain.specs.Source.{network_of, outside}
+use Rattle.dv_planned.specs.Texts.{text_job}
 use Rattle.dv_syntax.specs.Trees.{file_of}
-use Rattle.dv_run.proofs.Traces.{are_committed, is_traced, some_clocks}
+use Rattle.dv_text.proofs.Taking.{OnErr-always}
+use Rattle.dv_time.specs.Time.{rank}
+use Rattle.dv_time.specs.declared.time.Time.{Time}
+use Rattle.dv_run.specs.Runs.{AreAtEnd}
+use Rattle.dv_run.proofs.Merging.{Leaves, merges}
+use Rattle.dv_run.proofs.Traces.{Laws, is_cut_short, is_printed, nothing_printed}
 use Rattle.dv_run.proofs.workers.compiled_workers.Goals as goal
 
 pub components_of-requires : goal.components_of-requires
@@ -21,28 +28,66 @@ work_components-requires-clause-components g c κs _ = record {
   short = c.in_ok-components.ensures.short;
 }
 
-pub trace_of-requires : goal.trace_of-requires
-trace_of-requires g c =
+pub returns-in_err-components-clause-err : goal.returns-in_err-components-clause-err
+returns-in_err-components-clause-err g c =
     let j = c.args.job.now in
-    some_clocks j.tree.now.names j c.requires.text c.requires.accepted c.in_ok-committed.committed
-    c.in_ok-committed.ensures.reached c.in_ok-committed.ensures.at_end c.in_ok-committed.ensures.some
+    OnErr-always _ (nothing_printed j.tree.now.names (file_of j.tree.now.file) j.inputs.now j.horizon j.limit
+    (g.W.Write.contents c.args.writer.now))
 
-pub returns-clause-trace : goal.returns-clause-trace
-returns-clause-trace g c =
+pub returns-in_err-benches-clause-err : goal.returns-in_err-benches-clause-err
+returns-in_err-benches-clause-err g c =
     let j = c.args.job.now in
-    let names = j.tree.now.names in
-    let committed = c.in_ok-committed.committed in
-    let reached = c.in_ok-committed.ensures.reached in
-    let at_end = c.in_ok-committed.ensures.at_end in
-    let some = some_clocks names j c.requires.text c.requires.accepted committed reached at_end c.in_ok-committed.ensures.some in
-    let least = least_rank j.limit committed.clocks.items in
-    let traced = c.in_ok-trace_of.ensures in
+    OnErr-always _ (nothing_printed j.tree.now.names (file_of j.tree.now.file) j.inputs.now j.horizon j.limit
+    (g.W.Write.contents c.args.writer.now))
+
+pub work_components-requires-clause-merges : goal.work_components-requires-clause-merges
+work_components-requires-clause-merges g c κs _ =
+    let j = c.args.job.now in
+    let f = file_of j.tree.now.file in
+    let leaves : Leaves f j.limit = record {
+      ready = c.what_leaves_a_flat_model_is_linear.ensures.ready j.limit f;
+      rise = c.what_leaves_a_flat_model_is_linear.ensures.numbers j.limit f;
+      outputs = c.what_leaves_a_flat_model_is_linear.ensures.outputs j.limit f;
+      linear = c.what_leaves_a_flat_model_is_linear.ensures.linear j.limit f;
+      bags = λ names inputs n. c.what_leaves_a_flat_model_is_linear.ensures.bags names f inputs j.limit n;
+    } in
     let owned : (k : ℕ) → owner_of j.groups.now k < j.groups.now.processes =
     λ k. subst (λ (n : ℕ). owner_of j.groups.now k < n) c.processes-processes.ensures.exact (c.processes-processes.ensures.owned k) in
-    let are =
-    are_committed names j c.requires.text c.requires.accepted committed reached at_end c.cuts_are_earlier_parts.ensures.part
-    c.processes_commit_the_run_of_the_text.ensures owned some in
-    is_traced names j c.requires.text c.requires.accepted committed reached at_end c.in_ok-trace_of.field-0 some
-    traced.clocks traced.ended
-    (traced.trace j.limit (network_of j.limit (file_of j.tree.now.file)) (outside (file_of j.tree.now.file) j.limit j.inputs.now)
-    (owner_of j.groups.now) least are)
+    merges j c.requires.text c.requires.accepted leaves owned
+
+pub returns-in_err-worked-clause-err : goal.returns-in_err-worked-clause-err
+returns-in_err-worked-clause-err g c =
+    let j = c.args.job.now in
+    let f = file_of j.tree.now.file in
+    let laws : Laws f j.limit = record {
+      parts = c.parts_of_the_flat_model_are_those_of_the_text.ensures.part;
+      all = c.parts_are_of_the_trace.ensures.all;
+      lines = c.a_trace_is_its_instants.ensures.lines;
+      flat = c.what_leaves_a_flat_model_is_linear.ensures.ready j.limit f;
+      ready = c.networks_of_texts.ensures.ready j.limit f;
+    } in
+    OnErr-always _ (is_cut_short j c.requires.text c.requires.accepted laws {old = g.W.Write.contents c.args.writer.now}
+    {new = g.W.Write.contents c.work_components.new.writer} c.in_err-worked.ensures.err)
+
+pub returns-clause-printed : goal.returns-clause-printed
+returns-clause-printed g c =
+    let j = c.args.job.now in
+    let f = file_of j.tree.now.file in
+    let laws : Laws f j.limit = record {
+      parts = c.parts_of_the_flat_model_are_those_of_the_text.ensures.part;
+      all = c.parts_are_of_the_trace.ensures.all;
+      lines = c.a_trace_is_its_instants.ensures.lines;
+      flat = c.what_leaves_a_flat_model_is_linear.ensures.ready j.limit f;
+      ready = c.networks_of_texts.ensures.ready j.limit f;
+    } in
+    let w = c.in_ok-worked.worked in
+    let r = c.ran_by_workers.result in
+    let of = c.ran_by_workers.ensures in
+    let mark : rank j.limit w.written.mark ≡ least_rank j.limit r.clocks.items =
+    c.in_ok-worked.ensures.least ∙ ap (λ ts. least_rank j.limit ts.items) (sym of.clocks) in
+    let at_end : AreAtEnd (text_job j) r.ended r.clocks.items = λ e.
+    subst (λ ts. (p : ℕ) (t : Time) → slice_get ts.items p ≡ Some t → t ≡ end_time (text_job j)) (sym of.clocks)
+    (c.in_ok-worked.ensures.whole (of.whole e)) in
+    is_printed j c.requires.text c.requires.accepted laws {old = g.W.Write.contents c.args.writer.now}
+    {new = g.W.Write.contents c.work_components.new.writer} w.written r c.in_ok-worked.ensures.written mark of.faults
+    (subst (λ ts. 0 < length ts.items) (sym of.clocks) c.in_ok-worked.ensures.some_clocks) at_end

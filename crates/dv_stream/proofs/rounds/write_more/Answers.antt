@@ -1,11 +1,9 @@
-use Rattle.std.proofs.Common.{map, sym, ap, subst, ◌∙◌}
-use Rattle.dv_time.specs.Time.{rank}
+use Rattle.std.proofs.Common.{map, sym, ap, ◌∙◌}
 use Rattle.dv_bag.specs.Part.{IsByTime, PartOf, before, since}
-use Rattle.dv_conservative.specs.Flat.{whole}
 use Rattle.dv_serial.specs.Clocks.{least_time}
 use Rattle.dv_text.proofs.Taking.{OnErr-always}
-use Rattle.dv_stream.proofs.Between.{all_given, in_order, least_within, map_twice, mark_of_run, mark_order, mark_within, parts_by_time, piece_is_trace}
-use Rattle.dv_stream.proofs.Writing.{falters, falters_at_once, goes_on}
+use Rattle.dv_stream.proofs.Between.{all_given, in_order, least_within, map_twice, mark_of_run, mark_order, mark_within, parts_by_time, pieces_are}
+use Rattle.dv_stream.proofs.Writing.{falters_at_once}
 use Rattle.dv_stream.proofs.rounds.write_more.Goals as goal
 
 -- where nothing was written
@@ -29,16 +27,6 @@ returns-in_err-pieces-clause-err g c =
     (in_order job parts times c.requires.reached c.requires.some c.args.before.mark c.requires.of_run c.requires.order)
     (least_within job parts times c.requires.reached c.requires.some))
 
-pub returns-in_err-piece-clause-err : goal.returns-in_err-piece-clause-err
-returns-in_err-piece-clause-err g c =
-    let job = g.J.PlannedJob.means c.args.job.now in
-    let state = g.P.LogicalProcess.state in
-    let parts = map (λ x. (state x).part) c.args.processes.now in
-    let times = map (λ x. (state x).position.clock) c.args.processes.now in
-    OnErr-always _ (falters_at_once job c.args.lines.now (g.W.Write.contents c.args.writer.now) c.args.before (least_time times)
-    (in_order job parts times c.requires.reached c.requires.some c.args.before.mark c.requires.of_run c.requires.order)
-    (least_within job parts times c.requires.reached c.requires.some))
-
 pub pieces_of-requires : goal.pieces_of-requires
 pieces_of-requires g c =
     let state = g.P.LogicalProcess.state in
@@ -47,8 +35,8 @@ pieces_of-requires g c =
     all_given IsByTime (λ x. (state x).part) c.args.processes.now
     (parts_by_time (g.J.PlannedJob.means c.args.job.now) parts times c.requires.reached)
 
-pub write_piece-requires : goal.write_piece-requires
-write_piece-requires g c =
+pub write_merged-requires : goal.write_merged-requires
+write_merged-requires g c =
     let job = g.J.PlannedJob.means c.args.job.now in
     let state = g.P.LogicalProcess.state in
     let parts = map (λ x. (state x).part) c.args.processes.now in
@@ -58,47 +46,10 @@ write_piece-requires g c =
     let at = c.least_clock-mark.ensures ∙ ap least_time (c.deref.ensures.value ∙ c.in_ok-clocks.ensures) in
     let are = c.in_ok-pieces.ensures
     ∙ sym (map_twice (λ x. (state x).part) (λ (p : PartOf). since from (before mark p)) c.args.processes.now) in
-    let is = piece_is_trace job parts times c.requires.reached c.requires.some from c.requires.of_run c.requires.order mark at c.requires.merges
-    c.in_ok-pieces.pieces.items are c.in_ok-piece.piece c.in_ok-piece.ensures.whole in
-    let order = mark_order job parts times c.requires.reached c.requires.some from c.requires.of_run c.requires.order mark at in
     record {
-      by_time = subst IsByTime (sym is)
-          (c.a_trace_is_its_pieces.ensures.by_time job.limit (whole job.flat) job.outside (rank job.limit from) (rank job.limit mark) order);
+      pieces = pieces_are job parts times c.requires.reached c.requires.some from c.requires.of_run c.requires.order mark at
+          c.requires.merges c.in_ok-pieces.pieces.items are;
+      of_run = mark_of_run job parts times c.requires.reached c.requires.some from c.requires.of_run c.requires.order mark at;
+      order = mark_order job parts times c.requires.reached c.requires.some from c.requires.of_run c.requires.order mark at;
+      within = mark_within job parts times c.requires.reached c.requires.some from c.requires.of_run c.requires.order mark at;
     }
-
-pub returns-clause-ok : goal.returns-clause-ok
-returns-clause-ok g c =
-    let job = g.J.PlannedJob.means c.args.job.now in
-    let state = g.P.LogicalProcess.state in
-    let parts = map (λ x. (state x).part) c.args.processes.now in
-    let times = map (λ x. (state x).position.clock) c.args.processes.now in
-    let from = c.args.before.mark in
-    let mark = c.least_clock-mark.result in
-    let at = c.least_clock-mark.ensures ∙ ap least_time (c.deref.ensures.value ∙ c.in_ok-clocks.ensures) in
-    let are = c.in_ok-pieces.ensures
-    ∙ sym (map_twice (λ x. (state x).part) (λ (p : PartOf). since from (before mark p)) c.args.processes.now) in
-    let is = piece_is_trace job parts times c.requires.reached c.requires.some from c.requires.of_run c.requires.order mark at c.requires.merges
-    c.in_ok-pieces.pieces.items are c.in_ok-piece.piece c.in_ok-piece.ensures.whole in
-    let order = mark_order job parts times c.requires.reached c.requires.some from c.requires.of_run c.requires.order mark at in
-    let runs = mark_of_run job parts times c.requires.reached c.requires.some from c.requires.of_run c.requires.order mark at in
-    goes_on job c.args.lines.now (g.W.Write.contents c.args.writer.now) (g.W.Write.contents c.write_piece.new.writer) c.args.before mark
-    c.in_ok-piece.piece is order runs c.write_piece.result c.write_piece.ensures.text c.write_piece.ensures.mark
-    c.write_piece.ensures.faults
-
-pub returns-clause-err : goal.returns-clause-err
-returns-clause-err g c =
-    let job = g.J.PlannedJob.means c.args.job.now in
-    let state = g.P.LogicalProcess.state in
-    let parts = map (λ x. (state x).part) c.args.processes.now in
-    let times = map (λ x. (state x).position.clock) c.args.processes.now in
-    let from = c.args.before.mark in
-    let mark = c.least_clock-mark.result in
-    let at = c.least_clock-mark.ensures ∙ ap least_time (c.deref.ensures.value ∙ c.in_ok-clocks.ensures) in
-    let are = c.in_ok-pieces.ensures
-    ∙ sym (map_twice (λ x. (state x).part) (λ (p : PartOf). since from (before mark p)) c.args.processes.now) in
-    let is = piece_is_trace job parts times c.requires.reached c.requires.some from c.requires.of_run c.requires.order mark at c.requires.merges
-    c.in_ok-pieces.pieces.items are c.in_ok-piece.piece c.in_ok-piece.ensures.whole in
-    let order = mark_order job parts times c.requires.reached c.requires.some from c.requires.of_run c.requires.order mark at in
-    let within = mark_within job parts times c.requires.reached c.requires.some from c.requires.of_run c.requires.order mark at in
-    falters job c.args.lines.now (g.W.Write.contents c.args.writer.now) (g.W.Write.contents c.write_piece.new.writer) c.args.before mark
-    c.in_ok-piece.piece is order within c.write_piece.result c.write_piece.ensures.err

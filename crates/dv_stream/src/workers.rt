@@ -1,0 +1,332 @@
+//! A run by workers, whose trace is written while they run.
+
+ghost use Rattle.std.specs.Prelude.{◌≡◌, ◌↔◌, ◌<◌, ◌≤◌, ℕ, Some, slice_get, length, IfOk, OnErr, OnSome, IfSome};
+ghost use Rattle.dv_time.specs.Time.{end_of, rank};
+ghost use Rattle.dv_time.specs.declared.TheConstants.{GREATEST_TICK};
+ghost use Rattle.dv_time.specs.declared.time.Time.{Time as MeantTime};
+ghost use Rattle.dv_board.specs.Jobs.{IsMergeable};
+ghost use Rattle.dv_core.specs.Worlds.{AreMadeFor, end_time};
+ghost use Rattle.dv_devs.specs.Clocks.{least_rank};
+ghost use Rattle.dv_stream.specs.Workers.{job_of_type};
+ghost use Rattle.dv_stream.specs.Written.{IsBegun, IsWrittenTo};
+ghost use Rattle.dv_work.specs.Reached.{AreReached};
+ghost use Rattle.dv_work.specs.declared.report.Ended.TheVariants.{Whole};
+
+use crate::news::{Signals, write_news};
+use crate::rest::{clocks_from, write_rest};
+use crate::written::Written;
+use dv_bag::Bags;
+use dv_board::Board;
+use dv_core::{LogicalProcess, PlannedJob};
+use dv_link::OfJob;
+use dv_proc::Channel;
+use dv_text::laws::a_trace_is_its_pieces;
+use dv_text::{TraceWriter, WriteError};
+use dv_time::{GREATEST_TICK, Time};
+use dv_tree::Tree;
+use dv_work::{Ended, Gate, Report, run_streamed};
+use std::alloc::{AllocError, Global};
+use std::io::Write;
+use std::marker::{Brand, PhantomData};
+use std::sync::Wait;
+use std::thread;
+use std::thread::{Threads, join_mut};
+
+/// How a run by workers ended, whose trace was written to the least of these clocks, which are by the numbers of the processes.
+#[derive(Drop)]
+pub struct Worked<C> {
+    pub clocks: Vec<Time>,
+    pub ended: Ended<C>,
+    pub written: Written,
+}
+
+/// What a run is made of: new processes with the links between them, and for each worker what its turns work with.
+#[derive(Drop)]
+pub struct Crew<P, K> {
+    pub processes: Vec<P>,
+    pub works: Vec<K>,
+}
+
+/// A job as a type, and its last tick. That is all that workers ask of a job, and it may go where the text of a model may not.
+#[derive(Drop)]
+struct Until<N: OfJob> {
+    tick: u64,
+    of: PhantomData<N>,
+    ghost is: { tick ≡ N.job.horizon },
+    ghost few: { tick ≤ GREATEST_TICK },
+}
+
+impl<N: OfJob> PlannedJob for Until<N> {
+    ghost means = { λ _. N.job };
+
+    fn horizon(&self) -> u64 {
+        self.tick
+    }
+}
+
+// Whether a thread can be made.
+fn has_threads<R: Threads + Wait + Sync>(rt: &R) -> bool {
+    thread::scope(thread::scope_env(), rt, |scope| scope.spawn(|| ()).is_ok())
+}
+
+// Runs a crew, if it has not run yet, with a board on which it posts, and tells that it has ended.
+fn run_posting<
+    N: OfJob + Send + Sync,
+    P: LogicalProcess + Send,
+    G: Gate<P>,
+    R: Threads + Wait + Sync,
+>(
+    rt: &R,
+    alloc: Global,
+    until: &Until<N>,
+    channels: &[Channel],
+    crew: &mut Option<Crew<P, P::Work>>,
+    capacity: usize,
+    gate: &G,
+    board: &Board<N>,
+    signals: &Signals,
+) -> Result<Report<G::Cause>, AllocError>
+where
+    P::Work: Send + Drop,
+    requires made { IfSome crew.old (λ c.
+        AreMadeFor job_of_type P.state P.valid N.job channels.now c.processes.items) }
+    requires workers { IfSome crew.old (λ c. 0 < length c.works.items) }
+    requires capacity { 0 < capacity }
+    ensures reached { IfOk result (λ r.
+        AreReached N.job r.parts.items r.clocks.items) }
+    ensures whole { IfOk result (λ r. (r.ended ≡ Whole)
+        ↔ ((p : ℕ) (t : MeantTime) → slice_get r.clocks.items p ≡ Some t
+        → t ≡ end_time N.job)) }
+{
+    let report = match crew.take() {
+        Some(Crew { processes, works }) => run_streamed::<N, Until<N>, P, G, R>(
+            rt,
+            alloc,
+            until,
+            channels,
+            processes,
+            works,
+            capacity,
+            gate,
+            board,
+            &signals.news,
+            &signals.stop,
+        ),
+        None => Err(AllocError),
+    };
+    signals.end(rt);
+    report
+}
+
+// Writes what is posted until the run has ended. Where it can write no more, the workers are to stop.
+fn write_or_stop<N: OfJob, R: Wait, W: Write>(
+    rt: &R,
+    alloc: Global,
+    board: &Board<N>,
+    signals: &Signals,
+    tree: &Tree,
+    writer: &mut W,
+) -> Result<Written, WriteError>
+    ensures written { IfOk result (IsWrittenTo N.job tree.now
+        (W.contents writer.old) (W.contents writer.new)) }
+    ensures within { IfOk result (λ w.
+        rank N.job.limit w.mark ≤ end_of N.job.limit N.job.horizon) }
+    ensures err { OnErr result (IsBegun N.job tree.now
+        (W.contents writer.old) (W.contents writer.new)) }
+{
+    let written = write_news(rt, alloc, board, signals, tree, writer);
+    if written.is_err() {
+        signals.stop.raise(rt, &[]);
+    }
+    written
+}
+
+// Runs a crew in another thread, and writes in this one what it posts. Where no thread can be made for that, it writes once the
+// crew has run.
+fn run_and_write<
+    N: OfJob + Send + Sync,
+    P: LogicalProcess + Send,
+    G: Gate<P>,
+    R: Threads + Wait + Sync,
+    W: Write,
+>(
+    rt: &R,
+    alloc: Global,
+    until: &Until<N>,
+    channels: &[Channel],
+    crew: Crew<P, P::Work>,
+    capacity: usize,
+    gate: &G,
+    board: &Board<N>,
+    signals: &Signals,
+    tree: &Tree,
+    writer: &mut W,
+) -> (
+    Result<Written, WriteError>,
+    Result<Report<G::Cause>, AllocError>,
+)
+where
+    P::Work: Send + Drop,
+    requires made { AreMadeFor job_of_type P.state P.valid N.job channels.now
+        crew.processes.items }
+    requires workers { 0 < length crew.works.items }
+    requires capacity { 0 < capacity }
+    ensures written { IfOk result.0 (IsWrittenTo N.job tree.now
+        (W.contents writer.old) (W.contents writer.new)) }
+    ensures within { IfOk result.0 (λ w.
+        rank N.job.limit w.mark ≤ end_of N.job.limit N.job.horizon) }
+    ensures err { OnErr result.0 (IsBegun N.job tree.now
+        (W.contents writer.old) (W.contents writer.new)) }
+    ensures reached { IfOk result.1 (λ r.
+        AreReached N.job r.parts.items r.clocks.items) }
+    ensures whole { IfOk result.1 (λ r. (r.ended ≡ Whole)
+        ↔ ((p : ℕ) (t : MeantTime) → slice_get r.clocks.items p ≡ Some t
+        → t ≡ end_time N.job)) }
+{
+    let mut crew = Some(crew);
+    let mut run = move || -> Result<Report<G::Cause>, AllocError>
+        requires made { IfSome crew (λ c.
+            AreMadeFor job_of_type P.state P.valid N.job channels.now c.processes.items) }
+        requires workers { IfSome crew (λ c. 0 < length c.works.items) }
+        requires capacity { 0 < capacity }
+        ensures reached { IfOk result (λ r.
+            AreReached N.job r.parts.items r.clocks.items) }
+        ensures whole { IfOk result (λ r. (r.ended ≡ Whole)
+            ↔ ((p : ℕ) (t : MeantTime) → slice_get r.clocks.items p ≡ Some t
+            → t ≡ end_time N.job)) }
+    {
+        run_posting(
+            rt, alloc, until, channels, &mut crew, capacity, gate, board, signals,
+        )
+    };
+    let mut write = || -> Result<Written, WriteError>
+        ensures written { IfOk result (IsWrittenTo N.job tree.entry.now
+            (W.contents writer.entry.now) (W.contents writer.exit.now)) }
+        ensures within { IfOk result (λ w.
+            rank N.job.limit w.mark ≤ end_of N.job.limit N.job.horizon) }
+        ensures err { OnErr result (IsBegun N.job tree.entry.now
+            (W.contents writer.entry.now) (W.contents writer.exit.now)) }
+    { write_or_stop(rt, alloc, board, signals, tree, writer) };
+    if has_threads(rt) {
+        let (report, written) = join_mut(rt, &mut run, &mut write);
+        return (written, report);
+    }
+    let report = run();
+    (write(), report)
+}
+
+// Runs a crew, and writes its trace while it runs. It names the job in no type, so that a caller can pick it.
+fn stream_crew<
+    N: OfJob + Send + Sync,
+    J: PlannedJob,
+    P: LogicalProcess + Send,
+    G: Gate<P>,
+    R: Threads + Wait + Sync,
+    W: Write,
+>(
+    rt: &R,
+    alloc: Global,
+    job: &J,
+    channels: &[Channel],
+    crew: Crew<P, P::Work>,
+    capacity: usize,
+    gate: &G,
+    tree: &Tree,
+    writer: &mut W,
+) -> Result<Worked<G::Cause>, WriteError>
+where
+    P::Work: Send + Drop,
+    requires job { N.job ≡ J.means job.now }
+    requires made { AreMadeFor J.means P.state P.valid job.now channels.now
+        crew.processes.items }
+    requires merges { IsMergeable (J.means job.now) }
+    requires some { 0 < (J.means job.now).processes }
+    requires workers { 0 < length crew.works.items }
+    requires capacity { 0 < capacity }
+    ensures written { IfOk result (λ w. IsWrittenTo (J.means job.now) tree.now
+        (W.contents writer.old) (W.contents writer.new) w.written) }
+    ensures some_clocks { IfOk result (λ w. 0 < length w.clocks.items) }
+    ensures least { IfOk result (λ w. rank (J.means job.now).limit w.written.mark
+        ≡ least_rank (J.means job.now).limit w.clocks.items) }
+    ensures whole { IfOk result (λ w. w.ended ≡ Whole
+        → (p : ℕ) (t : MeantTime) → slice_get w.clocks.items p ≡ Some t
+        → t ≡ end_time (J.means job.now)) }
+    ensures err { OnErr result (IsBegun (J.means job.now) tree.now
+        (W.contents writer.old) (W.contents writer.new)) }
+{
+    // Lines are continued by those of the next piece.
+    a_trace_is_its_pieces::<Bags>();
+    let board: Board<N> = Board::new(alloc, crew.processes.len() as u32)?;
+    let signals = Signals::new();
+    let until: Until<N> = Until {
+        tick: job.horizon(),
+        of: PhantomData,
+    };
+    let (written, report) = run_and_write(
+        rt, alloc, &until, channels, crew, capacity, gate, &board, &signals, tree, writer,
+    );
+    let written = written?;
+    let Report {
+        parts,
+        clocks,
+        ended,
+    } = report?;
+    let mut lines = TraceWriter::new(alloc, tree);
+    let written = write_rest(alloc, job, &parts, &clocks, written, &mut lines, writer)?;
+    let clocks = clocks_from(clocks, written.mark);
+    Ok(Worked {
+        clocks,
+        ended,
+        written,
+    })
+}
+
+/// Runs new processes of a job on threads, a worker for each of the crew's `works`, and writes the trace, with the names of a
+/// tree, while they run. Process p belongs to worker p mod the number of workers. So many packets may be on their way on each link;
+/// one more may be in the hand of its sender. Whatever the gate and the timing of the threads, what was written is the trace
+/// before the least of the clocks, and a run that is told whole has every clock at the end.
+///
+/// # Errors
+///
+/// A write failed, or there is no memory for the links and the threads, or for a piece of the trace. All threads have ended, and
+/// the writer holds a beginning of the lines.
+pub fn stream_workers<
+    J: PlannedJob,
+    P: LogicalProcess + Send,
+    G: Gate<P>,
+    R: Threads + Wait + Sync,
+    W: Write,
+>(
+    rt: &R,
+    alloc: Global,
+    job: &J,
+    channels: &[Channel],
+    crew: Crew<P, P::Work>,
+    capacity: usize,
+    gate: &G,
+    tree: &Tree,
+    writer: &mut W,
+) -> Result<Worked<G::Cause>, WriteError>
+where
+    P::Work: Send + Drop,
+    requires made { AreMadeFor J.means P.state P.valid job.now channels.now
+        crew.processes.items }
+    requires merges { IsMergeable (J.means job.now) }
+    requires some { 0 < (J.means job.now).processes }
+    requires workers { 0 < length crew.works.items }
+    requires capacity { 0 < capacity }
+    ensures written { IfOk result (λ w. IsWrittenTo (J.means job.now) tree.now
+        (W.contents writer.old) (W.contents writer.new) w.written) }
+    ensures some_clocks { IfOk result (λ w. 0 < length w.clocks.items) }
+    ensures least { IfOk result (λ w. rank (J.means job.now).limit w.written.mark
+        ≡ least_rank (J.means job.now).limit w.clocks.items) }
+    ensures whole { IfOk result (λ w. w.ended ≡ Whole
+        → (p : ℕ) (t : MeantTime) → slice_get w.clocks.items p ≡ Some t
+        → t ≡ end_time (J.means job.now)) }
+    ensures err { OnErr result (IsBegun (J.means job.now) tree.now
+        (W.contents writer.old) (W.contents writer.new)) }
+{
+    stream_crew::<Brand, J, P, G, R, W>(
+        rt, alloc, job, channels, crew, capacity, gate, tree, writer,
+    )
+}
