@@ -40,4 +40,4 @@ pub use plain::run_plain;
 pub use planned::plan_bytes;
 pub use run::run_bytes;
 pub use steps::run_steps;
-pub use workers::run_by_workers;
+pub use workers::{run_by_workers, run_watched};

@@ -13,7 +13,7 @@ use dv_bag::Bags;
 use dv_flat::flatten;
 use dv_partition::Partition;
 use dv_planned::TextJob;
-use dv_run::compiled_workers;
+use dv_run::{Unwatched, Watch, compiled_workers};
 use dv_sound::numbers::inputs_are_of_numbers;
 use dv_text::laws::a_trace_is_its_pieces;
 use dv_tree::Tree;
@@ -24,11 +24,11 @@ use std::thread::Threads;
 
 /// Runs the model of a text in processes, as `run_bytes` does, by so many workers on threads of their own: process p is run by
 /// worker p mod `workers`. Whatever the timing of the threads, a run that is reported whole prints exactly the trace to the
-/// horizon. Rounds that the options have are not read.
+/// horizon; its lines are written as they become known. Rounds that the options have are not read.
 ///
 /// # Errors
 ///
-/// As of `run_bytes`.
+/// As of `run_bytes`. All threads have ended then.
 pub fn run_by_workers<R: Threads + Wait + Sync, W: Write>(
     rt: &R,
     alloc: Global,
@@ -45,15 +45,42 @@ pub fn run_by_workers<R: Threads + Wait + Sync, W: Write>(
     ensures error { IfErr result (λ e. LeftByRun e model.now inputs.now groups.entry
         options.now (W.contents writer.old) (W.contents writer.new)) }
 {
+    run_watched(
+        rt, alloc, model, inputs, groups, options, workers, &Unwatched, writer,
+    )
+}
+
+/// Runs as [`run_by_workers`] does, and lets somebody watch each turn of a process.
+///
+/// # Errors
+///
+/// As of `run_by_workers`.
+pub fn run_watched<R: Threads + Wait + Sync, G: Watch, W: Write>(
+    rt: &R,
+    alloc: Global,
+    model: &[u8],
+    inputs: &[u8],
+    groups: Partition<'_>,
+    options: &Options,
+    workers: u32,
+    watch: &G,
+    writer: &mut W,
+) -> Result<JobEnded, JobError>
+    requires workers { 0 < workers }
+    ensures ended { IfOk result (λ ended. EndsByWorkers ended model.now inputs.now groups.entry
+        options.now (W.contents writer.old) (W.contents writer.new)) }
+    ensures error { IfErr result (λ e. LeftByRun e model.now inputs.now groups.entry
+        options.now (W.contents writer.old) (W.contents writer.new)) }
+{
     let checked = load(alloc, model)?;
     let tree = accept(alloc, model, &checked)?;
     work_tree(
-        rt, alloc, &tree, model, inputs, groups, options, workers, writer,
+        rt, alloc, &tree, model, inputs, groups, options, workers, watch, writer,
     )
 }
 
 // Runs the model of an accepted text, by its tree.
-fn work_tree<R: Threads + Wait + Sync, W: Write>(
+fn work_tree<R: Threads + Wait + Sync, G: Watch, W: Write>(
     rt: &R,
     alloc: Global,
     tree: &Tree,
@@ -62,6 +89,7 @@ fn work_tree<R: Threads + Wait + Sync, W: Write>(
     groups: Partition<'_>,
     options: &Options,
     workers: u32,
+    watch: &G,
     writer: &mut W,
 ) -> Result<JobEnded, JobError>
     requires accepted { IsModelOf model.now tree.now.names (file_of tree.now.file) }
@@ -87,6 +115,15 @@ fn work_tree<R: Threads + Wait + Sync, W: Write>(
     };
     let capacity = options.capacity as usize;
     let workers = workers as usize;
-    let ran = compiled_workers(rt, alloc, &job, &flat.links, workers, capacity, writer)?;
+    let ran = compiled_workers(
+        rt,
+        alloc,
+        &job,
+        &flat.links,
+        workers,
+        capacity,
+        watch,
+        writer,
+    )?;
     write_end(alloc, tree, &ran, options.horizon, writer)
 }

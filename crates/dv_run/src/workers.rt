@@ -19,6 +19,7 @@ ghost use Rattle.dv_work.specs.declared.report.Ended.TheVariants as reported;
 
 use crate::plan::plan_of;
 use crate::ran::Ran;
+use crate::watch::{Watch, Watched};
 use dv_bag::Bags;
 use dv_coded::{Bench, Components, Lent, components_of};
 use dv_core::Ended;
@@ -34,7 +35,6 @@ use dv_sound::outside::what_leaves_a_flat_model_is_linear;
 use dv_stream::{Crew, Worked, stream_workers};
 use dv_text::WriteError;
 use dv_text::laws::a_trace_is_its_instants;
-use dv_work::Open;
 use std::alloc::{AllocError, Global};
 use std::io::Write;
 use std::sync::Wait;
@@ -42,20 +42,21 @@ use std::thread::Threads;
 
 /// Runs the compiled model of a text by its programs and its links, with inputs, in processes on so many threads, to a horizon in
 /// ticks, and writes the lines of the trace before the least clock while it runs, whatever the timing of the threads. Process p is
-/// run by worker p mod `workers`. A link holds so many packets at most. Where memory is refused to a worker, or a thread, that is
-/// what was known then.
+/// run by worker p mod `workers`. A link holds so many packets at most. Somebody may watch each turn. Where memory is refused to a
+/// worker, or a thread, that is what was known then.
 ///
 /// # Errors
 ///
 /// A write failed, or there is no memory for the programs, the tables of the processes and the links, or for a piece of the trace.
 /// All threads have ended, and the writer holds a beginning of the lines.
-pub fn compiled_workers<R: Threads + Wait + Sync, W: Write>(
+pub fn compiled_workers<R: Threads + Wait + Sync, G: Watch, W: Write>(
     rt: &R,
     alloc: Global,
     job: &TextJob<'_, '_>,
     links: &LinkLists,
     workers: usize,
     capacity: usize,
+    watch: &G,
     writer: &mut W,
 ) -> Result<Ran, WriteError>
     requires text { AreOfOneText job.now.tree.now.names (file_of job.now.tree.now.file) }
@@ -86,7 +87,9 @@ pub fn compiled_workers<R: Threads + Wait + Sync, W: Write>(
     let mut bench = Bench::new(alloc);
     let components = components_of(&mut bench, job.tree, job.limit)?;
     let benches = benches_of(alloc, workers)?;
-    let worked = work_components(rt, alloc, job, components, links, benches, capacity, writer)?;
+    let worked = work_components(
+        rt, alloc, job, components, links, benches, capacity, watch, writer,
+    )?;
     Ok(ran_by_workers(worked))
 }
 
@@ -102,7 +105,7 @@ fn benches_of(alloc: Global, workers: usize) -> Result<Vec<Bench>, AllocError>
 }
 
 // What the processes of a text commit on threads, written meanwhile.
-fn work_components<R: Threads + Wait + Sync, W: Write>(
+fn work_components<R: Threads + Wait + Sync, G: Watch, W: Write>(
     rt: &R,
     alloc: Global,
     job: &TextJob<'_, '_>,
@@ -110,6 +113,7 @@ fn work_components<R: Threads + Wait + Sync, W: Write>(
     links: &LinkLists,
     benches: Vec<Bench>,
     capacity: usize,
+    watch: &G,
     writer: &mut W,
 ) -> Result<Worked<()>, WriteError>
     requires text { AreOfOneText job.now.tree.now.names (file_of job.now.tree.now.file) }
@@ -138,17 +142,18 @@ fn work_components<R: Threads + Wait + Sync, W: Write>(
         responses,
     } = components;
     let plan = plan_of(alloc, job, &models, members, responses, links)?;
-    work_plan(rt, alloc, job, plan, benches, capacity, writer)
+    work_plan(rt, alloc, job, plan, benches, capacity, watch, writer)
 }
 
 // What the processes of a plan commit on threads, written meanwhile.
-fn work_plan<R: Threads + Wait + Sync, W: Write>(
+fn work_plan<R: Threads + Wait + Sync, G: Watch, W: Write>(
     rt: &R,
     alloc: Global,
     job: &TextJob<'_, '_>,
     plan: Plan<Lent<'_>>,
     benches: Vec<Bench>,
     capacity: usize,
+    watch: &G,
     writer: &mut W,
 ) -> Result<Worked<()>, WriteError>
     requires run { CanRun text_job behaviour_of_lent lent_takes job.now plan }
@@ -173,8 +178,9 @@ fn work_plan<R: Threads + Wait + Sync, W: Write>(
         processes,
         works: benches,
     };
+    let gate = Watched { watch };
     stream_workers(
-        rt, alloc, job, &links, crew, capacity, &Open, job.tree, writer,
+        rt, alloc, job, &links, crew, capacity, &gate, job.tree, writer,
     )
 }
 

@@ -150,10 +150,11 @@ fn of_both(one: Turned, other: Turned) -> Turned {
     }
 }
 
-// Whether a worker posts after a round: now and then where it goes on, and always where it will wait or end.
+// Whether a worker posts after a round: now and then where it goes on, more often at first, so that a reader sees the first lines
+// soon; and always where it will wait or end.
 fn posts_after<C>(round: u64, ended: &Result<Turned, Halt<C>>) -> bool {
     match ended {
-        Ok(Turned::Moved) => round % ROUNDS_TO_A_POST == 0,
+        Ok(Turned::Moved) => round.is_power_of_two() || round % ROUNDS_TO_A_POST == 0,
         _ => true,
     }
 }
