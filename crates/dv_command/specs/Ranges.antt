@@ -1,9 +1,9 @@
 -- The ranges of a run's values.
-use Rattle.std.specs.Prelude.{ℕ, ◌≤◌, Option}
-use Rattle.std.specs.Option.{ForSome}
+use Rattle.std.specs.Prelude.{ℕ, ◌≤◌}
 use Rattle.dv_time.specs.declared.TheConstants.{GREATEST_TICK, GREATEST_LIMIT}
 
--- the last tick of a run, and its greatest microstep where that was given
-pub record AreInRange (horizon : ℕ) (microsteps : Option ℕ) : Type 0 where
+-- the last tick of a run, and its greatest microstep
+pub record AreInRange (horizon microsteps : ℕ) : Type 0 where
   pub tick : horizon ≤ GREATEST_TICK
-  pub limit : ForSome microsteps (λ l. (1 ≤ l) × (l ≤ GREATEST_LIMIT))
+  pub at_least_one : 1 ≤ microsteps
+  pub limit : microsteps ≤ GREATEST_LIMIT

@@ -1,18 +1,16 @@
-//! Reads the words of a command line.
+//! What a command line asks for, and the help of the program.
 
-ghost use Rattle.std.specs.Prelude.{◌≤◌, IfOk, IfSome};
+ghost use Rattle.std.specs.Prelude.{IfErr, IfOk, map, string_bytes};
+ghost use Rattle.dv_command.specs.Asked.{AnswersNothing, Asks};
 
-use crate::request::{ModelFile, PartitionChoice, Plan, Request, RequestError, Run, Usage};
+use crate::asked::{MOST_WORKERS, VERSION, asked};
+use crate::number::number_in;
+use crate::request::{Request, RequestError, Usage};
 use clap::error::ErrorKind;
 use clap::{Arg, ArgAction, ArgMatches, Command};
-use dv_explain::{
-    Explanation, explanation_in_any_case, faults, input_refusals, partition_refusals, refusals,
-};
+use dv_explain::{Explanation, faults, input_refusals, partition_refusals, refusals};
 use dv_time::{GREATEST_LIMIT, GREATEST_TICK};
 use std::alloc::{AllocError, Global};
-
-/// The version of the program; it stands here alone.
-const VERSION: &str = "0.1.0";
 
 /// What stands below the help of the program.
 const AFTER_HELP: &str = "\
@@ -28,37 +26,25 @@ input port of the root; '#' begins a comment line. docs/TUTORIAL.md teaches the
 language of models, docs/REFERENCE.md has all of it with the inputs and the
 trace, and docs/ERRORS.md the refusals and faults, as 'pdevs explain CODE'.";
 
-/// The most workers that a run may have.
-const MOST_WORKERS: u64 = 64;
-
-/// What the words ask for; the first word is the program's name.
+/// What the words ask for; the first word is the program's name. Help, and why words ask for nothing, is for `clap` to say.
 ///
 /// # Errors
 ///
 /// `Usage` where the words are no command or ask for help, with the text to print; or no memory.
-pub fn request_of(alloc: Global, words: &[String]) -> Result<Request, RequestError> {
-    match command(alloc)?.try_get_matches_from(words) {
-        Ok(matches) => request_in(alloc, &matches),
-        Err(error) if matches!(error.kind(), ErrorKind::DisplayVersion) => {
-            Ok(Request::Version(format!(in alloc; "{error}")?))
+pub fn request_of(alloc: Global, words: &[String]) -> Result<Request, RequestError>
+    ensures asked { IfOk result (Asks (map string_bytes words.now)) }
+    ensures nothing { IfErr result (AnswersNothing (Asks (map string_bytes words.now))) }
+{
+    match asked(alloc, words)? {
+        Some(request) => Ok(request),
+        None => {
+            let text = usage_text(alloc, words)?;
+            Err(RequestError::Usage(Usage { text }))
         }
-        Err(error) => Err(error_of(alloc, &error)),
     }
 }
 
-/// What the words ask for, parted by their names.
-fn request_in(alloc: Global, matches: &ArgMatches) -> Result<Request, RequestError> {
-    match matches.subcommand() {
-        Some(("check", check)) => Ok(Request::Check(model_file_of(alloc, check)?)),
-        Some(("code", code)) => Ok(Request::Code(model_file_of(alloc, code)?)),
-        Some(("explain", explain)) => Ok(Request::Explain(explanation_for(alloc, explain)?)),
-        Some(("plan", plan)) => Ok(Request::Plan(plan_of(alloc, plan)?)),
-        Some(("run", run)) => Ok(Request::Run(run_of(alloc, run)?)),
-        _ => Err(refused(alloc, "a subcommand is wanted")),
-    }
-}
-
-/// The command line that is read.
+/// The command line, as its help shows it.
 fn command<'a>(alloc: Global) -> Result<Command<'a>, AllocError> {
     let program = Command::new(alloc, "pdevs")
         .bin_name("pdevs")?
@@ -69,8 +55,11 @@ fn command<'a>(alloc: Global) -> Result<Command<'a>, AllocError> {
     let checks = with_subcommand(program, check_command(alloc))?;
     let runs = with_subcommand(checks, run_command(alloc))?;
     let plans = with_subcommand(runs, plan_command(alloc))?;
-    let lists = with_subcommand(plans, code_command(alloc))?;
-    with_subcommand(lists, explain_command(alloc))
+    let graphs = with_subcommand(plans, graph_command(alloc))?;
+    let lists = with_subcommand(graphs, code_command(alloc))?;
+    let dumps = with_subcommand(lists, vcd_command(alloc))?;
+    let counts = with_subcommand(dumps, stats_command(alloc))?;
+    with_subcommand(counts, explain_command(alloc))
 }
 
 /// With one more subcommand, where there was memory for it.
@@ -178,12 +167,52 @@ fn workers_argument<'a>(alloc: Global) -> Arg<'a> {
         )
 }
 
+fn trace_argument<'a>(alloc: Global) -> Arg<'a> {
+    Arg::new(alloc, "trace")
+        .value_name("TRACE")
+        .required(true)
+        .help("the file of the trace, as run printed it")
+}
+
+fn csv_argument<'a>(alloc: Global) -> Arg<'a> {
+    Arg::new(alloc, "csv")
+        .long("csv")
+        .action(ArgAction::SetTrue)
+        .help("prints comma-separated values")
+}
+
 fn plan_command<'a>(alloc: Global) -> Result<Command<'a>, AllocError> {
     Command::new(alloc, "plan")
         .about("Prints the processes of a model and the links between them")
         .arg(model_argument(alloc))?
         .arg(partition_argument(alloc))?
         .arg(processes_argument(alloc))?
+        .arg(explain_argument(alloc))
+}
+
+fn graph_command<'a>(alloc: Global) -> Result<Command<'a>, AllocError> {
+    Command::new(alloc, "graph")
+        .about("Prints a model as a graph in the DOT language")
+        .arg(model_argument(alloc))?
+        .arg(partition_argument(alloc))?
+        .arg(processes_argument(alloc))?
+        .arg(explain_argument(alloc))
+}
+
+fn vcd_command<'a>(alloc: Global) -> Result<Command<'a>, AllocError> {
+    Command::new(alloc, "vcd")
+        .about("Prints a trace as a value change dump, for wave viewers")
+        .arg(model_argument(alloc))?
+        .arg(trace_argument(alloc))?
+        .arg(explain_argument(alloc))
+}
+
+fn stats_command<'a>(alloc: Global) -> Result<Command<'a>, AllocError> {
+    Command::new(alloc, "stats")
+        .about("Prints what a trace says of each component, in numbers")
+        .arg(model_argument(alloc))?
+        .arg(trace_argument(alloc))?
+        .arg(csv_argument(alloc))?
         .arg(explain_argument(alloc))
 }
 
@@ -201,79 +230,45 @@ fn run_command<'a>(alloc: Global) -> Result<Command<'a>, AllocError> {
         .arg(explain_argument(alloc))
 }
 
-fn model_of(alloc: Global, matches: &ArgMatches) -> Result<String, RequestError> {
-    match matches.get_str("model") {
-        Some(model) => Ok(String::from_str(alloc, model)?),
-        None => Err(refused(alloc, "a model is wanted")),
+/// Why words ask for nothing that are a command line, of what is not for `clap` to say.
+fn reason(matches: &ArgMatches) -> &'static str {
+    let has_rounds = matches.get_str("rounds").is_some();
+    let has_workers = matches.get_str("workers").is_some();
+    if matches.get_str("partition").is_some() && matches.get_str("processes").is_some() {
+        "a partition or a number of processes is given, not both"
+    } else if is_out_of_range(matches, "processes", 0, u64::from(u32::MAX)) {
+        "the number of processes is one from 0 to 4294967295"
+    } else if is_out_of_range(matches, "horizon", 0, GREATEST_TICK) {
+        "the horizon is a number from 0 to 1000000000000"
+    } else if is_out_of_range(matches, "microsteps", 1, u64::from(GREATEST_LIMIT)) {
+        "the microstep limit is a number from 1 to 1000"
+    } else if is_out_of_range(matches, "rounds", 0, u64::MAX) {
+        "the number of rounds is one from 0 to 18446744073709551615"
+    } else if is_out_of_range(matches, "workers", 1, MOST_WORKERS) {
+        "the number of workers is one from 1 to 64"
+    } else if has_rounds && has_workers {
+        "rounds are not counted where there are workers"
+    } else {
+        "these words are no command"
     }
 }
 
-/// The file of the inputs, where one is given.
-fn inputs_of(alloc: Global, matches: &ArgMatches) -> Result<Option<String>, RequestError> {
-    match matches.get_str("inputs") {
-        Some(inputs) => Ok(Some(String::from_str(alloc, inputs)?)),
-        None => Ok(None),
-    }
-}
-
-/// How the components are parted, where that is given.
-fn partition_of(
-    alloc: Global,
-    matches: &ArgMatches,
-) -> Result<Option<PartitionChoice>, RequestError> {
-    match (matches.get_str("partition"), matches.get_str("processes")) {
-        (None, None) => Ok(None),
-        (Some(file), None) => Ok(Some(PartitionChoice::File(String::from_str(alloc, file)?))),
-        (None, Some(text)) => Ok(Some(PartitionChoice::Count(processes_in(alloc, text)?))),
-        (Some(_), Some(_)) => Err(refused(
-            alloc,
-            "a partition or a number of processes is given, not both",
-        )),
-    }
-}
-
-/// The number of processes that a text spells. Whether a model can be parted so is not asked here.
-fn processes_in(alloc: Global, text: &str) -> Result<u32, RequestError> {
-    match number(text, u64::from(u32::MAX)) {
-        Some(count) => Ok(count as u32),
-        None => Err(refused(alloc, "the number of processes is one from 0 to 4294967295")),
-    }
-}
-
-fn plan_of(alloc: Global, matches: &ArgMatches) -> Result<Plan, RequestError> {
-    Ok(Plan {
-        model: model_of(alloc, matches)?,
-        partition: partition_of(alloc, matches)?,
-        explained: matches.get_flag("explain"),
-    })
-}
-
-fn model_file_of(alloc: Global, matches: &ArgMatches) -> Result<ModelFile, RequestError> {
-    Ok(ModelFile {
-        model: model_of(alloc, matches)?,
-        explained: matches.get_flag("explain"),
-    })
-}
-
-/// The explanation of the code that is given.
-fn explanation_for(
-    alloc: Global,
-    matches: &ArgMatches,
-) -> Result<&'static Explanation, RequestError> {
-    match explanation_in_any_case(alloc, matches.get_str("code").unwrap_or(""))? {
-        Some(explanation) => Ok(explanation),
-        None => Err(unknown_code(alloc)?),
+/// Whether an option is given with a value that is no number of its range.
+fn is_out_of_range(matches: &ArgMatches, name: &str, least: u64, greatest: u64) -> bool {
+    match matches.get_str(name) {
+        Some(text) => number_in(least, greatest, text).is_none(),
+        None => false,
     }
 }
 
 /// The words that list the codes.
-fn unknown_code(alloc: Global) -> Result<RequestError, AllocError> {
+fn unknown_code(alloc: Global) -> Result<String, AllocError> {
     let mut reason = String::from_str(alloc, "there is no such code; the codes are")?;
     push_codes(&mut reason, refusals())?;
     push_codes(&mut reason, input_refusals())?;
     push_codes(&mut reason, partition_refusals())?;
     push_codes(&mut reason, faults())?;
-    Ok(refused(alloc, reason.as_str()))
+    Ok(reason)
 }
 
 fn push_codes(text: &mut String, explanations: &[Explanation]) -> Result<(), AllocError> {
@@ -284,110 +279,26 @@ fn push_codes(text: &mut String, explanations: &[Explanation]) -> Result<(), All
     Ok(())
 }
 
-fn run_of(alloc: Global, matches: &ArgMatches) -> Result<Run, RequestError> {
-    let model = model_of(alloc, matches)?;
-    let partition = partition_of(alloc, matches)?;
-    let inputs = inputs_of(alloc, matches)?;
-    let horizon = horizon_of(alloc, matches)?;
-    let microsteps = microsteps_of(alloc, matches)?;
-    let rounds = rounds_of(alloc, matches)?;
-    let workers = workers_of(alloc, matches)?;
-    if rounds.is_some() && workers.is_some() {
-        return Err(refused(alloc, "rounds are not counted where there are workers"));
-    }
-    Ok(Run {
-        model,
-        partition,
-        inputs,
-        horizon,
-        microsteps,
-        rounds,
-        workers,
-        explained: matches.get_flag("explain"),
-    })
-}
-
-/// The last tick of the run.
-fn horizon_of(alloc: Global, matches: &ArgMatches) -> Result<u64, RequestError>
-    ensures { IfOk result (λ n. n ≤ GREATEST_TICK) }
-{
-    match matches
-        .get_str("horizon")
-        .and_then(|text| number(text, GREATEST_TICK))
-    {
-        Some(horizon) => Ok(horizon),
-        None => Err(refused(alloc, "the horizon is a number from 0 to 1000000000000")),
+/// The text to print where the words are no command or ask for help.
+fn usage_text(alloc: Global, words: &[String]) -> Result<String, AllocError> {
+    match command(alloc)?.try_get_matches_from(words) {
+        Ok(matches) => match matches.subcommand() {
+            Some(("explain", _)) => refused(alloc, unknown_code(alloc)?.as_str()),
+            Some((_, subcommand)) => refused(alloc, reason(subcommand)),
+            None => refused(alloc, "a subcommand is wanted"),
+        },
+        Err(error) if matches!(error.kind(), ErrorKind::OutOfMemory) => Err(AllocError),
+        Err(error) if matches!(error.kind(), ErrorKind::DisplayVersion) => {
+            refused(
+                alloc,
+                "the version is asked for by the word --version, or -V",
+            )
+        }
+        Err(error) => error.to_string(alloc),
     }
 }
 
-/// The microstep limit, where one is given.
-fn microsteps_of(alloc: Global, matches: &ArgMatches) -> Result<Option<u32>, RequestError>
-    ensures { IfOk result (λ given. IfSome given (λ l. (1 ≤ l) × (l ≤ GREATEST_LIMIT))) }
-{
-    let Some(text) = matches.get_str("microsteps") else {
-        return Ok(None);
-    };
-    match number(text, u64::from(GREATEST_LIMIT)) {
-        Some(limit) if limit >= 1 => Ok(Some(limit as u32)),
-        _ => Err(refused(alloc, "the microstep limit is a number from 1 to 1000")),
-    }
-}
-
-/// The number of rounds, where one is given.
-fn rounds_of(alloc: Global, matches: &ArgMatches) -> Result<Option<u64>, RequestError> {
-    let Some(text) = matches.get_str("rounds") else {
-        return Ok(None);
-    };
-    match number(text, u64::MAX) {
-        Some(rounds) => Ok(Some(rounds)),
-        None => Err(refused(
-            alloc,
-            "the number of rounds is one from 0 to 18446744073709551615",
-        )),
-    }
-}
-
-/// The number of workers, where one is given.
-fn workers_of(alloc: Global, matches: &ArgMatches) -> Result<Option<u32>, RequestError> {
-    let Some(text) = matches.get_str("workers") else {
-        return Ok(None);
-    };
-    match number(text, MOST_WORKERS) {
-        Some(workers) if workers >= 1 => Ok(Some(workers as u32)),
-        _ => Err(refused(alloc, "the number of workers is one from 1 to 64")),
-    }
-}
-
-/// The number that decimal digits spell, where it is at most the greatest.
-fn number(text: &str, greatest: u64) -> Option<u64>
-    ensures { IfSome result (λ n. n ≤ greatest) }
-{
-    if text.is_empty() || !text.bytes().all(|byte| byte.is_ascii_digit()) {
-        return None;
-    }
-    let number = text.parse::<u64>().ok()?;
-    if number <= greatest {
-        Some(number)
-    } else {
-        None
-    }
-}
-
-/// The text of an error of the command line.
-fn error_of(alloc: Global, error: &clap::Error) -> RequestError {
-    if matches!(error.kind(), ErrorKind::OutOfMemory) {
-        return RequestError::Memory;
-    }
-    match error.to_string(alloc) {
-        Ok(text) => RequestError::Usage(Usage { text }),
-        Err(_) => RequestError::Memory,
-    }
-}
-
-/// A value that is out of its range.
-fn refused(alloc: Global, reason: &str) -> RequestError {
-    match format!(in alloc; "error: {reason}\n\nFor more information, try '--help'.\n") {
-        Ok(text) => RequestError::Usage(Usage { text }),
-        Err(_) => RequestError::Memory,
-    }
+/// The text that refuses words for a reason.
+fn refused(alloc: Global, reason: &str) -> Result<String, AllocError> {
+    format!(in alloc; "error: {reason}\n\nFor more information, try '--help'.\n")
 }

@@ -1,11 +1,22 @@
 //! The command line: what its words ask for.
 #![tactic(auto)]
 
+/// Requests, read from what words say.
+mod asked;
+/// The words, read; and the help of the program.
+mod command_line;
+/// What parts say for an option.
+mod given;
+/// Numbers as words write them.
+mod number;
+/// What words say, one after the other.
+mod part;
 /// What a command line can ask for.
 pub mod request;
-
-/// The words, read.
-mod command_line;
+/// The subcommands, their names and their options.
+mod subcommand;
 
 pub use command_line::request_of;
-pub use request::{ModelFile, PartitionChoice, Plan, Request, RequestError, Run, Usage};
+pub use request::{
+    ModelFile, PartitionChoice, Plan, Request, RequestError, Run, Stats, TraceFiles, Usage,
+};

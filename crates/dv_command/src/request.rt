@@ -1,9 +1,13 @@
 //! What a command line asks for.
 
+ghost use Rattle.std.specs.Prelude.{◌≡◌};
 ghost use Rattle.dv_command.specs.Ranges.{AreInRange};
 
 use dv_explain::Explanation;
 use std::alloc::AllocError;
+
+/// The microstep limit of a run where none is given.
+pub(crate) const USUAL_LIMIT: u32 = 20;
 
 /// A subcommand with its values.
 #[derive(Debug, Drop)]
@@ -15,6 +19,12 @@ pub enum Request {
     Code(ModelFile),
     /// Print how a model is parted.
     Plan(Plan),
+    /// Print a model as a graph in the DOT language.
+    Graph(Plan),
+    /// Print a trace as a value change dump.
+    Vcd(TraceFiles),
+    /// Print what a trace says of each component, in numbers.
+    Stats(Stats),
     /// Print what a refusal or a fault means.
     Explain(&'static Explanation),
     /// Print the program's name and version, which is this text.
@@ -30,6 +40,25 @@ pub struct ModelFile {
     pub explained: bool,
 }
 
+/// A model with a trace of it.
+#[derive(Debug, Drop)]
+pub struct TraceFiles {
+    /// The file of the model.
+    pub model: String,
+    /// The file of the trace, as `run` printed it.
+    pub trace: String,
+    /// Whether a refusal is explained.
+    pub explained: bool,
+}
+
+/// Count what a trace says of each component.
+#[derive(Debug, Drop)]
+pub struct Stats {
+    pub files: TraceFiles,
+    /// Whether the numbers are printed with commas between them.
+    pub csv: bool,
+}
+
 /// How the components of a model are parted into processes.
 #[derive(Debug, Drop)]
 pub enum PartitionChoice {
@@ -39,7 +68,7 @@ pub enum PartitionChoice {
     Count(u32),
 }
 
-/// Part a model into processes, and print what comes of it.
+/// A model with how it is parted into processes.
 #[derive(Debug, Drop)]
 pub struct Plan {
     /// The file of the model.
@@ -61,8 +90,8 @@ pub struct Run {
     pub inputs: Option<String>,
     /// The last tick of the run, 0 to 10^12.
     pub horizon: u64,
-    /// The greatest microstep of a tick, 1 to 1,000, where it was given.
-    pub microsteps: Option<u32>,
+    /// The greatest microstep of a tick, 1 to 1,000; 20 where none was given.
+    pub microsteps: u32,
     /// The most rounds of turns and packets, where that was given; else there are as many as it takes.
     pub rounds: Option<u64>,
     /// The threads that run the processes, where that was given; it is not beside rounds.
@@ -88,6 +117,10 @@ pub enum RequestError {
 }
 
 impl From<AllocError> for RequestError {
+    ghost use Rattle.dv_command.specs.declared.request.RequestError.TheVariants.{Memory};
+
+    ghost from_gives = { λ _ e. e ≡ Memory };
+
     fn from(_error: AllocError) -> Self {
         RequestError::Memory
     }

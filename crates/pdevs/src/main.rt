@@ -22,9 +22,6 @@ use std::sync::Wait;
 use std::thread::Threads;
 use std::{fs, io};
 
-/// The microstep limit where none is asked for.
-const USUAL_LIMIT: u32 = 20;
-
 /// The packets that a link between processes holds.
 const LINK_CAPACITY: u32 = 16;
 
@@ -80,6 +77,9 @@ fn answer<R: AllocGlobal + Env + Files + Print + Eprint + Threads + Wait + Sync>
         Ok(Request::Run(run)) => run_model(rt, &run),
         Ok(Request::Code(code)) => list_model(rt, &code),
         Ok(Request::Plan(plan)) => plan_model(rt, &plan),
+        Ok(Request::Graph(_)) => Ok(ACCEPTED),
+        Ok(Request::Vcd(_)) => Ok(ACCEPTED),
+        Ok(Request::Stats(_)) => Ok(ACCEPTED),
         Ok(Request::Explain(explanation)) => {
             print!(rt; "{}", explanation_text(rt.alloc(), explanation)?)?;
             Ok(ACCEPTED)
@@ -279,9 +279,13 @@ fn run_model<R: AllocGlobal + Files + Print + Eprint + Threads + Wait + Sync>(
     let Some(inputs) = inputs_of(rt, run)? else {
         return Ok(REFUSED);
     };
-    let limit = run.microsteps.unwrap_or(USUAL_LIMIT);
-    let Some(options) = Options::new(run.horizon, limit, run.workers, run.rounds, LINK_CAPACITY)
-    else {
+    let Some(options) = Options::new(
+        run.horizon,
+        run.microsteps,
+        run.workers,
+        run.rounds,
+        LINK_CAPACITY,
+    ) else {
         return Ok(USAGE);
     };
     let mut writer = io::writer(rt);

@@ -1,7 +1,7 @@
 //! What the words of a command line ask for, and what is reported of how a run ended.
 
 use crate::report::{Source, explained, explanation_text};
-use dv_command::{PartitionChoice, Plan, Request, RequestError, Run, request_of};
+use dv_command::{PartitionChoice, Plan, Request, RequestError, Run, TraceFiles, request_of};
 use dv_explain::{Example, Explanation};
 use dv_inputs::{InputRefusal, InputRefusalNumber};
 use dv_job::{JobEnded, JobError, Options, check_bytes, run_plain, status};
@@ -38,20 +38,23 @@ fn push_partition(
 }
 
 // Model and partition.
-fn plan_text(alloc: Global, plan: &Plan) -> Result<String, AllocError> {
+fn plan_text(alloc: Global, name: &str, plan: &Plan) -> Result<String, AllocError> {
     let way = if plan.explained { "explained " } else { "" };
-    let mut text = format!(in alloc; "{way}plan {}", plan.model)?;
+    let mut text = format!(in alloc; "{way}{name} {}", plan.model)?;
     push_partition(&mut text, plan.partition.as_ref())?;
     Ok(text)
+}
+
+// Model and trace.
+fn trace_text(alloc: Global, name: &str, files: &TraceFiles) -> Result<String, AllocError> {
+    let way = if files.explained { "explained " } else { "" };
+    format!(in alloc; "{way}{name} {} of {}", files.trace, files.model)
 }
 
 // Model, horizon, microstep limit, partition, rounds and inputs.
 fn run_text(alloc: Global, run: &Run) -> Result<String, AllocError> {
     let way = if run.explained { "explained " } else { "" };
-    let mut text = format!(in alloc; "{way}{} {}", run.model, run.horizon)?;
-    if let Some(limit) = run.microsteps {
-        write!(text, " {limit}")?;
-    }
+    let mut text = format!(in alloc; "{way}{} {} {}", run.model, run.horizon, run.microsteps)?;
     push_partition(&mut text, run.partition.as_ref())?;
     if let Some(rounds) = run.rounds {
         write!(text, " for {rounds}")?;
@@ -75,7 +78,11 @@ fn summary(alloc: Global, words: &[String]) -> Result<String, AllocError> {
             code.model
         ),
         Ok(Request::Code(code)) => format!(in alloc; "code {}", code.model),
-        Ok(Request::Plan(plan)) => plan_text(alloc, &plan),
+        Ok(Request::Plan(plan)) => plan_text(alloc, "plan", &plan),
+        Ok(Request::Graph(plan)) => plan_text(alloc, "graph", &plan),
+        Ok(Request::Vcd(files)) => trace_text(alloc, "vcd", &files),
+        Ok(Request::Stats(stats)) if stats.csv => trace_text(alloc, "stats in csv", &stats.files),
+        Ok(Request::Stats(stats)) => trace_text(alloc, "stats", &stats.files),
         Ok(Request::Run(run)) => run_text(alloc, &run),
         Ok(Request::Explain(explanation)) => format!(in alloc; "explain {}", explanation.code),
         Ok(Request::Version(text)) => format!(in alloc; "version {text}"),
@@ -134,7 +141,7 @@ fn a_run_is_asked_for(rt: HostRuntime) {
     rows(
         &rt,
         &[
-            (&["run", "m.pd", "--horizon", "12"], "m.pd 12"),
+            (&["run", "m.pd", "--horizon", "12"], "m.pd 12 20"),
             (
                 &["run", "--horizon=12", "m.pd", "--microsteps", "3"],
                 "m.pd 12 3",
@@ -154,7 +161,7 @@ fn a_run_is_asked_for(rt: HostRuntime) {
             ),
             (
                 &["run", "m.pd", "--inputs", "i.txt", "--horizon", "5"],
-                "m.pd 5 with i.txt",
+                "m.pd 5 20 with i.txt",
             ),
             (
                 &[
@@ -168,7 +175,7 @@ fn a_run_is_asked_for(rt: HostRuntime) {
             ),
             (
                 &["run", "m.pd", "--horizon", "5", "--rounds", "0"],
-                "m.pd 5 for 0",
+                "m.pd 5 20 for 0",
             ),
             (
                 &[
@@ -178,13 +185,13 @@ fn a_run_is_asked_for(rt: HostRuntime) {
                     "m.pd",
                     "--horizon=5",
                 ],
-                "m.pd 5 in 2 for 18446744073709551615",
+                "m.pd 5 20 in 2 for 18446744073709551615",
             ),
-            (&["run", "--horizon", "5", "--", "-m"], "-m 5"),
-            (&["run", "-", "--horizon", "5"], "- 5"),
+            (&["run", "--horizon", "5", "--", "-m"], "-m 5 20"),
+            (&["run", "-", "--horizon", "5"], "- 5 20"),
             (
                 &["run", "m.pd", "--explain", "--horizon", "5"],
-                "explained m.pd 5",
+                "explained m.pd 5 20",
             ),
         ],
     );
@@ -205,7 +212,7 @@ fn a_partition_is_asked_for(rt: HostRuntime) {
             (&["plan", "--processes", "0", "m.pd"], "plan m.pd in 0"),
             (
                 &["run", "m.pd", "--horizon", "5", "--processes", "4294967295"],
-                "m.pd 5 in 4294967295",
+                "m.pd 5 20 in 4294967295",
             ),
             (
                 &[
@@ -217,7 +224,7 @@ fn a_partition_is_asked_for(rt: HostRuntime) {
                     "--inputs",
                     "i.txt",
                 ],
-                "m.pd 5 by p.json with i.txt",
+                "m.pd 5 20 by p.json with i.txt",
             ),
             (&["plan"], "usage"),
             (&["plan", "m.pd", "--horizon", "5"], "usage"),
@@ -254,6 +261,30 @@ fn an_explanation_is_asked_for(rt: HostRuntime) {
             (&["explain", "E19"], "usage"),
             (&["explain", "Q5"], "usage"),
             (&["explain"], "usage"),
+        ],
+    );
+}
+
+#[test]
+fn what_a_trace_says_is_asked_for(rt: HostRuntime) {
+    rows(
+        &rt,
+        &[
+            (&["graph", "m.pd", "--processes=3"], "graph m.pd in 3"),
+            (&["graph", "m.pd", "--csv"], "usage"),
+            (&["vcd", "m.pd", "t.txt"], "vcd t.txt of m.pd"),
+            (&["vcd", "m.pd"], "usage"),
+            (&["vcd", "m.pd", "t.txt", "--csv"], "usage"),
+            (&["vcd", "m.pd", "t.txt", "u.txt"], "usage"),
+            (
+                &["stats", "--explain", "m.pd", "t.txt"],
+                "explained stats t.txt of m.pd",
+            ),
+            (
+                &["stats", "m.pd", "--csv", "--", "-t"],
+                "stats in csv -t of m.pd",
+            ),
+            (&["stats", "m.pd", "t.txt", "--csv", "--csv"], "usage"),
         ],
     );
 }

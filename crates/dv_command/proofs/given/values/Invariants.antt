@@ -1,0 +1,8 @@
+use Rattle.std.proofs.Common.{◌≡◌, ◌++◌, map, drop}
+use Rattle.dv_command.specs.Steps.{said_in}
+use Rattle.dv_command.specs.Words.{values}
+use Rattle.dv_command.proofs.given.values.Given as goal
+
+abbrev pub invariant-loop-part : goal.invariant-loop-part
+invariant-loop-part l =
+    map (λ text. text.now) l.texts.items ++ values (map said_in (drop l.part-index l.parts)) ≡ values (map said_in l.parts)

@@ -1,0 +1,185 @@
+-- What words ask for.
+use Rattle.std.specs.Prelude.{◌≡◌, ◌⊎◌, ℕ, ◌^◌, ◌-◌, Bool, true, false, ◌||◌, ◌&&◌, MatchBool, IsSomeAnd, ⊤, List, [], ◌∷◌, ◌++◌, map}
+use Rattle.std.specs.Prelude.{Option, Some, None, option_map, is_some, string_bytes, bytes_eq, codes}
+use Rattle.std.specs.Char.{to_ascii_uppercase}
+use Rattle.std.specs.declared.string.String.{String}
+use Rattle.dv_time.specs.declared.TheConstants.{GREATEST_TICK, GREATEST_LIMIT}
+use Rattle.dv_command.specs.declared.subcommand.Subcommand.{Subcommand}
+use Rattle.dv_command.specs.declared.subcommand.Subcommand.TheVariants as subcommand
+use Rattle.dv_command.specs.declared.request.Request.{Request}
+use Rattle.dv_command.specs.declared.request.Request.TheVariants.{Check, Run, Code, Plan, Graph, Vcd, Stats, Explain, Version}
+use Rattle.dv_command.specs.declared.request.ModelFile.{ModelFile}
+use Rattle.dv_command.specs.declared.request.PartitionChoice.{PartitionChoice}
+use Rattle.dv_command.specs.declared.request.PartitionChoice.TheVariants.{File, Count}
+use Rattle.dv_command.specs.Numbers.{number_in}
+use Rattle.dv_command.specs.Subcommands.{subcommand_named}
+use Rattle.dv_command.specs.Words.{Said, Ready, at_most_one, given, said_by, values}
+use Rattle.dv_command.specs.declared.request.RequestError.{RequestError}
+use Rattle.dv_command.specs.declared.request.RequestError.TheVariants.{Memory, Usage}
+use Rattle.dv_command.specs.declared.request.Plan.{Plan as PlanRequest}
+use Rattle.dv_command.specs.declared.request.Run.{Run as RunRequest}
+use Rattle.dv_command.specs.declared.request.Stats.{Stats as StatsRequest}
+use Rattle.dv_command.specs.declared.request.TraceFiles.{TraceFiles}
+
+-- what fits, or nothing where nothing fits
+abbrev pub IsFitting : {A : Type 0} → (A → Type 0) → Option A → Type 0
+IsFitting {A} Fits None = (x : A) → ¬ (Fits x)
+IsFitting Fits (Some x) = Fits x
+
+-- the microstep limit of a run where none is given
+abbrev pub usual_limit : ℕ
+usual_limit = 20
+
+-- the most workers that a run may have
+abbrev pub most_workers : ℕ
+most_workers = 64
+
+-- whether a flag stands, once at most; nothing where it stands more often
+abbrev pub flag_in : List ℕ → List Said → Option Bool
+flag_in name said = option_map (λ text. is_some text) (at_most_one (given name said))
+
+-- the value of an option that need not stand; nothing where it stands more than once
+abbrev pub text_in : List ℕ → List Said → Option (Option (List ℕ))
+text_in name said = at_most_one (given name said)
+
+-- the number that an option's value writes, where it has one
+abbrev pub number_of : ℕ → ℕ → Option (List ℕ) → Option (Option ℕ)
+number_of least greatest None = Some None
+number_of least greatest (Some text) = option_map (λ n. Some n) (number_in least greatest text)
+
+-- goes on with what an option says
+abbrev pub of_text : {A : Type 0} → Option (Option (List ℕ)) → (Option (List ℕ) → Option A) → Option A
+of_text None rest = None
+of_text (Some text) rest = rest text
+
+-- the number of an option that need not stand; nothing where it stands more than once, or its value is no number of this range
+abbrev pub count_in : ℕ → ℕ → List ℕ → List Said → Option (Option ℕ)
+count_in least greatest name said = of_text (text_in name said) (number_of least greatest)
+
+-- what an option stands for that need not stand
+abbrev pub or_usual : ℕ → Option (Option ℕ) → Option ℕ
+or_usual usual None = None
+or_usual usual (Some None) = Some usual
+or_usual usual (Some (Some n)) = Some n
+
+-- what an option stands for that has to stand
+abbrev pub required : Option (Option ℕ) → Option ℕ
+required None = None
+required (Some given) = given
+
+-- the file of a partition, where one was chosen
+abbrev pub file_of : Option PartitionChoice → Option (List ℕ)
+file_of None = None
+file_of (Some (File name)) = Some (string_bytes name)
+file_of (Some (Count n)) = None
+
+-- the number of processes, where that was chosen
+abbrev pub processes_of : Option PartitionChoice → Option ℕ
+processes_of None = None
+processes_of (Some (File name)) = None
+processes_of (Some (Count n)) = Some n
+
+-- a partition is a file or a number of processes, or neither is given
+pub record AsksPartition (said : List Said) (partition : Option PartitionChoice) : Type 0 where
+  pub file : text_in (codes "--partition") said ≡ Some (file_of partition)
+  pub processes : count_in 0 (2 ^ 32 - 1) (codes "--processes") said ≡ Some (processes_of partition)
+
+-- `MODEL [--explain]`
+pub record AsksModel (said : List Said) (file : ModelFile) : Type 0 where
+  pub model : values said ≡ string_bytes file.model ∷ []
+  pub explained : flag_in (codes "--explain") said ≡ Some file.explained
+
+-- `MODEL [--partition F | --processes N] [--explain]`
+pub record AsksPlan (said : List Said) (plan : PlanRequest) : Type 0 where
+  pub model : values said ≡ string_bytes plan.model ∷ []
+  pub partition : AsksPartition said plan.partition
+  pub explained : flag_in (codes "--explain") said ≡ Some plan.explained
+
+-- `--inputs F`
+abbrev pub AsksInputs : {Z : Type 0} → List Said → Option (String Z) → Type 0
+AsksInputs said inputs = text_in (codes "--inputs") said ≡ Some (option_map string_bytes inputs)
+
+-- `--horizon H`, which has to stand
+abbrev pub AsksHorizon : List Said → ℕ → Type 0
+AsksHorizon said horizon = required (count_in 0 GREATEST_TICK (codes "--horizon") said) ≡ Some horizon
+
+-- `--microsteps L`
+abbrev pub AsksMicrosteps : List Said → ℕ → Type 0
+AsksMicrosteps said microsteps = or_usual usual_limit (count_in 1 GREATEST_LIMIT (codes "--microsteps") said) ≡ Some microsteps
+
+-- `--rounds N`, `--workers N`, or neither
+pub record AsksDriving (said : List Said) (rounds workers : Option ℕ) : Type 0 where
+  pub rounds_given : count_in 0 (2 ^ 64 - 1) (codes "--rounds") said ≡ Some rounds
+  pub workers_given : count_in 1 most_workers (codes "--workers") said ≡ Some workers
+  pub not_both : (is_some rounds && is_some workers) ≡ false
+
+-- `MODEL --horizon H [--partition F | --processes N] [--inputs F] [--microsteps L] [--rounds N | --workers N] [--explain]`
+pub record AsksRun (said : List Said) (run : RunRequest) : Type 0 where
+  pub model : values said ≡ string_bytes run.model ∷ []
+  pub partition : AsksPartition said run.partition
+  pub inputs : AsksInputs said run.inputs
+  pub horizon : AsksHorizon said run.horizon
+  pub microsteps : AsksMicrosteps said run.microsteps
+  pub driving : AsksDriving said run.rounds run.workers
+  pub explained : flag_in (codes "--explain") said ≡ Some run.explained
+
+-- `MODEL TRACE [--explain]`
+pub record AsksTrace (said : List Said) (files : TraceFiles) : Type 0 where
+  pub names : values said ≡ string_bytes files.model ∷ (string_bytes files.trace ∷ [])
+  pub explained : flag_in (codes "--explain") said ≡ Some files.explained
+
+-- `MODEL TRACE [--csv] [--explain]`
+pub record AsksStats (said : List Said) (stats : StatsRequest) : Type 0 where
+  pub files : AsksTrace said stats.files
+  pub csv : flag_in (codes "--csv") said ≡ Some stats.csv
+
+-- `CODE`, as it is printed, or in small letters
+abbrev pub AsksCode : List Said → List ℕ → Type 0
+AsksCode said code = (values said ≡ code ∷ []) ⊎ ((text : List ℕ) × (values said ≡ text ∷ []) × (code ≡ map to_ascii_uppercase text))
+
+-- what is said behind a subcommand asks for this
+abbrev pub AsksBehind : Subcommand → List Said → Request → Type 0
+AsksBehind subcommand.Check said (Check file) = AsksModel said file
+AsksBehind subcommand.Code said (Code file) = AsksModel said file
+AsksBehind subcommand.Explain said (Explain explanation) = AsksCode said explanation.now.code.now
+AsksBehind subcommand.Graph said (Graph plan) = AsksPlan said plan
+AsksBehind subcommand.Plan said (Plan plan) = AsksPlan said plan
+AsksBehind subcommand.Run said (Run run) = AsksRun said run
+AsksBehind subcommand.Stats said (Stats stats) = AsksStats said stats
+AsksBehind subcommand.Vcd said (Vcd files) = AsksTrace said files
+AsksBehind _ _ _ = ⊥
+
+-- the words behind the name of a subcommand ask for this
+abbrev pub AsksWith : Option Subcommand → List (List ℕ) → Request → Type 0
+AsksWith None words request = ⊥
+AsksWith (Some subcommand) words request = IsSomeAnd (said_by subcommand Ready words) (λ said. AsksBehind subcommand said request)
+
+-- `--version` or `-V`
+abbrev pub is_version : List ℕ → Bool
+is_version word = bytes_eq word (codes "--version") || bytes_eq word (codes "-V")
+
+-- the program's name and version are asked for, as a line
+abbrev pub IsVersion : Request → Type 0
+IsVersion (Version text) = string_bytes text ≡ codes "pdevs 0.1.0" ++ 10 ∷ []
+IsVersion _ = ⊥
+
+-- what a command line asks for; its first word is the program's name
+abbrev pub Asks : List (List ℕ) → Request → Type 0
+Asks [] request = ⊥
+Asks (program ∷ []) request = ⊥
+Asks (program ∷ word ∷ words) request = MatchBool (is_version word) (IsVersion request) (AsksWith (subcommand_named word) words request)
+
+-- whether a request is an explanation
+abbrev pub is_explanation : Request → Bool
+is_explanation (Explain explanation) = true
+is_explanation _ = false
+
+-- what is asked for; or nothing where nothing is, but that no explanation has the code that is asked for is not said
+abbrev pub IsAnswer : (Request → Type 0) → Option Request → Type 0
+IsAnswer Wanted None = (request : Request) → is_explanation request ≡ false → ¬ (Wanted request)
+IsAnswer Wanted (Some request) = Wanted request
+
+-- where the words are no command, they ask for nothing
+abbrev pub AnswersNothing : (Request → Type 0) → RequestError → Type 0
+AnswersNothing Wanted (Usage usage) = IsAnswer Wanted None
+AnswersNothing Wanted Memory = ⊤

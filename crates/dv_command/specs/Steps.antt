@@ -1,0 +1,24 @@
+-- What each part of the reader reads.
+use Rattle.std.specs.Prelude.{option_map}
+use Rattle.dv_command.specs.declared.part.Part.{Part}
+use Rattle.dv_command.specs.declared.part.Part.TheVariants as part
+use Rattle.dv_command.specs.declared.part.Place.{Place}
+use Rattle.dv_command.specs.declared.part.Place.TheVariants as place
+use Rattle.dv_command.specs.declared.part.Read.{Read}
+use Rattle.dv_command.specs.Words.{Said, Value, Flag, Setting, Reading, Ready, Awaits, Ended, Step}
+
+-- what a part says
+abbrev pub said_in : Part → Said
+said_in (part.Value text) = Value text.now
+said_in (part.Flag name) = Flag name.now
+said_in (part.Setting name value) = Setting name.now value.now
+
+-- how the next word is read
+abbrev pub reading_of : Place → Reading
+reading_of place.Ready = Ready
+reading_of (place.Awaits name) = Awaits name.now
+reading_of place.Ended = Ended
+
+-- what a word says
+abbrev pub step_of : Read → Step
+step_of read = record { said = option_map said_in read.part; next = reading_of read.next }

@@ -1,0 +1,329 @@
+//! Requests, read from what words say.
+
+ghost use Rattle.std.specs.Prelude.{◌≡◌, ◌≤◌, ◌∷◌, [], IfOk, IfSome, map, string_bytes};
+ghost use Rattle.dv_time.specs.declared.TheConstants.{GREATEST_TICK, GREATEST_LIMIT};
+ghost use Rattle.dv_command.specs.Asked.{Asks, AsksBehind, AsksCode, AsksDriving, AsksHorizon, AsksInputs, AsksMicrosteps, AsksModel, AsksPartition, AsksPlan, AsksRun, AsksStats, AsksTrace, AsksWith, IsAnswer, IsFitting, IsVersion, is_version};
+ghost use Rattle.dv_command.specs.Subcommands.{subcommand_named};
+ghost use Rattle.dv_command.specs.Steps.{said_in};
+ghost use Rattle.dv_command.specs.Words.{values};
+
+use crate::given::{count_in, flag_in, text_in, values};
+use crate::part::{Part, said_by};
+use crate::request::{
+    ModelFile, PartitionChoice, Plan, Request, Run, Stats, TraceFiles, USUAL_LIMIT,
+};
+use crate::subcommand::{Subcommand, subcommand_named};
+use dv_explain::{Explanation, explanation_in_any_case};
+use dv_time::{GREATEST_LIMIT, GREATEST_TICK};
+use std::alloc::{AllocError, Global};
+
+/// The version of the program, which `specs/Asked.antt` says, too.
+pub(crate) const VERSION: &str = "0.1.0";
+
+/// The most workers that a run may have.
+pub(crate) const MOST_WORKERS: u64 = 64;
+
+/// The only value by itself.
+fn only_value(alloc: Global, parts: &[Part<'_>]) -> Result<Option<String>, AllocError>
+    ensures { IfOk result (IsFitting (λ text. values (map said_in parts.now)
+        ≡ string_bytes text ∷ [])) }
+{
+    let texts = values(alloc, parts)?;
+    match texts.as_slice() {
+        [text] => Ok(Some(String::from_str(alloc, text)?)),
+        [] => Ok(None),
+        [_, _, ..] => Ok(None),
+    }
+}
+
+fn model_in(alloc: Global, parts: &[Part<'_>]) -> Result<Option<ModelFile>, AllocError>
+    ensures { IfOk result (IsFitting (AsksModel (map said_in parts.now))) }
+{
+    let Some(model) = only_value(alloc, parts)? else {
+        return Ok(None);
+    };
+    let Some(explained) = flag_in(alloc, "--explain", parts)? else {
+        return Ok(None);
+    };
+    Ok(Some(ModelFile { model, explained }))
+}
+
+/// How the components are parted, where that is given.
+fn partition_in(
+    alloc: Global,
+    parts: &[Part<'_>],
+) -> Result<Option<Option<PartitionChoice>>, AllocError>
+    ensures { IfOk result (IsFitting (AsksPartition (map said_in parts.now))) }
+{
+    let Some(file) = text_in(alloc, "--partition", parts)? else {
+        return Ok(None);
+    };
+    let most = u64::from(u32::MAX);
+    let Some(count) = count_in(alloc, 0, most, "--processes", parts)? else {
+        return Ok(None);
+    };
+    match (file, count) {
+        (None, None) => Ok(Some(None)),
+        (Some(file), None) => {
+            let name = String::from_str(alloc, file)?;
+            Ok(Some(Some(PartitionChoice::File(name))))
+        }
+        (None, Some(count)) => Ok(Some(Some(PartitionChoice::Count(count as u32)))),
+        (Some(_), Some(_)) => Ok(None),
+    }
+}
+
+fn plan_in(alloc: Global, parts: &[Part<'_>]) -> Result<Option<Plan>, AllocError>
+    ensures { IfOk result (IsFitting (AsksPlan (map said_in parts.now))) }
+{
+    let Some(model) = only_value(alloc, parts)? else {
+        return Ok(None);
+    };
+    let Some(partition) = partition_in(alloc, parts)? else {
+        return Ok(None);
+    };
+    let Some(explained) = flag_in(alloc, "--explain", parts)? else {
+        return Ok(None);
+    };
+    Ok(Some(Plan {
+        model,
+        partition,
+        explained,
+    }))
+}
+
+fn trace_in(alloc: Global, parts: &[Part<'_>]) -> Result<Option<TraceFiles>, AllocError>
+    ensures { IfOk result (IsFitting (AsksTrace (map said_in parts.now))) }
+{
+    let Some(explained) = flag_in(alloc, "--explain", parts)? else {
+        return Ok(None);
+    };
+    let texts = values(alloc, parts)?;
+    match texts.as_slice() {
+        [model, trace] => Ok(Some(TraceFiles {
+            model: String::from_str(alloc, model)?,
+            trace: String::from_str(alloc, trace)?,
+            explained,
+        })),
+        [] => Ok(None),
+        [_] => Ok(None),
+        [_, _, _, ..] => Ok(None),
+    }
+}
+
+fn stats_in(alloc: Global, parts: &[Part<'_>]) -> Result<Option<Stats>, AllocError>
+    ensures { IfOk result (IsFitting (AsksStats (map said_in parts.now))) }
+{
+    let Some(files) = trace_in(alloc, parts)? else {
+        return Ok(None);
+    };
+    let Some(csv) = flag_in(alloc, "--csv", parts)? else {
+        return Ok(None);
+    };
+    Ok(Some(Stats { files, csv }))
+}
+
+/// The file of the inputs, where one is given.
+fn inputs_in(alloc: Global, parts: &[Part<'_>]) -> Result<Option<Option<String>>, AllocError>
+    ensures { IfOk result (IsFitting (AsksInputs (map said_in parts.now))) }
+{
+    match text_in(alloc, "--inputs", parts)? {
+        None => Ok(None),
+        Some(None) => Ok(Some(None)),
+        Some(Some(name)) => Ok(Some(Some(String::from_str(alloc, name)?))),
+    }
+}
+
+/// The last tick of a run.
+fn horizon_in(alloc: Global, parts: &[Part<'_>]) -> Result<Option<u64>, AllocError>
+    ensures fits { IfOk result (IsFitting (AsksHorizon (map said_in parts.now))) }
+    ensures in_range { IfOk result (λ r. IfSome r (λ tick. tick ≤ GREATEST_TICK)) }
+{
+    match count_in(alloc, 0, GREATEST_TICK, "--horizon", parts)? {
+        Some(Some(horizon)) => Ok(Some(horizon)),
+        Some(None) => Ok(None),
+        None => Ok(None),
+    }
+}
+
+/// The greatest microstep of a tick.
+fn microsteps_in(alloc: Global, parts: &[Part<'_>]) -> Result<Option<u32>, AllocError>
+    ensures fits { IfOk result (IsFitting (AsksMicrosteps (map said_in parts.now))) }
+    ensures in_range { IfOk result (λ r. IfSome r (λ limit. (1 ≤ limit) × (limit ≤ GREATEST_LIMIT))) }
+{
+    let most = u64::from(GREATEST_LIMIT);
+    match count_in(alloc, 1, most, "--microsteps", parts)? {
+        Some(Some(limit)) => Ok(Some(limit as u32)),
+        Some(None) => Ok(Some(USUAL_LIMIT)),
+        None => Ok(None),
+    }
+}
+
+/// The rounds and the workers, of which one at most is given.
+fn driving_in(
+    alloc: Global,
+    parts: &[Part<'_>],
+) -> Result<Option<(Option<u64>, Option<u32>)>, AllocError>
+    ensures { IfOk result (IsFitting (λ driving. AsksDriving (map said_in parts.now)
+        driving.0 driving.1)) }
+{
+    let Some(rounds) = count_in(alloc, 0, u64::MAX, "--rounds", parts)? else {
+        return Ok(None);
+    };
+    let Some(workers) = count_in(alloc, 1, MOST_WORKERS, "--workers", parts)? else {
+        return Ok(None);
+    };
+    match (rounds, workers) {
+        (None, None) => Ok(Some((None, None))),
+        (Some(rounds), None) => Ok(Some((Some(rounds), None))),
+        (None, Some(workers)) => Ok(Some((None, Some(workers as u32)))),
+        (Some(_), Some(_)) => Ok(None),
+    }
+}
+
+fn run_in(alloc: Global, parts: &[Part<'_>]) -> Result<Option<Run>, AllocError>
+    ensures { IfOk result (IsFitting (AsksRun (map said_in parts.now))) }
+{
+    let Some(model) = only_value(alloc, parts)? else {
+        return Ok(None);
+    };
+    let Some(partition) = partition_in(alloc, parts)? else {
+        return Ok(None);
+    };
+    let Some(inputs) = inputs_in(alloc, parts)? else {
+        return Ok(None);
+    };
+    let Some(horizon) = horizon_in(alloc, parts)? else {
+        return Ok(None);
+    };
+    let Some(microsteps) = microsteps_in(alloc, parts)? else {
+        return Ok(None);
+    };
+    let Some((rounds, workers)) = driving_in(alloc, parts)? else {
+        return Ok(None);
+    };
+    let Some(explained) = flag_in(alloc, "--explain", parts)? else {
+        return Ok(None);
+    };
+    Ok(Some(Run {
+        model,
+        partition,
+        inputs,
+        horizon,
+        microsteps,
+        rounds,
+        workers,
+        explained,
+    }))
+}
+
+/// The explanation of the code that is given, where there is one.
+fn explanation_in(
+    alloc: Global,
+    parts: &[Part<'_>],
+) -> Result<Option<&'static Explanation>, AllocError>
+    ensures { IfOk result (λ r. IfSome r (λ explanation. AsksCode (map said_in parts.now)
+        explanation.now.code.now)) }
+{
+    let texts = values(alloc, parts)?;
+    match texts.as_slice() {
+        [code] => explanation_in_any_case(alloc, code),
+        [] => Ok(None),
+        [_, _, ..] => Ok(None),
+    }
+}
+
+/// What is said behind a subcommand asks for.
+fn asked_behind(
+    alloc: Global,
+    subcommand: Subcommand,
+    parts: &[Part<'_>],
+) -> Result<Option<Request>, AllocError>
+    ensures { IfOk result (IsAnswer (AsksBehind subcommand (map said_in parts.now))) }
+{
+    match subcommand {
+        Subcommand::Check => match model_in(alloc, parts)? {
+            Some(file) => Ok(Some(Request::Check(file))),
+            None => Ok(None),
+        },
+        Subcommand::Code => match model_in(alloc, parts)? {
+            Some(file) => Ok(Some(Request::Code(file))),
+            None => Ok(None),
+        },
+        Subcommand::Explain => match explanation_in(alloc, parts)? {
+            Some(explanation) => Ok(Some(Request::Explain(explanation))),
+            None => Ok(None),
+        },
+        Subcommand::Graph => match plan_in(alloc, parts)? {
+            Some(plan) => Ok(Some(Request::Graph(plan))),
+            None => Ok(None),
+        },
+        Subcommand::Plan => match plan_in(alloc, parts)? {
+            Some(plan) => Ok(Some(Request::Plan(plan))),
+            None => Ok(None),
+        },
+        Subcommand::Run => match run_in(alloc, parts)? {
+            Some(run) => Ok(Some(Request::Run(run))),
+            None => Ok(None),
+        },
+        Subcommand::Stats => match stats_in(alloc, parts)? {
+            Some(stats) => Ok(Some(Request::Stats(stats))),
+            None => Ok(None),
+        },
+        Subcommand::Vcd => match trace_in(alloc, parts)? {
+            Some(files) => Ok(Some(Request::Vcd(files))),
+            None => Ok(None),
+        },
+    }
+}
+
+/// What the words behind the name of a subcommand ask for.
+fn asked_with(alloc: Global, name: &str, words: &[String]) -> Result<Option<Request>, AllocError>
+    ensures { IfOk result (IsAnswer (AsksWith (subcommand_named name.now)
+        (map string_bytes words.now))) }
+{
+    let Some(subcommand) = subcommand_named(name) else {
+        return Ok(None);
+    };
+    match said_by(alloc, subcommand, words)? {
+        Some(parts) => asked_behind(alloc, subcommand, &parts),
+        None => Ok(None),
+    }
+}
+
+/// Whether a word asks for the version.
+fn is_version(word: &str) -> bool
+    ensures { result ≡ is_version word.now }
+{
+    word == "--version" || word == "-V"
+}
+
+/// The program's name and version.
+fn version(alloc: Global) -> Result<Request, AllocError>
+    ensures { IfOk result IsVersion }
+{
+    let mut text = String::from_str(alloc, "pdevs ")?;
+    text.push_str(VERSION)?;
+    text.push('\n')?;
+    Ok(Request::Version(text))
+}
+
+/// What a command line asks for, where it asks for something; its first word is the program's name.
+///
+/// # Errors
+///
+/// No memory for the request.
+pub(crate) fn asked(alloc: Global, words: &[String]) -> Result<Option<Request>, AllocError>
+    ensures { IfOk result (IsAnswer (Asks (map string_bytes words.now))) }
+{
+    match words {
+        [_, word, rest @ ..] => {
+            if is_version(word.as_str()) {
+                return Ok(Some(version(alloc)?));
+            }
+            asked_with(alloc, word.as_str(), rest)
+        }
+        [] => Ok(None),
+        [_] => Ok(None),
+    }
+}

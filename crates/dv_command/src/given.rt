@@ -1,0 +1,125 @@
+//! What parts say for an option.
+
+ghost use Rattle.std.specs.Prelude.{◌≡◌, ◌≤◌, List, ℕ, map, option_map, filter_map, IfOk, is_some, IfSome};
+ghost use Rattle.dv_command.specs.Words.{at_most_one, given, named_in, value_in, values};
+ghost use Rattle.dv_command.specs.Asked.{count_in, flag_in, number_of, text_in};
+ghost use Rattle.dv_command.specs.Steps.{said_in};
+
+use crate::number::number_in;
+use crate::part::Part;
+use std::alloc::{AllocError, Global};
+
+fn value_in<'a>(part: Part<'a>) -> Option<&'a str>
+    ensures { option_map (λ text. text.now) result ≡ value_in (said_in part.entry) }
+{
+    match part {
+        Part::Value(text) => Some(text),
+        Part::Flag(_) => None,
+        Part::Setting(_, _) => None,
+    }
+}
+
+fn named_in<'a>(wanted: &str, part: Part<'a>) -> Option<&'a str>
+    ensures { option_map (λ text. text.now) result ≡ named_in wanted.now (said_in part.entry) }
+{
+    match part {
+        Part::Value(_) => None,
+        Part::Flag(name) => { if name == wanted { Some(name) } else { None } }
+        Part::Setting(name, value) => { if name == wanted { Some(value) } else { None } }
+    }
+}
+
+/// The values that stand by themselves, in their order.
+pub(crate) fn values<'a>(alloc: Global, parts: &[Part<'a>]) -> Result<Vec<&'a str>, AllocError>
+    ensures { IfOk result (λ r. map (λ text. text.now) r.items ≡ values (map said_in parts.now)) }
+{
+    let mut texts = Vec::new(alloc);
+    for part in parts {
+        if let Some(text) = value_in(*part) {
+            texts.push(text)?;
+        }
+    }
+    Ok(texts)
+}
+
+/// All that is said to the option of this name.
+fn given<'a>(alloc: Global, name: &str, parts: &[Part<'a>]) -> Result<Vec<&'a str>, AllocError>
+    ensures { IfOk result (λ r. map (λ text. text.now) r.items
+        ≡ given name.now (map said_in parts.now)) }
+{
+    let mut texts = Vec::new(alloc);
+    for part in parts {
+        if let Some(text) = named_in(name, *part) {
+            texts.push(text)?;
+        }
+    }
+    Ok(texts)
+}
+
+/// The only text, if there is any.
+fn at_most_one<'a>(texts: &[&'a str]) -> Option<Option<&'a str>>
+    ensures { option_map (option_map (λ text. text.now)) result
+        ≡ at_most_one (map (λ text. text.now) texts.now) }
+{
+    match texts {
+        [] => Some(None),
+        [text] => Some(Some(*text)),
+        [_, _, ..] => None,
+    }
+}
+
+/// The value of an option that need not stand; nothing where it stands more than once.
+pub(crate) fn text_in<'a>(
+    alloc: Global,
+    name: &str,
+    parts: &[Part<'a>],
+) -> Result<Option<Option<&'a str>>, AllocError>
+    ensures { IfOk result (λ r. option_map (option_map (λ text. text.now)) r
+        ≡ text_in name.now (map said_in parts.now)) }
+{
+    let texts = given(alloc, name, parts)?;
+    Ok(at_most_one(&texts))
+}
+
+/// Whether a flag stands; nothing where it stands more than once.
+pub(crate) fn flag_in(
+    alloc: Global,
+    name: &str,
+    parts: &[Part<'_>],
+) -> Result<Option<bool>, AllocError>
+    ensures { IfOk result (λ r. r ≡ flag_in name.now (map said_in parts.now)) }
+{
+    match text_in(alloc, name, parts)? {
+        Some(text) => Ok(Some(text.is_some())),
+        None => Ok(None),
+    }
+}
+
+/// The number that an option's value writes, where it has one.
+fn number_of(least: u64, greatest: u64, text: Option<&str>) -> Option<Option<u64>>
+    ensures { result ≡ number_of least greatest (option_map (λ text. text.now) text.entry) }
+{
+    match text {
+        None => Some(None),
+        Some(text) => match number_in(least, greatest, text) {
+            Some(number) => Some(Some(number)),
+            None => None,
+        },
+    }
+}
+
+/// The number of an option that need not stand; nothing where it stands more than once, or its value is no number of this range.
+pub(crate) fn count_in(
+    alloc: Global,
+    least: u64,
+    greatest: u64,
+    name: &str,
+    parts: &[Part<'_>],
+) -> Result<Option<Option<u64>>, AllocError>
+    ensures { IfOk result (λ r. r ≡ count_in least greatest name.now (map said_in parts.now)) }
+{
+    match text_in(alloc, name, parts)? {
+        Some(text) => Ok(number_of(least, greatest, text)),
+        None => Ok(None),
+    }
+}
