@@ -1,0 +1,86 @@
+//! The runs of the model.
+
+use dv_job::{JobEnded, JobError, Options, run_bytes, run_plain, run_watched};
+use dv_partition::Partition;
+use dv_run::Watch;
+use std::alloc::Global;
+use std::io::Write;
+use std::sync::Wait;
+use std::thread::Threads;
+
+/// The last tick.
+const HORIZON: u64 = 10;
+
+/// The model, and the text of its trace by the plain run.
+#[derive(Drop)]
+pub struct Model<'t> {
+    pub text: &'t [u8],
+    pub trace: Vec<u8>,
+}
+
+impl<'t> Model<'t> {
+    /// A model with its trace; `None` where the plain run does not end whole.
+    pub fn of(alloc: Global, text: &'t [u8]) -> Option<Self> {
+        let options = options()?;
+        let mut trace = Vec::new(alloc);
+        match run_plain(alloc, text, b"", &options, &mut trace) {
+            Ok(JobEnded::Whole) => Some(Model { text, trace }),
+            _ => None,
+        }
+    }
+
+    /// Whether a run ended whole, and what it wrote is the trace.
+    pub fn is_trace(&self, ended: &Result<JobEnded, JobError>, written: &[u8]) -> bool {
+        matches!(ended, Ok(JobEnded::Whole)) && written == self.trace.as_slice()
+    }
+}
+
+fn options() -> Option<Options> {
+    Options::new(HORIZON, 20, None, None, 16)
+}
+
+/// Runs the model in three processes by so many workers, whose turns are watched.
+pub fn run_by<R: AllocGlobal + Threads + Wait + Sync, G: Watch, W: Write>(
+    rt: &R,
+    model: &Model<'_>,
+    workers: u32,
+    watch: &G,
+    writer: &mut W,
+) -> Result<JobEnded, JobError> {
+    let Some(options) = options() else {
+        return Err(JobError::Memory);
+    };
+    if workers == 0 {
+        return Err(JobError::Memory);
+    }
+    run_watched(
+        rt,
+        rt.alloc(),
+        model.text,
+        b"",
+        Partition::Count(3),
+        &options,
+        workers,
+        watch,
+        writer,
+    )
+}
+
+/// Runs the model in three processes, in rounds.
+pub fn run_in_rounds<W: Write>(
+    alloc: Global,
+    model: &Model<'_>,
+    writer: &mut W,
+) -> Result<JobEnded, JobError> {
+    let Some(options) = options() else {
+        return Err(JobError::Memory);
+    };
+    run_bytes(
+        alloc,
+        model.text,
+        b"",
+        Partition::Count(3),
+        &options,
+        writer,
+    )
+}

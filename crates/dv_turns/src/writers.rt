@@ -1,0 +1,66 @@
+//! Writers.
+
+use std::alloc::Global;
+use std::io;
+use std::io::{ErrorKind, Write};
+use std::sync::atomic::{AtomicBool, Ordering};
+
+/// A writer that raises a flag as it gets its first byte.
+#[derive(Drop)]
+pub struct Telling<'f> {
+    pub bytes: Vec<u8>,
+    pub told: &'f AtomicBool,
+}
+
+impl<'f> Write for Telling<'f> {
+    fn write(&mut self, buf: &[u8]) -> io::Result<usize> {
+        self.bytes.extend_from_slice(buf)?;
+        if !buf.is_empty() {
+            self.told.store(true, Ordering::SeqCst);
+        }
+        Ok(buf.len())
+    }
+
+    fn flush(&mut self) -> io::Result<()> {
+        Ok(())
+    }
+}
+
+/// A writer that takes one byte a call, and fails at a call.
+#[derive(Drop)]
+pub struct Reluctant {
+    pub bytes: Vec<u8>,
+    calls: usize,
+    fails_at: usize,
+}
+
+impl Reluctant {
+    /// It fails at this call, the first of which is 1; at 0 it never does.
+    pub fn new(alloc: Global, fails_at: usize) -> Self {
+        Reluctant {
+            bytes: Vec::new(alloc),
+            calls: 0,
+            fails_at,
+        }
+    }
+}
+
+impl Write for Reluctant {
+    fn write(&mut self, buf: &[u8]) -> io::Result<usize> {
+        self.calls = self.calls.saturating_add(1);
+        if self.calls == self.fails_at {
+            return Err(io::Error::from(ErrorKind::Other));
+        }
+        match buf {
+            [first, ..] => {
+                self.bytes.push(*first)?;
+                Ok(1)
+            }
+            [] => Ok(0),
+        }
+    }
+
+    fn flush(&mut self) -> io::Result<()> {
+        Ok(())
+    }
+}
