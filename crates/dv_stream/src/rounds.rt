@@ -31,7 +31,7 @@ use std::io::Write;
 
 // Between so many rounds the trace is written. A piece costs an access to each process and a write, which are then little beside
 // the rounds; and a reader waits for no more than the rounds take.
-const ROUNDS_BETWEEN: u64 = 1_024;
+const ROUNDS_BETWEEN: u64 = 64;
 
 /// What ran, and up to when its trace was written.
 #[derive(Drop)]
