@@ -1,17 +1,20 @@
-//! The program: checks model texts, runs them and prints their traces, prints their programs and their plans, and explains
-//! refusals and faults.
+//! The program: checks model texts, runs them and prints their traces, prints their programs, plans and graphs, prints traces
+//! as wave forms and in numbers, and explains refusals and faults.
 #![tactic(auto)]
 
 mod report;
 #[cfg(test)]
 mod tests;
 
-use dv_command::{ModelFile, PartitionChoice, Plan, Request, RequestError, Run, request_of};
+use dv_command::{
+    ModelFile, PartitionChoice, Plan, Request, RequestError, Run, Stats, TraceFiles, request_of,
+};
 use dv_job::{
     JobEnded, JobError, Options, check_bytes, list_code, plan_bytes, run_by_workers, run_bytes,
     status,
 };
 use dv_partition::Partition;
+use dv_views::{Form, ViewError, graph_bytes, stats_bytes, vcd_bytes};
 use report::{Source, explained, explanation_text};
 use std::alloc::AllocError;
 use std::fmt::Display;
@@ -77,9 +80,9 @@ fn answer<R: AllocGlobal + Env + Files + Print + Eprint + Threads + Wait + Sync>
         Ok(Request::Run(run)) => run_model(rt, &run),
         Ok(Request::Code(code)) => list_model(rt, &code),
         Ok(Request::Plan(plan)) => plan_model(rt, &plan),
-        Ok(Request::Graph(_)) => Ok(ACCEPTED),
-        Ok(Request::Vcd(_)) => Ok(ACCEPTED),
-        Ok(Request::Stats(_)) => Ok(ACCEPTED),
+        Ok(Request::Graph(graph)) => graph_model(rt, &graph),
+        Ok(Request::Vcd(files)) => dump_trace(rt, &files),
+        Ok(Request::Stats(stats)) => count_trace(rt, &stats),
         Ok(Request::Explain(explanation)) => {
             print!(rt; "{}", explanation_text(rt.alloc(), explanation)?)?;
             Ok(ACCEPTED)
@@ -215,6 +218,90 @@ fn plan_model<R: AllocGlobal + Files + Print + Eprint>(rt: &R, plan: &Plan) -> i
             tell_of_model(rt, plan.model.as_str(), &model, &error, plan.explained);
             Ok(REFUSED)
         }
+    }
+}
+
+/// Tells why there is no view, and answers the status.
+fn tell_of_view<R: AllocGlobal + Eprint>(
+    rt: &R,
+    name: &str,
+    model: &[u8],
+    error: &ViewError,
+    is_explained: bool,
+) -> u8 {
+    match error {
+        ViewError::Job(error) => tell_of_model(rt, name, model, error, is_explained),
+        ViewError::Trace(refusal) => tell_line(rt, *refusal),
+    }
+    REFUSED
+}
+
+/// Prints the graph that was asked for, and answers the status. Files are read in the order model, partition.
+fn graph_model<R: AllocGlobal + Files + Print + Eprint>(rt: &R, graph: &Plan) -> io::Result<u8> {
+    let name = graph.model.as_str();
+    let Some(model) = bytes_of(rt, name)? else {
+        return Ok(REFUSED);
+    };
+    let Some(parting) = parting_of(rt, graph.partition.as_ref())? else {
+        return Ok(REFUSED);
+    };
+    let groups = if graph.partition.is_some() {
+        Some(parting.partition())
+    } else {
+        None
+    };
+    let mut writer = io::writer(rt);
+    let mut result = graph_bytes(rt.alloc(), &model, groups, &mut writer);
+    if writer.flush().is_err() {
+        result = Err(ViewError::Job(JobError::Write));
+    }
+    match result {
+        Ok(()) => Ok(ACCEPTED),
+        Err(error) => Ok(tell_of_view(rt, name, &model, &error, graph.explained)),
+    }
+}
+
+/// Prints the value change dump that was asked for, and answers the status. Files are read in the order model, trace.
+fn dump_trace<R: AllocGlobal + Files + Print + Eprint>(
+    rt: &R,
+    files: &TraceFiles,
+) -> io::Result<u8> {
+    let name = files.model.as_str();
+    let Some(model) = bytes_of(rt, name)? else {
+        return Ok(REFUSED);
+    };
+    let Some(trace) = bytes_of(rt, files.trace.as_str())? else {
+        return Ok(REFUSED);
+    };
+    let mut writer = io::writer(rt);
+    let mut result = vcd_bytes(rt.alloc(), &model, &trace, &mut writer);
+    if writer.flush().is_err() {
+        result = Err(ViewError::Job(JobError::Write));
+    }
+    match result {
+        Ok(()) => Ok(ACCEPTED),
+        Err(error) => Ok(tell_of_view(rt, name, &model, &error, files.explained)),
+    }
+}
+
+/// Prints the numbers that were asked for, and answers the status. Files are read in the order model, trace.
+fn count_trace<R: AllocGlobal + Files + Print + Eprint>(rt: &R, stats: &Stats) -> io::Result<u8> {
+    let name = stats.files.model.as_str();
+    let Some(model) = bytes_of(rt, name)? else {
+        return Ok(REFUSED);
+    };
+    let Some(trace) = bytes_of(rt, stats.files.trace.as_str())? else {
+        return Ok(REFUSED);
+    };
+    let form = if stats.csv { Form::Csv } else { Form::Columns };
+    let mut writer = io::writer(rt);
+    let mut result = stats_bytes(rt.alloc(), &model, &trace, form, &mut writer);
+    if writer.flush().is_err() {
+        result = Err(ViewError::Job(JobError::Write));
+    }
+    match result {
+        Ok(()) => Ok(ACCEPTED),
+        Err(error) => Ok(tell_of_view(rt, name, &model, &error, stats.files.explained)),
     }
 }
 

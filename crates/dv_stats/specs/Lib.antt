@@ -1,0 +1,2 @@
+-- What a reader believes: how transitions and values are counted.
+pub mod Counting

@@ -1,0 +1,78 @@
+//! The names of a model, by their texts.
+
+use dv_tree::Tree;
+use indexmap::IndexMap;
+use std::alloc::{AllocError, Global};
+
+/// The components by their paths, the numbers of names by their texts, and the output ports of the root by theirs.
+#[derive(Drop)]
+pub(crate) struct Directory<'t> {
+    components: IndexMap<&'t [u8], u32>,
+    names: IndexMap<&'t [u8], u32>,
+    outputs: IndexMap<&'t [u8], usize>,
+}
+
+impl<'t> Directory<'t> {
+    /// The names of a tree: of what atomic models declare, and of the root's output ports.
+    pub(crate) fn of(alloc: Global, tree: &'t Tree<'t>) -> Result<Self, AllocError> {
+        Ok(Directory {
+            components: components_of(alloc, tree)?,
+            names: names_of(alloc, tree)?,
+            outputs: outputs_of(alloc, tree)?,
+        })
+    }
+
+    pub(crate) fn component(&self, path: &str) -> Option<u32> {
+        self.components.get(path.as_bytes()).copied()
+    }
+
+    pub(crate) fn name(&self, text: &str) -> Option<u32> {
+        self.names.get(text.as_bytes()).copied()
+    }
+
+    pub(crate) fn output(&self, name: &str) -> Option<usize> {
+        self.outputs.get(name.as_bytes()).copied()
+    }
+}
+
+fn components_of<'t>(
+    alloc: Global,
+    tree: &'t Tree<'t>,
+) -> Result<IndexMap<&'t [u8], u32>, AllocError> {
+    let mut components = IndexMap::new(alloc);
+    for component in 0..tree.component_count() {
+        components.insert(tree.path(component).as_bytes(), component as u32)?;
+    }
+    Ok(components)
+}
+
+fn names_of<'t>(alloc: Global, tree: &'t Tree<'t>) -> Result<IndexMap<&'t [u8], u32>, AllocError> {
+    let mut names = IndexMap::new(alloc);
+    for scope in tree.scopes() {
+        add_names(tree, scope.phases(), &mut names)?;
+        add_names(tree, scope.outputs(), &mut names)?;
+    }
+    Ok(names)
+}
+
+fn add_names<'t>(
+    tree: &'t Tree<'t>,
+    numbers: &[u32],
+    names: &mut IndexMap<&'t [u8], u32>,
+) -> Result<(), AllocError> {
+    for number in numbers {
+        names.insert(tree.name(*number).as_bytes(), *number)?;
+    }
+    Ok(())
+}
+
+fn outputs_of<'t>(
+    alloc: Global,
+    tree: &'t Tree<'t>,
+) -> Result<IndexMap<&'t [u8], usize>, AllocError> {
+    let mut outputs = IndexMap::new(alloc);
+    for port in 0..tree.output_count() {
+        outputs.insert(tree.output_name(port).as_bytes(), port)?;
+    }
+    Ok(outputs)
+}

@@ -1,0 +1,300 @@
+//! Reads a trace, one line after the other.
+
+use crate::line::{Entry, Happening, Outside, TraceLine};
+use crate::names::Directory;
+use crate::numbers::{number_in, tick_in, time_in};
+use crate::pieces::{Sender, fault_of, kind_of, sendings_in, sent_behind, split_state, split_word};
+use crate::refusal::{LineError, TraceError, TraceReason, TraceRefusal};
+use dv_bag::Kind;
+use dv_eval::Scope;
+use dv_time::{GREATEST_TICK, Time};
+use dv_tree::Tree;
+use std::alloc::{AllocError, Global};
+
+/// The last line so far.
+#[derive(Clone, Copy)]
+enum Last {
+    Nothing,
+    Entry(Time, u32),
+    Outside(Time),
+    Clock,
+    End,
+}
+
+/// What reads the lines of a trace of a model, each after the one before it. Besides the names of the model it keeps
+/// nothing of the lines that were read but where the last one stood.
+#[derive(Drop)]
+pub struct TraceReader<'t> {
+    alloc: Global,
+    tree: &'t Tree<'t>,
+    names: Directory<'t>,
+    last: Last,
+    lines: u64,
+}
+
+impl<'t> TraceReader<'t> {
+    /// Reads traces of the model of this tree, from their first line on.
+    ///
+    /// # Errors
+    ///
+    /// No memory for the names.
+    pub fn new(alloc: Global, tree: &'t Tree<'t>) -> Result<Self, AllocError> {
+        Ok(TraceReader {
+            alloc,
+            tree,
+            names: Directory::of(alloc, tree)?,
+            last: Last::Nothing,
+            lines: 0,
+        })
+    }
+
+    /// What the next line says. It is given without its line feed; a carriage return at its end is passed over.
+    ///
+    /// # Errors
+    ///
+    /// `Refused` where the line has none of the forms of a trace, names what the model does not have, or stands out of
+    /// order. `Memory`: no memory for what it says.
+    pub fn read_line<'a>(&mut self, line: &'a [u8]) -> Result<TraceLine<'a>, TraceError> {
+        self.lines = self.lines.saturating_add(1);
+        match self.line_of(line) {
+            Ok(line) => Ok(line),
+            Err(LineError::Refused(reason)) => Err(self.refused(reason)),
+            Err(LineError::Memory) => Err(TraceError::Memory),
+        }
+    }
+
+    /// The trace ends behind the last line.
+    ///
+    /// # Errors
+    ///
+    /// `Refused` where that line is no end.
+    pub fn end(&self) -> Result<(), TraceError> {
+        match self.last {
+            Last::End => Ok(()),
+            _ => Err(self.refused(TraceReason::NoEnd)),
+        }
+    }
+
+    fn refused(&self, reason: TraceReason) -> TraceError {
+        TraceError::Refused(TraceRefusal {
+            reason,
+            line: self.lines,
+        })
+    }
+
+    fn line_of<'a>(&mut self, line: &'a [u8]) -> Result<TraceLine<'a>, LineError> {
+        let Ok(text) = str::from_utf8(line) else {
+            return Err(LineError::Refused(TraceReason::NotText));
+        };
+        let text = text.strip_suffix('\r').unwrap_or(text);
+        if text.is_empty() {
+            return Ok(TraceLine::Empty);
+        }
+        match self.last {
+            Last::End => Err(LineError::Refused(TraceReason::AfterEnd)),
+            Last::Nothing | Last::Entry(..) | Last::Outside(_) | Last::Clock => self.text_of(text),
+        }
+    }
+
+    fn text_of<'a>(&mut self, text: &'a str) -> Result<TraceLine<'a>, LineError> {
+        let (first, rest) = split_word(text);
+        match first {
+            "whole" => self.whole(rest),
+            "process" => self.clock(rest),
+            "partial" => self.partial(rest),
+            _ => self.at_time(first, rest),
+        }
+    }
+
+    fn whole<'a>(&mut self, rest: &str) -> Result<TraceLine<'a>, LineError> {
+        let Some(horizon) = tick_in(rest) else {
+            return Err(LineError::Refused(TraceReason::Form));
+        };
+        if !self.last.is_within(horizon) {
+            return Err(LineError::Refused(TraceReason::Order));
+        }
+        self.last = Last::End;
+        Ok(TraceLine::Whole(horizon))
+    }
+
+    fn partial<'a>(&mut self, rest: &str) -> Result<TraceLine<'a>, LineError> {
+        if !rest.is_empty() {
+            return Err(LineError::Refused(TraceReason::Form));
+        }
+        self.last = Last::End;
+        Ok(TraceLine::Partial)
+    }
+
+    // The clock in `process N clock T.K`. The clock of a process that is done is behind the horizon.
+    fn clock<'a>(&mut self, rest: &str) -> Result<TraceLine<'a>, LineError> {
+        let (number, rest) = split_word(rest);
+        let Some(clock) = rest.strip_prefix("clock ") else {
+            return Err(LineError::Refused(TraceReason::Form));
+        };
+        if number_in(number, u64::MAX).is_none() {
+            return Err(LineError::Refused(TraceReason::Form));
+        }
+        let Some(clock) = time_in(clock, GREATEST_TICK + 1) else {
+            return Err(LineError::Refused(TraceReason::Time));
+        };
+        self.last = Last::Clock;
+        Ok(TraceLine::Clock(clock))
+    }
+
+    fn at_time<'a>(&mut self, time: &str, rest: &'a str) -> Result<TraceLine<'a>, LineError> {
+        let Some(time) = time_in(time, GREATEST_TICK) else {
+            return Err(LineError::Refused(TraceReason::Time));
+        };
+        let (path, rest) = split_word(rest);
+        if path == "out" {
+            self.outside(time, rest)
+        } else {
+            self.entry(time, path, rest)
+        }
+    }
+
+    fn outside<'a>(&mut self, time: Time, rest: &'a str) -> Result<TraceLine<'a>, LineError> {
+        if !self.last.is_before_outside(time) {
+            return Err(LineError::Refused(TraceReason::Order));
+        }
+        self.last = Last::Outside(time);
+        match sendings_in(self.alloc, &self.names, Sender::Root, rest) {
+            Ok(sent) => Ok(TraceLine::Outside(Outside { time, sent })),
+            Err(error) => Err(error),
+        }
+    }
+
+    fn entry<'a>(
+        &mut self,
+        time: Time,
+        path: &str,
+        rest: &'a str,
+    ) -> Result<TraceLine<'a>, LineError> {
+        let Some(component) = self.names.component(path) else {
+            return Err(LineError::Refused(TraceReason::Path));
+        };
+        if !self.last.is_before_entry(time, component) {
+            return Err(LineError::Refused(TraceReason::Order));
+        }
+        self.last = Last::Entry(time, component);
+        let (word, rest) = split_word(rest);
+        match kind_of(word) {
+            Some(kind) => self.transition(time, component, kind, rest),
+            None if word == "fault" => self.fault(time, component, rest),
+            None => Err(LineError::Refused(TraceReason::Form)),
+        }
+    }
+
+    fn transition<'a>(
+        &self,
+        time: Time,
+        component: u32,
+        kind: Kind,
+        rest: &'a str,
+    ) -> Result<TraceLine<'a>, LineError> {
+        let scope = self.scope(component)?;
+        let (word, rest) = split_word(rest);
+        let Some(phase) = self.names.name(word).and_then(|name| scope.phase(name)) else {
+            return Err(LineError::Refused(TraceReason::Phase));
+        };
+        match split_state(self.alloc, self.tree, scope, rest) {
+            Ok((state, rest)) => {
+                let happening = Happening::Transition { kind, phase, state };
+                self.with_sent(time, component, scope, happening, rest)
+            }
+            Err(error) => Err(error),
+        }
+    }
+
+    fn fault<'a>(
+        &self,
+        time: Time,
+        component: u32,
+        rest: &'a str,
+    ) -> Result<TraceLine<'a>, LineError> {
+        let scope = self.scope(component)?;
+        let (word, rest) = split_word(rest);
+        match fault_of(word) {
+            Some(fault) => self.with_sent(time, component, scope, Happening::Fault(fault), rest),
+            None => Err(LineError::Refused(TraceReason::Fault)),
+        }
+    }
+
+    fn with_sent<'a>(
+        &self,
+        time: Time,
+        component: u32,
+        scope: &Scope,
+        happening: Happening<'a>,
+        rest: &'a str,
+    ) -> Result<TraceLine<'a>, LineError> {
+        match sent_behind(self.alloc, &self.names, scope, rest) {
+            Ok(sent) => Ok(TraceLine::Entry(Entry {
+                time,
+                component,
+                happening,
+                sent,
+            })),
+            Err(error) => Err(error),
+        }
+    }
+
+    fn scope(&self, component: u32) -> Result<&'t Scope, LineError> {
+        let component = component as usize;
+        if component < self.tree.component_count() {
+            Ok(self.tree.scope(component))
+        } else {
+            Err(LineError::Refused(TraceReason::Path))
+        }
+    }
+}
+
+impl Last {
+    // Whether the line of a component may be next.
+    fn is_before_entry(self, time: Time, component: u32) -> bool {
+        match self {
+            Last::Nothing => true,
+            Last::Entry(last, other) => {
+                last.is_before(time) || (last == time && other < component)
+            }
+            Last::Outside(last) => last.is_before(time),
+            Last::Clock | Last::End => false,
+        }
+    }
+
+    // Whether the line of what leaves may be next.
+    fn is_before_outside(self, time: Time) -> bool {
+        match self {
+            Last::Nothing => true,
+            Last::Entry(last, _) => last.is_before(time) || last == time,
+            Last::Outside(last) => last.is_before(time),
+            Last::Clock | Last::End => false,
+        }
+    }
+
+    // Whether a horizon may be next.
+    fn is_within(self, horizon: u64) -> bool {
+        match self {
+            Last::Nothing => true,
+            Last::Entry(last, _) | Last::Outside(last) => last.tick <= horizon,
+            Last::Clock | Last::End => false,
+        }
+    }
+}
+
+/// Reads a trace of the model of a tree to its end.
+///
+/// # Errors
+///
+/// `Refused` at the first line that `TraceReader::read_line` refuses, or where the trace has no end. `Memory`: no memory for
+/// the names or a line.
+pub fn check_trace(alloc: Global, tree: &Tree<'_>, trace: &[u8]) -> Result<(), TraceError> {
+    let mut reader = TraceReader::new(alloc, tree)?;
+    for line in trace.split(|byte| *byte == b'\n') {
+        match reader.read_line(line) {
+            Ok(_) => {}
+            Err(error) => return Err(error),
+        }
+    }
+    reader.end()
+}

@@ -1,0 +1,78 @@
+//! What is shown of each component, and under which codes.
+
+use dv_eval::Domain;
+use dv_trace::{Datum, Values};
+use dv_tree::Tree;
+use std::alloc::{AllocError, Global};
+
+/// What a component shows now. Its codes follow each other: its phase, its variables, flags and bags, and its output ports.
+#[derive(Drop)]
+pub(crate) struct Shown<'a> {
+    /// The code of the phase.
+    pub(crate) first: u64,
+    /// The name of the phase, or `fault:` and the name of a fault.
+    pub(crate) phase: &'a str,
+    pub(crate) state: Vec<Datum<'a>>,
+}
+
+impl Shown<'_> {
+    /// The code of the variable at a place.
+    pub(crate) fn variable(&self, place: usize) -> u64 {
+        self.first.saturating_add(1).saturating_add(place as u64)
+    }
+
+    /// The code of the output port at a place.
+    pub(crate) fn port(&self, place: usize) -> u64 {
+        self.variable(self.state.len()).saturating_add(place as u64)
+    }
+}
+
+/// What all components show at the start, and the first code that none of them has.
+#[derive(Drop)]
+pub(crate) struct AllShown<'a> {
+    pub(crate) components: Vec<Shown<'a>>,
+    pub(crate) behind: u64,
+}
+
+/// What the components of a model show at the start.
+pub(crate) fn all_shown<'a>(alloc: Global, tree: &'a Tree<'a>) -> Result<AllShown<'a>, AllocError> {
+    let mut components = Vec::with_capacity(alloc, tree.component_count())?;
+    let mut behind: u64 = 0;
+    for component in 0..tree.component_count() {
+        let scope = tree.scope(component);
+        let shown = Shown {
+            first: behind,
+            phase: start_phase(tree, component),
+            state: start_state(alloc, scope.domains())?,
+        };
+        behind = shown.port(scope.output_count());
+        components.push(shown)?;
+    }
+    Ok(AllShown { components, behind })
+}
+
+fn start_phase<'t>(tree: &'t Tree<'t>, component: usize) -> &'t str {
+    if component >= tree.component_count() {
+        return "";
+    }
+    match tree.atomic(component).starts.first() {
+        Some(start) => tree.name(start.phase.number),
+        None => "",
+    }
+}
+
+fn start_state<'a>(alloc: Global, domains: &[Domain]) -> Result<Vec<Datum<'a>>, AllocError> {
+    let mut state = Vec::with_capacity(alloc, domains.len())?;
+    for domain in domains {
+        state.push(start_datum(*domain))?;
+    }
+    Ok(state)
+}
+
+fn start_datum<'a>(domain: Domain) -> Datum<'a> {
+    match domain {
+        Domain::Number(range) => Datum::Number(range.start),
+        Domain::Flag { start } => Datum::Flag(start),
+        Domain::Bag { .. } => Datum::Bag(Values { text: "", count: 0 }),
+    }
+}

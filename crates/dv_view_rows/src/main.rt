@@ -1,0 +1,30 @@
+//! Compares the views of models and of traces with those that lie beside them.
+//!
+//! Each word names a folder with a model, a trace and their views, or a file (`.txt`) with traces that are refused.
+#![tactic(auto)]
+
+/// The views of a folder.
+mod folder;
+/// Traces that are refused.
+mod refused;
+
+use std::io;
+use std::process::ExitCode;
+
+fn main(rt: HostRuntime) -> io::Result<ExitCode> {
+    let words: Vec<String> = std::env::args(&rt)?.skip(1).collect(rt.alloc())?;
+    let mut is_well = true;
+    for word in &words {
+        let is_same = if word.as_str().ends_with(".txt") {
+            refused::are_as_told(&rt, word.as_str())?
+        } else {
+            folder::is_as_shown(&rt, word.as_str())?
+        };
+        is_well = is_well && is_same;
+    }
+    Ok(if is_well {
+        ExitCode::SUCCESS
+    } else {
+        ExitCode::FAILURE
+    })
+}
