@@ -1,6 +1,9 @@
 //! What the program tells of an error, and what it explains.
 
-use dv_explain::{Example, Explanation, excerpt, excerpt_of_line, explanation_of, unseen_at};
+use dv_explain::{
+    Example, Explanation, excerpt, excerpt_of_line, explanation_of, missing_before, slip_at,
+    unseen_at,
+};
 use dv_job::JobError;
 use std::alloc::{AllocError, Global};
 
@@ -26,6 +29,12 @@ pub fn explained(
             let code = format!(in alloc; "{}", refusal.number)?;
             if code.as_str() == "E2" {
                 shown.push_str(unseen_at(alloc, model.bytes, place)?.as_str())?;
+            }
+            if matches!(code.as_str(), "E2" | "E4") {
+                shown.push_str(slip_at(model.bytes, place))?;
+            }
+            if code.as_str() == "E4" {
+                shown.push_str(missing_before(model.bytes, place))?;
             }
             with_words(alloc, shown, code.as_str())
         }

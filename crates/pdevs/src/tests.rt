@@ -413,13 +413,64 @@ fn a_refusal_is_explained_where_it_stands(rt: HostRuntime) {
     same_explained(
         &rt,
         "",
-        "a b.pd:1:1\n1 | \n  | ^\nThis token can't stand here. ",
+        "a b.pd:1:1\n1 | \n  | ^\nThe text ends here: a `}` may be missing, ",
     );
     same_explained(
         &rt,
         "atomic A { }\r\nroot A;",
         "a b.pd:1:8\n1 | atomic A { } \n  |        ^\nThe item `phases`, ",
     );
+}
+
+// A refused model is explained by a sentence on what seems to be meant.
+fn tells_slip<R: Abort + AllocGlobal>(rt: &R, model: &str, sentence: &str) {
+    let source = Source {
+        name: "m.pd",
+        bytes: model.as_bytes(),
+    };
+    match check_bytes(rt.alloc(), model.as_bytes()) {
+        Ok(_) => assert!(rt; false, "{model} is accepted"),
+        Err(error) => {
+            let text = explained(rt.alloc(), source, source, &error).expect(rt, "memory");
+            assert!(rt; text.as_str().contains(sentence), "{text}");
+        }
+    }
+}
+
+#[test]
+fn a_slip_is_told(rt: HostRuntime) {
+    let slips = [
+        ("coupled T { part a-b: A; }", "A name has letters"),
+        ("atomic A { var n: 0..2.5 = 0; }", "There are no decimals"),
+        ("// a comment\nroot T;", "A comment begins with `#`"),
+        (
+            "atomic A { internal z { n = 1; } }",
+            "`:=` assigns, and `=` compares",
+        ),
+        ("atomic A { internal z { n += 1; } }", "`n := n + 1`"),
+        (
+            "atomic A { internal z { if a && b { } } }",
+            "joined by `and`",
+        ),
+        (
+            "atomic A { internal z { if a == b { } } }",
+            "there is no `==`",
+        ),
+        (
+            "atomic A { internal z { if a { } else if b { } } }",
+            "comes a block",
+        ),
+        ("coupled T { link a.y => b.x; }", "written with `->`"),
+        (
+            "coupled T {\n part a: A\n part b: A;\n}",
+            "may lack its `;`",
+        ),
+        ("coupled T { }\n", "The text ends here"),
+        ("atomic A { var n: \"a\"; }", "no texts"),
+    ];
+    for (model, sentence) in slips {
+        tells_slip(&rt, model, sentence);
+    }
 }
 
 #[test]

@@ -1,0 +1,158 @@
+//! Slips of those who write other languages too, found at the place of a refusal.
+
+/// A slip: what stands before a token and from it on, and the sentence on it.
+struct Slip {
+    before: &'static str,
+    after: &'static str,
+    words: &'static str,
+}
+
+/// A sentence on what seems to be meant at a place of a text at which no token begins or none can stand, with a line feed;
+/// nothing where that is not known. `place` is the number of bytes before the token.
+pub fn slip_at(text: &[u8], place: usize) -> &'static str {
+    let (before, after) = text.split_at(place.min(text.len()));
+    if is_decimal(before, after) {
+        return "There are no decimals: numbers are whole, so count in smaller units.\n";
+    }
+    if is_hyphen(before, after) {
+        return "A name has letters, digits and `_`, and no `-`.\n";
+    }
+    match slips().iter().find(|slip| is_at(slip, before, after)) {
+        Some(slip) => slip.words,
+        None => "",
+    }
+}
+
+/// A sentence on what may be missing before a token that cannot stand at a place of a text, with a line feed; nothing where that
+/// is not known. `place` is the number of bytes before the token.
+pub fn missing_before(text: &[u8], place: usize) -> &'static str {
+    let (before, after) = text.split_at(place.min(text.len()));
+    if after.iter().all(is_blank) {
+        return "The text ends here: a `}` may be missing, or `root` with the name of a coupled model.\n";
+    }
+    if begins_line(before) {
+        return "It begins a line: the line before may lack its `;`.\n";
+    }
+    ""
+}
+
+/// Whether a byte is a blank between tokens.
+fn is_blank(byte: &u8) -> bool {
+    matches!(byte, b' ' | b'\t' | b'\r' | b'\n')
+}
+
+/// Whether a slip is at a place: what stands before it, and what stands from it on.
+fn is_at(slip: &Slip, before: &[u8], after: &[u8]) -> bool {
+    before.ends_with(slip.before.as_bytes()) && after.starts_with(slip.after.as_bytes())
+}
+
+/// The slips that are told by the characters around the place.
+fn slips() -> &'static [Slip] {
+    &[
+        Slip {
+            before: "",
+            after: "&&",
+            words: "Conditions are joined by `and`.\n",
+        },
+        Slip {
+            before: "",
+            after: "||",
+            words: "Of two conditions one is enough with `or`.\n",
+        },
+        Slip {
+            before: "",
+            after: "!",
+            words: "A condition is turned by `not`.\n",
+        },
+        Slip {
+            before: "/",
+            after: "/",
+            words: "A comment begins with `#`.\n",
+        },
+        Slip {
+            before: "",
+            after: "/",
+            words: "A comment begins with `#`; between expressions `/` divides.\n",
+        },
+        Slip {
+            before: "else ",
+            after: "if",
+            words: "After `else` comes a block: `else { if .. { .. } }`.\n",
+        },
+        Slip {
+            before: "=",
+            after: "=",
+            words: "`=` compares and `:=` assigns; there is no `==`.\n",
+        },
+        Slip {
+            before: "=",
+            after: ">",
+            words: "A link is written with `->`.\n",
+        },
+        Slip {
+            before: "",
+            after: "=>",
+            words: "A link is written with `->`.\n",
+        },
+        Slip {
+            before: "",
+            after: "==",
+            words: "`=` compares and `:=` assigns; there is no `==`.\n",
+        },
+        Slip {
+            before: "",
+            after: "=",
+            words: "`:=` assigns, and `=` compares.\n",
+        },
+        Slip {
+            before: "",
+            after: "+=",
+            words: "A variable is changed by `n := n + 1`.\n",
+        },
+        Slip {
+            before: "",
+            after: "-=",
+            words: "A variable is changed by `n := n - 1`.\n",
+        },
+        Slip {
+            before: "",
+            after: "++",
+            words: "A variable is changed by `n := n + 1`.\n",
+        },
+        Slip {
+            before: "",
+            after: "\"",
+            words: "A model has numbers and truth values, and no texts.\n",
+        },
+    ]
+}
+
+/// Whether a point stands between two digits.
+fn is_decimal(before: &[u8], after: &[u8]) -> bool {
+    match (before.last(), after) {
+        (Some(left), [b'.', right, ..]) => left.is_ascii_digit() && right.is_ascii_digit(),
+        _ => false,
+    }
+}
+
+/// Whether a hyphen stands between two letters.
+fn is_hyphen(before: &[u8], after: &[u8]) -> bool {
+    match (before.last(), after) {
+        (Some(left), [b'-', right, ..]) => left.is_ascii_alphabetic()
+            && right.is_ascii_alphabetic(),
+        _ => false,
+    }
+}
+
+/// Whether only blanks stand before a place on its line, and a line before that.
+fn begins_line(before: &[u8]) -> bool {
+    let blanks = before
+        .iter()
+        .rev()
+        .take_while(|byte| matches!(byte, b' ' | b'\t' | b'\r'))
+        .count();
+    match before.len().checked_sub(blanks.saturating_add(1)) {
+        Some(place) => before.get(place) == Some(&b'\n'),
+        None => false,
+    }
+}
