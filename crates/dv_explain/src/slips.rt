@@ -17,6 +17,9 @@ pub fn slip_at(text: &[u8], place: usize) -> &'static str {
     if is_hyphen(before, after) {
         return "A name has letters, digits and `_`, and no `-`.\n";
     }
+    if is_else_if(before, after) {
+        return "After `else` comes a block: `else { if .. { .. } }`.\n";
+    }
     match slips().iter().find(|slip| is_at(slip, before, after)) {
         Some(slip) => slip.words,
         None => "",
@@ -30,10 +33,33 @@ pub fn missing_before(text: &[u8], place: usize) -> &'static str {
     if after.iter().all(is_blank) {
         return "The text ends here: a `}` may be missing, or `root` with the name of a coupled model.\n";
     }
-    if begins_line(before) {
+    if begins_line(before) && is_unended(before) {
         return "It begins a line: the line before may lack its `;`.\n";
     }
     ""
+}
+
+/// Whether what stands before a place ends neither as an item does nor as a block begins. Where its last line has a comment,
+/// that is not known.
+fn is_unended(before: &[u8]) -> bool {
+    let ended = without_blanks(before);
+    !matches!(ended.last(), Some(b';' | b'{' | b'}') | None) && !has_comment(ended)
+}
+
+/// Whether the last line has a `#`.
+fn has_comment(text: &[u8]) -> bool {
+    text.iter()
+        .rev()
+        .take_while(|byte| **byte != b'\n')
+        .any(|byte| *byte == b'#')
+}
+
+/// Bytes without the blanks at their end.
+fn without_blanks(bytes: &[u8]) -> &[u8] {
+    let blanks = bytes.iter().rev().take_while(|byte| is_blank(byte)).count();
+    bytes
+        .get(..bytes.len().saturating_sub(blanks))
+        .unwrap_or(bytes)
 }
 
 /// Whether a byte is a blank between tokens.
@@ -61,6 +87,11 @@ fn slips() -> &'static [Slip] {
         },
         Slip {
             before: "",
+            after: "!=",
+            words: "",
+        },
+        Slip {
+            before: "",
             after: "!",
             words: "A condition is turned by `not`.\n",
         },
@@ -75,11 +106,6 @@ fn slips() -> &'static [Slip] {
             words: "A comment begins with `#`; between expressions `/` divides.\n",
         },
         Slip {
-            before: "else ",
-            after: "if",
-            words: "After `else` comes a block: `else { if .. { .. } }`.\n",
-        },
-        Slip {
             before: "=",
             after: "=",
             words: "`=` compares and `:=` assigns; there is no `==`.\n",
@@ -87,12 +113,12 @@ fn slips() -> &'static [Slip] {
         Slip {
             before: "=",
             after: ">",
-            words: "A link is written with `->`.\n",
+            words: "A link is written with `->`, and at least with `>=`.\n",
         },
         Slip {
             before: "",
             after: "=>",
-            words: "A link is written with `->`.\n",
+            words: "A link is written with `->`, and at least with `>=`.\n",
         },
         Slip {
             before: "",
@@ -102,7 +128,7 @@ fn slips() -> &'static [Slip] {
         Slip {
             before: "",
             after: "=",
-            words: "`:=` assigns, and `=` compares.\n",
+            words: "`:=` assigns, `=` compares, and `:` stands between a part and its model.\n",
         },
         Slip {
             before: "",
@@ -142,6 +168,11 @@ fn is_hyphen(before: &[u8], after: &[u8]) -> bool {
             && right.is_ascii_alphabetic(),
         _ => false,
     }
+}
+
+/// Whether an `if` stands behind an `else`.
+fn is_else_if(before: &[u8], after: &[u8]) -> bool {
+    without_blanks(before).ends_with(b"else") && after.starts_with(b"if")
 }
 
 /// Whether only blanks stand before a place on its line, and a line before that.

@@ -422,19 +422,14 @@ fn a_refusal_is_explained_where_it_stands(rt: HostRuntime) {
     );
 }
 
-// A refused model is explained by a sentence on what seems to be meant.
-fn tells_slip<R: Abort + AllocGlobal>(rt: &R, model: &str, sentence: &str) {
+// What is told of a refused model.
+fn told_of<R: Abort + AllocGlobal>(rt: &R, model: &str) -> String {
+    let error = check_bytes(rt.alloc(), model.as_bytes()).expect_err(rt, "the text is taken");
     let source = Source {
         name: "m.pd",
         bytes: model.as_bytes(),
     };
-    match check_bytes(rt.alloc(), model.as_bytes()) {
-        Ok(_) => assert!(rt; false, "{model} is accepted"),
-        Err(error) => {
-            let text = explained(rt.alloc(), source, source, &error).expect(rt, "memory");
-            assert!(rt; text.as_str().contains(sentence), "{text}");
-        }
-    }
+    explained(rt.alloc(), source, source, &error).expect(rt, "memory")
 }
 
 #[test]
@@ -445,7 +440,7 @@ fn a_slip_is_told(rt: HostRuntime) {
         ("// a comment\nroot T;", "A comment begins with `#`"),
         (
             "atomic A { internal z { n = 1; } }",
-            "`:=` assigns, and `=` compares",
+            "`:=` assigns, `=` compares",
         ),
         ("atomic A { internal z { n += 1; } }", "`n := n + 1`"),
         (
@@ -469,7 +464,24 @@ fn a_slip_is_told(rt: HostRuntime) {
         ("atomic A { var n: \"a\"; }", "no texts"),
     ];
     for (model, sentence) in slips {
-        tells_slip(&rt, model, sentence);
+        let told = told_of(&rt, model);
+        assert!(rt; told.as_str().contains(sentence), "{told}");
+    }
+}
+
+#[test]
+fn no_slip_is_told_where_there_is_none(rt: HostRuntime) {
+    let others = [
+        ("atomic A { internal z { n != 1; } }", "`not`"),
+        ("coupled T {\n part a: A;\n ;\n}", "may lack"),
+        (
+            "coupled T {\n part a: A # a part\n part b: A;\n}",
+            "may lack",
+        ),
+    ];
+    for (model, sentence) in others {
+        let told = told_of(&rt, model);
+        assert!(rt; !told.as_str().contains(sentence), "{told}");
     }
 }
 
