@@ -10,13 +10,13 @@ use std::alloc::{AllocError, Global};
 
 /// A text that has a tree, and the texts of its names.
 #[derive(Drop)]
-struct Read {
+struct ReadText {
     file: File,
     names: Names,
 }
 
 /// The tree of a text, where it has one.
-fn read(alloc: Global, text: &[u8]) -> Result<Option<Read>, AllocError> {
+fn read(alloc: Global, text: &[u8]) -> Result<Option<ReadText>, AllocError> {
     match parsed(alloc, text) {
         Ok(read) => Ok(Some(read)),
         Err(LoadError::Refused(_)) => Ok(None),
@@ -24,10 +24,10 @@ fn read(alloc: Global, text: &[u8]) -> Result<Option<Read>, AllocError> {
     }
 }
 
-fn parsed(alloc: Global, text: &[u8]) -> Result<Read, LoadError> {
+fn parsed(alloc: Global, text: &[u8]) -> Result<ReadText, LoadError> {
     let lexed = tokens(alloc, text)?;
     let file = parse(alloc, &lexed.tokens, text.len().min(u32::MAX as usize) as u32)?;
-    Ok(Read {
+    Ok(ReadText {
         file,
         names: lexed.names,
     })

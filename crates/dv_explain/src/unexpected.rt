@@ -92,14 +92,27 @@ fn hint_on_word(expected: &Expectations, word: Keyword, is_assigned: bool) -> &'
         RESERVED
     } else if expected.have(Part::End) {
         hint_behind_root(word)
-    } else if begins_model(word) && !expected.have(Part::Models) && expects_brace(expected) {
+    } else if begins_model(word) && expects_brace(expected) {
         "A `}` may be missing before it.\n"
-    } else if begins_item(word) && expected.have(Part::Statements) {
-        "An item begins here: a `}` may be missing before it.\n"
-    } else if begins_item(word) && expected.have(Part::Models) {
-        "An item stands in a model: a `}` before it may be one too many.\n"
     } else if begins_statement(word) && expected.have(Part::Items) {
         OUTSIDE
+    } else if begins_item(word) {
+        hint_on_item(expected)
+    } else {
+        ""
+    }
+}
+
+/// What is told of a word with which an item begins that can't stand there.
+fn hint_on_item(expected: &Expectations) -> &'static str {
+    if expected.have(Part::Statements) {
+        "An item begins here: a `}` may be missing before it.\n"
+    } else if expected.have(Part::Models) {
+        "An item stands in a model: a `}` before it may be one too many.\n"
+    } else if expected.have(Part::Items) {
+        "Such an item stands in a coupled model.\n"
+    } else if expected.have(Part::CoupledItems) {
+        "Such an item stands in an atomic model.\n"
     } else {
         ""
     }
