@@ -147,10 +147,16 @@ fn wrong_tick(alloc: Global, fields: &[Field<'_>]) -> Result<Flaw, AllocError> {
 
 /// Too few fields are wrong behind the last of them, and too many at the fourth.
 fn wrong_count(alloc: Global, fields: &[Field<'_>]) -> Result<Flaw, AllocError> {
-    let place = match (fields.get(3), fields.last()) {
-        (Some(fourth), _) => fourth.place,
-        (None, Some(last)) => last.place.saturating_add(last.bytes.len()),
-        (None, None) => 0,
+    if let Some(fourth) = fields.get(3) {
+        let sentence = "The line has more than the three fields `TICK PORT VALUE`.\n";
+        return Ok(Flaw {
+            place: fourth.place,
+            sentences: String::from_str(alloc, sentence)?,
+        });
+    }
+    let place = match fields.last() {
+        Some(last) => last.place.saturating_add(last.bytes.len()),
+        None => 0,
     };
     Ok(Flaw {
         place,
