@@ -30,33 +30,6 @@ pub fn excerpt(
     marked(alloc, name, line, before, after)
 }
 
-/// The line of this number with a mark under its first character, as `excerpt` shows it.
-///
-/// # Errors
-///
-/// No memory for the three lines.
-pub fn excerpt_of_line(
-    alloc: Global,
-    name: &str,
-    text: &[u8],
-    line: u64,
-) -> Result<String, AllocError> {
-    let mut rest = text;
-    for _ in 1..line {
-        rest = after_first_line(rest);
-    }
-    let shown = str::from_utf8(first_line(rest)).unwrap_or("");
-    marked(alloc, name, line, "", shown)
-}
-
-/// What stands behind the first line feed.
-fn after_first_line(bytes: &[u8]) -> &[u8] {
-    match bytes.iter().position(|byte| *byte == b'\n') {
-        Some(place) => bytes.get(place + 1..).unwrap_or(&[]),
-        None => &[],
-    }
-}
-
 /// What stands behind the last line feed.
 fn last_line(bytes: &[u8]) -> &[u8] {
     let mut start = 0;

@@ -26,34 +26,6 @@ pub fn slip_at(text: &[u8], place: usize) -> &'static str {
     }
 }
 
-/// A sentence on what may be missing before a token that cannot stand at a place of a text, with a line feed; nothing where that
-/// is not known. `place` is the number of bytes before the token.
-pub fn missing_before(text: &[u8], place: usize) -> &'static str {
-    let (before, after) = text.split_at(place.min(text.len()));
-    if after.iter().all(is_blank) {
-        return "The text ends here: a `}` may be missing, or `root` with the name of a coupled model.\n";
-    }
-    if begins_line(before) && is_unended(before) {
-        return "It begins a line: the line before may lack its `;`.\n";
-    }
-    ""
-}
-
-/// Whether what stands before a place ends neither as an item does nor as a block begins. Where its last line has a comment,
-/// that is not known.
-fn is_unended(before: &[u8]) -> bool {
-    let ended = without_blanks(before);
-    !matches!(ended.last(), Some(b';' | b'{' | b'}') | None) && !has_comment(ended)
-}
-
-/// Whether the last line has a `#`.
-fn has_comment(text: &[u8]) -> bool {
-    text.iter()
-        .rev()
-        .take_while(|byte| **byte != b'\n')
-        .any(|byte| *byte == b'#')
-}
-
 /// Bytes without the blanks at their end.
 fn without_blanks(bytes: &[u8]) -> &[u8] {
     let blanks = bytes.iter().rev().take_while(|byte| is_blank(byte)).count();
@@ -147,7 +119,27 @@ fn slips() -> &'static [Slip] {
         },
         Slip {
             before: "",
+            after: "<-",
+            words: "A link is written with `->`, and leads from left to right.\n",
+        },
+        Slip {
+            before: "",
+            after: "→",
+            words: "A link is written with `->`.\n",
+        },
+        Slip {
+            before: "",
             after: "\"",
+            words: "A model has numbers and truth values, and no texts.\n",
+        },
+        Slip {
+            before: "",
+            after: "“",
+            words: "A model has numbers and truth values, and no texts.\n",
+        },
+        Slip {
+            before: "",
+            after: "”",
             words: "A model has numbers and truth values, and no texts.\n",
         },
     ]
@@ -176,7 +168,8 @@ fn is_else_if(before: &[u8], after: &[u8]) -> bool {
 }
 
 /// Whether only blanks stand before a place on its line, and a line before that.
-fn begins_line(before: &[u8]) -> bool {
+pub fn begins_line(text: &[u8], place: usize) -> bool {
+    let (before, _) = text.split_at(place.min(text.len()));
     let blanks = before
         .iter()
         .rev()

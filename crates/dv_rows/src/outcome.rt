@@ -1,5 +1,6 @@
 //! What comes of a text by a command.
 
+use dv_cause::{Source, explained};
 use dv_job::{
     JobError, Options, check_bytes, list_code, plan_bytes, run_by_workers, run_bytes, status,
 };
@@ -38,8 +39,8 @@ pub fn outcome_of<R: AllocGlobal + Threads + Wait + Sync>(
 ) -> Result<String, AllocError> {
     let alloc = rt.alloc();
     match command.split_whitespace().next() {
-        Some("check") => checked(alloc, texts.model),
-        Some("code") => listed(alloc, texts.model),
+        Some("check") => checked(alloc, command, texts),
+        Some("code") => listed(alloc, command, texts),
         Some("plan") => planned(alloc, command, texts),
         Some("run") => ran(rt, command, texts),
         Some(_) | None => String::from_str(alloc, "no command"),
@@ -91,23 +92,61 @@ fn outcome_by_workers<R: AllocGlobal + Threads + Wait + Sync>(
     Ok(None)
 }
 
-fn checked(alloc: Global, model: &[u8]) -> Result<String, AllocError> {
-    match check_bytes(alloc, model) {
+fn checked(alloc: Global, command: &str, texts: Texts<'_>) -> Result<String, AllocError> {
+    match check_bytes(alloc, texts.model) {
         Ok(components) => format!(in alloc; "accepted {components}\nstatus 0"),
-        Err(error) => error.to_string(alloc),
+        Err(error) => error_text(alloc, command, texts, &error),
     }
 }
 
-fn listed(alloc: Global, model: &[u8]) -> Result<String, AllocError> {
+/// An error, and where the command has `--explain` what is told of it: of the meaning of its number only the first sentence.
+fn error_text(
+    alloc: Global,
+    command: &str,
+    texts: Texts<'_>,
+    error: &JobError,
+) -> Result<String, AllocError> {
+    if !command.contains("--explain") {
+        return error.to_string(alloc);
+    }
+    let model = Source {
+        name: "model.pd",
+        bytes: texts.model,
+    };
+    let inputs = Source {
+        name: "inputs.txt",
+        bytes: texts.inputs,
+    };
+    let told = explained(alloc, model, inputs, error)?;
+    let (cause, meaning) = last_line(told.as_str());
+    match meaning.split_once(". ") {
+        Some((sentence, _)) => format!(in alloc; "{error}\n{cause}{sentence}."),
+        None => format!(in alloc; "{error}\n{cause}{meaning}"),
+    }
+}
+
+/// The lines before the last one, and the last one without its line feed.
+fn last_line(text: &str) -> (&str, &str) {
+    let text = text.trim_end_matches('\n');
+    match text.rfind('\n') {
+        Some(place) => text.split_at(place),
+        None => ("", text),
+    }
+}
+
+fn listed(alloc: Global, command: &str, texts: Texts<'_>) -> Result<String, AllocError> {
     let mut printed = Vec::new(alloc);
-    let ended = list_code(alloc, model, &mut printed);
-    told(alloc, &printed, 0, ended.err())
+    let ending = match list_code(alloc, texts.model, &mut printed) {
+        Ok(()) => String::from_str(alloc, "status 0")?,
+        Err(error) => error_text(alloc, command, texts, &error)?,
+    };
+    told(alloc, &printed, ending.as_str())
 }
 
 fn planned(alloc: Global, command: &str, texts: Texts<'_>) -> Result<String, AllocError> {
     match plan_bytes(alloc, texts.model, partition_of(command, texts.partition)) {
         Ok(plan) => format!(in alloc; "{plan}\nstatus 0"),
-        Err(error) => error.to_string(alloc),
+        Err(error) => error_text(alloc, command, texts, &error),
     }
 }
 
@@ -152,7 +191,11 @@ fn ran<R: AllocGlobal + Threads + Wait + Sync>(
         ),
     };
     let status = status(&ended);
-    told(alloc, &printed, status, ended.err())
+    let ending = match ended {
+        Ok(_) => format!(in alloc; "status {status}")?,
+        Err(error) => error_text(alloc, command, texts, &error)?,
+    };
+    told(alloc, &printed, ending.as_str())
 }
 
 /// The options that a command names.
@@ -167,18 +210,10 @@ fn options_of(command: &str) -> Option<Options> {
     Options::new(horizon, limit, workers, rounds, capacity)
 }
 
-/// What was printed, and then the error, or where there is none the status.
-fn told(
-    alloc: Global,
-    printed: &[u8],
-    status: u8,
-    error: Option<JobError>,
-) -> Result<String, AllocError> {
+/// What was printed, and then how it ended.
+fn told(alloc: Global, printed: &[u8], ending: &str) -> Result<String, AllocError> {
     let text = str::from_utf8(printed).unwrap_or("not text\n");
-    match error {
-        Some(error) => format!(in alloc; "{text}{error}"),
-        None => format!(in alloc; "{text}status {status}"),
-    }
+    format!(in alloc; "{text}{ending}")
 }
 
 /// The number behind an option in a command.

@@ -2,10 +2,12 @@
 //! as wave forms and in numbers, and explains refusals and faults.
 #![tactic(auto)]
 
+mod noted;
 mod report;
 #[cfg(test)]
 mod tests;
 
+use dv_cause::{Source, explained};
 use dv_command::{
     ModelFile, PartitionChoice, Plan, Request, RequestError, Run, Stats, TraceFiles, request_of,
 };
@@ -15,7 +17,8 @@ use dv_job::{
 };
 use dv_partition::Partition;
 use dv_views::{Form, ViewError, graph_bytes, stats_bytes, vcd_bytes};
-use report::{Source, explained, explanation_text};
+use noted::Noted;
+use report::explanation_text;
 use std::alloc::AllocError;
 use std::fmt::Display;
 use std::io::{ErrorKind, Write};
@@ -56,14 +59,11 @@ impl Parting {
 fn main(rt: HostRuntime) -> ExitCode {
     match answer(&rt) {
         Ok(status) => ExitCode::from(status),
-        Err(error) => {
-            tell_line(&rt, &failure(&error));
-            ExitCode::from(REFUSED)
-        }
+        Err(error) => ExitCode::from(tell_failure(&rt, &error, false)),
     }
 }
 
-/// Does what the words ask for, and answers the status. An error is of the system: a write that failed, or no memory.
+/// Does what the words ask for, and answers the status. An error is of the system: no memory for the words.
 fn answer<R: AllocGlobal + Env + Files + Print + Eprint + Threads + Wait + Sync>(
     rt: &R,
 ) -> io::Result<u8> {
@@ -76,27 +76,63 @@ fn answer<R: AllocGlobal + Env + Files + Print + Eprint + Threads + Wait + Sync>
         Err(error) => return Err(error),
     };
     match request_of(rt.alloc(), words.as_slice()) {
-        Ok(Request::Check(check)) => check_model(rt, &check),
-        Ok(Request::Run(run)) => run_model(rt, &run),
-        Ok(Request::Code(code)) => list_model(rt, &code),
-        Ok(Request::Plan(plan)) => plan_model(rt, &plan),
-        Ok(Request::Graph(graph)) => graph_model(rt, &graph),
-        Ok(Request::Vcd(files)) => dump_trace(rt, &files),
-        Ok(Request::Stats(stats)) => count_trace(rt, &stats),
-        Ok(Request::Explain(explanation)) => {
-            print!(rt; "{}", explanation_text(rt.alloc(), explanation)?)?;
-            Ok(ACCEPTED)
-        }
-        Ok(Request::Version(text)) => {
-            print!(rt; "{text}")?;
-            Ok(ACCEPTED)
-        }
+        Ok(request) => match do_request(rt, &request) {
+            Ok(status) => Ok(status),
+            Err(error) => Ok(tell_failure(rt, &error, is_explained(&request))),
+        },
         Err(RequestError::Usage(usage)) => {
             tell_text(rt, usage.text.as_str());
             Ok(USAGE)
         }
         Err(RequestError::Memory) => Err(io::Error::from(AllocError)),
     }
+}
+
+/// Does what is asked for, and answers the status. An error is of the system: a write that failed, or no memory.
+fn do_request<R: AllocGlobal + Files + Print + Eprint + Threads + Wait + Sync>(
+    rt: &R,
+    request: &Request,
+) -> io::Result<u8> {
+    match request {
+        Request::Check(check) => check_model(rt, check),
+        Request::Run(run) => run_model(rt, run),
+        Request::Code(code) => list_model(rt, code),
+        Request::Plan(plan) => plan_model(rt, plan),
+        Request::Graph(graph) => graph_model(rt, graph),
+        Request::Vcd(files) => dump_trace(rt, files),
+        Request::Stats(stats) => count_trace(rt, stats),
+        Request::Explain(explanation) => {
+            print!(rt; "{}", explanation_text(rt.alloc(), explanation)?)?;
+            Ok(ACCEPTED)
+        }
+        Request::Version(text) => {
+            print!(rt; "{text}")?;
+            Ok(ACCEPTED)
+        }
+    }
+}
+
+/// Whether a refusal or a failure is to be explained.
+fn is_explained(request: &Request) -> bool {
+    match request {
+        Request::Check(file) | Request::Code(file) => file.explained,
+        Request::Run(run) => run.explained,
+        Request::Plan(plan) | Request::Graph(plan) => plan.explained,
+        Request::Vcd(files) => files.explained,
+        Request::Stats(stats) => stats.files.explained,
+        Request::Explain(_) | Request::Version(_) => false,
+    }
+}
+
+/// Tells that the system failed, and why if that is to be explained, and answers the status.
+fn tell_failure<R: Eprint>(rt: &R, error: &io::Error, is_explained: bool) -> u8 {
+    let failure = failure(error);
+    let is_written = matches!(failure, JobError::Write);
+    tell_line(rt, &failure);
+    if is_explained && is_written {
+        tell_reason(rt, error);
+    }
+    REFUSED
 }
 
 /// What is told where the system failed.
@@ -117,13 +153,35 @@ fn tell_text<R: Eprint>(rt: &R, text: &str) {
     let _ = eprint!(rt; "{text}");
 }
 
-/// The bytes of a file. Where it cannot be read, that is told; an error is no memory for them.
-fn bytes_of<R: AllocGlobal + Files + Eprint>(rt: &R, name: &str) -> io::Result<Option<Vec<u8>>> {
+/// Tells why the system failed, in its words.
+fn tell_reason<R: Eprint>(rt: &R, error: &io::Error) {
+    let _ = eprintln!(rt; "{error}");
+}
+
+/// Tells why a write failed, where one did and that is to be explained.
+fn tell_noted<R: Eprint, W>(rt: &R, writer: &Noted<W>, is_explained: bool) {
+    if let Some(error) = &writer.reason
+        && is_explained
+    {
+        tell_reason(rt, error);
+    }
+}
+
+/// The bytes of a file. Where it cannot be read, that is told, and why if that is to be explained; an error is no memory for
+/// them.
+fn bytes_of<R: AllocGlobal + Files + Eprint>(
+    rt: &R,
+    name: &str,
+    is_explained: bool,
+) -> io::Result<Option<Vec<u8>>> {
     match fs::read(rt, name) {
         Ok(bytes) => Ok(Some(bytes)),
         Err(error) if matches!(error.kind(), ErrorKind::OutOfMemory) => Err(error),
-        Err(_) => {
+        Err(error) => {
             tell_line(rt, format_args!("cannot read {name}"));
+            if is_explained {
+                tell_reason(rt, &error);
+            }
             Ok(None)
         }
     }
@@ -167,7 +225,7 @@ fn check_model<R: AllocGlobal + Files + Print + Eprint>(
     rt: &R,
     check: &ModelFile,
 ) -> io::Result<u8> {
-    let Some(model) = bytes_of(rt, check.model.as_str())? else {
+    let Some(model) = bytes_of(rt, check.model.as_str(), check.explained)? else {
         return Ok(REFUSED);
     };
     match check_bytes(rt.alloc(), &model) {
@@ -184,10 +242,10 @@ fn check_model<R: AllocGlobal + Files + Print + Eprint>(
 
 /// Prints the programs that were asked for, and answers the status.
 fn list_model<R: AllocGlobal + Files + Print + Eprint>(rt: &R, code: &ModelFile) -> io::Result<u8> {
-    let Some(model) = bytes_of(rt, code.model.as_str())? else {
+    let Some(model) = bytes_of(rt, code.model.as_str(), code.explained)? else {
         return Ok(REFUSED);
     };
-    let mut writer = io::writer(rt);
+    let mut writer = Noted::new(io::writer(rt));
     let mut result = list_code(rt.alloc(), &model, &mut writer);
     if writer.flush().is_err() {
         result = Err(JobError::Write);
@@ -196,6 +254,7 @@ fn list_model<R: AllocGlobal + Files + Print + Eprint>(rt: &R, code: &ModelFile)
         Ok(()) => Ok(ACCEPTED),
         Err(error) => {
             tell_of_model(rt, code.model.as_str(), &model, &error, code.explained);
+            tell_noted(rt, &writer, code.explained);
             Ok(REFUSED)
         }
     }
@@ -203,10 +262,10 @@ fn list_model<R: AllocGlobal + Files + Print + Eprint>(rt: &R, code: &ModelFile)
 
 /// Prints the plan that was asked for, and answers the status. Files are read in the order model, partition.
 fn plan_model<R: AllocGlobal + Files + Print + Eprint>(rt: &R, plan: &Plan) -> io::Result<u8> {
-    let Some(model) = bytes_of(rt, plan.model.as_str())? else {
+    let Some(model) = bytes_of(rt, plan.model.as_str(), plan.explained)? else {
         return Ok(REFUSED);
     };
-    let Some(parting) = parting_of(rt, plan.partition.as_ref())? else {
+    let Some(parting) = parting_of(rt, plan.partition.as_ref(), plan.explained)? else {
         return Ok(REFUSED);
     };
     match plan_bytes(rt.alloc(), &model, parting.partition()) {
@@ -221,28 +280,27 @@ fn plan_model<R: AllocGlobal + Files + Print + Eprint>(rt: &R, plan: &Plan) -> i
     }
 }
 
-/// Tells why there is no view, and answers the status.
+/// Tells why there is no view.
 fn tell_of_view<R: AllocGlobal + Eprint>(
     rt: &R,
     name: &str,
     model: &[u8],
     error: &ViewError,
     is_explained: bool,
-) -> u8 {
+) {
     match error {
         ViewError::Job(error) => tell_of_model(rt, name, model, error, is_explained),
         ViewError::Trace(refusal) => tell_line(rt, *refusal),
     }
-    REFUSED
 }
 
 /// Prints the graph that was asked for, and answers the status. Files are read in the order model, partition.
 fn graph_model<R: AllocGlobal + Files + Print + Eprint>(rt: &R, graph: &Plan) -> io::Result<u8> {
     let name = graph.model.as_str();
-    let Some(model) = bytes_of(rt, name)? else {
+    let Some(model) = bytes_of(rt, name, graph.explained)? else {
         return Ok(REFUSED);
     };
-    let Some(parting) = parting_of(rt, graph.partition.as_ref())? else {
+    let Some(parting) = parting_of(rt, graph.partition.as_ref(), graph.explained)? else {
         return Ok(REFUSED);
     };
     let groups = if graph.partition.is_some() {
@@ -250,14 +308,18 @@ fn graph_model<R: AllocGlobal + Files + Print + Eprint>(rt: &R, graph: &Plan) ->
     } else {
         None
     };
-    let mut writer = io::writer(rt);
+    let mut writer = Noted::new(io::writer(rt));
     let mut result = graph_bytes(rt.alloc(), &model, groups, &mut writer);
     if writer.flush().is_err() {
         result = Err(ViewError::Job(JobError::Write));
     }
     match result {
         Ok(()) => Ok(ACCEPTED),
-        Err(error) => Ok(tell_of_view(rt, name, &model, &error, graph.explained)),
+        Err(error) => {
+            tell_of_view(rt, name, &model, &error, graph.explained);
+            tell_noted(rt, &writer, graph.explained);
+            Ok(REFUSED)
+        }
     }
 }
 
@@ -267,41 +329,49 @@ fn dump_trace<R: AllocGlobal + Files + Print + Eprint>(
     files: &TraceFiles,
 ) -> io::Result<u8> {
     let name = files.model.as_str();
-    let Some(model) = bytes_of(rt, name)? else {
+    let Some(model) = bytes_of(rt, name, files.explained)? else {
         return Ok(REFUSED);
     };
-    let Some(trace) = bytes_of(rt, files.trace.as_str())? else {
+    let Some(trace) = bytes_of(rt, files.trace.as_str(), files.explained)? else {
         return Ok(REFUSED);
     };
-    let mut writer = io::writer(rt);
+    let mut writer = Noted::new(io::writer(rt));
     let mut result = vcd_bytes(rt.alloc(), &model, &trace, &mut writer);
     if writer.flush().is_err() {
         result = Err(ViewError::Job(JobError::Write));
     }
     match result {
         Ok(()) => Ok(ACCEPTED),
-        Err(error) => Ok(tell_of_view(rt, name, &model, &error, files.explained)),
+        Err(error) => {
+            tell_of_view(rt, name, &model, &error, files.explained);
+            tell_noted(rt, &writer, files.explained);
+            Ok(REFUSED)
+        }
     }
 }
 
 /// Prints the numbers that were asked for, and answers the status. Files are read in the order model, trace.
 fn count_trace<R: AllocGlobal + Files + Print + Eprint>(rt: &R, stats: &Stats) -> io::Result<u8> {
     let name = stats.files.model.as_str();
-    let Some(model) = bytes_of(rt, name)? else {
+    let Some(model) = bytes_of(rt, name, stats.files.explained)? else {
         return Ok(REFUSED);
     };
-    let Some(trace) = bytes_of(rt, stats.files.trace.as_str())? else {
+    let Some(trace) = bytes_of(rt, stats.files.trace.as_str(), stats.files.explained)? else {
         return Ok(REFUSED);
     };
     let form = if stats.csv { Form::Csv } else { Form::Columns };
-    let mut writer = io::writer(rt);
+    let mut writer = Noted::new(io::writer(rt));
     let mut result = stats_bytes(rt.alloc(), &model, &trace, form, &mut writer);
     if writer.flush().is_err() {
         result = Err(ViewError::Job(JobError::Write));
     }
     match result {
         Ok(()) => Ok(ACCEPTED),
-        Err(error) => Ok(tell_of_view(rt, name, &model, &error, stats.files.explained)),
+        Err(error) => {
+            tell_of_view(rt, name, &model, &error, stats.files.explained);
+            tell_noted(rt, &writer, stats.files.explained);
+            Ok(REFUSED)
+        }
     }
 }
 
@@ -309,9 +379,10 @@ fn count_trace<R: AllocGlobal + Files + Print + Eprint>(rt: &R, stats: &Stats) -
 fn parting_of<R: AllocGlobal + Files + Eprint>(
     rt: &R,
     choice: Option<&PartitionChoice>,
+    is_explained: bool,
 ) -> io::Result<Option<Parting>> {
     match choice {
-        Some(PartitionChoice::File(name)) => match bytes_of(rt, name.as_str())? {
+        Some(PartitionChoice::File(name)) => match bytes_of(rt, name.as_str(), is_explained)? {
             Some(text) => Ok(Some(Parting::Text(text))),
             None => Ok(None),
         },
@@ -323,7 +394,7 @@ fn parting_of<R: AllocGlobal + Files + Eprint>(
 /// The bytes of the inputs' file; none where no file is given. Where it cannot be read, that is told.
 fn inputs_of<R: AllocGlobal + Files + Eprint>(rt: &R, run: &Run) -> io::Result<Option<Vec<u8>>> {
     match &run.inputs {
-        Some(name) => bytes_of(rt, name.as_str()),
+        Some(name) => bytes_of(rt, name.as_str(), run.explained),
         None => Ok(Some(Vec::new(rt.alloc()))),
     }
 }
@@ -357,10 +428,10 @@ fn run_model<R: AllocGlobal + Files + Print + Eprint + Threads + Wait + Sync>(
     rt: &R,
     run: &Run,
 ) -> io::Result<u8> {
-    let Some(model) = bytes_of(rt, run.model.as_str())? else {
+    let Some(model) = bytes_of(rt, run.model.as_str(), run.explained)? else {
         return Ok(REFUSED);
     };
-    let Some(parting) = parting_of(rt, run.partition.as_ref())? else {
+    let Some(parting) = parting_of(rt, run.partition.as_ref(), run.explained)? else {
         return Ok(REFUSED);
     };
     let Some(inputs) = inputs_of(rt, run)? else {
@@ -375,7 +446,7 @@ fn run_model<R: AllocGlobal + Files + Print + Eprint + Threads + Wait + Sync>(
     ) else {
         return Ok(USAGE);
     };
-    let mut writer = io::writer(rt);
+    let mut writer = Noted::new(io::writer(rt));
     let mut result = print_trace(
         rt,
         &model,
@@ -389,6 +460,7 @@ fn run_model<R: AllocGlobal + Files + Print + Eprint + Threads + Wait + Sync>(
     }
     if let Err(error) = &result {
         tell_of_run(rt, run, &model, &inputs, error);
+        tell_noted(rt, &writer, run.explained);
     }
     Ok(status(&result))
 }

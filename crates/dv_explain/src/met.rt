@@ -1,0 +1,77 @@
+//! What stands at a place of a text.
+
+use dv_lex::{Names, Symbol, Token, TokenKind};
+use std::fmt;
+
+/// The most characters that are shown of a name.
+const SHOWN: usize = 60;
+
+/// What stands at a place of a text.
+#[derive(Clone, Copy, Debug, PartialEq, Eq)]
+pub enum Met<'a> {
+    Name(&'a str),
+    Number(i64),
+    /// A reserved word or a sign, with its spelling.
+    Fixed(&'a str),
+    /// No token: the text ends.
+    End,
+}
+
+/// What stands at a token's place, or at the end of the text.
+pub fn met_at<'a>(text: &'a str, names: &'a Names, token: Option<&Token>) -> Met<'a> {
+    let Some(token) = token else {
+        return Met::End;
+    };
+    let text = text.get(token.place as usize..).unwrap_or("");
+    match token.kind {
+        TokenKind::Name(number) => Met::Name(names.text(number).unwrap_or("")),
+        TokenKind::Number(number) => Met::Number(number.value()),
+        TokenKind::Keyword(_) => Met::Fixed(letters_of(text)),
+        TokenKind::Symbol(symbol) => Met::Fixed(text.get(..length_of(symbol)).unwrap_or("")),
+    }
+}
+
+/// The letters from the front on.
+fn letters_of(text: &str) -> &str {
+    match text.find(|character: char| !character.is_ascii_alphabetic()) {
+        Some(end) => text.get(..end).unwrap_or(text),
+        None => text,
+    }
+}
+
+/// How many characters a sign has.
+fn length_of(symbol: Symbol) -> usize {
+    match symbol {
+        Symbol::Assign
+        | Symbol::Arrow
+        | Symbol::Range
+        | Symbol::Unequal
+        | Symbol::AtMost
+        | Symbol::AtLeast => 2,
+        _ => 1,
+    }
+}
+
+impl fmt::Display for Met<'_> {
+    fn fmt<W: fmt::Write>(&self, f: &mut fmt::Formatter<W>) -> fmt::Result {
+        match self {
+            Met::Name(text) => write!(f, "the name `{}`", Shortened(text)),
+            Met::Number(number) => write!(f, "the number {number}"),
+            Met::Fixed(text) => write!(f, "`{text}`"),
+            Met::End => f.write_str("the end of the text"),
+        }
+    }
+}
+
+/// A name, of which a long rest is left out.
+#[derive(Clone, Copy)]
+struct Shortened<'a>(&'a str);
+
+impl fmt::Display for Shortened<'_> {
+    fn fmt<W: fmt::Write>(&self, f: &mut fmt::Formatter<W>) -> fmt::Result {
+        match self.0.char_indices().nth(SHOWN) {
+            Some((end, _)) => write!(f, "{}…", self.0.get(..end).unwrap_or("")),
+            None => f.write_str(self.0),
+        }
+    }
+}

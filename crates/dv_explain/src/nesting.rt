@@ -1,0 +1,23 @@
+//! What is nested too deeply.
+
+/// A sentence on which limit a token passes that is nested too deeply, with a line feed. `place` is the number of bytes before the
+/// token.
+pub fn nesting_at(text: &[u8], place: usize) -> &'static str {
+    let (_, token) = text.split_at(place.min(text.len()));
+    if begins_with_word(token, b"if") {
+        "Blocks nest at most 16 deep, that of the rule counted: this `if` has one more.\n"
+    } else if begins_with_word(token, b"for") {
+        "Loops nest at most 3 deep, and blocks at most 16, that of the rule counted.\n"
+    } else {
+        "An expression nests at most 64 deep.\n"
+    }
+}
+
+/// Whether a word stands in front, and nothing that continues it.
+fn begins_with_word(text: &[u8], word: &[u8]) -> bool {
+    match text.strip_prefix(word) {
+        Some([next, ..]) => !next.is_ascii_alphanumeric() && *next != b'_',
+        Some([]) => true,
+        None => false,
+    }
+}

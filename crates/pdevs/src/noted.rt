@@ -1,0 +1,51 @@
+//! A writer that keeps why a write failed.
+
+use std::io;
+use std::io::{Error, Write};
+
+/// A writer, and the first error that it answered.
+#[derive(Drop)]
+pub struct Noted<W> {
+    writer: W,
+    /// Why the first write that failed did.
+    pub reason: Option<Error>,
+}
+
+impl<W> Noted<W> {
+    /// A writer that has not failed yet.
+    pub fn new(writer: W) -> Self {
+        Noted {
+            writer,
+            reason: None,
+        }
+    }
+
+    /// Keeps an error, where it is the first.
+    fn note(&mut self, error: Error) {
+        if self.reason.is_none() {
+            self.reason = Some(error);
+        }
+    }
+}
+
+impl<W: Write> Write for Noted<W> {
+    fn write(&mut self, buf: &[u8]) -> io::Result<usize> {
+        match self.writer.write(buf) {
+            Ok(written) => Ok(written),
+            Err(error) => {
+                self.note(error);
+                Err(error)
+            }
+        }
+    }
+
+    fn flush(&mut self) -> io::Result<()> {
+        match self.writer.flush() {
+            Ok(()) => Ok(()),
+            Err(error) => {
+                self.note(error);
+                Err(error)
+            }
+        }
+    }
+}
