@@ -6,10 +6,10 @@ ghost use Rattle.dv_stream.specs.Written.{Falters, GoesOn, IsBegun, IsWrittenTo}
 
 use crate::written::{Written, write_piece};
 use dv_bag::Bags;
-use dv_board::Board;
+use dv_board::{Backlog, Board};
 use dv_link::OfJob;
 use dv_text::laws::a_trace_is_its_pieces;
-use dv_text::{TraceWriter, WriteError};
+use dv_text::{PartSlice, TraceWriter, WriteError};
 use dv_tree::Tree;
 use dv_work::{Bell, Flag};
 use std::alloc::Global;
@@ -44,12 +44,13 @@ impl Signals {
     }
 }
 
-// Writes what a board has from what was written on and before its least clock. Where it has nothing more, or there is no
-// memory to take it, nothing is written.
+// Takes off a board what was posted, and writes what is then known of the trace from what was written on and before the least
+// clock. Where nothing more is known, or there is no memory for it, nothing is written.
 fn write_posted<N: OfJob, R: Wait, W: Write>(
     rt: &R,
     alloc: Global,
     board: &Board<N>,
+    backlog: &mut Backlog<N>,
     before: Written,
     lines: &mut TraceWriter<'_>,
     writer: &mut W,
@@ -66,14 +67,15 @@ fn write_posted<N: OfJob, R: Wait, W: Write>(
 {
     // A piece of the trace stands by time.
     a_trace_is_its_pieces::<Bags>();
-    let Ok(Some((piece, mark))) = board.drain(rt, alloc, before.mark) else {
+    backlog.extend_all(board.take(rt, alloc));
+    let Ok(Some((piece, mark))) = backlog.drain(alloc, before.mark) else {
         return Ok(before);
     };
-    write_piece(before, &piece, mark, lines, writer)
+    write_piece(before, &PartSlice::all_of(&piece), mark, lines, writer)
 }
 
 /// Writes the trace of a job, with the names of a tree, as its workers post it, until their run has ended: at each ring for news
-/// all that the board then has before its least clock.
+/// all that is known before the least clock. What was posted and is not before it waits in the backlog.
 ///
 /// # Errors
 ///
@@ -82,6 +84,7 @@ pub fn write_news<N: OfJob, R: Wait, W: Write>(
     rt: &R,
     alloc: Global,
     board: &Board<N>,
+    backlog: &mut Backlog<N>,
     signals: &Signals,
     tree: &Tree,
     writer: &mut W,
@@ -100,7 +103,7 @@ pub fn write_news<N: OfJob, R: Wait, W: Write>(
     for _ in rt.forever() {
         let seen = signals.news.rings(rt);
         let is_last = signals.ended.is_raised();
-        written = write_posted(rt, alloc, board, written, &mut lines, writer)?;
+        written = write_posted(rt, alloc, board, backlog, written, &mut lines, writer)?;
         if is_last {
             return Ok(written);
         }

@@ -1,22 +1,21 @@
 //! A run by workers, whose trace is written while they run.
 
-ghost use Rattle.std.specs.Prelude.{◌≡◌, ◌↔◌, ◌<◌, ◌≤◌, ℕ, Some, slice_get, length, IfOk, OnErr, OnSome, IfSome};
+ghost use Rattle.std.specs.Prelude.{◌≡◌, ◌<◌, ◌≤◌, ℕ, Some, slice_get, length, IfOk, OnErr};
 ghost use Rattle.dv_time.specs.Time.{end_of, rank};
 ghost use Rattle.dv_time.specs.declared.TheConstants.{GREATEST_TICK};
 ghost use Rattle.dv_time.specs.declared.time.Time.{Time as MeantTime};
 ghost use Rattle.dv_board.specs.Jobs.{IsMergeable};
 ghost use Rattle.dv_core.specs.Worlds.{AreMadeFor, end_time};
 ghost use Rattle.dv_devs.specs.Clocks.{least_rank};
-ghost use Rattle.dv_stream.specs.Workers.{job_of_type};
+ghost use Rattle.dv_stream.specs.Workers.{IsReportOf, job_of_type};
 ghost use Rattle.dv_stream.specs.Written.{IsBegun, IsWrittenTo};
-ghost use Rattle.dv_work.specs.Reached.{AreReached};
 ghost use Rattle.dv_work.specs.declared.report.Ended.TheVariants.{Whole};
 
 use crate::news::{Signals, write_news};
 use crate::rest::{clocks_from, write_rest};
 use crate::written::Written;
 use dv_bag::Bags;
-use dv_board::Board;
+use dv_board::{Backlog, Board};
 use dv_core::{LogicalProcess, PlannedJob};
 use dv_link::OfJob;
 use dv_proc::Channel;
@@ -30,7 +29,7 @@ use std::io::Write;
 use std::marker::{Brand, PhantomData};
 use std::sync::Wait;
 use std::thread;
-use std::thread::{Threads, join_mut};
+use std::thread::{Promise, Scope, Threads};
 
 /// How a run by workers ended, whose trace was written to the least of these clocks, which are by the numbers of the processes.
 #[derive(Drop)]
@@ -64,12 +63,20 @@ impl<N: OfJob> PlannedJob for Until<N> {
     }
 }
 
-// Whether a thread can be made.
-fn has_threads<R: Threads + Wait + Sync>(rt: &R) -> bool {
-    thread::scope(thread::scope_env(), rt, |scope| scope.spawn(|| ()).is_ok())
+/// What the thread of a run leaves is a report of this job.
+#[derive(Drop)]
+struct Told<N> {
+    of: PhantomData<N>,
 }
 
-// Runs a crew, if it has not run yet, with a board on which it posts, and tells that it has ended.
+impl<N: OfJob, C> Promise<Result<Report<C>, AllocError>> for Told<N> {
+    ghost use Rattle.std.specs.Prelude.{IfOk};
+    ghost use Rattle.dv_stream.specs.Workers.{IsReportOf};
+
+    ghost kept_by = { λ p r. IfOk r (IsReportOf N.job) };
+}
+
+// Runs a crew, with a board on which it posts, and tells that it has ended.
 fn run_posting<
     N: OfJob + Send + Sync,
     P: LogicalProcess + Send,
@@ -80,7 +87,7 @@ fn run_posting<
     alloc: Global,
     until: &Until<N>,
     channels: &[Channel],
-    crew: &mut Option<Crew<P, P::Work>>,
+    crew: Crew<P, P::Work>,
     capacity: usize,
     gate: &G,
     board: &Board<N>,
@@ -88,32 +95,26 @@ fn run_posting<
 ) -> Result<Report<G::Cause>, AllocError>
 where
     P::Work: Send + Drop,
-    requires made { IfSome crew.old (λ c.
-        AreMadeFor job_of_type P.state P.valid N.job channels.now c.processes.items) }
-    requires workers { IfSome crew.old (λ c. 0 < length c.works.items) }
+    requires made { AreMadeFor job_of_type P.state P.valid N.job channels.now
+        crew.processes.items }
+    requires workers { 0 < length crew.works.items }
     requires capacity { 0 < capacity }
-    ensures reached { IfOk result (λ r.
-        AreReached N.job r.parts.items r.clocks.items) }
-    ensures whole { IfOk result (λ r. (r.ended ≡ Whole)
-        ↔ ((p : ℕ) (t : MeantTime) → slice_get r.clocks.items p ≡ Some t
-        → t ≡ end_time N.job)) }
+    ensures { IfOk result (IsReportOf N.job) }
 {
-    let report = match crew.take() {
-        Some(Crew { processes, works }) => run_streamed::<N, Until<N>, P, G, R>(
-            rt,
-            alloc,
-            until,
-            channels,
-            processes,
-            works,
-            capacity,
-            gate,
-            board,
-            &signals.news,
-            &signals.stop,
-        ),
-        None => Err(AllocError),
-    };
+    let Crew { processes, works } = crew;
+    let report = run_streamed::<N, Until<N>, P, G, R>(
+        rt,
+        alloc,
+        until,
+        channels,
+        processes,
+        works,
+        capacity,
+        gate,
+        board,
+        &signals.news,
+        &signals.stop,
+    );
     signals.end(rt);
     report
 }
@@ -123,6 +124,7 @@ fn write_or_stop<N: OfJob, R: Wait, W: Write>(
     rt: &R,
     alloc: Global,
     board: &Board<N>,
+    backlog: &mut Backlog<N>,
     signals: &Signals,
     tree: &Tree,
     writer: &mut W,
@@ -134,15 +136,81 @@ fn write_or_stop<N: OfJob, R: Wait, W: Write>(
     ensures err { OnErr result (IsBegun N.job tree.now
         (W.contents writer.old) (W.contents writer.new)) }
 {
-    let written = write_news(rt, alloc, board, signals, tree, writer);
+    let written = write_news(rt, alloc, board, backlog, signals, tree, writer);
     if written.is_err() {
         signals.stop.raise(rt, &[]);
     }
     written
 }
 
-// Runs a crew in another thread, and writes in this one what it posts. Where no thread can be made for that, it writes once the
-// crew has run.
+// Starts a thread that runs a crew, and writes in this one what the crew posts. Where no thread can be made for that, the crew runs
+// in this one, and then all is written.
+fn start_and_write<
+    's,
+    E,
+    N: OfJob + Send + Sync + 's,
+    P: LogicalProcess + Send + 's,
+    G: Gate<P>,
+    R: Threads + Wait + Sync,
+    W: Write,
+>(
+    scope: &'s Scope<'s, E>,
+    rt: &'s R,
+    alloc: Global,
+    until: &'s Until<N>,
+    channels: &'s [Channel],
+    crew: Crew<P, P::Work>,
+    capacity: usize,
+    gate: &'s G,
+    board: &'s Board<N>,
+    backlog: &mut Backlog<N>,
+    signals: &'s Signals,
+    tree: &Tree,
+    writer: &mut W,
+) -> (
+    Result<Written, WriteError>,
+    Result<Report<G::Cause>, AllocError>,
+)
+where
+    P::Work: Send + Drop + 's,
+    requires made { AreMadeFor job_of_type P.state P.valid N.job channels.now
+        crew.processes.items }
+    requires workers { 0 < length crew.works.items }
+    requires capacity { 0 < capacity }
+    ensures written { IfOk result.0 (IsWrittenTo N.job tree.now
+        (W.contents writer.old) (W.contents writer.new)) }
+    ensures within { IfOk result.0 (λ w.
+        rank N.job.limit w.mark ≤ end_of N.job.limit N.job.horizon) }
+    ensures err { OnErr result.0 (IsBegun N.job tree.now
+        (W.contents writer.old) (W.contents writer.new)) }
+    ensures report { IfOk result.1 (IsReportOf N.job) }
+{
+    let started = scope.spawn_with(
+        Told::<N> { of: PhantomData },
+        move || -> Result<Report<G::Cause>, AllocError>
+            requires { AreMadeFor job_of_type P.state P.valid N.job channels.now crew.processes.items
+                × (0 < length crew.works.items) × (0 < capacity) }
+            ensures { IfOk result (IsReportOf N.job) }
+        {
+            run_posting(
+                rt, alloc, until, channels, crew, capacity, gate, board, signals,
+            )
+        },
+    );
+    match started {
+        Ok(handle) => {
+            let written = write_or_stop(rt, alloc, board, backlog, signals, tree, writer);
+            (written, handle.join(rt))
+        }
+        Err(refused) => {
+            let report = (refused.value)();
+            let written = write_or_stop(rt, alloc, board, backlog, signals, tree, writer);
+            (written, report)
+        }
+    }
+}
+
+// Runs a crew in another thread, and writes in this one what it posts.
 fn run_and_write<
     N: OfJob + Send + Sync,
     P: LogicalProcess + Send,
@@ -158,6 +226,7 @@ fn run_and_write<
     capacity: usize,
     gate: &G,
     board: &Board<N>,
+    backlog: &mut Backlog<N>,
     signals: &Signals,
     tree: &Tree,
     writer: &mut W,
@@ -177,42 +246,31 @@ where
         rank N.job.limit w.mark ≤ end_of N.job.limit N.job.horizon) }
     ensures err { OnErr result.0 (IsBegun N.job tree.now
         (W.contents writer.old) (W.contents writer.new)) }
-    ensures reached { IfOk result.1 (λ r.
-        AreReached N.job r.parts.items r.clocks.items) }
-    ensures whole { IfOk result.1 (λ r. (r.ended ≡ Whole)
-        ↔ ((p : ℕ) (t : MeantTime) → slice_get r.clocks.items p ≡ Some t
-        → t ≡ end_time N.job)) }
+    ensures report { IfOk result.1 (IsReportOf N.job) }
 {
-    let mut crew = Some(crew);
-    let mut run = move || -> Result<Report<G::Cause>, AllocError>
-        requires made { IfSome crew (λ c.
-            AreMadeFor job_of_type P.state P.valid N.job channels.now c.processes.items) }
-        requires workers { IfSome crew (λ c. 0 < length c.works.items) }
-        requires capacity { 0 < capacity }
-        ensures reached { IfOk result (λ r.
-            AreReached N.job r.parts.items r.clocks.items) }
-        ensures whole { IfOk result (λ r. (r.ended ≡ Whole)
-            ↔ ((p : ℕ) (t : MeantTime) → slice_get r.clocks.items p ≡ Some t
-            → t ≡ end_time N.job)) }
-    {
-        run_posting(
-            rt, alloc, until, channels, &mut crew, capacity, gate, board, signals,
+    thread::scope(
+        thread::scope_env(),
+        rt,
+        |scope| -> (
+            Result<Written, WriteError>,
+            Result<Report<G::Cause>, AllocError>,
         )
-    };
-    let mut write = || -> Result<Written, WriteError>
-        ensures written { IfOk result (IsWrittenTo N.job tree.entry.now
-            (W.contents writer.entry.now) (W.contents writer.exit.now)) }
-        ensures within { IfOk result (λ w.
-            rank N.job.limit w.mark ≤ end_of N.job.limit N.job.horizon) }
-        ensures err { OnErr result (IsBegun N.job tree.entry.now
-            (W.contents writer.entry.now) (W.contents writer.exit.now)) }
-    { write_or_stop(rt, alloc, board, signals, tree, writer) };
-    if has_threads(rt) {
-        let (report, written) = join_mut(rt, &mut run, &mut write);
-        return (written, report);
-    }
-    let report = run();
-    (write(), report)
+            requires { AreMadeFor job_of_type P.state P.valid N.job channels.now crew.processes.items
+                × (0 < length crew.works.items) × (0 < capacity) }
+            ensures written { IfOk result.0 (IsWrittenTo N.job tree.now
+                (W.contents writer.entry.now) (W.contents writer.exit.now)) }
+            ensures within { IfOk result.0 (λ w.
+                rank N.job.limit w.mark ≤ end_of N.job.limit N.job.horizon) }
+            ensures err { OnErr result.0 (IsBegun N.job tree.now
+                (W.contents writer.entry.now) (W.contents writer.exit.now)) }
+            ensures report { IfOk result.1 (IsReportOf N.job) }
+        {
+            start_and_write(
+                scope, rt, alloc, until, channels, crew, capacity, gate, board, backlog, signals,
+                tree, writer,
+            )
+        },
+    )
 }
 
 // Runs a crew, and writes its trace while it runs. It names the job in no type, so that a caller can pick it.
@@ -256,14 +314,27 @@ where
 {
     // Lines are continued by those of the next piece.
     a_trace_is_its_pieces::<Bags>();
-    let board: Board<N> = Board::new(alloc, crew.processes.len() as u32)?;
+    let processes = crew.processes.len() as u32;
+    let board: Board<N> = Board::new(alloc, processes)?;
+    let mut backlog: Backlog<N> = Backlog::new(alloc, processes)?;
     let signals = Signals::new();
     let until: Until<N> = Until {
         tick: job.horizon(),
         of: PhantomData,
     };
     let (written, report) = run_and_write(
-        rt, alloc, &until, channels, crew, capacity, gate, &board, &signals, tree, writer,
+        rt,
+        alloc,
+        &until,
+        channels,
+        crew,
+        capacity,
+        gate,
+        &board,
+        &mut backlog,
+        &signals,
+        tree,
+        writer,
     );
     let written = written?;
     let Report {
