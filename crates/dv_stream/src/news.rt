@@ -15,10 +15,17 @@ use dv_work::{Bell, Flag};
 use std::alloc::Global;
 use std::io::Write;
 use std::sync::Wait;
+use std::thread::yield_now;
+
+// So often the loop looks whether the run has begun, and yields the processor each time. A thread that was made comes up within a
+// thousandth of that.
+const LOOKS_FOR_A_BEGINNING: u32 = 1_000_000;
 
 /// What the loop beside the workers and the workers themselves look at.
 #[derive(Drop)]
 pub struct Signals {
+    /// Is raised once the run has begun.
+    pub begun: Flag,
     /// Rings after something was posted, and after the run has ended.
     pub news: Bell,
     /// Is raised once the run has ended.
@@ -31,10 +38,27 @@ impl Signals {
     /// Of a run that has not begun.
     pub fn new() -> Signals {
         Signals {
+            begun: Flag::new(),
             news: Bell::new(),
             ended: Flag::new(),
             stop: Flag::new(),
         }
+    }
+
+    /// Tells the loop that the run has begun.
+    pub fn begin<R: Wait>(&self, rt: &R) {
+        self.begun.raise(rt, &[]);
+    }
+
+    /// Waits a while for the run to begin, and tells whether it has. It does not where no thread can be made for it.
+    pub fn has_begun(&self) -> bool {
+        for _ in 0..LOOKS_FOR_A_BEGINNING {
+            if self.begun.is_raised() {
+                return true;
+            }
+            yield_now();
+        }
+        false
     }
 
     /// Tells the loop that the run has ended.
@@ -75,7 +99,8 @@ fn write_posted<N: OfJob, R: Wait, W: Write>(
 }
 
 /// Writes the trace of a job, with the names of a tree, as its workers post it, until their run has ended: at each ring for news
-/// all that is known before the least clock. What was posted and is not before it waits in the backlog.
+/// all that is known before the least clock. What was posted and is not before it waits in the backlog. Where the run does not begin
+/// nothing is written.
 ///
 /// # Errors
 ///
@@ -100,6 +125,9 @@ pub fn write_news<N: OfJob, R: Wait, W: Write>(
     a_trace_is_its_pieces::<Bags>();
     let mut lines = TraceWriter::new(alloc, tree);
     let mut written = Written::NOTHING;
+    if !signals.has_begun() {
+        return Ok(written);
+    }
     for _ in rt.forever() {
         let seen = signals.news.rings(rt);
         let is_last = signals.ended.is_raised();

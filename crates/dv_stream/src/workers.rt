@@ -1,6 +1,6 @@
 //! A run by workers, whose trace is written while they run.
 
-ghost use Rattle.std.specs.Prelude.{◌≡◌, ◌<◌, ◌≤◌, ℕ, Some, slice_get, length, IfOk, OnErr};
+ghost use Rattle.std.specs.Prelude.{◌≡◌, ◌<◌, ◌≤◌, ℕ, Some, slice_get, length, IfOk, IfSome, OnErr};
 ghost use Rattle.dv_time.specs.Time.{end_of, rank};
 ghost use Rattle.dv_time.specs.declared.TheConstants.{GREATEST_TICK};
 ghost use Rattle.dv_time.specs.declared.time.Time.{Time as MeantTime};
@@ -28,8 +28,7 @@ use std::alloc::{AllocError, Global};
 use std::io::Write;
 use std::marker::{Brand, PhantomData};
 use std::sync::Wait;
-use std::thread;
-use std::thread::{Promise, Scope, Threads};
+use std::thread::{Threads, join_mut};
 
 /// How a run by workers ended, whose trace was written to the least of these clocks, which are by the numbers of the processes.
 #[derive(Drop)]
@@ -63,20 +62,7 @@ impl<N: OfJob> PlannedJob for Until<N> {
     }
 }
 
-/// What the thread of a run leaves is a report of this job.
-#[derive(Drop)]
-struct Told<N> {
-    of: PhantomData<N>,
-}
-
-impl<N: OfJob, C> Promise<Result<Report<C>, AllocError>> for Told<N> {
-    ghost use Rattle.std.specs.Prelude.{IfOk};
-    ghost use Rattle.dv_stream.specs.Workers.{IsReportOf};
-
-    ghost kept_by = { λ p r. IfOk r (IsReportOf N.job) };
-}
-
-// Runs a crew, with a board on which it posts, and tells that it has ended.
+// Runs a crew, if it has not run yet, with a board on which it posts. Tells that it has begun, and that it has ended.
 fn run_posting<
     N: OfJob + Send + Sync,
     P: LogicalProcess + Send,
@@ -87,7 +73,7 @@ fn run_posting<
     alloc: Global,
     until: &Until<N>,
     channels: &[Channel],
-    crew: Crew<P, P::Work>,
+    crew: &mut Option<Crew<P, P::Work>>,
     capacity: usize,
     gate: &G,
     board: &Board<N>,
@@ -95,31 +81,34 @@ fn run_posting<
 ) -> Result<Report<G::Cause>, AllocError>
 where
     P::Work: Send + Drop,
-    requires made { AreMadeFor job_of_type P.state P.valid N.job channels.now
-        crew.processes.items }
-    requires workers { 0 < length crew.works.items }
+    requires made { IfSome crew.old (λ c.
+        AreMadeFor job_of_type P.state P.valid N.job channels.now c.processes.items) }
+    requires workers { IfSome crew.old (λ c. 0 < length c.works.items) }
     requires capacity { 0 < capacity }
     ensures { IfOk result (IsReportOf N.job) }
 {
-    let Crew { processes, works } = crew;
-    let report = run_streamed::<N, Until<N>, P, G, R>(
-        rt,
-        alloc,
-        until,
-        channels,
-        processes,
-        works,
-        capacity,
-        gate,
-        board,
-        &signals.news,
-        &signals.stop,
-    );
+    signals.begin(rt);
+    let report = match crew.take() {
+        Some(Crew { processes, works }) => run_streamed::<N, Until<N>, P, G, R>(
+            rt,
+            alloc,
+            until,
+            channels,
+            processes,
+            works,
+            capacity,
+            gate,
+            board,
+            &signals.news,
+            &signals.stop,
+        ),
+        None => Err(AllocError),
+    };
     signals.end(rt);
     report
 }
 
-// Writes what is posted until the run has ended. Where it can write no more, the workers are to stop.
+// Writes what is posted until the run has ended, if it begins. Where it can write no more, the workers are to stop.
 fn write_or_stop<N: OfJob, R: Wait, W: Write>(
     rt: &R,
     alloc: Global,
@@ -143,74 +132,8 @@ fn write_or_stop<N: OfJob, R: Wait, W: Write>(
     written
 }
 
-// Starts a thread that runs a crew, and writes in this one what the crew posts. Where no thread can be made for that, the crew runs
-// in this one, and then all is written.
-fn start_and_write<
-    's,
-    E,
-    N: OfJob + Send + Sync + 's,
-    P: LogicalProcess + Send + 's,
-    G: Gate<P>,
-    R: Threads + Wait + Sync,
-    W: Write,
->(
-    scope: &'s Scope<'s, E>,
-    rt: &'s R,
-    alloc: Global,
-    until: &'s Until<N>,
-    channels: &'s [Channel],
-    crew: Crew<P, P::Work>,
-    capacity: usize,
-    gate: &'s G,
-    board: &'s Board<N>,
-    backlog: &mut Backlog<N>,
-    signals: &'s Signals,
-    tree: &Tree,
-    writer: &mut W,
-) -> (
-    Result<Written, WriteError>,
-    Result<Report<G::Cause>, AllocError>,
-)
-where
-    P::Work: Send + Drop + 's,
-    requires made { AreMadeFor job_of_type P.state P.valid N.job channels.now
-        crew.processes.items }
-    requires workers { 0 < length crew.works.items }
-    requires capacity { 0 < capacity }
-    ensures written { IfOk result.0 (IsWrittenTo N.job tree.now
-        (W.contents writer.old) (W.contents writer.new)) }
-    ensures within { IfOk result.0 (λ w.
-        rank N.job.limit w.mark ≤ end_of N.job.limit N.job.horizon) }
-    ensures err { OnErr result.0 (IsBegun N.job tree.now
-        (W.contents writer.old) (W.contents writer.new)) }
-    ensures report { IfOk result.1 (IsReportOf N.job) }
-{
-    let started = scope.spawn_with(
-        Told::<N> { of: PhantomData },
-        move || -> Result<Report<G::Cause>, AllocError>
-            requires { AreMadeFor job_of_type P.state P.valid N.job channels.now crew.processes.items
-                × (0 < length crew.works.items) × (0 < capacity) }
-            ensures { IfOk result (IsReportOf N.job) }
-        {
-            run_posting(
-                rt, alloc, until, channels, crew, capacity, gate, board, signals,
-            )
-        },
-    );
-    match started {
-        Ok(handle) => {
-            let written = write_or_stop(rt, alloc, board, backlog, signals, tree, writer);
-            (written, handle.join(rt))
-        }
-        Err(refused) => {
-            let report = (refused.value)();
-            let written = write_or_stop(rt, alloc, board, backlog, signals, tree, writer);
-            (written, report)
-        }
-    }
-}
-
-// Runs a crew in another thread, and writes in this one what it posts.
+// Runs a crew in another thread, and writes in this one what it posts. Where no thread can be made for that, `join_mut` runs the
+// crew last; nothing is written then, since no run begins.
 fn run_and_write<
     N: OfJob + Send + Sync,
     P: LogicalProcess + Send,
@@ -248,29 +171,28 @@ where
         (W.contents writer.old) (W.contents writer.new)) }
     ensures report { IfOk result.1 (IsReportOf N.job) }
 {
-    thread::scope(
-        thread::scope_env(),
-        rt,
-        |scope| -> (
-            Result<Written, WriteError>,
-            Result<Report<G::Cause>, AllocError>,
+    let mut crew = Some(crew);
+    let mut run = move || -> Result<Report<G::Cause>, AllocError>
+        requires made { IfSome crew (λ c.
+            AreMadeFor job_of_type P.state P.valid N.job channels.now c.processes.items) }
+        requires workers { IfSome crew (λ c. 0 < length c.works.items) }
+        requires capacity { 0 < capacity }
+        ensures { IfOk result (IsReportOf N.job) }
+    {
+        run_posting(
+            rt, alloc, until, channels, &mut crew, capacity, gate, board, signals,
         )
-            requires { AreMadeFor job_of_type P.state P.valid N.job channels.now crew.processes.items
-                × (0 < length crew.works.items) × (0 < capacity) }
-            ensures written { IfOk result.0 (IsWrittenTo N.job tree.now
-                (W.contents writer.entry.now) (W.contents writer.exit.now)) }
-            ensures within { IfOk result.0 (λ w.
-                rank N.job.limit w.mark ≤ end_of N.job.limit N.job.horizon) }
-            ensures err { OnErr result.0 (IsBegun N.job tree.now
-                (W.contents writer.entry.now) (W.contents writer.exit.now)) }
-            ensures report { IfOk result.1 (IsReportOf N.job) }
-        {
-            start_and_write(
-                scope, rt, alloc, until, channels, crew, capacity, gate, board, backlog, signals,
-                tree, writer,
-            )
-        },
-    )
+    };
+    let mut write = || -> Result<Written, WriteError>
+        ensures written { IfOk result (IsWrittenTo N.job tree.entry.now
+            (W.contents writer.entry.now) (W.contents writer.exit.now)) }
+        ensures within { IfOk result (λ w.
+            rank N.job.limit w.mark ≤ end_of N.job.limit N.job.horizon) }
+        ensures err { OnErr result (IsBegun N.job tree.entry.now
+            (W.contents writer.entry.now) (W.contents writer.exit.now)) }
+    { write_or_stop(rt, alloc, board, backlog, signals, tree, writer) };
+    let (report, written) = join_mut(rt, &mut run, &mut write);
+    (written, report)
 }
 
 // Runs a crew, and writes its trace while it runs. It names the job in no type, so that a caller can pick it.

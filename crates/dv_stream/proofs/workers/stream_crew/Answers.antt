@@ -1,4 +1,4 @@
-use Rattle.std.proofs.Common.{◌≡◌, ℕ, ◌≤◌, List, Some, sym, ap, subst, ◌∙◌}
+use Rattle.std.proofs.Common.{◌≡◌, ℕ, ◌<◌, ◌≤◌, List, length, Some, sym, ap, subst, ◌∙◌}
 use Rattle.std.specs.List.{slice_get}
 use Rattle.dv_time.specs.Time.{end_of, rank}
 use Rattle.dv_time.specs.declared.time.Time.{Time}
@@ -10,7 +10,7 @@ use Rattle.dv_serial.specs.Clocks.{least_time}
 use Rattle.dv_text.proofs.Taking.{OnErr-always}
 use Rattle.dv_stream.specs.Written.{Falters, GoesOn, IsWrittenTo}
 use Rattle.dv_stream.specs.Workers.{IsReportOf, job_of_type}
-use Rattle.dv_stream.proofs.Clocks.{told_end, told_least}
+use Rattle.dv_stream.proofs.Clocks.{told_end, told_least, told_some}
 use Rattle.dv_stream.proofs.Made.{made_alike}
 use Rattle.dv_stream.proofs.Writing.{begun_from, begun_to, not_begun, of_ok, written_further}
 use Rattle.dv_stream.proofs.workers.stream_crew.Goals as goal
@@ -71,6 +71,25 @@ returns-clause-written g c =
     written_further job tree c.a_trace_is_its_pieces.ensures.lines {a = old} {b = mid} {c = new} w written
     c.in_ok-written-2.written
     (subst (λ t. GoesOn job t mid new w c.in_ok-written-2.written) c.new-lines.ensures c.in_ok-written-2.ensures.ok)
+
+pub returns-clause-some_clocks : goal.returns-clause-some_clocks
+returns-clause-some_clocks g c =
+    let contents = g.W.Write.contents in
+    let tree = c.args.tree.now in
+    let old = contents c.args.writer.now in
+    let mid = contents c.run_and_write-written.new.writer in
+    let job = g.J.PlannedJob.means c.args.job.now in
+    let w = c.in_ok-written.written in
+    let written = subst (λ (j : Job). IsWrittenTo j tree old mid w) c.requires.job
+    (of_ok (IsWrittenTo g.N.OfJob.job tree old mid) _ w c.in_ok-written.was c.run_and_write-written.ensures.written) in
+    let r = c.in_ok-parts.field-0 in
+    let report = subst (λ (j : Job). IsReportOf j r) c.requires.job
+    (of_ok (IsReportOf g.N.OfJob.job) _ r c.in_ok-parts.was c.run_and_write-written.ensures.report) in
+    let mark = c.in_ok-written-2.written.mark in
+    let is : mark ≡ later w.mark (least_time r.clocks.items)
+    = c.in_ok-written-2.ensures.mark ∙ ap (λ (ts : List Time). later w.mark (least_time ts)) c.deref-2.ensures.value in
+    subst (λ (ts : List Time). 0 < length ts) (sym c.clocks_from-clocks.ensures)
+    (told_some job r.parts.items r.clocks.items report.reached c.requires.some w.mark written.of_run mark is)
 
 pub returns-clause-least : goal.returns-clause-least
 returns-clause-least g c =
