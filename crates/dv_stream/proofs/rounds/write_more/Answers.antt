@@ -1,6 +1,7 @@
-use Rattle.std.proofs.Common.{◌≡◌, ◌<◌, length, map, Some, sym, ap, ◌∙◌, arith}
+use Rattle.std.proofs.Common.{◌<◌, length, map, Some, sym, ap, ◌∙◌, arith}
 use Rattle.std.specs.Option.{option_map}
 use Rattle.std.proofs.lemmas.Option.{slice_get-get_or, slice_get-map}
+use Rattle.dv_time.specs.declared.time.Time.{Time}
 use Rattle.dv_bag.specs.Part.{IsByTime, PartOf, before, since}
 use Rattle.dv_serial.specs.Clocks.{least_time}
 use Rattle.dv_text.proofs.Taking.{OnErr-always}
@@ -59,7 +60,7 @@ write_merged-requires g c =
 -- where there is one process
 pub write_alone-requires-clause-order : goal.write_alone-requires-clause-order
 write_alone-requires-clause-order g c =
-    let clock = λ x. (g.P.LogicalProcess.state x).position.clock in
+    let clock : g.row.P.Denot → Time = λ x. (g.P.LogicalProcess.state x).position.clock in
     let all = c.args.processes.now in
     let x = c.process-item.result in
     let some = c.in-len1.len_at_least in
