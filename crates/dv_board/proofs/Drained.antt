@@ -14,12 +14,12 @@ use Rattle.dv_conservative.specs.Process.{first_time}
 use Rattle.dv_conservative.specs.World.{Job, owned}
 use Rattle.dv_merge.specs.Whole.{ArePartsOf}
 use Rattle.dv_board.specs.declared.held.Held.{Held}
-use Rattle.dv_board.specs.Boards.{AreHeld, IsHeld}
+use Rattle.dv_board.specs.Backlogs.{AreHeld, IsHeld}
 use Rattle.dv_board.specs.Clocks.{IsLeast, IsNoLater}
 use Rattle.dv_board.specs.Jobs.{trace}
 use Rattle.dv_board.specs.Places.{rest_of}
 use Rattle.dv_board.proofs.Between.{committed_before, committed_by_time, committed_since}
-use Rattle.dv_board.proofs.Places.{clocks_of, no_later}
+use Rattle.dv_board.proofs.Places.{clocks_of, no_later, rest_is_held}
 use Rattle.dv_board.proofs.Wholes.{get_map, many_parts, part_at_place, part_of_process, parts_before, parts_of_trace, parts_since, trace_of_job}
 
 -- lists that agree place by place
@@ -38,7 +38,9 @@ module _ (job : Job) (mark : Time) (held : List Held) (all : AreHeld job mark he
 
   pub all_by_time : All (λ (h : Held). IsByTime h.part) held
   all_by_time = each_place (λ (h : Held). IsByTime h.part) (λ p h is.
-      subst IsByTime (sym is.part) (committed_by_time job p mark h.clock is.order))
+      let early = is.early in
+      let order = is.order in
+      subst IsByTime (sym is.part) (committed_by_time job p h.from h.clock (omega (arith, early, order))))
 
   module _ (least : Time) (is_least : IsLeast least (clocks_of held)) where
     of_a_clock : (P : Time → Type 0) → ((p : ℕ) (h : Held) → IsHeld job mark p h → P h.clock) → P least
@@ -66,32 +68,25 @@ module _ (job : Job) (mark : Time) (held : List Held) (all : AreHeld job mark he
         is_least.none_before))
 
     -- what is left, from the least clock on
-    pub rest_is_held : AreHeld job least (map (rest_of least) held)
-    rest_is_held = record {
+    pub rest_are_held : AreHeld job least (map (rest_of least) held)
+    rest_are_held = record {
       merges = all.merges;
       some = all.some;
       of_run = least_of_run;
       many = length-map held (rest_of least) ∙ all.many;
       each = λ p h at.
           let found = get_map (rest_of least) held p h at in
-          subst (IsHeld job least p) found.2 (rest_at p found.0 found.1);
+          subst (IsHeld job least p) found.2
+          (rest_is_held job mark least p found.0 (all.each p found.0 found.1) least_of_run mark_no_later
+          (least_no_later p found.0 found.1));
     }
-      where
-        rest_at : (p : ℕ) (h : Held) → slice_get held p ≡ Some h → IsHeld job least p (rest_of least h)
-        rest_at p h at =
-            let is = all.each p h at in
-            let low = mark_no_later in
-            let high = least_no_later p h at in
-            record {
-              of_run = is.of_run;
-              within = is.within;
-              order = high;
-              part = ap (since least) is.part ∙ committed_since job p mark least h.clock low high least_of_run;
-            }
 
-    -- what goes, of each process
+    -- what is drained, of each process
+    abbrev pub drained_of : Held → PartOf
+    drained_of h = since mark (before least h.part)
+
     abbrev pub pieces : List PartOf
-    pieces = map (λ (h : Held). before least h.part) held
+    pieces = map drained_of held
 
     mark_of_run : time_of job.limit (rank job.limit mark) ≡ mark
     mark_of_run = time_of-rank job.limit mark all.of_run
@@ -106,17 +101,20 @@ module _ (job : Job) (mark : Time) (held : List Held) (all : AreHeld job mark he
     pieces_since : pieces ≡ map (since mark) parts
     pieces_since =
         same_places pieces (map (since mark) parts)
-        (length-map held (λ (h : Held). before least h.part) ∙ (all.many ∙ sym (length-map parts (since mark) ∙ many_parts job end)))
+        (length-map held drained_of ∙ (all.many ∙ sym (length-map parts (since mark) ∙ many_parts job end)))
         (λ k x y at also.
-        let one = get_map (λ (h : Held). before least h.part) held k x at in
+        let one = get_map drained_of held k x at in
         let other = get_map (since mark) parts k y also in
         sym one.2 ∙ (piece_at k one.0 one.1 ∙ (ap (since mark) (sym (part_at_place job end k other.0 other.1)) ∙ other.2)))
       where
-        piece_at : (p : ℕ) (h : Held) → slice_get held p ≡ Some h → before least h.part ≡ since mark (part_of_process job end p)
+        piece_at : (p : ℕ) (h : Held) → slice_get held p ≡ Some h → drained_of h ≡ since mark (part_of_process job end p)
         piece_at p h at =
             let is = all.each p h at in
-            ap (before least) is.part
-            ∙ (committed_before job p mark least h.clock mark_no_later (least_no_later p h at) least_of_run
+            let early = is.early in
+            let low = mark_no_later in
+            ap (since mark) (ap (before least) is.part
+            ∙ committed_before job p h.from least h.clock (omega (arith, early, low)) (least_no_later p h at) least_of_run)
+            ∙ (committed_since job p h.from mark least early low all.of_run
             ∙ (sym (part_since job.limit (whole job.flat) job.outside (owned job p) (rank job.limit mark) end mark_no_later)
             ∙ ap (λ (t : Time). since t (part_of_process job end p)) mark_of_run))
 

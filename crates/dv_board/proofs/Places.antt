@@ -1,9 +1,9 @@
 -- What a board keeps of each process, place by place.
-use Rattle.std.proofs.Common.{◌≡◌, ℕ, zero, suc, ◌+◌, ◌<◌, ◌≤◌, Bool, true, false, cond, List, [], ◌∷◌, length, map, replicate, take, set, slice_get, slice_index_or, Some, refl, sym, ap, ap₂, subst, ◌∙◌, arith, ⊎_elim}
+use Rattle.std.proofs.Common.{◌≡◌, ℕ, zero, suc, ◌+◌, ◌-◌, ◌<◌, ◌≤◌, Bool, true, false, cond, List, [], ◌∷◌, ◌++◌, length, map, replicate, take, drop, set, slice_get, slice_index_or, Some, refl, sym, ap, ap₂, subst, ◌∙◌, arith, ⊎_elim}
 use Rattle.std.specs.List.{All, Contains}
 use Rattle.std.proofs.lemmas.Bool.{cases_Bool, cond-false, cond-true, ltb-false, ltb-true}
 use Rattle.std.proofs.lemmas.Bool.Decides.{nat_tests}
-use Rattle.std.proofs.lemmas.List.{get_or-map, length-map, length-set, map-set, take_all}
+use Rattle.std.proofs.lemmas.List.{get_or-append_right, get_or-drop, get_or-map, length-map, length-set, length-take, map-set, take_all}
 use Rattle.std.proofs.lemmas.List.Elements.{All-map, All-more, All-weaker}
 use Rattle.std.proofs.lemmas.Option.{same_Some}
 use Rattle.dv_time.specs.Time.{IsOfRun, end_of, is_before, rank}
@@ -13,10 +13,10 @@ use Rattle.dv_bag.specs.Part.{PartOf, joined, since}
 use Rattle.dv_conservative.specs.Process.{first_time}
 use Rattle.dv_conservative.specs.World.{Job}
 use Rattle.dv_board.specs.declared.held.Held.{Held}
-use Rattle.dv_board.specs.Boards.{AreHeld, IsHeld}
+use Rattle.dv_board.specs.Backlogs.{AreHeld, IsHeld}
 use Rattle.dv_board.specs.Clocks.{IsLeast, IsNoLater, IsSooner, later}
 use Rattle.dv_board.specs.Jobs.{committed}
-use Rattle.dv_board.specs.Places.{rest_of, with_piece}
+use Rattle.dv_board.specs.Places.{is_mostly_later, rest_of, with_piece}
 use Rattle.dv_board.proofs.Between.{committed_joined, committed_since}
 
 -- ---- times in order
@@ -113,15 +113,34 @@ pub clocks_new : (n : ℕ) (h : Held) → clocks_of (replicate n h) ≡ replicat
 clocks_new zero h = refl
 clocks_new (suc n) h = ap (λ (cs : List Time). h.clock ∷ cs) (clocks_new n h)
 
+-- a place that comes only after those that were made anew
+pub at_places_to_come : {X : Type 0} (f : X → X) (old now : List X) (k : ℕ) (d : X) → k < length old
+    → now ≡ map f (take k old) ++ drop k old → slice_index_or now k d ≡ slice_index_or old k d
+at_places_to_come f old now k d lt is =
+    let front = length-take k old in
+    let few : length (take k old) ≡ k = omega (arith, front, lt) in
+    let here : k + (k - k) ≡ k = omega arith in
+    ap (λ l. slice_index_or l k d) is
+    ∙ (get_or-append_right (map f (take k old)) (drop k old) k k d (length-map (take k old) f ∙ few) (omega arith)
+    ∙ (get_or-drop k old (k - k) d ∙ ap (λ (n : ℕ). slice_index_or old n d) here))
+
+-- of a place that is made anew or stays
+clock_of_rest : (t : Bool) (time : Time) (h : Held) (part : PartOf)
+    → (cond t h (record { from = time; clock = h.clock; part = part })).clock ≡ h.clock
+clock_of_rest true time h part = refl
+clock_of_rest false time h part = refl
+
 pub clocks_stay : (time : Time) (held : List Held) → clocks_of (map (rest_of time) held) ≡ clocks_of held
 clocks_stay time [] = refl
-clocks_stay time (h ∷ hs) = ap (λ (cs : List Time). h.clock ∷ cs) (clocks_stay time hs)
+clocks_stay time (h ∷ hs) =
+    ap₂ (λ (c : Time) (cs : List Time). c ∷ cs)
+    (clock_of_rest (is_mostly_later h.part time) time h (since time h.part)) (clocks_stay time hs)
 
 pub clock_of_piece : (h : Held) (piece : PartOf) (clock : Time) → (with_piece h piece clock).clock ≡ later h.clock clock
 clock_of_piece h piece clock = by_test (is_before h.clock clock)
   where
     more : Held
-    more = record { clock = clock; part = joined h.part (since h.clock piece) }
+    more = record { from = h.from; clock = clock; part = joined h.part (since h.clock piece) }
 
     by_test : (t : Bool) → (cond t more h).clock ≡ cond t clock h.clock
     by_test true = refl
@@ -131,19 +150,44 @@ clock_of_piece h piece clock = by_test (is_before h.clock clock)
 pub piece_is_held : (job : Job) (mark : Time) (p : ℕ) (h : Held) (piece : PartOf) (from clock : Time)
     → IsHeld job mark p h → IsOfRun job.limit clock → rank job.limit clock ≤ end_of job.limit job.horizon → IsNoLater job from h.clock
     → piece ≡ committed job p from clock → IsHeld job mark p (with_piece h piece clock)
-piece_is_held job mark p h piece from clock held of_run within low is = ⊎_elim
+piece_is_held job mark p h piece from clock held of_run within low is =
+    let more : Held = record { from = h.from; clock = clock; part = joined h.part (since h.clock piece) } in
+    ⊎_elim
     (λ yes.
-    let more : Held = record { clock = clock; part = joined h.part (since h.clock piece) } in
     let high = sooner job h.clock clock held.of_run of_run yes in
-    let below = held.order in
+    let early = held.early in
+    let order = held.order in
     subst (IsHeld job mark p) (sym (cond-true (is_before h.clock clock) more h yes)) (record {
       of_run = of_run;
       within = within;
-      order = omega (arith, high, below);
+      early = early;
+      order = omega (arith, high, order);
       part = ap₂ joined held.part (ap (since h.clock) is ∙ committed_since job p from h.clock clock low (omega (arith, high)) held.of_run)
-          ∙ committed_joined job p mark h.clock clock below (omega (arith, high));
+          ∙ committed_joined job p h.from h.clock clock (omega (arith, early, order)) (omega (arith, high));
     }))
-    (λ no.
-    let more : Held = record { clock = clock; part = joined h.part (since h.clock piece) } in
-    subst (IsHeld job mark p) (sym (cond-false (is_before h.clock clock) more h no)) held)
+    (λ no. subst (IsHeld job mark p) (sym (cond-false (is_before h.clock clock) more h no)) held)
     (cases_Bool (is_before h.clock clock))
+
+-- what is before a time that is no later than the clock goes, or stays for a while
+pub rest_is_held : (job : Job) (mark time : Time) (p : ℕ) (h : Held) → IsHeld job mark p h → IsOfRun job.limit time
+    → IsNoLater job mark time → IsNoLater job time h.clock → IsHeld job time p (rest_of time h)
+rest_is_held job mark time p h held of_run low high =
+    let less : Held = record { from = time; clock = h.clock; part = since time h.part } in
+    let early = held.early in
+    ⊎_elim
+    (λ yes. subst (IsHeld job time p) (sym (cond-true (is_mostly_later h.part time) h less yes)) (record {
+      of_run = held.of_run;
+      within = held.within;
+      early = omega (arith, early, low);
+      order = high;
+      part = held.part;
+    }))
+    (λ no. subst (IsHeld job time p) (sym (cond-false (is_mostly_later h.part time) h less no)) (record {
+      of_run = held.of_run;
+      within = held.within;
+      early = omega arith;
+      order = high;
+      part = ap (since time) held.part
+          ∙ committed_since job p h.from time h.clock (omega (arith, early, low)) high of_run;
+    }))
+    (cases_Bool (is_mostly_later h.part time))

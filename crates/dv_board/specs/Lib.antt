@@ -1,5 +1,6 @@
 pub mod Answers
-pub mod Boards
+pub mod Backlogs
 pub mod Clocks
 pub mod Jobs
 pub mod Places
+pub mod Posts

@@ -1,16 +1,19 @@
-//! What a board keeps of one process.
+//! What a backlog keeps of one process.
 
 ghost use Rattle.std.specs.Prelude.{◌≡◌, true, OnOk, OnErr};
 ghost use Rattle.dv_time.specs.Time.{is_before};
+ghost use Rattle.dv_bag.specs.Part.{IsByTime};
 ghost use Rattle.dv_board.specs.Places.{rest_of, with_piece};
 
+use crate::piece::is_mostly_later;
 use dv_bag::Part;
 use dv_time::Time;
 use std::alloc::AllocError;
 
-/// What one process committed before its clock and nobody has drained yet.
+/// What one process committed from one time on and before its clock.
 #[derive(Drop)]
 pub struct Held {
+    pub from: Time,
     pub clock: Time,
     pub part: Part,
 }
@@ -34,10 +37,16 @@ impl Held {
         Ok(())
     }
 
-    /// What is before a time goes.
+    /// What is before a time goes, once it is no less than what stays. So a process that is far ahead of the others costs no more
+    /// moves than it has entries.
     pub fn let_go(&mut self, time: Time)
+        requires { IsByTime self.old.part }
         ensures { self.new ≡ rest_of time self.old }
     {
+        if is_mostly_later(&self.part, time) {
+            return;
+        }
         self.part.keep_since(time);
+        self.from = time;
     }
 }

@@ -27,7 +27,8 @@ pub enum JobEnded {
 pub enum Why {
     /// The rounds that were granted are used up.
     Rounds,
-    /// An allocation was refused while a process took its turn, or a packet was on its way.
+    /// An allocation was refused while a process took its turn, or a packet was on its way; or whoever watched the turns stopped
+    /// the run.
     Memory,
 }
 

@@ -50,7 +50,8 @@ pub fn run_by_workers<R: Threads + Wait + Sync, W: Write>(
     )
 }
 
-/// Runs as [`run_by_workers`] does, and lets somebody watch each turn of a process.
+/// Runs as [`run_by_workers`] does, and lets somebody watch each turn of a process. Where that one stops the run, the answer is
+/// `Partial`, as where memory is refused.
 ///
 /// # Errors
 ///

@@ -42,8 +42,8 @@ use std::thread::Threads;
 
 /// Runs the compiled model of a text by its programs and its links, with inputs, in processes on so many threads, to a horizon in
 /// ticks, and writes the lines of the trace before the least clock while it runs, whatever the timing of the threads. Process p is
-/// run by worker p mod `workers`. A link holds so many packets at most. Somebody may watch each turn. Where memory is refused to a
-/// worker, or a thread, that is what was known then.
+/// run by worker p mod `workers`. A link holds so many packets at most. Somebody may watch each turn, and stop the run. Where it is
+/// stopped, or memory is refused to a worker, or a thread, that is what was known then.
 ///
 /// # Errors
 ///
@@ -184,7 +184,7 @@ fn work_plan<R: Threads + Wait + Sync, G: Watch, W: Write>(
     )
 }
 
-// What is known of a run without a gate once its lines are printed. It is whole only where the run is.
+// What is known of a run once its lines are printed. It is whole only where the run is.
 fn ran_by_workers(worked: Worked<()>) -> Ran
     ensures clocks { result.clocks ≡ worked.clocks }
     ensures whole { result.ended ≡ ended.Whole → worked.ended ≡ reported.Whole }

@@ -159,8 +159,6 @@ pub begun_to : (job : Job) (tree : Source) (old new : Option (List ℕ)) (w : Wr
 begun_to job tree old new w written within =
     record { upto = rank job.limit w.mark; within = within; text = AppendsBeginning-from (TakesFront-all written.text) }
 
--- the mark of what was written is a time of the run
-pub of_run_of : (job : Job) (tree : Source) (old new : Option (List ℕ)) (r : Result Written WriteError) → IfOk r (IsWrittenTo job tree old new)
-    → IfOk r (λ w. IsOfRun job.limit w.mark)
-of_run_of job tree old new (Ok w) written = written.of_run
-of_run_of job tree old new (Err e) written = tt
+-- what holds of an answer that is there
+pub of_ok : {X E : Type 0} (P : X → Type 0) (r : Result X E) (x : X) → r ≡ Ok x → IfOk r P → P x
+of_ok {X} {E} P r x is h = subst (λ (q : Result X E). IfOk q P) is h

@@ -1,16 +1,16 @@
-//! Whether a trace holds a fault.
+//! Whether a part of a trace holds a fault.
 
 ghost use Rattle.std.specs.Prelude.{◌≡◌};
 ghost use Rattle.dv_stream.specs.Faults.{has_fault, is_fault};
 
-use dv_bag::{Trace, What};
+use dv_bag::What;
+use dv_text::PartSlice;
 
 /// Whether some entry is a fault.
-pub fn has_fault(trace: &Trace) -> bool
-    ensures { result ≡ has_fault trace.now }
+pub fn has_fault(part: &PartSlice<'_>) -> bool
+    ensures { result ≡ has_fault part.now }
 {
-    let entries = trace.entries().as_slice();
-    entries.iter().any(|entry| is_fault(&entry.what))
+    part.entries().iter().any(|entry| is_fault(&entry.what))
 }
 
 fn is_fault(what: &What) -> bool

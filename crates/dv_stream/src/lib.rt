@@ -1,7 +1,7 @@
 //! The trace of a run, written while the run goes on.
 #![tactic(auto)]
 
-/// Whether a trace holds a fault.
+/// Whether a part of a trace holds a fault.
 pub mod faults;
 /// The pieces of all processes, merged and written.
 pub mod merged;

@@ -12,7 +12,7 @@ use dv_bag::{Bags, Part};
 use dv_core::PlannedJob;
 use dv_merge::merge;
 use dv_text::laws::a_trace_is_its_pieces;
-use dv_text::{TraceWriter, WriteError};
+use dv_text::{PartSlice, TraceWriter, WriteError};
 use dv_time::Time;
 use std::alloc::Global;
 use std::io::Write;
@@ -49,5 +49,5 @@ pub fn write_merged<J: PlannedJob, W: Write>(
     // A piece of the trace stands by time.
     a_trace_is_its_pieces::<Bags>();
     let piece = merge(alloc, pieces)?;
-    write_piece(before, &piece, mark, lines, writer)
+    write_piece(before, &PartSlice::all_of(&piece), mark, lines, writer)
 }

@@ -1,6 +1,6 @@
 //! Rounds on one thread; between them the trace is written.
 
-ghost use Rattle.std.specs.Prelude.{◌≡◌, ◌↔◌, ◌<◌, ℕ, List, IfOk, IsTrue, OnErr, map, slice_get, Some};
+ghost use Rattle.std.specs.Prelude.{◌≡◌, ◌↔◌, ◌<◌, ◌∷◌, [], ℕ, List, IfOk, IsTrue, OnErr, map, slice_get, Some};
 ghost use Rattle.dv_bag.specs.Bag.{Counts};
 ghost use Rattle.dv_board.specs.Clocks.{IsNoLater};
 ghost use Rattle.dv_board.specs.Jobs.{IsMergeable};
@@ -16,8 +16,9 @@ ghost use Rattle.dv_work.specs.Reached.{AreReached};
 
 use crate::merged::write_merged;
 use crate::pieces::{clocks_of, pieces_of};
-use crate::written::Written;
+use crate::written::{Written, write_piece};
 use dv_bag::Bags;
+use dv_board::lines_between;
 use dv_core::{Ended, LogicalProcess, PlannedJob, World};
 use dv_plan::Plan;
 use dv_react::Atomic;
@@ -25,7 +26,7 @@ use dv_serial::Committed;
 use dv_serial::least::least_clock;
 use dv_serial::worlds::world_of;
 use dv_text::laws::a_trace_is_its_pieces;
-use dv_text::{TraceWriter, WriteError};
+use dv_text::{PartSlice, TraceWriter, WriteError};
 use std::alloc::Global;
 use std::io::Write;
 
@@ -38,6 +39,36 @@ const ROUNDS_BETWEEN: u64 = 64;
 pub struct Streamed {
     pub committed: Committed,
     pub written: Written,
+}
+
+// Writes what the one process of a job has committed and is not written yet, from where it lies.
+fn write_alone<J: PlannedJob, P: LogicalProcess, W: Write>(
+    job: &J,
+    process: &P,
+    before: Written,
+    lines: &mut TraceWriter<'_>,
+    writer: &mut W,
+) -> Result<Written, WriteError>
+    requires merges { IsMergeable (J.means job.now) }
+    requires some { 0 < (J.means job.now).processes }
+    requires reached { AreReached (J.means job.now) ((P.state process.now).part ∷ [])
+        ((P.state process.now).position.clock ∷ []) }
+    requires of_run { IsOfRun (J.means job.now).limit before.mark }
+    requires order { IsNoLater (J.means job.now) before.mark
+        (P.state process.now).position.clock }
+    ensures tree { lines.new ≡ lines.old }
+    ensures ok { IfOk result (GoesOn (J.means job.now) lines.old
+        (W.contents writer.old) (W.contents writer.new) before) }
+    ensures mark { IfOk result (λ after. after.mark ≡ (P.state process.now).position.clock) }
+    ensures err { OnErr result (Falters (J.means job.now) lines.old
+        (W.contents writer.old) (W.contents writer.new) before) }
+{
+    let _ = job;
+    // A piece of the trace stands by time.
+    a_trace_is_its_pieces::<Bags>();
+    let mark = process.clock();
+    let (entries, outer) = lines_between(process.committed(), before.mark, mark);
+    write_piece(before, &PartSlice::new(entries, outer), mark, lines, writer)
 }
 
 // Writes what the processes of a job have committed before their least clock and is not written yet.
@@ -65,6 +96,9 @@ fn write_more<J: PlannedJob, P: LogicalProcess, W: Write>(
     ensures err { OnErr result (Falters (J.means job.now) lines.old
         (W.contents writer.old) (W.contents writer.new) before) }
 {
+    if let [process] = processes {
+        return write_alone(job, process, before, lines, writer);
+    }
     let clocks = clocks_of(alloc, processes)?;
     let mark = least_clock(&clocks);
     let pieces = pieces_of(alloc, processes, before.mark, mark)?;

@@ -1,22 +1,21 @@
 //! A run by workers, whose trace is written while they run.
 
-ghost use Rattle.std.specs.Prelude.{◌≡◌, ◌↔◌, ◌<◌, ◌≤◌, ℕ, Some, slice_get, length, IfOk, OnErr, OnSome, IfSome};
+ghost use Rattle.std.specs.Prelude.{◌≡◌, ◌<◌, ◌≤◌, ℕ, Some, slice_get, length, IfOk, IfSome, OnErr};
 ghost use Rattle.dv_time.specs.Time.{end_of, rank};
 ghost use Rattle.dv_time.specs.declared.TheConstants.{GREATEST_TICK};
 ghost use Rattle.dv_time.specs.declared.time.Time.{Time as MeantTime};
 ghost use Rattle.dv_board.specs.Jobs.{IsMergeable};
 ghost use Rattle.dv_core.specs.Worlds.{AreMadeFor, end_time};
 ghost use Rattle.dv_devs.specs.Clocks.{least_rank};
-ghost use Rattle.dv_stream.specs.Workers.{job_of_type};
+ghost use Rattle.dv_stream.specs.Workers.{IsReportOf, job_of_type};
 ghost use Rattle.dv_stream.specs.Written.{IsBegun, IsWrittenTo};
-ghost use Rattle.dv_work.specs.Reached.{AreReached};
 ghost use Rattle.dv_work.specs.declared.report.Ended.TheVariants.{Whole};
 
 use crate::news::{Signals, write_news};
 use crate::rest::{clocks_from, write_rest};
 use crate::written::Written;
 use dv_bag::Bags;
-use dv_board::Board;
+use dv_board::{Backlog, Board};
 use dv_core::{LogicalProcess, PlannedJob};
 use dv_link::OfJob;
 use dv_proc::Channel;
@@ -29,7 +28,6 @@ use std::alloc::{AllocError, Global};
 use std::io::Write;
 use std::marker::{Brand, PhantomData};
 use std::sync::Wait;
-use std::thread;
 use std::thread::{Threads, join_mut};
 
 /// How a run by workers ended, whose trace was written to the least of these clocks, which are by the numbers of the processes.
@@ -64,12 +62,7 @@ impl<N: OfJob> PlannedJob for Until<N> {
     }
 }
 
-// Whether a thread can be made.
-fn has_threads<R: Threads + Wait + Sync>(rt: &R) -> bool {
-    thread::scope(thread::scope_env(), rt, |scope| scope.spawn(|| ()).is_ok())
-}
-
-// Runs a crew, if it has not run yet, with a board on which it posts, and tells that it has ended.
+// Runs a crew, if it has not run yet, with a board on which it posts. Tells that it has begun, and that it has ended.
 fn run_posting<
     N: OfJob + Send + Sync,
     P: LogicalProcess + Send,
@@ -92,12 +85,9 @@ where
         AreMadeFor job_of_type P.state P.valid N.job channels.now c.processes.items) }
     requires workers { IfSome crew.old (λ c. 0 < length c.works.items) }
     requires capacity { 0 < capacity }
-    ensures reached { IfOk result (λ r.
-        AreReached N.job r.parts.items r.clocks.items) }
-    ensures whole { IfOk result (λ r. (r.ended ≡ Whole)
-        ↔ ((p : ℕ) (t : MeantTime) → slice_get r.clocks.items p ≡ Some t
-        → t ≡ end_time N.job)) }
+    ensures { IfOk result (IsReportOf N.job) }
 {
+    signals.begin(rt);
     let report = match crew.take() {
         Some(Crew { processes, works }) => run_streamed::<N, Until<N>, P, G, R>(
             rt,
@@ -118,11 +108,12 @@ where
     report
 }
 
-// Writes what is posted until the run has ended. Where it can write no more, the workers are to stop.
+// Writes what is posted until the run has ended, if it begins. Where it can write no more, the workers are to stop.
 fn write_or_stop<N: OfJob, R: Wait, W: Write>(
     rt: &R,
     alloc: Global,
     board: &Board<N>,
+    backlog: &mut Backlog<N>,
     signals: &Signals,
     tree: &Tree,
     writer: &mut W,
@@ -134,15 +125,15 @@ fn write_or_stop<N: OfJob, R: Wait, W: Write>(
     ensures err { OnErr result (IsBegun N.job tree.now
         (W.contents writer.old) (W.contents writer.new)) }
 {
-    let written = write_news(rt, alloc, board, signals, tree, writer);
+    let written = write_news(rt, alloc, board, backlog, signals, tree, writer);
     if written.is_err() {
         signals.stop.raise(rt, &[]);
     }
     written
 }
 
-// Runs a crew in another thread, and writes in this one what it posts. Where no thread can be made for that, it writes once the
-// crew has run.
+// Runs a crew in another thread, and writes in this one what it posts. Where no thread can be made for that, `join_mut` runs the
+// crew last; nothing is written then, since no run begins.
 fn run_and_write<
     N: OfJob + Send + Sync,
     P: LogicalProcess + Send,
@@ -158,6 +149,7 @@ fn run_and_write<
     capacity: usize,
     gate: &G,
     board: &Board<N>,
+    backlog: &mut Backlog<N>,
     signals: &Signals,
     tree: &Tree,
     writer: &mut W,
@@ -177,11 +169,7 @@ where
         rank N.job.limit w.mark ≤ end_of N.job.limit N.job.horizon) }
     ensures err { OnErr result.0 (IsBegun N.job tree.now
         (W.contents writer.old) (W.contents writer.new)) }
-    ensures reached { IfOk result.1 (λ r.
-        AreReached N.job r.parts.items r.clocks.items) }
-    ensures whole { IfOk result.1 (λ r. (r.ended ≡ Whole)
-        ↔ ((p : ℕ) (t : MeantTime) → slice_get r.clocks.items p ≡ Some t
-        → t ≡ end_time N.job)) }
+    ensures report { IfOk result.1 (IsReportOf N.job) }
 {
     let mut crew = Some(crew);
     let mut run = move || -> Result<Report<G::Cause>, AllocError>
@@ -189,11 +177,7 @@ where
             AreMadeFor job_of_type P.state P.valid N.job channels.now c.processes.items) }
         requires workers { IfSome crew (λ c. 0 < length c.works.items) }
         requires capacity { 0 < capacity }
-        ensures reached { IfOk result (λ r.
-            AreReached N.job r.parts.items r.clocks.items) }
-        ensures whole { IfOk result (λ r. (r.ended ≡ Whole)
-            ↔ ((p : ℕ) (t : MeantTime) → slice_get r.clocks.items p ≡ Some t
-            → t ≡ end_time N.job)) }
+        ensures { IfOk result (IsReportOf N.job) }
     {
         run_posting(
             rt, alloc, until, channels, &mut crew, capacity, gate, board, signals,
@@ -206,13 +190,9 @@ where
             rank N.job.limit w.mark ≤ end_of N.job.limit N.job.horizon) }
         ensures err { OnErr result (IsBegun N.job tree.entry.now
             (W.contents writer.entry.now) (W.contents writer.exit.now)) }
-    { write_or_stop(rt, alloc, board, signals, tree, writer) };
-    if has_threads(rt) {
-        let (report, written) = join_mut(rt, &mut run, &mut write);
-        return (written, report);
-    }
-    let report = run();
-    (write(), report)
+    { write_or_stop(rt, alloc, board, backlog, signals, tree, writer) };
+    let (report, written) = join_mut(rt, &mut run, &mut write);
+    (written, report)
 }
 
 // Runs a crew, and writes its trace while it runs. It names the job in no type, so that a caller can pick it.
@@ -256,14 +236,27 @@ where
 {
     // Lines are continued by those of the next piece.
     a_trace_is_its_pieces::<Bags>();
-    let board: Board<N> = Board::new(alloc, crew.processes.len() as u32)?;
+    let processes = crew.processes.len() as u32;
+    let board: Board<N> = Board::new(alloc, processes)?;
+    let mut backlog: Backlog<N> = Backlog::new(alloc, processes)?;
     let signals = Signals::new();
     let until: Until<N> = Until {
         tick: job.horizon(),
         of: PhantomData,
     };
     let (written, report) = run_and_write(
-        rt, alloc, &until, channels, crew, capacity, gate, &board, &signals, tree, writer,
+        rt,
+        alloc,
+        &until,
+        channels,
+        crew,
+        capacity,
+        gate,
+        &board,
+        &mut backlog,
+        &signals,
+        tree,
+        writer,
     );
     let written = written?;
     let Report {

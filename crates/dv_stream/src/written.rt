@@ -9,8 +9,7 @@ ghost use Rattle.dv_text.specs.Texts.{part_text};
 ghost use Rattle.dv_text.specs.Writing.{AppendsBeginning};
 
 use crate::faults::has_fault;
-use dv_bag::Trace;
-use dv_text::{TraceWriter, WriteError};
+use dv_text::{PartSlice, TraceWriter, WriteError};
 use dv_time::Time;
 use std::io::Write;
 
@@ -37,7 +36,7 @@ impl Written {
 /// A write failed, or there is no memory for a line. The writer holds a beginning of the lines.
 pub fn write_piece<W: Write>(
     before: Written,
-    piece: &Trace,
+    piece: &PartSlice<'_>,
     mark: Time,
     lines: &mut TraceWriter<'_>,
     writer: &mut W,

@@ -10,10 +10,11 @@ ghost use Rattle.dv_text.specs.Texts.{ending_text, part_text};
 ghost use Rattle.dv_text.specs.Writing.{AppendsBeginning, StopsShort, TakesFront};
 
 use crate::handing::{hand_over, hand_over_if_long, write_port};
+use crate::part_slice::PartSlice;
 use crate::pieces::{is_same, push_end, push_out};
 use crate::words::{push_entry, root_port};
 use crate::writing::{Ending, WriteError};
-use dv_bag::{Entry, Outer, Part};
+use dv_bag::Outer;
 use dv_time::Time;
 use dv_tree::Tree;
 use std::alloc::Global;
@@ -55,7 +56,11 @@ impl<'t> TraceWriter<'t> {
     ///
     /// `WriteError::Write` where a write failed or took nothing, `WriteError::Memory` where memory was refused. A
     /// beginning of the lines was written then, and what was not written is forgotten.
-    pub fn part<W: Write>(&mut self, part: &Part, writer: &mut W) -> Result<(), WriteError>
+    pub fn part<W: Write>(
+        &mut self,
+        part: &PartSlice<'_>,
+        writer: &mut W,
+    ) -> Result<(), WriteError>
         ensures tree { self.new ≡ self.old }
         ensures ok { IsByTime part.now
             → OnOk result (Appends (W.contents writer.old) (W.contents writer.new)
@@ -89,7 +94,7 @@ fn write_merged<W: Write>(
     line: &mut String,
     writer: &mut W,
     tree: &Tree,
-    part: &Part,
+    part: &PartSlice<'_>,
 ) -> Result<(), WriteError>
     ensures ok { OnOk result (Appends (W.contents writer.old) (W.contents writer.new)
         (trace_text (tree_names tree.now) (tree_ports tree.now) part.now)) }
@@ -97,8 +102,8 @@ fn write_merged<W: Write>(
         (trace_text (tree_names tree.now) (tree_ports tree.now) part.now)) }
 {
     line.clear();
-    let mut outer = outer_of(part);
-    for entry in entries_of(part) {
+    let mut outer = part.outer();
+    for entry in part.entries() {
         outer = write_before(line, writer, tree, entry.time, outer)?;
         push_entry(line, tree, entry)?;
         hand_over_if_long(line, writer)?;
@@ -117,18 +122,6 @@ fn write_end<W: Write>(line: &mut String, writer: &mut W, ending: &Ending) -> Re
     line.clear();
     push_end(line, ending)?;
     hand_over(writer, line.as_bytes())
-}
-
-fn entries_of(part: &Part) -> &[Entry]
-    ensures { result.now ≡ part.now.entries }
-{
-    part.entries().as_slice()
-}
-
-fn outer_of(part: &Part) -> &[Outer]
-    ensures { result.now ≡ part.now.outer }
-{
-    part.outer().as_slice()
 }
 
 // The lines of what left before a time. What left from then on is returned.

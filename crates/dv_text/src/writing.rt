@@ -7,6 +7,7 @@ ghost use Rattle.dv_text.specs.Names.{tree_names, tree_ports};
 ghost use Rattle.dv_text.specs.Texts.{ending_text, part_text};
 ghost use Rattle.dv_text.specs.Writing.{StopsShort};
 
+use crate::part_slice::PartSlice;
 use crate::trace_writer::TraceWriter;
 use dv_bag::Trace;
 use dv_time::Time;
@@ -65,6 +66,6 @@ pub fn write_trace<W: Write>(
         ++ ending_text ending.now)) }
 {
     let mut lines = TraceWriter::new(alloc, tree);
-    lines.part(trace, writer)?;
+    lines.part(&PartSlice::all_of(trace), writer)?;
     lines.end(ending, writer)
 }

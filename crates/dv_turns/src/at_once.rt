@@ -50,20 +50,21 @@ impl Meeting {
 }
 
 impl Watch for Meeting {
-    fn before_turn(&self, worker: usize, _process: u32, clock: Time) {
+    fn before_turn(&self, worker: usize, _process: u32, clock: Time) -> bool {
         let came = if worker == 0 {
             &self.first_came
         } else {
             &self.second_came
         };
         if came.swap(true, Ordering::SeqCst) {
-            return;
+            return true;
         }
         if worker == 0 {
             self.meet_second(clock);
         } else {
             self.meet_first(clock);
         }
+        true
     }
 
     fn after_turn(&self, _worker: usize, process: u32, clock: Time) {

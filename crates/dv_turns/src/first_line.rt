@@ -18,8 +18,9 @@ struct Counter {
 }
 
 impl Watch for Counter {
-    fn before_turn(&self, _worker: usize, _process: u32, _clock: Time) {
+    fn before_turn(&self, _worker: usize, _process: u32, _clock: Time) -> bool {
         self.turns.fetch_add(1, Ordering::SeqCst);
+        true
     }
 
     fn after_turn(&self, _worker: usize, _process: u32, _clock: Time) {}
@@ -35,11 +36,12 @@ struct Holding<'f> {
 }
 
 impl<'f> Watch for Holding<'f> {
-    fn before_turn(&self, _worker: usize, _process: u32, _clock: Time) {
+    fn before_turn(&self, _worker: usize, _process: u32, _clock: Time) -> bool {
         let turn = self.turns.fetch_add(1, Ordering::SeqCst).wrapping_add(1);
         if turn == self.held && !comes(self.told) {
             self.gave_up.store(true, Ordering::SeqCst);
         }
+        true
     }
 
     fn after_turn(&self, _worker: usize, _process: u32, _clock: Time) {}

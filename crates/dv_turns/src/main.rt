@@ -11,6 +11,8 @@ mod failing;
 mod first_line;
 /// The runs of the model.
 mod runs;
+/// Runs that are stopped before a turn.
+mod stops;
 /// Writers.
 mod writers;
 
@@ -56,8 +58,14 @@ fn holds<R: AllocGlobal + Files + Print + Threads + Wait + Sync>(
         are_beside,
         "both workers are in their first turns at once",
     )?;
+    let do_stop = stops::do_all_stop(rt, &model);
+    tell(
+        rt,
+        do_stop,
+        "runs that are stopped before turn 1 to 50 are cut at their clocks",
+    )?;
     let do_fail = failing::do_all_end(rt, &model)?;
-    Ok(is_early && are_beside && do_fail)
+    Ok(is_early && are_beside && do_stop && do_fail)
 }
 
 /// Tells a fact, or that it does not hold.

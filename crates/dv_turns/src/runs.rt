@@ -11,6 +11,9 @@ use std::thread::Threads;
 /// The last tick.
 const HORIZON: u64 = 10;
 
+/// So many processes a run has.
+pub const PROCESSES: u32 = 3;
+
 /// The model, and the text of its trace by the plain run.
 #[derive(Drop)]
 pub struct Model<'t> {
@@ -58,7 +61,7 @@ pub fn run_by<R: AllocGlobal + Threads + Wait + Sync, G: Watch, W: Write>(
         rt.alloc(),
         model.text,
         b"",
-        Partition::Count(3),
+        Partition::Count(PROCESSES),
         &options,
         workers,
         watch,
@@ -79,7 +82,7 @@ pub fn run_in_rounds<W: Write>(
         alloc,
         model.text,
         b"",
-        Partition::Count(3),
+        Partition::Count(PROCESSES),
         &options,
         writer,
     )

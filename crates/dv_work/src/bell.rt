@@ -1,7 +1,12 @@
 //! Bells, and flags at which others end.
 
+use crossbeam_utils::Backoff;
 use std::sync::atomic::{AtomicBool, Ordering};
 use std::sync::{Condvar, Mutex, Wait};
+
+// So often who waits looks at most before it sleeps: first after some spins, then each time after others had the processor. That
+// takes about as long as to fall asleep and be woken.
+const LOOKS_BEFORE_SLEEP: u32 = 16;
 
 /// Where a thread waits for work. It counts its rings, so that one that comes between a look and the wait is not lost: whoever
 /// waits reads the count, looks, and waits only past the count that it read; whoever has something for it does that and rings
@@ -33,7 +38,19 @@ impl Bell {
         *self.rings.lock(rt)
     }
 
-    /// Waits until the count is no longer this; where it is another already, not at all.
+    /// Looks for a moment, without sleep, whether the count is no longer this, and tells whether it is another.
+    pub fn rings_soon<R: Wait>(&self, rt: &R, seen: u64) -> bool {
+        let backoff = Backoff::new();
+        for _ in 0..LOOKS_BEFORE_SLEEP {
+            if self.rings(rt) != seen {
+                return true;
+            }
+            backoff.snooze();
+        }
+        false
+    }
+
+    /// Sleeps until the count is no longer this; where it is another already, not at all.
     pub fn wait_past<R: Wait>(&self, rt: &R, seen: u64) {
         let _rings = self
             .rung

@@ -19,13 +19,15 @@
 //!
 //! # What is posted
 //!
-//! A piece is what one process has committed from the time on up to which the board keeps it, and before its clock. Only its own
-//! worker posts a process, so no piece leaves a gap; and where there was no memory for one, the next begins where that one did.
+//! A piece is what one process has committed since it posted last, and before its clock. Only its own worker posts a process, so no
+//! piece leaves a gap; and where there was no memory for one, the next begins where that one did.
 //!
-//! A worker posts all its processes now and then while they move, and always after a round in which nothing moved, before it waits
-//! at its bell or ends. While it waits its processes commit nothing. So all that a waiting worker knows is on the board, but for
-//! what found no memory. The bell for news rings after that: whoever drains the board reads the bell's count, drains, and waits
-//! past that count, so it wakes for what it missed. No worker holds the board's lock during a turn.
+//! A worker posts all its processes after the rounds 1, 2, 4, .. 64, and then after every 64th; and before it sleeps at its bell or
+//! ends. A worker that finds nothing to do looks at its bell for a moment first, without sleep, and posts nothing then: processes
+//! that answer each other within microseconds would else post at each answer. While a worker sleeps its processes commit nothing.
+//! So all that a sleeping worker knows is on the board, but for what found no memory. The bell for news rings after that: whoever
+//! takes pieces off the board reads the bell's count, takes, and waits past that count, so it wakes for what it missed. No worker
+//! holds the board's lock during a turn, and nobody copies a piece or puts pieces together under it.
 #![tactic(auto)]
 
 /// Bells, and flags at which others end.

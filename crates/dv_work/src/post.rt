@@ -5,7 +5,7 @@ ghost use Rattle.dv_work.specs.Seats.{Reports};
 
 use crate::bell::{Bell, Flag};
 use crate::seat::{Floor, Seat};
-use dv_board::{Board, piece_since};
+use dv_board::{Board, Piece, piece_since};
 use dv_core::LogicalProcess;
 use dv_link::OfJob;
 use std::alloc::Global;
@@ -27,7 +27,7 @@ pub struct Stream<'a, N: OfJob> {
     pub stop: &'a Flag,
 }
 
-// Posts what a process committed from where the board keeps it on. Tells whether there was something, and it was joined.
+// Posts what a process committed since it posted last. Tells whether there was something, and memory for it.
 fn post<N: OfJob, P: LogicalProcess, R: Wait>(
     rt: &R,
     stream: &Stream<'_, N>,
@@ -40,13 +40,16 @@ fn post<N: OfJob, P: LogicalProcess, R: Wait>(
     if !kept.is_before(clock) {
         return false;
     }
-    let Ok(piece) = piece_since(stream.alloc, seat.process.committed(), kept) else {
+    let Ok(part) = piece_since(stream.alloc, seat.process.committed(), kept) else {
         return false;
     };
-    stream
-        .board
-        .extend(rt, seat.number, piece, kept, clock)
-        .is_ok()
+    let piece = Piece {
+        process: seat.number,
+        from: kept,
+        clock,
+        part,
+    };
+    stream.board.post(rt, piece).is_ok()
 }
 
 // Posts what the processes of a worker committed, and rings for it.
@@ -68,8 +71,8 @@ fn post_each<N: OfJob, P: LogicalProcess, R: Wait>(
     }
 }
 
-/// Posts what the processes of a worker committed, if the run has a board. For what finds no memory the board stays where it
-/// is: it comes with the next piece, and if there is none it is in the report alone.
+/// Posts what the processes of a worker committed, if the run has a board. What finds no memory comes with the next piece, and if
+/// there is none it is in the report alone.
 pub fn post_all<N: OfJob, P: LogicalProcess, R: Wait>(
     rt: &R,
     floor: &Floor<'_, N>,

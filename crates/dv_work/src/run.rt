@@ -359,7 +359,7 @@ where
 }
 
 /// Runs as [`run_workers`] does, and posts on a board of the job meanwhile. Each worker posts what its processes committed, a
-/// piece of each that begins where the board stands: now and then while it goes on, before it waits, and before it ends. It rings
+/// piece of each that begins where its last one ended: now and then while it goes on, before it sleeps, and before it ends. It rings
 /// `news` after that. A piece for which there is no memory is let go, and comes with the next one of its process; what no piece
 /// brought is in the report. Once the caller has raised `stop`, each worker ends before its next turn, and a run that is not
 /// whole, and was not out of memory, is reported cancelled.

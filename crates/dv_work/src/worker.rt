@@ -150,13 +150,32 @@ fn of_both(one: Turned, other: Turned) -> Turned {
     }
 }
 
-// Whether a worker posts after a round: now and then where it goes on, more often at first, so that a reader sees the first lines
-// soon; and always where it will wait or end.
+// Whether a worker posts after a round: now and then, more often at first, so that a reader sees the first lines soon; and always
+// where it ends.
 fn posts_after<C>(round: u64, ended: &Result<Turned, Halt<C>>) -> bool {
     match ended {
-        Ok(Turned::Moved) => round.is_power_of_two() || round % ROUNDS_TO_A_POST == 0,
+        Ok(Turned::Moved | Turned::Waiting) => {
+            round.is_power_of_two() || round % ROUNDS_TO_A_POST == 0
+        }
         _ => true,
     }
+}
+
+// Waits until a worker's bell has rung past a count. Where that does not come soon, the worker posts before it sleeps.
+fn wait_for_work<N: OfJob, P: LogicalProcess, R: Wait>(
+    rt: &R,
+    floor: &Floor<'_, N>,
+    bell: &Bell,
+    seen: u64,
+    seats: &[Seat<P>],
+)
+    requires { All (Reports N.job P.state) seats.now }
+{
+    if bell.rings_soon(rt, seen) {
+        return;
+    }
+    post_all(rt, floor, seats);
+    bell.wait_past(rt, seen);
 }
 
 // Makes rounds until all are done, or the worker has to end.
@@ -182,7 +201,7 @@ fn rounds<N: OfJob, P: LogicalProcess, G: Gate<P>, R: Wait>(
         }
         match ended {
             Ok(Turned::Moved) => {}
-            Ok(Turned::Waiting) => bell.wait_past(rt, seen),
+            Ok(Turned::Waiting) => wait_for_work(rt, floor, bell, seen, seats),
             Ok(Turned::Done) => return None,
             Err(halt) => return Some(halt),
         }
@@ -191,7 +210,7 @@ fn rounds<N: OfJob, P: LogicalProcess, G: Gate<P>, R: Wait>(
 }
 
 /// Works until all its processes are done, or it has to end. Then it raises the flag, unless it ended for the flag. What its
-/// processes committed is posted before it waits, and before it ends.
+/// processes committed is posted before it sleeps, and before it ends.
 pub fn work_at<N: OfJob, P: LogicalProcess, G: Gate<P>, R: Wait>(
     rt: &R,
     floor: &Floor<'_, N>,

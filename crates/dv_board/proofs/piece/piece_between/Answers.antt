@@ -1,24 +1,10 @@
-use Rattle.std.proofs.Common.{not, take, ap, ◌∙◌}
-use Rattle.std.specs.List.{filter}
-use Rattle.std.proofs.lemmas.List.{take_rest}
-use Rattle.dv_time.specs.Time.{is_before}
-use Rattle.dv_bag.specs.declared.entry.Entry.{Entry}
-use Rattle.dv_bag.specs.declared.entry.Outer.{Outer}
+use Rattle.std.proofs.Common.{◌∙◌}
 use Rattle.dv_devs.proofs.Parts.{same_part}
 use Rattle.dv_board.proofs.piece.piece_between.Goals as goal
 
 pub returns : goal.returns
 returns c =
-    let from = c.args.from in
-    let upto = c.args.upto in
-    let entries = take c.entries_before.result c.as_slice-entries.result.now in
-    let lines = take c.lines_before.result c.as_slice-lines.result.now in
-    c.from_lists.ensures ∙ same_part _ _ _ _
-    (c.in_ok-entries.ensures.items_if_clones_equal (λ x y h. h)
-    ∙ (take_rest entries c.entries_before-2.result ∙ (c.entries_before-2.ensures.since
-    ∙ ap (filter (λ (e : Entry). not (is_before e.time from))) (c.entries_before.ensures.before
-    ∙ ap (filter (λ (e : Entry). is_before e.time upto)) (c.as_slice-entries.ensures.value ∙ c.entries.ensures.rest)))))
-    (c.in_ok-lines.ensures.items_if_clones_equal (λ x y h. h)
-    ∙ (take_rest lines c.lines_before-2.result ∙ (c.lines_before-2.ensures.since
-    ∙ ap (filter (λ (o : Outer). not (is_before o.time from))) (c.lines_before.ensures.before
-    ∙ ap (filter (λ (o : Outer). is_before o.time upto)) (c.as_slice-lines.ensures.value ∙ c.outer.ensures.rest)))))
+    c.from_lists.ensures ∙ (same_part _ _ _ _
+    (c.in_ok-entries.ensures.items_if_clones_equal (λ x y h. h))
+    (c.in_ok-lines.ensures.items_if_clones_equal (λ x y h. h))
+    ∙ c.lines_between.ensures)

@@ -16,26 +16,26 @@ loop-entry-init g c =
     let all = tree_names c.args.tree.now in
     let names = tree_ports c.args.tree.now in
     let part = c.args.part.now in
-    let items = c.entries_of-entry-items.result.now in
-    let outer = c.outer_of-outer.result.now in
+    let items = c.entries-entry-items.result.now in
+    let outer = c.outer-outer.result.now in
     let text = lines_by_time all items (groups_of names outer) in
     let start =
-    ap (λ (es : List Entry). lines_by_time all es (groups_of names part.outer)) (sym c.entries_of-entry-items.ensures)
-    ∙ ap (λ (os : List Outer). lines_by_time all items (groups_of names os)) (sym c.outer_of-outer.ensures)
+    ap (λ (es : List Entry). lines_by_time all es (groups_of names part.outer)) (sym c.entries-entry-items.ensures)
+    ∙ ap (λ (os : List Outer). lines_by_time all items (groups_of names os)) (sym c.outer-outer.ensures)
     ∙ ap (λ z. z ++ text) (sym c.clear.ensures.bytes) in
     TakesFront-left start (TakesFront-nothing (g.W.Write.contents c.args.writer.now) (trace_text all names part))
 
 pub returns-in_err-outer-clause-err : goal.returns-in_err-outer-clause-err
 returns-in_err-outer-clause-err g c =
     OnErr-always _
-    (fails_before_entry (tree_names c.args.tree.now) c.entries_of-entry-items.result.now c.loop-entry.entry-index c.entry-item.result
+    (fails_before_entry (tree_names c.args.tree.now) c.entries-entry-items.result.now c.loop-entry.entry-index c.entry-item.result
     (groups_of (tree_ports c.args.tree.now) c.loop-entry.outer.now) _
     (omega arith) c.entry-item.is refl (string_bytes c.loop-entry.line) c.loop-entry.invariant c.in_err-outer.ensures.err)
 
 pub returns-in_err-push_entry-clause-err : goal.returns-in_err-push_entry-clause-err
 returns-in_err-push_entry-clause-err g c =
     OnErr-always _
-    (fails_at_entry (tree_names c.args.tree.now) c.entries_of-entry-items.result.now c.loop-entry.entry-index c.entry-item.result
+    (fails_at_entry (tree_names c.args.tree.now) c.entries-entry-items.result.now c.loop-entry.entry-index c.entry-item.result
     (groups_of (tree_ports c.args.tree.now) c.loop-entry.outer.now) _
     (omega arith) c.entry-item.is c.in_ok-outer.ensures.left (string_bytes c.loop-entry.line) c.loop-entry.invariant
     (string_bytes c.write_before.new.line) c.in_ok-outer.ensures.ok)
@@ -43,7 +43,7 @@ returns-in_err-push_entry-clause-err g c =
 pub returns-in_err-hand_over_if_long-clause-err : goal.returns-in_err-hand_over_if_long-clause-err
 returns-in_err-hand_over_if_long-clause-err g c =
     OnErr-always _
-    (fails_behind_entry (tree_names c.args.tree.now) c.entries_of-entry-items.result.now c.loop-entry.entry-index c.entry-item.result
+    (fails_behind_entry (tree_names c.args.tree.now) c.entries-entry-items.result.now c.loop-entry.entry-index c.entry-item.result
     (groups_of (tree_ports c.args.tree.now) c.loop-entry.outer.now) _
     (omega arith) c.entry-item.is c.in_ok-outer.ensures.left (string_bytes c.loop-entry.line) c.loop-entry.invariant
     (string_bytes c.write_before.new.line) c.in_ok-outer.ensures.ok
@@ -52,7 +52,7 @@ returns-in_err-hand_over_if_long-clause-err g c =
 
 pub loop-entry-preserved : goal.loop-entry-preserved
 loop-entry-preserved g c =
-    entry_handed (tree_names c.args.tree.now) c.entries_of-entry-items.result.now c.loop-entry.entry-index c.entry-item.result
+    entry_handed (tree_names c.args.tree.now) c.entries-entry-items.result.now c.loop-entry.entry-index c.entry-item.result
     (groups_of (tree_ports c.args.tree.now) c.loop-entry.outer.now) _
     (omega arith) c.entry-item.is c.in_ok-outer.ensures.left (string_bytes c.loop-entry.line) c.loop-entry.invariant
     (string_bytes c.write_before.new.line) c.in_ok-outer.ensures.ok
@@ -62,14 +62,14 @@ loop-entry-preserved g c =
 pub returns-in_err-write_groups-clause-err : goal.returns-in_err-write_groups-clause-err
 returns-in_err-write_groups-clause-err g c =
     OnErr-always _
-    (fails_in_groups (tree_names c.args.tree.now) c.entries_of-entry-items.result.now c.loop-entry.entry-index
+    (fails_in_groups (tree_names c.args.tree.now) c.entries-entry-items.result.now c.loop-entry.entry-index
     (groups_of (tree_ports c.args.tree.now) c.loop-entry.outer.now) (omega arith) (string_bytes c.loop-entry.line)
     c.loop-entry.invariant c.in_err-write_groups.ensures.err)
 
 pub returns-clause-ok : goal.returns-clause-ok
 returns-clause-ok g c =
     let taken =
-    groups_taken (tree_names c.args.tree.now) c.entries_of-entry-items.result.now c.loop-entry.entry-index
+    groups_taken (tree_names c.args.tree.now) c.entries-entry-items.result.now c.loop-entry.entry-index
     (groups_of (tree_ports c.args.tree.now) c.loop-entry.outer.now) (omega arith) (string_bytes c.loop-entry.line)
     c.loop-entry.invariant (string_bytes c.write_groups.new.line) c.in_ok-write_groups.ensures.ok in
     on_ok_weaker c.hand_over.result
@@ -80,7 +80,7 @@ returns-clause-ok g c =
 pub returns-clause-err : goal.returns-clause-err
 returns-clause-err g c =
     let taken =
-    groups_taken (tree_names c.args.tree.now) c.entries_of-entry-items.result.now c.loop-entry.entry-index
+    groups_taken (tree_names c.args.tree.now) c.entries-entry-items.result.now c.loop-entry.entry-index
     (groups_of (tree_ports c.args.tree.now) c.loop-entry.outer.now) (omega arith) (string_bytes c.loop-entry.line)
     c.loop-entry.invariant (string_bytes c.write_groups.new.line) c.in_ok-write_groups.ensures.ok in
     on_err_weaker c.hand_over.result

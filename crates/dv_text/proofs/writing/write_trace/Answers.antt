@@ -1,7 +1,7 @@
-use Rattle.std.proofs.Common.{ℕ, List, ap, subst}
+use Rattle.std.proofs.Common.{◌≡◌, ℕ, List, sym, ap, subst, ◌∙◌}
 use Rattle.std.proofs.lemmas.Result.{on_err_weaker, on_ok_weaker}
 use Rattle.std.specs.Io.KnownBytes.{Appends}
-use Rattle.dv_bag.specs.Part.{PartOf}
+use Rattle.dv_bag.specs.Part.{IsByTime, PartOf}
 use Rattle.dv_tree.specs.Tables.{Source}
 use Rattle.dv_text.specs.Names.{tree_names, tree_ports}
 use Rattle.dv_text.specs.Texts.{ending_text, part_text}
@@ -13,11 +13,15 @@ use Rattle.dv_text.proofs.writing.write_trace.Goals as goal
 abbrev lines : PartOf → Source → List ℕ
 lines p s = part_text (tree_names s) (tree_ports s) p
 
+same_lines : (p q : PartOf) (s t : Source) → p ≡ q → s ≡ t → lines p s ≡ lines q t
+same_lines p q s t one other = ap (λ (x : PartOf). lines x s) one ∙ ap (lines q) other
+
 pub returns-in_err-part-clause-err : goal.returns-in_err-part-clause-err
 returns-in_err-part-clause-err g c = λ by.
     OnErr-always _
     (StopsShort-longer (ending_text c.args.ending.now) (ending-some c.args.ending.now)
-    (AppendsBeginning-text (ap (lines c.args.trace.now) c.new-lines.ensures) (c.in_err-part.ensures.err by)))
+    (AppendsBeginning-text (same_lines _ _ _ _ c.all_of.ensures c.new-lines.ensures)
+    (c.in_err-part.ensures.err (subst IsByTime (sym c.all_of.ensures) by))))
 
 pub returns-clause-ok : goal.returns-clause-ok
 returns-clause-ok g c = λ by.
@@ -25,7 +29,8 @@ returns-clause-ok g c = λ by.
     let between = g.W.Write.contents c.part.new.writer in
     let after = g.W.Write.contents c.end.new.writer in
     let first =
-    subst (λ (t : List ℕ). Appends before between t) (ap (lines c.args.trace.now) c.new-lines.ensures) (c.in_ok-part.ensures.ok by) in
+    subst (λ (t : List ℕ). Appends before between t) (same_lines _ _ _ _ c.all_of.ensures c.new-lines.ensures)
+    (c.in_ok-part.ensures.ok (subst IsByTime (sym c.all_of.ensures) by)) in
     on_ok_weaker c.end.result
     (λ (p : Appends between after (ending_text c.args.ending.now)). Appends-append before between after
     (lines c.args.trace.now c.args.tree.now) (ending_text c.args.ending.now) first p) c.end.ensures.ok
@@ -36,7 +41,8 @@ returns-clause-err g c = λ by.
     let between = g.W.Write.contents c.part.new.writer in
     let after = g.W.Write.contents c.end.new.writer in
     let first =
-    subst (λ (t : List ℕ). Appends before between t) (ap (lines c.args.trace.now) c.new-lines.ensures) (c.in_ok-part.ensures.ok by) in
+    subst (λ (t : List ℕ). Appends before between t) (same_lines _ _ _ _ c.all_of.ensures c.new-lines.ensures)
+    (c.in_ok-part.ensures.ok (subst IsByTime (sym c.all_of.ensures) by)) in
     on_err_weaker c.end.result
     (λ (p : StopsShort between after (ending_text c.args.ending.now)). StopsShort-behind
     (lines c.args.trace.now c.args.tree.now) (ending_text c.args.ending.now) first p) c.end.ensures.err

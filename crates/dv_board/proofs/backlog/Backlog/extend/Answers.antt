@@ -1,0 +1,53 @@
+use Rattle.std.proofs.Common.{◌≡◌, ◌<◌, length, set, Some, sym, ap, subst, ◌∙◌, arith}
+use Rattle.std.proofs.lemmas.Option.{slice_get-get_or}
+use Rattle.dv_time.specs.declared.time.Time.{Time}
+use Rattle.dv_board.specs.declared.held.Held.{Held}
+use Rattle.dv_board.specs.Backlogs.{BacklogOf, IsHeld, clock_of}
+use Rattle.dv_board.specs.Clocks.{IsNoLater, IsSooner, later}
+use Rattle.dv_board.proofs.Places.{clock_of_piece, clock_read, clocks_of, clocks_set, held_set, no_later, piece_is_held, sooner}
+use Rattle.dv_board.proofs.backlog.Backlog.extend.Goals as goal
+
+pub returns-in-Err-clause-refused : goal.returns-in-Err-clause-refused
+returns-in-Err-clause-refused g c =
+    let job = g.N.OfJob.job in
+    let held = c.self.inside.held.items in
+    let p = c.args.piece.process in
+    let h = c.index_mut-held.result.now in
+    let many = c.self.invariant.many in
+    let within : p < length held = omega (arith, many, c.requires.process) in
+    let at = c.index_mut-held.ensures.value in
+    let is = c.self.invariant.each p h (slice_get-get_or held p h within ∙ ap Some (sym at)) in
+    subst (λ (b : BacklogOf). IsNoLater job c.args.piece.from (clock_of b p) × IsSooner job (clock_of b p) c.args.piece.clock) c.self.view_is
+    (subst (λ (t : Time). IsNoLater job c.args.piece.from t × IsSooner job t c.args.piece.clock) (sym (clock_read held p h within at)) (
+      no_later job h.clock c.args.piece.from is.of_run c.requires.from_of_run (sym c.is_before.ensures.order ∙ c.if-is_before.false),
+      sooner job h.clock c.args.piece.clock is.of_run c.requires.of_run c.in-Err.ensures.more,
+    ))
+
+pub invariant_of-self-2 : goal.invariant_of-self-2
+invariant_of-self-2 g c =
+    let job = g.N.OfJob.job in
+    let mark = c.self.inside.mark in
+    let held = c.self.inside.held.items in
+    let p = c.args.piece.process in
+    let h = c.index_mut-held.result.now in
+    let many = c.self.invariant.many in
+    let within : p < length held = omega (arith, many, c.requires.process) in
+    let is = c.self.invariant.each p h (slice_get-get_or held p h within ∙ ap Some (sym c.index_mut-held.ensures.value)) in
+    let low = no_later job h.clock c.args.piece.from is.of_run c.requires.from_of_run (sym c.is_before.ensures.order ∙ c.if-is_before.false) in
+    held_set job mark held p c.join.new.self c.self.invariant
+    (subst (IsHeld job mark p) (sym c.in_default.ensures.ok)
+    (piece_is_held job mark p h c.args.piece.part c.args.piece.from c.args.piece.clock is c.requires.of_run c.requires.within low c.requires.part))
+
+pub returns-clause-clocks : goal.returns-clause-clocks
+returns-clause-clocks g c =
+    let held = c.self.inside.held.items in
+    let p = c.args.piece.process in
+    let h = c.index_mut-held.result.now in
+    let many = c.self.invariant.many in
+    let within : p < length held = omega (arith, many, c.requires.process) in
+    let read = clock_read held p h within c.index_mut-held.ensures.value in
+    subst (λ (b : BacklogOf). clocks_of (set held p c.join.new.self) ≡ set b.clocks p (later (clock_of b p) c.args.piece.clock)) c.self.view_is
+    (clocks_set held p c.join.new.self
+    ∙ ap (set (clocks_of held) p)
+    (ap (λ (g : Held). g.clock) c.in_default.ensures.ok
+    ∙ (clock_of_piece h c.args.piece.part c.args.piece.clock ∙ ap (λ (t : Time). later t c.args.piece.clock) (sym read))))

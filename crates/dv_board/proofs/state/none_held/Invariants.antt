@@ -1,7 +1,0 @@
-use Rattle.std.proofs.Common.{◌≡◌, replicate}
-use Rattle.dv_bag.specs.Part.{nothing}
-use Rattle.dv_conservative.specs.Process.{first_time}
-use Rattle.dv_board.proofs.state.none_held.Given as goal
-
-abbrev pub invariant-loop : goal.invariant-loop
-invariant-loop l = l.held.items ≡ replicate l.counter (record { clock = first_time; part = nothing })

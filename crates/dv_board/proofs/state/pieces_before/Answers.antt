@@ -1,9 +1,0 @@
-use Rattle.std.proofs.Common.{sym, subst}
-use Rattle.dv_bag.specs.Part.{IsByTime}
-use Rattle.dv_board.specs.declared.held.Held.{Held}
-use Rattle.dv_board.proofs.state.pieces_before.Goals as goal
-
-pub piece_before-requires : goal.piece_before-requires
-piece_before-requires c =
-    subst (λ (h : Held). IsByTime h.part) (sym c.place-item.is)
-    (c.requires c.loop-place.place-index c.place-item.result c.loop-place-test.true)

@@ -1,0 +1,34 @@
+-- What a backlog keeps, and what callers see of it.
+use Rattle.std.specs.Prelude.{◌≡◌, ℕ, ◌<◌, ◌≤◌, List, length, slice_get, slice_index_or, Some}
+use Rattle.dv_time.specs.Time.{IsOfRun, end_of, rank}
+use Rattle.dv_time.specs.declared.time.Time.{Time}
+use Rattle.dv_conservative.specs.Process.{first_time}
+use Rattle.dv_conservative.specs.World.{Job}
+use Rattle.dv_board.specs.declared.held.Held.{Held}
+use Rattle.dv_board.specs.Clocks.{IsNoLater}
+use Rattle.dv_board.specs.Jobs.{IsMergeable, committed}
+
+-- from when on the trace was not drained yet, and up to when each process is kept
+pub record BacklogOf : Type 0 where
+  pub mark : Time
+  pub clocks : List Time
+
+-- up to when a process is kept
+abbrev pub clock_of : BacklogOf → ℕ → Time
+clock_of backlog p = slice_index_or backlog.clocks p first_time
+
+-- what a process commits from a time that is not past the mark, to its clock, which is not past the end
+pub record IsHeld (job : Job) (mark : Time) (p : ℕ) (h : Held) : Type 0 where
+  pub of_run : IsOfRun job.limit h.clock
+  pub within : rank job.limit h.clock ≤ end_of job.limit job.horizon
+  pub early : IsNoLater job h.from mark
+  pub order : IsNoLater job mark h.clock
+  pub part : h.part ≡ committed job p h.from h.clock
+
+-- a place for each process
+pub record AreHeld (job : Job) (mark : Time) (held : List Held) : Type 0 where
+  pub merges : IsMergeable job
+  pub some : 0 < job.processes
+  pub of_run : IsOfRun job.limit mark
+  pub many : length held ≡ job.processes
+  pub each : (p : ℕ) (h : Held) → slice_get held p ≡ Some h → IsHeld job mark p h
