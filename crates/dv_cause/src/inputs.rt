@@ -125,9 +125,9 @@ fn malformed(alloc: Global, line: &[u8], fields: &[Field<'_>]) -> Result<Flaw, A
         wrong_count(alloc, fields)?
     };
     if line.iter().any(|byte| *byte == b'#') {
-        flaw
-            .sentences
-            .push_str("A comment is a line of its own: nothing stands before its `#`.\n")?;
+        flaw.sentences.push_str(
+            "A comment is a line of its own: nothing stands before its `#`.\n",
+        )?;
     }
     Ok(flaw)
 }

@@ -26,7 +26,11 @@ fn read(alloc: Global, text: &[u8]) -> Result<Option<ReadText>, AllocError> {
 
 fn parsed(alloc: Global, text: &[u8]) -> Result<ReadText, LoadError> {
     let lexed = tokens(alloc, text)?;
-    let file = parse(alloc, &lexed.tokens, text.len().min(u32::MAX as usize) as u32)?;
+    let file = parse(
+        alloc,
+        &lexed.tokens,
+        text.len().min(u32::MAX as usize) as u32,
+    )?;
     Ok(ReadText {
         file,
         names: lexed.names,
@@ -145,7 +149,11 @@ fn range_sentence(alloc: Global, range: &VariableRange) -> Result<String, AllocE
 }
 
 fn hold_sentence(alloc: Global, atomic: &Atomic, place: u32) -> Result<String, AllocError> {
-    match atomic.starts.iter().find(|start| start.phase.place == place) {
+    match atomic
+        .starts
+        .iter()
+        .find(|start| start.phase.place == place)
+    {
         Some(start) => match start_fault(alloc, atomic, start.phase.number)? {
             Some(fault) => fault_sentence(alloc, fault),
             None => Ok(String::new(alloc)),
@@ -167,5 +175,7 @@ fn fault_sentence(alloc: Global, fault: Fault) -> Result<String, AllocError> {
         Some(explanation) => explanation.words,
         None => "",
     };
-    format!(in alloc; "The hold of the start phase has the fault `{name}` on the start values. {words}\n")
+    format!(in alloc;
+        "The hold of the start phase has the fault `{name}` on the start values. {words}\n"
+    )
 }

@@ -56,11 +56,7 @@ impl<'t> TraceWriter<'t> {
     ///
     /// `WriteError::Write` where a write failed or took nothing, `WriteError::Memory` where memory was refused. A
     /// beginning of the lines was written then, and what was not written is forgotten.
-    pub fn part<W: Write>(
-        &mut self,
-        part: &PartSlice<'_>,
-        writer: &mut W,
-    ) -> Result<(), WriteError>
+    pub fn part<W: Write>(&mut self, part: &PartSlice<'_>, writer: &mut W) -> Result<(), WriteError>
         ensures tree { self.new ≡ self.old }
         ensures ok { IsByTime part.now
             → OnOk result (Appends (W.contents writer.old) (W.contents writer.new)

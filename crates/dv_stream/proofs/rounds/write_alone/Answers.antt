@@ -25,8 +25,8 @@ write_piece-requires g c =
     let at = c.clock-mark.ensures in
     let order = subst (IsNoLater job from) (sym at) c.requires.order in
     let is =
-        alone_piece job x.part x.position.clock c.requires.reached c.requires.some from c.requires.of_run c.requires.order
-        c.requires.merges mark at c.committed.result.now c.new.result c.committed.ensures (c.new.ensures ∙ c.lines_between.ensures) in
+    alone_piece job x.part x.position.clock c.requires.reached c.requires.some from c.requires.of_run c.requires.order
+    c.requires.merges mark at c.committed.result.now c.new.result c.committed.ensures (c.new.ensures ∙ c.lines_between.ensures) in
     record {
       by_time = subst IsByTime (sym is)
           (c.a_trace_is_its_pieces.ensures.by_time job.limit (whole job.flat) job.outside (rank job.limit from) (rank job.limit mark)
@@ -44,8 +44,8 @@ returns-clause-ok g c =
     let of_run = subst (IsOfRun job.limit) (sym at)
     (alone_of_run job x.part x.position.clock c.requires.reached c.requires.some from c.requires.of_run c.requires.order) in
     let is =
-        alone_piece job x.part x.position.clock c.requires.reached c.requires.some from c.requires.of_run c.requires.order
-        c.requires.merges mark at c.committed.result.now c.new.result c.committed.ensures (c.new.ensures ∙ c.lines_between.ensures) in
+    alone_piece job x.part x.position.clock c.requires.reached c.requires.some from c.requires.of_run c.requires.order
+    c.requires.merges mark at c.committed.result.now c.new.result c.committed.ensures (c.new.ensures ∙ c.lines_between.ensures) in
     goes_on job c.args.lines.now (g.W.Write.contents c.args.writer.now) (g.W.Write.contents c.write_piece.new.writer) c.args.before
     mark c.new.result is order of_run c.write_piece.result c.write_piece.ensures.text c.write_piece.ensures.mark
     c.write_piece.ensures.faults
@@ -61,7 +61,7 @@ returns-clause-err g c =
     let within = subst (λ (t : Time). rank job.limit t ≤ end_of job.limit job.horizon) (sym at)
     (alone_within job x.part x.position.clock c.requires.reached c.requires.some from c.requires.of_run c.requires.order) in
     let is =
-        alone_piece job x.part x.position.clock c.requires.reached c.requires.some from c.requires.of_run c.requires.order
-        c.requires.merges mark at c.committed.result.now c.new.result c.committed.ensures (c.new.ensures ∙ c.lines_between.ensures) in
+    alone_piece job x.part x.position.clock c.requires.reached c.requires.some from c.requires.of_run c.requires.order
+    c.requires.merges mark at c.committed.result.now c.new.result c.committed.ensures (c.new.ensures ∙ c.lines_between.ensures) in
     falters job c.args.lines.now (g.W.Write.contents c.args.writer.now) (g.W.Write.contents c.write_piece.new.writer) c.args.before
     mark c.new.result is order within c.write_piece.result c.write_piece.ensures.err

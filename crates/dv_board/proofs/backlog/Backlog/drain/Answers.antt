@@ -38,9 +38,9 @@ returns-clause-trace g c =
     let at : s.mark ≡ c.args.from = search rules in
     let is = subst (λ (l : List Held). IsLeast least (clocks_of l)) c.deref.ensures.value c.least_clock-least.ensures in
     let pieces =
-        c.in_ok-pieces.ensures
-        ∙ ap (map (λ (h : Held). since c.args.from (before least h.part))) c.deref-2.ensures.value
-        ∙ ap (λ (t : Time). map (λ (h : Held). since t (before least h.part)) s.held.items) (sym at) in
+    c.in_ok-pieces.ensures
+    ∙ ap (map (λ (h : Held). since c.args.from (before least h.part))) c.deref-2.ensures.value
+    ∙ ap (λ (t : Time). map (λ (h : Held). since t (before least h.part)) s.held.items) (sym at) in
     c.in_ok-trace.ensures.whole job.owner (trace job s.mark least)
     (subst (ArePartsOf job.owner (trace job s.mark least)) (sym pieces) (pieces_of_trace job s.mark s.held.items c.self.invariant least is))
     ∙ ap (λ (t : Time). trace job t least) at
