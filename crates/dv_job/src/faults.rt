@@ -7,12 +7,13 @@ ghost use Rattle.dv_job.specs.declared.ended.JobEnded.TheVariants.{Faulted, Whol
 use crate::ended::JobEnded;
 use dv_bag::Trace;
 use dv_stream::faults::has_fault;
+use dv_text::PartSlice;
 
 /// How a run with this whole trace ended.
 pub fn ending_of(trace: &Trace) -> JobEnded
     ensures { result ≡ ending_of trace.now }
 {
-    whole_ending(has_fault(trace))
+    whole_ending(has_fault(&PartSlice::all_of(trace)))
 }
 
 /// How a whole run ended in which some component had a fault, or none.
