@@ -2,7 +2,7 @@
 use Rattle.std.proofs.Common.{◌≡◌, ℕ, ℤ, ◌<◌, ◌≤◌, Bool, true, false, ◌||◌, nat_le, refl, arith}
 use Rattle.std.proofs.lemmas.Bool.{leb-true, leb-false, le-leb}
 use Rattle.dv_bag.specs.Bag.{Counts, total, with_copies, without_one}
-use Rattle.dv_bag.specs.declared.TheConstants.{GREATEST_COUNT}
+use Rattle.dv_bag.specs.Limits.{greatest_count}
 use Rattle.dv_bag.specs.declared.state.Datum.TheVariants as datum
 use Rattle.dv_bag.proofs.Monoid.{total_with, total_without}
 use Rattle.dv_eval.specs.declared.scope.Domain.{Domain}
@@ -24,7 +24,7 @@ pub more_fits : (capacity : ℕ) (v : ℤ) (b : Counts) → datum_fits (domain.B
     → datum_fits (domain.Bag capacity) (datum.Bag (with_copies v 1 b)) ≡ true
 more_fits capacity v b fit not_full =
     let more = (total_with v 1 b).1 in
-    let place = place_if (nat_le capacity (total b)) (nat_le GREATEST_COUNT (total b)) capacity (total b) refl not_full in
+    let place = place_if (nat_le capacity (total b)) (nat_le greatest_count (total b)) capacity (total b) refl not_full in
     smaller_fits capacity b (with_copies v 1 b) fit (omega arith)
 
 -- one value less
@@ -33,5 +33,5 @@ less_fits (domain.Number range) v b fit = absurd (cc)
 less_fits (domain.Flag start) v b fit = absurd (cc)
 less_fits (domain.Bag capacity) v b fit =
     let less = total_without v b in
-    let within = leb-true (total b) capacity (both_true (nat_le (total b) capacity) (nat_le capacity GREATEST_COUNT) fit).0 in
+    let within = leb-true (total b) capacity (both_true (nat_le (total b) capacity) (nat_le capacity greatest_count) fit).0 in
     smaller_fits capacity b (without_one v b) fit (omega arith)

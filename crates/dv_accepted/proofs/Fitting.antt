@@ -9,7 +9,7 @@ use Rattle.dv_syntax.specs.declared.tree.Declaration.{Declaration}
 use Rattle.dv_syntax.specs.declared.tree.Declaration.TheVariants.{In, Out, Var, Flag, Bag}
 use Rattle.dv_syntax.specs.declared.tree.Start.{Start}
 use Rattle.dv_syntax.specs.Trees.{AtomicTree}
-use Rattle.dv_bag.specs.declared.TheConstants.{GREATEST_COUNT}
+use Rattle.dv_bag.specs.Limits.{greatest_count}
 use Rattle.dv_bag.specs.declared.state.Datum.TheVariants as datum
 use Rattle.dv_eval.specs.declared.scope.VariableRange.{VariableRange}
 use Rattle.dv_eval.specs.declared.scope.Domain.{Domain}
@@ -101,7 +101,7 @@ start_fits r e = in_range (int_lt r.high r.low) (int_lt r.start r.low) (int_lt r
 
 empty_bag_fits : (capacity : ℕ) → is_capacity capacity ≡ true → datum_fits (domain.Bag capacity) (datum.Bag []) ≡ true
 empty_bag_fits capacity e =
-    and_true (nat_le 0 capacity) (nat_le capacity GREATEST_COUNT) (grind (arith, nat_tests)) (both_true (nat_le 1 capacity) _ e).1
+    and_true (nat_le 0 capacity) (nat_le capacity greatest_count) (grind (arith, nat_tests)) (both_true (nat_le 1 capacity) _ e).1
 
 starts_fit : (ds : List Declaration) (entries : List (ℕ × Domain)) → flat_map declaration_refusals ds ≡ []
     → data_fit entries (start_data entries) ≡ true

@@ -7,7 +7,7 @@ use Rattle.dv_syntax.specs.Trees.{Statements, Done, Assign, Goto, Send, If, IfEl
 use Rattle.dv_bag.specs.Bag.{total_of_all, values_of, with_copies, without_one}
 use Rattle.dv_bag.specs.Effects.{is_full, is_within, with_bag, with_datum, with_state}
 use Rattle.dv_bag.specs.Outcome.{◌>>=◌}
-use Rattle.dv_bag.specs.declared.TheConstants.{GREATEST_COUNT}
+use Rattle.dv_bag.specs.Limits.{greatest_count}
 use Rattle.dv_bag.specs.declared.fault.Fault.{Fault}
 use Rattle.dv_bag.specs.declared.fault.Fault.TheVariants as fault
 use Rattle.dv_bag.specs.declared.state.Datum.{Datum}
@@ -113,7 +113,7 @@ module _ (scope : Scope) (Q : ℕ → Type 0) (P : Effect → Type 0) (keeps : S
   pub sending_keeps : (port : ℕ) (v : Value) (e : Effect) → P e → IfOk (sending scope port v e) P
   sending_keeps port v e here =
       let sent = with_value_at (place_of port scope.outputs) (number_of v) e in
-      if_ok_branch (nat_le GREATEST_COUNT (total_of_all e.sent)) (Err fault.Flood) (Ok sent) P tt (keeps.sent port (number_of v) e here)
+      if_ok_branch (nat_le greatest_count (total_of_all e.sent)) (Err fault.Flood) (Ok sent) P tt (keeps.sent port (number_of v) e here)
 
   -- a value, a step with it, and what follows
   after_step : (x : Result Value Fault) (step : Value → Result Effect Fault) (rest : Effect → Result Effect Fault)

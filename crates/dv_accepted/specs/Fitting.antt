@@ -7,7 +7,7 @@ use Rattle.dv_syntax.specs.Trees.{AtomicTree, Expression, Literal, TruthValue, N
 use Rattle.dv_syntax.specs.Trees.{Times, Statements, Done, Assign, Goto, Send, If, IfElse, For, Add, Drop}
 use Rattle.dv_syntax.specs.declared.tree.RuleSort.{RuleSort}
 use Rattle.dv_bag.specs.Bag.{bag_at, total}
-use Rattle.dv_bag.specs.declared.TheConstants.{GREATEST_COUNT}
+use Rattle.dv_bag.specs.Limits.{greatest_count}
 use Rattle.dv_bag.specs.declared.value.Value.{Value}
 use Rattle.dv_bag.specs.declared.value.Value.TheVariants as value
 use Rattle.dv_bag.specs.declared.state.Datum.{Datum}
@@ -35,7 +35,7 @@ datum_fits (domain.Flag start) (datum.Flag b) = true
 datum_fits (domain.Flag start) (datum.Bag b) = false
 datum_fits (domain.Bag capacity) (datum.Number n) = false
 datum_fits (domain.Bag capacity) (datum.Flag b) = false
-datum_fits (domain.Bag capacity) (datum.Bag b) = nat_le (total b) capacity && nat_le capacity GREATEST_COUNT
+datum_fits (domain.Bag capacity) (datum.Bag b) = nat_le (total b) capacity && nat_le capacity greatest_count
 
 -- one datum for each variable, flag and bag
 abbrev pub data_fit : List (ℕ × Domain) → List Datum → Bool

@@ -9,7 +9,7 @@ use Rattle.std.proofs.lemmas.Bool.Decides.{Decides-int_eq, nat_tests}
 use Rattle.std.proofs.lemmas.List.{ext_get_or, get_or-replicate, get_or-set_other, get_or-set_same, length-set, length-replicate}
 use Rattle.std.proofs.lemmas.List.Elements.{filter-append}
 use Rattle.std.proofs.lemmas.List.Sums.{prefix_len-le-length, sum_by-cons, take_while-cons}
-use Rattle.dv_time.specs.declared.TheConstants.{GREATEST_TICK}
+use Rattle.dv_time.specs.Limits.{greatest_tick}
 use Rattle.dv_time.specs.Time.{IsOfRun, is_before}
 use Rattle.dv_time.specs.declared.time.Time.{Time}
 use Rattle.dv_bag.specs.Bag.{Counts, IsBag, bag_at, capped, count_of, with_copies}
@@ -73,7 +73,7 @@ from_last low i [] h = h.0
 from_last low i (j ∷ inputs) h = not_sooner low i.time (last_time (j ∷ inputs)) h.0 (from_last i.time j inputs h.2)
 
 pub from_push : (low : Time) (inputs : List Input) (i : Input) → IsFrom low inputs → is_before i.time (last_time inputs) ≡ false
-    → is_before i.time low ≡ false → i.time.tick ≤ GREATEST_TICK → IsFrom low (inputs ++ i ∷ [])
+    → is_before i.time low ≡ false → i.time.tick ≤ greatest_tick → IsFrom low (inputs ++ i ∷ [])
 from_push low [] i h last above within = (above, within, tt)
 from_push low (x ∷ []) i h last above within = (h.0, h.1, (last, within, tt))
 from_push low (x ∷ y ∷ inputs) i h last above within =
@@ -81,7 +81,7 @@ from_push low (x ∷ y ∷ inputs) i h last above within =
     (h.0, h.1, from_push x.time (y ∷ inputs) i h.2 last above_x within)
 
 pub by_time_push : (inputs new : List Input) (i : Input) → IsByTime inputs → is_before i.time (last_time inputs) ≡ false
-    → i.time.tick ≤ GREATEST_TICK → new ≡ inputs ++ i ∷ [] → IsByTime new
+    → i.time.tick ≤ greatest_tick → new ≡ inputs ++ i ∷ [] → IsByTime new
 by_time_push inputs new i h last within e =
     subst IsByTime (sym e) (from_push (start_of 0) inputs i h last (not_before_start i.time) within)
 

@@ -1,7 +1,7 @@
 -- What assignments, additions and removals do to an effect, and when they may.
 use Rattle.std.specs.Prelude.{ℕ, ℤ, Bool, not, ◌&&◌, ◌||◌, nat_le, int_lt, slice_set}
 use Rattle.dv_bag.specs.Bag.{Counts, total}
-use Rattle.dv_bag.specs.declared.TheConstants.{GREATEST_COUNT}
+use Rattle.dv_bag.specs.Limits.{greatest_count}
 use Rattle.dv_bag.specs.declared.state.Datum.{Datum}
 use Rattle.dv_bag.specs.declared.state.Datum.TheVariants as datum
 use Rattle.dv_bag.specs.declared.state.State.{State}
@@ -24,4 +24,4 @@ with_bag e place b = with_state e (with_datum e.state place (datum.Bag b))
 
 -- whether a bag holds as many values as it may; no accepted capacity is above the greatest count
 abbrev pub is_full : ℕ → Counts → Bool
-is_full capacity b = nat_le capacity (total b) || nat_le GREATEST_COUNT (total b)
+is_full capacity b = nat_le capacity (total b) || nat_le greatest_count (total b)

@@ -6,7 +6,7 @@ use Rattle.std.specs.List.{prefix_len}
 use Rattle.std.specs.Ordering.{int_eq}
 use Rattle.dv_time.specs.Time.{is_before, time_of}
 use Rattle.dv_time.specs.declared.time.Time.{Time}
-use Rattle.dv_time.specs.declared.TheConstants.{GREATEST_TICK}
+use Rattle.dv_time.specs.Limits.{greatest_tick}
 use Rattle.dv_bag.specs.Bag.{Counts, with_copies}
 use Rattle.dv_bag.specs.declared.inputs.Input.{Input}
 
@@ -23,7 +23,7 @@ last_time (i ∷ j ∷ inputs) = last_time (j ∷ inputs)
 -- no time is before this one or before that of the input in front, and no tick is above the greatest
 abbrev pub IsFrom : Time → List Input → Type 0
 IsFrom low [] = Unit {0}
-IsFrom low (i ∷ inputs) = (is_before i.time low ≡ false) × (i.time.tick ≤ GREATEST_TICK) × IsFrom i.time inputs
+IsFrom low (i ∷ inputs) = (is_before i.time low ≡ false) × (i.time.tick ≤ greatest_tick) × IsFrom i.time inputs
 
 -- times never fall, and no tick is above the greatest
 abbrev pub IsByTime : List Input → Type 0

@@ -1,4 +1,5 @@
 -- What a reader believes: values, bags, inputs, what a rule does, and the entries of a trace.
+pub mod Limits
 pub mod Bag
 pub mod BagLists
 pub mod Arithmetic

@@ -1,7 +1,7 @@
 -- What is read of a state.
 use Rattle.std.specs.Prelude.{◌≡◌, ℕ, ◌≤◌, List, [], Option, Some, None, slice_get}
 use Rattle.dv_bag.specs.Bag.{Counts, total}
-use Rattle.dv_bag.specs.declared.TheConstants.{GREATEST_COUNT}
+use Rattle.dv_bag.specs.Limits.{greatest_count}
 use Rattle.dv_bag.specs.declared.state.Datum.{Datum}
 use Rattle.dv_bag.specs.declared.state.Datum.TheVariants as datum
 use Rattle.dv_bag.specs.declared.state.DatumView.{DatumView}
@@ -17,7 +17,7 @@ datum_of (view.Bag b) = datum.Bag b.now
 abbrev pub HoldsFew : DatumView → Type 0
 HoldsFew (view.Number n) = Unit {0}
 HoldsFew (view.Flag b) = Unit {0}
-HoldsFew (view.Bag b) = total b.now ≤ GREATEST_COUNT
+HoldsFew (view.Bag b) = total b.now ≤ greatest_count
 
 -- the bag that a datum is; where it is none, the empty bag
 abbrev pub bag_of_datum : Option Datum → Counts

@@ -4,8 +4,8 @@ ghost use Rattle.std.specs.Prelude.{◌≡◌, ◌≤◌, IfSome, unwrap_or, []}
 ghost use Rattle.std.specs.Option.{option_copied};
 ghost use Rattle.dv_bag.specs.Arrivals.{AreFew, nothing_arrived};
 ghost use Rattle.dv_bag.specs.Bag.{bag_at, total};
+ghost use Rattle.dv_bag.specs.Limits.{greatest_count};
 
-use crate::GREATEST_COUNT;
 use crate::bag::{Bag, Bags};
 use std::marker::Model;
 
@@ -54,7 +54,7 @@ impl<'a> Arrivals<'a> {
     /// The bag that arrived at an input port. At a port past the last there is none.
     pub fn bag(&self, port: usize) -> Option<&'a Bag>
         ensures bag { unwrap_or (option_copied result) [] ≡ bag_at self.now.received port }
-        ensures few { IfSome result (λ bag. total bag.now ≤ GREATEST_COUNT) }
+        ensures few { IfSome result (λ bag. total bag.now ≤ greatest_count) }
     {
         let received = self.received?;
         received.as_slice().get(port)

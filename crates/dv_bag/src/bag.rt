@@ -7,8 +7,8 @@ ghost use Rattle.smallvec.specs.SmallVec.{HasRoomFor};
 ghost use Rattle.dv_bag.specs.Bag.{IsBag, bag_at, count_of, least, most, place_of, size, size_of_all, sum_or_overflow, total, union, with_copies, without_one};
 ghost use Rattle.dv_bag.specs.Same.{same_bag, same_bags, same_bag-decides, same_bags-decides};
 ghost use Rattle.dv_bag.specs.Numbers.{IsBagOfNumbers};
+ghost use Rattle.dv_bag.specs.Limits.{greatest_count};
 
-use crate::GREATEST_COUNT;
 use crate::fault::Fault;
 use smallvec::SmallVec;
 use std::alloc::{AllocError, Global};
@@ -126,7 +126,7 @@ impl Bag {
     ///
     /// `Fault::Overflow` where the exact sum is outside -2^63..2^63-1.
     pub fn sum(&self) -> Result<i64, Fault>
-        requires { total self.now ≤ GREATEST_COUNT }
+        requires { total self.now ≤ greatest_count }
         ensures { result ≡ sum_or_overflow self.now }
     {
         let mut sum: i128 = 0;
@@ -187,7 +187,7 @@ impl Bag {
 
 /// How often a number is in a bag, as a number of the language; in no bag it never is.
 pub fn copies_of(number: i64, bag: Option<&Bag>) -> i64
-    requires { IfSome bag (λ bag. total bag.now ≤ GREATEST_COUNT) }
+    requires { IfSome bag (λ bag. total bag.now ≤ greatest_count) }
     ensures { result ≡ pos (count_of number (unwrap_or (option_copied bag.entry) [])) }
 {
     match bag {

@@ -53,6 +53,16 @@ pub enum RuleError {
     Memory,
 }
 
+impl From<Fault> for RuleError {
+    ghost use Rattle.dv_bag.specs.declared.fault.RuleError.TheVariants as error;
+
+    ghost from_gives = { λ f e. e ≡ error.Fault f };
+
+    fn from(fault: Fault) -> Self {
+        RuleError::Fault(fault)
+    }
+}
+
 impl From<AllocError> for RuleError {
     ghost use Rattle.dv_bag.specs.declared.fault.RuleError.TheVariants.{Memory};
 

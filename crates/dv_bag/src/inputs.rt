@@ -3,10 +3,10 @@
 ghost use Rattle.std.specs.Prelude.{◌≡◌, ℕ, ◌≤◌, [], ◌∷◌, ◌++◌, drop, false, IsTrue, ◌↔◌, length, slice_get, IfOk, OnOk, OnErr};
 ghost use Rattle.std.specs.List.{take_while};
 ghost use Rattle.dv_time.specs.Time.{IsOfRun, is_before};
-ghost use Rattle.dv_time.specs.declared.TheConstants.{GREATEST_TICK};
 ghost use Rattle.dv_time.specs.declared.time.Time.{Time as TimeOfCode};
 ghost use Rattle.dv_bag.specs.Inputs.{IsByTime, bags_at, inputs_before, is_at, last_time, next_from, time_at};
 ghost use Rattle.dv_bag.specs.InputSteps.{with_input, with_inputs};
+ghost use Rattle.dv_time.specs.Limits.{greatest_tick};
 
 /// What comes in, and when.
 pub mod laws;
@@ -59,7 +59,7 @@ impl Inputs {
     /// No memory for one more. The inputs are as before.
     pub fn push(&mut self, input: Input) -> Result<(), AllocError>
         requires not_before { is_before input.time (last_time self.old) ≡ false }
-        requires within { input.time.tick ≤ GREATEST_TICK }
+        requires within { input.time.tick ≤ greatest_tick }
         ensures ok { OnOk result (self.new ≡ self.old ++ input ∷ []) }
         ensures err { OnErr result (self.new ≡ self.old) }
     {

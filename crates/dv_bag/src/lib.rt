@@ -15,6 +15,8 @@ pub mod fault;
 pub mod inputs;
 /// Laws of bags and of parts.
 pub mod laws;
+/// Tests of limits.
+pub mod limits;
 /// Parts of a trace.
 pub mod part;
 /// How soon a hold can end that begins where an external rule goes to a phase.

@@ -8,8 +8,8 @@ ghost use Rattle.dv_bag.specs.Numbers.{HoldsNumbers, IsOfNumbers};
 ghost use Rattle.dv_bag.specs.Reading.{HasBagAt, HoldsFew, bag_held_at, datum_of};
 ghost use Rattle.dv_bag.specs.Same.{same_bag, same_bag-decides, same_datum, same_datum-decides, same_variables, same_variables-decides};
 ghost use Rattle.dv_bag.specs.declared.state.Datum.TheVariants as datum;
+ghost use Rattle.dv_bag.specs.Limits.{greatest_count};
 
-use crate::GREATEST_COUNT;
 use crate::bag::Bag;
 use crate::sent::Sent;
 use smallvec::SmallVec;
@@ -27,13 +27,13 @@ pub struct HeldBag {
 impl Model for HeldBag {
     ghost use Rattle.std.specs.Prelude.{◌≤◌};
     ghost use Rattle.dv_bag.specs.Bag.{Counts, total};
-    ghost use Rattle.dv_bag.specs.declared.TheConstants.{GREATEST_COUNT};
+    ghost use Rattle.dv_bag.specs.Limits.{greatest_count};
 
     ghost Value = { Counts };
 
     ghost view = { λ b. b.bag.value };
 
-    ghost invariant = { λ b. total b.bag.value ≤ GREATEST_COUNT };
+    ghost invariant = { λ b. total b.bag.value ≤ greatest_count };
 }
 
 impl HeldBag {
@@ -43,7 +43,7 @@ impl HeldBag {
     ///
     /// No memory for it. The bag is dropped.
     pub fn new(alloc: Global, bag: Bag) -> Result<Self, AllocError>
-        requires { total bag ≤ GREATEST_COUNT }
+        requires { total bag ≤ greatest_count }
         ensures { IfOk result (λ held. held ≡ bag) }
     {
         Ok(HeldBag {
@@ -54,14 +54,14 @@ impl HeldBag {
     /// The bag.
     pub fn as_bag(&self) -> &Bag
         ensures bag { result.now ≡ self.now }
-        ensures few { total result.now ≤ GREATEST_COUNT }
+        ensures few { total result.now ≤ greatest_count }
     {
         self.bag.as_ref()
     }
 
     // One more copy of a value. Where there is no memory for it, the bag is as before.
     fn insert(&mut self, value: i64) -> Result<(), AllocError>
-        requires { total self.old < GREATEST_COUNT }
+        requires { total self.old < greatest_count }
         ensures ok { OnOk result (self.new ≡ with_copies value 1 self.old) }
         ensures err { OnErr result (self.new ≡ self.old) }
     {
@@ -255,7 +255,7 @@ impl Variables {
     /// No memory for a value that the bag lacks. The variables are as before.
     pub fn insert(&mut self, place: usize, value: i64) -> Result<(), AllocError>
         requires bag { HasBagAt place self.old }
-        requires room { total (bag_held_at self.old place) < GREATEST_COUNT }
+        requires room { total (bag_held_at self.old place) < greatest_count }
         ensures ok { OnOk result (self.new ≡ slice_set self.old place
             (datum.Bag (with_copies value 1 (bag_held_at self.old place)))) }
         ensures err { OnErr result (self.new ≡ self.old) }

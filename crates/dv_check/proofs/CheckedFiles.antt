@@ -18,7 +18,7 @@ use Rattle.dv_syntax.specs.declared.tree.Part.{Part}
 use Rattle.dv_syntax.specs.declared.tree.Link.{Link}
 use Rattle.dv_syntax.specs.Trees.{ModelTree, AtomicModel, CoupledModel, CoupledTree, FileTree}
 use Rattle.dv_eval.specs.Scope.{is_declared}
-use Rattle.dv_check.specs.declared.limits.TheConstants.{GREATEST_COMPONENTS, GREATEST_DEPTH, GREATEST_INSTANCES, GREATEST_NAMES}
+use Rattle.dv_check.specs.Limits.{greatest_components, greatest_depth, greatest_instances, greatest_names}
 use Rattle.dv_check.specs.Names.{among, excess, excess_of, excess_past, model_named, name_of_model, numbers_of, part_named, repeats, refusal_if}
 use Rattle.dv_check.specs.declared.declarations.NameSort.{NameSort}
 use Rattle.dv_check.specs.Models.{face_of, faces_in}
@@ -268,11 +268,11 @@ module _ (models : List ModelTree) (m : CoupledTree) (known : AllByRecursion (Is
 few_named : (parts : List Part) (n : ℕ) → length (map name_of_part parts) ≤ n → length parts ≤ n
 few_named parts n e = omega (arith, e, length-map parts name_of_part)
 
-few_of_kind : (names : List Name) → kind_refusals names ≡ [] → length names ≤ GREATEST_NAMES
-few_of_kind names e = few GREATEST_NAMES names (both_nil (repeats E6 names) (excess names) e).1
+few_of_kind : (names : List Name) → kind_refusals names ≡ [] → length names ≤ greatest_names
+few_of_kind names e = few greatest_names names (both_nil (repeats E6 names) (excess names) e).1
 
 few_own_ports : (m : CoupledTree) → kind_refusals (map name_of_declaration (ports_of m)) ≡ []
-    → length m.inputs + length m.outputs ≤ GREATEST_NAMES
+    → length m.inputs + length m.outputs ≤ greatest_names
 few_own_ports m e =
     omega (
       arith,
@@ -308,7 +308,7 @@ coupled_accepted models m e =
     record {
       parts = known;
       links = links_lead_on models m known m.links nothing.ends;
-      few_parts = few_named m.parts GREATEST_NAMES (few_of_kind (map name_of_part m.parts) nothing.names);
+      few_parts = few_named m.parts greatest_names (few_of_kind (map name_of_part m.parts) nothing.names);
       few_ports = few_own_ports m nothing.ports;
     }
 
@@ -329,26 +329,26 @@ no_rule f e =
 -- the limits that a tree keeps
 record KeepsLimits (t : PartTree) : Type 0 where
   some : 0 < component_count t
-  few_components : component_count t ≤ GREATEST_COMPONENTS
-  few_instances : suc (instance_count t) ≤ GREATEST_INSTANCES
-  flat : depth_of t ≤ GREATEST_DEPTH
+  few_components : component_count t ≤ greatest_components
+  few_instances : suc (instance_count t) ≤ greatest_instances
+  flat : depth_of t ≤ greatest_depth
 
 some_of : (n : ℕ) → (n == 0) ≡ false → 0 < n
 some_of n e = let not_none = eqb-false n 0 e in omega (arith, not_none)
 
 keeps_limits : (t : PartTree) → passes_limit t ≡ false → KeepsLimits t
 keeps_limits t e =
-    let deep = nat_lt GREATEST_DEPTH (depth_of t) in
-    let instances = nat_lt GREATEST_INSTANCES (suc (instance_count t)) in
-    let components = nat_lt GREATEST_COMPONENTS (component_count t) in
+    let deep = nat_lt greatest_depth (depth_of t) in
+    let instances = nat_lt greatest_instances (suc (instance_count t)) in
+    let components = nat_lt greatest_components (component_count t) in
     let first = or_parts (component_count t == 0) (components || (instances || deep)) e in
     let second = or_parts components (instances || deep) first.1 in
     let third = or_parts instances deep second.1 in
     record {
       some = some_of (component_count t) first.0;
-      few_components = ltb-false GREATEST_COMPONENTS (component_count t) second.0;
-      few_instances = ltb-false GREATEST_INSTANCES (suc (instance_count t)) third.0;
-      flat = ltb-false GREATEST_DEPTH (depth_of t) third.1;
+      few_components = ltb-false greatest_components (component_count t) second.0;
+      few_instances = ltb-false greatest_instances (suc (instance_count t)) third.0;
+      flat = ltb-false greatest_depth (depth_of t) third.1;
     }
 
 model_accepted_as : (models : List ModelTree) (m : ModelTree) → model_refusals models m ≡ [] → IsCheckedModel models m

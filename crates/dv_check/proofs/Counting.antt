@@ -8,7 +8,7 @@ use Rattle.dv_bag.specs.Bag.{capped}
 use Rattle.dv_syntax.specs.declared.tree.Name.{Name}
 use Rattle.dv_syntax.specs.declared.tree.Part.{Part}
 use Rattle.dv_syntax.specs.Trees.{ModelTree, AtomicModel, CoupledModel, CoupledTree}
-use Rattle.dv_check.specs.declared.limits.TheConstants.{GREATEST_COMPONENTS, GREATEST_DEPTH, GREATEST_INSTANCES}
+use Rattle.dv_check.specs.Limits.{greatest_components, greatest_depth, greatest_instances}
 use Rattle.dv_check.specs.declared.sizes.Size.{Size}
 use Rattle.dv_check.specs.Cycles.{position_inside, position_of}
 use Rattle.dv_check.specs.Refusals.{passes_limit}
@@ -203,10 +203,10 @@ pub limits_kept : (t : PartTree) → size_passes_limit (kept (size_of_tree t)) �
 limits_kept t =
     let m = 2 ^ 64 - 1 in
     let none : (capped (component_count t) == 0) ≡ (component_count t == 0) = none_kept m (component_count t) (lit< tt) in
-    let components : nat_lt GREATEST_COMPONENTS (capped (component_count t)) ≡ nat_lt GREATEST_COMPONENTS (component_count t) =
-    passed_kept m GREATEST_COMPONENTS (component_count t) (lit< tt) in
-    let instances : nat_lt GREATEST_INSTANCES (capped (suc (instance_count t))) ≡ nat_lt GREATEST_INSTANCES (suc (instance_count t)) =
-    passed_kept m GREATEST_INSTANCES (suc (instance_count t)) (lit< tt) in
-    let depths : nat_lt GREATEST_DEPTH (capped (depth_of t)) ≡ nat_lt GREATEST_DEPTH (depth_of t) =
-    passed_kept m GREATEST_DEPTH (depth_of t) (lit< tt) in
+    let components : nat_lt greatest_components (capped (component_count t)) ≡ nat_lt greatest_components (component_count t) =
+    passed_kept m greatest_components (component_count t) (lit< tt) in
+    let instances : nat_lt greatest_instances (capped (suc (instance_count t))) ≡ nat_lt greatest_instances (suc (instance_count t)) =
+    passed_kept m greatest_instances (suc (instance_count t)) (lit< tt) in
+    let depths : nat_lt greatest_depth (capped (depth_of t)) ≡ nat_lt greatest_depth (depth_of t) =
+    passed_kept m greatest_depth (depth_of t) (lit< tt) in
     either none (either components (either instances depths))

@@ -3,7 +3,7 @@ use Rattle.std.proofs.Common.{◌≡◌, ℕ, zero, suc, ◌≤◌, List, [], �
 use Rattle.dv_syntax.specs.declared.tree.Name.{Name}
 use Rattle.dv_syntax.specs.declared.tree.Part.{Part}
 use Rattle.dv_syntax.specs.Trees.{ModelTree, AtomicModel, CoupledModel, CoupledTree, FileTree}
-use Rattle.dv_check.specs.declared.limits.TheConstants.{GREATEST_DEPTH}
+use Rattle.dv_check.specs.Limits.{greatest_depth}
 use Rattle.dv_check.specs.Names.{model_named}
 use Rattle.dv_check.specs.Refusals.{refusal_of}
 use Rattle.dv_check.specs.Tree.{PartTree, CoupledPart, depth_of, parts_by, parts_to, tree_of, with_part}
@@ -42,9 +42,9 @@ same_model : (a b : CoupledTree) → Some (CoupledModel a) ≡ Some (CoupledMode
 same_model a b e = cc
 
 pub tree_whole : (f : FileTree) (m : CoupledTree) (levels : ℕ) → refusal_of f ≡ None
-    → model_named f.root.number f.models ≡ Some (CoupledModel m) → GREATEST_DEPTH ≤ levels → parts_to levels f.models m ≡ tree_of f.models m
+    → model_named f.root.number f.models ≡ Some (CoupledModel m) → greatest_depth ≤ levels → parts_to levels f.models m ≡ tree_of f.models m
 tree_whole f m levels e named deep =
     let accepted = file_accepted f e in
     let same = same_model accepted.root m (sym accepted.named ∙ named) in
-    let P : CoupledTree → Type 0 = λ r. depth_of (tree_of f.models r) ≤ GREATEST_DEPTH in
-    whole f.models GREATEST_DEPTH levels deep m (subst P same accepted.flat)
+    let P : CoupledTree → Type 0 = λ r. depth_of (tree_of f.models r) ≤ greatest_depth in
+    whole f.models greatest_depth levels deep m (subst P same accepted.flat)

@@ -8,7 +8,7 @@ use Rattle.dv_syntax.specs.declared.tree.Part.{Part}
 use Rattle.dv_syntax.specs.declared.tree.Link.{Link}
 use Rattle.dv_syntax.specs.Trees.{ModelTree, AtomicModel, CoupledModel, CoupledTree, FileTree}
 use Rattle.dv_eval.specs.Scope.{is_declared}
-use Rattle.dv_check.specs.declared.limits.TheConstants.{GREATEST_COMPONENTS, GREATEST_DEPTH, GREATEST_INSTANCES, GREATEST_NAMES}
+use Rattle.dv_check.specs.Limits.{greatest_components, greatest_depth, greatest_instances, greatest_names}
 use Rattle.dv_check.specs.Names.{among, model_named, part_named}
 use Rattle.dv_check.specs.Rules.{atomic_refusals}
 use Rattle.dv_check.specs.Ports.{shown_inputs, shown_outputs}
@@ -57,8 +57,8 @@ pub record LeadsOn (models : List ModelTree) (m : CoupledTree) (l : Link) : Type
 pub record IsCheckedCoupled (models : List ModelTree) (m : CoupledTree) : Type 0 where
   pub parts : AllByRecursion (IsKnownPart models) m.parts
   pub links : AllByRecursion (LeadsOn models m) m.links
-  pub few_parts : length m.parts ≤ GREATEST_NAMES
-  pub few_ports : length m.inputs + length m.outputs ≤ GREATEST_NAMES
+  pub few_parts : length m.parts ≤ greatest_names
+  pub few_ports : length m.inputs + length m.outputs ≤ greatest_names
 
 -- an atomic model breaks no rule, and a coupled one is as above
 abbrev pub IsCheckedModel : List ModelTree → ModelTree → Type 0
@@ -71,9 +71,9 @@ pub record IsCheckedFile (f : FileTree) : Type 0 where
   pub named : model_named f.root.number f.models ≡ Some (CoupledModel root)
   pub coupled : IsCheckedCoupled f.models root
   pub some : 0 < component_count (tree_of f.models root)
-  pub few_components : component_count (tree_of f.models root) ≤ GREATEST_COMPONENTS
-  pub few_instances : suc (instance_count (tree_of f.models root)) ≤ GREATEST_INSTANCES
-  pub flat : depth_of (tree_of f.models root) ≤ GREATEST_DEPTH
+  pub few_components : component_count (tree_of f.models root) ≤ greatest_components
+  pub few_instances : suc (instance_count (tree_of f.models root)) ≤ greatest_instances
+  pub flat : depth_of (tree_of f.models root) ≤ greatest_depth
 
 -- no link of a coupled model leads from the model itself to the model itself
 abbrev pub IsThrough : Link → Type 0

@@ -1,4 +1,5 @@
 -- What a reader believes: the rules of a text, and which refusal is answered.
+pub mod Limits
 pub mod Names
 pub mod Types
 pub mod Rules

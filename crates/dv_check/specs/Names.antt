@@ -7,7 +7,7 @@ use Rattle.dv_lex.specs.declared.error.RefusalNumber.TheVariants.{E17}
 use Rattle.dv_syntax.specs.declared.tree.Name.{Name}
 use Rattle.dv_syntax.specs.declared.tree.Part.{Part}
 use Rattle.dv_syntax.specs.Trees.{ModelTree, AtomicModel, CoupledModel}
-use Rattle.dv_check.specs.declared.limits.TheConstants.{GREATEST_NAMES}
+use Rattle.dv_check.specs.Limits.{greatest_names}
 
 abbrev pub refusal : RefusalNumber → ℕ → Refusal
 refusal number place = record { number = number; place = place }
@@ -55,7 +55,7 @@ excess_past limit names = excess_of (slice_get names limit)
 
 -- the first name past the greatest number of names of a kind
 abbrev pub excess : List Name → List Refusal
-excess names = excess_past GREATEST_NAMES names
+excess names = excess_past greatest_names names
 
 -- what stands within a limit
 unfoldable pub within_limit : {A : Type 0} → ℕ → List A → List A

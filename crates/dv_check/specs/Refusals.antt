@@ -12,7 +12,7 @@ use Rattle.dv_lex.specs.Texts.{IsTokensOf}
 use Rattle.dv_syntax.specs.Trees.{ModelTree, AtomicModel, CoupledModel, FileTree}
 use Rattle.dv_syntax.specs.Grammar.{IsFileOf}
 use Rattle.dv_check.specs.Names.{refusal, refusal_if, repeats, name_of_model, model_named}
-use Rattle.dv_check.specs.declared.limits.TheConstants.{GREATEST_COMPONENTS, GREATEST_DEPTH, GREATEST_INSTANCES}
+use Rattle.dv_check.specs.Limits.{greatest_components, greatest_depth, greatest_instances}
 use Rattle.dv_check.specs.Rules.{atomic_refusals}
 use Rattle.dv_check.specs.Couplings.{coupled_refusals}
 use Rattle.dv_check.specs.Cycles.{cycle_refusals}
@@ -40,8 +40,8 @@ refusals f =
 abbrev pub passes_limit : PartTree → Bool
 passes_limit t =
     component_count t == 0
-    || (nat_lt GREATEST_COMPONENTS (component_count t)
-    || (nat_lt GREATEST_INSTANCES (suc (instance_count t)) || nat_lt GREATEST_DEPTH (depth_of t)))
+    || (nat_lt greatest_components (component_count t)
+    || (nat_lt greatest_instances (suc (instance_count t)) || nat_lt greatest_depth (depth_of t)))
 
 abbrev pub root_limit_refusals : List ModelTree → Option ModelTree → ℕ → List Refusal
 root_limit_refusals models (Some (CoupledModel m)) place = refusal_if (passes_limit (tree_of models m)) E17 place

@@ -15,13 +15,13 @@ use Rattle.dv_syntax.specs.declared.tree.Declaration.TheVariants.{In, Out, Var, 
 use Rattle.dv_syntax.specs.declared.tree.Start.{Start}
 use Rattle.dv_syntax.specs.declared.tree.RuleSort.{RuleSort}
 use Rattle.dv_syntax.specs.declared.tree.RuleSort.TheVariants as rule
-use Rattle.dv_bag.specs.declared.TheConstants.{GREATEST_COUNT}
+use Rattle.dv_bag.specs.Limits.{greatest_count}
 use Rattle.dv_eval.specs.declared.scope.VariableRange.{VariableRange}
 use Rattle.dv_eval.specs.declared.scope.Domain.{Domain}
 use Rattle.dv_eval.specs.declared.scope.Domain.TheVariants as domain
 use Rattle.dv_eval.specs.Scope.{scope_of, range_of, same_sort, start_state, hold_ticks, state_variables_in, phases_in}
 use Rattle.dv_eval.specs.Meaning.{hold_of}
-use Rattle.dv_check.specs.declared.limits.TheConstants.{GREATEST_NAMES}
+use Rattle.dv_check.specs.Limits.{greatest_names}
 use Rattle.dv_check.specs.declared.declarations.NameSort.{NameSort}
 use Rattle.dv_check.specs.declared.declarations.NameSort.TheVariants.{Variable as ForVariable, Flag as ForFlag, Bag as ForBag}
 use Rattle.dv_check.specs.declared.declarations.NameSort.TheVariants.{Input as ForInput, Output as ForOutput}
@@ -164,7 +164,7 @@ is_hold_missing held phases = list_any (λ (p : Name). not (held p.number)) phas
 abbrev pub holds_once_refusals : AtomicTree → List Refusal
 holds_once_refusals m =
     repeats E10 (held_phases m.holds)
-    ++ refusal_if (is_hold_missing (among (held_phases m.holds)) (within_limit GREATEST_NAMES (first_phases m.phases))) E10 m.name.place
+    ++ refusal_if (is_hold_missing (among (held_phases m.holds)) (within_limit greatest_names (first_phases m.phases))) E10 m.name.place
 
 -- the places of the words `phases` and `start`
 abbrev pub phases_places : List PhasesTree → List ℕ
@@ -263,7 +263,7 @@ variable_refusals v = refusal_if (is_out_of_range (range_of v)) E11 v.name.place
 
 -- what a bag may be declared to hold at most: at least one value
 abbrev pub is_capacity : ℕ → Bool
-is_capacity n = nat_le 1 n && nat_le n GREATEST_COUNT
+is_capacity n = nat_le 1 n && nat_le n greatest_count
 
 abbrev pub bag_refusals : StateBag → List Refusal
 bag_refusals b = refusal_if (not (is_capacity b.capacity.value)) E17 b.capacity.place
@@ -324,7 +324,7 @@ domain_of_state_variable v = v.1
 -- a variable, flag or bag whose first declaration is not refused: it is within the limit, and in range
 unfoldable pub is_start_known : List (Name × Domain) → ℕ → Bool
 is_start_known variables name =
-    is_in_range (first_of number_of_state_variable domain_of_state_variable (within_limit GREATEST_NAMES variables) name)
+    is_in_range (first_of number_of_state_variable domain_of_state_variable (within_limit greatest_names variables) name)
 
 -- what tables know
 unfoldable pub is_start_known_by : Starts → ℕ → Bool

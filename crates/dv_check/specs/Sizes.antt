@@ -3,7 +3,7 @@ use Rattle.std.specs.Prelude.{ℕ, zero, suc, ◌+◌, ◌==◌, nat_lt, max, Bo
 use Rattle.std.specs.Prelude.{Option, Some, None}
 use Rattle.dv_bag.specs.Bag.{capped}
 use Rattle.dv_syntax.specs.Trees.{ModelTree, AtomicModel, CoupledModel}
-use Rattle.dv_check.specs.declared.limits.TheConstants.{GREATEST_COMPONENTS, GREATEST_DEPTH, GREATEST_INSTANCES}
+use Rattle.dv_check.specs.Limits.{greatest_components, greatest_depth, greatest_instances}
 use Rattle.dv_check.specs.declared.sizes.Contents.{Contents}
 use Rattle.dv_check.specs.declared.sizes.Contents.TheVariants.{Rules, Parts}
 use Rattle.dv_check.specs.declared.sizes.Size.{Size}
@@ -71,8 +71,8 @@ sizes_below (suc levels) contents = map (size_by (sizes_below levels contents)) 
 abbrev pub size_passes_limit : Size → Bool
 size_passes_limit s =
     s.components == 0
-    || (nat_lt GREATEST_COMPONENTS s.components
-    || (nat_lt GREATEST_INSTANCES s.instances || nat_lt GREATEST_DEPTH s.depth))
+    || (nat_lt greatest_components s.components
+    || (nat_lt greatest_instances s.instances || nat_lt greatest_depth s.depth))
 
 -- the components of a tree that passes no limit
 abbrev pub components_within : PartTree → Option ℕ

@@ -4,7 +4,7 @@ use Rattle.dv_syntax.specs.Trees.{ModelTree, AtomicModel, CoupledModel, AtomicTr
 use Rattle.dv_syntax.specs.declared.tree.Name.{Name}
 use Rattle.dv_syntax.specs.declared.tree.Part.{Part}
 use Rattle.dv_check.specs.Names.{model_named}
-use Rattle.dv_check.specs.declared.limits.TheConstants.{GREATEST_DEPTH}
+use Rattle.dv_check.specs.Limits.{greatest_depth}
 
 -- parts in the order of the text: none; or one and the rest, which is atomic, or coupled with its own parts inside
 pub data PartTree : Type 0 where
@@ -29,7 +29,7 @@ parts_to (suc levels) models m = parts_by (parts_to levels models) models m.part
 
 -- The parts of a model, down to the greatest depth. A deeper model shows there, without its parts: its depth is too great.
 abbrev pub tree_of : List ModelTree → CoupledTree → PartTree
-tree_of models m = parts_to GREATEST_DEPTH models m
+tree_of models m = parts_to greatest_depth models m
 
 -- how deep coupled models lie in one another, the model of these parts counted
 abbrev pub depth_of : PartTree → ℕ

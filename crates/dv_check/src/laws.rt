@@ -19,8 +19,7 @@ ghost use Rattle.dv_check.specs.Nests.{around, part_at, rooted, tower};
 ghost use Rattle.dv_check.specs.Refusals.{limit_refusals, refusal_of};
 ghost use Rattle.dv_check.specs.Relays.{link_at, wrong_links};
 ghost use Rattle.dv_check.specs.Tree.{parts_to, tree_of};
-
-use crate::limits::GREATEST_DEPTH;
+ghost use Rattle.dv_check.specs.Limits.{greatest_depth};
 
 /// A checked file has a coupled root. Of each of its coupled models the parts have known models, and each link leads
 /// between two parts, or between a part and the model itself: from an output that the model of a part shows or an input
@@ -34,7 +33,7 @@ pub fn checked_files()
 pub fn trees_are_whole()
     ensures { (f : FileTree) (m : CoupledTree) (levels : ℕ) → refusal_of f ≡ None
         → model_named f.root.number f.models ≡ Some (CoupledModel m)
-        → GREATEST_DEPTH ≤ levels → parts_to levels f.models m ≡ tree_of f.models m }
+        → greatest_depth ≤ levels → parts_to levels f.models m ≡ tree_of f.models m }
 {}
 
 /// The first refusal is one of the refusals, and none of them precedes it; where there is none, there are no refusals.

@@ -5,13 +5,13 @@ ghost use Rattle.std.specs.Cow.{IsOwned, cow_value};
 ghost use Rattle.dv_bag.specs.Bag.{size_of_all, total, with_copies, without_one};
 ghost use Rattle.dv_bag.specs.Effects.{with_bag};
 ghost use Rattle.dv_bag.specs.Reading.{HasBagAt, bag_held_at};
-ghost use Rattle.dv_bag.specs.declared.TheConstants.{GREATEST_COUNT};
 ghost use Rattle.dv_bag.specs.declared.state.Datum.TheVariants as datum;
 ghost use Rattle.dv_code.specs.Machine.{first_effect};
 ghost use Rattle.dv_code.specs.Operations.{going, storing, with_sent};
+ghost use Rattle.dv_bag.specs.Limits.{greatest_count};
 
 use crate::shape::Shape;
-use dv_bag::{Effect, GREATEST_COUNT, Sent, State};
+use dv_bag::{Effect, Sent, State};
 use std::alloc::{AllocError, Global};
 use std::borrow::Cow;
 use std::marker::Model;
@@ -101,7 +101,7 @@ impl<'a> Draft<'a> {
     /// No memory for it, or for a state of its own.
     pub(crate) fn insert(&mut self, slot: usize, number: i64) -> Result<(), AllocError>
         requires bag { HasBagAt slot self.old.state.variables }
-        requires room { total (bag_held_at self.old.state.variables slot) < GREATEST_COUNT }
+        requires room { total (bag_held_at self.old.state.variables slot) < greatest_count }
         ensures { OnOk result (self.new ≡ with_bag self.old slot
             (with_copies number 1 (bag_held_at self.old.state.variables slot))) }
     {

@@ -3,7 +3,6 @@
 ghost use Rattle.std.specs.Prelude.{◌≡◌, ◌≢◌, ℕ, ℤ, ◌*◌, ◌^◌, ◌≤◌, List, length, Ok, Err};
 ghost use Rattle.dv_bag.specs.Arrivals.{AreFew, Arrivals};
 ghost use Rattle.dv_bag.specs.Bag.{Counts};
-ghost use Rattle.dv_bag.specs.declared.TheConstants.{GREATEST_COUNT};
 ghost use Rattle.dv_bag.specs.declared.state.State.{State};
 ghost use Rattle.dv_bag.specs.declared.value.ValueType.{ValueType};
 ghost use Rattle.dv_code.specs.Shape.{AreSmall, Fits, Shape};
@@ -15,6 +14,7 @@ ghost use Rattle.dv_bag.specs.declared.fault.Fault.{Fault};
 ghost use Rattle.dv_bag.specs.declared.fault.RuleError.TheVariants as error;
 ghost use Rattle.dv_bag.specs.declared.state.Effect.{Effect};
 ghost use Rattle.dv_code.specs.declared.instruction.Instruction.{Instruction};
+ghost use Rattle.dv_bag.specs.Limits.{greatest_count};
 
 /// No configuration that a valid program reaches from a state that fits is stuck, whatever has
 /// arrived.
@@ -34,7 +34,7 @@ pub fn valid_programs_end()
         → (arrivals : Arrivals) → AreFew arrivals.received
         → (s : State) → Fits p.shape.slots s.variables
         → (n : ℕ) × (end : Outcome) × Ends p arrivals s n end
-        × (n ≤ length p.code * GREATEST_COUNT ^ depth) × EndsWell p.shape left end }
+        × (n ≤ length p.code * greatest_count ^ depth) × EndsWell p.shape left end }
 {}
 
 /// A run ends in one way alone, after one number of steps.

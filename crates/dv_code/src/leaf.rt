@@ -8,13 +8,14 @@ ghost use Rattle.dv_bag.specs.declared.value.Value.TheVariants.{Number, Truth};
 ghost use Rattle.dv_code.specs.Machine.{items_of};
 ghost use Rattle.dv_code.specs.Operations.{flag_in, leaf_value, number_in, sum_in};
 ghost use Rattle.dv_code.specs.Turns.{turns_of};
+ghost use Rattle.dv_bag.specs.Limits.{greatest_count};
 
 use crate::instruction::Leaf;
 use crate::open_loop::OpenLoop;
 use crate::source::bag_of;
 use crate::stack::Stack;
 use dv_bag::arithmetic::{number_or_empty, ticks_or_overflow};
-use dv_bag::{Arrivals, Bag, DatumView, Fault, GREATEST_COUNT, State, Value};
+use dv_bag::{Arrivals, Bag, DatumView, Fault, State, Value};
 
 /// The value of a leaf, with the open loops.
 ///
@@ -71,7 +72,7 @@ fn flag_at(slot: usize, state: &State) -> bool
 
 // The number of values of a bag.
 fn size_of(bag: Option<&Bag>) -> i64
-    requires { IfSome bag (λ bag. total bag.now ≤ GREATEST_COUNT) }
+    requires { IfSome bag (λ bag. total bag.now ≤ greatest_count) }
     ensures { result ≡ pos (total (unwrap_or (option_copied bag.entry) [])) }
 {
     match bag {
@@ -81,7 +82,7 @@ fn size_of(bag: Option<&Bag>) -> i64
 }
 
 fn sum_of(bag: Option<&Bag>) -> Result<Value, Fault>
-    requires { IfSome bag (λ bag. total bag.now ≤ GREATEST_COUNT) }
+    requires { IfSome bag (λ bag. total bag.now ≤ greatest_count) }
     ensures { result ≡ sum_in (unwrap_or (option_copied bag.entry) []) }
 {
     match bag {

@@ -4,9 +4,10 @@ ghost use Rattle.std.specs.Prelude.{◌≡◌, ◌≢◌, ◌≤◌, [], None, S
 ghost use Rattle.std.specs.Option.{option_copied};
 ghost use Rattle.dv_bag.specs.Bag.{total};
 ghost use Rattle.dv_code.specs.Operations.{bag_of};
+ghost use Rattle.dv_bag.specs.Limits.{greatest_count};
 
 use crate::instruction::Source;
-use dv_bag::{Arrivals, Bag, DatumView, GREATEST_COUNT, State};
+use dv_bag::{Arrivals, Bag, DatumView, State};
 
 /// The bag of a source. Where nothing has arrived at an input port there may be none, which stands
 /// for an empty one.
@@ -18,7 +19,7 @@ pub(crate) fn bag_of<'a>(
     requires { bag_of arrivals.now state.now source ≢ None }
     ensures bag { bag_of arrivals.now state.now source
         ≡ Some (unwrap_or (option_copied result) []) }
-    ensures few { IfSome result (λ bag. total bag.now ≤ GREATEST_COUNT) }
+    ensures few { IfSome result (λ bag. total bag.now ≤ greatest_count) }
 {
     match source {
         Source::Own(slot) => match state.variables.get(usize::from(slot)) {

@@ -2,7 +2,7 @@
 use Rattle.std.proofs.Common.{◌≡◌, ℕ, zero, suc, ◌<◌, List, [], ◌∷◌, length, map, refl, subst, arith}
 use Rattle.std.specs.List.{All}
 use Rattle.std.specs.Prelude.{Option, Some, None, slice_get}
-use Rattle.dv_check.specs.declared.limits.TheConstants.{GREATEST_DEPTH}
+use Rattle.dv_check.specs.Limits.{greatest_depth}
 use Rattle.dv_gen.specs.ModelCode.{IsCompilable, IsCompilableModel}
 use Rattle.dv_syntax.specs.Trees.{AtomicTree, CoupledTree, FileTree, ModelTree}
 use Rattle.dv_tree.specs.Instances.{Instance, instances, instances_in, root_of, tree_in}
@@ -21,7 +21,7 @@ module _ (models : List ModelTree) (all : All (λ (t : ModelTree). IsCompilableM
   compilable_in : (root : Option CoupledTree) (k : ℕ) (m : AtomicTree) →
       slice_get (map (λ (i : Instance). i.model) (instances_in [] (tree_in models root))) k ≡ Some m → IsCompilable m
   compilable_in None k m at = absurd (cc)
-  compilable_in (Some root) k m at = compilable_named (all_named [] [] [] refl (mirrors_to GREATEST_DEPTH models root)) k m at
+  compilable_in (Some root) k m at = compilable_named (all_named [] [] [] refl (mirrors_to greatest_depth models root)) k m at
 
 -- the model of a component of a text whose models are compilable is so
 pub component_compilable : (f : FileTree) (k : ℕ) (m : AtomicTree) → All (λ (t : ModelTree). IsCompilableModel t) f.models →

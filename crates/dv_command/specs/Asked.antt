@@ -3,7 +3,7 @@ use Rattle.std.specs.Prelude.{◌≡◌, ◌⊎◌, ℕ, ◌^◌, ◌-◌, Bool,
 use Rattle.std.specs.Prelude.{Option, Some, None, option_map, is_some, string_bytes, bytes_eq, codes}
 use Rattle.std.specs.Char.{to_ascii_uppercase}
 use Rattle.std.specs.declared.string.String.{String}
-use Rattle.dv_time.specs.declared.TheConstants.{GREATEST_TICK, GREATEST_LIMIT}
+use Rattle.dv_time.specs.Limits.{greatest_tick, greatest_limit}
 use Rattle.dv_command.specs.declared.subcommand.Subcommand.{Subcommand}
 use Rattle.dv_command.specs.declared.subcommand.Subcommand.TheVariants as subcommand
 use Rattle.dv_command.specs.declared.request.Request.{Request}
@@ -101,11 +101,11 @@ AsksInputs said inputs = text_in (codes "--inputs") said ≡ Some (option_map st
 
 -- `--horizon H`, which has to stand
 abbrev pub AsksHorizon : List Said → ℕ → Type 0
-AsksHorizon said horizon = required (count_in 0 GREATEST_TICK (codes "--horizon") said) ≡ Some horizon
+AsksHorizon said horizon = required (count_in 0 greatest_tick (codes "--horizon") said) ≡ Some horizon
 
 -- `--microsteps L`
 abbrev pub AsksMicrosteps : List Said → ℕ → Type 0
-AsksMicrosteps said microsteps = or_usual usual_limit (count_in 1 GREATEST_LIMIT (codes "--microsteps") said) ≡ Some microsteps
+AsksMicrosteps said microsteps = or_usual usual_limit (count_in 1 greatest_limit (codes "--microsteps") said) ≡ Some microsteps
 
 -- `--rounds N`, `--workers N`, or neither
 pub record AsksDriving (said : List Said) (rounds workers : Option ℕ) : Type 0 where

@@ -1,11 +1,11 @@
 //! Requests, read from what words say.
 
 ghost use Rattle.std.specs.Prelude.{◌≡◌, ◌≤◌, ◌∷◌, [], IfOk, IfSome, map, string_bytes};
-ghost use Rattle.dv_time.specs.declared.TheConstants.{GREATEST_TICK, GREATEST_LIMIT};
 ghost use Rattle.dv_command.specs.Asked.{Asks, AsksBehind, AsksCode, AsksDriving, AsksHorizon, AsksInputs, AsksMicrosteps, AsksModel, AsksPartition, AsksPlan, AsksRun, AsksStats, AsksTrace, AsksWith, IsAnswer, IsFitting, IsVersion, is_version};
 ghost use Rattle.dv_command.specs.Subcommands.{subcommand_named};
 ghost use Rattle.dv_command.specs.Steps.{said_in};
 ghost use Rattle.dv_command.specs.Words.{values};
+ghost use Rattle.dv_time.specs.Limits.{greatest_limit, greatest_tick};
 
 use crate::given::{count_in, flag_in, text_in, values};
 use crate::part::{Part, said_by};
@@ -137,7 +137,7 @@ fn inputs_in(alloc: Global, parts: &[Part<'_>]) -> Result<Option<Option<String>>
 /// The last tick of a run.
 fn horizon_in(alloc: Global, parts: &[Part<'_>]) -> Result<Option<u64>, AllocError>
     ensures fits { IfOk result (IsFitting (AsksHorizon (map said_in parts.now))) }
-    ensures in_range { IfOk result (λ r. IfSome r (λ tick. tick ≤ GREATEST_TICK)) }
+    ensures in_range { IfOk result (λ r. IfSome r (λ tick. tick ≤ greatest_tick)) }
 {
     match count_in(alloc, 0, GREATEST_TICK, "--horizon", parts)? {
         Some(Some(horizon)) => Ok(Some(horizon)),
@@ -149,7 +149,7 @@ fn horizon_in(alloc: Global, parts: &[Part<'_>]) -> Result<Option<u64>, AllocErr
 /// The greatest microstep of a tick.
 fn microsteps_in(alloc: Global, parts: &[Part<'_>]) -> Result<Option<u32>, AllocError>
     ensures fits { IfOk result (IsFitting (AsksMicrosteps (map said_in parts.now))) }
-    ensures in_range { IfOk result (λ r. IfSome r (λ limit. (1 ≤ limit) × (limit ≤ GREATEST_LIMIT))) }
+    ensures in_range { IfOk result (λ r. IfSome r (λ limit. (1 ≤ limit) × (limit ≤ greatest_limit))) }
 {
     let most = u64::from(GREATEST_LIMIT);
     match count_in(alloc, 1, most, "--microsteps", parts)? {

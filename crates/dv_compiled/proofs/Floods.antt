@@ -3,15 +3,15 @@ use Rattle.std.proofs.Common.{◌≡◌, zero, suc, ◌≤◌, true, nat_le, Lis
 use Rattle.std.proofs.lemmas.Bool.{and_parts, le-leb, leb-true}
 use Rattle.dv_bag.specs.Arrivals.{AreFew, nothing_arrived}
 use Rattle.dv_bag.specs.Bag.{Counts, size, total}
-use Rattle.dv_bag.specs.declared.TheConstants.{GREATEST_COUNT}
+use Rattle.dv_bag.specs.Limits.{greatest_count}
 use Rattle.dv_devs.specs.Behaviour.{are_few}
 use Rattle.dv_accepted.proofs.Fitting.{and_true}
 
-few_by_size : (b : Counts) → nat_le (size b) GREATEST_COUNT ≡ true → total b ≤ GREATEST_COUNT
-few_by_size b few = let so = leb-true (size b) GREATEST_COUNT few in omega (arith, so)
+few_by_size : (b : Counts) → nat_le (size b) greatest_count ≡ true → total b ≤ greatest_count
+few_by_size b few = let so = leb-true (size b) greatest_count few in omega (arith, so)
 
-few_by_total : (b : Counts) → total b ≤ GREATEST_COUNT → nat_le (size b) GREATEST_COUNT ≡ true
-few_by_total b few = le-leb (size b) GREATEST_COUNT (omega (arith, few))
+few_by_total : (b : Counts) → total b ≤ greatest_count → nat_le (size b) greatest_count ≡ true
+few_by_total b few = le-leb (size b) greatest_count (omega (arith, few))
 
 -- bags that pass the test are few
 pub few_passed : (bags : List Counts) → IsTrue (are_few bags) → AreFew bags
@@ -23,7 +23,7 @@ few_passed (b ∷ bags) few (suc port) = few_passed bags (and_parts _ (are_few b
 pub few_pass : (bags : List Counts) → AreFew bags → IsTrue (are_few bags)
 few_pass [] few = refl
 few_pass (b ∷ bags) few =
-    and_true (nat_le (size b) GREATEST_COUNT) (are_few bags) (few_by_total b (few 0)) (few_pass bags (λ port. few (suc port)))
+    and_true (nat_le (size b) greatest_count) (are_few bags) (few_by_total b (few 0)) (few_pass bags (λ port. few (suc port)))
 
 pub nothing_is_few : AreFew nothing_arrived.received
 nothing_is_few = few_passed [] refl

@@ -6,7 +6,7 @@ use Rattle.dv_syntax.specs.declared.tree.Name.{Name}
 use Rattle.dv_syntax.specs.declared.tree.Part.{Part}
 use Rattle.dv_check.specs.Names.{model_named, name_of_model}
 use Rattle.dv_check.specs.Tree.{AtomicPart, CoupledPart, NoParts, PartTree, parts_by, parts_to, with_part}
-use Rattle.dv_check.specs.declared.limits.TheConstants.{GREATEST_DEPTH}
+use Rattle.dv_check.specs.Limits.{greatest_depth}
 use Rattle.dv_tree.specs.Instances.{Instance, instances, instances_in, root_of, tree_in}
 
 all_append : {X : Type 0} (P : X → Type 0) (xs ys : List X) → AllByRecursion P xs → AllByRecursion P ys
@@ -63,7 +63,7 @@ module _ (P : ModelTree → Type 0) where
   in_root : (models : List ModelTree) (root : Option CoupledTree) → AllByRecursion P models
       → AllModels (instances_in [] (tree_in models root))
   in_root models None all = tt
-  in_root models (Some m) all = in_tree [] (parts_to GREATEST_DEPTH models m) (parts_down GREATEST_DEPTH models all m)
+  in_root models (Some m) all = in_tree [] (parts_to greatest_depth models m) (parts_down greatest_depth models all m)
 
   -- what is so of all models of a text is so of the models of its components
   pub models_of_components : (f : FileTree) → AllByRecursion P f.models → AllModels (instances f)

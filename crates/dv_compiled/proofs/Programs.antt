@@ -6,7 +6,7 @@ use Rattle.dv_syntax.specs.Trees.{AtomicTree, Done, Expression, HoldTree, RuleTr
 use Rattle.dv_syntax.specs.declared.tree.RuleSort.{RuleSort}
 use Rattle.dv_bag.specs.Arrivals.{AreFew, Arrivals, nothing_arrived}
 use Rattle.dv_bag.specs.Outcome.{◌>>=◌}
-use Rattle.dv_bag.specs.declared.TheConstants.{GREATEST_COUNT}
+use Rattle.dv_bag.specs.Limits.{greatest_count}
 use Rattle.dv_bag.specs.declared.fault.Fault.{Fault}
 use Rattle.dv_bag.specs.declared.state.Effect.{Effect}
 use Rattle.dv_bag.specs.declared.state.State.{State}
@@ -19,7 +19,7 @@ use Rattle.dv_code.specs.Outcomes.{effect_at_end, number_at_end, outcome_of}
 use Rattle.dv_code.specs.Runs.{Ends, IsOver}
 use Rattle.dv_code.specs.Shape.{AreSmall, Fits, Shape, left_by}
 use Rattle.dv_code.specs.Valid.{EndsWell, IsSafe, IsValid, Program}
-use Rattle.dv_code.specs.declared.TheConstants.{DEEPEST_LOOPS}
+use Rattle.dv_code.specs.Limits.{deepest_loops}
 use Rattle.dv_eval.specs.Meaning.{effect_of, meaning, moment_in, number_of, outermost, ticks_from}
 use Rattle.dv_eval.specs.Scope.{hold_ticks, rule_of, scope_of}
 use Rattle.dv_accepted.specs.Fitting.{fits}
@@ -86,7 +86,7 @@ module _ (m : AtomicTree)
 
     pub rules_give :
         All (λ (r : RuleTree). AreTyped (rule_shape (scope_of m) r.sort) (loop_depth r.body) 0 (rule_tree m r.body)) m.rules
-        → All (λ (r : RuleTree). loop_depth r.body ≤ DEEPEST_LOOPS) m.rules
+        → All (λ (r : RuleTree). loop_depth r.body ≤ deepest_loops) m.rules
         → All (λ (r : RuleTree). EndsWithEffect r.sort r.body) m.rules
         → (sort : RuleSort) (phase : ℕ) → IfSome (rule_of sort phase m.rules) (GivesEffects m sort)
     rules_give typed shallow ends sort phase =
@@ -97,7 +97,7 @@ module _ (m : AtomicTree)
   module _ (valid : (shape : Shape) (e : Resolved) → IsTyped shape 0 e → IsValid shape (type_of e ∷ []) 0 (hold_program_of e))
       (well : (p : Program) (left : List ValueType) (depth : ℕ) → IsValid p.shape left depth p.code → AreSmall p.shape.slots
       → (arrivals : Arrivals) → AreFew arrivals.received → (s : State) → Fits p.shape.slots s.variables
-      → (n : ℕ) × (end : Outcome) × Ends p arrivals s n end × (n ≤ length p.code * GREATEST_COUNT ^ depth)
+      → (n : ℕ) × (end : Outcome) × Ends p arrivals s n end × (n ≤ length p.code * greatest_count ^ depth)
       × EndsWell p.shape left end) where
     abbrev value_in : Expression → State → Result Value Fault
     value_in e s = meaning (scope_of m) (moment_in (outermost nothing_arrived) s) e
@@ -117,7 +117,7 @@ module _ (m : AtomicTree)
         let end = ends s fit in
         let given = outcome p safe nothing_arrived nothing_is_few s (slots s fit) in
         let meant = given end.0 (hold_ending first (value_in e s)) end.1 (hold_over first (value_in e s)) in
-        let ended = well p (left_by p.shape.sort) DEEPEST_LOOPS safe.0 safe.1 nothing_arrived nothing_is_few s (slots s fit) in
+        let ended = well p (left_by p.shape.sort) deepest_loops safe.0 safe.1 nothing_arrived nothing_is_few s (slots s fit) in
         let same = sym (given ended.0 ended.1 ended.2.last ended.2.over) ∙ meant in
         ap (λ (o : Outcome). number_at_end o >>= ticks_from) meant
         ∙ ticks_at_ending p.shape first (value_in e s) (subst (EndsWell p.shape (Number ∷ [])) same ended.4)

@@ -7,10 +7,11 @@ ghost use Rattle.dv_proc.specs.Packets.{meant_packet};
 ghost use Rattle.dv_core.specs.ProcessState.{IsReceived, IsSent, IsTurned, ProcessState};
 ghost use Rattle.dv_proc.specs.Midway.{meant_turned};
 ghost use Rattle.dv_proc.specs.Refusals.{meant_refusal};
+ghost use Rattle.dv_time.specs.Limits.{greatest_tick};
 
 use dv_bag::Part;
 use dv_proc::{Packet, Refused, Turned};
-use dv_time::{GREATEST_TICK, Time};
+use dv_time::Time;
 use std::alloc::AllocError;
 
 /// A logical process, as a world sees it: its share of the model, the packets that it received, its position and what it has
@@ -86,5 +87,5 @@ pub trait PlannedJob: Drop {
     /// The last tick of the run.
     fn horizon(&self) -> u64
         ensures is { result ≡ (means self.now).horizon }
-        ensures few { result ≤ GREATEST_TICK };
+        ensures few { result ≤ greatest_tick };
 }

@@ -38,8 +38,8 @@ impl Names for Texts<'_> {
         count(self.paths.len())
     }
 
-    fn path(&self, component: u32) -> &str {
-        at(self.paths, component)
+    fn path(&self, alloc: Global, component: u32) -> Result<String, AllocError> {
+        String::from_str(alloc, at(self.paths, component))
     }
 
     fn input(&self, component: u32, _port: u32) -> &str {

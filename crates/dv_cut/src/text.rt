@@ -13,7 +13,11 @@ pub trait Names {
     fn components(&self) -> u32;
 
     /// The path of a component.
-    fn path(&self, component: u32) -> &str;
+    ///
+    /// # Errors
+    ///
+    /// No memory for its text.
+    fn path(&self, alloc: Global, component: u32) -> Result<String, AllocError>;
 
     /// The name of an input port of a component.
     fn input(&self, component: u32, port: u32) -> &str;
@@ -58,9 +62,14 @@ pub fn plan_json<N: Names>(
 fn paths_json<N: Names>(alloc: Global, names: &N) -> Result<Value, AllocError> {
     let mut list = Vec::new(alloc);
     for component in 0..names.components() {
-        list.push(Value::try_from_str(alloc, names.path(component))?)?;
+        list.push(path_json(alloc, names, component)?)?;
     }
     Ok(Value::Array(list))
+}
+
+fn path_json<N: Names>(alloc: Global, names: &N, component: u32) -> Result<Value, AllocError> {
+    let path = names.path(alloc, component)?;
+    Value::try_from_str(alloc, path.as_str())
 }
 
 fn direct_json<N: Names>(alloc: Global, names: &N, links: &[Link]) -> Result<Value, AllocError> {
@@ -115,7 +124,7 @@ fn processes_json<N: Names>(
 fn members_json<N: Names>(alloc: Global, names: &N, members: &[u32]) -> Result<Value, AllocError> {
     let mut list = Vec::with_capacity(alloc, members.len())?;
     for member in members {
-        list.push(Value::try_from_str(alloc, names.path(*member))?)?;
+        list.push(path_json(alloc, names, *member)?)?;
     }
     Ok(Value::Array(list))
 }
@@ -129,14 +138,14 @@ fn response_json(response: Option<Response>) -> Value {
 
 // The port from which a link leads, by the path of its component.
 fn output_text<N: Names>(alloc: Global, names: &N, link: &Link) -> Result<String, AllocError> {
-    let path = names.path(link.from);
+    let path = names.path(alloc, link.from)?;
     let port = names.output(link.from, link.from_port);
     format!(in alloc; "{path}.{port}")
 }
 
 // The port to which a link leads, by the path of its component.
 fn input_text<N: Names>(alloc: Global, names: &N, link: &Link) -> Result<String, AllocError> {
-    let path = names.path(link.to);
+    let path = names.path(alloc, link.to)?;
     let port = names.input(link.to, link.to_port);
     format!(in alloc; "{path}.{port}")
 }

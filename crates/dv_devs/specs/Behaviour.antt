@@ -7,7 +7,7 @@ use Rattle.dv_time.specs.Time.{after, rank, tick_of, time_of}
 use Rattle.dv_time.specs.declared.time.Time.{Time}
 use Rattle.dv_time.specs.declared.time.Microsteps.{Microsteps as NoMicrostep}
 use Rattle.dv_bag.specs.Bag.{Counts, size}
-use Rattle.dv_bag.specs.declared.TheConstants.{GREATEST_COUNT}
+use Rattle.dv_bag.specs.Limits.{greatest_count}
 use Rattle.dv_bag.specs.Outcome.{◌>>=◌}
 use Rattle.dv_bag.specs.declared.fault.Fault.{Fault}
 use Rattle.dv_bag.specs.declared.fault.Fault.TheVariants.{Microsteps, Flood}
@@ -82,7 +82,7 @@ all_empty bags = list_all (λ b. nat_eq (size b) 0) bags
 
 -- at no port more than 4,096 values
 abbrev pub are_few : List Counts → Bool
-are_few bags = list_all (λ b. nat_le (size b) GREATEST_COUNT) bags
+are_few bags = list_all (λ b. nat_le (size b) greatest_count) bags
 
 -- the bags, or a flood
 abbrev pub bags_or_flood : List Counts → Result (List Counts) Fault

@@ -31,7 +31,7 @@ use Rattle.dv_bag.specs.declared.state.Datum.TheVariants as datum
 use Rattle.dv_bag.specs.declared.state.State.{State}
 use Rattle.dv_bag.specs.declared.state.Effect.{Effect}
 use Rattle.dv_eval.specs.Scope.{Scope, place_of, names_of}
-use Rattle.dv_bag.specs.declared.TheConstants.{GREATEST_COUNT}
+use Rattle.dv_bag.specs.Limits.{greatest_count}
 use Rattle.dv_eval.specs.declared.scope.VariableRange.{VariableRange}
 use Rattle.dv_eval.specs.declared.scope.Domain.{Domain}
 use Rattle.dv_eval.specs.declared.scope.Domain.TheVariants as domain
@@ -195,7 +195,7 @@ with_value_at (Some port) n e =
 -- a number sent by an output port; the 4,097th of one output is a flood
 abbrev pub sending : Scope → ℕ → Value → Effect → Result Effect Fault
 sending scope port v e =
-    if nat_le GREATEST_COUNT (total_of_all e.sent) then Err Flood
+    if nat_le greatest_count (total_of_all e.sent) then Err Flood
     else Ok (with_value_at (place_of port scope.outputs) (number_of v) e)
 
 -- how many values a state bag may hold

@@ -7,6 +7,7 @@ ghost use Rattle.dv_bag.specs.Reading.{HoldsFew, bag_held_at, datum_of};
 ghost use Rattle.dv_syntax.specs.Trees.{expression_of};
 ghost use Rattle.dv_eval.specs.Contexts.{context_of, moment_of};
 ghost use Rattle.dv_eval.specs.Meaning.{bag_of_name, bag_received, call_result, datum_of_name, is_decided, meaning, number_of, operator_result, prefix_result, same, truth_of, value_of_name};
+ghost use Rattle.dv_bag.specs.Limits.{greatest_count};
 
 use crate::moment::{Context, Moment};
 use crate::scope::Scope;
@@ -14,7 +15,7 @@ use dv_bag::arithmetic::{
     difference, negated, number_or_empty, product, quotient, remainder, sum, ticks_or_overflow,
 };
 use dv_bag::bag::copies_of;
-use dv_bag::{Bag, DatumView, Fault, GREATEST_COUNT, State, Value};
+use dv_bag::{Bag, DatumView, Fault, State, Value};
 use dv_syntax::{BagCall, Expr, Operator, Prefix};
 
 /// The value of an expression at a moment.
@@ -87,7 +88,7 @@ fn datum_of_name<'a>(name: u32, state: &'a State, scope: &Scope) -> Option<Datum
 pub(crate) fn bag_of_name<'a>(name: u32, moment: &'a Moment, scope: &Scope) -> Option<&'a Bag>
     ensures bag { unwrap_or (option_copied result) []
         ≡ bag_of_name scope.now (moment_of moment.now) name }
-    ensures few { IfSome result (λ bag. total bag.now ≤ GREATEST_COUNT) }
+    ensures few { IfSome result (λ bag. total bag.now ≤ greatest_count) }
 {
     match scope.variable(name) {
         Some(place) => bag_held_at(place, moment.state),
@@ -98,7 +99,7 @@ pub(crate) fn bag_of_name<'a>(name: u32, moment: &'a Moment, scope: &Scope) -> O
 // The bag of the state variable at a place, if it is one.
 fn bag_held_at(place: usize, state: &State) -> Option<&Bag>
     ensures bag { unwrap_or (option_copied result) [] ≡ bag_held_at state.now.variables place }
-    ensures few { IfSome result (λ bag. total bag.now ≤ GREATEST_COUNT) }
+    ensures few { IfSome result (λ bag. total bag.now ≤ greatest_count) }
 {
     match state.variables.get(place) {
         Some(DatumView::Bag(bag)) => Some(bag),
@@ -110,7 +111,7 @@ fn bag_held_at(place: usize, state: &State) -> Option<&Bag>
 fn bag_received<'a>(port: Option<usize>, context: &'a Context) -> Option<&'a Bag>
     ensures bag { unwrap_or (option_copied result) []
         ≡ bag_received (context_of context.now).arrivals port }
-    ensures few { IfSome result (λ bag. total bag.now ≤ GREATEST_COUNT) }
+    ensures few { IfSome result (λ bag. total bag.now ≤ greatest_count) }
 {
     match port {
         Some(port) => context.arrivals().bag(port),
@@ -120,7 +121,7 @@ fn bag_received<'a>(port: Option<usize>, context: &'a Context) -> Option<&'a Bag
 
 // What a call gives of a bag, and of none what it gives of an empty one.
 fn call_result(call: BagCall, bag: Option<&Bag>) -> Result<Value, Fault>
-    requires { IfSome bag (λ bag. total bag.now ≤ GREATEST_COUNT) }
+    requires { IfSome bag (λ bag. total bag.now ≤ greatest_count) }
     ensures { result ≡ call_result call (unwrap_or (option_copied bag.entry) []) }
 {
     let Some(bag) = bag else {

@@ -5,7 +5,7 @@ ghost use Rattle.dv_syntax.specs.Trees.{Done, expression_of, statement_before, s
 ghost use Rattle.dv_bag.specs.Bag.{values_of};
 ghost use Rattle.dv_bag.specs.Outcome.{Gives};
 ghost use Rattle.dv_bag.specs.declared.state.Datum.TheVariants as datum;
-ghost use Rattle.dv_eval.specs.Steps.{repeated, with_value};
+ghost use Rattle.dv_eval.specs.Steps.{repeated, step_with, with_value};
 ghost use Rattle.dv_eval.specs.Contexts.{context_of};
 ghost use Rattle.dv_bag.specs.Effects.{with_datum, with_state};
 ghost use Rattle.dv_eval.specs.Meaning.{addition, addition_to, assignment, assignment_in_range, bag_of_name, effect_of, in_loop};
@@ -15,12 +15,20 @@ ghost use Rattle.dv_eval.specs.Meaning.{with_goto};
 use crate::expression::{bag_of_name, eval, number_of, truth_of};
 use crate::moment::{Context, Moment};
 use crate::scope::{Domain, Scope, VariableRange};
-use dv_bag::{
-    Arrivals, Bag, DatumView, Effect, Fault, GREATEST_COUNT, RuleError, Sent, State, Value,
-};
+use dv_bag::limits::{test_flood, test_range, test_room};
+use dv_bag::{Arrivals, Bag, DatumView, Effect, Fault, RuleError, Sent, State, Value};
 use dv_syntax::laws::trees_keep_blocks;
 use dv_syntax::{Expr, Stmt};
 use std::alloc::{AllocError, Global};
+
+/// A step that takes a value: what it speaks of, by name.
+#[derive(Clone, Copy)]
+pub(crate) enum Step {
+    Assign(u32),
+    Send(u32),
+    Add(u32),
+    Drop(u32),
+}
 
 /// The effect of a rule's statements on a state, with what has arrived.
 ///
@@ -75,15 +83,17 @@ fn run_statement(
 {
     trees_keep_blocks();
     match statement {
-        Stmt::Assign { variable, value } => run_assign(
-            variable.number,
+        Stmt::Assign { variable, value } => run_step(
+            Step::Assign(variable.number),
             value,
             context,
             scope,
             effect,
         ),
         Stmt::Goto { phase, .. } => Ok(with_goto(scope.phase(phase.number), effect)),
-        Stmt::Send { port, value, .. } => run_send(port.number, value, context, scope, effect),
+        Stmt::Send { port, value, .. } => {
+            run_step(Step::Send(port.number), value, context, scope, effect)
+        }
         Stmt::If {
             condition,
             then_block,
@@ -125,8 +135,12 @@ fn run_statement(
             ),
             None => Ok(effect),
         },
-        Stmt::Add { value, bag, .. } => run_add(bag.number, value, context, scope, effect),
-        Stmt::Drop { value, bag, .. } => run_drop(bag.number, value, context, scope, effect),
+        Stmt::Add { value, bag, .. } => {
+            run_step(Step::Add(bag.number), value, context, scope, effect)
+        }
+        Stmt::Drop { value, bag, .. } => {
+            run_step(Step::Drop(bag.number), value, context, scope, effect)
+        }
     }
 }
 
@@ -194,80 +208,36 @@ fn value_of(
     state: &State,
     context: &Context,
     scope: &Scope,
-) -> Result<Value, RuleError>
-    ensures { Gives result (meaning scope.now (moment_in (context_of context.now) state.now)
-        (expression_of expression.now)) }
+) -> Result<Value, Fault>
+    ensures { result ≡ meaning scope.now (moment_in (context_of context.now) state.now)
+        (expression_of expression.now) }
 {
-    eval(expression, &Moment { state, context }, scope).map_err(RuleError::Fault)
+    eval(expression, &Moment { state, context }, scope)
 }
 
-// An assignment: first the value, and then the variable or the flag.
-fn run_assign(
-    variable: u32,
+// First the value, in the state that is there, and then the step.
+fn run_step(
+    step: Step,
     value: &Expr,
     context: &Context,
     scope: &Scope,
     effect: Effect,
 ) -> Result<Effect, RuleError>
-    ensures { Gives result
-        (with_value scope.now (context_of context.now) (expression_of value.now)
-        (assignment scope.now variable) effect) }
+    ensures { Gives result (with_value scope.now (context_of context.now)
+        (expression_of value.now) (step_with scope.now step) effect) }
 {
     let value = value_of(value, &effect.state, context, scope)?;
-    assign(variable, value, scope, effect)
-}
-
-// A `send`: first the value, and then the port.
-fn run_send(
-    port: u32,
-    value: &Expr,
-    context: &Context,
-    scope: &Scope,
-    effect: Effect,
-) -> Result<Effect, RuleError>
-    ensures { Gives result
-        (with_value scope.now (context_of context.now) (expression_of value.now)
-        (sending scope.now port) effect) }
-{
-    let value = value_of(value, &effect.state, context, scope)?;
-    send(port, value, scope, effect)
-}
-
-// An `add`: first the value, and then the bag.
-fn run_add(
-    bag: u32,
-    value: &Expr,
-    context: &Context,
-    scope: &Scope,
-    effect: Effect,
-) -> Result<Effect, RuleError>
-    ensures { Gives result
-        (with_value scope.now (context_of context.now) (expression_of value.now)
-        (λ v. addition scope.now bag (number_of v)) effect) }
-{
-    let value = value_of(value, &effect.state, context, scope)?;
-    add(bag, number_of(value), scope, effect)
-}
-
-// A `drop`: first the value, and then the bag.
-fn run_drop(
-    bag: u32,
-    value: &Expr,
-    context: &Context,
-    scope: &Scope,
-    effect: Effect,
-) -> Result<Effect, RuleError>
-    ensures { Gives result
-        (with_value scope.now (context_of context.now) (expression_of value.now)
-        (λ v e. Ok (removal scope.now bag (number_of v) e)) effect) }
-{
-    let value = value_of(value, &effect.state, context, scope)?;
-    Ok(drop_one(bag, number_of(value), scope, effect))
+    match step {
+        Step::Assign(variable) => Ok(assign(variable, value, scope, effect)?),
+        Step::Send(port) => send(port, value, scope, effect),
+        Step::Add(bag) => add(bag, number_of(value), scope, effect),
+        Step::Drop(bag) => Ok(drop_one(bag, number_of(value), scope, effect)),
+    }
 }
 
 // A value assigned to a variable or a flag.
-fn assign(name: u32, value: Value, scope: &Scope, effect: Effect) -> Result<Effect, RuleError>
-    ensures { Gives result (assignment scope.now name value effect) }
+fn assign(name: u32, value: Value, scope: &Scope, effect: Effect) -> Result<Effect, Fault>
+    ensures { result ≡ assignment scope.now name value effect }
 {
     let Some(place) = scope.variable(name) else {
         return Ok(effect);
@@ -286,12 +256,10 @@ fn assign_number(
     place: usize,
     number: i64,
     mut effect: Effect,
-) -> Result<Effect, RuleError>
-    ensures { Gives result (assignment_in_range range place number effect) }
+) -> Result<Effect, Fault>
+    ensures { result ≡ assignment_in_range range place number effect }
 {
-    if number < range.low || range.high < number {
-        return Err(RuleError::Fault(Fault::Range));
-    }
+    test_range(number, range.low, range.high)?;
     if place < effect.state.variables.len() {
         effect.state.variables.set_number(place, number);
     }
@@ -320,9 +288,7 @@ fn with_goto(phase: Option<u32>, mut effect: Effect) -> Effect
 fn send(name: u32, value: Value, scope: &Scope, mut effect: Effect) -> Result<Effect, RuleError>
     ensures { Gives result (sending scope.now name value effect) }
 {
-    if effect.sent.total() >= GREATEST_COUNT {
-        return Err(RuleError::Fault(Fault::Flood));
-    }
+    test_flood(effect.sent.total())?;
     let Some(port) = scope.output(name) else {
         return Ok(effect);
     };
@@ -358,9 +324,7 @@ fn add_within(
     let Some(DatumView::Bag(bag)) = effect.state.variables.get(place) else {
         return Ok(effect);
     };
-    if capacity <= bag.size() || GREATEST_COUNT <= bag.size() {
-        return Err(RuleError::Fault(Fault::Full));
-    }
+    test_room(bag, capacity)?;
     effect.state.variables.insert(place, number)?;
     Ok(effect)
 }

@@ -9,7 +9,7 @@ use Rattle.dv_syntax.specs.Trees.{ModelTree, CoupledTree, FileTree}
 use Rattle.dv_syntax.specs.declared.tree.Name.{Name}
 use Rattle.dv_bag.specs.Bag.{Counts, bag_at, capped}
 use Rattle.dv_check.specs.Tree.{tree_of}
-use Rattle.dv_check.specs.declared.limits.TheConstants.{GREATEST_DEPTH}
+use Rattle.dv_check.specs.Limits.{greatest_depth}
 use Rattle.dv_check.specs.Names.{numbers_of}
 use Rattle.dv_tree.specs.Couplings.{couplings_of_inputs, couplings_of_parts}
 use Rattle.dv_tree.specs.Instances.{Instance, inputs_in, instances, instances_in, outputs_in, root_inputs, root_of, tree_in}
@@ -80,13 +80,13 @@ root_arrivals models (Some m) =
     let input = replicate n one_value in
     let leaves = leaving models t sent in
     let into = to_parts models m input leaves in
-    let fits = covers_to GREATEST_DEPTH models m in
+    let fits = covers_to greatest_depth models m in
     let count = length-map m.inputs (λ (x : Name). x.number) in
     let short : length input ≤ length m.inputs = omega (arith, count, length-replicate n one_value) in
     let all =
     level_arrives models m parts leaves input (arrivals (instances_in [] t) (arriving models t into sent))
     (leaving_counts models t []) fits short
-    (tree_arrives models [] into (fits_to GREATEST_DEPTH models m) (covers_into models m (inputs_of parts) leaves input fits)) in
+    (tree_arrives models [] into (fits_to greatest_depth models m) (covers_into models m (inputs_of parts) leaves input fits)) in
     let ones = ap (λ xs. product xs w.inputs) (counts_replicated n one_value) in
     let within = length-input_ways (length m.inputs) parts (couplings_of_inputs models m) in
     let summed = product_ones n w.inputs (omega (arith, within, count)) in
@@ -130,19 +130,19 @@ links_are_ways f =
 
 -- the root's ways by tables
 ways_by_table : (models : List ModelTree) (root : Option CoupledTree) (l : LevelTable) → Some l ≡ option_map (level_of models) root →
-    coupled_ways (length (numbers_of (inputs_in root))) l (part_ways (ways_below GREATEST_DEPTH models) l.parts) ≡ root_ways models root
+    coupled_ways (length (numbers_of (inputs_in root))) l (part_ways (ways_below greatest_depth models) l.parts) ≡ root_ways models root
 ways_by_table models None l e = absurd (cc)
 ways_by_table models (Some m) l e =
     let same : l ≡ level_of models m = cc in
-    let below = ways_below GREATEST_DEPTH models in
+    let below = ways_below greatest_depth models in
     ap (λ x. coupled_ways (length (numbers_of m.inputs)) x (part_ways below x.parts)) same
     ∙ (ap (λ n. coupled_ways n (level_of models m) (part_ways below (level_of models m).parts))
     (length-map m.inputs (λ (x : Name). x.number))
-    ∙ levels_counted GREATEST_DEPTH models m)
+    ∙ levels_counted greatest_depth models m)
 
 -- a text has as many links as its root has ways, as far as they are kept
 pub counted_by_ways : (f : FileTree) (l : LevelTable) (inputs : ℕ) (below : List WayCounts) (total : ℕ) → Some l ≡ root_table f →
-    inputs ≡ length (root_inputs f) → below ≡ ways_below GREATEST_DEPTH f.models →
+    inputs ≡ length (root_inputs f) → below ≡ ways_below greatest_depth f.models →
     total ≡ capped (all_ways (coupled_ways inputs l (part_ways below l.parts))) → total ≡ capped (link_count f)
 counted_by_ways f l inputs below total root_is inputs_are below_is total_is =
     let ways : coupled_ways inputs l (part_ways below l.parts) ≡ root_ways f.models (root_of f) =

@@ -8,7 +8,10 @@ use Rattle.dv_lex.specs.declared.error.LoadError.{LoadError}
 use Rattle.dv_lex.specs.declared.error.LoadError.TheVariants.{Refused, Memory}
 use Rattle.dv_check.specs.Refusals.{refusal_of}
 use Rattle.dv_flat.specs.Links.{copies_of, direct_links, entry_links, exit_links}
-use Rattle.dv_flat.specs.declared.TheConstants.{GREATEST_LINKS}
+
+-- the most links of a file; the constant of the code is this number
+abbrev pub greatest_links : ℕ
+greatest_links = 65536
 
 -- how many links a file has, each counted as often as it has copies
 abbrev pub link_count : FileTree → ℕ
@@ -16,7 +19,7 @@ link_count f = copies_of (direct_links f) + (copies_of (entry_links f) + copies_
 
 -- the refusal for too many links names the root
 abbrev pub link_refusal : FileTree → Option Refusal
-link_refusal f = if nat_lt GREATEST_LINKS (link_count f) then Some (record { number = E17; place = f.root.place }) else None
+link_refusal f = if nat_lt greatest_links (link_count f) then Some (record { number = E17; place = f.root.place }) else None
 
 -- the refusal of a file: a rule that it breaks or a limit on its tree that it passes, else the limit on links
 abbrev pub file_refusal : FileTree → Option Refusal

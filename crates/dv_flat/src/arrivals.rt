@@ -6,12 +6,12 @@ ghost use Rattle.dv_syntax.specs.Trees.{file_of};
 ghost use Rattle.dv_bag.specs.Bag.{bag_at};
 ghost use Rattle.dv_flat.specs.Probes.{IsOutput, arrival_lists, departure_lists, with_arrival, with_arrivals, with_input, with_output};
 ghost use Rattle.dv_flat.specs.declared.link.ComponentPort as component_port;
+ghost use Rattle.dv_check.specs.Limits.{greatest_names};
 
 use crate::link::ComponentPort;
 use crate::ports::input_ports;
 use crate::probes::route_probes;
 use dv_bag::{Bag, Bags};
-use dv_check::GREATEST_NAMES;
 use dv_tree::Tree;
 use std::alloc::{AllocError, Global};
 
@@ -42,7 +42,7 @@ impl Reached {
         sources: &[ComponentPort],
     ) -> Result<Self, AllocError>
         requires outputs { All (IsOutput (file_of tree.now.file)) sources.now }
-        requires few { length sources.now + GREATEST_NAMES < 2 ^ 63 }
+        requires few { length sources.now + greatest_names < 2 ^ 63 }
         ensures inputs { IfOk result (λ reached. map (λ list. list.items) reached.inputs.items
             ≡ arrival_lists (file_of tree.now.file) sources.now) }
         ensures outputs { IfOk result (λ reached. map (λ list. list.items) reached.outputs.items
@@ -84,7 +84,7 @@ fn arrivals_at_outputs(
     probes: usize,
     leaving: &Bags,
 ) -> Result<Vec<Vec<Arrival<u32>>>, AllocError>
-    requires { length leaving.now ≤ GREATEST_NAMES }
+    requires { length leaving.now ≤ greatest_names }
     ensures { IfOk result (λ lists. map (λ list. list.items) lists.items
         ≡ fold (with_output leaving.now) (replicate probes [])
         (range_with_len 0 (length leaving.now))) }

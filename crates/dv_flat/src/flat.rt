@@ -1,11 +1,11 @@
-//! The paths and the links of a checked text, without its tree.
+//! The links of a checked text, without its tree.
 
-ghost use Rattle.std.specs.Prelude.{◌≡◌, ◌+◌, None, map, string_bytes, IfOk};
+ghost use Rattle.std.specs.Prelude.{◌≡◌, ◌+◌, None, IfOk};
 ghost use Rattle.std.specs.List.{All, flat_map};
 ghost use Rattle.dv_syntax.specs.Trees.{file_of};
 ghost use Rattle.dv_bag.specs.Bag.{capped};
 ghost use Rattle.dv_flat.specs.Limit.{link_count, link_refusal};
-ghost use Rattle.dv_flat.specs.Links.{copies_of, direct_links, entry_links, exit_links, paths_of};
+ghost use Rattle.dv_flat.specs.Links.{copies_of, direct_links, entry_links, exit_links};
 ghost use Rattle.dv_flat.specs.Probes.{IsOutput, direct_from, exit_from};
 
 use crate::arrivals::Reached;
@@ -13,18 +13,10 @@ use crate::limit::{Ways, capped_count, ways_below};
 use crate::link::{ComponentPort, DirectLink, EntryLink, ExitLink};
 use crate::links::{copies_of, links_of};
 use crate::live::live_outputs;
-use crate::paths::paths_of;
 use crate::ports::{chosen, output_ports, root_inputs};
 use dv_check::GREATEST_DEPTH;
 use dv_tree::Tree;
 use std::alloc::{AllocError, Global};
-
-/// What is left of a text's tree: the path of each component, by its number, and the links.
-#[derive(Drop)]
-pub struct Flat {
-    pub paths: Vec<String>,
-    pub links: LinkLists,
-}
 
 /// Which output reaches which input, each pair of ends once, and how many copies of each value go there. Each list is in
 /// the order of the first ends, and for one of them in that of the second.
@@ -38,27 +30,22 @@ pub struct LinkLists {
     pub exits: Vec<ExitLink>,
 }
 
-/// The paths and the links of a checked text that has no more than `GREATEST_LINKS` links.
+/// The links of a checked text that has no more than `GREATEST_LINKS` of them.
 ///
 /// # Errors
 ///
-/// No memory for the paths and the links.
-pub fn flatten(alloc: Global, tree: &Tree) -> Result<Flat, AllocError>
+/// No memory for the links.
+pub fn flatten(alloc: Global, tree: &Tree) -> Result<LinkLists, AllocError>
     requires few { link_refusal (file_of tree.now.file) ≡ None }
-    ensures paths { IfOk result (λ flat. map string_bytes flat.paths.items
-        ≡ paths_of tree.now.names (file_of tree.now.file)) }
-    ensures direct { IfOk result (λ flat.
-        flat.links.direct.items ≡ direct_links (file_of tree.now.file)) }
-    ensures entries { IfOk result (λ flat.
-        flat.links.entries.items ≡ entry_links (file_of tree.now.file)) }
-    ensures exits { IfOk result (λ flat.
-        flat.links.exits.items ≡ exit_links (file_of tree.now.file)) }
+    ensures direct { IfOk result (λ links.
+        links.direct.items ≡ direct_links (file_of tree.now.file)) }
+    ensures entries { IfOk result (λ links.
+        links.entries.items ≡ entry_links (file_of tree.now.file)) }
+    ensures exits { IfOk result (λ links. links.exits.items ≡ exit_links (file_of tree.now.file)) }
 {
     let below = ways_below(alloc, GREATEST_DEPTH, tree)?;
     let count = capped_count(alloc, tree, &below)?;
-    let links = counted_links(alloc, tree, &below, count)?;
-    let paths = paths_of(alloc, tree)?;
-    Ok(Flat { paths, links })
+    counted_links(alloc, tree, &below, count)
 }
 
 // All links, which are so many, each counted as often as it has copies. Those outputs send that seem to lead on: where

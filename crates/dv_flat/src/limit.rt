@@ -6,6 +6,7 @@ ghost use Rattle.dv_syntax.specs.Trees.{file_of, model_of};
 ghost use Rattle.dv_bag.specs.Bag.{capped};
 ghost use Rattle.dv_flat.specs.Limit.{IsLinkAnswer, link_count, link_refusal};
 ghost use Rattle.dv_flat.specs.Ways.{all_ways, at_port, component_ways, coupled_ways, inside_ways, input_ways, joined_ways, more_at, more_out, no_ways, output_ways, own_inputs, part_ways, ways_below, ways_by, ways_from, ways_over, with_output};
+ghost use Rattle.dv_check.specs.Limits.{greatest_depth};
 
 use crate::GREATEST_LINKS;
 use dv_check::GREATEST_DEPTH;
@@ -306,7 +307,7 @@ pub fn count_links(alloc: Global, tree: &Tree) -> Result<u64, LoadError>
 ///
 /// No memory for the numbers of ways.
 pub(crate) fn capped_count(alloc: Global, tree: &Tree, below: &[Ways]) -> Result<u64, AllocError>
-    requires { below.now ≡ ways_below GREATEST_DEPTH (file_of tree.now.file).models }
+    requires { below.now ≡ ways_below greatest_depth (file_of tree.now.file).models }
     ensures { IfOk result (λ count. count ≡ capped (link_count (file_of tree.now.file))) }
 {
     let Some(root) = tree.root_level() else {

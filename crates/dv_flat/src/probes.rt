@@ -7,10 +7,10 @@ ghost use Rattle.std.specs.List.{All};
 ghost use Rattle.dv_syntax.specs.Trees.{file_of};
 ghost use Rattle.dv_tree.specs.Instances.{instances};
 ghost use Rattle.dv_flat.specs.Probes.{IsOutput, arrived_probes, left_probes, probes_from, sent_probes, silence};
+ghost use Rattle.dv_check.specs.Limits.{greatest_names};
 
 use crate::link::ComponentPort;
 use dv_bag::{Bags, Sent};
-use dv_check::GREATEST_NAMES;
 use dv_tree::{Routed, Tree};
 use std::alloc::{AllocError, Global};
 
@@ -25,12 +25,12 @@ pub(crate) fn route_probes(
     sources: &[ComponentPort],
 ) -> Result<Routed, AllocError>
     requires outputs { All (IsOutput (file_of tree.now.file)) sources.now }
-    requires few { length sources.now + GREATEST_NAMES < 2 ^ 63 }
+    requires few { length sources.now + greatest_names < 2 ^ 63 }
     ensures received { IfOk result (λ routed.
         routed.received.items ≡ arrived_probes (file_of tree.now.file) sources.now) }
     ensures leaving { IfOk result (λ routed.
         routed.leaving ≡ left_probes (file_of tree.now.file) sources.now) }
-    ensures at_most { IfOk result (λ routed. length routed.leaving ≤ GREATEST_NAMES) }
+    ensures at_most { IfOk result (λ routed. length routed.leaving ≤ greatest_names) }
 {
     let sent = sent_probes(alloc, tree, sources)?;
     let input = come_probes(alloc, sources.len(), tree.input_count())?;

@@ -7,7 +7,7 @@ use Rattle.dv_syntax.specs.Grammar.{IsItem, IsModel, loop_depth, the_limits}
 use Rattle.dv_syntax.specs.Trees.{FileTree, ModelTree, RuleTree}
 use Rattle.dv_syntax.specs.Written.{AtomicItem, Declares, Lists, Starts, Holds, Rules, WrittenModel, WrittenAtomic}
 use Rattle.dv_syntax.specs.Written.{WrittenCoupled, sorted_items, sorted_model}
-use Rattle.dv_code.specs.declared.TheConstants.{DEEPEST_LOOPS}
+use Rattle.dv_code.specs.Limits.{deepest_loops}
 use Rattle.dv_check.specs.CheckedFiles.{IsCheckedModel}
 use Rattle.dv_check.specs.Refusals.{AreOfOneText, refusal_of}
 use Rattle.dv_check.proofs.CheckedFiles.{file_accepted}
@@ -15,7 +15,7 @@ use Rattle.dv_gen.specs.ModelCode.{IsCompilableModel}
 
 -- a rule whose loops are not too deep
 abbrev IsShallow : RuleTree → Type 0
-IsShallow r = loop_depth r.body ≤ DEEPEST_LOOPS
+IsShallow r = loop_depth r.body ≤ deepest_loops
 
 shallow_items : (name : Name) (items : List AtomicItem) → AllByRecursion (IsItem the_limits) items
     → AllByRecursion IsShallow (sorted_items name items).rules

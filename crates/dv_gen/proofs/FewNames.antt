@@ -12,7 +12,7 @@ use Rattle.dv_syntax.specs.declared.tree.RuleSort.TheVariants as rule
 use Rattle.dv_eval.specs.declared.scope.Domain.{Domain}
 use Rattle.dv_eval.specs.Scope.{Scope, inputs_in, is_declared, names_of, outputs_in, phases_in, place_from, place_of, scope_of}
 use Rattle.dv_eval.specs.Scope.{state_variables_in, with_name, with_names, with_variable, with_variables}
-use Rattle.dv_check.specs.declared.limits.TheConstants.{GREATEST_NAMES}
+use Rattle.dv_check.specs.Limits.{greatest_names}
 use Rattle.dv_check.specs.Names.{excess, excess_of, excess_past, repeats}
 use Rattle.dv_check.specs.Rules.{atomic_refusals, name_of_declaration, name_of_state_variable, names_refusals, ports_in, ruled_phases}
 use Rattle.dv_check.proofs.CheckedFiles.{both_nil}
@@ -37,12 +37,12 @@ pub place_of-within : (name : ℕ) (names : List ℕ) (place : ℕ) → place_of
 place_of-within name names place e = let within = place_from-within 0 name names place e in omega arith
 
 -- a place among few names has 16 bits
-small_if : (found : Option ℕ) (n : ℕ) → ((place : ℕ) → found ≡ Some place → place < n) → n ≤ GREATEST_NAMES
+small_if : (found : Option ℕ) (n : ℕ) → ((place : ℕ) → found ≡ Some place → place < n) → n ≤ greatest_names
     → IfSome found (λ place. place < 2 ^ 16)
 small_if None n within few = tt
 small_if (Some place) n within few = let h = within place refl in omega arith
 
-pub place_of-small : (found : Option ℕ) (name : ℕ) (names : List ℕ) → found ≡ place_of name names → length names ≤ GREATEST_NAMES
+pub place_of-small : (found : Option ℕ) (name : ℕ) (names : List ℕ) → found ≡ place_of name names → length names ≤ greatest_names
     → IfSome found (λ place. place < 2 ^ 16)
 place_of-small found name names is few = small_if found (length names) (λ place h. place_of-within name names place (sym is ∙ h)) few
 
@@ -64,9 +64,9 @@ excess_of-none None e = refl
 excess_of-none (Some n) e = absurd (cc)
 
 -- a kind of which no name is refused as one too many
-none_too_many : (names : List Name) → excess names ≡ [] → length names ≤ GREATEST_NAMES
+none_too_many : (names : List Name) → excess names ≡ [] → length names ≤ greatest_names
 unfolding excess_past
-none_too_many names e = none_past names GREATEST_NAMES (excess_of-none (slice_get names GREATEST_NAMES) e)
+none_too_many names e = none_past names greatest_names (excess_of-none (slice_get names greatest_names) e)
 
 longer_if : {A : Type 0} (b : Bool) (names : List A) (n : A) → length (if b then names else names ++ n ∷ []) ≤ length names + 1
 longer_if true names n = omega arith

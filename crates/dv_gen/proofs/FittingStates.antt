@@ -10,7 +10,7 @@ use Rattle.dv_syntax.specs.declared.tree.Name.{Name}
 use Rattle.dv_syntax.specs.declared.tree.Declaration.{Declaration}
 use Rattle.dv_syntax.specs.declared.tree.Declaration.TheVariants.{In, Out, Var, Flag, Bag}
 use Rattle.dv_bag.specs.Bag.{total, Counts}
-use Rattle.dv_bag.specs.declared.TheConstants.{GREATEST_COUNT}
+use Rattle.dv_bag.specs.Limits.{greatest_count}
 use Rattle.dv_bag.specs.declared.state.Datum.{Datum}
 use Rattle.dv_bag.specs.declared.state.Datum.TheVariants as datum
 use Rattle.dv_bag.specs.declared.state.State.{State}
@@ -40,7 +40,7 @@ datum_fits_slot (domain.Flag start) (datum.Bag b) fit = absurd (cc)
 datum_fits_slot (domain.Bag capacity) (datum.Number n) fit = absurd (cc)
 datum_fits_slot (domain.Bag capacity) (datum.Flag b) fit = absurd (cc)
 datum_fits_slot (domain.Bag capacity) (datum.Bag b) fit =
-    leb-true (total b) capacity (both_true (nat_le (total b) capacity) (nat_le capacity GREATEST_COUNT) fit).0
+    leb-true (total b) capacity (both_true (nat_le (total b) capacity) (nat_le capacity greatest_count) fit).0
 
 data_fit_slots : (variables : List (ℕ × Domain)) (xs : List Datum) → data_fit variables xs ≡ true
     → Fits (map (λ v. slot_of v.1) variables) xs
@@ -104,7 +104,7 @@ module _ (scope : Scope) (s : State) (fit : fits_in scope s ≡ true) (q : ℕ) 
 abbrev HasCapacity : Domain → Type 0
 HasCapacity (domain.Number range) = Unit {0}
 HasCapacity (domain.Flag start) = Unit {0}
-HasCapacity (domain.Bag capacity) = (0 < capacity) × (capacity ≤ GREATEST_COUNT)
+HasCapacity (domain.Bag capacity) = (0 < capacity) × (capacity ≤ greatest_count)
 
 abbrev HaveCapacities : List (ℕ × Domain) → Type 0
 HaveCapacities [] = Unit {0}
@@ -125,11 +125,11 @@ have_capacities_with : (variables : List (ℕ × Domain)) (v : Name × Domain) �
 have_capacities_with variables v have has =
     have_capacities_if (is_declared v.0.number (names_of variables)) variables (v.0.number, v.1) have has
 
-capacity_within : (capacity : ℕ) → is_capacity capacity ≡ true → (0 < capacity) × (capacity ≤ GREATEST_COUNT)
+capacity_within : (capacity : ℕ) → is_capacity capacity ≡ true → (0 < capacity) × (capacity ≤ greatest_count)
 capacity_within capacity is =
-    let both = both_true (nat_le 1 capacity) (nat_le capacity GREATEST_COUNT) is in
+    let both = both_true (nat_le 1 capacity) (nat_le capacity greatest_count) is in
     let least = leb-true 1 capacity both.0 in
-    (omega arith, leb-true capacity GREATEST_COUNT both.1)
+    (omega arith, leb-true capacity greatest_count both.1)
 
 declarations_have_capacities : (ds : List Declaration) (variables : List (ℕ × Domain)) → flat_map declaration_refusals ds ≡ []
     → HaveCapacities variables → HaveCapacities (with_variables variables (state_variables_in ds))
@@ -147,7 +147,7 @@ declarations_have_capacities (Bag b ∷ ds) variables none have =
     declarations_have_capacities ds _ both.1 (have_capacities_with variables (b.name, domain.Bag b.capacity.value) have within)
 
 capacity_of_slot : (d : Domain) (capacity : ℕ) → HasCapacity d → Some (slot_of d) ≡ Some (Holding capacity)
-    → (0 < capacity) × (capacity ≤ GREATEST_COUNT)
+    → (0 < capacity) × (capacity ≤ greatest_count)
 capacity_of_slot (domain.Number range) capacity has is = absurd (cc)
 capacity_of_slot (domain.Flag start) capacity has is = absurd (cc)
 capacity_of_slot (domain.Bag declared) capacity has is =

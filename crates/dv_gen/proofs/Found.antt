@@ -9,7 +9,7 @@ use Rattle.dv_syntax.specs.Grammar.{loop_depth}
 use Rattle.dv_syntax.specs.declared.tree.RuleSort.{RuleSort}
 use Rattle.dv_syntax.specs.declared.tree.RuleSort.TheVariants.{Output, Internal, External, Confluent}
 use Rattle.dv_bag.specs.declared.value.ValueType.TheVariants.{Number}
-use Rattle.dv_code.specs.declared.TheConstants.{DEEPEST_LOOPS}
+use Rattle.dv_code.specs.Limits.{deepest_loops}
 use Rattle.dv_eval.specs.Scope.{hold_ticks, rule_of, same_sort, scope_of}
 use Rattle.dv_gen.specs.Emission.{IsHoldTicks, IsRuleBody}
 use Rattle.dv_gen.specs.Resolution.{hold_shape, hold_tree, rule_shape, rule_tree}
@@ -72,7 +72,7 @@ if_some P Q (Some x) f h = f x h
 
 module _ (m : AtomicTree) where
   pub found_bodies : All (λ (r : RuleTree). AreTyped (rule_shape (scope_of m) r.sort) (loop_depth r.body) 0 (rule_tree m r.body)) m.rules
-      → All (λ (r : RuleTree). loop_depth r.body ≤ DEEPEST_LOOPS) m.rules
+      → All (λ (r : RuleTree). loop_depth r.body ≤ deepest_loops) m.rules
       → (sort : RuleSort) (phase : ℕ) → IfSome (rule_of sort phase m.rules) (IsRuleBody (scope_of m) sort)
   found_bodies typed shallow sort phase =
       rule_of-All (λ s body. IsRuleBody (scope_of m) s body) sort phase m.rules

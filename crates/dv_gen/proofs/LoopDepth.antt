@@ -3,7 +3,7 @@ use Rattle.std.proofs.Common.{◌≡◌, ℕ, zero, suc, ◌+◌, ◌<◌, ◌�
 use Rattle.dv_syntax.specs.declared.tree.Stmt.{Stmt}
 use Rattle.dv_syntax.specs.declared.tree.Stmt as stmt
 use Rattle.dv_syntax.specs.Grammar.{loop_depth}
-use Rattle.dv_code.specs.declared.TheConstants.{DEEPEST_LOOPS}
+use Rattle.dv_code.specs.Limits.{deepest_loops}
 use Rattle.dv_syntax.specs.declared.tree.Name.{Name}
 use Rattle.dv_syntax.specs.Trees.{Expression, Statements, Done, If, IfElse, For, statement_before, statements_of}
 
@@ -29,16 +29,16 @@ loop_depth-at (s ∷ statements) (suc i) d within =
 
 -- ---- The blocks of a statement, below some loops
 
-module _ (outer : ℕ) (s : Statements) (place : ℕ) (e : Expression) (shallow : outer + loop_depth s ≤ DEEPEST_LOOPS) where
-  pub block_shallow : (block : Statements) → s ≡ If place e block Done → outer + loop_depth block ≤ DEEPEST_LOOPS
+module _ (outer : ℕ) (s : Statements) (place : ℕ) (e : Expression) (shallow : outer + loop_depth s ≤ deepest_loops) where
+  pub block_shallow : (block : Statements) → s ≡ If place e block Done → outer + loop_depth block ≤ deepest_loops
   block_shallow block tree = let depth = ap loop_depth tree in omega arith
 
-  pub first_shallow : (block other : Statements) → s ≡ IfElse place e block other Done → outer + loop_depth block ≤ DEEPEST_LOOPS
+  pub first_shallow : (block other : Statements) → s ≡ IfElse place e block other Done → outer + loop_depth block ≤ deepest_loops
   first_shallow block other tree = let depth = ap loop_depth tree in omega arith
 
-  pub other_shallow : (block other : Statements) → s ≡ IfElse place e block other Done → outer + loop_depth other ≤ DEEPEST_LOOPS
+  pub other_shallow : (block other : Statements) → s ≡ IfElse place e block other Done → outer + loop_depth other ≤ deepest_loops
   other_shallow block other tree = let depth = ap loop_depth tree in omega arith
 
-pub loop_shallow : (outer : ℕ) (s : Statements) (place : ℕ) (v b : Name) (block : Statements) → outer + loop_depth s ≤ DEEPEST_LOOPS
-    → s ≡ For place v b block Done → suc outer + loop_depth block ≤ DEEPEST_LOOPS
+pub loop_shallow : (outer : ℕ) (s : Statements) (place : ℕ) (v b : Name) (block : Statements) → outer + loop_depth s ≤ deepest_loops
+    → s ≡ For place v b block Done → suc outer + loop_depth block ≤ deepest_loops
 loop_shallow outer s place v b block shallow tree = let depth = ap loop_depth tree in omega arith

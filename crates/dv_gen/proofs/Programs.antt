@@ -5,7 +5,7 @@ use Rattle.dv_syntax.specs.Trees.{Expression as NamedExpression, Statements as N
 use Rattle.dv_syntax.specs.declared.tree.RuleSort.{RuleSort}
 use Rattle.dv_syntax.specs.declared.tree.RuleSort.TheVariants as rule
 use Rattle.dv_bag.specs.declared.value.ValueType.{ValueType}
-use Rattle.dv_code.specs.declared.TheConstants.{DEEPEST_LOOPS}
+use Rattle.dv_code.specs.Limits.{deepest_loops}
 use Rattle.dv_code.specs.declared.instruction.Instruction.{Instruction}
 use Rattle.dv_code.specs.declared.instruction.Instruction.TheVariants.{End}
 use Rattle.dv_code.specs.Shape.{AreSmall, Shape, Tables, left_by, shape_of}
@@ -42,9 +42,9 @@ pub rule_is_safe : ((shape : Shape) (depth : ℕ) (body : Statements) → AreTyp
 rule_is_safe valid scope sort body is small =
     let shape = rule_shape scope sort in
     let code = program_of (all_resolved scope [] body) in
-    let whole = deeper shape [] (loop_depth body) DEEPEST_LOOPS code is.shallow
+    let whole = deeper shape [] (loop_depth body) deepest_loops code is.shallow
     (valid shape (loop_depth body) (all_resolved scope [] body) is.typed) in
-    (subst (λ left. IsValid shape left DEEPEST_LOOPS code) (sym (rule_leaves sort)) whole, small)
+    (subst (λ left. IsValid shape left deepest_loops code) (sym (rule_leaves sort)) whole, small)
 
 pub hold_is_safe : ((shape : Shape) (e : Expression) → IsTyped shape 0 e → IsValid shape (type_of e ∷ []) 0 (hold_program_of e))
     → (scope : Scope) (e : NamedExpression) → IsHoldTicks scope e → AreSmall (tables_of scope).slots
@@ -53,8 +53,8 @@ hold_is_safe valid scope e is small =
     let shape = hold_shape scope in
     let tree = resolved scope [] e in
     let code = hold_program_of tree in
-    let whole = deeper shape (type_of tree ∷ []) 0 DEEPEST_LOOPS code (omega arith) (valid shape tree is.typed) in
-    (subst (λ t. IsValid shape (t ∷ []) DEEPEST_LOOPS code) is.number whole, small)
+    let whole = deeper shape (type_of tree ∷ []) 0 deepest_loops code (omega arith) (valid shape tree is.typed) in
+    (subst (λ t. IsValid shape (t ∷ []) deepest_loops code) is.number whole, small)
 
 -- a safe program that is short
 short_program : (p : Program) → IsSafe p → length p.code < 2 ^ 32 → IsProgram p

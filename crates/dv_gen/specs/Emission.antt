@@ -6,13 +6,13 @@ use Rattle.dv_syntax.specs.declared.tree.Prefix.{Prefix}
 use Rattle.dv_syntax.specs.declared.tree.Prefix.TheVariants as prefix
 use Rattle.dv_syntax.specs.declared.tree.RuleSort.{RuleSort}
 use Rattle.dv_bag.specs.declared.value.ValueType.TheVariants.{Number}
-use Rattle.dv_code.specs.declared.TheConstants.{DEEPEST_LOOPS}
+use Rattle.dv_code.specs.Limits.{deepest_loops}
 use Rattle.dv_code.specs.Valid.{Program}
 use Rattle.dv_code.specs.declared.instruction.Unary.{Unary}
 use Rattle.dv_code.specs.declared.instruction.Unary.TheVariants as unary
 use Rattle.dv_code.specs.declared.instruction.Instruction.{Instruction}
 use Rattle.dv_code.specs.declared.instruction.Instruction.TheVariants.{Jump}
-use Rattle.dv_check.specs.declared.limits.TheConstants.{GREATEST_NAMES}
+use Rattle.dv_check.specs.Limits.{greatest_names}
 use Rattle.dv_eval.specs.Scope.{Scope}
 use Rattle.dv_gen.specs.Resolved.{Expression, Infix, And, Or, Statements, AreTyped, IsTyped, type_of}
 use Rattle.dv_gen.specs.Resolution.{all_resolved, hold_shape, resolved, rule_shape}
@@ -52,10 +52,10 @@ junction (joint.Operation o) a b = Infix o a b
 
 -- no kind of its names is more than there may be
 pub record HasFewNames (scope : Scope) : Type 0 where
-  pub variables : length scope.variables ≤ GREATEST_NAMES
-  pub phases : length scope.phases ≤ GREATEST_NAMES
-  pub inputs : length scope.inputs ≤ GREATEST_NAMES
-  pub outputs : length scope.outputs ≤ GREATEST_NAMES
+  pub variables : length scope.variables ≤ greatest_names
+  pub phases : length scope.phases ≤ greatest_names
+  pub inputs : length scope.inputs ≤ greatest_names
+  pub outputs : length scope.outputs ≤ greatest_names
 
 -- what a rule's program, and a hold's, is for statements and for an expression in a scope
 abbrev pub rule_code : Scope → RuleSort → NamedStatements → Program
@@ -66,7 +66,7 @@ hold_code scope e = record { shape = hold_shape scope; code = hold_program_of (r
 
 -- statements that a rule of a sort may have: well typed, and with loops that are not too deep
 pub record IsRuleBody (scope : Scope) (sort : RuleSort) (body : NamedStatements) : Type 0 where
-  pub shallow : loop_depth body ≤ DEEPEST_LOOPS
+  pub shallow : loop_depth body ≤ deepest_loops
   pub typed : AreTyped (rule_shape scope sort) (loop_depth body) 0 (all_resolved scope [] body)
 
 -- an expression that a hold may have: a well typed number

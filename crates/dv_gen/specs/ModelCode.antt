@@ -8,7 +8,7 @@ use Rattle.dv_syntax.specs.declared.tree.RuleSort.TheVariants.{Output, Internal,
 use Rattle.dv_eval.specs.Scope.{hold_ticks, rule_body, rule_of, scope_of}
 use Rattle.dv_check.specs.Rules.{atomic_refusals}
 use Rattle.dv_code.specs.Valid.{Program}
-use Rattle.dv_code.specs.declared.TheConstants.{DEEPEST_LOOPS}
+use Rattle.dv_code.specs.Limits.{deepest_loops}
 use Rattle.dv_gen.specs.Generator.{hold_program_of, program_of}
 use Rattle.dv_gen.specs.Resolution.{hold_shape, hold_tree, rule_shape, rule_tree}
 use Rattle.dv_gen.specs.declared.model_code.PhaseCode.{PhaseCode}
@@ -37,7 +37,7 @@ phase_codes m = map (phase_code m) (scope_of m).phases
 -- What a text within its limits says of each of its atomic models: it is accepted, and its loops are not too deep.
 pub record IsCompilable (m : AtomicTree) : Type 0 where
   pub accepted : atomic_refusals m ≡ []
-  pub shallow : All (λ (r : RuleTree). loop_depth r.body ≤ DEEPEST_LOOPS) m.rules
+  pub shallow : All (λ (r : RuleTree). loop_depth r.body ≤ deepest_loops) m.rules
 
 -- the same of a model: a coupled one has no programs of its own
 abbrev pub IsCompilableModel : ModelTree → Type 0

@@ -7,12 +7,13 @@ ghost use Rattle.dv_syntax.specs.Trees.{expression_of};
 ghost use Rattle.dv_gen.specs.Emission.{junction, loops_of, unary_of, with_expression};
 ghost use Rattle.dv_gen.specs.Resolution.{call_leaf, equal_of, infix_of, resolved, unequal_of};
 ghost use Rattle.dv_gen.specs.Resolved.{Expression, Prefix as Prefixed, Read, type_of};
+ghost use Rattle.dv_code.specs.Limits.{deepest_loops};
 
 use crate::draft::Draft;
 use crate::loops::Loops;
 use crate::names::Names;
 use dv_bag::ValueType;
-use dv_code::{Binary, DEEPEST_LOOPS, Instruction, Leaf, Source, Unary};
+use dv_code::{Binary, Instruction, Leaf, Source, Unary};
 use dv_syntax::{BagCall, Expr, Operator, Prefix};
 use std::alloc::AllocError;
 
@@ -39,7 +40,7 @@ pub fn emit_expression(
     loops: &Loops,
     draft: &mut Draft,
 ) -> Result<ValueType, AllocError>
-    requires { length (loops_of loops.now) ≤ DEEPEST_LOOPS }
+    requires { length (loops_of loops.now) ≤ deepest_loops }
     ensures code { OnOk result (draft.new ≡ with_expression draft.old
         (resolved names.now (loops_of loops.now) (expression_of expression.now))) }
     ensures value { IfOk result (λ type. type
@@ -86,7 +87,7 @@ fn emit_second(
     loops: &Loops,
     draft: &mut Draft,
 ) -> Result<ValueType, AllocError>
-    requires { length (loops_of loops.now) ≤ DEEPEST_LOOPS }
+    requires { length (loops_of loops.now) ≤ deepest_loops }
     ensures code { OnOk result ((before : List Instruction) (left : Expression)
         → draft.old ≡ with_expression before left
         → draft.new ≡ with_expression before (junction joint left

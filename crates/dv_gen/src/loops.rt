@@ -3,8 +3,7 @@
 ghost use Rattle.std.specs.Prelude.{◌≡◌, ◌≤◌, length};
 ghost use Rattle.dv_gen.specs.Emission.{loops_of};
 ghost use Rattle.dv_gen.specs.Resolution.{loop_of};
-
-use dv_code::DEEPEST_LOOPS;
+ghost use Rattle.dv_code.specs.Limits.{deepest_loops};
 
 /// The variables of the loops around a statement, the innermost first.
 #[derive(Clone, Copy)]
@@ -18,7 +17,7 @@ pub enum Loops<'a> {
 impl Loops<'_> {
     /// How many loops there are.
     pub fn depth(&self) -> u16
-        requires { length (loops_of self.now) ≤ DEEPEST_LOOPS }
+        requires { length (loops_of self.now) ≤ deepest_loops }
         ensures { result ≡ length (loops_of self.now) }
     {
         match self {
@@ -29,7 +28,7 @@ impl Loops<'_> {
 
     /// The number of the innermost loop of a variable, from the outermost on.
     pub fn number(&self, variable: u32) -> Option<u16>
-        requires { length (loops_of self.now) ≤ DEEPEST_LOOPS }
+        requires { length (loops_of self.now) ≤ deepest_loops }
         ensures { result ≡ loop_of variable (loops_of self.now) }
     {
         match self {

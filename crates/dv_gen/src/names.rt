@@ -5,9 +5,10 @@ ghost use Rattle.dv_eval.specs.Scope.{names_of, place_of};
 ghost use Rattle.dv_gen.specs.Emission.{HasFewNames, loops_of};
 ghost use Rattle.dv_gen.specs.Resolution.{assignment_at, assignment_in, domain_at, leaf_at, leaf_by, leaf_in, leaf_of};
 ghost use Rattle.dv_gen.specs.Resolution.{place_or_first, slot_place, source_of};
+ghost use Rattle.dv_code.specs.Limits.{deepest_loops};
 
 use crate::loops::Loops;
-use dv_code::{Action, DEEPEST_LOOPS, Leaf, Source};
+use dv_code::{Action, Leaf, Source};
 use dv_eval::{Domain, Scope};
 use std::marker::Model;
 
@@ -71,7 +72,7 @@ impl<'a> Names<'a> {
     /// What a name stands for in these loops: the innermost loop variable of that name, else a
     /// variable or a flag.
     pub fn leaf(&self, name: u32, loops: &Loops) -> Leaf
-        requires { length (loops_of loops.now) ≤ DEEPEST_LOOPS }
+        requires { length (loops_of loops.now) ≤ deepest_loops }
         ensures { result ≡ leaf_of self.now (loops_of loops.now) name }
     {
         match loops.number(name) {

@@ -6,12 +6,13 @@ ghost use Rattle.dv_syntax.specs.Trees.{Done, Statements as NamedStatements, exp
 ghost use Rattle.dv_gen.specs.Emission.{loops_of, with_branch, with_statements};
 ghost use Rattle.dv_gen.specs.Resolution.{all_resolved, resolved};
 ghost use Rattle.dv_gen.specs.Resolved.{Act, For, If as Choice, Statements, When};
+ghost use Rattle.dv_code.specs.Limits.{deepest_loops};
 
 use crate::draft::Draft;
 use crate::expression::emit_expression;
 use crate::loops::Loops;
 use crate::names::Names;
-use dv_code::{Action, DEEPEST_LOOPS, Instruction, Source};
+use dv_code::{Action, Instruction, Source};
 use dv_syntax::laws::trees_keep_blocks;
 use dv_syntax::{Expr, Stmt};
 use std::alloc::AllocError;
@@ -29,7 +30,7 @@ pub fn emit_statements(
     draft: &mut Draft,
 ) -> Result<(), AllocError>
     requires { length (loops_of loops.now) + loop_depth (statements_of statements.now)
-        ≤ DEEPEST_LOOPS }
+        ≤ deepest_loops }
     ensures { OnOk result (draft.new ≡ with_statements draft.old
         (all_resolved names.now (loops_of loops.now) (statements_of statements.now))) }
 {
@@ -47,7 +48,7 @@ fn emit_statement(
     draft: &mut Draft,
 ) -> Result<(), AllocError>
     requires { length (loops_of loops.now) + loop_depth (statement_before statement.now Done)
-        ≤ DEEPEST_LOOPS }
+        ≤ deepest_loops }
     ensures { OnOk result ((rest : NamedStatements)
         → with_statements draft.new (all_resolved names.now (loops_of loops.now) rest)
         ≡ with_statements draft.old (all_resolved names.now (loops_of loops.now)
@@ -133,7 +134,7 @@ fn emit_when(
     draft: &mut Draft,
 ) -> Result<(), AllocError>
     requires { length (loops_of loops.now) + loop_depth (statements_of block.now)
-        ≤ DEEPEST_LOOPS }
+        ≤ deepest_loops }
     ensures { OnOk result ((rest : Statements) → with_statements draft.new rest
         ≡ with_statements draft.old (When
         (resolved names.now (loops_of loops.now) (expression_of condition.now))
@@ -159,7 +160,7 @@ fn emit_first_block(
     draft: &mut Draft,
 ) -> Result<u32, AllocError>
     requires { length (loops_of loops.now) + loop_depth (statements_of block.now)
-        ≤ DEEPEST_LOOPS }
+        ≤ deepest_loops }
     ensures within { IfOk result (λ jump. jump < length draft.new) }
     ensures code { IfOk result (λ jump. (other rest : Statements)
         → with_statements (with_branch draft.new jump other) rest
@@ -187,7 +188,7 @@ fn emit_other_block(
     draft: &mut Draft,
 ) -> Result<(), AllocError>
     requires depth { length (loops_of loops.now) + loop_depth (statements_of block.now)
-        ≤ DEEPEST_LOOPS }
+        ≤ deepest_loops }
     requires within { jump < length draft.old }
     ensures { OnOk result (draft.new ≡ with_branch draft.old jump
         (all_resolved names.now (loops_of loops.now) (statements_of block.now))) }
@@ -207,7 +208,7 @@ fn emit_loop(
     draft: &mut Draft,
 ) -> Result<(), AllocError>
     requires { length (loops_of loops.now) + loop_depth (statements_of block.now)
-        ≤ DEEPEST_LOOPS }
+        ≤ deepest_loops }
     ensures { OnOk result ((rest : Statements) → with_statements draft.new rest
         ≡ with_statements draft.old (For bag
         (all_resolved names.now (loops_of loops.now) (statements_of block.now)) rest)) }
@@ -229,7 +230,7 @@ fn emit_action(
     loops: &Loops,
     draft: &mut Draft,
 ) -> Result<(), AllocError>
-    requires { length (loops_of loops.now) ≤ DEEPEST_LOOPS }
+    requires { length (loops_of loops.now) ≤ deepest_loops }
     ensures { OnOk result ((rest : Statements) → with_statements draft.new rest
         ≡ with_statements draft.old
         (Act action (resolved names.now (loops_of loops.now) (expression_of value.now)) rest)) }

@@ -12,7 +12,7 @@ use Rattle.std.proofs.lemmas.List.Elements.{All-append, All-cons}
 use Rattle.std.proofs.lemmas.Str.{IsUtf8-append, IsUtf8-from_ascii, is_utf8-from_IsUtf8}
 use Rattle.std.proofs.lemmas.Str.Ascii.{IsAscii-cons, IsAscii-nil}
 use Rattle.std.proofs.lemmas.Str.Parse.{not_in_digits}
-use Rattle.dv_time.specs.declared.TheConstants.{GREATEST_TICK}
+use Rattle.dv_time.specs.Limits.{greatest_tick}
 use Rattle.dv_bag.specs.Bag.{is_number}
 use Rattle.dv_time.specs.Time.{is_before}
 use Rattle.dv_time.specs.declared.time.Time.{Time}
@@ -91,7 +91,7 @@ not_passed [] rest f h = absurd (omega (arith, f.0))
 not_passed (b ∷ field) rest f h = rw (ne_eqb b 35 (h 0 b (omega arith)), f.1 0 b (omega arith)) refl
 
 -- the parts of a line
-module _ (ports : List (List ℕ)) (i : Input) (within : i.time.tick ≤ GREATEST_TICK) (said : CanBeSaid ports i) where
+module _ (ports : List (List ℕ)) (i : Input) (within : i.time.tick ≤ greatest_tick) (said : CanBeSaid ports i) where
   no_feed : HasNoFeed (line_of ports i)
   no_feed =
       let P : ℕ → Type 0 = λ b. b ≢ 10 in

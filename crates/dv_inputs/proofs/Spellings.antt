@@ -9,7 +9,7 @@ use Rattle.std.proofs.lemmas.Bool.{and_from, lt-ltb, ltb-true, ne_eqb}
 use Rattle.std.proofs.lemmas.Fmt.{decimal_nonempty, digits_decimal, digits_value-decimal}
 use Rattle.std.proofs.lemmas.List.Splits.{slice_split_at, slice_split_none}
 use Rattle.std.proofs.lemmas.Str.Parse.{not_in_digits}
-use Rattle.dv_time.specs.declared.TheConstants.{GREATEST_TICK}
+use Rattle.dv_time.specs.Limits.{greatest_tick}
 use Rattle.dv_bag.specs.Bag.{is_number}
 use Rattle.dv_inputs.specs.Lines.{fields_of, is_blank, lines_of, without_return}
 use Rattle.dv_inputs.specs.Numbers.{is_numeral, number_below, tick_in, value_in}
@@ -63,8 +63,8 @@ below_decimal : (bound n : ℕ) → n < 2 ^ 64 → n < bound → number_below bo
 below_decimal bound n small lt = sym (is_below bound (decimal n) (numeral_decimal n small) n
     (sym (digits_value-decimal numerals n small)) lt)
 
-pub tick_printed : (n : ℕ) → n ≤ GREATEST_TICK → tick_in (decimal n) ≡ Some n
-tick_printed n le = below_decimal (GREATEST_TICK + 1) n (omega arith) (omega arith)
+pub tick_printed : (n : ℕ) → n ≤ greatest_tick → tick_in (decimal n) ≡ Some n
+tick_printed n le = below_decimal (greatest_tick + 1) n (omega arith) (omega arith)
 
 no_minus : (bytes : List ℕ) → 0 < length bytes → get_or bytes 0 0 ≢ 45 → value_in bytes ≡ option_map pos (number_below (2 ^ 63) bytes)
 no_minus [] some h = absurd (omega arith)

@@ -4,7 +4,7 @@ use Rattle.std.specs.Prelude.{Some, None, option_map, position, bytes_eq}
 use Rattle.std.specs.Char.{is_ascii_digit}
 use Rattle.std.specs.List.{list_all}
 use Rattle.std.specs.Str.Parse.{digits_value}
-use Rattle.dv_time.specs.declared.TheConstants.{GREATEST_TICK}
+use Rattle.dv_time.specs.Limits.{greatest_tick}
 
 -- one decimal digit or more
 abbrev pub is_numeral : List ℕ → Bool
@@ -16,7 +16,7 @@ number_below bound bytes = if is_numeral bytes && nat_lt (digits_value 10 bytes)
 
 -- decimal digits, up to the greatest tick
 abbrev pub tick_in : List ℕ → Option ℕ
-tick_in field = number_below (GREATEST_TICK + 1) field
+tick_in field = number_below (greatest_tick + 1) field
 
 -- the number of the port of this name
 abbrev pub port_in : List (List ℕ) → List ℕ → Option ℕ

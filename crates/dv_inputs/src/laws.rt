@@ -2,7 +2,6 @@
 
 ghost use Rattle.std.specs.Prelude.{◌≡◌, ◌<◌, ◌≤◌, ◌^◌, ℕ, IsTrue, List, [], ◌∷◌, ◌++◌, All, length, codes, Some, Ok, Err, ℤ, pos, neg_ℤ};
 ghost use Rattle.std.specs.Fmt.{decimal, signed_decimal};
-ghost use Rattle.dv_time.specs.declared.TheConstants.{GREATEST_TICK};
 ghost use Rattle.dv_bag.specs.Bag.{is_number};
 ghost use Rattle.dv_bag.specs.Inputs.{IsByTime};
 ghost use Rattle.dv_bag.specs.declared.inputs.Input.{Input};
@@ -12,6 +11,7 @@ ghost use Rattle.dv_inputs.specs.Reading.{reading_of};
 ghost use Rattle.dv_inputs.specs.Rows.{feed, input, refusal, return_feed, two_lines, x_and_y};
 ghost use Rattle.dv_inputs.specs.Spelled.{CanBeSaid, EndsField, HasNoFeed, IsBlank, IsField, text_of};
 ghost use Rattle.dv_inputs.specs.declared.error.InputRefusalNumber.TheVariants.{I1, I2, I3, I4};
+ghost use Rattle.dv_time.specs.Limits.{greatest_tick};
 
 /// Each input of a text is at one of the ports.
 pub fn inputs_are_at_ports()
@@ -44,7 +44,7 @@ pub fn fields_stand_between_blanks()
 
 /// A tick and a value are read as they are printed.
 pub fn numbers_are_read_as_printed()
-    ensures tick { (tick : ℕ) → tick ≤ GREATEST_TICK → tick_in (decimal tick) ≡ Some tick }
+    ensures tick { (tick : ℕ) → tick ≤ greatest_tick → tick_in (decimal tick) ≡ Some tick }
     ensures value { (value : ℤ) → IsTrue (is_number value)
         → value_in (signed_decimal value) ≡ Some value }
 {}

@@ -6,6 +6,7 @@ pub mod Stepping
 pub mod Planned
 pub mod Listed
 pub mod Errors
+pub mod Limits
 pub mod Ranges
 pub mod Status
 -- What serves proofs.

@@ -1,7 +1,7 @@
 //! From the bytes of a model to the tree of an accepted text, from a partition to its groups, and from the bytes of inputs
 //! to the inputs.
 
-ghost use Rattle.std.specs.Prelude.{◌≡◌, None, map, string_bytes, IfOk, IfErr, MatchResult, Ok, Err};
+ghost use Rattle.std.specs.Prelude.{◌≡◌, None, IfOk, IfErr, MatchResult, Ok, Err};
 ghost use Rattle.dv_check.specs.Refusals.{refusal_of};
 ghost use Rattle.dv_flat.specs.Links.{paths_of};
 ghost use Rattle.dv_partition.specs.Answers.{IsErrorOf, partition_answer};
@@ -16,11 +16,11 @@ use crate::ended::JobError;
 use dv_bag::Inputs;
 use dv_check::laws::checked_files;
 use dv_check::{Checked, check};
-use dv_flat::count_links;
+use dv_flat::{count_links, paths_of};
 use dv_inputs::{InputRefusal, InputsError, read_inputs};
 use dv_lex::{LoadError, answer, tokens};
 use dv_parser::parse;
-use dv_partition::{Groups, Partition, PartitionError, partition};
+use dv_partition::{Groups, Partition, PartitionError, counted_groups, partition};
 use dv_tree::Tree;
 use std::alloc::Global;
 
@@ -67,15 +67,12 @@ pub fn accept<'c>(alloc: Global, text: &[u8], checked: &'c Checked) -> Result<Tr
     }
 }
 
-/// The groups of the components of an accepted text, which have these paths.
+/// The groups of the components of an accepted text. Only a text of paths wants the paths of the components.
 pub fn load_groups(
     alloc: Global,
     tree: &Tree,
-    paths: &[String],
     groups: Partition<'_>,
 ) -> Result<Groups, PartitionError>
-    requires paths { map string_bytes paths.now
-        ≡ paths_of tree.now.names (file_of tree.now.file) }
     requires checked { refusal_of (file_of tree.now.file) ≡ None }
     ensures { MatchResult result
         (λ parted. partition_answer (paths_of tree.now.names (file_of tree.now.file)) groups.entry
@@ -84,7 +81,15 @@ pub fn load_groups(
 {
     // A checked file has few components.
     checked_files();
-    partition(alloc, paths, groups)
+    match groups {
+        Partition::Json(_) => {
+            let paths = paths_of(alloc, tree)?;
+            partition(alloc, &paths, groups)
+        }
+        Partition::Count(processes) => {
+            counted_groups(alloc, tree.component_count(), processes as usize)
+        }
+    }
 }
 
 /// The inputs that a text says to the root of a tree.

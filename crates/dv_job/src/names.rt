@@ -30,12 +30,12 @@ impl Names for TreeNames<'_> {
         self.tree.component_count() as u32
     }
 
-    fn path(&self, component: u32) -> &str {
+    fn path(&self, alloc: Global, component: u32) -> Result<String, AllocError> {
         let component = component as usize;
         if component < self.tree.component_count() {
-            self.tree.path(component)
+            self.tree.path_text(alloc, component)
         } else {
-            ""
+            Ok(String::new(alloc))
         }
     }
 

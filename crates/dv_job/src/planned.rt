@@ -44,8 +44,8 @@ fn plan_tree(
     ensures error { IfErr result (AnswersPlan model.now groups.entry) }
 {
     let flat = flatten(alloc, tree)?;
-    let groups = load_groups(alloc, tree, flat.paths.as_slice(), groups)?;
-    let links = links_of(alloc, &flat.links)?;
+    let groups = load_groups(alloc, tree, groups)?;
+    let links = links_of(alloc, &flat)?;
     let least = least_responses(alloc, tree, &groups)?;
     let names = TreeNames::of(alloc, tree)?;
     Ok(plan_json(alloc, &names, &links, &groups, &least)?)

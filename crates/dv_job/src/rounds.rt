@@ -2,8 +2,8 @@
 
 ghost use Rattle.std.specs.Prelude.{◌≡◌, ◌≤◌, ◌^◌};
 ghost use Rattle.dv_time.specs.Time.{end_of};
-ghost use Rattle.dv_time.specs.declared.TheConstants.{GREATEST_LIMIT, GREATEST_TICK};
 ghost use Rattle.dv_job.specs.Running.{granted};
+ghost use Rattle.dv_time.specs.Limits.{greatest_limit, greatest_tick};
 
 use crate::options::Options;
 
@@ -19,8 +19,8 @@ pub fn granted(options: &Options) -> u64
 
 // How many times of a run there are before its end.
 fn times_before_end(horizon: u64, limit: u32) -> u64
-    requires horizon { horizon ≤ GREATEST_TICK }
-    requires limit { limit ≤ GREATEST_LIMIT }
+    requires horizon { horizon ≤ greatest_tick }
+    requires limit { limit ≤ greatest_limit }
     ensures exact { result ≡ end_of limit horizon }
     ensures few { result ≤ 2 ^ 60 }
 {

@@ -68,8 +68,8 @@ fn run_tree<W: Write>(
     a_trace_is_its_pieces::<Bags>();
     // The values of inputs that were read are numbers of the language.
     inputs_are_of_numbers();
-    let flat = flatten(alloc, tree)?;
-    let groups = load_groups(alloc, tree, flat.paths.as_slice(), groups)?;
+    let links = flatten(alloc, tree)?;
+    let groups = load_groups(alloc, tree, groups)?;
     let played = load_inputs(alloc, inputs, tree)?;
     let job = TextJob {
         tree,
@@ -80,6 +80,6 @@ fn run_tree<W: Write>(
     };
     let capacity = options.capacity as usize;
     let rounds = granted(options);
-    let ran = compiled_run(alloc, &job, &flat.links, rounds, capacity, writer)?;
+    let ran = compiled_run(alloc, &job, &links, rounds, capacity, writer)?;
     write_end(alloc, tree, &ran, options.horizon, writer)
 }

@@ -61,8 +61,8 @@ fn step_tree(
 {
     // The values of inputs that were read are numbers of the language.
     inputs_are_of_numbers();
-    let flat = flatten(alloc, tree)?;
-    let groups = load_groups(alloc, tree, flat.paths.as_slice(), groups)?;
+    let links = flatten(alloc, tree)?;
+    let groups = load_groups(alloc, tree, groups)?;
     let played = load_inputs(alloc, inputs, tree)?;
     let job = TextJob {
         tree,
@@ -72,5 +72,5 @@ fn step_tree(
         limit: options.limit,
     };
     let capacity = options.capacity as usize;
-    Ok(compiled_steps(alloc, &job, &flat.links, steps, capacity)?)
+    Ok(compiled_steps(alloc, &job, &links, steps, capacity)?)
 }

@@ -104,8 +104,8 @@ fn work_tree<R: Threads + Wait + Sync, G: Watch, W: Write>(
     a_trace_is_its_pieces::<Bags>();
     // The values of inputs that were read are numbers of the language.
     inputs_are_of_numbers();
-    let flat = flatten(alloc, tree)?;
-    let groups = load_groups(alloc, tree, flat.paths.as_slice(), groups)?;
+    let links = flatten(alloc, tree)?;
+    let groups = load_groups(alloc, tree, groups)?;
     let played = load_inputs(alloc, inputs, tree)?;
     let job = TextJob {
         tree,
@@ -116,15 +116,6 @@ fn work_tree<R: Threads + Wait + Sync, G: Watch, W: Write>(
     };
     let capacity = options.capacity as usize;
     let workers = workers as usize;
-    let ran = compiled_workers(
-        rt,
-        alloc,
-        &job,
-        &flat.links,
-        workers,
-        capacity,
-        watch,
-        writer,
-    )?;
+    let ran = compiled_workers(rt, alloc, &job, &links, workers, capacity, watch, writer)?;
     write_end(alloc, tree, &ran, options.horizon, writer)
 }

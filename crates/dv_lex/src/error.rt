@@ -143,6 +143,16 @@ pub enum LoadError {
     Memory,
 }
 
+impl From<Refusal> for LoadError {
+    ghost use Rattle.dv_lex.specs.declared.error.LoadError.TheVariants.{Refused};
+
+    ghost from_gives = { λ r e. e ≡ Refused r };
+
+    fn from(refusal: Refusal) -> Self {
+        LoadError::Refused(refusal)
+    }
+}
+
 impl From<AllocError> for LoadError {
     ghost use Rattle.dv_lex.specs.declared.error.LoadError.TheVariants.{Memory};
 

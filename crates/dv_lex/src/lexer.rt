@@ -1,6 +1,6 @@
 //! From the bytes of a model text to its tokens.
 
-ghost use Rattle.std.specs.Prelude.{List, [], ◌++◌, ◌≡◌, ◌≢◌, ℕ, ◌+◌, ◌-◌, ◌^◌, ◌<◌, ◌≤◌, false, length, encode_utf8, IfOk};
+ghost use Rattle.std.specs.Prelude.{List, [], ◌++◌, ◌≡◌, ◌≢◌, ℕ, ◌+◌, ◌-◌, ◌^◌, ◌<◌, ◌≤◌, false, length, encode_utf8, IfErr, IfOk};
 ghost use Rattle.std.specs.Prelude.{MatchOption, Some, Err, IsTrue, not, ◌==◌};
 ghost use Rattle.std.specs.Char.{is_ascii_digit};
 ghost use Rattle.std.specs.List.{list_all, take_while};
@@ -142,6 +142,42 @@ fn refused(number: RefusalNumber, place: u32) -> LoadError
     LoadError::Refused(Refusal { number, place })
 }
 
+/// The number or the symbol at the front of the text, which begins with this character and at this place, and what
+/// follows it. It takes no memory.
+///
+/// # Errors
+///
+/// E3 of a number above 2^63 - 1, E2 where no symbol begins, at this place.
+fn number_or_symbol(first: char, text: &str, place: u32) -> Result<(Token, &str), Refusal>
+    requires first { BeginsWith first text.now }
+    requires no_blank { is_blank first ≡ false }
+    requires no_comment { first ≢ 35 }
+    requires no_word { starts_name first ≡ false }
+    ensures token { (names : List (List ℕ)) → IfOk result (λ r.
+        ReadsToken place text.now names names r.0 r.1.now) }
+    ensures refused { IfErr result (λ r. (r.place ≡ place) × IsNoToken text.now r.number) }
+{
+    if first.is_ascii_digit() {
+        let (digits, rest) = split_digits(text);
+        let Some(value) = number(digits) else {
+            return Err(Refusal {
+                number: RefusalNumber::E3,
+                place,
+            });
+        };
+        let kind = TokenKind::Number(value);
+        return Ok((Token { kind, place }, rest));
+    }
+    let Some((symbol, rest)) = symbol(text) else {
+        return Err(Refusal {
+            number: RefusalNumber::E2,
+            place,
+        });
+    };
+    let kind = TokenKind::Symbol(symbol);
+    Ok((Token { kind, place }, rest))
+}
+
 /// The token at the front of the text, which begins with this character and at this place, and what follows it.
 fn token<'a>(
     alloc: Global,
@@ -163,19 +199,10 @@ fn token<'a>(
         let kind = word_kind(alloc, names, word)?;
         return Ok((Token { kind, place }, rest));
     }
-    if first.is_ascii_digit() {
-        let (digits, rest) = split_digits(text);
-        let Some(value) = number(digits) else {
-            return Err(refused(RefusalNumber::E3, place));
-        };
-        let kind = TokenKind::Number(value);
-        return Ok((Token { kind, place }, rest));
+    match number_or_symbol(first, text, place) {
+        Ok(read) => Ok(read),
+        Err(refusal) => Err(LoadError::Refused(refusal)),
     }
-    let Some((symbol, rest)) = symbol(text) else {
-        return Err(refused(RefusalNumber::E2, place));
-    };
-    let kind = TokenKind::Symbol(symbol);
-    Ok((Token { kind, place }, rest))
 }
 
 /// How many bytes of the text stand before a rest of it.

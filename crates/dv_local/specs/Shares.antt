@@ -2,7 +2,7 @@
 use Rattle.std.specs.Prelude.{◌≡◌, ℕ, ◌<◌, ◌≤◌, List, map}
 use Rattle.std.specs.List.{All, Contains}
 use Rattle.dv_time.specs.Time.{IsOfRun}
-use Rattle.dv_time.specs.declared.TheConstants.{GREATEST_LIMIT, GREATEST_TICK}
+use Rattle.dv_time.specs.Limits.{greatest_limit, greatest_tick}
 use Rattle.dv_bag.specs.Inputs.{inputs_at}
 use Rattle.dv_bag.specs.declared.inputs.Input.{Input}
 use Rattle.dv_bag.specs.declared.state.State.{State}
@@ -50,8 +50,8 @@ IsLed p i = (i.port < p.ports)
 -- a share that can run: tables, bounds of the run, and inputs from outside at times of the run that lead to components here
 pub record IsShare {S : Type 0} (fits : S → State → Type 0) (p : Share S) : Type 0 where
   pub tables : AreTables fits p.tables
-  pub limit : p.tables.limit ≤ GREATEST_LIMIT
-  pub horizon : p.horizon ≤ GREATEST_TICK
+  pub limit : p.tables.limit ≤ greatest_limit
+  pub horizon : p.horizon ≤ greatest_tick
   pub hold : IsOfHold p.response
   pub led : All (IsLed p) p.inputs
   pub of_run : AreOfRun p.tables.limit p.inputs

@@ -71,7 +71,7 @@ fn does_hold_of_tree(alloc: Global, tree: &Tree, case: &Case) -> Result<bool, Al
     requires accepted { refusal_of (file_of tree.now.file) ≡ None }
     requires few { link_refusal (file_of tree.now.file) ≡ None }
 {
-    let flat = flatten(alloc, tree)?;
+    let links = flatten(alloc, tree)?;
     let owners = vec![in alloc; 0, 1]?;
     let groups = Groups::new(alloc, owners.len(), owners)?;
     let inputs = Inputs::new(alloc);
@@ -82,7 +82,7 @@ fn does_hold_of_tree(alloc: Global, tree: &Tree, case: &Case) -> Result<bool, Al
         horizon: HORIZON,
         limit: LIMIT,
     };
-    does_hold_of_job(alloc, &job, &flat.links, case)
+    does_hold_of_job(alloc, &job, &links, case)
 }
 
 // Whether the last process of a job without inputs does as a case says.

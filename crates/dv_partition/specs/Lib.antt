@@ -1,4 +1,5 @@
 -- What a reader believes: the answer to a partition.
+pub mod Limits
 pub mod Groups
 pub mod Listed
 pub mod Answers

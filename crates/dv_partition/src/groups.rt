@@ -3,8 +3,8 @@
 ghost use Rattle.std.specs.Prelude.{◌≡◌, ℕ, ◌<◌, ◌≤◌, ◌^◌, length, IfOk};
 ghost use Rattle.std.specs.List.{AllByRecursion, range_with_len};
 ghost use Rattle.dv_partition.specs.Groups.{members_of, owner_of};
+ghost use Rattle.dv_partition.specs.Limits.{greatest_processes};
 
-use crate::GREATEST_PROCESSES;
 use crate::parted::parted;
 use std::alloc::{AllocError, Global};
 use std::marker::Model;
@@ -37,7 +37,7 @@ impl Groups {
     /// No memory for the lists of components.
     pub fn new(alloc: Global, processes: usize, owners: Vec<u32>) -> Result<Groups, AllocError>
         requires some { 0 < processes }
-        requires few { processes ≤ GREATEST_PROCESSES }
+        requires few { processes ≤ greatest_processes }
         requires owned { AllByRecursion (λ p. p < processes) owners.items }
         requires fit { length owners.items ≤ 2 ^ 32 }
         ensures { IfOk result (λ groups. groups ≡ record { processes = processes; owners = owners.items }) }
@@ -51,7 +51,7 @@ impl Groups {
     pub fn processes(&self) -> usize
         ensures exact { result ≡ self.now.processes }
         ensures some { 0 < result }
-        ensures few { result ≤ GREATEST_PROCESSES }
+        ensures few { result ≤ greatest_processes }
         ensures owned { (k : ℕ) → owner_of self.now k < result }
     {
         self.members.len()
@@ -70,7 +70,7 @@ impl Groups {
     pub fn owner(&self, component: u32) -> u32
         ensures exact { result ≡ owner_of self.now component }
         ensures below { result < self.now.processes }
-        ensures few { self.now.processes ≤ GREATEST_PROCESSES }
+        ensures few { self.now.processes ≤ greatest_processes }
     {
         let owners = self.owners.as_slice();
         let place = component as usize;

@@ -2,10 +2,10 @@
 
 ghost use Rattle.std.specs.Prelude.{◌≡◌, ℕ, ◌≤◌, IfOk};
 ghost use Rattle.dv_time.specs.Time.{IsOfRun, next_rank, succ};
-ghost use Rattle.dv_time.specs.declared.TheConstants.{GREATEST_TICK};
 ghost use Rattle.dv_bag.specs.Inputs.{inputs_at, inputs_before, time_at};
 ghost use Rattle.dv_plain.specs.InputTimes.{IsOfRunIf, rank_if};
 ghost use Rattle.dv_react.specs.Components.{IsNextOfRun, rank_of};
+ghost use Rattle.dv_time.specs.Limits.{greatest_tick};
 
 use dv_bag::{Bags, Inputs};
 use dv_react::Instant;
@@ -38,7 +38,7 @@ pub fn input_at(
     instant: &Instant,
     place: usize,
 ) -> Result<(Bags, usize), AllocError>
-    requires within { instant.now.time.tick ≤ GREATEST_TICK }
+    requires within { instant.now.time.tick ≤ greatest_tick }
     requires of_run { IsOfRun instant.now.limit instant.now.time }
     requires place { place ≡ inputs_before instant.now.limit inputs.now instant.now.time }
     ensures bags { IfOk result (λ r.

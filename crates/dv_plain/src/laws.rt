@@ -10,8 +10,8 @@ ghost use Rattle.dv_plain.specs.Source.{network_of};
 
 use dv_tree::laws::nothing_comes_of_nothing;
 
-/// The network of a text is ready for a run. Where nobody sends and nothing comes from outside, nothing arrives. What
-/// leaves was sent by a component.
+/// The network of a text is ready for a run. Where nobody sends and nothing comes from outside, nothing arrives. Where
+/// nobody sends nothing leaves.
 pub fn networks_of_texts()
     ensures ready { (limit : ℕ) (f : FileTree) → IsReady (network_of limit f) }
     ensures inputs { (limit : ℕ) (f : FileTree)

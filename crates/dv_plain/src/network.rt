@@ -10,10 +10,10 @@ ghost use Rattle.dv_react.specs.Outcomes.{event_of, fault_of, sent_of};
 ghost use Rattle.dv_tree.specs.Instances.{instances};
 ghost use Rattle.dv_plain.specs.Outputs.{outputs_at, reactions_at};
 ghost use Rattle.dv_plain.specs.Source.{behaviour_of, network_of};
+ghost use Rattle.dv_check.specs.Limits.{greatest_names};
 
 use crate::atom::Atom;
 use dv_bag::{Bags, Entry, Fault, Outer, Part, Sent, What};
-use dv_check::GREATEST_NAMES;
 use dv_react::outcome::put_in;
 use dv_react::{Instant, Running, compute};
 use dv_tree::Tree;
@@ -185,7 +185,7 @@ fn react_all(
 
 // The lines of what leaves the model at an instant, by port.
 fn leave(instant: &Instant, leaving: &Bags, trace: &mut Part) -> Result<(), AllocError>
-    requires { length leaving.now ≤ GREATEST_NAMES }
+    requires { length leaving.now ≤ greatest_names }
     ensures { OnOk result (trace.new ≡ record trace.old {
       outer = trace.old.outer ++ outer_from instant.now.limit (rank_of instant.now) 0 leaving.now;
     }) }

@@ -2,7 +2,6 @@
 
 ghost use Rattle.std.specs.Prelude.{◌≡◌, ℕ, ◌≤◌, IfOk, Some, length};
 ghost use Rattle.dv_time.specs.Time.{IsOfRun, next_rank, rank, succ};
-ghost use Rattle.dv_time.specs.declared.TheConstants.{GREATEST_TICK};
 ghost use Rattle.dv_syntax.specs.Trees.{atomic_of, file_of};
 ghost use Rattle.dv_bag.specs.Inputs.{inputs_before, time_at};
 ghost use Rattle.dv_bag.specs.Part.{joined};
@@ -12,6 +11,7 @@ ghost use Rattle.dv_tree.specs.Instances.{instances};
 ghost use Rattle.dv_plain.specs.InputTimes.{IsOfRunIf, rank_if};
 ghost use Rattle.dv_react.specs.Components.{AreWaitsOfRun, IsNextOfRun, IsWaitOfRun, component_of, components_of, next_of_wait, rank_of};
 ghost use Rattle.dv_plain.specs.Source.{network_of, outside, start_of, trace_of};
+ghost use Rattle.dv_time.specs.Limits.{greatest_tick};
 
 use crate::atom::Atom;
 use crate::input::{input_at, next_input};
@@ -23,7 +23,7 @@ use dv_devs::laws::runs;
 use dv_eval::start_state;
 use dv_react::{Instant, Running, Wait};
 use dv_time::laws::the_end_follows_the_horizon;
-use dv_time::{GREATEST_TICK, Next, Time};
+use dv_time::{Next, Time};
 use dv_tree::Tree;
 use std::alloc::{AllocError, Global};
 
@@ -40,7 +40,7 @@ pub fn resultant_run(
     horizon: u64,
     limit: u32,
 ) -> Result<Trace, AllocError>
-    requires horizon { horizon ≤ GREATEST_TICK }
+    requires horizon { horizon ≤ greatest_tick }
     requires least_limit { 1 ≤ limit }
     requires greatest_limit { limit ≤ 1_000 }
     ensures { IfOk result (λ trace.
@@ -88,7 +88,7 @@ fn play(
 ) -> Result<usize, AllocError>
     requires matched { length components.old ≡ length (instances (file_of tree.now.file)) }
     requires waits { AreWaitsOfRun instant.now.limit components.old }
-    requires within { instant.now.time.tick ≤ GREATEST_TICK }
+    requires within { instant.now.time.tick ≤ greatest_tick }
     requires of_run { IsOfRun instant.now.limit instant.now.time }
     requires place { place ≡ inputs_before instant.now.limit inputs.now instant.now.time }
     ensures components { IfOk result (λ after. components_of instant.now.limit components.new

@@ -2,7 +2,7 @@
 use Rattle.std.proofs.Common.{◌≡◌, ℕ, ◌+◌, ◌<◌, ◌≤◌, Bool, true, false, cond, List, [], ◌∷◌, ◌++◌, length, drop, filter, get_or, ap, sym, ◌∙◌, subst, arith}
 use Rattle.std.proofs.lemmas.List.{at_drop_more}
 use Rattle.std.proofs.lemmas.Bool.Decides.{nat_tests}
-use Rattle.dv_time.specs.declared.TheConstants.{GREATEST_TICK}
+use Rattle.dv_time.specs.Limits.{greatest_tick}
 use Rattle.dv_time.specs.Time.{is_before}
 use Rattle.dv_time.specs.declared.time.Time.{Time}
 use Rattle.dv_bag.specs.Inputs.{IsFrom, last_time, start_of}
@@ -12,7 +12,7 @@ use Rattle.dv_bag.proofs.InputLists.{not_sooner}
 first_of : (low : Time) (x : Input) (xs : List Input) → IsFrom low (x ∷ xs) → is_before x.time low ≡ false
 first_of low x xs h = h.0
 
-small_of : (low : Time) (x : Input) (xs : List Input) → IsFrom low (x ∷ xs) → x.time.tick ≤ GREATEST_TICK
+small_of : (low : Time) (x : Input) (xs : List Input) → IsFrom low (x ∷ xs) → x.time.tick ≤ greatest_tick
 small_of low x xs h = h.1
 
 rest_of : (low : Time) (x : Input) (xs : List Input) → IsFrom low (x ∷ xs) → IsFrom x.time xs
@@ -39,7 +39,7 @@ last_before low [] y ys h = never_before y.time
 last_before low (x ∷ []) y ys h = first_of x.time y ys (rest_of low x (y ∷ ys) h)
 last_before low (x ∷ z ∷ xs) y ys h = last_before x.time (z ∷ xs) y ys (rest_of low x (z ∷ (xs ++ y ∷ ys)) h)
 
-small_at : (low : Time) (xs : List Input) (y : Input) (ys : List Input) → IsFrom low (xs ++ y ∷ ys) → y.time.tick ≤ GREATEST_TICK
+small_at : (low : Time) (xs : List Input) (y : Input) (ys : List Input) → IsFrom low (xs ++ y ∷ ys) → y.time.tick ≤ greatest_tick
 small_at low [] y ys h = small_of low y ys h
 small_at low (x ∷ xs) y ys h = small_at x.time xs y ys (rest_of low x (xs ++ y ∷ ys) h)
 
@@ -59,5 +59,5 @@ module _ (test : Input → Bool) (xs kept : List Input) (i : ℕ) (d x : Input) 
   pub comes_after : is_before x.time (last_time kept) ≡ false
   comes_after = last_before (start_of 0) kept x (filter test (drop (i + 1) xs)) all_from
 
-  pub is_within : x.time.tick ≤ GREATEST_TICK
+  pub is_within : x.time.tick ≤ greatest_tick
   is_within = small_at (start_of 0) kept x (filter test (drop (i + 1) xs)) all_from

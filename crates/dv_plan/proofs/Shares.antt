@@ -7,7 +7,7 @@ use Rattle.std.proofs.lemmas.List.Elements.{filter_passes}
 use Rattle.std.proofs.lemmas.List.FromFn.{get_or-map-range_with_len}
 use Rattle.dv_bag.specs.Bag.{Counts}
 use Rattle.dv_time.specs.Time.{IsOfRun}
-use Rattle.dv_time.specs.declared.TheConstants.{GREATEST_LIMIT, GREATEST_TICK}
+use Rattle.dv_time.specs.Limits.{greatest_limit, greatest_tick}
 use Rattle.dv_bag.specs.Inputs.{inputs_at}
 use Rattle.dv_bag.specs.declared.inputs.Input.{Input}
 use Rattle.dv_bag.specs.declared.state.State.{State}
@@ -163,8 +163,8 @@ module _ {S : Type 0} (behaviour : S → Behaviour) (fits : S → State → Type
   is_plan : IsShare fits s
   is_plan = record {
     tables = tables_by_members fits s.tables are_members;
-    limit = subst (λ (n : ℕ). n ≤ GREATEST_LIMIT) (sym limit) h.limit;
-    horizon = subst (λ (n : ℕ). n ≤ GREATEST_TICK) (sym (made.horizon ∙ common.horizon)) h.horizon;
+    limit = subst (λ (n : ℕ). n ≤ greatest_limit) (sym limit) h.limit;
+    horizon = subst (λ (n : ℕ). n ≤ greatest_tick) (sym (made.horizon ∙ common.horizon)) h.horizon;
     hold = least_hold (owner_of g) p w.responses.items s.response h.holds response_same;
     led = subst (λ (is : List Input). All (IsLed s) is) (sym inputs_same) (λ k d lt.
         led_one (get_or (led_inputs w.limit w.ports own target.entrances inputs) k d)

@@ -1,7 +1,7 @@
 -- What is planned, as a job: a flat model with what comes to it, in the processes of its components.
 use Rattle.std.specs.Prelude.{ℕ, ◌<◌, ◌≤◌, ◌^◌, List, length, map}
 use Rattle.std.specs.List.{All, AllByRecursion}
-use Rattle.dv_time.specs.declared.TheConstants.{GREATEST_LIMIT, GREATEST_TICK}
+use Rattle.dv_time.specs.Limits.{greatest_limit, greatest_tick}
 use Rattle.dv_bag.specs.Inputs.{inputs_at}
 use Rattle.dv_bag.specs.declared.inputs.Input.{Input}
 use Rattle.dv_bag.specs.declared.response.Response.{Response}
@@ -66,5 +66,5 @@ pub record IsWhole {S : Type 0} (fits : S → State → Type 0) (w : Whole S) : 
   pub exits : RiseBySender w.links.exits.items
   pub holds : All (λ (r : Response). IsOfHold r) w.responses.items
   pub responses : length w.responses.items ≤ 2 ^ 32
-  pub limit : w.limit ≤ GREATEST_LIMIT
-  pub horizon : w.horizon ≤ GREATEST_TICK
+  pub limit : w.limit ≤ greatest_limit
+  pub horizon : w.horizon ≤ greatest_tick

@@ -4,8 +4,8 @@ ghost use Rattle.std.specs.Prelude.{◌≡◌, ◌≤◌, length, map, IfOk};
 ghost use Rattle.std.specs.List.{range_with_len};
 ghost use Rattle.dv_share.specs.declared.tables.Member.{Member as MemberOfCode};
 ghost use Rattle.dv_partition.specs.Groups.{owner_of};
-ghost use Rattle.dv_partition.specs.declared.TheConstants.{GREATEST_PROCESSES};
 ghost use Rattle.dv_plan.specs.Steps.{members_of};
+ghost use Rattle.dv_partition.specs.Limits.{greatest_processes};
 
 use crate::share::{Common, shares};
 use crate::whole::Whole;
@@ -90,7 +90,7 @@ fn members_of_each(
 ) -> Result<Vec<Vec<Member>>, AllocError>
     ensures each { IfOk result (λ lists. map (λ list. list.items) lists.items
         ≡ map (λ p. members_of groups.now p members.items) (range_with_len 0 groups.now.processes)) }
-    ensures few { IfOk result (λ lists. length lists.items ≤ GREATEST_PROCESSES) }
+    ensures few { IfOk result (λ lists. length lists.items ≤ greatest_processes) }
 {
     let owners = owners(alloc, groups, &members)?;
     let lists = parted(alloc, groups.processes(), &owners, members)?;

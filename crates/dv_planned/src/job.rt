@@ -1,7 +1,7 @@
 //! What is run of a text.
 
 ghost use Rattle.std.specs.Prelude.{◌≤◌};
-ghost use Rattle.dv_time.specs.declared.TheConstants.{GREATEST_LIMIT, GREATEST_TICK};
+ghost use Rattle.dv_time.specs.Limits.{greatest_limit, greatest_tick};
 
 use dv_bag::Inputs;
 use dv_core::PlannedJob;
@@ -22,8 +22,8 @@ pub struct TextJob<'j, 'c> {
     pub horizon: u64,
     /// The greatest microstep of a tick.
     pub limit: u32,
-    pub ghost horizon_in_range: { horizon ≤ GREATEST_TICK },
-    pub ghost limit_in_range: { limit ≤ GREATEST_LIMIT },
+    pub ghost horizon_in_range: { horizon ≤ greatest_tick },
+    pub ghost limit_in_range: { limit ≤ greatest_limit },
 }
 
 impl PlannedJob for TextJob<'_, '_> {

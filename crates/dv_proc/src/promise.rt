@@ -2,12 +2,12 @@
 
 ghost use Rattle.std.specs.Prelude.{◌≡◌, ◌≤◌, ◌+◌, ℕ, List};
 ghost use Rattle.dv_time.specs.Time.{IsOfRun, end_of, rank};
-ghost use Rattle.dv_time.specs.declared.TheConstants.{GREATEST_TICK};
 ghost use Rattle.dv_devs.specs.Behaviour.{Component, is_at};
 ghost use Rattle.dv_devs.specs.NextTimes.{earlier, least_next};
 ghost use Rattle.dv_conservative.specs.Process.{at_most};
 ghost use Rattle.dv_conservative.specs.Promise.{foreseen, reach};
 ghost use Rattle.dv_proc.specs.Foreseeing.{IsOfHold, IsOfRunIf, rank_if, ticks_of};
+ghost use Rattle.dv_time.specs.Limits.{greatest_tick};
 
 use crate::window::Frame;
 use dv_bag::Response;
@@ -30,7 +30,7 @@ pub fn earlier(limit: u32, one: Option<Time>, other: Option<Time>) -> Option<Tim
 /// The first time at which a hold runs out that is not below a response and begins at a time or later.
 pub fn reach(limit: u32, from: Time, response: Response) -> Option<Time>
     requires of_run { IsOfRun limit from }
-    requires near { from.tick ≤ GREATEST_TICK + 1 }
+    requires near { from.tick ≤ greatest_tick + 1 }
     requires hold { IsOfHold response }
     ensures reach { rank_if limit result ≡ reach limit (rank limit from) (ticks_of response) }
     ensures of_run { IsOfRunIf limit result }
@@ -67,10 +67,10 @@ pub fn foreseen(
     response: Response,
 ) -> Option<Time>
     requires now { IsOfRun limit now }
-    requires now_near { now.tick ≤ GREATEST_TICK + 1 }
+    requires now_near { now.tick ≤ greatest_tick + 1 }
     requires next { IsOfRunIf limit next }
     requires known { IsOfRun limit known }
-    requires known_near { known.tick ≤ GREATEST_TICK + 1 }
+    requires known_near { known.tick ≤ greatest_tick + 1 }
     requires hold { IsOfHold response }
     ensures foreseen { (cs : List Component) → least_next cs ≡ rank_if limit next
         → rank_if limit result
@@ -106,10 +106,10 @@ pub fn promise(
     response: Response,
 ) -> Time
     requires now { IsOfRun frame.now.limit now }
-    requires now_near { now.tick ≤ GREATEST_TICK + 1 }
+    requires now_near { now.tick ≤ greatest_tick + 1 }
     requires next { IsOfRunIf frame.now.limit next }
     requires known { IsOfRun frame.now.limit known }
-    requires known_near { known.tick ≤ GREATEST_TICK + 1 }
+    requires known_near { known.tick ≤ greatest_tick + 1 }
     requires hold { IsOfHold response }
     ensures promise { (cs : List Component) → least_next cs ≡ rank_if frame.now.limit next
         → rank frame.now.limit result

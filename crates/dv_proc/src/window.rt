@@ -2,10 +2,10 @@
 
 ghost use Rattle.std.specs.Prelude.{◌≡◌, ◌≤◌, ◌&&◌, nat_le, nat_lt};
 ghost use Rattle.dv_time.specs.Time.{IsOfRun, end_of, rank};
-ghost use Rattle.dv_time.specs.declared.TheConstants.{GREATEST_LIMIT, GREATEST_TICK};
 ghost use Rattle.dv_conservative.specs.Process.{are_in_order};
 ghost use Rattle.dv_conservative.specs.Events.{same_time};
 ghost use Rattle.dv_proc.specs.Packets.{meant_events};
+ghost use Rattle.dv_time.specs.Limits.{greatest_limit, greatest_tick};
 
 use crate::packet::Event;
 use dv_time::Time;
@@ -15,8 +15,8 @@ use dv_time::Time;
 pub struct Frame {
     pub limit: u32,
     pub horizon: u64,
-    ghost limited: { limit ≤ GREATEST_LIMIT },
-    ghost near: { horizon ≤ GREATEST_TICK },
+    ghost limited: { limit ≤ greatest_limit },
+    ghost near: { horizon ≤ greatest_tick },
 }
 
 impl Frame {

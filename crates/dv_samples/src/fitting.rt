@@ -5,9 +5,9 @@ ghost use Rattle.std.specs.List.{list_all};
 ghost use Rattle.dv_bag.specs.Arrivals.{AreFew};
 ghost use Rattle.dv_bag.specs.Bag.{size, total};
 ghost use Rattle.dv_bag.specs.Reading.{datum_of};
-ghost use Rattle.dv_bag.specs.declared.TheConstants.{GREATEST_COUNT};
 ghost use Rattle.dv_code.specs.Shape.{Fits};
 ghost use Rattle.dv_samples.specs.Fitting.{FitsAt};
+ghost use Rattle.dv_bag.specs.Limits.{greatest_count};
 
 use dv_bag::{Bag, Bags, Datum, DatumView, GREATEST_COUNT, HeldBag, State, Variables};
 use dv_code::Slot;
@@ -44,7 +44,7 @@ fn fits_slot(slot: Slot, datum: Option<DatumView>) -> bool
 
 /// Whether there are at most `GREATEST_COUNT` values at each port.
 pub fn are_few(received: &Bags) -> bool
-    ensures sizes { result ≡ list_all (λ b. nat_le (size b) GREATEST_COUNT) received.now }
+    ensures sizes { result ≡ list_all (λ b. nat_le (size b) greatest_count) received.now }
     ensures few { IsTrue result → AreFew received.now }
 {
     received
@@ -96,7 +96,7 @@ fn number_at(low: i64, high: i64, level: Level) -> i64 {
 }
 
 fn bag_at(alloc: Global, capacity: u64, level: Level) -> Result<Bag, AllocError>
-    ensures { IfOk result (λ bag. total bag ≤ GREATEST_COUNT) }
+    ensures { IfOk result (λ bag. total bag ≤ greatest_count) }
 {
     let mut bag = Bag::new(alloc);
     let (value, copies) = match level {

@@ -12,7 +12,7 @@ use Rattle.dv_bag.specs.Arrivals.{Arrivals}
 use Rattle.dv_bag.specs.Bag.{Counts, bag_at, is_number, total, total_of_all, values_of, with_copies, without_one}
 use Rattle.dv_bag.specs.Effects.{is_full, is_within, with_bag, with_datum, with_state}
 use Rattle.dv_bag.specs.Outcome.{◌>>=◌}
-use Rattle.dv_bag.specs.declared.TheConstants.{GREATEST_COUNT}
+use Rattle.dv_bag.specs.Limits.{greatest_count}
 use Rattle.dv_bag.specs.declared.fault.Fault.{Fault}
 use Rattle.dv_bag.specs.declared.fault.Fault.TheVariants as fault
 use Rattle.dv_bag.specs.declared.state.Datum.{Datum}
@@ -66,19 +66,19 @@ less_numbers v (p ∷ ps) h =
 
 less_kept : (v : ℤ) (b : Counts) → is_kept (datum.Bag b) ≡ true → is_kept (datum.Bag (without_one v b)) ≡ true
 less_kept v b h =
-    let parts = and_parts (is_of_numbers b) (nat_le (total b) GREATEST_COUNT) h in
+    let parts = and_parts (is_of_numbers b) (nat_le (total b) greatest_count) h in
     let fewer = total_without v b in
-    let few : nat_le (total (without_one v b)) GREATEST_COUNT ≡ true = grind (arith, nat_tests, parts.1) in
-    both_true (is_of_numbers (without_one v b)) (nat_le (total (without_one v b)) GREATEST_COUNT) (less_numbers v b parts.0) few
+    let few : nat_le (total (without_one v b)) greatest_count ≡ true = grind (arith, nat_tests, parts.1) in
+    both_true (is_of_numbers (without_one v b)) (nat_le (total (without_one v b)) greatest_count) (less_numbers v b parts.0) few
 
 more_kept : (v : ℤ) (capacity : ℕ) (b : Counts) → is_number v ≡ true → is_kept (datum.Bag b) ≡ true → is_full capacity b ≡ false →
     is_kept (datum.Bag (with_copies v 1 b)) ≡ true
 more_kept v capacity b n h room =
-    let parts = and_parts (is_of_numbers b) (nat_le (total b) GREATEST_COUNT) h in
+    let parts = and_parts (is_of_numbers b) (nat_le (total b) greatest_count) h in
     let more = (total_with v 1 b).1 in
-    let free : nat_le GREATEST_COUNT (total b) ≡ false = or_none (nat_le capacity (total b)) (nat_le GREATEST_COUNT (total b)) room in
-    let few : nat_le (total (with_copies v 1 b)) GREATEST_COUNT ≡ true = grind (arith, nat_tests, free, more) in
-    both_true (is_of_numbers (with_copies v 1 b)) (nat_le (total (with_copies v 1 b)) GREATEST_COUNT) (numbers_with v 1 b n parts.0) few
+    let free : nat_le greatest_count (total b) ≡ false = or_none (nat_le capacity (total b)) (nat_le greatest_count (total b)) room in
+    let few : nat_le (total (with_copies v 1 b)) greatest_count ≡ true = grind (arith, nat_tests, free, more) in
+    both_true (is_of_numbers (with_copies v 1 b)) (nat_le (total (with_copies v 1 b)) greatest_count) (numbers_with v 1 b n parts.0) few
   where
     or_none : (a b : Bool) → (a || b) ≡ false → b ≡ false
     or_none true b h = absurd (cc)
@@ -207,7 +207,7 @@ module _ (scope : Scope) where
       let parts = and_parts (names_numbers x) (name_numbers rest) small in
       after_step (value_within scope context e x) (λ v. sending scope port.number v e) (run scope context rest)
       (within context e x parts.0 knows keeps)
-      (λ v n. if_ok_branch (nat_le GREATEST_COUNT (total_of_all e.sent)) (Err fault.Flood)
+      (λ v n. if_ok_branch (nat_le greatest_count (total_of_all e.sent)) (Err fault.Flood)
       (Ok (with_value_at (place_of port.number scope.outputs) (number_of v) e)) Keeps tt
       (sent_keeps (place_of port.number scope.outputs) (number_of v) e n keeps))
       (λ now k. run_keeps context rest now parts.1 knows k)

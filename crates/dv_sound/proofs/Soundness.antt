@@ -11,7 +11,7 @@ use Rattle.dv_bag.specs.Arrivals.{AreFew, Arrivals, nothing_arrived}
 use Rattle.dv_bag.specs.Bag.{Counts, is_number, total}
 use Rattle.dv_bag.specs.Numbers.{HoldsNumbers, IsBagOfNumbers, IsOfNumbers as HoldsOneOfNumbers}
 use Rattle.dv_bag.specs.Outcome.{◌>>=◌}
-use Rattle.dv_bag.specs.declared.TheConstants.{GREATEST_COUNT}
+use Rattle.dv_bag.specs.Limits.{greatest_count}
 use Rattle.dv_bag.specs.declared.fault.Fault.{Fault}
 use Rattle.dv_bag.specs.declared.state.Datum.{Datum}
 use Rattle.dv_bag.specs.declared.state.Datum.TheVariants as datum
@@ -46,7 +46,7 @@ bag_held (p ∷ ps) h =
 datum_held : (d : Datum) → is_kept d ≡ true → HoldsOneOfNumbers d
 datum_held (datum.Number n) h = h
 datum_held (datum.Flag b) h = tt
-datum_held (datum.Bag b) h = let parts = and_parts (is_of_numbers b) (nat_le (total b) GREATEST_COUNT) h in bag_held b parts.0
+datum_held (datum.Bag b) h = let parts = and_parts (is_of_numbers b) (nat_le (total b) greatest_count) h in bag_held b parts.0
 
 pub all_held : (ds : List Datum) → are_kept ds ≡ true → HoldsNumbers ds
 all_held [] h = All-nil HoldsOneOfNumbers

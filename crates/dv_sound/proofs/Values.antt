@@ -20,7 +20,7 @@ use Rattle.dv_bag.specs.Arithmetic as arithmetic
 use Rattle.dv_bag.specs.Bag.{Counts, bag_at, count_of, is_number, least, most, size, sum_of, sum_or_overflow, total}
 use Rattle.dv_bag.specs.Outcome.{◌>>=◌}
 use Rattle.dv_bag.specs.Reading.{bag_of_datum}
-use Rattle.dv_bag.specs.declared.TheConstants.{GREATEST_COUNT}
+use Rattle.dv_bag.specs.Limits.{greatest_count}
 use Rattle.dv_bag.specs.declared.fault.Fault.TheVariants as fault
 use Rattle.dv_bag.specs.declared.state.Datum.{Datum}
 use Rattle.dv_bag.specs.declared.state.Datum.TheVariants as datum
@@ -80,19 +80,19 @@ bag_here [] (suc port) h = refl
 bag_here (b ∷ bs) zero h = let parts = and_parts (is_of_numbers b) (are_of_numbers bs) h in parts.0
 bag_here (b ∷ bs) (suc port) h = let parts = and_parts (is_of_numbers b) (are_of_numbers bs) h in bag_here bs port parts.1
 
-pub few_here : (bags : List Counts) (port : ℕ) → are_few bags ≡ true → total (bag_at bags port) ≤ GREATEST_COUNT
+pub few_here : (bags : List Counts) (port : ℕ) → are_few bags ≡ true → total (bag_at bags port) ≤ greatest_count
 few_here [] zero h = omega arith
 few_here [] (suc port) h = omega arith
 few_here (b ∷ bs) zero h =
-    let parts = and_parts (nat_le (size b) GREATEST_COUNT) (are_few bs) h in
+    let parts = and_parts (nat_le (size b) greatest_count) (are_few bs) h in
     let few : size b ≤ 4096 = grind (arith, nat_tests, parts.0) in
     omega arith
-few_here (b ∷ bs) (suc port) h = let parts = and_parts (nat_le (size b) GREATEST_COUNT) (are_few bs) h in few_here bs port parts.1
+few_here (b ∷ bs) (suc port) h = let parts = and_parts (nat_le (size b) greatest_count) (are_few bs) h in few_here bs port parts.1
 
 -- bags of numbers with few values
 pub record IsFewNumbers (b : Counts) : Type 0 where
   pub numbers : is_of_numbers b ≡ true
-  pub few : total b ≤ GREATEST_COUNT
+  pub few : total b ≤ greatest_count
 
 empty_few : IsFewNumbers []
 empty_few = record { numbers = refl; few = omega arith }
@@ -102,7 +102,7 @@ held_few None h = empty_few
 held_few (Some (datum.Number n)) h = empty_few
 held_few (Some (datum.Flag b)) h = empty_few
 held_few (Some (datum.Bag b)) h =
-    let parts = and_parts (is_of_numbers b) (nat_le (total b) GREATEST_COUNT) (h (datum.Bag b) refl) in
+    let parts = and_parts (is_of_numbers b) (nat_le (total b) greatest_count) (h (datum.Bag b) refl) in
     record { numbers = parts.0; few = grind (arith, nat_tests, parts.1) }
 
 -- what is known where an expression stands: numbers in the state, in what has arrived and in loops

@@ -4,7 +4,7 @@ use Rattle.std.specs.List.{list_all}
 use Rattle.dv_syntax.specs.Trees.{AtomicTree, Expression, Literal, TruthValue, Named, Parens, Prefixed, Binary, Call, Elapsed, Times, RuleTree}
 use Rattle.dv_syntax.specs.Trees.{Statements, Done, Assign, Goto, Send, If, IfElse, For, Add, Drop}
 use Rattle.dv_bag.specs.Bag.{is_number, total}
-use Rattle.dv_bag.specs.declared.TheConstants.{GREATEST_COUNT}
+use Rattle.dv_bag.specs.Limits.{greatest_count}
 use Rattle.dv_bag.specs.declared.state.Datum.{Datum}
 use Rattle.dv_bag.specs.declared.state.Datum.TheVariants as datum
 use Rattle.dv_bag.specs.declared.state.State.{State}
@@ -16,7 +16,7 @@ use Rattle.dv_conservative.specs.Sound.{is_of_numbers}
 abbrev pub is_kept : Datum → Bool
 is_kept (datum.Number n) = is_number n
 is_kept (datum.Flag b) = true
-is_kept (datum.Bag b) = is_of_numbers b && nat_le (total b) GREATEST_COUNT
+is_kept (datum.Bag b) = is_of_numbers b && nat_le (total b) greatest_count
 
 abbrev pub are_kept : List Datum → Bool
 are_kept contents = list_all is_kept contents

@@ -198,7 +198,7 @@ fn csv_of(alloc: Global, tree: &Tree<'_>, counts: &Counts) -> Result<String, All
     let mut text = String::from_str(alloc, "kind,component,name,measure,value\n")?;
     writeln!(text, "run,,,ticks,{}", counts.ticks)?;
     for section in &sections_of(alloc, tree, counts)? {
-        push_csv(&mut text, section)?;
+        push_csv(alloc, &mut text, section)?;
     }
     Ok(text)
 }

@@ -48,17 +48,19 @@ impl Kind {
     }
 }
 
-/// A row: the path of a component, the name of what it is about, and the values of the measures. What is not there is empty.
+/// A row: the path of a component as the numbers of its names, the name of what it is about, and the values of the measures.
+/// What is not there is empty.
 #[derive(Drop)]
 pub(crate) struct Row<'t> {
-    pub(crate) component: &'t str,
+    pub(crate) component: &'t [u32],
     pub(crate) name: &'t str,
     pub(crate) values: Vec<String>,
 }
 
-/// Rows of one kind.
+/// Rows of one kind, of the components of a tree.
 #[derive(Drop)]
 pub(crate) struct Section<'t> {
+    pub(crate) tree: &'t Tree<'t>,
     pub(crate) kind: Kind,
     pub(crate) rows: Vec<Row<'t>>,
 }
@@ -82,6 +84,7 @@ pub(crate) fn component_rows<'t>(
         })?;
     }
     Ok(Section {
+        tree,
         kind: Kind::Component,
         rows,
     })
@@ -113,6 +116,7 @@ pub(crate) fn phase_rows<'t>(
         add_phases(alloc, tree, component, count, &mut rows)?;
     }
     Ok(Section {
+        tree,
         kind: Kind::Phase,
         rows,
     })
@@ -156,6 +160,7 @@ pub(crate) fn variable_rows<'t>(
         add_variables(alloc, tree, component, count, ticks, &mut rows)?;
     }
     Ok(Section {
+        tree,
         kind: Kind::Variable,
         rows,
     })
@@ -194,6 +199,7 @@ pub(crate) fn port_rows<'t>(
         add_ports(alloc, tree, component, count, &mut rows)?;
     }
     Ok(Section {
+        tree,
         kind: Kind::Port,
         rows,
     })
@@ -229,12 +235,13 @@ pub(crate) fn output_rows<'t>(
     let mut rows = Vec::new(alloc);
     for (port, count) in counts.iter().enumerate() {
         rows.push(Row {
-            component: "",
+            component: &[],
             name: output_name(tree, port),
             values: output_values(alloc, count, ticks)?,
         })?;
     }
     Ok(Section {
+        tree,
         kind: Kind::Output,
         rows,
     })
@@ -284,11 +291,11 @@ fn add_gaps(
     Ok(())
 }
 
-fn path_of<'t>(tree: &'t Tree<'t>, component: usize) -> &'t str {
+fn path_of<'t>(tree: &'t Tree<'t>, component: usize) -> &'t [u32] {
     if component < tree.component_count() {
         tree.path(component)
     } else {
-        ""
+        &[]
     }
 }
 

@@ -1,6 +1,7 @@
 //! Sections as text: in aligned columns, or as comma-separated values.
 
 use crate::sections::{Kind, Row, Section};
+use dv_tree::Tree;
 use std::alloc::{AllocError, Global};
 
 /// What stands in a column for what is not there.
@@ -24,7 +25,8 @@ impl Widths {
         let mut component = width_of("component");
         let mut name = width_of(section.kind.word());
         for row in &section.rows {
-            component = component.max(width_of(row.component));
+            let path = path_text(alloc, section.tree, row)?;
+            component = component.max(width_of(path.as_str()));
             name = name.max(width_of(row.name));
         }
         Ok(Widths {
@@ -44,6 +46,13 @@ fn value_width(measure: &str, place: usize, rows: &[Row<'_>]) -> usize {
         }
     }
     width
+}
+
+// The path of a row, which is written down where it is wanted and kept nowhere.
+fn path_text(alloc: Global, tree: &Tree, row: &Row<'_>) -> Result<String, AllocError> {
+    let mut text = String::new(alloc);
+    tree.push_path(&mut text, row.component)?;
+    Ok(text)
 }
 
 fn width_of(text: &str) -> usize {
@@ -73,7 +82,8 @@ pub(crate) fn push_columns(
     }
     text.push('\n')?;
     for row in &section.rows {
-        push_names(text, section.kind, row.component, row.name, &widths)?;
+        let path = path_text(alloc, section.tree, row)?;
+        push_names(text, section.kind, path.as_str(), row.name, &widths)?;
         push_values(text, row, &widths)?;
         text.push('\n')?;
     }
@@ -137,22 +147,23 @@ fn push_right(
 }
 
 /// A section as comma-separated values: a line for each value. No name has a comma or a quote.
-pub(crate) fn push_csv(text: &mut String, section: &Section<'_>) -> Result<(), AllocError> {
+pub(crate) fn push_csv(
+    alloc: Global,
+    text: &mut String,
+    section: &Section<'_>,
+) -> Result<(), AllocError> {
     for row in &section.rows {
-        push_row(text, section.kind, row)?;
+        let path = path_text(alloc, section.tree, row)?;
+        push_row(text, section.kind, path.as_str(), row)?;
     }
     Ok(())
 }
 
-fn push_row(text: &mut String, kind: Kind, row: &Row<'_>) -> Result<(), AllocError> {
+fn push_row(text: &mut String, kind: Kind, path: &str, row: &Row<'_>) -> Result<(), AllocError> {
     for (place, measure) in kind.measures().iter().enumerate() {
         if let Some(value) = row.values.get(place) {
             let kind = kind.word();
-            writeln!(
-                text,
-                "{kind},{},{},{measure},{value}",
-                row.component, row.name
-            )?;
+            writeln!(text, "{kind},{path},{},{measure},{value}", row.name)?;
         }
     }
     Ok(())

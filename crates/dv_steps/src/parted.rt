@@ -136,7 +136,7 @@ fn push_group(
         if owners.is_owner(process, component) {
             text.push(mark)?;
             text.push('"')?;
-            text.push_str(tree.path(component))?;
+            tree.push_path(text, tree.path(component))?;
             text.push('"')?;
             mark = ',';
         }

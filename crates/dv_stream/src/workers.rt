@@ -2,7 +2,6 @@
 
 ghost use Rattle.std.specs.Prelude.{◌≡◌, ◌<◌, ◌≤◌, ℕ, Some, slice_get, length, IfOk, IfSome, OnErr};
 ghost use Rattle.dv_time.specs.Time.{end_of, rank};
-ghost use Rattle.dv_time.specs.declared.TheConstants.{GREATEST_TICK};
 ghost use Rattle.dv_time.specs.declared.time.Time.{Time as MeantTime};
 ghost use Rattle.dv_board.specs.Jobs.{IsMergeable};
 ghost use Rattle.dv_core.specs.Worlds.{AreMadeFor, end_time};
@@ -10,6 +9,7 @@ ghost use Rattle.dv_devs.specs.Clocks.{least_rank};
 ghost use Rattle.dv_stream.specs.Workers.{IsReportOf, job_of_type};
 ghost use Rattle.dv_stream.specs.Written.{IsBegun, IsWrittenTo};
 ghost use Rattle.dv_work.specs.declared.report.Ended.TheVariants.{Whole};
+ghost use Rattle.dv_time.specs.Limits.{greatest_tick};
 
 use crate::news::{Signals, write_news};
 use crate::rest::{clocks_from, write_rest};
@@ -21,7 +21,7 @@ use dv_link::OfJob;
 use dv_proc::Channel;
 use dv_text::laws::a_trace_is_its_pieces;
 use dv_text::{TraceWriter, WriteError};
-use dv_time::{GREATEST_TICK, Time};
+use dv_time::Time;
 use dv_tree::Tree;
 use dv_work::{Ended, Gate, Report, run_streamed};
 use std::alloc::{AllocError, Global};
@@ -51,7 +51,7 @@ struct Until<N: OfJob> {
     tick: u64,
     of: PhantomData<N>,
     ghost is: { tick ≡ N.job.horizon },
-    ghost few: { tick ≤ GREATEST_TICK },
+    ghost few: { tick ≤ greatest_tick },
 }
 
 impl<N: OfJob> PlannedJob for Until<N> {

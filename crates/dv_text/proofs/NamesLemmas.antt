@@ -14,31 +14,31 @@ use Rattle.dv_text.specs.Texts.{ComponentNames, names_at, no_names}
 -- the names of a component, by its path and what its model declares
 abbrev pub names_by : List (List ℕ) → List ℕ → Scope → ComponentNames
 names_by names path scope = record {
-  path = path;
+  path = with_dots (texts_of names path);
   phases = texts_of names scope.phases;
   variables = texts_of names (names_of scope.variables);
   outputs = texts_of names scope.outputs;
 }
 
 by_instance : (names : List (List ℕ)) (o : Option Instance) (path : List ℕ) (scope : Scope) →
-    option_map (λ (i : Instance). with_dots (texts_of names i.path)) o ≡ Some path →
+    option_map (λ (i : Instance). i.path) o ≡ Some path →
     option_map (λ (i : Instance). scope_of i.model) o ≡ Some scope →
     names_by names path scope ≡ unwrap_or (option_map (instance_names names) o) no_names
 by_instance names None path scope h k = cc
 by_instance names (Some i) path scope h k =
-    let p : with_dots (texts_of names i.path) ≡ path = cc in
+    let p : i.path ≡ path = cc in
     let e : scope_of i.model ≡ scope = cc in
     sym (ap (λ (t : List ℕ). names_by names t (scope_of i.model)) p ∙ ap (names_by names path) e)
 
 -- the path and the scope of a component give its names
 pub names_at-found : (s : Source) (k : ℕ) (path : List ℕ) (scope : Scope) →
-    slice_get (map (λ (i : Instance). with_dots (texts_of s.names i.path)) (instances (file_of s.file))) k ≡ Some path →
+    slice_get (map (λ (i : Instance). i.path) (instances (file_of s.file))) k ≡ Some path →
     slice_get (map (λ (i : Instance). scope_of i.model) (instances (file_of s.file))) k ≡ Some scope →
     names_by s.names path scope ≡ names_at (tree_names s) k
 names_at-found s k path scope h g =
     let all = instances (file_of s.file) in
     by_instance s.names (slice_get all k) path scope
-    (sym (slice_get-map (λ (i : Instance). with_dots (texts_of s.names i.path)) all k) ∙ h)
+    (sym (slice_get-map (λ (i : Instance). i.path) all k) ∙ h)
     (sym (slice_get-map (λ (i : Instance). scope_of i.model) all k) ∙ g)
     ∙ sym (ap (λ (o : Option ComponentNames). unwrap_or o no_names) (slice_get-map (instance_names s.names) all k))
 

@@ -34,7 +34,7 @@ tree_ports s = root_ports s.names (file_of s.file)
 -- the names that the code looked up of a component
 abbrev pub names_found : Words → ComponentNames
 names_found w = record {
-  path = w.path.now;
+  path = with_dots (texts_of w.tree.now.names w.path.now);
   phases = texts_of w.tree.now.names w.phases.now;
   variables = texts_of w.tree.now.names w.variables.now;
   outputs = texts_of w.tree.now.names w.outputs.now;

@@ -15,11 +15,12 @@ use dv_time::Time;
 use dv_tree::Tree;
 use std::alloc::AllocError;
 
-/// The names by which a component is written: its path, and the numbers of the names that its model declares.
+/// The names by which a component is written, as their numbers: those of the parts that lead to it, and those that its
+/// model declares.
 #[derive(Drop)]
 pub struct Words<'t> {
     tree: &'t Tree<'t>,
-    path: &'t str,
+    path: &'t [u32],
     phases: &'t [u32],
     variables: &'t [u32],
     outputs: &'t [u32],
@@ -33,7 +34,7 @@ fn words_of<'t>(tree: &'t Tree<'t>, component: u32) -> Words<'t>
     if component >= tree.component_count() {
         return Words {
             tree,
-            path: "",
+            path: &[],
             phases: &[],
             variables: &[],
             outputs: &[],
@@ -174,19 +175,19 @@ fn push_line(line: &mut String, words: &Words, entry: &Entry) -> Result<(), Allo
     ensures { OnOk result (string_bytes line.new ≡
         string_bytes line.old ++ entry_text (names_found words.now) entry.now) }
 {
-    push_front(line, entry.time, words.path)?;
+    push_front(line, entry.time, words)?;
     push_what(line, words, &entry.what)?;
     push_sent(line, words, &entry.sent)?;
     line.push('\n')
 }
 
 // The front of a line: a time, and the path of a component.
-fn push_front(line: &mut String, time: Time, path: &str) -> Result<(), AllocError>
-    ensures { OnOk result (string_bytes line.new ≡
-        string_bytes line.old ++ (time_text time ++ ((32 ∷ path.now) ++ (32 ∷ [])))) }
+fn push_front(line: &mut String, time: Time, words: &Words) -> Result<(), AllocError>
+    ensures { OnOk result (string_bytes line.new ≡ string_bytes line.old
+        ++ (time_text time ++ ((32 ∷ (names_found words.now).path) ++ (32 ∷ [])))) }
 {
     push_time(line, time)?;
     line.push(' ')?;
-    line.push_str(path)?;
+    words.tree.push_path(line, words.path)?;
     line.push(' ')
 }

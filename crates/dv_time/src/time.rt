@@ -5,8 +5,8 @@ ghost use Rattle.std.proofs.Common.{rules};
 ghost use Rattle.std.specs.Cmp.{partial_order_from_own_ties};
 ghost use Rattle.std.specs.Cmp.Rules.{comparing};
 ghost use Rattle.dv_time.specs.Time.{IsOfRun, after, is_before, rank, succ, time_cmp};
+ghost use Rattle.dv_time.specs.Limits.{greatest_tick};
 
-use crate::GREATEST_TICK;
 use std::cmp::Ordering;
 use std::fmt;
 
@@ -36,7 +36,7 @@ impl Time {
 
     /// The next time: the next microstep where the limit allows one, else the next tick.
     pub fn succ(self, limit: u32) -> Time
-        requires { self.tick ≤ GREATEST_TICK + 1 }
+        requires { self.tick ≤ greatest_tick + 1 }
         ensures { result ≡ succ limit self }
     {
         if self.micro < limit {
@@ -58,7 +58,7 @@ impl Time {
     ///
     /// `Microsteps` for a hold of 0 at the last microstep of the tick.
     pub fn after(self, hold: u64, limit: u32) -> Result<Time, Microsteps>
-        requires tick { self.tick ≤ GREATEST_TICK + 1 }
+        requires tick { self.tick ≤ greatest_tick + 1 }
         requires hold { hold < 2 ^ 63 }
         ensures { result ≡ after limit self hold }
     {

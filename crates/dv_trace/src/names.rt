@@ -7,7 +7,7 @@ use std::alloc::{AllocError, Global};
 /// The components by their paths, the numbers of names by their texts, and the output ports of the root by theirs.
 #[derive(Drop)]
 pub(crate) struct Directory<'t> {
-    components: IndexMap<&'t [u8], u32>,
+    components: IndexMap<String, u32>,
     names: IndexMap<&'t [u8], u32>,
     outputs: IndexMap<&'t [u8], usize>,
 }
@@ -23,7 +23,7 @@ impl<'t> Directory<'t> {
     }
 
     pub(crate) fn component(&self, path: &str) -> Option<u32> {
-        self.components.get(path.as_bytes()).copied()
+        self.components.get(path).copied()
     }
 
     pub(crate) fn name(&self, text: &str) -> Option<u32> {
@@ -35,13 +35,10 @@ impl<'t> Directory<'t> {
     }
 }
 
-fn components_of<'t>(
-    alloc: Global,
-    tree: &'t Tree<'t>,
-) -> Result<IndexMap<&'t [u8], u32>, AllocError> {
+fn components_of(alloc: Global, tree: &Tree) -> Result<IndexMap<String, u32>, AllocError> {
     let mut components = IndexMap::new(alloc);
     for component in 0..tree.component_count() {
-        components.insert(tree.path(component).as_bytes(), component as u32)?;
+        components.insert(tree.path_text(alloc, component)?, component as u32)?;
     }
     Ok(components)
 }

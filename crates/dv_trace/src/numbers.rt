@@ -2,7 +2,7 @@
 
 ghost use Rattle.std.specs.Prelude.{◌≡◌, ◌≤◌, IfSome};
 ghost use Rattle.std.specs.Str.Parse.{digits_value};
-ghost use Rattle.dv_time.specs.declared.TheConstants.{GREATEST_TICK};
+ghost use Rattle.dv_time.specs.Limits.{greatest_tick};
 
 use dv_time::{GREATEST_TICK, Time};
 
@@ -38,7 +38,7 @@ pub(crate) fn value_in(text: &str) -> Option<i64> {
 /// A tick of a run.
 pub(crate) fn tick_in(text: &str) -> Option<u64>
     ensures spelled { IfSome result (λ n. n ≡ digits_value 10 text.now) }
-    ensures bound { IfSome result (λ n. n ≤ GREATEST_TICK) }
+    ensures bound { IfSome result (λ n. n ≤ greatest_tick) }
 {
     number_in(text, GREATEST_TICK)
 }

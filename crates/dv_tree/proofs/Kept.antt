@@ -12,7 +12,7 @@ use Rattle.dv_syntax.specs.Trees.{ModelTree, CoupledTree, FileTree}
 use Rattle.dv_eval.specs.Scope.{scope_of}
 use Rattle.dv_bag.specs.Bag.{Counts, bag_at, union}
 use Rattle.dv_check.specs.Tree.{PartTree, NoParts, AtomicPart, CoupledPart, component_count, tree_of}
-use Rattle.dv_check.specs.declared.limits.TheConstants.{GREATEST_DEPTH}
+use Rattle.dv_check.specs.Limits.{greatest_depth}
 use Rattle.dv_check.specs.Names.{numbers_of}
 use Rattle.dv_tree.specs.Instances.{Instance, instances_in, instances, root_of, root_inputs, tree_in, inputs_in}
 use Rattle.dv_tree.specs.Couplings.{couplings_of_inputs, couplings_of_parts}
@@ -215,7 +215,7 @@ module _ {W : Type 0} (R : (W → Counts) → Type 0) (none : R (λ w. []))
       AtOutputs R (instances_in [] (tree_in models root)) sent → (port : ℕ) → R (λ w. bag_at (leaves_root models root (sent w)) port)
   root_leaves_kept models None sent h port = none
   root_leaves_kept models (Some m) sent h port =
-      let fits = fits_to GREATEST_DEPTH models m in
+      let fits = fits_to greatest_depth models m in
       (alike_from models m (tree_of models m) sent fits.ports fits.inside (sent_in [] (tree_of models m) sent h)).holds (Own port)
 
   root_arrives_kept : (models : List ModelTree) (root : Option CoupledTree) (sent : W → List (List Counts)) (input : W → List Counts) →
@@ -224,7 +224,7 @@ module _ {W : Type 0} (R : (W → Counts) → Type 0) (none : R (λ w. []))
   root_arrives_kept models None sent input h comes k port = none
   root_arrives_kept models (Some m) sent input h comes k port =
       let t = tree_of models m in
-      let fits = fits_to GREATEST_DEPTH models m in
+      let fits = fits_to greatest_depth models m in
       let s = sent_in [] t sent h in
       arriving_kept models t (λ w. to_parts models m (input w) (leaving models t (sent w))) sent fits.inside
       (alike_to models m t sent input fits.ports fits.inside s

@@ -1,5 +1,6 @@
 pub mod Along
 pub mod Below
+pub mod Dots
 pub mod Fitting
 pub mod Gathered
 pub mod Kept

@@ -7,7 +7,7 @@ use Rattle.dv_syntax.specs.declared.tree.Name.{Name}
 use Rattle.dv_bag.specs.Bag.{Counts}
 use Rattle.dv_check.specs.CheckedFiles.{IsCheckedFile}
 use Rattle.dv_check.specs.Tree.{component_count}
-use Rattle.dv_check.specs.declared.limits.TheConstants.{GREATEST_COMPONENTS, GREATEST_NAMES}
+use Rattle.dv_check.specs.Limits.{greatest_components, greatest_names}
 use Rattle.dv_tree.specs.Instances.{coupled_model, instances, inputs_in, outputs_in, root_inputs, root_outputs, root_of, tree_in}
 use Rattle.dv_tree.specs.Routing.{Arrived, with_values, with_coupling, along, along_all, nothing_at, leaving, leaves, leaves_root}
 use Rattle.dv_tree.specs.declared.couplings.Target.{Target}
@@ -15,22 +15,22 @@ use Rattle.dv_tree.specs.declared.couplings.Target.TheVariants.{Own, OfPart}
 use Rattle.dv_tree.specs.declared.couplings.Coupling.{Coupling}
 use Rattle.dv_tree.proofs.Named.{length-instances_in}
 
-few_in_tree : (f : FileTree) → IsCheckedFile f → component_count (tree_in f.models (root_of f)) ≤ GREATEST_COMPONENTS
+few_in_tree : (f : FileTree) → IsCheckedFile f → component_count (tree_in f.models (root_of f)) ≤ greatest_components
 few_in_tree f h =
-    let Few : Option ModelTree → Type 0 = λ o. component_count (tree_in f.models (coupled_model o)) ≤ GREATEST_COMPONENTS in
+    let Few : Option ModelTree → Type 0 = λ o. component_count (tree_in f.models (coupled_model o)) ≤ greatest_components in
     subst Few (sym h.named) h.few_components
 
-pub few_components : (f : FileTree) → IsCheckedFile f → length (instances f) ≤ GREATEST_COMPONENTS
+pub few_components : (f : FileTree) → IsCheckedFile f → length (instances f) ≤ greatest_components
 few_components f h = omega (arith, length-instances_in [] (tree_in f.models (root_of f)), few_in_tree f h)
 
-pub few_inputs : (f : FileTree) → IsCheckedFile f → length (root_inputs f) ≤ GREATEST_NAMES
+pub few_inputs : (f : FileTree) → IsCheckedFile f → length (root_inputs f) ≤ greatest_names
 few_inputs f h =
-    let Few : Option ModelTree → Type 0 = λ o. length (inputs_in (coupled_model o)) ≤ GREATEST_NAMES in
+    let Few : Option ModelTree → Type 0 = λ o. length (inputs_in (coupled_model o)) ≤ greatest_names in
     omega (arith, length-map (inputs_in (root_of f)) (λ (n : Name). n.number), subst Few (sym h.named) (omega (arith, h.coupled.few_ports)))
 
-few_outputs : (f : FileTree) → IsCheckedFile f → length (root_outputs f) ≤ GREATEST_NAMES
+few_outputs : (f : FileTree) → IsCheckedFile f → length (root_outputs f) ≤ greatest_names
 few_outputs f h =
-    let Few : Option ModelTree → Type 0 = λ o. length (outputs_in (coupled_model o)) ≤ GREATEST_NAMES in
+    let Few : Option ModelTree → Type 0 = λ o. length (outputs_in (coupled_model o)) ≤ greatest_names in
     omega (
       arith,
       length-map (outputs_in (root_of f)) (λ (n : Name). n.number),
@@ -62,5 +62,5 @@ pub length-leaves : (f : FileTree) (sent : List (List Counts)) → length (leave
 length-leaves f sent =
     length-leaves_root f.models (root_of f) sent ∙ sym (length-map (outputs_in (root_of f)) (λ (n : Name). n.number))
 
-pub few_leave : (f : FileTree) (sent : List (List Counts)) → IsCheckedFile f → length (leaves f sent) ≤ GREATEST_NAMES
+pub few_leave : (f : FileTree) (sent : List (List Counts)) → IsCheckedFile f → length (leaves f sent) ≤ greatest_names
 few_leave f sent h = omega (arith, length-leaves f sent, few_outputs f h)

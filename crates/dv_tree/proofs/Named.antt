@@ -1,7 +1,7 @@
--- The components by number are those of the text, each with the text of its path and the place of its model.
+-- The components by number are those of the text, each with its path and the place of its model.
 use Rattle.std.proofs.Common.{◌≡◌, ℕ, zero, suc, ◌+◌, ◌<◌, List, [], ◌∷◌, ◌++◌, length, map, get_or, refl, ap, sym, ◌∙◌, subst, arith}
 use Rattle.std.specs.Prelude.{Option, Some, None, option_map, slice_get}
-use Rattle.std.proofs.lemmas.List.{append_assoc, map-append, length-append}
+use Rattle.std.proofs.lemmas.List.{length-append}
 use Rattle.std.proofs.lemmas.Option.{slice_get-map, slice_get_within, get_or_from_slice_get}
 use Rattle.dv_syntax.specs.Trees.{ModelTree, AtomicModel, AtomicTree, CoupledTree, atomic_of, file_of, model_of}
 use Rattle.dv_syntax.specs.declared.tree.Atomic.{Atomic}
@@ -11,84 +11,51 @@ use Rattle.dv_syntax.specs.declared.tree.File.{File}
 use Rattle.dv_eval.specs.Scope.{Scope, scope_of}
 use Rattle.dv_check.specs.declared.checked.Checked.{Checked}
 use Rattle.dv_check.specs.Tree.{PartTree, NoParts, AtomicPart, CoupledPart, component_count}
-use Rattle.dv_check.specs.declared.limits.TheConstants.{GREATEST_DEPTH}
+use Rattle.dv_check.specs.Limits.{greatest_depth}
 use Rattle.dv_tree.specs.Instances.{Instance, instances_in, instances, root_of, tree_in}
-use Rattle.dv_tree.specs.Paths.{name_at, texts_of, with_dots}
 use Rattle.dv_tree.specs.Tables.{Source, level_of, levels_of, scope_of_model, scopes_of}
 use Rattle.dv_tree.specs.Nodes.{Nodes, components_in, components_of_root, components_of}
 use Rattle.dv_tree.proofs.Mirrors.{Mirrors, none, atomic, coupled, mirrors_to}
 
--- names with a dot behind each
-abbrev pub dotted : List (List ℕ) → List ℕ
-dotted [] = []
-dotted (t ∷ ts) = t ++ 46 ∷ dotted ts
-
-with_dots-push : (ts : List (List ℕ)) (x : List ℕ) → with_dots (ts ++ x ∷ []) ≡ dotted ts ++ x
-with_dots-push [] x = refl
-with_dots-push (t ∷ []) x = sym (append_assoc t (46 ∷ []) x)
-with_dots-push (t ∷ u ∷ ts) x =
-    ap (λ xs. t ++ 46 ∷ xs) (with_dots-push (u ∷ ts) x) ∙ sym (append_assoc t (46 ∷ dotted (u ∷ ts)) x)
-
-dotted-push : (ts : List (List ℕ)) (x : List ℕ) → dotted (ts ++ x ∷ []) ≡ dotted ts ++ x ++ 46 ∷ []
-dotted-push [] x = refl
-dotted-push (t ∷ ts) x =
-    ap (λ xs. t ++ 46 ∷ xs) (dotted-push ts x)
-    ∙ (sym (append_assoc t (46 ∷ (dotted ts ++ x)) (46 ∷ [])) ∙ ap (λ xs. xs ++ 46 ∷ []) (sym (append_assoc t (46 ∷ dotted ts) x)))
-
 -- a component of the tables is one of the text
-pub record IsNamed (models : List ModelTree) (names : List (List ℕ)) (c : List ℕ × ℕ) (i : Instance) : Type 0 where
-  pub path : c.0 ≡ with_dots (texts_of names i.path)
+pub record IsNamed (models : List ModelTree) (c : List ℕ × ℕ) (i : Instance) : Type 0 where
+  pub path : c.0 ≡ i.path
   pub model : slice_get models c.1 ≡ Some (AtomicModel i.model)
 
-pub data AreNamed (models : List ModelTree) (names : List (List ℕ)) : List (List ℕ × ℕ) → List Instance → Type 0 where
-  no_more : AreNamed models names [] []
-  one_more : {c : List ℕ × ℕ} {i : Instance} {cs : List (List ℕ × ℕ)} {is : List Instance} → IsNamed models names c i →
-      AreNamed models names cs is → AreNamed models names (c ∷ cs) (i ∷ is)
+pub data AreNamed (models : List ModelTree) : List (List ℕ × ℕ) → List Instance → Type 0 where
+  no_more : AreNamed models [] []
+  one_more : {c : List ℕ × ℕ} {i : Instance} {cs : List (List ℕ × ℕ)} {is : List Instance} → IsNamed models c i →
+      AreNamed models cs is → AreNamed models (c ∷ cs) (i ∷ is)
 
-named_append : {models : List ModelTree} {names : List (List ℕ)} {cs ds : List (List ℕ × ℕ)} {is js : List Instance} →
-    AreNamed models names cs is → AreNamed models names ds js → AreNamed models names (cs ++ ds) (is ++ js)
+named_append : {models : List ModelTree} {cs ds : List (List ℕ × ℕ)} {is js : List Instance} →
+    AreNamed models cs is → AreNamed models ds js → AreNamed models (cs ++ ds) (is ++ js)
 named_append no_more more = more
 named_append (one_more h rest) more = one_more h (named_append rest more)
 
-pub length-named : {models : List ModelTree} {names : List (List ℕ)} {cs : List (List ℕ × ℕ)} {is : List Instance} →
-    AreNamed models names cs is → length cs ≡ length is
+pub length-named : {models : List ModelTree} {cs : List (List ℕ × ℕ)} {is : List Instance} → AreNamed models cs is →
+    length cs ≡ length is
 length-named no_more = refl
 length-named (one_more h rest) = ap suc (length-named rest)
 
-pub all_named : {models : List ModelTree} {t : PartTree} {n : Nodes} (names : List (List ℕ)) (before : List ℕ) (path : List ℕ) →
-    before ≡ dotted (texts_of names path) → Mirrors models t n →
-    AreNamed models names (components_in names before n) (instances_in path t)
-all_named names before path e none = no_more
-all_named names before path e (atomic name m place there rest) =
-    one_more (record {
-      path =
-          ap (λ xs. xs ++ name_at names name.number) e
-          ∙ (sym (with_dots-push (texts_of names path) (name_at names name.number))
-          ∙ ap with_dots (sym (map-append (name_at names) path (name.number ∷ []))));
-      model = there;
-    }) (all_named names before path e rest)
-all_named names before path e (coupled name m inside rest) =
-    named_append
-    (all_named names (before ++ name_at names name.number ++ 46 ∷ []) (path ++ name.number ∷ [])
-    (ap (λ xs. xs ++ name_at names name.number ++ 46 ∷ []) e
-    ∙ (sym (dotted-push (texts_of names path) (name_at names name.number))
-    ∙ ap dotted (sym (map-append (name_at names) path (name.number ∷ []))))) inside)
-    (all_named names before path e rest)
+pub all_named : {models : List ModelTree} {t : PartTree} {n : Nodes} (path : List ℕ) → Mirrors models t n →
+    AreNamed models (components_in path n) (instances_in path t)
+all_named path none = no_more
+all_named path (atomic name m place there rest) = one_more (record { path = refl; model = there }) (all_named path rest)
+all_named path (coupled name m inside rest) = named_append (all_named (path ++ name.number ∷ []) inside) (all_named path rest)
 
-root_named : (models : List ModelTree) (names : List (List ℕ)) (root : Option CoupledTree) →
-    AreNamed models names (components_of_root names (levels_of models) (option_map (level_of models) root))
-    (instances_in [] (tree_in models root))
-root_named models names None = no_more
-root_named models names (Some m) = all_named names [] [] refl (mirrors_to GREATEST_DEPTH models m)
+root_named : (models : List ModelTree) (root : Option CoupledTree) →
+    AreNamed models (components_of_root (levels_of models) (option_map (level_of models) root)) (instances_in [] (tree_in models root))
+root_named models None = no_more
+root_named models (Some m) = all_named [] (mirrors_to greatest_depth models m)
 
 pub tree_named : (checked : Checked) (s : Source) (components : List (List ℕ × ℕ)) →
-    record { file = checked.file; names = checked.names } ≡ s → components ≡ components_of checked.names (file_of checked.file) →
-    AreNamed (file_of checked.file).models s.names components (instances (file_of s.file))
+    record { file = checked.file; names = checked.names } ≡ s → components ≡ components_of (file_of checked.file) →
+    AreNamed (file_of checked.file).models components (instances (file_of s.file))
 tree_named checked s components view are =
     let f = file_of checked.file in
-    let Named : Source → Type 0 = λ x. AreNamed f.models x.names components (instances (file_of x.file)) in
-    let Tables : List (List ℕ × ℕ) → Type 0 = λ cs. AreNamed f.models checked.names cs (instances f) in
-    subst Named view (subst Tables (sym are) (root_named f.models checked.names (root_of f)))
+    let Named : Source → Type 0 = λ x. AreNamed f.models components (instances (file_of x.file)) in
+    let Tables : List (List ℕ × ℕ) → Type 0 = λ cs. AreNamed f.models cs (instances f) in
+    subst Named view (subst Tables (sym are) (root_named f.models (root_of f)))
 
 -- as many components as the tree has
 pub length-instances_in : (path : List ℕ) (t : PartTree) → length (instances_in path t) ≡ component_count t
@@ -100,16 +67,15 @@ length-instances_in path (CoupledPart name m inside rest) =
     ∙ ap (λ k. component_count inside + k) (length-instances_in path rest))
 
 -- a component by its number
-pub record IsComponent (models : List ModelTree) (names : List (List ℕ)) (cs : List (List ℕ × ℕ)) (is : List Instance)
-    (k : ℕ) : Type 0 where
+pub record IsComponent (models : List ModelTree) (cs : List (List ℕ × ℕ)) (is : List Instance) (k : ℕ) : Type 0 where
   pub component : List ℕ × ℕ
   pub instance : Instance
   pub kept : slice_get cs k ≡ Some component
   pub shown : slice_get is k ≡ Some instance
-  pub named : IsNamed models names component instance
+  pub named : IsNamed models component instance
 
-component_at : {models : List ModelTree} {names : List (List ℕ)} {cs : List (List ℕ × ℕ)} {is : List Instance} (k : ℕ) →
-    AreNamed models names cs is → k < length is → IsComponent models names cs is k
+component_at : {models : List ModelTree} {cs : List (List ℕ × ℕ)} {is : List Instance} (k : ℕ) → AreNamed models cs is →
+    k < length is → IsComponent models cs is k
 component_at k no_more within = absurd (omega arith)
 component_at zero (one_more {c = c} {i = i} h rest) within =
     record { component = c; instance = i; kept = refl; shown = refl; named = h }
@@ -133,33 +99,29 @@ has_atomic (x ∷ models) (suc place) m e =
     record { atomic = rest.atomic; there = rest.there; shows = rest.shows }
 
 -- what the tables of a text have of a component
-pub record IsFound (file : File) (names : List (List ℕ)) (is : List Instance) (components : List (List ℕ × ℕ)) (scopes : List Scope)
-    (k : ℕ) : Type 0 where
-  pub text : List ℕ
+pub record IsFound (file : File) (is : List Instance) (components : List (List ℕ × ℕ)) (scopes : List Scope) (k : ℕ) : Type 0 where
   pub path : List ℕ
   pub place : ℕ
   pub atomic : Atomic
-  pub component : slice_get components k ≡ Some (text, place)
-  pub named : text ≡ with_dots (texts_of names path)
+  pub component : slice_get components k ≡ Some (path, place)
   pub scope : slice_get scopes place ≡ Some (scope_of (atomic_of atomic))
   pub there : slice_get file.models.items place ≡ Some (model.Atomic atomic)
   pub shown : slice_get is k ≡ Some (record { path = path; model = atomic_of atomic })
 
 pub found : (checked : Checked) (s : Source) (components : List (List ℕ × ℕ)) (scopes : List Scope) (k : ℕ) →
-    record { file = checked.file; names = checked.names } ≡ s → components ≡ components_of checked.names (file_of checked.file) →
+    record { file = checked.file; names = checked.names } ≡ s → components ≡ components_of (file_of checked.file) →
     scopes ≡ scopes_of (file_of checked.file) → k < length (instances (file_of s.file)) →
-    IsFound checked.file s.names (instances (file_of s.file)) components scopes k
+    IsFound checked.file (instances (file_of s.file)) components scopes k
 found checked s components scopes k view components_are scopes_are within =
     let f = file_of checked.file in
     let is = component_at k (tree_named checked s components view components_are) within in
     let has = has_atomic checked.file.models.items is.component.1 is.instance.model is.named.model in
+    let kept : List ℕ → Option (List ℕ × ℕ) = λ p. Some (p, is.component.1) in
     record {
-      text = is.component.0;
       path = is.instance.path;
       place = is.component.1;
       atomic = has.atomic;
-      component = is.kept;
-      named = is.named.path;
+      component = is.kept ∙ ap kept is.named.path;
       scope =
           ap (λ ss. slice_get ss is.component.1) scopes_are
           ∙ (slice_get-map scope_of_model f.models is.component.1
@@ -173,12 +135,12 @@ read_is : {X : Type 0} (xs : List X) (i : ℕ) (x y : X) → slice_get xs i ≡ 
 read_is xs i x y there read = read ∙ get_or_from_slice_get xs i x y there
 
 -- what the code reads of a component, of its model and of what that declares
-module _ {file : File} {names : List (List ℕ)} {is : List Instance} {components : List (List ℕ × ℕ)} {scopes : List Scope} {k : ℕ}
-    (h : IsFound file names is components scopes k) where
+module _ {file : File} {is : List Instance} {components : List (List ℕ × ℕ)} {scopes : List Scope} {k : ℕ}
+    (h : IsFound file is components scopes k) where
   pub within_components : k < length components
   within_components = slice_get_within components k _ h.component
 
-  pub component_read : (x : List ℕ × ℕ) → x ≡ get_or components k x → x ≡ (h.text, h.place)
+  pub component_read : (x : List ℕ × ℕ) → x ≡ get_or components k x → x ≡ (h.path, h.place)
   component_read x read = read_is components k _ x h.component read
 
   pub place_read : (x : List ℕ × ℕ) (place : ℕ) → x ≡ get_or components k x → place ≡ x.1 → place ≡ h.place

@@ -18,7 +18,7 @@ use Rattle.dv_check.specs.CheckedFiles.{IsCheckedCoupled, IsCheckedFile, IsCheck
 use Rattle.dv_check.specs.Names.{model_named, name_of_model, numbers_of}
 use Rattle.dv_check.specs.Couplings.{same_part}
 use Rattle.dv_check.specs.Tree.{PartTree, NoParts, AtomicPart, CoupledPart, component_count, parts_by, parts_to, tree_of, with_part}
-use Rattle.dv_check.specs.declared.limits.TheConstants.{GREATEST_DEPTH}
+use Rattle.dv_check.specs.Limits.{greatest_depth}
 use Rattle.dv_tree.specs.Instances.{coupled_model, root_of}
 use Rattle.dv_tree.specs.Couplings.{Shown, coupling_from_part, couplings_of_inputs, couplings_of_parts, part_couplings, place_at}
 use Rattle.dv_tree.specs.Couplings.{place_in, placed_between, placed_link, placed_links, shown_parts}
@@ -373,7 +373,7 @@ root_arrives_empty : (models : List ModelTree) (root : Option CoupledTree) (c : 
 root_arrives_empty models None c sent accepted root only = λ port. refl
 root_arrives_empty models (Some m) c sent accepted root only =
     let t = tree_of models m in
-    arriving_empty models t c (to_parts models m [] (leaving models t sent)) sent (onward_to models accepted GREATEST_DEPTH m)
+    arriving_empty models t c (to_parts models m [] (leaving models t sent)) sent (onward_to models accepted greatest_depth m)
     (to_part_empty models m t c sent [] (couplings_onward models m root) only (λ port. refl)) only
 
 -- of what one component sends nothing arrives at that component

@@ -8,7 +8,7 @@ use Rattle.dv_syntax.specs.Trees.{ModelTree, CoupledTree, FileTree}
 use Rattle.dv_eval.specs.Scope.{scope_of}
 use Rattle.dv_bag.specs.Bag.{Counts}
 use Rattle.dv_check.specs.Tree.{PartTree, NoParts, AtomicPart, CoupledPart, component_count, tree_of}
-use Rattle.dv_check.specs.declared.limits.TheConstants.{GREATEST_DEPTH}
+use Rattle.dv_check.specs.Limits.{greatest_depth}
 use Rattle.dv_tree.specs.Instances.{Instance, instances_in, instances, root_of, tree_in}
 use Rattle.dv_tree.specs.Couplings.{Shown, shown_parts, couplings_of_inputs, couplings_of_parts}
 use Rattle.dv_tree.specs.Routing.{Arrived, joined_at, with_values, with_coupling, along, along_all, nothing_at, from_parts}
@@ -113,7 +113,7 @@ root_ports : (models : List ModelTree) (root : Option CoupledTree) (sent : List 
 root_ports models None sent input = refl
 root_ports models (Some m) sent input =
     let t = tree_of models m in
-    let fits = fits_to GREATEST_DEPTH models m in
+    let fits = fits_to greatest_depth models m in
     ports_arriving models [] t (to_parts models m input (leaving models t sent)) sent fits.inside
     (subst (HaveInputs t) (ports_to models m input (leaving models t sent)) fits.inputs)
 

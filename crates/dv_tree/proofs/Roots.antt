@@ -5,7 +5,7 @@ use Rattle.std.proofs.lemmas.List.{append-nil}
 use Rattle.dv_syntax.specs.Trees.{ModelTree, CoupledTree, file_of}
 use Rattle.dv_bag.specs.Bag.{Counts}
 use Rattle.dv_check.specs.declared.checked.Checked.{Checked}
-use Rattle.dv_check.specs.declared.limits.TheConstants.{GREATEST_DEPTH}
+use Rattle.dv_check.specs.Limits.{greatest_depth}
 use Rattle.dv_check.specs.Tree.{tree_of}
 use Rattle.dv_tree.specs.Instances.{root_of}
 use Rattle.dv_tree.specs.Routing.{Arrived, from_parts, arriving, leaves_root, arrives_in_root, leaves, arrives}
@@ -17,16 +17,16 @@ root_leaves : (models : List ModelTree) (root : Option CoupledTree) (sent : List
     root_leaving (levels_of models) (option_map (level_of models) root) sent ≡ leaves_root models root sent
 root_leaves models None sent = refl
 root_leaves models (Some m) sent =
-    let bags = leaving_nodes (nodes_to GREATEST_DEPTH (levels_of models) (level_of models m)) sent in
+    let bags = leaving_nodes (nodes_to greatest_depth (levels_of models) (level_of models m)) sent in
     ap (λ (a : Arrived). a.own) (sym (from_table models m bags))
-    ∙ ap (λ xs. (from_parts models m xs).own) (sym (same_leaving (mirrors_to GREATEST_DEPTH models m) sent))
+    ∙ ap (λ xs. (from_parts models m xs).own) (sym (same_leaving (mirrors_to greatest_depth models m) sent))
 
 root_arrives : (models : List ModelTree) (root : Option CoupledTree) (sent : List (List Counts)) (input : List Counts) →
     root_received (levels_of models) (option_map (level_of models) root) sent input ≡ arrives_in_root models root sent input
 root_arrives models None sent input = refl
 root_arrives models (Some m) sent input =
-    let h = mirrors_to GREATEST_DEPTH models m in
-    let nodes = nodes_to GREATEST_DEPTH (levels_of models) (level_of models m) in
+    let h = mirrors_to greatest_depth models m in
+    let nodes = nodes_to greatest_depth (levels_of models) (level_of models m) in
     let comes = to_level (level_of models m) input (from_level (level_of models m) (leaving_nodes nodes sent)) in
     ap (arriving_nodes nodes comes) (sym (append-nil (kept_nodes nodes sent)))
     ∙ (same_arriving h comes sent [] ∙ ap (λ xs. arriving models (tree_of models m) xs sent) (to_table h m input sent))

@@ -2,10 +2,9 @@
 use Rattle.std.specs.Prelude.{ℕ, zero, suc, ◌+◌, List, [], ◌∷◌, ◌++◌, map, replicate, drop, slice_index_or, Option, Some, None, refl}
 use Rattle.std.specs.Coded.{Coded, code_by, coded×, coded_list, coded_ℕ, coded_ℤ}
 use Rattle.dv_bag.specs.Bag.{Counts}
-use Rattle.dv_tree.specs.Paths.{name_at}
 use Rattle.dv_tree.specs.Routing.{Arrived, along, along_all, first_bags}
 use Rattle.dv_syntax.specs.Trees.{FileTree}
-use Rattle.dv_check.specs.declared.limits.TheConstants.{GREATEST_DEPTH}
+use Rattle.dv_check.specs.Limits.{greatest_depth}
 use Rattle.dv_tree.specs.Tables.{LevelTable, levels_of, root_table}
 use Rattle.dv_tree.specs.declared.placed_parts.PlacedPart.{PlacedPart}
 
@@ -40,12 +39,11 @@ abbrev pub nodes_to : ℕ → List (Option LevelTable) → LevelTable → Nodes
 nodes_to zero levels l = NoNodes
 nodes_to (suc depth) levels l = nodes_by (nodes_to depth levels) levels l.parts
 
--- the components inside: the text of the path and the place of the model of each, behind a text
-abbrev pub components_in : List (List ℕ) → List ℕ → Nodes → List (List ℕ × ℕ)
-components_in names before NoNodes = []
-components_in names before (AtomicNode name model rest) = (before ++ name_at names name, model) ∷ components_in names before rest
-components_in names before (CoupledNode name l inside rest) =
-    components_in names (before ++ name_at names name ++ 46 ∷ []) inside ++ components_in names before rest
+-- the components inside: the path and the place of the model of each, where the paths begin with a path
+abbrev pub components_in : List ℕ → Nodes → List (List ℕ × ℕ)
+components_in before NoNodes = []
+components_in before (AtomicNode name model rest) = (before ++ name ∷ [], model) ∷ components_in before rest
+components_in before (CoupledNode name l inside rest) = components_in (before ++ name ∷ []) inside ++ components_in before rest
 
 -- the numbers of atomic and of coupled models inside
 abbrev pub atomic_count : Nodes → ℕ
@@ -125,17 +123,17 @@ root_level levels None = None
 root_level levels (Some place) = level_at levels place
 
 -- the components of a text
-abbrev pub components_of_root : List (List ℕ) → List (Option LevelTable) → Option LevelTable → List (List ℕ × ℕ)
-components_of_root names levels None = []
-components_of_root names levels (Some l) = components_in names [] (nodes_to GREATEST_DEPTH levels l)
+abbrev pub components_of_root : List (Option LevelTable) → Option LevelTable → List (List ℕ × ℕ)
+components_of_root levels None = []
+components_of_root levels (Some l) = components_in [] (nodes_to greatest_depth levels l)
 
-abbrev pub components_of : List (List ℕ) → FileTree → List (List ℕ × ℕ)
-components_of names f = components_of_root names (levels_of f.models) (root_table f)
+abbrev pub components_of : FileTree → List (List ℕ × ℕ)
+components_of f = components_of_root (levels_of f.models) (root_table f)
 
 -- what leaves the root
 abbrev pub root_leaving : List (Option LevelTable) → Option LevelTable → List (List Counts) → List Counts
 root_leaving levels None sent = []
-root_leaving levels (Some l) sent = (from_level l (leaving_nodes (nodes_to GREATEST_DEPTH levels l) sent)).own
+root_leaving levels (Some l) sent = (from_level l (leaving_nodes (nodes_to greatest_depth levels l) sent)).own
 
 -- what the components of parts of a root receive
 abbrev pub received_in : LevelTable → Nodes → List (List Counts) → List Counts → List (List Counts)
@@ -144,4 +142,4 @@ received_in l inside sent input =
 
 abbrev pub root_received : List (Option LevelTable) → Option LevelTable → List (List Counts) → List Counts → List (List Counts)
 root_received levels None sent input = []
-root_received levels (Some l) sent input = received_in l (nodes_to GREATEST_DEPTH levels l) sent input
+root_received levels (Some l) sent input = received_in l (nodes_to greatest_depth levels l) sent input

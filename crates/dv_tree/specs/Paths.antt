@@ -9,6 +9,11 @@ name_at names k = unwrap_or (slice_get names k) []
 abbrev pub texts_of : List (List ℕ) → List ℕ → List (List ℕ)
 texts_of names numbers = map (name_at names) numbers
 
+-- names, each behind a dot
+abbrev pub behind_dots : List (List ℕ) → List ℕ
+behind_dots [] = []
+behind_dots (x ∷ xs) = (46 ∷ x) ++ behind_dots xs
+
 -- the names of the parts, joined by dots
 abbrev pub with_dots : List (List ℕ) → List ℕ
 with_dots [] = []

@@ -1,6 +1,6 @@
 //! The components by number.
 
-ghost use Rattle.std.specs.Prelude.{◌≡◌, ◌++◌, ◌∷◌, [], string_bytes, IfOk, OnOk};
+ghost use Rattle.std.specs.Prelude.{◌≡◌, ◌++◌, ◌∷◌, [], IfOk, OnOk};
 ghost use Rattle.dv_tree.specs.Nodes.{components_in, nodes_to};
 ghost use Rattle.dv_tree.specs.Paths.{name_at};
 
@@ -9,27 +9,28 @@ use dv_lex::Names;
 use std::alloc::{AllocError, Global};
 use std::marker::Model;
 
-/// A component: the names of the parts that lead to it, joined by dots, and the place of its model in the file.
+/// A component: the names of the parts that lead to it, as their numbers, and the place of its model in the file. So it
+/// takes the same memory however long the names are.
 #[derive(Drop)]
 pub(crate) struct Component {
-    pub(crate) path: String,
+    pub(crate) path: Vec<u32>,
     pub(crate) model: usize,
 }
 
 impl Model for Component {
-    ghost use Rattle.std.specs.Prelude.{ℕ, List, string_bytes};
+    ghost use Rattle.std.specs.Prelude.{ℕ, List};
 
     ghost Value = { List ℕ × ℕ };
 
-    ghost view = { λ c. (string_bytes c.path, c.model) };
+    ghost view = { λ c. (c.path.items, c.model) };
 }
 
 impl Component {
-    /// The path.
-    pub(crate) fn path(&self) -> &str
+    /// The names of the parts that lead to it.
+    pub(crate) fn path(&self) -> &[u32]
         ensures { result.now ≡ self.now.0 }
     {
-        self.path.as_str()
+        &self.path
     }
 
     /// The place of the model.
@@ -50,39 +51,31 @@ pub(crate) fn name_at(names: &Names, number: u32) -> &str
     }
 }
 
-fn joined(alloc: Global, before: &str, name: &str) -> Result<String, AllocError>
-    ensures { IfOk result (λ text. string_bytes text ≡ before.now ++ name.now) }
+// The path of a part, from that of the model around it.
+fn path_to(alloc: Global, before: &[u32], name: u32) -> Result<Vec<u32>, AllocError>
+    ensures { IfOk result (λ path. path.items ≡ before.now ++ name ∷ []) }
 {
-    let mut text = String::from_str(alloc, before)?;
-    text.push_str(name)?;
-    Ok(text)
-}
-
-// Where the paths of the components in a coupled part begin.
-fn path_into(alloc: Global, before: &str, name: &str) -> Result<String, AllocError>
-    ensures { IfOk result (λ text. string_bytes text ≡ before.now ++ name.now ++ 46 ∷ []) }
-{
-    let mut path = joined(alloc, before, name)?;
-    path.push_str(".")?;
+    let mut path = Vec::from_slice(alloc, before)?;
+    path.push(name)?;
     Ok(path)
 }
 
 // Adds the component that an atomic part is, by the place of its model.
 fn add_component(
     alloc: Global,
-    before: &str,
-    name: &str,
+    before: &[u32],
+    name: u32,
     model: usize,
     components: &mut Vec<Component>,
 ) -> Result<(), AllocError>
     ensures { OnOk result (components.new.items ≡ components.old.items
-        ++ (before.now ++ name.now, model) ∷ []) }
+        ++ (before.now ++ name ∷ [], model) ∷ []) }
 {
-    let path = joined(alloc, before, name)?;
+    let path = path_to(alloc, before, name)?;
     Ok(components.push(Component { path, model })?)
 }
 
-/// Adds the components in the parts of a coupled model, down to so many levels. Their paths begin with a text.
+/// Adds the components in the parts of a coupled model, down to so many levels. Their paths begin with a path.
 ///
 /// # Errors
 ///
@@ -92,30 +85,21 @@ pub(crate) fn add_components(
     depth: usize,
     level: &Level,
     levels: &[Option<Level>],
-    names: &Names,
-    before: &str,
+    before: &[u32],
     components: &mut Vec<Component>,
 ) -> Result<(), AllocError>
     ensures { OnOk result (components.new.items ≡ components.old.items
-        ++ components_in names.now before.now (nodes_to depth levels.now level.now)) }
+        ++ components_in before.now (nodes_to depth levels.now level.now)) }
 {
     if depth == 0 {
         return Ok(());
     }
     for part in level.parts() {
-        let name = name_at(names, part.name.number);
+        let name = part.name.number;
         match level_at(levels, part.model) {
             Some(inside) => {
-                let path = path_into(alloc, before, name)?;
-                add_components(
-                    alloc,
-                    depth - 1,
-                    inside,
-                    levels,
-                    names,
-                    path.as_str(),
-                    components,
-                )?;
+                let path = path_to(alloc, before, name)?;
+                add_components(alloc, depth - 1, inside, levels, &path, components)?;
             }
             None => add_component(alloc, before, name, part.model, components)?,
         }

@@ -1,14 +1,15 @@
 //! The tree of a checked text.
 
-ghost use Rattle.std.specs.Prelude.{◌≡◌, ◌<◌, ◌≤◌, length, map, slice_get, string_bytes, Some, IfOk};
+ghost use Rattle.std.specs.Prelude.{◌≡◌, ◌<◌, ◌≤◌, ◌++◌, ◌∷◌, length, map, slice_get, string_bytes, Some, IfOk, OnOk};
 ghost use Rattle.std.specs.Option.{option_copied};
 ghost use Rattle.dv_syntax.specs.Trees.{AtomicModel, atomic_of, file_of, model_of};
 ghost use Rattle.dv_eval.specs.Scope.{scope_of};
 ghost use Rattle.dv_tree.specs.Instances.{instances, root_inputs, root_outputs};
 ghost use Rattle.dv_tree.specs.Nodes.{components_of_root, root_leaving, root_level, root_received};
-ghost use Rattle.dv_tree.specs.Paths.{name_at, texts_of, with_dots};
+ghost use Rattle.dv_tree.specs.Paths.{behind_dots, name_at, texts_of, with_dots};
 ghost use Rattle.dv_tree.specs.Routing.{arrives, leaves};
 ghost use Rattle.dv_tree.specs.Tables.{levels_of, model_names, root_table, scope_of_model, scopes_of};
+ghost use Rattle.dv_check.specs.Limits.{greatest_components, greatest_names};
 
 use crate::components::{Component, add_components, name_at};
 use crate::levels::{Level, level_at, levels};
@@ -19,7 +20,7 @@ use crate::tables::{
 };
 use dv_bag::{Bags, Sent};
 use dv_check::laws::checked_files;
-use dv_check::{Checked, GREATEST_COMPONENTS, GREATEST_DEPTH, GREATEST_NAMES};
+use dv_check::{Checked, GREATEST_DEPTH};
 use dv_eval::Scope;
 use dv_lex::Names;
 use dv_syntax::{Atomic, File, Model as ModelItem};
@@ -62,7 +63,7 @@ impl<'c> Model for Tree<'c> {
         (t.levels.items ≡ levels_of (file_of t.checked.now.file).models)
         × (root_level t.levels.items t.root ≡ root_table (file_of t.checked.now.file))
         × (t.scopes.items ≡ scopes_of (file_of t.checked.now.file))
-        × (t.components.items ≡ components_of t.checked.now.names (file_of t.checked.now.file))
+        × (t.components.items ≡ components_of (file_of t.checked.now.file))
         × (t.inputs.items ≡ root_inputs (file_of t.checked.now.file))
         × (t.outputs.items ≡ root_outputs (file_of t.checked.now.file)) };
 }
@@ -81,7 +82,7 @@ impl<'c> Tree<'c> {
         let scopes = scopes(alloc, &file.models)?;
         let levels = tables_of(alloc, &file.models, &models, &scopes)?;
         let root = models.place(file.root.number);
-        let components = components_of(alloc, &levels, root, &checked.names)?;
+        let components = components_of(alloc, &levels, root)?;
         let coupled = tables::root(file);
         let inputs = numbers(alloc, root_inputs(coupled))?;
         let outputs = numbers(alloc, root_outputs(coupled))?;
@@ -127,7 +128,7 @@ impl<'c> Tree<'c> {
     /// The number of components.
     pub fn component_count(&self) -> usize
         ensures value { result ≡ length (instances (file_of self.now.file)) }
-        ensures at_most { result ≤ GREATEST_COMPONENTS }
+        ensures at_most { result ≤ greatest_components }
     {
         checked_files();
         self.components.len()
@@ -167,13 +168,41 @@ impl<'c> Tree<'c> {
         &self.scopes[place]
     }
 
-    /// The path of a component: the names of the parts that lead to it, joined by dots.
-    pub fn path(&self, component: usize) -> &str
+    /// The names of the parts that lead to a component from below the root, as their numbers.
+    pub fn path(&self, component: usize) -> &[u32]
         requires { component < length (instances (file_of self.now.file)) }
-        ensures { slice_get (map (λ i. with_dots (texts_of self.now.names i.path))
-            (instances (file_of self.now.file))) component ≡ Some result.now }
+        ensures { slice_get (map (λ i. i.path) (instances (file_of self.now.file))) component
+            ≡ Some result.now }
     {
         self.components[component].path()
+    }
+
+    /// The path of a component as text: the names of the parts that lead to it, joined by dots.
+    ///
+    /// # Errors
+    ///
+    /// No memory for the text.
+    pub fn path_text(&self, alloc: Global, component: usize) -> Result<String, AllocError>
+        requires { component < length (instances (file_of self.now.file)) }
+        ensures { IfOk result (λ text.
+            slice_get (map (λ i. with_dots (texts_of self.now.names i.path))
+            (instances (file_of self.now.file))) component ≡ Some (string_bytes text)) }
+    {
+        let mut text = String::new(alloc);
+        self.push_path(&mut text, self.path(component))?;
+        Ok(text)
+    }
+
+    /// The names of a path, joined by dots, behind a text.
+    ///
+    /// # Errors
+    ///
+    /// No memory for the longer text. A beginning of the path may stand behind it.
+    pub fn push_path(&self, text: &mut String, path: &[u32]) -> Result<(), AllocError>
+        ensures { OnOk result (string_bytes text.new
+            ≡ string_bytes text.old ++ with_dots (texts_of self.now.names path.now)) }
+    {
+        push_path(text, &self.checked.names, path)
     }
 
     /// The name of a number, and the empty text where there is none.
@@ -193,7 +222,7 @@ impl<'c> Tree<'c> {
     /// The number of input ports of the root.
     pub fn input_count(&self) -> usize
         ensures value { result ≡ length (root_inputs (file_of self.now.file)) }
-        ensures at_most { result ≤ GREATEST_NAMES }
+        ensures at_most { result ≤ greatest_names }
     {
         checked_files();
         self.inputs.len()
@@ -207,7 +236,7 @@ impl<'c> Tree<'c> {
     pub fn input_names(&self, alloc: Global) -> Result<Vec<String>, AllocError>
         ensures names { IfOk result (λ names. map string_bytes names.items
             ≡ texts_of self.now.names (root_inputs (file_of self.now.file))) }
-        ensures few { IfOk result (λ names. length names.items ≤ GREATEST_NAMES) }
+        ensures few { IfOk result (λ names. length names.items ≤ greatest_names) }
     {
         checked_files();
         texts_of(alloc, &self.inputs, &self.checked.names)
@@ -240,7 +269,7 @@ impl<'c> Tree<'c> {
             ≡ arrives (file_of self.now.file) sent.now input.now) }
         ensures leaving { IfOk result (λ routed. routed.leaving
             ≡ leaves (file_of self.now.file) sent.now) }
-        ensures at_most { IfOk result (λ routed. length routed.leaving ≤ GREATEST_NAMES) }
+        ensures at_most { IfOk result (λ routed. length routed.leaving ≤ greatest_names) }
     {
         checked_files();
         route(
@@ -281,22 +310,13 @@ fn components_of(
     alloc: Global,
     levels: &[Option<Level>],
     root: Option<usize>,
-    names: &Names,
 ) -> Result<Vec<Component>, AllocError>
     ensures { IfOk result (λ components. components.items
-        ≡ components_of_root names.now levels.now (root_level levels.now root)) }
+        ≡ components_of_root levels.now (root_level levels.now root)) }
 {
     let mut components = Vec::new(alloc);
     if let Some(level) = root_level(levels, root) {
-        add_components(
-            alloc,
-            GREATEST_DEPTH,
-            level,
-            levels,
-            names,
-            "",
-            &mut components,
-        )?;
+        add_components(alloc, GREATEST_DEPTH, level, levels, &[], &mut components)?;
     }
     Ok(components)
 }
@@ -333,6 +353,39 @@ fn route(
         &mut received,
     )?;
     Ok(Routed { received, leaving })
+}
+
+// The names of a path, joined by dots, behind a text.
+fn push_path(text: &mut String, names: &Names, path: &[u32]) -> Result<(), AllocError>
+    ensures { OnOk result (string_bytes text.new
+        ≡ string_bytes text.old ++ with_dots (texts_of names.now path.now)) }
+{
+    match path {
+        [first, rest @ ..] => {
+            text.push_str(name_at(names, *first))?;
+            push_others(text, names, rest)
+        }
+        [] => Ok(()),
+    }
+}
+
+// Names, each behind a dot.
+fn push_others(text: &mut String, names: &Names, numbers: &[u32]) -> Result<(), AllocError>
+    ensures { OnOk result (string_bytes text.new
+        ≡ string_bytes text.old ++ behind_dots (texts_of names.now numbers.now)) }
+{
+    for number in numbers {
+        push_dotted(text, name_at(names, *number))?;
+    }
+    Ok(())
+}
+
+// A dot and a name.
+fn push_dotted(text: &mut String, name: &str) -> Result<(), AllocError>
+    ensures { OnOk result (string_bytes text.new ≡ string_bytes text.old ++ 46 ∷ name.now) }
+{
+    text.push('.')?;
+    text.push_str(name)
 }
 
 fn texts_of(alloc: Global, numbers: &[u32], names: &Names) -> Result<Vec<String>, AllocError>

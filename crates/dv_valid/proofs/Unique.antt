@@ -7,7 +7,7 @@ use Rattle.dv_bag.specs.declared.value.ValueType.TheVariants.{Truth}
 use Rattle.dv_code.specs.Shape.{Shape, left_by}
 use Rattle.dv_code.specs.Known.{action_type}
 use Rattle.dv_code.specs.Valid.{Agrees, Arrives, Body, IsFine, LiesIn, Mark as Meant, mark}
-use Rattle.dv_code.specs.declared.TheConstants.{DEEPEST_LOOPS}
+use Rattle.dv_code.specs.Limits.{deepest_loops}
 use Rattle.dv_code.specs.declared.shape.ProgramSort.{ProgramSort}
 use Rattle.dv_code.specs.declared.instruction.Instruction.{Instruction}
 use Rattle.dv_code.specs.declared.instruction.Instruction.TheVariants.{Push, Apply, Combine, Perform, Go, Jump, JumpFalse}
@@ -26,7 +26,7 @@ module _ (shape : Shape) (code : List Instruction) (marks these : ℕ → Meant)
         → these (place + 1) ≡ mark types nest
     next types nest a = same (place + 1) (omega arith) a.0 ∙ a.1
 
-    forced_by : (i : Instruction) → length (marks place).nest ≤ DEEPEST_LOOPS
+    forced_by : (i : Instruction) → length (marks place).nest ≤ deepest_loops
         → Agrees shape (left_by shape.sort) (length code) marks place (marks place).types (marks place).nest i
         → IsForced (left_by shape.sort) (length code) these (place + 1) i (marks place)
     forced_by (Push l) d h = (h.1.0, d, next _ _ h.1)
@@ -81,13 +81,13 @@ module _ (shape : Shape) (code : List Instruction) (marks these : ℕ → Meant)
     agrees_too left place types nest End h = h
 
     fine_too : (place : ℕ) (i : Instruction) → place < length code
-        → IsFine shape (left_by shape.sort) DEEPEST_LOOPS (length code) marks place i
-        → IsFine shape (left_by shape.sort) DEEPEST_LOOPS (length code) these place i
+        → IsFine shape (left_by shape.sort) deepest_loops (length code) marks place i
+        → IsFine shape (left_by shape.sort) deepest_loops (length code) these place i
     fine_too place i h fine =
         let at = sym (same place h) in
         record {
           lies = subst (λ m. LiesIn (length code) place m.nest) at fine.lies;
-          shallow = subst (λ m. length m.nest ≤ DEEPEST_LOOPS) at fine.shallow;
+          shallow = subst (λ m. length m.nest ≤ deepest_loops) at fine.shallow;
           agrees = subst (λ m. Agrees shape (left_by shape.sort) (length code) these place m.types m.nest i) at
               (agrees_too (left_by shape.sort) place (marks place).types (marks place).nest i fine.agrees);
         }
@@ -102,7 +102,7 @@ module _ (shape : Shape) (code : List Instruction) (marks these : ℕ → Meant)
 -- what is forced by the mark of another place
 pub forced_parts : (left : List ValueType) (end : ℕ) (marks : ℕ → Meant) (after : ℕ) (i : Instruction) (here : Meant) → (i ≡ End → ⊥)
     → IsForced left end marks after i here
-    → (settling_place after i < end) × (length here.nest ≤ DEEPEST_LOOPS) × Settles after i here (marks (settling_place after i))
+    → (settling_place after i < end) × (length here.nest ≤ deepest_loops) × Settles after i here (marks (settling_place after i))
 forced_parts left end marks after End here other f = absurd (other refl)
 forced_parts left end marks after (Push l) here other f = f
 forced_parts left end marks after (Apply u) here other f = f

@@ -5,7 +5,7 @@ use Rattle.dv_bag.specs.declared.value.ValueType.TheVariants.{Truth}
 use Rattle.dv_code.specs.Shape.{Shape, left_by}
 use Rattle.dv_code.specs.Known.{action_type, leaf_type, operand_type, result_type}
 use Rattle.dv_code.specs.Valid.{Agrees, Arrives, Body, IsFine, Mark as Meant, mark}
-use Rattle.dv_code.specs.declared.TheConstants.{DEEPEST_LOOPS}
+use Rattle.dv_code.specs.Limits.{deepest_loops}
 use Rattle.dv_code.specs.declared.instruction.Instruction.{Instruction}
 use Rattle.dv_code.specs.declared.instruction.Instruction.TheVariants.{Push, Apply, Combine, Perform, Go, Jump, JumpFalse}
 use Rattle.dv_code.specs.declared.instruction.Instruction.TheVariants.{FalseKeep, TrueKeep, Loop, Next, End}
@@ -68,7 +68,7 @@ Settles next End here after = ⊥
 abbrev pub IsForced : List ValueType → ℕ → (ℕ → Meant) → ℕ → Instruction → Meant → Type 0
 IsForced left end marks next End here = here ≡ mark left []
 IsForced left end marks next i here =
-    (settling_place next i < end) × (length here.nest ≤ DEEPEST_LOOPS) × Settles next i here (marks (settling_place next i))
+    (settling_place next i < end) × (length here.nest ≤ deepest_loops) × Settles next i here (marks (settling_place next i))
 
 -- a mark was found, and it is this one
 abbrev pub IsFound : Stacks → Meant → Option Mark → Type 0
@@ -84,7 +84,7 @@ MayBeNumbered stacks (Some m) = IsNumbered stacks m
 pub record Fit (shape : Shape) (code : List Instruction) (marks : ℕ → Meant) : Type 0 where
   pub start : Arrives (length code) marks 0 [] []
   pub each : (place : ℕ) (i : Instruction) → slice_get code place ≡ Some i
-      → IsFine shape (left_by shape.sort) DEEPEST_LOOPS (length code) marks place i
+      → IsFine shape (left_by shape.sort) deepest_loops (length code) marks place i
 
 -- the marks that are kept behind a place leave this one alone for it
 abbrev pub IsForcedAt : List ValueType → Marks → ℕ → Instruction → Meant → Type 0

@@ -3,12 +3,12 @@
 ghost use Rattle.std.specs.Prelude.{◌≡◌, ◌↔◌, ◌+◌, ◌<◌, [], ◌∷◌, length, IsTrue};
 ghost use Rattle.dv_code.specs.Shape.{Shape, left_by};
 ghost use Rattle.dv_code.specs.Valid.{IsFine, mark};
-ghost use Rattle.dv_code.specs.declared.TheConstants.{DEEPEST_LOOPS};
 ghost use Rattle.dv_code.specs.declared.instruction.Instruction.TheVariants.{Push, Apply, Combine, Perform, Jump, JumpFalse};
 ghost use Rattle.dv_code.specs.declared.instruction.Instruction.TheVariants.{FalseKeep, TrueKeep, Loop, Next, End};
 ghost use Rattle.dv_valid.specs.Nests.{bodies};
 ghost use Rattle.dv_valid.specs.Stacks.{types_at};
 ghost use Rattle.dv_valid.specs.Marks.{AgreesAt, AreNumbered, ArrivesAt, Fit, IsNumbered, IsPlaced, mark_of, meaning, with_top};
+ghost use Rattle.dv_code.specs.Limits.{deepest_loops};
 
 use crate::known::{is_bag, knows_action, knows_leaf, knows_phase, knows_unary};
 use crate::marks::{Mark, Marks, without_top};
@@ -40,7 +40,7 @@ impl Marks {
     fn is_fine(&self, shape: &Shape, place: usize, instruction: Instruction) -> bool
         requires numbered { AreNumbered self.now }
         requires place { place < length self.now.by_place.items }
-        ensures { IsTrue result ↔ IsFine shape.now (left_by shape.now.sort) DEEPEST_LOOPS
+        ensures { IsTrue result ↔ IsFine shape.now (left_by shape.now.sort) deepest_loops
             (length self.now.by_place.items) (mark_of self.now) place instruction }
     {
         let here = self.by_place[place];

@@ -8,11 +8,11 @@ ghost use Rattle.dv_bag.specs.declared.value.ValueType.{ValueType};
 ghost use Rattle.dv_code.specs.Known.{operand_type, result_type};
 ghost use Rattle.dv_code.specs.Shape.{Shape, left_by};
 ghost use Rattle.dv_code.specs.Valid.{Body as MeantBody, Mark as Meant, mark};
-ghost use Rattle.dv_code.specs.declared.TheConstants.{DEEPEST_LOOPS};
 ghost use Rattle.dv_valid.specs.Nests.{bodies};
 ghost use Rattle.dv_valid.specs.Stacks.{Keeps, types_at};
 ghost use Rattle.dv_valid.specs.Marks.{AreNumbered, Fit, IsForcedAt, IsFound, IsNumbered, MayBeNumbered, Settles, mark_of};
 ghost use Rattle.dv_valid.specs.Marks.{meaning, settling_place, with_top};
+ghost use Rattle.dv_code.specs.Limits.{deepest_loops};
 
 use crate::nest::{Body, Nest};
 use crate::stacks::TypeStacks;
@@ -168,7 +168,7 @@ fn mark_before(
     requires { IsNumbered stacks.old after }
     ensures kept { OnOk result (Keeps stacks.old stacks.new) }
     ensures numbered { IfOk result (MayBeNumbered stacks.new) }
-    ensures only { IfOk result (λ found. (here : Meant) → length here.nest ≤ DEEPEST_LOOPS
+    ensures only { IfOk result (λ found. (here : Meant) → length here.nest ≤ deepest_loops
         → Settles next instruction here (meaning stacks.old after)
         → IsFound stacks.new here found) }
 {
@@ -256,7 +256,7 @@ fn before_loop(stacks: &TypeStacks, after: Mark) -> Option<Mark>
 /// too deep.
 fn before_next(stacks: &TypeStacks, after: Mark, first: usize, past: usize) -> Option<Mark>
     ensures numbered { MayBeNumbered stacks.now result }
-    ensures only { (here : Meant) → length here.nest ≤ DEEPEST_LOOPS
+    ensures only { (here : Meant) → length here.nest ≤ deepest_loops
         → here ≡ mark [] (record { first = first; past = past }
         ∷ (meaning stacks.now after).nest)
         → IsFound stacks.now here result }

@@ -2,8 +2,8 @@
 
 ghost use Rattle.std.specs.Prelude.{◌≡◌, ◌↔◌, ◌<◌, ◌≤◌, [], ◌∷◌, length, IsTrue, MatchOption};
 ghost use Rattle.dv_code.specs.Valid.{LiesIn};
-ghost use Rattle.dv_code.specs.declared.TheConstants.{DEEPEST_LOOPS};
 ghost use Rattle.dv_valid.specs.Nests.{bodies, meant_body};
+ghost use Rattle.dv_code.specs.Limits.{deepest_loops};
 
 /// A loop's body: its first place, and the place past its end.
 #[derive(Clone, Copy)]
@@ -41,7 +41,7 @@ impl Nest {
     /// How many bodies there are.
     pub fn depth(self) -> usize
         ensures depth { result ≡ length (bodies self) }
-        ensures shallow { result ≤ DEEPEST_LOOPS }
+        ensures shallow { result ≤ deepest_loops }
     {
         match self {
             Nest::Outside => 0,
@@ -53,7 +53,7 @@ impl Nest {
 
     /// The bodies with one more inside them, if they are not too many.
     pub fn with_inner(self, body: Body) -> Option<Nest>
-        ensures { MatchOption result (length (bodies self) ≡ DEEPEST_LOOPS)
+        ensures { MatchOption result (length (bodies self) ≡ deepest_loops)
             (λ nest. bodies nest ≡ meant_body body ∷ bodies self) }
     {
         match self {

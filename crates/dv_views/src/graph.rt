@@ -1,13 +1,12 @@
 //! The graph of a model.
 
-ghost use Rattle.std.specs.Prelude.{◌≡◌, None, map, string_bytes};
+ghost use Rattle.std.specs.Prelude.{◌≡◌, None};
 ghost use Rattle.dv_flat.specs.Limit.{link_refusal};
-ghost use Rattle.dv_flat.specs.Links.{paths_of};
 ghost use Rattle.dv_syntax.specs.Trees.{file_of};
 
 use crate::error::ViewError;
 use crate::model::{accept, load};
-use dv_flat::flatten;
+use dv_flat::{flatten, paths_of};
 use dv_graph::write_graph;
 use dv_partition::{Groups, Partition, partition};
 use dv_tree::Tree;
@@ -40,9 +39,9 @@ fn graph_tree<W: Write>(
 ) -> Result<(), ViewError>
     requires few { link_refusal (file_of tree.now.file) ≡ None }
 {
-    let flat = flatten(alloc, tree)?;
-    let groups = groups_of(alloc, tree, flat.paths.as_slice(), groups)?;
-    write_graph(alloc, tree, &flat.links, groups.as_ref(), writer)?;
+    let links = flatten(alloc, tree)?;
+    let groups = groups_of(alloc, tree, groups)?;
+    write_graph(alloc, tree, &links, groups.as_ref(), writer)?;
     Ok(())
 }
 
@@ -50,16 +49,13 @@ fn graph_tree<W: Write>(
 fn groups_of(
     alloc: Global,
     tree: &Tree<'_>,
-    paths: &[String],
     groups: Option<Partition<'_>>,
-) -> Result<Option<Groups>, ViewError>
-    requires paths { map string_bytes paths.now
-        ≡ paths_of tree.now.names (file_of tree.now.file) }
-{
+) -> Result<Option<Groups>, ViewError> {
+    let Some(groups) = groups else {
+        return Ok(None);
+    };
     // A checked text has few components.
     let _few = tree.component_count();
-    match groups {
-        Some(groups) => Ok(Some(partition(alloc, paths, groups)?)),
-        None => Ok(None),
-    }
+    let paths = paths_of(alloc, tree)?;
+    Ok(Some(partition(alloc, &paths, groups)?))
 }

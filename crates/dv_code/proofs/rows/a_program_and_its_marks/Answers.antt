@@ -4,13 +4,13 @@ use Rattle.std.proofs.lemmas.Option.{same_Some}
 use Rattle.dv_code.specs.Shape.{AreSmall}
 use Rattle.dv_code.specs.Rows.{each_sent, each_sent_marks, sender}
 use Rattle.dv_code.specs.Valid.{IsFine}
-use Rattle.dv_code.specs.declared.TheConstants.{DEEPEST_LOOPS}
+use Rattle.dv_code.specs.Limits.{deepest_loops}
 use Rattle.dv_code.specs.declared.shape.Slot.TheVariants.{Holding}
 use Rattle.dv_code.specs.declared.instruction.Instruction.{Instruction}
 use Rattle.dv_code.proofs.rows.a_program_and_its_marks.Goals as goal
 
 abbrev Fine : ℕ → Instruction → Type 0
-Fine = IsFine sender [] DEEPEST_LOOPS (length each_sent.code) each_sent_marks
+Fine = IsFine sender [] deepest_loops (length each_sent.code) each_sent_marks
 
 fine_at : (place : ℕ) (i : Instruction) → slice_get each_sent.code place ≡ Some i → Fine place i
 fine_at zero i e = subst (Fine 0) (same_Some _ i e) (record {

@@ -1,7 +1,7 @@
 use Rattle.std.proofs.Common.{◌*◌, ◌^◌, length}
-use Rattle.dv_bag.specs.declared.TheConstants.{GREATEST_COUNT}
+use Rattle.dv_bag.specs.Limits.{greatest_count}
 use Rattle.dv_code.specs.Shape.{left_by}
-use Rattle.dv_code.specs.declared.TheConstants.{DEEPEST_LOOPS}
+use Rattle.dv_code.specs.Limits.{deepest_loops}
 use Rattle.dv_code.specs.Valid.{IsSafe}
 use Rattle.dv_coded.proofs.Machines.{effect-given, fits-given}
 use Rattle.dv_coded.proofs.bench.effect_by.Goals as goal
@@ -19,8 +19,8 @@ pub returns-clause-fits : goal.returns-clause-fits
 returns-clause-fits g c =
     let p = c.args.program.now in
     let program = c.code-code.ensures.program in
-    fits-given p (left_by p.shape.sort) c.args.arrivals.now c.args.state _ (length p.code * GREATEST_COUNT ^ DEEPEST_LOOPS) c.run_rule.result
+    fits-given p (left_by p.shape.sort) c.args.arrivals.now c.args.state _ (length p.code * greatest_count ^ deepest_loops) c.run_rule.result
     (c.runs_end_in_one_way.ensures p c.args.arrivals.now c.args.state)
-    (c.valid_programs_end.ensures p (left_by p.shape.sort) DEEPEST_LOOPS program.valid program.small c.args.arrivals.now c.are_few.ensures
+    (c.valid_programs_end.ensures p (left_by p.shape.sort) deepest_loops program.valid program.small c.args.arrivals.now c.are_few.ensures
     c.args.state c.requires.fits)
     c.run_rule.ensures.effect

@@ -38,7 +38,7 @@ run_statement-returns-then-truth_of t c =
     let holds = sym c.truth_of.ensures ∙ c.if-truth_of.true in
     let value = c.in_ok-condition-in-If in
     let taken = run-If c.args.scope.now (context_of c.args.context.now) c.args.statement.now place c.args.effect (expression_of e) block
-    value.condition tree value.ensures holds in
+    value.condition tree (sym value.ensures) holds in
     subst (Gives c.run.result) (sym taken) c.run.ensures
 
 pub run_statement-returns-then-truth_of-2 : goal.run_statement-returns-then-truth_of-2
@@ -54,7 +54,7 @@ run_statement-returns-then-truth_of-2 t c =
     let holds = sym c.truth_of-in-IfElse.ensures ∙ c.if-truth_of-2.true in
     let value = c.in_ok-condition-in-IfElse in
     let taken = run-IfElse c.args.scope.now (context_of c.args.context.now) c.args.statement.now place c.args.effect (expression_of e) block
-    other value.condition true tree value.ensures holds in
+    other value.condition true tree (sym value.ensures) holds in
     subst (Gives c.run-then-truth_of-2.result) (sym taken) c.run-then-truth_of-2.ensures
 
 pub run_statement-returns-else-truth_of-2 : goal.run_statement-returns-else-truth_of-2
@@ -70,7 +70,7 @@ run_statement-returns-else-truth_of-2 t c =
     let fails = sym c.truth_of-in-IfElse.ensures ∙ c.if-truth_of-2.false in
     let value = c.in_ok-condition-in-IfElse in
     let taken = run-IfElse c.args.scope.now (context_of c.args.context.now) c.args.statement.now place c.args.effect (expression_of e) block
-    other value.condition false tree value.ensures fails in
+    other value.condition false tree (sym value.ensures) fails in
     subst (Gives c.run-else-truth_of-2.result) (sym taken) c.run-else-truth_of-2.ensures
 
 pub run_copies-returns-in_err-effect : goal.run_copies-returns-in_err-effect
@@ -138,16 +138,16 @@ pub run_statement-returns-in-Add : goal.run_statement-returns-in-Add
 run_statement-returns-in-Add t c =
     let whole = run-Add c.args.scope.now (context_of c.args.context.now) c.args.statement.now c.in-Add.place c.args.effect c.in-Add.value
     c.in-Add.bag c.in-Add.is in
-    subst (Gives c.run_add.result) (sym whole) c.run_add.ensures
+    subst (Gives c.run_step-in-Add.result) (sym whole) c.run_step-in-Add.ensures
 
 pub run_statement-returns-in-Assign : goal.run_statement-returns-in-Assign
 run_statement-returns-in-Assign t c =
     let whole = run-Assign c.args.scope.now (context_of c.args.context.now) c.args.statement.now c.args.effect c.in-Assign.variable
     c.in-Assign.value c.in-Assign.is in
-    subst (Gives c.run_assign.result) (sym whole) c.run_assign.ensures
+    subst (Gives c.run_step.result) (sym whole) c.run_step.ensures
 
 pub run_statement-returns-in-Send : goal.run_statement-returns-in-Send
 run_statement-returns-in-Send t c =
     let whole = run-Send c.args.scope.now (context_of c.args.context.now) c.args.statement.now c.in-Send.place c.args.effect c.in-Send.port
     c.in-Send.value c.in-Send.is in
-    subst (Gives c.run_send.result) (sym whole) c.run_send.ensures
+    subst (Gives c.run_step-in-Send.result) (sym whole) c.run_step-in-Send.ensures

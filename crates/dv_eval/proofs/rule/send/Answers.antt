@@ -7,7 +7,7 @@ use Rattle.dv_eval.proofs.rule.send.Goals.{then-port-len+in_ok-insert, else-port
 
 pub returns : goal.returns
 returns c =
-    let few : total_of_all c.args.effect.sent < 4096 = omega arith in
+    let few : total_of_all c.args.effect.sent < 4096 = omega (arith, c.in_ok-test_flood.ensures.free) in
     let at = sym c.output.ensures ∙ c.in-Some.is in
     elim c.if-port-len.branch [
       | then-port-len+in_ok-insert w ↦

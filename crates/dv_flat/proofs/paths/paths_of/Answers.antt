@@ -1,4 +1,4 @@
-use Rattle.std.proofs.Common.{Some, arith, ap, ◌∙◌, map, string_bytes, sym}
+use Rattle.std.proofs.Common.{arith, ap, ◌∙◌, map, string_bytes}
 use Rattle.std.proofs.lemmas.List.{length-map}
 use Rattle.dv_syntax.specs.Trees.{file_of}
 use Rattle.dv_tree.specs.Instances.{instances}
@@ -13,6 +13,6 @@ loop-component-preserved c =
     let names = c.args.tree.now.names in
     let long = length-map (instances f) (λ i. with_dots (texts_of names i.path)) in
     ap (map string_bytes) c.in_ok-push.ensures.items
-    ∙ path_more string_bytes c.loop-component.paths.items c.in_ok-from_str.field-0 (paths_of names f) c.loop-component.component
+    ∙ path_more string_bytes c.loop-component.paths.items c.in_ok-path_text.field-0 (paths_of names f) c.loop-component.component
     c.loop-component.invariant (omega (arith, long, c.component_count-component-end.ensures.value))
-    (c.path.ensures ∙ ap Some (sym c.in_ok-from_str.ensures.ok))
+    c.in_ok-path_text.ensures

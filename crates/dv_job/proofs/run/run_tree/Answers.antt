@@ -48,7 +48,7 @@ returns-clause-error g c =
 
 pub compiled_run-requires-clause-links : goal.compiled_run-requires-clause-links
 compiled_run-requires-clause-links g c = record {
-  direct = c.in_ok-flat.ensures.direct;
-  entries = c.in_ok-flat.ensures.entries;
-  exits = c.in_ok-flat.ensures.exits;
+  direct = c.in_ok-links.ensures.direct;
+  entries = c.in_ok-links.ensures.entries;
+  exits = c.in_ok-links.ensures.exits;
 }

@@ -28,7 +28,7 @@ returns-clause-stepped c = record {
 
 pub compiled_steps-requires-clause-links : goal.compiled_steps-requires-clause-links
 compiled_steps-requires-clause-links c = record {
-  direct = c.in_ok-flat.ensures.direct;
-  entries = c.in_ok-flat.ensures.entries;
-  exits = c.in_ok-flat.ensures.exits;
+  direct = c.in_ok-links.ensures.direct;
+  entries = c.in_ok-links.ensures.entries;
+  exits = c.in_ok-links.ensures.exits;
 }

@@ -40,7 +40,7 @@ returns-clause-error g c =
 
 pub compiled_workers-requires-clause-links : goal.compiled_workers-requires-clause-links
 compiled_workers-requires-clause-links g c κs _ = record {
-  direct = c.in_ok-flat.ensures.direct;
-  entries = c.in_ok-flat.ensures.entries;
-  exits = c.in_ok-flat.ensures.exits;
+  direct = c.in_ok-links.ensures.direct;
+  entries = c.in_ok-links.ensures.entries;
+  exits = c.in_ok-links.ensures.exits;
 }

@@ -6,15 +6,14 @@ use Rattle.dv_tree.proofs.components.+add_components.Goals as goal
 
 pub returns : goal.returns
 returns t c =
-    let names = c.args.names.now in
     let levels = c.args.levels.now in
     let before = c.args.before.now in
     let inside = nodes_to (c.args.depth - 1) levels in
     let at = c.loop-part in
     let placed = c.parts-part-items.result.now in
     let end =
-    at_drop_all (λ es. at.components.items ++ components_in names before (nodes_by inside levels es)) placed at.part-index
+    at_drop_all (λ es. at.components.items ++ components_in before (nodes_by inside levels es)) placed at.part-index
     c.loop-part-test.false in
     let nodes = nodes_of_table c.args.depth levels c.args.level.now placed c.if-depth-eq0.false c.parts-part-items.ensures in
     sym (append-nil at.components.items)
-    ∙ (sym end ∙ (at.invariant ∙ ap (λ n. c.args.components.now.items ++ components_in names before n) nodes))
+    ∙ (sym end ∙ (at.invariant ∙ ap (λ n. c.args.components.now.items ++ components_in before n) nodes))

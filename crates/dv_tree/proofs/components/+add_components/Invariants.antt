@@ -7,6 +7,6 @@ decreases-add_components l = l.depth
 
 abbrev pub invariant-loop-part : goal.invariant-loop-part
 invariant-loop-part l =
-    l.components.items ++ components_in l.names l.before
+    l.components.items ++ components_in l.before
     (nodes_by (nodes_to (l.depth - 1) l.levels) l.levels (drop l.part-index l.part-items))
-    ≡ l.initial.components.items ++ components_in l.names l.before (nodes_by (nodes_to (l.depth - 1) l.levels) l.levels l.part-items)
+    ≡ l.initial.components.items ++ components_in l.before (nodes_by (nodes_to (l.depth - 1) l.levels) l.levels l.part-items)

@@ -4,7 +4,7 @@ use Rattle.std.proofs.lemmas.List.{length-map}
 use Rattle.std.proofs.lemmas.List.FromFn.{length-map-range_with_len, length-range_with_len}
 use Rattle.dv_partition.specs.Groups.{Grouping, members_in}
 use Rattle.dv_partition.specs.Steps.{with_key}
-use Rattle.dv_partition.specs.declared.TheConstants.{GREATEST_PROCESSES}
+use Rattle.dv_partition.specs.Limits.{greatest_processes}
 use Rattle.dv_partition.proofs.Numbers.{members_by_owner, same_map}
 use Rattle.dv_partition.proofs.groups.Groups.new.Goals as goal
 
@@ -26,7 +26,7 @@ invariant_of-result c =
     ∙ length-map-range_with_len (λ key. with_key key c.deref.result.now c.in_ok-numbers.numbers.items) 0 n in
     record {
       some = subst (λ k. 0 < k) (sym long) c.requires.some;
-      few = subst (λ k. k ≤ GREATEST_PROCESSES) (sym long) c.requires.few;
+      few = subst (λ k. k ≤ greatest_processes) (sym long) c.requires.few;
       owned = subst (λ k. AllByRecursion (λ p. p < k) owners) (sym long) c.requires.owned;
       fit = c.requires.fit;
       lists =

@@ -4,7 +4,7 @@ use Rattle.std.proofs.lemmas.List.{length-map}
 use Rattle.std.proofs.lemmas.Result.{IfOk-weaker}
 use Rattle.std.specs.declared.alloc.Global.{Global}
 use Rattle.dv_syntax.specs.Trees.{file_of}
-use Rattle.dv_check.specs.declared.limits.TheConstants.{GREATEST_NAMES}
+use Rattle.dv_check.specs.Limits.{greatest_names}
 use Rattle.dv_tree.specs.Paths.{name_at, texts_of}
 use Rattle.dv_tree.proofs.Limits.{few_inputs}
 use Rattle.dv_tree.proofs.tree.Tree.input_names.Goals as goal
@@ -17,7 +17,7 @@ returns-clause-few c =
     let inputs = ap length c.self.invariant.4 in
     IfOk-weaker c.texts_of.result (λ (texts : Vec
     (String Global) Global). map string_bytes texts.items ≡ texts_of checked.names c.deref.result.now)
-    (λ (texts : Vec (String Global) Global). length texts.items ≤ GREATEST_NAMES)
+    (λ (texts : Vec (String Global) Global). length texts.items ≤ greatest_names)
     (λ texts is. omega (
       arith,
       few,

@@ -11,7 +11,6 @@ use Rattle.dv_tree.proofs.tree.Tree.of.Goals as goal
 pub invariant_of-result : goal.invariant_of-result
 invariant_of-result c =
     let f = file_of c.args.checked.now.file in
-    let names = c.args.checked.now.names in
     let models = c.in_ok-models.models in
     let root = c.place-root.result in
     let models_are : models ≡ model_names f.models =
@@ -23,8 +22,8 @@ invariant_of-result c =
     ∙ (ap (root_level (levels_of f.models)) (c.place-root.ensures ∙ ap (place_of f.root.number) models_are) ∙ root_made f) in
     let components_are =
     c.in_ok-components.ensures
-    ∙ (ap (λ x. components_of_root names x (root_level x root)) (c.deref-5.ensures.value ∙ levels_are)
-    ∙ ap (components_of_root names (levels_of f.models)) (sym (ap (λ x. root_level x root) levels_are) ∙ root_is)) in (
+    ∙ (ap (λ x. components_of_root x (root_level x root)) (c.deref-5.ensures.value ∙ levels_are)
+    ∙ ap (components_of_root (levels_of f.models)) (sym (ap (λ x. root_level x root) levels_are) ∙ root_is)) in (
       levels_are,
       root_is,
       scopes_are,

@@ -1,7 +1,6 @@
 use Rattle.std.proofs.Common.{arith, ap, sym, ◌∙◌, List, ℕ}
 use Rattle.std.specs.Prelude.{Some}
 use Rattle.dv_tree.specs.Instances.{Instance}
-use Rattle.dv_tree.specs.Paths.{texts_of, with_dots}
 use Rattle.dv_tree.proofs.Named.{found, within_components, component_read, view_shown}
 use Rattle.dv_tree.proofs.tree.Tree.path.Goals as goal
 
@@ -13,5 +12,5 @@ index-requires c =
 pub returns : goal.returns
 returns c =
     let f = found c.self.inside.checked.now _ _ _ _ c.self.view_is c.self.invariant.3 c.self.invariant.2 c.requires in
-    view_shown f (λ (i : Instance). with_dots (texts_of c.args.self.now.names i.path))
-    ∙ ap Some (sym (c.path.ensures ∙ (ap (λ (x : List ℕ × ℕ). x.0) (component_read f c.index.result.now c.index.ensures) ∙ f.named)))
+    view_shown f (λ (i : Instance). i.path)
+    ∙ ap Some (sym (c.path.ensures ∙ ap (λ (x : List ℕ × ℕ). x.0) (component_read f c.index.result.now c.index.ensures)))

@@ -3,7 +3,7 @@ use Rattle.std.specs.Prelude.{IfOk, None}
 use Rattle.dv_bag.specs.Bag.{Counts}
 use Rattle.dv_syntax.specs.Trees.{file_of}
 use Rattle.dv_check.specs.Refusals.{refusal_of}
-use Rattle.dv_check.specs.declared.limits.TheConstants.{GREATEST_NAMES}
+use Rattle.dv_check.specs.Limits.{greatest_names}
 use Rattle.dv_tree.specs.Routing.{leaves}
 use Rattle.dv_tree.specs.Tables.{Source}
 use Rattle.dv_tree.specs.Nodes.{root_level}
@@ -39,4 +39,4 @@ returns-clause-at_most c =
     let checked = subst (λ (s : Source). refusal_of (file_of s.file) ≡ None) c.self.view_is c.self.inside.checked.now.checked in
     let few = few_leave (file_of c.args.self.now.file) c.args.sent.now (c.checked_files.ensures _ checked) in
     IfOk-weaker c.route.result (λ (routed : Routed). routed.leaving ≡ leaves (file_of c.args.self.now.file) c.args.sent.now)
-    (λ (routed : Routed). length routed.leaving ≤ GREATEST_NAMES) (λ routed is. omega (arith, few, ap length is)) (left c)
+    (λ (routed : Routed). length routed.leaving ≤ greatest_names) (λ routed is. omega (arith, few, ap length is)) (left c)

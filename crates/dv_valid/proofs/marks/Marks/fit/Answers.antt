@@ -4,7 +4,7 @@ use Rattle.std.proofs.lemmas.Bool.{cases_eq}
 use Rattle.std.proofs.lemmas.Option.{get_or_from_slice_get, slice_get_within}
 use Rattle.dv_code.specs.Shape.{left_by}
 use Rattle.dv_code.specs.Valid.{IsFine}
-use Rattle.dv_code.specs.declared.TheConstants.{DEEPEST_LOOPS}
+use Rattle.dv_code.specs.Limits.{deepest_loops}
 use Rattle.dv_code.specs.declared.instruction.Instruction.{Instruction}
 use Rattle.dv_valid.specs.Marks.{mark_of}
 use Rattle.dv_valid.proofs.marks.Marks.fit.Goals as goal
@@ -16,7 +16,7 @@ loop-place-preserved c =
     let here = c.loop-place.place in
     let marks = c.args.self.now in
     let P : ℕ → Instruction → Type 0 =
-    IsFine shape (left_by shape.sort) DEEPEST_LOOPS (length marks.by_place.items) (mark_of marks) in
+    IsFine shape (left_by shape.sort) deepest_loops (length marks.by_place.items) (mark_of marks) in
     λ place i h e. elim (cases_eq place here) [
       | inl at ↦ let it = get_or_from_slice_get code here i _ (ap (slice_get code) (sym at) ∙ e) in
           subst (λ p. P p i) (sym at) (subst (P here) it (c.is_fine.ensures.0 c.if-not-is_fine.false))
@@ -28,7 +28,7 @@ returns c =
     let shape = c.args.shape.now in
     let code = c.args.code.now in
     let marks = c.args.self.now in
-    let P : ℕ → ℕ → Instruction → Type 0 = λ end. IsFine shape (left_by shape.sort) DEEPEST_LOOPS end (mark_of marks) in
+    let P : ℕ → ℕ → Instruction → Type 0 = λ end. IsFine shape (left_by shape.sort) deepest_loops end (mark_of marks) in
     let start = c.arrives.ensures.0 c.if-not-arrives.false in (
       λ t. record {
         start = (omega (arith, start.0, c.requires.one_each), start.1 ∙ c.outside.ensures.mark);

@@ -2,7 +2,7 @@ use Rattle.std.proofs.Common.{◌≡◌, ℕ, ◌<◌, length, Some}
 use Rattle.std.specs.Prelude.{slice_get}
 use Rattle.dv_code.specs.Shape.{left_by}
 use Rattle.dv_code.specs.Valid.{IsFine}
-use Rattle.dv_code.specs.declared.TheConstants.{DEEPEST_LOOPS}
+use Rattle.dv_code.specs.Limits.{deepest_loops}
 use Rattle.dv_code.specs.declared.instruction.Instruction.{Instruction}
 use Rattle.dv_valid.specs.Marks.{mark_of}
 use Rattle.dv_valid.proofs.marks.Marks.fit.Given as goal
@@ -10,4 +10,4 @@ use Rattle.dv_valid.proofs.marks.Marks.fit.Given as goal
 -- the instructions so far are fine
 abbrev pub invariant-loop-place : goal.invariant-loop-place
 invariant-loop-place l = (place : ℕ) (i : Instruction) → place < l.place → slice_get l.code place ≡ Some i
-    → IsFine l.shape (left_by l.shape.sort) DEEPEST_LOOPS (length l.self.by_place.items) (mark_of l.self) place i
+    → IsFine l.shape (left_by l.shape.sort) deepest_loops (length l.self.by_place.items) (mark_of l.self) place i
