@@ -11,8 +11,8 @@ use Rattle.dv_tree.proofs.Named.{AreNamed, all_named, no_more, one_more}
 use Rattle.dv_coded.proofs.Standing.{compilable_at}
 
 module _ (models : List ModelTree) (all : All (λ (t : ModelTree). IsCompilableModel t) models) where
-  compilable_named : {names : List (List ℕ)} {cs : List (List ℕ × ℕ)} {is : List Instance} → AreNamed models names cs is → (k : ℕ)
-      (m : AtomicTree) → slice_get (map (λ (i : Instance). i.model) is) k ≡ Some m → IsCompilable m
+  compilable_named : {cs : List (List ℕ × ℕ)} {is : List Instance} → AreNamed models cs is → (k : ℕ) (m : AtomicTree)
+      → slice_get (map (λ (i : Instance). i.model) is) k ≡ Some m → IsCompilable m
   compilable_named no_more k m at = absurd (cc)
   compilable_named (one_more {c = c} {i = i} h rest) zero m at =
       let same : i.model ≡ m = cc in subst IsCompilable same (compilable_at models c.1 i.model all h.model)
@@ -21,7 +21,7 @@ module _ (models : List ModelTree) (all : All (λ (t : ModelTree). IsCompilableM
   compilable_in : (root : Option CoupledTree) (k : ℕ) (m : AtomicTree) →
       slice_get (map (λ (i : Instance). i.model) (instances_in [] (tree_in models root))) k ≡ Some m → IsCompilable m
   compilable_in None k m at = absurd (cc)
-  compilable_in (Some root) k m at = compilable_named (all_named [] [] [] refl (mirrors_to greatest_depth models root)) k m at
+  compilable_in (Some root) k m at = compilable_named (all_named [] (mirrors_to greatest_depth models root)) k m at
 
 -- the model of a component of a text whose models are compilable is so
 pub component_compilable : (f : FileTree) (k : ℕ) (m : AtomicTree) → All (λ (t : ModelTree). IsCompilableModel t) f.models →
