@@ -6,11 +6,11 @@ ghost use Rattle.std.specs.List.{flat_map};
 ghost use Rattle.dv_lex.specs.Order.{first_refusal};
 ghost use Rattle.dv_lex.specs.declared.error.LoadError.TheVariants.{Refused};
 ghost use Rattle.dv_lex.specs.declared.error.Refusal.{Refusal};
-ghost use Rattle.dv_lex.specs.declared.error.RefusalNumber.TheVariants.{E6};
+ghost use Rattle.dv_lex.specs.declared.error.RefusalNumber.TheVariants.{E6, E17};
 ghost use Rattle.dv_syntax.specs.Trees.{CoupledModel, coupled_of, file_of, model_of, ModelTree};
 ghost use Rattle.dv_check.specs.Findings.{with_refusals};
 ghost use Rattle.dv_check.specs.Models.{faces_by, faces_in};
-ghost use Rattle.dv_check.specs.Names.{model_named, name_of_model, repeats};
+ghost use Rattle.dv_check.specs.Names.{model_named, name_of_model, refusal, repeats};
 ghost use Rattle.dv_check.specs.Refusals.{AreOfOneText, IsAnswerTo, limit_refusals, model_refusals, refusal_of, refusals};
 ghost use Rattle.dv_check.specs.Refusals.{root_limit_refusals, root_refusals};
 ghost use Rattle.dv_check.specs.Tree.{component_count, components_at, components_of, tree_of};
@@ -57,9 +57,18 @@ fn components_of(alloc: Global, file: &File) -> Result<u32, LoadError>
     ensures counted { IfOk result (λ count. count ≡ components_of (file_of file.now)) }
     ensures refused { IfErr result (IsAnswerTo (file_of file.now)) }
 {
-    match broken_rule(alloc, file)? {
-        Some(refusal) => Err(LoadError::Refused(refusal)),
-        None => components_within_limits(alloc, file),
+    test_rules(broken_rule(alloc, file)?)?;
+    components_within_limits(alloc, file)
+}
+
+// Whether no rule is broken, by the first that is.
+fn test_rules(first: Option<Refusal>) -> Result<(), Refusal>
+    ensures none { OnOk result (first ≡ None) }
+    ensures refused { IfErr result (λ refusal. first ≡ Some refusal) }
+{
+    match first {
+        Some(refusal) => Err(refusal),
+        None => Ok(()),
     }
 }
 
@@ -121,12 +130,21 @@ fn components_inside(
         → root_limit_refusals (map model_of models.now) (Some (CoupledModel (coupled_of root.now)))
         place ≡ refusal ∷ [] }
 {
-    match components_within(alloc, models, root)? {
+    let within = components_within(alloc, models, root)?;
+    Ok(test_limits(within, place)?)
+}
+
+// The number of components of a root whose name stands at this place, if its tree passes no limit.
+fn test_limits(within: Option<u32>, place: u32) -> Result<u32, Refusal>
+    ensures within { IfOk result (λ count. within ≡ Some count) }
+    ensures refused { IfErr result (λ r. (r ≡ refusal E17 place) × (within ≡ None)) }
+{
+    match within {
         Some(count) => Ok(count),
-        None => Err(LoadError::Refused(Refusal {
+        None => Err(Refusal {
             number: RefusalNumber::E17,
             place,
-        })),
+        }),
     }
 }
 

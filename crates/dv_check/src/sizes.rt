@@ -1,6 +1,6 @@
 //! The size of the whole tree, counted without building it.
 
-ghost use Rattle.std.specs.Prelude.{◌≡◌, List, fold, map, IfOk};
+ghost use Rattle.std.specs.Prelude.{◌≡◌, false, true, List, fold, map, IfOk, MatchOption};
 ghost use Rattle.dv_syntax.specs.Trees.{coupled_of, model_of};
 ghost use Rattle.dv_check.specs.Sizes.{alone, component, components_within, contents_by, contents_of, kept, size_by, size_of_tree};
 ghost use Rattle.dv_check.specs.Sizes.{size_passes_limit, sizes_below, with_part, with_part_at};
@@ -73,6 +73,18 @@ impl Size {
         }
     }
 
+    // The number of components, where the size passes no limit.
+    fn components_within(self) -> Option<u32>
+        ensures { MatchOption result (size_passes_limit self ≡ true)
+            (λ count. (size_passes_limit self ≡ false) × (count ≡ self.components)) }
+    {
+        if self.passes_limit() {
+            None
+        } else {
+            Some(self.components as u32)
+        }
+    }
+
     fn passes_limit(self) -> bool
         ensures { result ≡ size_passes_limit self }
     {
@@ -94,11 +106,7 @@ pub fn components_within(
         ≡ components_within (tree_of (map model_of models.now) (coupled_of root.now))) }
 {
     let size = size_of_tree(alloc, GREATEST_DEPTH, models, root)?;
-    if size.passes_limit() {
-        Ok(None)
-    } else {
-        Ok(Some(size.components as u32))
-    }
+    Ok(size.components_within())
 }
 
 // The size of a root whose parts show down to so many levels. The sizes of all models are counted level by level, those

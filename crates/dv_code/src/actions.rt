@@ -7,7 +7,8 @@ ghost use Rattle.dv_code.specs.Performing.{Becomes};
 use crate::draft::Draft;
 use crate::instruction::Action;
 use crate::shape::{Shape, Slot};
-use dv_bag::{DatumView, Fault, GREATEST_COUNT, RuleError, Value};
+use dv_bag::limits::{test_flood, test_range, test_room};
+use dv_bag::{DatumView, RuleError, Value};
 
 /// Does with a value what an action says.
 ///
@@ -57,9 +58,7 @@ fn set_variable(
     let Some(Slot::Ranged { low, high }) = slots.get(slot) else {
         unreachable!()
     };
-    if number < *low || *high < number {
-        return Err(RuleError::Fault(Fault::Range));
-    }
+    test_range(number, *low, *high)?;
     draft.set_number(slot, number)?;
     Ok(())
 }
@@ -77,10 +76,7 @@ fn add_to(slot: usize, number: i64, slots: &[Slot], draft: &mut Draft) -> Result
     let Some(DatumView::Bag(bag)) = draft.state().variables.get(slot) else {
         unreachable!()
     };
-    let size = bag.size();
-    if *capacity <= size || GREATEST_COUNT <= size {
-        return Err(RuleError::Fault(Fault::Full));
-    }
+    test_room(bag, *capacity)?;
     draft.insert(slot, number)?;
     Ok(())
 }
@@ -89,9 +85,7 @@ fn add_to(slot: usize, number: i64, slots: &[Slot], draft: &mut Draft) -> Result
 fn send(port: usize, number: i64, draft: &mut Draft) -> Result<(), RuleError>
     ensures { Becomes result draft.new (send true port number draft.old) }
 {
-    if draft.sent_count() >= GREATEST_COUNT {
-        return Err(RuleError::Fault(Fault::Flood));
-    }
+    test_flood(draft.sent_count())?;
     draft.send(port, number)?;
     Ok(())
 }

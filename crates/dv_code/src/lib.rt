@@ -43,6 +43,3 @@ pub use machine::Machine;
 pub use shape::{ProgramSort, Shape, Slot, Tables};
 pub use steps::Steps;
 pub use valid::Valid;
-
-/// How deep loops may lie in one another.
-pub const DEEPEST_LOOPS: u64 = 3;

@@ -1,10 +1,10 @@
 //! How many links a text has, counted model by model: neither instances are visited nor ways walked.
 
-ghost use Rattle.std.specs.Prelude.{◌≡◌, None, fold, option_copied, replicate, slice_index_or, sum, IfOk, IfErr, OnOk};
+ghost use Rattle.std.specs.Prelude.{◌≡◌, ◌<◌, ◌≤◌, None, fold, option_copied, replicate, slice_index_or, sum, IfOk, IfErr, OnOk};
 ghost use Rattle.std.specs.List.{sum_by};
 ghost use Rattle.dv_syntax.specs.Trees.{file_of, model_of};
 ghost use Rattle.dv_bag.specs.Bag.{capped};
-ghost use Rattle.dv_flat.specs.Limit.{IsLinkAnswer, link_count, link_refusal};
+ghost use Rattle.dv_flat.specs.Limit.{IsLinkAnswer, greatest_links, link_count, link_refusal};
 ghost use Rattle.dv_flat.specs.Ways.{all_ways, at_port, component_ways, coupled_ways, inside_ways, input_ways, joined_ways, more_at, more_out, no_ways, output_ways, own_inputs, part_ways, ways_below, ways_by, ways_from, ways_over, with_output};
 ghost use Rattle.dv_check.specs.Limits.{greatest_depth};
 
@@ -291,13 +291,24 @@ pub fn count_links(alloc: Global, tree: &Tree) -> Result<u64, LoadError>
 {
     let below = ways_below(alloc, GREATEST_DEPTH, tree)?;
     let count = capped_count(alloc, tree, &below)?;
-    if count > GREATEST_LINKS {
-        return Err(LoadError::Refused(Refusal {
-            number: RefusalNumber::E17,
-            place: tree.root_place(),
-        }));
-    }
+    test_links(count, tree.root_place())?;
     Ok(count)
+}
+
+// Whether a text may have so many links. The place is that of the root's name.
+fn test_links(count: u64, place: u32) -> Result<(), Refusal>
+    ensures few { OnOk result (count ≤ greatest_links) }
+    ensures many { IfErr result (λ r. (r ≡ record { number = RefusalNumber.E17; place = place })
+        × (greatest_links < count)) }
+{
+    if count <= GREATEST_LINKS {
+        Ok(())
+    } else {
+        Err(Refusal {
+            number: RefusalNumber::E17,
+            place,
+        })
+    }
 }
 
 /// How many links a text has, each counted as often as it has copies, by the ways of the models one level below the root.

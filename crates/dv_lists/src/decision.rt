@@ -2,10 +2,11 @@
 //! from the first one, and an instruction at each place that agrees with the marks where it leads.
 
 use dv_bag::ValueType;
-use dv_code::{
-    Action, Binary, DEEPEST_LOOPS, Instruction, Leaf, ProgramSort, Shape, Slot, Source, Unary,
-};
+use dv_code::{Action, Binary, Instruction, Leaf, ProgramSort, Shape, Slot, Source, Unary};
 use std::alloc::{AllocError, Global};
+
+/// How deep loops may lie in one another.
+const DEEPEST_LOOPS: usize = 3;
 
 /// Types, the top last.
 type Types = &'static [ValueType];
@@ -231,7 +232,7 @@ impl<'a> Case<'a> {
             }
             inner = body.past;
         }
-        inner < self.end && nest.len() as u64 <= DEEPEST_LOOPS
+        inner < self.end && nest.len() <= DEEPEST_LOOPS
     }
 
     fn one_way(self, to: usize, mark: Mark) -> Result<Option<Vec<Way>>, AllocError> {

@@ -11,7 +11,7 @@ use Rattle.dv_syntax.proofs.Lengths.{Spells-length}
 use Rattle.dv_parser.specs.declared.parse_error.ParseError.{ParseError}
 use Rattle.dv_parser.specs.declared.parse_error.ParseError.TheVariants as parse_error
 use Rattle.dv_parser.specs.Reading.{Obstacle, Read, Fails, read_then, becoming, choose, begins, many, many_at, with_front}
-use Rattle.dv_parser.specs.Reading.{braces_at, Reader, Unexpected, TooDeep, TooShort}
+use Rattle.dv_parser.specs.Reading.{braces_at, Reader, obstacle_of}
 use Rattle.dv_parser.proofs.Tokens.{then_ok, chosen, ok_is, err_ok, same_after, Spans, nothing, span_end, then_spans, split}
 use Rattle.dv_parser.proofs.Tokens.{first, after_spans}
 
@@ -178,12 +178,16 @@ turn_stop one stop f ts b = rw b refl
 pub fails_as : {A B : Type 0} (e : ParseError) (r : Read A) (s : Read B) → ((o : Obstacle) → r ≡ Err o → s ≡ Err o) → Fails e r
     → Fails e s
 fails_as parse_error.Memory r s h f = tt
-fails_as (parse_error.Unexpected place) r s h f = h (Unexpected place) f
-fails_as (parse_error.TooDeep place) r s h f = h (TooDeep place) f
-fails_as parse_error.TooShort r s h f = h TooShort f
+fails_as (parse_error.Stopped o) r s h f = h (obstacle_of o) f
 
 pub turn_fails : {A B : Type 0} (e : ParseError) (one : Reader A) (stop : TokenKind) (f : List A → B) (ts : List Token)
     (total : Read (B × List Token)) → begins stop ts ≡ false → Fails e (one ts) → becoming f (many_at one stop ts) ≡ total
     → Fails e total
 unfolding many_at choose read_then
 turn_fails e one stop f ts total b h so_far = fails_as e (one ts) total (λ o g. sym so_far ∙ rw (b, g) refl) h
+
+pub turn_stopped : {A B : Type 0} (o : Obstacle) (one : Reader A) (stop : TokenKind) (f : List A → B) (ts : List Token)
+    (total : Read (B × List Token)) → begins stop ts ≡ false → one ts ≡ Err o → becoming f (many_at one stop ts) ≡ total
+    → total ≡ Err o
+unfolding many_at choose read_then
+turn_stopped o one stop f ts total b h so_far = sym so_far ∙ rw (b, h) refl

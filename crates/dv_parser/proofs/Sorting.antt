@@ -3,11 +3,12 @@ use Rattle.std.proofs.Common.{◌≡◌, zero, suc, ℕ, ◌<◌, Bool, true, fa
 use Rattle.std.proofs.Common.{subst, ◌∙◌, append_assoc}
 use Rattle.std.proofs.lemmas.List.{append-nil}
 use Rattle.dv_lex.specs.declared.error.LoadError.{LoadError}
-use Rattle.dv_lex.specs.declared.error.LoadError.TheVariants as error
 use Rattle.dv_lex.specs.declared.token.Token.{Token}
 use Rattle.dv_lex.specs.declared.token.TokenKind.TheVariants as kind
 use Rattle.dv_lex.specs.declared.token.Keyword.TheVariants as keyword
 use Rattle.dv_lex.specs.declared.token.Symbol.TheVariants as symbol
+use Rattle.dv_parser.specs.declared.parse_error.ParseError.{ParseError}
+use Rattle.dv_parser.specs.declared.parse_error.ParseError.TheVariants as parse_error
 use Rattle.dv_syntax.specs.declared.tree.Name.{Name}
 use Rattle.dv_syntax.specs.Trees.{AtomicTree, CoupledTree, ModelTree, AtomicModel, CoupledModel, FileTree}
 use Rattle.dv_syntax.specs.Written.{AtomicItem, Declares, Lists, Starts, Holds, Rules, CoupledItem, Inputs, Outputs, Contains}
@@ -17,7 +18,7 @@ use Rattle.dv_syntax.specs.Grammar.{the_limits, IsFileOf}
 use Rattle.dv_parser.specs.Reading.{Obstacle, Read, read_then, choose, begins, after, name_at, is_end, many, many_at, becoming}
 use Rattle.dv_parser.specs.Reading.{Reader, braces_at, item_at, coupled_item_at, atomic_at, coupled_at, model_at, file_at}
 use Rattle.dv_parser.specs.Reading.{with_items, with_item, with_coupled_items, with_coupled_item, empty_atomic, empty_coupled}
-use Rattle.dv_parser.specs.Reading.{atomic_tree_at, coupled_tree_at, tree_at, file_tree_at, refusal_of, refusal_in, IsRefused}
+use Rattle.dv_parser.specs.Reading.{atomic_tree_at, coupled_tree_at, tree_at, file_tree_at, refusal_in, obstacle_of, answer_of, Fails, IsRefused}
 use Rattle.dv_parser.proofs.Tokens.{then_ok, ok_is, err_is}
 use Rattle.dv_parser.proofs.Readers.{Shortens, later}
 use Rattle.dv_parser.proofs.Models.{model_shortens, file_sound}
@@ -202,7 +203,9 @@ err_kept (Err p) f o e = ap Err (err_is p o e)
 pub file_tree_err : (ts : List Token) (o : Obstacle) → file_tree_at ts ≡ Err o → file_at the_limits ts ≡ Err o
 file_tree_err ts o e = err_kept (file_at the_limits ts) sorted o (sym (file_trees ts) ∙ e)
 
-pub refused_as : (e : LoadError) (ts : List Token) (end : ℕ) (o : Obstacle) → e ≡ error.Refused (refusal_of o end) → file_tree_at ts ≡ Err o
-    → IsRefused e ts end
-refused_as e ts end o is f =
-    subst (λ (x : LoadError). IsRefused x ts end) (sym is) (ap (λ (r : Read WrittenFile). refusal_in r end) (file_tree_err ts o f))
+pub refused_as : (e : ParseError) (answer : LoadError) (ts : List Token) (end : ℕ) → answer ≡ answer_of e end
+    → Fails e (file_tree_at ts) → IsRefused answer ts end
+refused_as parse_error.Memory answer ts end is f = subst (λ (x : LoadError). IsRefused x ts end) (sym is) tt
+refused_as (parse_error.Stopped o) answer ts end is f =
+    subst (λ (x : LoadError). IsRefused x ts end) (sym is)
+    (ap (λ (r : Read WrittenFile). refusal_in r end) (file_tree_err ts (obstacle_of o) f))

@@ -31,6 +31,8 @@ use Rattle.dv_parser.specs.declared.atomic.AtomicItem.{AtomicItem as CodeItem}
 use Rattle.dv_parser.specs.declared.atomic.AtomicItem.TheVariants as item
 use Rattle.dv_parser.specs.declared.coupled.CoupledItem.{CoupledItem as CodeCoupledItem}
 use Rattle.dv_parser.specs.declared.coupled.CoupledItem.TheVariants as coupled_item
+use Rattle.dv_parser.specs.declared.parse_error.Obstacle.{Obstacle as CodeObstacle}
+use Rattle.dv_parser.specs.declared.parse_error.Obstacle.TheVariants as obstacle
 use Rattle.dv_parser.specs.declared.parse_error.ParseError.{ParseError}
 use Rattle.dv_parser.specs.declared.parse_error.ParseError.TheVariants as parse_error
 use Rattle.dv_syntax.specs.declared.tree.Stmt.{Stmt}
@@ -67,12 +69,21 @@ unfoldable pub read_then : {A B : Type 0} → Read A → (A → Read B) → Read
 read_then (Ok x) f = f x
 read_then (Err o) f = Err o
 
+-- what stops the code
+abbrev pub obstacle_of : CodeObstacle → Obstacle
+obstacle_of (obstacle.Unexpected place) = Unexpected place
+obstacle_of (obstacle.TooDeep place) = TooDeep place
+obstacle_of obstacle.TooShort = TooShort
+
+-- What a function that takes no memory returned, seen by `view`, is what reading gives.
+abbrev pub Reads : {X Y : Type 0} → (X → Y) → Result X CodeObstacle → Read Y → Type 0
+Reads view (Ok x) read = read ≡ Ok (view x)
+Reads view (Err o) read = read ≡ Err (obstacle_of o)
+
 -- What a function returned, seen by `view`, is what reading gives, unless memory ran out.
 abbrev pub Fails : {Y : Type 0} → ParseError → Read Y → Type 0
 Fails parse_error.Memory read = Unit {0}
-Fails (parse_error.Unexpected place) read = read ≡ Err (Unexpected place)
-Fails (parse_error.TooDeep place) read = read ≡ Err (TooDeep place)
-Fails parse_error.TooShort read = read ≡ Err TooShort
+Fails (parse_error.Stopped o) read = read ≡ Err (obstacle_of o)
 
 abbrev pub Gives : {X Y : Type 0} → (X → Y) → Result X ParseError → Read Y → Type 0
 Gives view (Ok x) read = read ≡ Ok (view x)
@@ -178,13 +189,6 @@ place_at (t ∷ ts) = t.place
 unfoldable pub obstacle_at : List Token → Obstacle
 obstacle_at [] = TooShort
 obstacle_at (t ∷ ts) = Unexpected t.place
-
--- what an error of the code says
-abbrev pub IsParseError : ParseError → Obstacle → Type 0
-IsParseError parse_error.Memory o = ⊥
-IsParseError (parse_error.Unexpected place) o = o ≡ Unexpected place
-IsParseError (parse_error.TooDeep place) o = o ≡ TooDeep place
-IsParseError parse_error.TooShort o = o ≡ TooShort
 
 -- the tokens after one of this kind
 unfoldable pub after : TokenKind → List Token → Read (List Token)
@@ -702,6 +706,11 @@ refusal_in (Err o) end = Some (refusal_of o end)
 -- the refusal of the tokens of a text that ends at this place, unless they are those of a file
 abbrev pub refusal_of_tokens : List Token → ℕ → Option Refusal
 refusal_of_tokens ts end = refusal_in (file_at the_limits ts) end
+
+-- the answer to the tokens of a text that ends at this place, by why the code could not read them
+abbrev pub answer_of : ParseError → ℕ → LoadError
+answer_of parse_error.Memory end = error.Memory
+answer_of (parse_error.Stopped o) end = error.Refused (refusal_of (obstacle_of o) end)
 
 -- the error is the answer to the tokens, or want of memory
 abbrev pub IsRefused : LoadError → List Token → ℕ → Type 0

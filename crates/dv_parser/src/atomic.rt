@@ -3,13 +3,13 @@
 ghost use Rattle.std.specs.Prelude.{◌≡◌, [], OnOk, IfErr};
 ghost use Rattle.dv_syntax.specs.Trees.{ticks_of, atomic_of};
 ghost use Rattle.dv_syntax.specs.Grammar.{the_limits, sort_word};
-ghost use Rattle.dv_parser.specs.Reading.{Gives, with_front, many_at, braces_at, bound_at, variable_at, flag_at, bag_at};
+ghost use Rattle.dv_parser.specs.Reading.{Gives, Reads, with_front, many_at, braces_at, bound_at, variable_at, flag_at, bag_at};
 ghost use Rattle.dv_parser.specs.Reading.{further_name_at, phases_at, start_at, ticks_at, hold_at, rule_at, begins_rule};
 ghost use Rattle.dv_parser.specs.Reading.{any_rule_at, port_at, item_at, item_of, with_item, with_items, empty_atomic, becoming};
 ghost use Rattle.dv_parser.specs.Reading.{atomic_tree_at};
 
 use crate::expression::expression;
-use crate::parse_error::ParseError;
+use crate::parse_error::{Obstacle, ParseError};
 use crate::statement::block;
 use crate::token::{
     after_keyword, after_symbol, begins_with_keyword, begins_with_symbol, first_place, name,
@@ -40,8 +40,8 @@ pub enum AtomicItem {
 
 /// A number, perhaps behind a minus sign.
 #[tactic(auto, unfolding(crate::specs::Reading::bound_at, crate::specs::Reading::read_then, crate::specs::Reading::choose))]
-fn bound(tokens: &[Token]) -> Result<(Bound, &[Token]), ParseError>
-    ensures { Gives (λ x. (x.0, x.1.now)) result (bound_at tokens.now) }
+fn bound(tokens: &[Token]) -> Result<(Bound, &[Token]), Obstacle>
+    ensures { Reads (λ x. (x.0, x.1.now)) result (bound_at tokens.now) }
 {
     if begins_with_symbol(tokens, Symbol::Minus) {
         let place = first_place(tokens);
@@ -74,8 +74,8 @@ fn bound(tokens: &[Token]) -> Result<(Bound, &[Token]), ParseError>
 
 /// `var name: low..high = start;`
 #[tactic(auto, unfolding(crate::specs::Reading::variable_at, crate::specs::Reading::read_then))]
-fn variable(tokens: &[Token]) -> Result<(Variable, &[Token]), ParseError>
-    ensures { Gives (λ x. (x.0, x.1.now)) result (variable_at tokens.now) }
+fn variable(tokens: &[Token]) -> Result<(Variable, &[Token]), Obstacle>
+    ensures { Reads (λ x. (x.0, x.1.now)) result (variable_at tokens.now) }
 {
     let rest = after_keyword(tokens, Keyword::Var)?;
     let (name, rest) = name(rest)?;
@@ -108,8 +108,8 @@ fn variable(tokens: &[Token]) -> Result<(Variable, &[Token]), ParseError>
 
 /// `flag name = start;`
 #[tactic(auto, unfolding(crate::specs::Reading::flag_at, crate::specs::Reading::read_then))]
-fn flag(tokens: &[Token]) -> Result<(Flag, &[Token]), ParseError>
-    ensures { Gives (λ x. (x.0, x.1.now)) result (flag_at tokens.now) }
+fn flag(tokens: &[Token]) -> Result<(Flag, &[Token]), Obstacle>
+    ensures { Reads (λ x. (x.0, x.1.now)) result (flag_at tokens.now) }
 {
     let rest = after_keyword(tokens, Keyword::Flag)?;
     let (name, rest) = name(rest)?;
@@ -121,8 +121,8 @@ fn flag(tokens: &[Token]) -> Result<(Flag, &[Token]), ParseError>
 
 /// `bag name capacity;`
 #[tactic(auto, unfolding(crate::specs::Reading::bag_at, crate::specs::Reading::read_then))]
-fn bag(tokens: &[Token]) -> Result<(StateBag, &[Token]), ParseError>
-    ensures { Gives (λ x. (x.0, x.1.now)) result (bag_at tokens.now) }
+fn bag(tokens: &[Token]) -> Result<(StateBag, &[Token]), Obstacle>
+    ensures { Reads (λ x. (x.0, x.1.now)) result (bag_at tokens.now) }
 {
     let rest = after_keyword(tokens, Keyword::Bag)?;
     let (name, rest) = name(rest)?;
@@ -136,8 +136,8 @@ fn bag(tokens: &[Token]) -> Result<(StateBag, &[Token]), ParseError>
 
 /// A comma and a name.
 #[tactic(auto, unfolding(crate::specs::Reading::further_name_at, crate::specs::Reading::read_then))]
-fn further_name(tokens: &[Token]) -> Result<(Name, &[Token]), ParseError>
-    ensures { Gives (λ x. (x.0, x.1.now)) result (further_name_at tokens.now) }
+fn further_name(tokens: &[Token]) -> Result<(Name, &[Token]), Obstacle>
+    ensures { Reads (λ x. (x.0, x.1.now)) result (further_name_at tokens.now) }
 {
     let rest = after_symbol(tokens, Symbol::Comma)?;
     name(rest)
@@ -178,8 +178,8 @@ fn phases(alloc: Global, tokens: &[Token]) -> Result<(AtomicItem, &[Token]), Par
 
 /// `start phase;`
 #[tactic(auto, unfolding(crate::specs::Reading::start_at, crate::specs::Reading::read_then))]
-fn start(tokens: &[Token]) -> Result<(AtomicItem, &[Token]), ParseError>
-    ensures { Gives (λ x. (item_of x.0, x.1.now)) result (start_at tokens.now) }
+fn start(tokens: &[Token]) -> Result<(AtomicItem, &[Token]), Obstacle>
+    ensures { Reads (λ x. (item_of x.0, x.1.now)) result (start_at tokens.now) }
 {
     let place = first_place(tokens);
     let rest = after_keyword(tokens, Keyword::Start)?;
@@ -273,8 +273,8 @@ fn any_rule(alloc: Global, tokens: &[Token]) -> Result<(AtomicItem, &[Token]), P
 
 /// A port behind a word: `in port;` or `out port;`
 #[tactic(auto, unfolding(crate::specs::Reading::port_at, crate::specs::Reading::read_then))]
-pub fn port(tokens: &[Token], word: Keyword) -> Result<(Name, &[Token]), ParseError>
-    ensures { Gives (λ x. (x.0, x.1.now)) result (port_at word tokens.now) }
+pub fn port(tokens: &[Token], word: Keyword) -> Result<(Name, &[Token]), Obstacle>
+    ensures { Reads (λ x. (x.0, x.1.now)) result (port_at word tokens.now) }
 {
     let rest = after_keyword(tokens, word)?;
     let (port, rest) = name(rest)?;
@@ -296,7 +296,7 @@ fn item(alloc: Global, tokens: &[Token]) -> Result<(AtomicItem, &[Token]), Parse
     } else if begins_with_keyword(tokens, Keyword::Var) {
         let (variable, rest) = match variable(tokens) {
             Ok(read) => read,
-            Err(e) => return Err(e),
+            Err(obstacle) => return Err(ParseError::Stopped(obstacle)),
         };
         Ok((AtomicItem::Declares(Declaration::Var(variable)), rest))
     } else if begins_with_keyword(tokens, Keyword::Flag) {
@@ -305,13 +305,13 @@ fn item(alloc: Global, tokens: &[Token]) -> Result<(AtomicItem, &[Token]), Parse
     } else if begins_with_keyword(tokens, Keyword::Bag) {
         let (bag, rest) = match bag(tokens) {
             Ok(read) => read,
-            Err(e) => return Err(e),
+            Err(obstacle) => return Err(ParseError::Stopped(obstacle)),
         };
         Ok((AtomicItem::Declares(Declaration::Bag(bag)), rest))
     } else if begins_with_keyword(tokens, Keyword::Phases) {
         phases(alloc, tokens)
     } else if begins_with_keyword(tokens, Keyword::Start) {
-        start(tokens)
+        Ok(start(tokens)?)
     } else if begins_with_keyword(tokens, Keyword::Hold) {
         hold(alloc, tokens)
     } else {

@@ -2,11 +2,11 @@
 
 ghost use Rattle.std.specs.Prelude.{◌≡◌, OnOk, IfErr};
 ghost use Rattle.dv_syntax.specs.Trees.{coupled_of};
-ghost use Rattle.dv_parser.specs.Reading.{Gives, many_at, braces_at, end_at, part_at, link_at, coupled_item_at, coupled_item_of};
+ghost use Rattle.dv_parser.specs.Reading.{Gives, Reads, many_at, braces_at, end_at, part_at, link_at, coupled_item_at, coupled_item_of};
 ghost use Rattle.dv_parser.specs.Reading.{with_coupled_item, with_coupled_items, empty_coupled, becoming, coupled_tree_at};
 
 use crate::atomic::port;
-use crate::parse_error::ParseError;
+use crate::parse_error::{Obstacle, ParseError};
 use crate::token::{
     after_keyword, after_symbol, begins_with_keyword, begins_with_symbol, first_place, name,
 };
@@ -25,8 +25,8 @@ pub enum CoupledItem {
 
 /// `self.port` or `part.port`
 #[tactic(auto, unfolding(crate::specs::Reading::end_at, crate::specs::Reading::read_then, crate::specs::Reading::choose))]
-fn end(tokens: &[Token]) -> Result<(End, &[Token]), ParseError>
-    ensures { Gives (λ x. (x.0, x.1.now)) result (end_at tokens.now) }
+fn end(tokens: &[Token]) -> Result<(End, &[Token]), Obstacle>
+    ensures { Reads (λ x. (x.0, x.1.now)) result (end_at tokens.now) }
 {
     if begins_with_keyword(tokens, Keyword::Itself) {
         let rest = after_keyword(tokens, Keyword::Itself)?;
@@ -49,8 +49,8 @@ fn end(tokens: &[Token]) -> Result<(End, &[Token]), ParseError>
 
 /// `part name: model;`
 #[tactic(auto, unfolding(crate::specs::Reading::part_at, crate::specs::Reading::read_then))]
-fn part(tokens: &[Token]) -> Result<(Part, &[Token]), ParseError>
-    ensures { Gives (λ x. (x.0, x.1.now)) result (part_at tokens.now) }
+fn part(tokens: &[Token]) -> Result<(Part, &[Token]), Obstacle>
+    ensures { Reads (λ x. (x.0, x.1.now)) result (part_at tokens.now) }
 {
     let rest = after_keyword(tokens, Keyword::Part)?;
     let (part, rest) = name(rest)?;
@@ -62,8 +62,8 @@ fn part(tokens: &[Token]) -> Result<(Part, &[Token]), ParseError>
 
 /// `link from -> to;`
 #[tactic(auto, unfolding(crate::specs::Reading::link_at, crate::specs::Reading::read_then))]
-fn link(tokens: &[Token]) -> Result<(Link, &[Token]), ParseError>
-    ensures { Gives (λ x. (x.0, x.1.now)) result (link_at tokens.now) }
+fn link(tokens: &[Token]) -> Result<(Link, &[Token]), Obstacle>
+    ensures { Reads (λ x. (x.0, x.1.now)) result (link_at tokens.now) }
 {
     let place = first_place(tokens);
     let rest = after_keyword(tokens, Keyword::Link)?;
@@ -76,8 +76,8 @@ fn link(tokens: &[Token]) -> Result<(Link, &[Token]), ParseError>
 
 /// An item at the front.
 #[tactic(auto, unfolding(crate::specs::Reading::coupled_item_at, crate::specs::Reading::read_then, crate::specs::Reading::choose))]
-fn item(tokens: &[Token]) -> Result<(CoupledItem, &[Token]), ParseError>
-    ensures { Gives (λ x. (coupled_item_of x.0, x.1.now)) result (coupled_item_at tokens.now) }
+fn item(tokens: &[Token]) -> Result<(CoupledItem, &[Token]), Obstacle>
+    ensures { Reads (λ x. (coupled_item_of x.0, x.1.now)) result (coupled_item_at tokens.now) }
 {
     if begins_with_keyword(tokens, Keyword::In) {
         let (port, rest) = port(tokens, Keyword::In)?;

@@ -3,12 +3,13 @@
 ghost use Rattle.std.specs.Prelude.{◌≡◌, ◌+◌, ◌-◌, ◌<◌, ◌≤◌, IfOk, List, MatchOption, MatchResult, None, Some, Ok};
 ghost use Rattle.dv_syntax.specs.Trees.{expression_of, Expression, Parens, Binary, Times};
 ghost use Rattle.dv_syntax.specs.Grammar.{prefix_kind, prefix_rank, operator_rank, left_rank, rank, depth};
-ghost use Rattle.dv_parser.specs.Reading.{Gives, operator_of, keyword_operator, symbol_operator, goes_on, operator_at, place_at};
+ghost use Rattle.dv_parser.specs.Reading.{Gives, Reads, operator_of, keyword_operator, symbol_operator, goes_on, operator_at, place_at};
 ghost use Rattle.dv_parser.specs.Reading.{call_at, elapsed_at, leaf_at, parens_at, prefixed_at, times_at, begins_prefix};
 ghost use Rattle.dv_parser.specs.Reading.{primary_at, expression_at, after, name_at, within, read_then};
 ghost use Rattle.dv_parser.specs.declared.parse_error.ParseError.TheVariants.{Memory};
 
-use crate::parse_error::ParseError;
+use crate::limits::test_depth;
+use crate::parse_error::{Obstacle, ParseError};
 use crate::token::{
     after_keyword, after_kind, after_symbol, begins_with, begins_with_call, begins_with_keyword,
     begins_with_name, begins_with_symbol, begins_with_truth, call_word, first_place, name, number,
@@ -159,8 +160,8 @@ fn next_operator<'a>(
 
 /// A question about a bag, and what follows it.
 #[tactic(auto, unfolding(crate::specs::Reading::call_at, crate::specs::Reading::read_then))]
-fn call(tokens: &[Token]) -> Result<(Expr, &[Token]), ParseError>
-    ensures gives { Gives (λ x. (expression_of x.0, x.1.now)) result (call_at tokens.now) }
+fn call(tokens: &[Token]) -> Result<(Expr, &[Token]), Obstacle>
+    ensures gives { Reads (λ x. (expression_of x.0, x.1.now)) result (call_at tokens.now) }
     ensures depth { IfOk result (λ x. depth (expression_of x.0) ≡ 1) }
 {
     let place = first_place(tokens);
@@ -173,8 +174,8 @@ fn call(tokens: &[Token]) -> Result<(Expr, &[Token]), ParseError>
 
 /// `elapsed`, and what follows it.
 #[tactic(auto, unfolding(crate::specs::Reading::elapsed_at, crate::specs::Reading::read_then))]
-fn elapsed(tokens: &[Token]) -> Result<(Expr, &[Token]), ParseError>
-    ensures gives { Gives (λ x. (expression_of x.0, x.1.now)) result (elapsed_at tokens.now) }
+fn elapsed(tokens: &[Token]) -> Result<(Expr, &[Token]), Obstacle>
+    ensures gives { Reads (λ x. (expression_of x.0, x.1.now)) result (elapsed_at tokens.now) }
     ensures depth { IfOk result (λ x. depth (expression_of x.0) ≡ 1) }
 {
     let place = first_place(tokens);
@@ -184,8 +185,8 @@ fn elapsed(tokens: &[Token]) -> Result<(Expr, &[Token]), ParseError>
 
 /// A name, a truth value, a call, `elapsed` or a number, and what follows it.
 #[tactic(auto, unfolding(crate::specs::Reading::leaf_at, crate::specs::Reading::read_then, crate::specs::Reading::choose))]
-fn leaf(tokens: &[Token]) -> Result<(Expr, &[Token]), ParseError>
-    ensures gives { Gives (λ x. (expression_of x.0, x.1.now)) result (leaf_at tokens.now) }
+fn leaf(tokens: &[Token]) -> Result<(Expr, &[Token]), Obstacle>
+    ensures gives { Reads (λ x. (expression_of x.0, x.1.now)) result (leaf_at tokens.now) }
     ensures depth { IfOk result (λ x. depth (expression_of x.0) ≡ 1) }
 {
     if begins_with_name(tokens) {
@@ -216,10 +217,10 @@ fn closed_parens(
     inner: Box<Expr>,
     inner_depth: u32,
     tokens: &[Token],
-) -> Result<(Expr, u32, &[Token]), ParseError>
+) -> Result<(Expr, u32, &[Token]), Obstacle>
     requires depth { inner_depth ≡ depth (expression_of inner.value) }
     requires bounded { inner_depth < 64 }
-    ensures gives { Gives {Y = Expression × List Token} (λ x. (expression_of x.0, x.2.now)) result
+    ensures gives { Reads {Y = Expression × List Token} (λ x. (expression_of x.0, x.2.now)) result
         (read_then (after (TokenKind.Symbol Symbol.CloseParen) tokens.now)
         (λ rest. Ok (Parens place (expression_of inner.value), rest))) }
     ensures depth { IfOk result (λ x. x.1 ≡ depth (expression_of x.0)) }
@@ -231,9 +232,9 @@ fn closed_parens(
 
 /// The tokens behind the parenthesis of a `times`, if the limit leaves room for its value.
 #[tactic(auto, unfolding(crate::specs::Reading::within, crate::specs::Reading::read_then))]
-fn inside_times(tokens: &[Token], limit: u32) -> Result<&[Token], ParseError>
+fn inside_times(tokens: &[Token], limit: u32) -> Result<&[Token], Obstacle>
     requires positive { 0 < limit }
-    ensures gives { Gives (λ rest. rest.now) result
+    ensures gives { Reads (λ rest. rest.now) result
         (read_then (after (TokenKind.Keyword Keyword.Times) tokens.now)
         (λ behind. within (limit - 1) (place_at tokens.now)
         (after (TokenKind.Symbol Symbol.OpenParen) behind))) }
@@ -241,9 +242,7 @@ fn inside_times(tokens: &[Token], limit: u32) -> Result<&[Token], ParseError>
 {
     let place = first_place(tokens);
     let behind = after_keyword(tokens, Keyword::Times)?;
-    if limit == 1 {
-        return Err(ParseError::TooDeep(place));
-    }
+    test_depth(limit - 1, place)?;
     after_symbol(behind, Symbol::OpenParen)
 }
 
@@ -254,10 +253,10 @@ fn counted_times(
     value: Box<Expr>,
     value_depth: u32,
     tokens: &[Token],
-) -> Result<(Expr, u32, &[Token]), ParseError>
+) -> Result<(Expr, u32, &[Token]), Obstacle>
     requires depth { value_depth ≡ depth (expression_of value.value) }
     requires bounded { value_depth < 64 }
-    ensures gives { Gives {Y = Expression × List Token} (λ x. (expression_of x.0, x.2.now)) result
+    ensures gives { Reads {Y = Expression × List Token} (λ x. (expression_of x.0, x.2.now)) result
         (read_then (after (TokenKind.Symbol Symbol.Comma) tokens.now)
         (λ comma. read_then (name_at comma)
         (λ bag. read_then (after (TokenKind.Symbol Symbol.CloseParen) bag.1)
@@ -301,9 +300,7 @@ fn operand_within(
     ensures depth { IfOk result (λ x. x.1 ≡ depth (expression_of x.0.value)) }
     ensures within { IfOk result (λ x. (0 < x.1) × (x.1 < limit)) }
 {
-    if limit == 1 {
-        return Err(ParseError::TooDeep(place));
-    }
+    test_depth(limit - 1, place)?;
     let (operand, depth, rest) = within(alloc, tokens, limit - 1, level)?;
     Ok((Box::new(alloc, operand)?, depth, rest))
 }
@@ -322,7 +319,7 @@ fn parens(alloc: Global, tokens: &[Token], limit: u32) -> Result<(Expr, u32, &[T
     let place = first_place(tokens);
     let inside = after_symbol(tokens, Symbol::OpenParen)?;
     let (inner, depth, rest) = operand_within(alloc, inside, place, limit, 0)?;
-    closed_parens(place, inner, depth, rest)
+    Ok(closed_parens(place, inner, depth, rest)?)
 }
 
 /// An operand behind its operator.
@@ -367,7 +364,7 @@ fn times(alloc: Global, tokens: &[Token], limit: u32) -> Result<(Expr, u32, &[To
     let place = first_place(tokens);
     let inside = inside_times(tokens, limit)?;
     let (value, depth, rest) = operand_within(alloc, inside, place, limit, 0)?;
-    counted_times(place, value, depth, rest)
+    Ok(counted_times(place, value, depth, rest)?)
 }
 
 /// Whether an operator before its operand comes first, and may stand at the level.
@@ -426,9 +423,7 @@ fn within(
 {
     let (mut left, mut depth, mut rest) = primary(alloc, tokens, limit, level)?;
     while let Some((operator, place, after)) = next_operator(rest, level, &left) {
-        if depth >= limit {
-            return Err(ParseError::TooDeep(place));
-        }
+        test_depth(limit - depth, place)?;
         let right_level = rank_of_operator(operator) + 1;
         let (right, right_depth, next) = within(alloc, after, limit - 1, right_level)?;
         depth = depth.max(right_depth) + 1;

@@ -3,12 +3,13 @@
 ghost use Rattle.std.specs.Prelude.{◌≡◌, IfOk, IfErr, map};
 ghost use Rattle.dv_syntax.specs.Trees.{model_of, file_of};
 ghost use Rattle.dv_syntax.specs.Grammar.{IsFileOf};
-ghost use Rattle.dv_parser.specs.Reading.{Gives, IsRefused, many_at, tree_at, file_tree_at};
+ghost use Rattle.dv_parser.specs.Reading.{Gives, IsRefused, many_at, tree_at, file_tree_at, obstacle_of};
+ghost use Rattle.dv_parser.specs.Reading.{refusal_of, answer_of};
 
 use crate::atomic::atomic;
 use crate::coupled::coupled;
-use crate::parse_error::ParseError;
-use crate::token::{after_keyword, after_symbol, begins_with_keyword, name};
+use crate::parse_error::{Obstacle, ParseError};
+use crate::token::{after_keyword, after_symbol, begins_with_keyword, name, test_end};
 use dv_lex::{Keyword, LoadError, Refusal, RefusalNumber, Symbol, Token, TokenKind};
 use dv_syntax::{File, Model};
 use std::alloc::Global;
@@ -51,16 +52,38 @@ fn file(alloc: Global, tokens: &[Token]) -> Result<File, ParseError>
     let rest = after_keyword(rest, Keyword::Root)?;
     let (root, rest) = name(rest)?;
     let rest = after_symbol(rest, Symbol::Semicolon)?;
-    match rest {
-        [] => Ok(File { models, root }),
-        [Token { place, .. }, ..] => Err(ParseError::Unexpected(*place)),
+    test_end(rest)?;
+    Ok(File { models, root })
+}
+
+/// The refusal of the tokens of a text that ends at this place, by what stops their reading.
+fn refusal(obstacle: Obstacle, end: u32) -> Refusal
+    ensures { result ≡ refusal_of (obstacle_of obstacle) end }
+{
+    match obstacle {
+        Obstacle::Unexpected(place) => Refusal {
+            number: RefusalNumber::E4,
+            place,
+        },
+        Obstacle::TooDeep(place) => Refusal {
+            number: RefusalNumber::E5,
+            place,
+        },
+        Obstacle::TooShort => Refusal {
+            number: RefusalNumber::E4,
+            place: end,
+        },
     }
 }
 
-fn refused(number: RefusalNumber, place: u32) -> LoadError
-    ensures { result ≡ LoadError.Refused (record { number = number; place = place }) }
+/// The answer to the tokens of a text that ends at this place, by why they could not be read.
+fn load_error(error: ParseError, end: u32) -> LoadError
+    ensures { result ≡ answer_of error end }
 {
-    LoadError::Refused(Refusal { number, place })
+    match error {
+        ParseError::Memory => LoadError::Memory,
+        ParseError::Stopped(obstacle) => LoadError::Refused(refusal(obstacle, end)),
+    }
 }
 
 /// The file that the tokens spell. `end` is the place of the end of the text.
@@ -74,9 +97,6 @@ pub fn parse(alloc: Global, tokens: &[Token], end: u32) -> Result<File, LoadErro
 {
     match file(alloc, tokens) {
         Ok(file) => Ok(file),
-        Err(ParseError::Memory) => Err(LoadError::Memory),
-        Err(ParseError::Unexpected(place)) => Err(refused(RefusalNumber::E4, place)),
-        Err(ParseError::TooDeep(place)) => Err(refused(RefusalNumber::E5, place)),
-        Err(ParseError::TooShort) => Err(refused(RefusalNumber::E4, end)),
+        Err(error) => Err(load_error(error, end)),
     }
 }

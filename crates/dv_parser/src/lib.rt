@@ -12,6 +12,8 @@ mod atomic;
 mod coupled;
 /// Expressions, by the ranks of operators.
 mod expression;
+/// The test of a limit on depth.
+mod limits;
 /// Why tokens are not read.
 mod parse_error;
 /// Statements and blocks.

@@ -2,17 +2,35 @@
 
 use std::alloc::{AllocError, AllocFailed};
 
-/// Why the tokens could not be read. A place is that of the token at which it shows.
+/// What stops the reading of tokens. A place is that of the token at which it shows.
 #[derive(Clone, Copy)]
-pub enum ParseError {
-    /// An allocation was refused.
-    Memory,
+pub enum Obstacle {
     /// The token can't stand there.
     Unexpected(u32),
     /// What begins with the token, or what it joins, lies too deep.
     TooDeep(u32),
     /// More tokens have to follow.
     TooShort,
+}
+
+/// Why the tokens could not be read.
+#[derive(Clone, Copy)]
+pub enum ParseError {
+    /// An allocation was refused.
+    Memory,
+    /// The tokens are not those of what was to be read.
+    Stopped(Obstacle),
+}
+
+impl From<Obstacle> for ParseError {
+    ghost use Rattle.std.specs.Prelude.{◌≡◌};
+    ghost use Rattle.dv_parser.specs.declared.parse_error.ParseError.TheVariants.{Stopped};
+
+    ghost from_gives = { λ o e. e ≡ Stopped o };
+
+    fn from(obstacle: Obstacle) -> Self {
+        ParseError::Stopped(obstacle)
+    }
 }
 
 impl From<AllocError> for ParseError {

@@ -3,12 +3,13 @@
 ghost use Rattle.std.specs.Prelude.{◌≡◌, ◌-◌, ◌<◌, ◌≤◌, IfOk, List, Ok, map};
 ghost use Rattle.dv_syntax.specs.Trees.{block_of, expression_of, Statements};
 ghost use Rattle.dv_syntax.specs.Grammar.{the_limits};
-ghost use Rattle.dv_parser.specs.Reading.{Gives, single_of, many_at, assign_at, goto_at, send_at, add_at, drop_at, if_at, for_at};
+ghost use Rattle.dv_parser.specs.Reading.{Gives, Reads, single_of, many_at, assign_at, goto_at, send_at, add_at, drop_at, if_at, for_at};
 ghost use Rattle.dv_parser.specs.Reading.{statement_at, block_at, after, place_at, name_at, expression_at, within, read_then};
 ghost use Rattle.dv_parser.specs.Reading.{joined, SingleIf, SingleIfElse, SingleFor};
 
 use crate::expression::expression;
-use crate::parse_error::ParseError;
+use crate::limits::test_depth;
+use crate::parse_error::{Obstacle, ParseError};
 use crate::token::{
     after_keyword, after_symbol, begins_with_keyword, begins_with_symbol, first_place, name,
 };
@@ -30,8 +31,8 @@ fn assign(alloc: Global, tokens: &[Token]) -> Result<(Stmt, &[Token]), ParseErro
 
 /// `goto phase;`
 #[tactic(auto, unfolding(crate::specs::Reading::goto_at, crate::specs::Reading::read_then))]
-fn goto(tokens: &[Token]) -> Result<(Stmt, &[Token]), ParseError>
-    ensures { Gives (λ x. (single_of x.0, x.1.now)) result (goto_at tokens.now) }
+fn goto(tokens: &[Token]) -> Result<(Stmt, &[Token]), Obstacle>
+    ensures { Reads (λ x. (single_of x.0, x.1.now)) result (goto_at tokens.now) }
 {
     let place = first_place(tokens);
     let rest = after_keyword(tokens, Keyword::Goto)?;
@@ -97,9 +98,7 @@ fn condition_of_if(
 {
     let place = first_place(tokens);
     let rest = after_keyword(tokens, Keyword::If)?;
-    if limit == 1 {
-        return Err(ParseError::TooDeep(place));
-    }
+    test_depth(limit - 1, place)?;
     expression(alloc, rest)
 }
 
@@ -173,13 +172,9 @@ fn if_statement(
 
 /// The variable and the bag of a `for`, if the limits leave room for its block, and what follows them.
 #[tactic(auto, unfolding(crate::specs::Reading::within, crate::specs::Reading::read_then))]
-fn head_of_for(
-    tokens: &[Token],
-    limit: u32,
-    loops: u32,
-) -> Result<(Name, Name, &[Token]), ParseError>
+fn head_of_for(tokens: &[Token], limit: u32, loops: u32) -> Result<(Name, Name, &[Token]), Obstacle>
     requires { 0 < limit }
-    ensures gives { Gives {Y = Name × (Name × List Token)} (λ x. (x.0, (x.1, x.2.now))) result
+    ensures gives { Reads {Y = Name × (Name × List Token)} (λ x. (x.0, (x.1, x.2.now))) result
         (read_then (after (TokenKind.Keyword Keyword.For) tokens.now)
         (λ behind. read_then
         (within (limit - 1) (place_at tokens.now)
@@ -190,9 +185,8 @@ fn head_of_for(
 {
     let place = first_place(tokens);
     let rest = after_keyword(tokens, Keyword::For)?;
-    if limit == 1 || loops == 0 {
-        return Err(ParseError::TooDeep(place));
-    }
+    test_depth(limit - 1, place)?;
+    test_depth(loops, place)?;
     let (variable, rest) = name(rest)?;
     let rest = after_keyword(rest, Keyword::In)?;
     let (bag, rest) = name(rest)?;
@@ -245,7 +239,7 @@ fn statement(
         (statement_at the_limits (block_at the_limits (limit - 1)) (limit - 1) loops tokens.now) }
 {
     if begins_with_keyword(tokens, Keyword::Goto) {
-        goto(tokens)
+        Ok(goto(tokens)?)
     } else if begins_with_keyword(tokens, Keyword::Send) {
         send(alloc, tokens)
     } else if begins_with_keyword(tokens, Keyword::If) {
@@ -286,8 +280,8 @@ fn statements(
 
 /// The block of these statements, behind which a brace closes it, and what follows it.
 #[tactic(auto, using(crate::proofs::Rows::joined_items), unfolding(crate::specs::Reading::read_then))]
-fn closed_block(statements: Vec<Stmt>, tokens: &[Token]) -> Result<(Block, &[Token]), ParseError>
-    ensures { Gives {Y = Statements × List Token} (λ x. (block_of x.0, x.1.now)) result
+fn closed_block(statements: Vec<Stmt>, tokens: &[Token]) -> Result<(Block, &[Token]), Obstacle>
+    ensures { Reads {Y = Statements × List Token} (λ x. (block_of x.0, x.1.now)) result
         (read_then (after (TokenKind.Symbol Symbol.CloseBrace) tokens.now)
         (λ rest. Ok (joined (map single_of statements.items), rest))) }
 {
@@ -310,5 +304,5 @@ pub fn block(
 {
     let inside = after_symbol(tokens, Symbol::OpenBrace)?;
     let (statements, rest) = statements(alloc, inside, limit, loops)?;
-    closed_block(statements, rest)
+    Ok(closed_block(statements, rest)?)
 }

@@ -1,12 +1,12 @@
 //! Single tokens.
 
-ghost use Rattle.std.specs.Prelude.{◌≡◌};
+ghost use Rattle.std.specs.Prelude.{◌≡◌, true, false, IfErr, OnOk};
 ghost use Rattle.dv_syntax.specs.Grammar.{call_word};
-ghost use Rattle.dv_parser.specs.Reading.{Gives, IsParseError, obstacle_at, same_kind, begins, begins_name, begins_truth};
+ghost use Rattle.dv_parser.specs.Reading.{Reads, obstacle_of, obstacle_at, same_kind, begins, begins_name, begins_truth};
 ghost use Rattle.dv_parser.specs.Reading.{begins_word_of, begins_call, after, place_at, name_at, truth_at, number_at, word_of_at};
-ghost use Rattle.dv_parser.specs.Reading.{call_word_at};
+ghost use Rattle.dv_parser.specs.Reading.{call_word_at, is_end};
 
-use crate::parse_error::ParseError;
+use crate::parse_error::Obstacle;
 use dv_lex::{Keyword, Symbol, Token, TokenKind};
 use dv_syntax::{BagCall, Name, Number};
 
@@ -102,19 +102,36 @@ pub fn first_place(tokens: &[Token]) -> u32
 
 /// What refuses the first token.
 #[tactic(auto, unfolding(crate::specs::Reading::obstacle_at))]
-pub fn unexpected(tokens: &[Token]) -> ParseError
-    ensures { IsParseError result (obstacle_at tokens.now) }
+pub fn unexpected(tokens: &[Token]) -> Obstacle
+    ensures { obstacle_of result ≡ obstacle_at tokens.now }
 {
     match tokens {
-        [first, ..] => ParseError::Unexpected(first.place),
-        [] => ParseError::TooShort,
+        [first, ..] => Obstacle::Unexpected(first.place),
+        [] => Obstacle::TooShort,
+    }
+}
+
+/// Whether the tokens end here.
+///
+/// # Errors
+///
+/// What refuses the first token, where there is one.
+pub fn test_end(tokens: &[Token]) -> Result<(), Obstacle>
+    ensures end { OnOk result (is_end tokens.now ≡ true) }
+    ensures more { IfErr result (λ o. (obstacle_of o ≡ obstacle_at tokens.now)
+        × (is_end tokens.now ≡ false)) }
+{
+    if tokens.is_empty() {
+        Ok(())
+    } else {
+        Err(unexpected(tokens))
     }
 }
 
 /// The tokens after one of this kind.
 #[tactic(auto, unfolding(crate::specs::Reading::after, crate::specs::Reading::obstacle_at, crate::specs::Reading::choose))]
-pub fn after_kind(tokens: &[Token], kind: TokenKind) -> Result<&[Token], ParseError>
-    ensures { Gives (λ rest. rest.now) result (after kind tokens.now) }
+pub fn after_kind(tokens: &[Token], kind: TokenKind) -> Result<&[Token], Obstacle>
+    ensures { Reads (λ rest. rest.now) result (after kind tokens.now) }
 {
     if !begins_with(tokens, kind) {
         return Err(unexpected(tokens));
@@ -122,22 +139,22 @@ pub fn after_kind(tokens: &[Token], kind: TokenKind) -> Result<&[Token], ParseEr
     Ok(&tokens[1..])
 }
 
-pub fn after_symbol(tokens: &[Token], symbol: Symbol) -> Result<&[Token], ParseError>
-    ensures { Gives (λ rest. rest.now) result (after (TokenKind.Symbol symbol) tokens.now) }
+pub fn after_symbol(tokens: &[Token], symbol: Symbol) -> Result<&[Token], Obstacle>
+    ensures { Reads (λ rest. rest.now) result (after (TokenKind.Symbol symbol) tokens.now) }
 {
     after_kind(tokens, TokenKind::Symbol(symbol))
 }
 
-pub fn after_keyword(tokens: &[Token], keyword: Keyword) -> Result<&[Token], ParseError>
-    ensures { Gives (λ rest. rest.now) result (after (TokenKind.Keyword keyword) tokens.now) }
+pub fn after_keyword(tokens: &[Token], keyword: Keyword) -> Result<&[Token], Obstacle>
+    ensures { Reads (λ rest. rest.now) result (after (TokenKind.Keyword keyword) tokens.now) }
 {
     after_kind(tokens, TokenKind::Keyword(keyword))
 }
 
 /// The name at the front, and what follows it.
 #[tactic(auto, unfolding(crate::specs::Reading::name_at, crate::specs::Reading::obstacle_at))]
-pub fn name(tokens: &[Token]) -> Result<(Name, &[Token]), ParseError>
-    ensures { Gives (λ x. (x.0, x.1.now)) result (name_at tokens.now) }
+pub fn name(tokens: &[Token]) -> Result<(Name, &[Token]), Obstacle>
+    ensures { Reads (λ x. (x.0, x.1.now)) result (name_at tokens.now) }
 {
     match tokens {
         [
@@ -159,8 +176,8 @@ pub fn name(tokens: &[Token]) -> Result<(Name, &[Token]), ParseError>
 
 /// The number at the front, and what follows it.
 #[tactic(auto, unfolding(crate::specs::Reading::number_at, crate::specs::Reading::obstacle_at))]
-pub fn number(tokens: &[Token]) -> Result<(Number, &[Token]), ParseError>
-    ensures { Gives (λ x. (x.0, x.1.now)) result (number_at tokens.now) }
+pub fn number(tokens: &[Token]) -> Result<(Number, &[Token]), Obstacle>
+    ensures { Reads (λ x. (x.0, x.1.now)) result (number_at tokens.now) }
 {
     match tokens {
         [
@@ -182,8 +199,8 @@ pub fn number(tokens: &[Token]) -> Result<(Number, &[Token]), ParseError>
 
 /// The truth value at the front, and what follows it.
 #[tactic(auto, unfolding(crate::specs::Reading::truth_at, crate::specs::Reading::read_then, crate::specs::Reading::choose))]
-pub fn truth(tokens: &[Token]) -> Result<(bool, &[Token]), ParseError>
-    ensures { Gives (λ x. (x.0, x.1.now)) result (truth_at tokens.now) }
+pub fn truth(tokens: &[Token]) -> Result<(bool, &[Token]), Obstacle>
+    ensures { Reads (λ x. (x.0, x.1.now)) result (truth_at tokens.now) }
 {
     if begins_with_keyword(tokens, Keyword::True) {
         let rest = after_keyword(tokens, Keyword::True)?;
@@ -196,8 +213,8 @@ pub fn truth(tokens: &[Token]) -> Result<(bool, &[Token]), ParseError>
 
 /// This call, whose word is at the front, and what follows the word.
 #[tactic(auto, unfolding(crate::specs::Reading::word_of_at, crate::specs::Reading::read_then))]
-fn word_of(tokens: &[Token], call: BagCall) -> Result<(BagCall, &[Token]), ParseError>
-    ensures { Gives (λ x. (x.0, x.1.now)) result (word_of_at call tokens.now) }
+fn word_of(tokens: &[Token], call: BagCall) -> Result<(BagCall, &[Token]), Obstacle>
+    ensures { Reads (λ x. (x.0, x.1.now)) result (word_of_at call tokens.now) }
 {
     let rest = after_keyword(tokens, word_of_call(call))?;
     Ok((call, rest))
@@ -205,8 +222,8 @@ fn word_of(tokens: &[Token], call: BagCall) -> Result<(BagCall, &[Token]), Parse
 
 /// The call whose word is at the front, and what follows the word.
 #[tactic(auto, unfolding(crate::specs::Reading::call_word_at, crate::specs::Reading::choose))]
-pub fn call_word(tokens: &[Token]) -> Result<(BagCall, &[Token]), ParseError>
-    ensures { Gives (λ x. (x.0, x.1.now)) result (call_word_at tokens.now) }
+pub fn call_word(tokens: &[Token]) -> Result<(BagCall, &[Token]), Obstacle>
+    ensures { Reads (λ x. (x.0, x.1.now)) result (call_word_at tokens.now) }
 {
     if begins_with_word_of(tokens, BagCall::Size) {
         word_of(tokens, BagCall::Size)

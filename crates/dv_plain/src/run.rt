@@ -11,7 +11,7 @@ ghost use Rattle.dv_tree.specs.Instances.{instances};
 ghost use Rattle.dv_plain.specs.InputTimes.{IsOfRunIf, rank_if};
 ghost use Rattle.dv_react.specs.Components.{AreWaitsOfRun, IsNextOfRun, IsWaitOfRun, component_of, components_of, next_of_wait, rank_of};
 ghost use Rattle.dv_plain.specs.Source.{network_of, outside, start_of, trace_of};
-ghost use Rattle.dv_time.specs.Limits.{greatest_tick};
+ghost use Rattle.dv_time.specs.Limits.{greatest_limit, greatest_tick};
 
 use crate::atom::Atom;
 use crate::input::{input_at, next_input};
@@ -42,7 +42,7 @@ pub fn resultant_run(
 ) -> Result<Trace, AllocError>
     requires horizon { horizon ≤ greatest_tick }
     requires least_limit { 1 ≤ limit }
-    requires greatest_limit { limit ≤ 1_000 }
+    requires limit { limit ≤ greatest_limit }
     ensures { IfOk result (λ trace.
         trace ≡ trace_of (file_of tree.now.file) inputs.now horizon limit) }
 {

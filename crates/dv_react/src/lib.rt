@@ -4,6 +4,9 @@
 /// Code that gives the behaviour of an atomic model.
 pub mod atomic;
 
+/// Faults, parted from want of memory.
+mod fault;
+
 /// An instant of a run.
 pub mod instant;
 

@@ -4,15 +4,15 @@ use Rattle.dv_syntax.specs.declared.tree.Name.{Name}
 use Rattle.std.proofs.lemmas.Result.{err_from_is_err_and}
 use Rattle.dv_lex.specs.declared.token.TokenKind.TheVariants as kind
 use Rattle.dv_lex.specs.declared.token.Symbol.TheVariants as symbol
-use Rattle.dv_parser.specs.Reading.{further_name_at}
-use Rattle.dv_parser.proofs.Readers.{turn_some, turn_stop, turn_fails, front_more}
+use Rattle.dv_parser.specs.Reading.{obstacle_of, further_name_at}
+use Rattle.dv_parser.proofs.Readers.{turn_some, turn_stop, turn_stopped, front_more}
 use Rattle.dv_parser.proofs.Models.{further_name_shortens}
 use Rattle.dv_parser.proofs.atomic.further_names.Goals as goal
 
 pub returns-in_err-name : goal.returns-in_err-name
 returns-in_err-name c =
     let p = err_from_is_err_and c.from_residual.result c.from_residual.ensures.1 in
-    rw (p.1, p.2) (turn_fails c.in_err-name.field-0.0 further_name_at (kind.Symbol symbol.Semicolon)
+    rw (p.1, p.2) (turn_stopped (obstacle_of c.in_err-name.field-0.0) further_name_at (kind.Symbol symbol.Semicolon)
     (λ (xs : List Name). c.loop-rest.names.items ++ xs) c.loop-rest.rest.now _
     (search rules) c.in_err-name.ensures c.loop-rest.invariant)
 

@@ -3,8 +3,8 @@ use Rattle.std.proofs.lemmas.Result.{err_from_is_err_and}
 use Rattle.dv_lex.specs.declared.token.TokenKind.TheVariants as kind
 use Rattle.dv_lex.specs.declared.token.Symbol.TheVariants as symbol
 use Rattle.dv_syntax.specs.Trees.{CoupledTree, coupled_of}
-use Rattle.dv_parser.specs.Reading.{many_at, becoming, coupled_item_at, coupled_item_of, with_coupled_item, with_coupled_items}
-use Rattle.dv_parser.proofs.Readers.{turn_some, turn_stop, turn_fails}
+use Rattle.dv_parser.specs.Reading.{obstacle_of, many_at, becoming, coupled_item_at, coupled_item_of, with_coupled_item, with_coupled_items}
+use Rattle.dv_parser.proofs.Readers.{turn_some, turn_stop, turn_stopped}
 use Rattle.dv_parser.proofs.Models.{coupled_item_shortens}
 use Rattle.dv_parser.proofs.Sorting.{coupled_items_more, coupled_items_none}
 use Rattle.dv_parser.proofs.coupled.items.Goals as goal
@@ -12,7 +12,7 @@ use Rattle.dv_parser.proofs.coupled.items.Goals as goal
 pub returns-in_err-item : goal.returns-in_err-item
 returns-in_err-item c =
     let p = err_from_is_err_and c.from_residual.result c.from_residual.ensures.1 in
-    rw (p.1, p.2) (turn_fails c.in_err-item.field-0.0 coupled_item_at (kind.Symbol symbol.CloseBrace)
+    rw (p.1, p.2) (turn_stopped (obstacle_of c.in_err-item.field-0.0) coupled_item_at (kind.Symbol symbol.CloseBrace)
     (with_coupled_items (coupled_of c.loop-rest.coupled)) c.loop-rest.rest.now _
     (search rules) c.in_err-item.ensures c.loop-rest.invariant)
 

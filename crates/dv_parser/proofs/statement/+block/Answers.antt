@@ -22,6 +22,11 @@ unfolding read_then
 block-returns-in_err-statements t c =
     rw (block_reads the_limits c.args.limit c.args.loops c.args.tokens.now c.requires) (search rules)
 
+pub block-returns-in_err-closed_block : goal.block-returns-in_err-closed_block
+unfolding read_then
+block-returns-in_err-closed_block t c =
+    rw (block_reads the_limits c.args.limit c.args.loops c.args.tokens.now c.requires) (search rules)
+
 pub block-returns : goal.block-returns
 unfolding read_then
 block-returns t c =

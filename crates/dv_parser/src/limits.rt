@@ -1,0 +1,22 @@
+//! The test of a limit on depth. It takes no memory, and its answer is exact.
+
+ghost use Rattle.std.specs.Prelude.{◌≡◌, ◌<◌, IfErr, OnOk};
+
+use crate::parse_error::Obstacle;
+
+/// Whether something may lie one level deeper where so many levels are left. The place is that of the token that is
+/// refused.
+///
+/// # Errors
+///
+/// `TooDeep` at the place, where no level is left.
+pub fn test_depth(left: u32, place: u32) -> Result<(), Obstacle>
+    ensures room { OnOk result (0 < left) }
+    ensures deep { IfErr result (λ o. (o ≡ Obstacle.TooDeep place) × (left ≡ 0)) }
+{
+    if left == 0 {
+        Err(Obstacle::TooDeep(place))
+    } else {
+        Ok(())
+    }
+}
