@@ -78,7 +78,8 @@ pub(crate) fn is_set(flags: &[bool], place: usize) -> bool
     }
 }
 
-/// The number of ports of one component, by their names. Different names of 32 bits are few enough for places of 32 bits.
+/// The number of ports of one component, by their names. Different names of 32 bits are few enough for places of 32
+/// bits.
 pub(crate) fn port_count(names: &[u32]) -> usize
     requires { IsDistinct nat_eq names.now }
     ensures value { result ≡ length names.now }
