@@ -9,7 +9,7 @@ use Rattle.dv_syntax.specs.Trees.{AtomicTree, FileTree}
 use Rattle.dv_bag.specs.Bag.{Counts, bag_at, count_of}
 use Rattle.dv_tree.specs.Instances.{Instance, instances, root_inputs, root_outputs}
 use Rattle.dv_tree.proofs.Limits.{length-leaves}
-use Rattle.dv_tree.proofs.Received.{each_receives, port_counts, ports_received}
+use Rattle.dv_tree.proofs.Received.{ports_received}
 use Rattle.dv_flat.specs.Ends.{input_count, input_ports, output_count, output_ports, port_at, ports_from}
 use Rattle.dv_flat.specs.Links.{direct_copies, entry_copies, entry_links, exit_copies, root_ports}
 use Rattle.dv_flat.specs.Probes.{IsOutput, arrival_lists, arrived_probes, come_probes, departure_lists, direct_from, exit_from}
@@ -18,7 +18,6 @@ use Rattle.dv_flat.specs.declared.arrivals.Arrival.{Arrival}
 use Rattle.dv_flat.specs.declared.link.ComponentPort.{ComponentPort}
 use Rattle.dv_flat.specs.declared.link.Link.{Link}
 use Rattle.dv_flat.proofs.ArrivalLists.{length-all, links_found}
-use Rattle.dv_flat.proofs.ProbeCounts.{lengths}
 use Rattle.dv_flat.proofs.ProbeSums.{arrived_bag, entry_found, exit_found, left_bag, output_found}
 
 module _ (f : FileTree) (sources : List ComponentPort) (valid : All (IsOutput f) sources) where
@@ -64,15 +63,14 @@ module _ (f : FileTree) (sources : List ComponentPort) (valid : All (IsOutput f)
       ∙ exit_found f sources valid j (port_at 0 0) to within)
 
   -- what the code makes of them
-  pub arrival_lists-made : (n : ℕ) (targets : List ComponentPort) (received : List (List Counts))
-      (lists : List (List (Arrival ComponentPort))) → n ≡ length sources + length (root_inputs f) → targets ≡ input_ports f →
-      received ≡ arrived_probes f sources → lists ≡ fold (with_input received) (replicate n []) targets →
-      lists ≡ arrival_lists f sources
-  arrival_lists-made n targets received lists many at of made =
+  pub arrival_lists-made : (n : ℕ) (received : List (List Counts)) (lists : List (List (Arrival ComponentPort))) →
+      n ≡ length sources + length (root_inputs f) → received ≡ arrived_probes f sources →
+      lists ≡ fold (with_input received) (replicate n []) (input_ports f) → lists ≡ arrival_lists f sources
+  arrival_lists-made n received lists many of made =
       let none = replicate (length sources + length (root_inputs f)) [] in
       made
-      ∙ (ap (λ k. fold (with_input received) (replicate k []) targets) many
-      ∙ (ap (fold (with_input received) none) at ∙ ap (λ bags. fold (with_input bags) none (input_ports f)) of))
+      ∙ (ap (λ k. fold (with_input received) (replicate k []) (input_ports f)) many
+      ∙ ap (λ bags. fold (with_input bags) none (input_ports f)) of)
 
   pub departure_lists-made : (leaving : List Counts) (lists : List (List (Arrival ℕ))) → leaving ≡ left_probes f sources →
       lists ≡ fold (with_output leaving) (replicate (length sources) []) (range_with_len 0 (length leaving)) →
@@ -126,26 +124,7 @@ outputs_valid f = ports_all (IsOutput f) output_count 0 (instances f)
     let At : ℕ → Type 0 = λ k. IsOutput f (port_at k p) in
     subst At (let same : c ≡ 0 + c = omega arith in same) there)
 
--- the input ports are among what is received
-pub inputs_received : (f : FileTree) (sources targets : List ComponentPort) (received : List (List Counts)) →
-    input_ports f ≡ targets →
-    arrived_probes f sources ≡ received →
-    All (λ (to : ComponentPort). (to.component < length received) × (to.port < length (get_or received to.component []))) targets
-inputs_received f sources targets received at of =
-    let Within : List (List Counts) → ComponentPort → Type 0 =
-    λ all to. (to.component < length all) × (to.port < length (get_or all to.component [])) in
-    let sent = sent_probes f sources in
-    let come = come_probes f sources in
-    let probes = arrived_probes f sources in
-    let within =
-    ports_all (Within probes) input_count 0 (instances f)
-    (λ c p early there. (
-      omega (arith, early, each_receives f sent come),
-      (let Port : ℕ → Type 0 = λ n. p < length (get_or probes n []) in
-          let long : length (get_or probes c []) ≡ get_or (port_counts (instances f)) c 0 =
-          lengths probes c ∙ ap (λ ns. get_or ns c 0) (ports_received f sent come) in
-          subst Port (let same : c ≡ 0 + c = omega arith in same) (omega (arith, there, long))),
-    )) in
-    let Received : List (List Counts) → Type 0 = λ all. All (Within all) targets in
-    let Targets : List ComponentPort → Type 0 = λ tos. All (Within probes) tos in
-    subst Received of (subst Targets at within)
+-- as many bags are received as each component has input ports
+pub inputs_received : (f : FileTree) (sources : List ComponentPort) (received : List (List Counts)) → received ≡ arrived_probes f sources →
+    map length received ≡ map (λ (i : Instance). input_count i.model) (instances f)
+inputs_received f sources received of = ap (map length) of ∙ ports_received f (sent_probes f sources) (come_probes f sources)

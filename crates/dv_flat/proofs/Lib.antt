@@ -6,6 +6,7 @@ pub mod Capped
 pub mod Copies
 pub mod Enough
 pub mod Found
+pub mod HeldWalk
 pub mod Levels
 pub mod LinkCounts
 pub mod LinkSums
@@ -19,6 +20,7 @@ pub mod ProbeLists
 pub mod ProbeSums
 pub mod Products
 pub mod Ranges
+pub mod Received
 pub mod RootWays
 pub mod Routed
 pub mod Sources

@@ -6,7 +6,7 @@ use Rattle.dv_syntax.specs.Trees.{FileTree}
 use Rattle.dv_bag.specs.Bag.{Counts, bag_at, with_copies}
 use Rattle.dv_tree.specs.Instances.{Instance, instances, root_inputs, root_outputs}
 use Rattle.dv_tree.specs.Routing.{arrives, leaves}
-use Rattle.dv_flat.specs.Ends.{input_ports, output_count}
+use Rattle.dv_flat.specs.Ends.{input_ports, output_count, port_at}
 use Rattle.dv_flat.specs.Links.{direct_copies, exit_copies, links_from, root_ports}
 use Rattle.dv_flat.specs.declared.arrivals.Arrival.{Arrival}
 use Rattle.dv_flat.specs.declared.link.ComponentPort.{ComponentPort}
@@ -71,6 +71,11 @@ with_arrivals to lists bag = fold (λ ls p. with_arrival p.0 (record { to = to; 
 -- with what stands at an input port of a component
 abbrev pub with_input : List (List Counts) → List (List (Arrival ComponentPort)) → ComponentPort → List (List (Arrival ComponentPort))
 with_input received lists to = with_arrivals to lists (bag_at (slice_index_or received to.component []) to.port)
+
+-- with what stands at the input ports of one component
+abbrev pub with_component : ℕ → List Counts → List (List (Arrival ComponentPort)) → List (List (Arrival ComponentPort))
+with_component component received lists =
+    fold (λ ls port. with_arrivals (port_at component port) ls (bag_at received port)) lists (range_with_len 0 (length received))
 
 -- with what stands at an output port of the root
 abbrev pub with_output : List Counts → List (List (Arrival ℕ)) → ℕ → List (List (Arrival ℕ))

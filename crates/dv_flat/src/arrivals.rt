@@ -1,18 +1,18 @@
 //! Where the probes arrive: for each source, and for each input port of the root, the targets that it reaches.
 
-ghost use Rattle.std.specs.Prelude.{◌≡◌, ◌+◌, ◌^◌, ◌<◌, ◌≤◌, [], fold, length, map, replicate, slice_index_or, IfOk, OnOk};
+ghost use Rattle.std.specs.Prelude.{◌≡◌, ◌+◌, ◌^◌, ◌<◌, ◌≤◌, [], fold, length, map, replicate, IfOk, OnOk};
 ghost use Rattle.std.specs.List.{All, range_with_len};
 ghost use Rattle.dv_syntax.specs.Trees.{file_of};
-ghost use Rattle.dv_bag.specs.Bag.{bag_at};
-ghost use Rattle.dv_flat.specs.Probes.{IsOutput, arrival_lists, departure_lists, with_arrival, with_arrivals, with_input, with_output};
-ghost use Rattle.dv_flat.specs.declared.link.ComponentPort as component_port;
+ghost use Rattle.dv_tree.specs.Instances.{instances};
+ghost use Rattle.dv_flat.specs.Ends.{input_count, input_ports};
+ghost use Rattle.dv_flat.specs.Probes.{IsOutput, arrival_lists, departure_lists, with_arrival, with_arrivals, with_component, with_input, with_output};
 ghost use Rattle.dv_check.specs.Limits.{greatest_names};
 
 use crate::link::ComponentPort;
-use crate::ports::input_ports;
+use crate::ports::port_count;
 use crate::probes::route_probes;
 use dv_bag::{Bag, Bags};
-use dv_tree::Tree;
+use dv_tree::{SparseBags, Tree};
 use std::alloc::{AllocError, Global};
 
 /// How many copies of a probe come to a target.
@@ -48,11 +48,10 @@ impl Reached {
         ensures outputs { IfOk result (λ reached. map (λ list. list.items) reached.outputs.items
             ≡ departure_lists (file_of tree.now.file) sources.now) }
     {
-        let targets = input_ports(alloc, tree)?;
         let routed = route_probes(alloc, tree, sources)?;
         let probes = sources.len() + tree.input_count();
         Ok(Reached {
-            inputs: arrivals_at_inputs(alloc, probes, &targets, &routed.received)?,
+            inputs: arrivals_at_inputs(alloc, probes, tree, &routed.received)?,
             outputs: arrivals_at_outputs(alloc, sources.len(), &routed.leaving)?,
         })
     }
@@ -62,20 +61,44 @@ impl Reached {
 fn arrivals_at_inputs(
     alloc: Global,
     probes: usize,
-    targets: &[ComponentPort],
-    received: &[Bags],
+    tree: &Tree,
+    received: &[SparseBags],
 ) -> Result<Vec<Vec<Arrival<ComponentPort>>>, AllocError>
-    requires { All (λ (to : component_port.ComponentPort). (to.component < length received.now)
-        × (to.port < length (slice_index_or received.now to.component []))) targets.now }
+    requires { map length received.now
+        ≡ map (λ i. input_count i.model) (instances (file_of tree.now.file)) }
     ensures { IfOk result (λ lists. map (λ list. list.items) lists.items
-        ≡ fold (with_input received.now) (replicate probes []) targets.now) }
+        ≡ fold (with_input received.now) (replicate probes [])
+        (input_ports (file_of tree.now.file))) }
 {
     let mut lists = empty_lists(alloc, probes)?;
-    for to in targets {
-        let bag = received[to.component as usize].get(to.port as usize);
-        add_arrivals(*to, bag, &mut lists)?;
+    for component in 0..tree.component_count() {
+        // Its ports are few enough for places of 32 bits.
+        let _ = port_count(tree.scope(component).inputs());
+        add_component(component as u32, &received[component], &mut lists)?;
     }
     Ok(lists)
+}
+
+// Adds the input ports of a component to the list of each probe that stands there. It looks at those alone at which
+// something arrived.
+fn add_component(
+    component: u32,
+    received: &SparseBags,
+    lists: &mut Vec<Vec<Arrival<ComponentPort>>>,
+) -> Result<(), AllocError>
+    requires { length received.now ≤ 2 ^ 32 }
+    ensures { OnOk result (map (λ list. list.items) lists.new.items
+        ≡ with_component component received.now (map (λ list. list.items) lists.old.items)) }
+{
+    let held = received.held();
+    for (port, bag) in held {
+        let to = ComponentPort {
+            component,
+            port: *port as u32,
+        };
+        add_arrivals(to, bag, lists)?;
+    }
+    Ok(())
 }
 
 // For each of so many probes the output ports of the root that it reaches.

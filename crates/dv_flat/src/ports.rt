@@ -1,10 +1,10 @@
 //! The ports of the components, in the order of the components' numbers.
 
-ghost use Rattle.std.specs.Prelude.{◌≡◌, ◌++◌, false, length, map, nat_eq, slice_index_or, IfOk, OnOk};
+ghost use Rattle.std.specs.Prelude.{◌≡◌, ◌≤◌, ◌^◌, ◌++◌, false, length, map, nat_eq, slice_index_or, IfOk, OnOk};
 ghost use Rattle.std.specs.List.{IsDistinct, range_with_len};
 ghost use Rattle.dv_syntax.specs.Trees.{file_of};
 ghost use Rattle.dv_tree.specs.Instances.{root_inputs};
-ghost use Rattle.dv_flat.specs.Ends.{input_ports, output_ports, port_at};
+ghost use Rattle.dv_flat.specs.Ends.{output_ports, port_at};
 ghost use Rattle.dv_flat.specs.Links.{root_ports};
 ghost use Rattle.dv_flat.specs.Probes.{chosen_from};
 
@@ -27,21 +27,6 @@ pub(crate) fn output_ports(alloc: Global, tree: &Tree) -> Result<Vec<ComponentPo
             tree.scope(component).outputs(),
             &mut ports,
         )?;
-    }
-    Ok(ports)
-}
-
-/// The input ports of all components.
-///
-/// # Errors
-///
-/// No memory for the ports.
-pub(crate) fn input_ports(alloc: Global, tree: &Tree) -> Result<Vec<ComponentPort>, AllocError>
-    ensures { IfOk result (λ ports. ports.items ≡ input_ports (file_of tree.now.file)) }
-{
-    let mut ports = Vec::new(alloc);
-    for component in 0..tree.component_count() {
-        add_ports(component as u32, tree.scope(component).inputs(), &mut ports)?;
     }
     Ok(ports)
 }
@@ -91,6 +76,16 @@ pub(crate) fn is_set(flags: &[bool], place: usize) -> bool
         Some(flag) => *flag,
         None => false,
     }
+}
+
+/// The number of ports of one component, by their names. Different names of 32 bits are few enough for places of 32
+/// bits.
+pub(crate) fn port_count(names: &[u32]) -> usize
+    requires { IsDistinct nat_eq names.now }
+    ensures value { result ≡ length names.now }
+    ensures few { result ≤ 2 ^ 32 }
+{
+    names.len()
 }
 
 // The ports of one component, by their names. Different names of 32 bits are few enough for places of 32 bits.

@@ -16,8 +16,8 @@ use crate::atom::Atom;
 use dv_bag::{Bags, Entry, Fault, Outer, Part, Sent, What};
 use dv_react::outcome::put_in;
 use dv_react::{Instant, Running, compute};
-use dv_tree::Tree;
 use dv_tree::laws::each_component_receives;
+use dv_tree::{SparseBags, Tree};
 use std::alloc::{AllocError, Global};
 use std::mem;
 
@@ -145,7 +145,7 @@ fn react_all(
     alloc: Global,
     tree: &Tree,
     instant: &Instant,
-    received: &[Bags],
+    received: &[SparseBags],
     emitted: &mut Outputs,
     components: &mut [Running],
     trace: &mut Part,
@@ -170,14 +170,8 @@ fn react_all(
     for k in 0..tree.component_count() {
         let atom = Atom::of(tree, k);
         let fault = emitted.faults[k];
-        let happened = react(
-            alloc,
-            &atom,
-            instant,
-            &mut components[k],
-            &received[k],
-            fault,
-        )?;
+        let comes = received[k].to_bags(alloc)?;
+        let happened = react(alloc, &atom, instant, &mut components[k], &comes, fault)?;
         push_event(instant, k as u32, happened, emitted.take(alloc, k), trace)?;
     }
     Ok(())

@@ -21,7 +21,7 @@ union_none a (p ∷ ps) none =
 joined_none : (port : ℕ) (more : Counts) (bags : List Counts) → total more ≡ 0 → joined_at port more bags ≡ bags
 joined_none port more bags none = ap (set bags port) (union_none (bag_at bags port) more none) ∙ set-get_or bags port []
 
-with_values_none : (t : Target) (more : Counts) (a : Arrived) → total more ≡ 0 → with_values t more a ≡ a
+pub with_values_none : (t : Target) (more : Counts) (a : Arrived) → total more ≡ 0 → with_values t more a ≡ a
 with_values_none (Own port) more a none = ap (λ own. record { own = own; parts = a.parts }) (joined_none port more a.own none)
 with_values_none (OfPart part port) more a none =
     ap (λ parts. record { own = a.own; parts = parts })

@@ -9,3 +9,4 @@ pub mod Unions
 -- What serves proofs.
 pub mod Tables
 pub mod Nodes
+pub mod Sparse

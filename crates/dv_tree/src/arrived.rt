@@ -1,11 +1,12 @@
 //! What stands at the ports that links lead to.
 
-ghost use Rattle.std.specs.Prelude.{◌≡◌, [], IfOk, OnOk};
-ghost use Rattle.dv_bag.specs.Bag.{bag_at};
+ghost use Rattle.std.specs.Prelude.{◌≡◌, [], unwrap_or, OnOk};
+ghost use Rattle.std.specs.Option.{option_copied};
 ghost use Rattle.dv_tree.specs.Routing.{along, joined_at, with_values};
 
 use crate::couplings::{Coupling, Target};
-use dv_bag::{Bag, Bags, Sent};
+use crate::sparse::SparseBags;
+use dv_bag::{Bag, Sent};
 use std::alloc::{AllocError, Global};
 use std::marker::Model;
 
@@ -13,8 +14,8 @@ use std::marker::Model;
 /// part.
 #[derive(Drop)]
 pub(crate) struct Arrived {
-    pub(crate) own: Bags,
-    pub(crate) parts: Vec<Bags>,
+    pub(crate) own: SparseBags,
+    pub(crate) parts: Vec<SparseBags>,
 }
 
 impl Model for Arrived {
@@ -29,29 +30,25 @@ impl Model for Arrived {
 }
 
 impl Arrived {
-    /// No ports.
-    ///
-    /// # Errors
-    ///
-    /// No memory.
-    pub(crate) fn empty(alloc: Global) -> Result<Self, AllocError>
-        ensures { IfOk result (λ arrived. arrived ≡ record { own = []; parts = [] }) }
+    /// No ports. It takes no memory.
+    pub(crate) fn empty(alloc: Global) -> Self
+        ensures { result ≡ record { own = []; parts = [] } }
     {
-        Ok(Arrived {
-            own: Bags::empty(alloc, 0)?,
+        Arrived {
+            own: SparseBags::empty(alloc, 0),
             parts: Vec::new(alloc),
-        })
+        }
     }
 
     /// What stands at the outputs of the model itself.
-    pub(crate) fn own(&self) -> &Bags
+    pub(crate) fn own(&self) -> &SparseBags
         ensures { result.now ≡ self.now.own }
     {
         &self.own
     }
 
     /// What stands at the inputs of the parts, alone.
-    pub(crate) fn into_parts(self) -> Vec<Bags>
+    pub(crate) fn into_parts(self) -> Vec<SparseBags>
         ensures { result.items ≡ self.parts }
     {
         let Arrived { own: _, parts } = self;
@@ -70,6 +67,17 @@ impl Arrived {
                 }
                 Ok(())
             }
+        }
+    }
+
+    // What stands at a port, at a target. Where no bag is held there is nothing to add.
+    fn add_held(&mut self, target: Target, values: Option<&Bag>) -> Result<(), AllocError>
+        ensures { OnOk result (self.new
+            ≡ with_values target (unwrap_or (option_copied values.entry) []) self.old) }
+    {
+        match values {
+            Some(values) => self.add(target, values),
+            None => Ok(()),
         }
     }
 
@@ -96,23 +104,25 @@ impl Arrived {
     /// # Errors
     ///
     /// No memory for the values.
-    pub(crate) fn add_bags(&mut self, couplings: &[Coupling], bags: &Bags) -> Result<(), AllocError>
+    pub(crate) fn add_bags(
+        &mut self,
+        couplings: &[Coupling],
+        bags: &SparseBags,
+    ) -> Result<(), AllocError>
         ensures { OnOk result (self.new ≡ along couplings.now bags.now self.old) }
     {
-        if bags.total() == 0 {
+        if bags.is_silent() {
             return Ok(());
         }
         for coupling in couplings {
-            if coupling.port < bags.len() {
-                self.add(coupling.target, bags.get(coupling.port))?;
-            }
+            self.add_held(coupling.target, bags.get(coupling.port))?;
         }
         Ok(())
     }
 }
 
 // More values at a port; past the last port there is no place for them.
-fn join(bags: &mut Bags, port: usize, values: &Bag) -> Result<(), AllocError>
+fn join(bags: &mut SparseBags, port: usize, values: &Bag) -> Result<(), AllocError>
     ensures { OnOk result (bags.new ≡ joined_at port values.now bags.old) }
 {
     if port < bags.len() {

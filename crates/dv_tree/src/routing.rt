@@ -11,7 +11,8 @@ ghost use Rattle.dv_tree.specs.Routing.{along, along_all, first_bags};
 use crate::arrived::Arrived;
 use crate::couplings::Coupling;
 use crate::levels::{Level, level_at};
-use dv_bag::{Bags, Sent};
+use crate::sparse::SparseBags;
+use dv_bag::Sent;
 use std::alloc::{AllocError, Global};
 use std::vec::IntoIter;
 
@@ -120,7 +121,7 @@ fn keep_slot(alloc: Global, kept: &mut Vec<Arrived>) -> Result<usize, AllocError
         ++ record { own = []; parts = [] } ∷ []) }
 {
     let slot = kept.len();
-    kept.push(Arrived::empty(alloc)?)?;
+    kept.push(Arrived::empty(alloc))?;
     Ok(slot)
 }
 
@@ -155,9 +156,9 @@ pub(crate) fn sink(
     depth: usize,
     level: &Level,
     levels: &[Option<Level>],
-    input: &Bags,
+    input: &SparseBags,
     kept: &mut IntoIter<Arrived>,
-    received: &mut Vec<Bags>,
+    received: &mut Vec<SparseBags>,
 ) -> Result<(), AllocError>
     ensures kept { OnOk result (into_iter_items kept.new
         ≡ drop (suc (coupled_count (nodes_to depth levels.now level.now)))
@@ -179,9 +180,9 @@ fn sink_parts(
     depth: usize,
     level: &Level,
     levels: &[Option<Level>],
-    parts: &mut IntoIter<Bags>,
+    parts: &mut IntoIter<SparseBags>,
     kept: &mut IntoIter<Arrived>,
-    received: &mut Vec<Bags>,
+    received: &mut Vec<SparseBags>,
 ) -> Result<(), AllocError>
     ensures kept { OnOk result (into_iter_items kept.new
         ≡ drop (coupled_count (nodes_to depth levels.now level.now)) (into_iter_items kept.old)) }
@@ -194,7 +195,7 @@ fn sink_parts(
     }
     for part in level.parts() {
         let inside = level_at(levels, part.model);
-        let comes = next_bags(alloc, parts)?;
+        let comes = next_bags(alloc, parts);
         sink_part(alloc, depth - 1, inside, levels, comes, kept, received)?;
     }
     Ok(())
@@ -207,9 +208,9 @@ fn sink_part(
     depth: usize,
     inside: Option<&Level>,
     levels: &[Option<Level>],
-    comes: Bags,
+    comes: SparseBags,
     kept: &mut IntoIter<Arrived>,
-    received: &mut Vec<Bags>,
+    received: &mut Vec<SparseBags>,
 ) -> Result<(), AllocError>
     ensures kept { OnOk result (into_iter_items kept.new ≡ drop
         (part_coupled (nodes_to depth levels.now) (option_copied inside.entry))
@@ -227,9 +228,9 @@ fn sink_part(
 // What comes to the parts of a coupled model, from what comes to its inputs and what is kept of it, which is taken.
 fn next_parts(
     level: &Level,
-    input: &Bags,
+    input: &SparseBags,
     kept: &mut IntoIter<Arrived>,
-) -> Result<Option<IntoIter<Bags>>, AllocError>
+) -> Result<Option<IntoIter<SparseBags>>, AllocError>
     ensures parts { IfOk result (λ parts. option_map into_iter_items parts
         ≡ option_map (to_level level.now input.now) (slice_get (into_iter_items kept.old) 0)) }
     ensures rest { OnOk result (into_iter_items kept.new ≡ drop 1 (into_iter_items kept.old)) }
@@ -242,12 +243,12 @@ fn next_parts(
 }
 
 // What comes to the next part.
-fn next_bags(alloc: Global, parts: &mut IntoIter<Bags>) -> Result<Bags, AllocError>
-    ensures value { IfOk result (λ bags. bags ≡ first_bags (into_iter_items parts.old)) }
-    ensures rest { OnOk result (into_iter_items parts.new ≡ drop 1 (into_iter_items parts.old)) }
+fn next_bags(alloc: Global, parts: &mut IntoIter<SparseBags>) -> SparseBags
+    ensures value { result ≡ first_bags (into_iter_items parts.old) }
+    ensures rest { into_iter_items parts.new ≡ drop 1 (into_iter_items parts.old) }
 {
     match parts.next() {
-        Some(bags) => Ok(bags),
-        None => Bags::empty(alloc, 0),
+        Some(bags) => bags,
+        None => SparseBags::empty(alloc, 0),
     }
 }

@@ -15,6 +15,7 @@ use crate::components::{Component, add_components, name_at};
 use crate::levels::{Level, level_at, levels};
 use crate::places::Places;
 use crate::routing::{rise, sink};
+use crate::sparse::SparseBags;
 use crate::tables::{
     self, inputs, model_numbers, numbers, outputs, root_inputs, root_outputs, scopes,
 };
@@ -27,10 +28,11 @@ use dv_syntax::{Atomic, File, Model as ModelItem};
 use std::alloc::{AllocError, Global};
 use std::marker::Model;
 
-/// What travels at one instant: what each component receives, and what leaves by the root's output ports.
+/// What travels at one instant: what each component receives, and what leaves by the root's output ports. An input port
+/// of a component at which nothing arrives takes no memory.
 #[derive(Drop)]
 pub struct Routed {
-    pub received: Vec<Bags>,
+    pub received: Vec<SparseBags>,
     pub leaving: Bags,
 }
 
@@ -341,14 +343,15 @@ fn route(
     };
     let mut kept = Vec::new(alloc);
     rise(alloc, GREATEST_DEPTH, level, levels, sent, &mut kept)?;
-    let leaving = kept[0].own().clone()?;
+    let leaving = kept[0].own().to_bags(alloc)?;
+    let input = SparseBags::of(alloc, input)?;
     let mut kept = kept.into_iter();
     sink(
         alloc,
         GREATEST_DEPTH,
         level,
         levels,
-        input,
+        &input,
         &mut kept,
         &mut received,
     )?;

@@ -91,9 +91,11 @@ loop-k-preserved c =
     (get_or_default xs k c.index-components-k.result r within) in
     let received = c.args.received.now in
     let within_received : k < length received = omega (arith, c.requires.received, c.component_count-k-end.ensures.value) in
+    let comes = c.in_ok-comes.comes in
+    let here : comes ≡ get_or received k comes =
+    c.in_ok-comes.ensures ∙ c.index-received-k.is ∙ get_or_default received k c.index-received-k.result comes within_received in
     let step =
-    reactions_from-step limit is now first received k m r c.index-received-k.result c.of-atom.ensures within_first same.0 within_received
-    c.index-received-k.is in
+    reactions_from-step limit is now first received k m r comes c.of-atom.ensures within_first same.0 within_received here in
     let sent = c.args.emitted.now.sent.items in
     let gave = outputs_from limit is now first 0 in
     let within_sent : k < length sent =
@@ -106,7 +108,7 @@ loop-k-preserved c =
     ) in
     let left = c.loop-k.emitted.sent.items in
     let within_left = left-length left sent k within_sent c.loop-k.invariant.sent in
-    let happened = reaction limit (behaviour_of m) now (component_of limit r) c.index-received-k.result in
+    let happened = reaction limit (behaviour_of m) now (component_of limit r) comes in
     let taken : c.take.result ≡ sent_of (emission (behaviour_of m) now (component_of limit r)) =
     c.take.ensures.result ∙ same_at left sent k [] within_left within_sent c.loop-k.invariant.sent
     ∙ sym (given-at sent_of limit is now first k m r sent [] c.of-atom.ensures within_first same.0 c.requires.sent) in

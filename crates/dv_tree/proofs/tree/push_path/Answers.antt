@@ -1,4 +1,4 @@
-use Rattle.std.proofs.Common.{◌≡◌, ◌++◌, List, ℕ, Result, arith, drop}
+use Rattle.std.proofs.Common.{Result, arith}
 use Rattle.std.specs.Prelude.{OnOk, Ok, Err, string_bytes}
 use Rattle.dv_tree.proofs.Dots.{path_pushed}
 use Rattle.dv_tree.proofs.tree.push_path.Goals as goal
