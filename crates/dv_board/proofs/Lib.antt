@@ -1,5 +1,4 @@
 pub mod Between
-pub mod Copies
 pub mod Cutting
 pub mod Drained
 pub mod Places

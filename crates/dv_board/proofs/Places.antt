@@ -16,7 +16,8 @@ use Rattle.dv_board.specs.declared.held.Held.{Held}
 use Rattle.dv_board.specs.Backlogs.{AreHeld, IsHeld}
 use Rattle.dv_board.specs.Clocks.{IsLeast, IsNoLater, IsSooner, later}
 use Rattle.dv_board.specs.Jobs.{committed}
-use Rattle.dv_board.specs.Places.{is_mostly_later, rest_of, with_piece}
+use Rattle.dv_slice.specs.Places.{is_mostly_later}
+use Rattle.dv_board.specs.Places.{rest_of, with_piece}
 use Rattle.dv_board.proofs.Between.{committed_joined, committed_since}
 
 -- ---- times in order

@@ -8,7 +8,7 @@ use Rattle.dv_board.specs.declared.held.Held.{Held}
 use Rattle.dv_board.specs.Clocks.{IsNoLater}
 use Rattle.dv_board.specs.Jobs.{IsMergeable, committed}
 
--- from when on the trace was not drained yet, and up to when each process is kept
+-- from when on the trace was not written yet, and up to when each process is kept
 pub record BacklogOf : Type 0 where
   pub mark : Time
   pub clocks : List Time

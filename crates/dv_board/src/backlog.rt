@@ -1,10 +1,11 @@
-//! What was taken off a board and not drained yet.
+//! What was taken off a board and not written yet.
 
 ghost use Rattle.std.specs.Prelude.{◌≡◌, ◌<◌, ◌≤◌, IfErr, IfNone, IfOk, IfSome, OnErr, OnOk, OnSome, length, map, replicate, set};
 ghost use Rattle.std.specs.List.{All};
 ghost use Rattle.dv_time.specs.Time.{IsOfRun, end_of, rank};
 ghost use Rattle.dv_bag.specs.Part.{IsByTime, before, nothing, since};
 ghost use Rattle.dv_conservative.specs.Process.{first_time};
+ghost use Rattle.dv_merge.specs.Whole.{ArePartsOf};
 ghost use Rattle.dv_board.specs.Answers.{IsRefused};
 ghost use Rattle.dv_board.specs.Backlogs.{clock_of};
 ghost use Rattle.dv_board.specs.Clocks.{IsLeast, IsNoLater, later};
@@ -13,17 +14,16 @@ ghost use Rattle.dv_board.specs.Places.{rest_of};
 ghost use Rattle.dv_board.specs.Posts.{IsPiece};
 
 use crate::held::Held;
-use crate::piece::piece_between;
 use crate::posts::Piece;
-use dv_bag::{Part, Trace};
+use dv_bag::Part;
 use dv_link::OfJob;
-use dv_merge::merge;
+use dv_slice::PartSlice;
 use dv_time::Time;
 use std::alloc::{AllocError, Global};
 use std::marker::{Model, PhantomData};
 
-/// What the processes of a job have committed from a mark on, each before its clock. It gives out the trace up to the least
-/// clock. Whoever has it needs no lock.
+/// What the processes of a job have committed from a mark on, each before its clock. It lends the pieces of the trace up to the
+/// least clock. Whoever has it needs no lock.
 #[derive(Drop)]
 pub struct Backlog<N: OfJob> {
     mark: Time,
@@ -81,20 +81,20 @@ fn least_clock(held: &[Held]) -> Time
     least
 }
 
-// A copy of what each process committed from one time on and before another.
-fn pieces_between(
+// What each process committed from one time on and before another, where it lies.
+fn pieces_between<'h>(
     alloc: Global,
-    held: &[Held],
+    held: &'h [Held],
     from: Time,
     upto: Time,
-) -> Result<Vec<Part>, AllocError>
+) -> Result<Vec<PartSlice<'h>>, AllocError>
     requires { All (λ h. IsByTime h.part) held.now }
     ensures { IfOk result (λ pieces. pieces.items
         ≡ map (λ h. since from (before upto h.part)) held.now) }
 {
     let mut pieces = Vec::with_capacity(alloc, held.len())?;
     for place in held {
-        pieces.push(piece_between(alloc, &place.part, from, upto)?)?;
+        pieces.push(PartSlice::between(&place.part, from, upto))?;
     }
     Ok(pieces)
 }
@@ -181,36 +181,42 @@ impl<N: OfJob> Backlog<N> {
         }
     }
 
-    /// The trace from the mark to the least clock, and that clock, which becomes the mark: what is given is kept no longer.
-    /// `None`, with nothing changed, where the mark is not at that time.
+    /// What each process has committed from the mark on and before the least clock, where it lies, and that clock: put together it
+    /// is the trace in between. `None` where the mark is not at that time.
     ///
     /// # Errors
     ///
-    /// No memory to put the parts together. The backlog is as before.
-    pub fn drain(&mut self, alloc: Global, from: Time) -> Result<Option<(Trace, Time)>, AllocError>
-        ensures clocks { self.new.clocks ≡ self.old.clocks }
-        ensures err { OnErr result (self.new ≡ self.old) }
-        ensures none { IfOk result (λ drained. IfNone drained
-            ((self.new ≡ self.old) × (self.old.mark ≡ from → ⊥))) }
-        ensures at { IfOk result (λ drained. OnSome drained (self.old.mark ≡ from)) }
-        ensures trace { IfOk result (λ drained. IfSome drained (λ d.
-            d.0 ≡ trace N.job from d.1)) }
-        ensures order { IfOk result (λ drained. IfSome drained (λ d. IsNoLater N.job from d.1)) }
-        ensures of_run { IfOk result (λ drained. IfSome drained (λ d. IsOfRun N.job.limit d.1)) }
-        ensures within { IfOk result (λ drained. IfSome drained (λ d.
-            rank N.job.limit d.1 ≤ end_of N.job.limit N.job.horizon)) }
-        ensures least { IfOk result (λ drained. IfSome drained (λ d.
-            IsLeast d.1 self.old.clocks)) }
-        ensures mark { IfOk result (λ drained. IfSome drained (λ d. self.new.mark ≡ d.1)) }
+    /// No memory for as many pieces as there are processes.
+    pub fn known(
+        &self,
+        alloc: Global,
+        from: Time,
+    ) -> Result<Option<(Vec<PartSlice<'_>>, Time)>, AllocError>
+        ensures none { IfOk result (λ known. IfNone known (self.now.mark ≡ from → ⊥)) }
+        ensures at { IfOk result (λ known. OnSome known (self.now.mark ≡ from)) }
+        ensures pieces { IfOk result (λ known. IfSome known (λ k.
+            ArePartsOf N.job.owner (trace N.job from k.1) k.0.items)) }
+        ensures order { IfOk result (λ known. IfSome known (λ k. IsNoLater N.job from k.1)) }
+        ensures of_run { IfOk result (λ known. IfSome known (λ k. IsOfRun N.job.limit k.1)) }
+        ensures within { IfOk result (λ known. IfSome known (λ k.
+            rank N.job.limit k.1 ≤ end_of N.job.limit N.job.horizon)) }
+        ensures least { IfOk result (λ known. IfSome known (λ k. IsLeast k.1 self.now.clocks)) }
     {
         if from != self.mark {
             return Ok(None);
         }
         let least = least_clock(&self.held);
         let pieces = pieces_between(alloc, &self.held, from, least)?;
-        let trace = merge(alloc, pieces)?;
+        Ok(Some((pieces, least)))
+    }
+
+    /// Lets go of what is before the least clock, which becomes the mark.
+    pub fn let_go(&mut self, least: Time)
+        requires { IsLeast least self.old.clocks }
+        ensures mark { self.new.mark ≡ least }
+        ensures clocks { self.new.clocks ≡ self.old.clocks }
+    {
         let_go_all(&mut self.held, least);
         self.mark = least;
-        Ok(Some((trace, least)))
     }
 }

@@ -5,8 +5,8 @@ ghost use Rattle.dv_time.specs.Time.{is_before};
 ghost use Rattle.dv_bag.specs.Part.{IsByTime};
 ghost use Rattle.dv_board.specs.Places.{rest_of, with_piece};
 
-use crate::piece::is_mostly_later;
 use dv_bag::Part;
+use dv_slice::is_mostly_later;
 use dv_time::Time;
 use std::alloc::AllocError;
 

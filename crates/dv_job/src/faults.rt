@@ -6,8 +6,8 @@ ghost use Rattle.dv_job.specs.declared.ended.JobEnded.TheVariants.{Faulted, Whol
 
 use crate::ended::JobEnded;
 use dv_bag::Trace;
+use dv_slice::PartSlice;
 use dv_stream::faults::has_fault;
-use dv_text::PartSlice;
 
 /// How a run with this whole trace ended.
 pub fn ending_of(trace: &Trace) -> JobEnded

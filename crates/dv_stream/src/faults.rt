@@ -4,13 +4,18 @@ ghost use Rattle.std.specs.Prelude.{◌≡◌};
 ghost use Rattle.dv_stream.specs.Faults.{has_fault, is_fault};
 
 use dv_bag::What;
-use dv_text::PartSlice;
+use dv_slice::PartSlice;
 
 /// Whether some entry is a fault.
 pub fn has_fault(part: &PartSlice<'_>) -> bool
     ensures { result ≡ has_fault part.now }
 {
-    part.entries().iter().any(|entry| is_fault(&entry.what))
+    for place in 0..part.entry_count() {
+        if is_fault(&part.entry(place).what) {
+            return true;
+        }
+    }
+    false
 }
 
 fn is_fault(what: &What) -> bool

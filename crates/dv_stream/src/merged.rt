@@ -8,11 +8,12 @@ ghost use Rattle.dv_merge.specs.Whole.{ArePartsOf};
 ghost use Rattle.dv_stream.specs.Written.{Falters, GoesOn};
 
 use crate::written::{Written, write_piece};
-use dv_bag::{Bags, Part};
+use dv_bag::Bags;
 use dv_core::PlannedJob;
 use dv_merge::merge;
+use dv_slice::PartSlice;
 use dv_text::laws::a_trace_is_its_pieces;
-use dv_text::{PartSlice, TraceWriter, WriteError};
+use dv_text::{TraceWriter, WriteError};
 use dv_time::Time;
 use std::alloc::Global;
 use std::io::Write;
@@ -26,14 +27,14 @@ use std::io::Write;
 pub fn write_merged<J: PlannedJob, W: Write>(
     alloc: Global,
     job: &J,
-    pieces: Vec<Part>,
+    pieces: &[PartSlice<'_>],
     before: Written,
     mark: Time,
     lines: &mut TraceWriter<'_>,
     writer: &mut W,
 ) -> Result<Written, WriteError>
     requires pieces { ArePartsOf (J.means job.now).owner
-        (trace (J.means job.now) before.mark mark) pieces.items }
+        (trace (J.means job.now) before.mark mark) pieces.now }
     requires of_run { IsOfRun (J.means job.now).limit mark }
     requires order { IsNoLater (J.means job.now) before.mark mark }
     requires within { rank (J.means job.now).limit mark
@@ -49,5 +50,5 @@ pub fn write_merged<J: PlannedJob, W: Write>(
     // A piece of the trace stands by time.
     a_trace_is_its_pieces::<Bags>();
     let piece = merge(alloc, pieces)?;
-    write_piece(before, &PartSlice::all_of(&piece), mark, lines, writer)
+    write_piece(before, &piece.as_slice(), mark, lines, writer)
 }

@@ -1,15 +1,17 @@
 //! What workers post, written while they run.
 
-ghost use Rattle.std.specs.Prelude.{◌≡◌, ◌≤◌, IfOk, OnErr};
+ghost use Rattle.std.specs.Prelude.{◌≡◌, ◌≤◌, IfNone, IfOk, IfSome, OnErr};
 ghost use Rattle.dv_time.specs.Time.{IsOfRun, end_of, rank};
+ghost use Rattle.dv_board.specs.Clocks.{IsLeast};
 ghost use Rattle.dv_stream.specs.Written.{Falters, GoesOn, IsBegun, IsWrittenTo};
 
 use crate::written::{Written, write_piece};
 use dv_bag::Bags;
 use dv_board::{Backlog, Board};
 use dv_link::OfJob;
+use dv_merge::merge;
 use dv_text::laws::a_trace_is_its_pieces;
-use dv_text::{PartSlice, TraceWriter, WriteError};
+use dv_text::{TraceWriter, WriteError};
 use dv_tree::Tree;
 use dv_work::{Bell, Flag};
 use std::alloc::Global;
@@ -68,8 +70,40 @@ impl Signals {
     }
 }
 
-// Takes off a board what was posted, and writes what is then known of the trace from what was written on and before the least
-// clock. Where nothing more is known, or there is no memory for it, nothing is written.
+// Writes what a backlog has of the trace from what was written on and before the least clock. Where nothing more is known, or there
+// is no memory to put it together, nothing is written.
+fn write_known<N: OfJob, W: Write>(
+    alloc: Global,
+    backlog: &Backlog<N>,
+    before: Written,
+    lines: &mut TraceWriter<'_>,
+    writer: &mut W,
+) -> Result<Option<Written>, WriteError>
+    ensures tree { lines.new ≡ lines.old }
+    ensures some { IfOk result (λ written. IfSome written (GoesOn N.job lines.old
+        (W.contents writer.old) (W.contents writer.new) before)) }
+    ensures none { IfOk result (λ written. IfNone written
+        (W.contents writer.new ≡ W.contents writer.old)) }
+    ensures least { IfOk result (λ written. IfSome written (λ w.
+        IsLeast w.mark backlog.now.clocks)) }
+    ensures within { IfOk result (λ written. IfSome written (λ w.
+        rank N.job.limit w.mark ≤ end_of N.job.limit N.job.horizon)) }
+    ensures err { OnErr result (Falters N.job lines.old
+        (W.contents writer.old) (W.contents writer.new) before) }
+{
+    // A piece of the trace stands by time.
+    a_trace_is_its_pieces::<Bags>();
+    let Ok(Some((pieces, mark))) = backlog.known(alloc, before.mark) else {
+        return Ok(None);
+    };
+    let Ok(piece) = merge(alloc, &pieces) else {
+        return Ok(None);
+    };
+    let written = write_piece(before, &piece.as_slice(), mark, lines, writer)?;
+    Ok(Some(written))
+}
+
+// Takes off a board what was posted, writes what is then known of the trace, and lets go of it.
 fn write_posted<N: OfJob, R: Wait, W: Write>(
     rt: &R,
     alloc: Global,
@@ -89,13 +123,16 @@ fn write_posted<N: OfJob, R: Wait, W: Write>(
     ensures err { OnErr result (Falters N.job lines.old
         (W.contents writer.old) (W.contents writer.new) before) }
 {
-    // A piece of the trace stands by time.
+    // What nothing is added to goes on at once.
     a_trace_is_its_pieces::<Bags>();
     backlog.extend_all(board.take(rt, alloc));
-    let Ok(Some((piece, mark))) = backlog.drain(alloc, before.mark) else {
-        return Ok(before);
-    };
-    write_piece(before, &PartSlice::all_of(&piece), mark, lines, writer)
+    match write_known(alloc, backlog, before, lines, writer)? {
+        Some(written) => {
+            backlog.let_go(written.mark);
+            Ok(written)
+        }
+        None => Ok(before),
+    }
 }
 
 /// Writes the trace of a job, with the names of a tree, as its workers post it, until their run has ended: at each ring for news

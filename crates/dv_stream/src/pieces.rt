@@ -4,9 +4,8 @@ ghost use Rattle.std.specs.Prelude.{◌≡◌, IfOk, map};
 ghost use Rattle.std.specs.List.{All};
 ghost use Rattle.dv_bag.specs.Part.{IsByTime, before, since};
 
-use dv_bag::Part;
-use dv_board::piece_between;
 use dv_core::LogicalProcess;
+use dv_slice::PartSlice;
 use dv_time::Time;
 use std::alloc::{AllocError, Global};
 
@@ -26,25 +25,24 @@ pub fn clocks_of<P: LogicalProcess>(alloc: Global, processes: &[P]) -> Result<Ve
     Ok(clocks)
 }
 
-/// What each process committed from one time on and before another, copied.
+/// What each process committed from one time on and before another, where it lies.
 ///
 /// # Errors
 ///
-/// No memory for the copies.
-pub fn pieces_of<P: LogicalProcess>(
+/// No memory for the list.
+pub fn pieces_of<'p, P: LogicalProcess>(
     alloc: Global,
-    processes: &[P],
+    processes: &'p [P],
     from: Time,
     upto: Time,
-) -> Result<Vec<Part>, AllocError>
+) -> Result<Vec<PartSlice<'p>>, AllocError>
     requires { All (λ x. IsByTime (P.state x).part) processes.now }
     ensures { IfOk result (λ pieces. pieces.items
         ≡ map (λ x. since from (before upto (P.state x).part)) processes.now) }
 {
     let mut pieces = Vec::with_capacity(alloc, processes.len())?;
     for process in processes {
-        let piece = piece_between(alloc, process.committed(), from, upto)?;
-        pieces.push(piece)?;
+        pieces.push(PartSlice::between(process.committed(), from, upto))?;
     }
     Ok(pieces)
 }

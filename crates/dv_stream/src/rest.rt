@@ -13,23 +13,28 @@ ghost use Rattle.std.specs.List.{All};
 use crate::merged::write_merged;
 use crate::written::Written;
 use dv_bag::Part;
-use dv_board::piece_between;
 use dv_core::PlannedJob;
 use dv_serial::least::least_clock;
+use dv_slice::PartSlice;
 use dv_text::{TraceWriter, WriteError};
 use dv_time::Time;
 use std::alloc::{AllocError, Global};
 use std::io::Write;
 
-// What each process committed from one time on and before another, copied.
-fn cut_each(alloc: Global, parts: &[Part], from: Time, upto: Time) -> Result<Vec<Part>, AllocError>
+// What each process committed from one time on and before another, where it lies.
+fn cut_each<'p>(
+    alloc: Global,
+    parts: &'p [Part],
+    from: Time,
+    upto: Time,
+) -> Result<Vec<PartSlice<'p>>, AllocError>
     requires { All IsByTime parts.now }
     ensures { IfOk result (λ pieces. pieces.items
         ≡ map (λ x. since from (before upto x)) parts.now) }
 {
     let mut pieces = Vec::with_capacity(alloc, parts.len())?;
     for part in parts {
-        pieces.push(piece_between(alloc, part, from, upto)?)?;
+        pieces.push(PartSlice::between(part, from, upto))?;
     }
     Ok(pieces)
 }
@@ -66,7 +71,7 @@ pub fn write_rest<J: PlannedJob, W: Write>(
         return Ok(before);
     }
     let pieces = cut_each(alloc, parts, before.mark, least)?;
-    write_merged(alloc, job, pieces, before, least, lines, writer)
+    write_merged(alloc, job, &pieces, before, least, lines, writer)
 }
 
 /// The clocks to which a run came, of which the trace was written to a mark: where a clock is told that is before the mark, each

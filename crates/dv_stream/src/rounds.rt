@@ -18,15 +18,15 @@ use crate::merged::write_merged;
 use crate::pieces::{clocks_of, pieces_of};
 use crate::written::{Written, write_piece};
 use dv_bag::Bags;
-use dv_board::lines_between;
 use dv_core::{Ended, LogicalProcess, PlannedJob, World};
 use dv_plan::Plan;
 use dv_react::Atomic;
 use dv_serial::Committed;
 use dv_serial::least::least_clock;
 use dv_serial::worlds::world_of;
+use dv_slice::PartSlice;
 use dv_text::laws::a_trace_is_its_pieces;
-use dv_text::{PartSlice, TraceWriter, WriteError};
+use dv_text::{TraceWriter, WriteError};
 use std::alloc::Global;
 use std::io::Write;
 
@@ -67,8 +67,8 @@ fn write_alone<J: PlannedJob, P: LogicalProcess, W: Write>(
     // A piece of the trace stands by time.
     a_trace_is_its_pieces::<Bags>();
     let mark = process.clock();
-    let (entries, outer) = lines_between(process.committed(), before.mark, mark);
-    write_piece(before, &PartSlice::new(entries, outer), mark, lines, writer)
+    let piece = PartSlice::between(process.committed(), before.mark, mark);
+    write_piece(before, &piece, mark, lines, writer)
 }
 
 // Writes what the processes of a job have committed before their least clock and is not written yet.
@@ -102,7 +102,7 @@ fn write_more<J: PlannedJob, P: LogicalProcess, W: Write>(
     let clocks = clocks_of(alloc, processes)?;
     let mark = least_clock(&clocks);
     let pieces = pieces_of(alloc, processes, before.mark, mark)?;
-    write_merged(alloc, job, pieces, before, mark, lines, writer)
+    write_merged(alloc, job, &pieces, before, mark, lines, writer)
 }
 
 // So many rounds, and then what is new of the trace is written.

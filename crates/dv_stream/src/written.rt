@@ -9,7 +9,8 @@ ghost use Rattle.dv_text.specs.Texts.{part_text};
 ghost use Rattle.dv_text.specs.Writing.{AppendsBeginning};
 
 use crate::faults::has_fault;
-use dv_text::{PartSlice, TraceWriter, WriteError};
+use dv_slice::PartSlice;
+use dv_text::{TraceWriter, WriteError};
 use dv_time::Time;
 use std::io::Write;
 

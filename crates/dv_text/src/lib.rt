@@ -7,9 +7,6 @@ pub mod writing;
 /// The same part by part, while a run goes on; the lines by time.
 mod trace_writer;
 
-/// Entries and lines of a trace, where they lie.
-mod part_slice;
-
 /// A trace's text is the texts of its instants one after the other; a worked text.
 pub mod laws;
 
@@ -23,6 +20,5 @@ mod pieces;
 mod words;
 
 pub use handing::{hand_over, hand_over_if_long};
-pub use part_slice::PartSlice;
 pub use trace_writer::TraceWriter;
 pub use writing::{Ending, WriteError, write_trace};

@@ -10,11 +10,11 @@ ghost use Rattle.dv_text.specs.Texts.{ending_text, part_text};
 ghost use Rattle.dv_text.specs.Writing.{AppendsBeginning, StopsShort, TakesFront};
 
 use crate::handing::{hand_over, hand_over_if_long, write_port};
-use crate::part_slice::PartSlice;
 use crate::pieces::{is_same, push_end, push_out};
 use crate::words::{push_entry, root_port};
 use crate::writing::{Ending, WriteError};
 use dv_bag::Outer;
+use dv_slice::PartSlice;
 use dv_time::Time;
 use dv_tree::Tree;
 use std::alloc::Global;
@@ -99,7 +99,8 @@ fn write_merged<W: Write>(
 {
     line.clear();
     let mut outer = part.outer();
-    for entry in part.entries() {
+    for place in 0..part.entry_count() {
+        let entry = part.entry(place);
         outer = write_before(line, writer, tree, entry.time, outer)?;
         push_entry(line, tree, entry)?;
         hand_over_if_long(line, writer)?;

@@ -7,9 +7,9 @@ ghost use Rattle.dv_text.specs.Names.{tree_names, tree_ports};
 ghost use Rattle.dv_text.specs.Texts.{ending_text, part_text};
 ghost use Rattle.dv_text.specs.Writing.{StopsShort};
 
-use crate::part_slice::PartSlice;
 use crate::trace_writer::TraceWriter;
 use dv_bag::Trace;
+use dv_slice::PartSlice;
 use dv_time::Time;
 use dv_tree::Tree;
 use std::alloc::{AllocError, Global};

@@ -5,9 +5,10 @@ ghost use Rattle.dv_work.specs.Seats.{Reports};
 
 use crate::bell::{Bell, Flag};
 use crate::seat::{Floor, Seat};
-use dv_board::{Board, Piece, piece_since};
+use dv_board::{Board, Piece};
 use dv_core::LogicalProcess;
 use dv_link::OfJob;
+use dv_slice::piece_since;
 use std::alloc::Global;
 use std::sync::Wait;
 

@@ -3,7 +3,7 @@ use Rattle.dv_bag.specs.Part.{IsByTime}
 use Rattle.dv_board.specs.declared.held.Held.{Held}
 use Rattle.dv_board.proofs.backlog.pieces_between.Goals as goal
 
-pub piece_between-requires : goal.piece_between-requires
-piece_between-requires c =
+pub between-requires : goal.between-requires
+between-requires c =
     subst (λ (h : Held). IsByTime h.part) (sym c.place-item.is)
     (c.requires c.loop-place.place-index c.place-item.result c.loop-place-test.true)

@@ -2,8 +2,8 @@ use Rattle.std.proofs.Common.{sym, subst}
 use Rattle.dv_bag.specs.Part.{IsByTime}
 use Rattle.dv_stream.proofs.pieces.pieces_of.Goals as goal
 
-pub piece_between-requires : goal.piece_between-requires
-piece_between-requires g c =
+pub between-requires : goal.between-requires
+between-requires g c =
     let state = g.P.LogicalProcess.state in
     subst IsByTime (sym c.committed.ensures)
     (subst (λ x. IsByTime (state x).part) (sym c.process-item.is)

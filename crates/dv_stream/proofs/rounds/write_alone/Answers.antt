@@ -8,8 +8,8 @@ use Rattle.dv_stream.proofs.Between.{alone_by_time, alone_of_run, alone_piece, a
 use Rattle.dv_stream.proofs.Writing.{falters, goes_on}
 use Rattle.dv_stream.proofs.rounds.write_alone.Goals as goal
 
-pub lines_between-requires : goal.lines_between-requires
-lines_between-requires g c =
+pub between-piece-requires : goal.between-piece-requires
+between-piece-requires g c =
     let job = g.J.PlannedJob.means c.args.job.now in
     let x = g.P.LogicalProcess.state c.args.process.now in
     subst IsByTime (sym c.committed.ensures)
@@ -26,7 +26,7 @@ write_piece-requires g c =
     let order = subst (IsNoLater job from) (sym at) c.requires.order in
     let is =
     alone_piece job x.part x.position.clock c.requires.reached c.requires.some from c.requires.of_run c.requires.order
-    c.requires.merges mark at c.committed.result.now c.new.result c.committed.ensures (c.new.ensures ∙ c.lines_between.ensures) in
+    c.requires.merges mark at c.committed.result.now c.between-piece.result c.committed.ensures c.between-piece.ensures in
     record {
       by_time = subst IsByTime (sym is)
           (c.a_trace_is_its_pieces.ensures.by_time job.limit (whole job.flat) job.outside (rank job.limit from) (rank job.limit mark)
@@ -45,9 +45,9 @@ returns-clause-ok g c =
     (alone_of_run job x.part x.position.clock c.requires.reached c.requires.some from c.requires.of_run c.requires.order) in
     let is =
     alone_piece job x.part x.position.clock c.requires.reached c.requires.some from c.requires.of_run c.requires.order
-    c.requires.merges mark at c.committed.result.now c.new.result c.committed.ensures (c.new.ensures ∙ c.lines_between.ensures) in
+    c.requires.merges mark at c.committed.result.now c.between-piece.result c.committed.ensures c.between-piece.ensures in
     goes_on job c.args.lines.now (g.W.Write.contents c.args.writer.now) (g.W.Write.contents c.write_piece.new.writer) c.args.before
-    mark c.new.result is order of_run c.write_piece.result c.write_piece.ensures.text c.write_piece.ensures.mark
+    mark c.between-piece.result is order of_run c.write_piece.result c.write_piece.ensures.text c.write_piece.ensures.mark
     c.write_piece.ensures.faults
 
 pub returns-clause-err : goal.returns-clause-err
@@ -62,6 +62,6 @@ returns-clause-err g c =
     (alone_within job x.part x.position.clock c.requires.reached c.requires.some from c.requires.of_run c.requires.order) in
     let is =
     alone_piece job x.part x.position.clock c.requires.reached c.requires.some from c.requires.of_run c.requires.order
-    c.requires.merges mark at c.committed.result.now c.new.result c.committed.ensures (c.new.ensures ∙ c.lines_between.ensures) in
+    c.requires.merges mark at c.committed.result.now c.between-piece.result c.committed.ensures c.between-piece.ensures in
     falters job c.args.lines.now (g.W.Write.contents c.args.writer.now) (g.W.Write.contents c.write_piece.new.writer) c.args.before
-    mark c.new.result is order within c.write_piece.result c.write_piece.ensures.err
+    mark c.between-piece.result is order within c.write_piece.result c.write_piece.ensures.err

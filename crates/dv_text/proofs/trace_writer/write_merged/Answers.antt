@@ -1,7 +1,7 @@
 use Rattle.std.proofs.Common.{List, ◌++◌, string_bytes, refl, sym, ap, ◌∙◌, arith}
 use Rattle.std.specs.Io.KnownBytes.{Appends}
+use Rattle.std.proofs.lemmas.Option.{get_or_from_slice_get}
 use Rattle.std.proofs.lemmas.Result.{on_err_weaker, on_ok_weaker}
-use Rattle.dv_bag.specs.declared.entry.Entry.{Entry}
 use Rattle.dv_bag.specs.declared.entry.Outer.{Outer}
 use Rattle.dv_text.specs.Merging.{groups_of, lines_by_time, trace_text}
 use Rattle.dv_text.specs.Names.{tree_names, tree_ports}
@@ -11,50 +11,60 @@ use Rattle.dv_text.proofs.Taking.{TakesFront-left, TakesFront-nothing, TakesFron
 use Rattle.dv_text.proofs.Rounds.{entry_handed, fails_at_entry, fails_before_entry, fails_behind_entry, fails_in_groups, groups_taken}
 use Rattle.dv_text.proofs.trace_writer.write_merged.Goals as goal
 
-pub loop-entry-init : goal.loop-entry-init
-loop-entry-init g c =
+pub loop-place-init : goal.loop-place-init
+loop-place-init g c =
     let all = tree_names c.args.tree.now in
     let names = tree_ports c.args.tree.now in
     let part = c.args.part.now in
-    let items = c.entries-entry-items.result.now in
     let outer = c.outer-outer.result.now in
-    let text = lines_by_time all items (groups_of names outer) in
+    let text = lines_by_time all part.entries (groups_of names outer) in
     let start =
-    ap (λ (es : List Entry). lines_by_time all es (groups_of names part.outer)) (sym c.entries-entry-items.ensures)
-    ∙ ap (λ (os : List Outer). lines_by_time all items (groups_of names os)) (sym c.outer-outer.ensures)
+    ap (λ (os : List Outer). lines_by_time all part.entries (groups_of names os)) (sym c.outer-outer.ensures)
     ∙ ap (λ z. z ++ text) (sym c.clear.ensures.bytes) in
     TakesFront-left start (TakesFront-nothing (g.W.Write.contents c.args.writer.now) (trace_text all names part))
 
 pub returns-in_err-outer-clause-err : goal.returns-in_err-outer-clause-err
 returns-in_err-outer-clause-err g c =
+    let items = c.args.part.now.entries in
+    let e = c.entry-entry.result.now in
+    let is = sym (get_or_from_slice_get items c.loop-place.place e e c.entry-entry.ensures) in
     OnErr-always _
-    (fails_before_entry (tree_names c.args.tree.now) c.entries-entry-items.result.now c.loop-entry.entry-index c.entry-item.result
-    (groups_of (tree_ports c.args.tree.now) c.loop-entry.outer.now) _
-    (omega arith) c.entry-item.is refl (string_bytes c.loop-entry.line) c.loop-entry.invariant c.in_err-outer.ensures.err)
+    (fails_before_entry (tree_names c.args.tree.now) items c.loop-place.place e
+    (groups_of (tree_ports c.args.tree.now) c.loop-place.outer.now) _
+    (omega arith) is refl (string_bytes c.loop-place.line) c.loop-place.invariant c.in_err-outer.ensures.err)
 
 pub returns-in_err-push_entry-clause-err : goal.returns-in_err-push_entry-clause-err
 returns-in_err-push_entry-clause-err g c =
+    let items = c.args.part.now.entries in
+    let e = c.entry-entry.result.now in
+    let is = sym (get_or_from_slice_get items c.loop-place.place e e c.entry-entry.ensures) in
     OnErr-always _
-    (fails_at_entry (tree_names c.args.tree.now) c.entries-entry-items.result.now c.loop-entry.entry-index c.entry-item.result
-    (groups_of (tree_ports c.args.tree.now) c.loop-entry.outer.now) _
-    (omega arith) c.entry-item.is c.in_ok-outer.ensures.left (string_bytes c.loop-entry.line) c.loop-entry.invariant
+    (fails_at_entry (tree_names c.args.tree.now) items c.loop-place.place e
+    (groups_of (tree_ports c.args.tree.now) c.loop-place.outer.now) _
+    (omega arith) is c.in_ok-outer.ensures.left (string_bytes c.loop-place.line) c.loop-place.invariant
     (string_bytes c.write_before.new.line) c.in_ok-outer.ensures.ok)
 
 pub returns-in_err-hand_over_if_long-clause-err : goal.returns-in_err-hand_over_if_long-clause-err
 returns-in_err-hand_over_if_long-clause-err g c =
+    let items = c.args.part.now.entries in
+    let e = c.entry-entry.result.now in
+    let is = sym (get_or_from_slice_get items c.loop-place.place e e c.entry-entry.ensures) in
     OnErr-always _
-    (fails_behind_entry (tree_names c.args.tree.now) c.entries-entry-items.result.now c.loop-entry.entry-index c.entry-item.result
-    (groups_of (tree_ports c.args.tree.now) c.loop-entry.outer.now) _
-    (omega arith) c.entry-item.is c.in_ok-outer.ensures.left (string_bytes c.loop-entry.line) c.loop-entry.invariant
+    (fails_behind_entry (tree_names c.args.tree.now) items c.loop-place.place e
+    (groups_of (tree_ports c.args.tree.now) c.loop-place.outer.now) _
+    (omega arith) is c.in_ok-outer.ensures.left (string_bytes c.loop-place.line) c.loop-place.invariant
     (string_bytes c.write_before.new.line) c.in_ok-outer.ensures.ok
     (string_bytes c.push_entry.new.line) c.in_ok-push_entry.ensures
     (AppendsBeginning-short c.in_err-hand_over_if_long.ensures.err))
 
-pub loop-entry-preserved : goal.loop-entry-preserved
-loop-entry-preserved g c =
-    entry_handed (tree_names c.args.tree.now) c.entries-entry-items.result.now c.loop-entry.entry-index c.entry-item.result
-    (groups_of (tree_ports c.args.tree.now) c.loop-entry.outer.now) _
-    (omega arith) c.entry-item.is c.in_ok-outer.ensures.left (string_bytes c.loop-entry.line) c.loop-entry.invariant
+pub loop-place-preserved : goal.loop-place-preserved
+loop-place-preserved g c =
+    let items = c.args.part.now.entries in
+    let e = c.entry-entry.result.now in
+    let is = sym (get_or_from_slice_get items c.loop-place.place e e c.entry-entry.ensures) in
+    entry_handed (tree_names c.args.tree.now) items c.loop-place.place e
+    (groups_of (tree_ports c.args.tree.now) c.loop-place.outer.now) _
+    (omega arith) is c.in_ok-outer.ensures.left (string_bytes c.loop-place.line) c.loop-place.invariant
     (string_bytes c.write_before.new.line) c.in_ok-outer.ensures.ok
     (string_bytes c.push_entry.new.line) c.in_ok-push_entry.ensures
     (string_bytes c.hand_over_if_long.new.line) c.in_ok-hand_over_if_long.ensures.ok
@@ -62,16 +72,16 @@ loop-entry-preserved g c =
 pub returns-in_err-write_groups-clause-err : goal.returns-in_err-write_groups-clause-err
 returns-in_err-write_groups-clause-err g c =
     OnErr-always _
-    (fails_in_groups (tree_names c.args.tree.now) c.entries-entry-items.result.now c.loop-entry.entry-index
-    (groups_of (tree_ports c.args.tree.now) c.loop-entry.outer.now) (omega arith) (string_bytes c.loop-entry.line)
-    c.loop-entry.invariant c.in_err-write_groups.ensures.err)
+    (fails_in_groups (tree_names c.args.tree.now) c.args.part.now.entries c.loop-place.place
+    (groups_of (tree_ports c.args.tree.now) c.loop-place.outer.now) (omega arith) (string_bytes c.loop-place.line)
+    c.loop-place.invariant c.in_err-write_groups.ensures.err)
 
 pub returns-clause-ok : goal.returns-clause-ok
 returns-clause-ok g c =
     let taken =
-    groups_taken (tree_names c.args.tree.now) c.entries-entry-items.result.now c.loop-entry.entry-index
-    (groups_of (tree_ports c.args.tree.now) c.loop-entry.outer.now) (omega arith) (string_bytes c.loop-entry.line)
-    c.loop-entry.invariant (string_bytes c.write_groups.new.line) c.in_ok-write_groups.ensures.ok in
+    groups_taken (tree_names c.args.tree.now) c.args.part.now.entries c.loop-place.place
+    (groups_of (tree_ports c.args.tree.now) c.loop-place.outer.now) (omega arith) (string_bytes c.loop-place.line)
+    c.loop-place.invariant (string_bytes c.write_groups.new.line) c.in_ok-write_groups.ensures.ok in
     on_ok_weaker c.hand_over.result
     (λ (p : Appends (g.W.Write.contents c.write_groups.new.writer)
     (g.W.Write.contents c.hand_over.new.writer) c.as_bytes.result.now). Appends-from_taken
@@ -80,9 +90,9 @@ returns-clause-ok g c =
 pub returns-clause-err : goal.returns-clause-err
 returns-clause-err g c =
     let taken =
-    groups_taken (tree_names c.args.tree.now) c.entries-entry-items.result.now c.loop-entry.entry-index
-    (groups_of (tree_ports c.args.tree.now) c.loop-entry.outer.now) (omega arith) (string_bytes c.loop-entry.line)
-    c.loop-entry.invariant (string_bytes c.write_groups.new.line) c.in_ok-write_groups.ensures.ok in
+    groups_taken (tree_names c.args.tree.now) c.args.part.now.entries c.loop-place.place
+    (groups_of (tree_ports c.args.tree.now) c.loop-place.outer.now) (omega arith) (string_bytes c.loop-place.line)
+    c.loop-place.invariant (string_bytes c.write_groups.new.line) c.in_ok-write_groups.ensures.ok in
     on_err_weaker c.hand_over.result
     (λ (p : StopsShort (g.W.Write.contents c.write_groups.new.writer)
     (g.W.Write.contents c.hand_over.new.writer) c.as_bytes.result.now). AppendsBeginning-after taken

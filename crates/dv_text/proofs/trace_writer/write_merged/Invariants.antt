@@ -4,9 +4,9 @@ use Rattle.dv_text.specs.Names.{tree_names, tree_ports}
 use Rattle.dv_text.specs.Writing.{TakesFront}
 use Rattle.dv_text.proofs.trace_writer.write_merged.Given as goal
 
-abbrev pub invariant-loop-entry : goal.invariant-loop-entry
-invariant-loop-entry g l =
+abbrev pub invariant-loop-place : goal.invariant-loop-place
+invariant-loop-place g l =
     TakesFront (g.W.Write.contents l.fn.writer) (g.W.Write.contents l.writer)
     (trace_text (tree_names l.tree) (tree_ports l.tree) l.part)
     (string_bytes l.line ++
-    lines_by_time (tree_names l.tree) (drop l.entry-index l.entry-items) (groups_of (tree_ports l.tree) l.outer))
+    lines_by_time (tree_names l.tree) (drop l.place l.part.entries) (groups_of (tree_ports l.tree) l.outer))

@@ -1,10 +1,10 @@
-use Rattle.std.proofs.Common.{◌≡◌, ◌-◌, length, take, drop, nat_lt, not, sym, ap, ap₂, ◌∙◌, arith}
+use Rattle.std.proofs.Common.{◌≡◌, ◌-◌, length, nat_lt, not, ap, ap₂, ◌∙◌, arith}
 use Rattle.std.specs.List.{filter}
 use Rattle.std.proofs.lemmas.List.{length-drop, length-take}
 use Rattle.dv_time.specs.Time.{is_before}
 use Rattle.dv_bag.specs.Part.{before, since}
 use Rattle.dv_bag.specs.declared.entry.Entry.{Entry}
-use Rattle.dv_board.proofs.piece.is_mostly_later.Goals as goal
+use Rattle.dv_slice.proofs.places.is_mostly_later.Goals as goal
 
 pub returns : goal.returns
 returns c =

@@ -1,11 +1,11 @@
-use Rattle.std.proofs.Common.{not, take, ap, ◌∙◌}
+use Rattle.std.proofs.Common.{append-nil, not, take, ap, ◌∙◌}
 use Rattle.std.specs.List.{filter}
 use Rattle.std.proofs.lemmas.List.{take_rest}
 use Rattle.dv_time.specs.Time.{is_before}
 use Rattle.dv_bag.specs.declared.entry.Entry.{Entry}
 use Rattle.dv_bag.specs.declared.entry.Outer.{Outer}
 use Rattle.dv_devs.proofs.Parts.{same_part}
-use Rattle.dv_board.proofs.piece.lines_between.Goals as goal
+use Rattle.dv_slice.proofs.part_slice.PartSlice.between.Goals as goal
 
 pub returns : goal.returns
 returns c =
@@ -14,9 +14,9 @@ returns c =
     let entries = take c.entries_before.result c.as_slice-entries.result.now in
     let lines = take c.lines_before.result c.as_slice-lines.result.now in
     same_part _ _ _ _
-    (take_rest entries c.entries_before-2.result ∙ (c.entries_before-2.ensures.since
+    (append-nil _ ∙ (take_rest entries c.entries_before-2.result ∙ (c.entries_before-2.ensures.since
     ∙ ap (filter (λ (e : Entry). not (is_before e.time from))) (c.entries_before.ensures.before
-    ∙ ap (filter (λ (e : Entry). is_before e.time upto)) (c.as_slice-entries.ensures.value ∙ c.entries.ensures.rest))))
+    ∙ ap (filter (λ (e : Entry). is_before e.time upto)) (c.as_slice-entries.ensures.value ∙ c.entries.ensures.rest)))))
     (take_rest lines c.lines_before-2.result ∙ (c.lines_before-2.ensures.since
     ∙ ap (filter (λ (o : Outer). not (is_before o.time from))) (c.lines_before.ensures.before
     ∙ ap (filter (λ (o : Outer). is_before o.time upto)) (c.as_slice-lines.ensures.value ∙ c.outer.ensures.rest))))

@@ -5,7 +5,7 @@ use Rattle.dv_time.specs.Time.{is_before}
 use Rattle.dv_bag.specs.declared.entry.Entry.{Entry}
 use Rattle.dv_bag.specs.declared.entry.Outer.{Outer}
 use Rattle.dv_devs.proofs.Parts.{same_part}
-use Rattle.dv_board.proofs.piece.piece_since.Goals as goal
+use Rattle.dv_slice.proofs.places.piece_since.Goals as goal
 
 pub returns : goal.returns
 returns c =

@@ -2,8 +2,8 @@ use Rattle.std.proofs.Common.{◌≡◌, true, false, rules}
 use Rattle.std.specs.List.Sorted.{IsPartitionPoint}
 use Rattle.std.proofs.lemmas.List.Sorted.{IsPartitionPoint-from_clause}
 use Rattle.dv_bag.specs.declared.entry.Outer.{Outer}
-use Rattle.dv_board.proofs.Copies.{early, early_first, front_passes, rest_fails}
-use Rattle.dv_board.proofs.piece.lines_before.Goals as goal
+use Rattle.dv_slice.proofs.Searching.{early, early_first, front_passes, rest_fails}
+use Rattle.dv_slice.proofs.places.lines_before.Goals as goal
 
 -- what is before the time is in front of the point
 point : (c : goal.After-partition_point) → let test = early (λ (o : Outer). o.time) c.args.time in
