@@ -27,7 +27,7 @@ write_merged-requires-clause-pieces g c =
     let known = known_before job c.args.parts.now c.args.clocks.now c.requires.reached c.requires.some c.args.before.mark c.requires.of_run
     c.least_clock-least.result at earlier in
     pieces_are job c.args.parts.now c.args.clocks.now c.requires.reached c.requires.some c.args.before.mark c.requires.of_run known
-    c.least_clock-least.result at c.requires.merges c.in_ok-pieces.pieces.items c.in_ok-pieces.ensures
+    c.least_clock-least.result at c.requires.merges c.deref.result.now (c.deref.ensures.value ∙ c.in_ok-pieces.ensures)
 
 pub write_merged-requires-clause-of_run : goal.write_merged-requires-clause-of_run
 write_merged-requires-clause-of_run g c =

@@ -47,11 +47,11 @@ write_merged-requires g c =
     let from = c.args.before.mark in
     let mark = c.least_clock-mark.result in
     let at = c.least_clock-mark.ensures ∙ ap least_time (c.deref.ensures.value ∙ c.in_ok-clocks.ensures) in
-    let are = c.in_ok-pieces.ensures
+    let are = c.deref-2.ensures.value ∙ c.in_ok-pieces.ensures
     ∙ sym (map_twice (λ x. (state x).part) (λ (p : PartOf). since from (before mark p)) c.args.processes.now) in
     record {
       pieces = pieces_are job parts times c.requires.reached c.requires.some from c.requires.of_run c.requires.order mark at
-          c.requires.merges c.in_ok-pieces.pieces.items are;
+          c.requires.merges c.deref-2.result.now are;
       of_run = mark_of_run job parts times c.requires.reached c.requires.some from c.requires.of_run c.requires.order mark at;
       order = mark_order job parts times c.requires.reached c.requires.some from c.requires.of_run c.requires.order mark at;
       within = mark_within job parts times c.requires.reached c.requires.some from c.requires.of_run c.requires.order mark at;
