@@ -27,7 +27,8 @@ module _ {is : List Instance} {k : ℕ} {s : Scope} (at : IsAt is k s) where
       ∙ ap (λ js. get_or (map f js) 0 0) at.rest
 
   -- a component receives a bag for each of its input ports
-  pub as_many : (received : List (List Counts)) → k < length received → map length received ≡ map (λ (i : Instance). input_count i.model) is →
+  pub as_many : (received : List (List Counts)) → k < length received →
+      map length received ≡ map (λ (i : Instance). input_count i.model) is →
       length (get_or received k []) ≡ length s.inputs
   as_many received within ports =
       sym (get_or-map length received k [] 0 within) ∙ ap (λ ns. get_or ns k 0) ports

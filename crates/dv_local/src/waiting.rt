@@ -1,6 +1,7 @@
 //! When something comes.
 
 ghost use Rattle.std.specs.Prelude.{◌≡◌, ◌<◌, ◌≤◌, ℕ, [], IfOk, IfSome, MatchOption, false, length, true};
+ghost use Rattle.dv_time.specs.Limits.{greatest_limit};
 ghost use Rattle.dv_time.specs.Time.{IsOfRun, is_before, rank};
 ghost use Rattle.dv_time.specs.declared.time.Time.{Time as TimeOfCode};
 ghost use Rattle.dv_bag.specs.Inputs.{IsByTime, inputs_at, inputs_before, next_from, time_at};
@@ -19,7 +20,8 @@ use std::alloc::{AllocError, Global};
 
 /// The first time from one on at which something arrives, but for a time that is taken.
 pub(crate) fn first_held(inbox: &Inbox, taken: Option<Time>, from: Time) -> Option<Time>
-    requires small { (t : TimeOfCode) → 0 < length (arrivals_at t inbox.now) → t.micro ≤ 1000 }
+    requires small { (t : TimeOfCode) → 0 < length (arrivals_at t inbox.now)
+        → t.micro ≤ greatest_limit }
     ensures there { MatchOption result
         ((t : TimeOfCode) → is_before t from ≡ false → arrivals_but taken t inbox.now ≡ [])
         (λ first. (is_before first from ≡ false) × (0 < length (arrivals_but taken first inbox.now))) }

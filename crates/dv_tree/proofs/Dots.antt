@@ -12,7 +12,8 @@ first_and_others x (y ∷ ys) = ap (λ t. x ++ 46 ∷ t) (first_and_others y ys)
 
 -- the first name, and then those behind it
 pub path_pushed : (names : List (List ℕ)) (path : List ℕ) (d : ℕ) (before middle after name : List ℕ) → 0 < length path →
-    name ≡ name_at names (get_or path 0 d) → middle ≡ before ++ name → after ≡ middle ++ behind_dots (texts_of names (take (length path - 1) (drop 1 path))) →
+    name ≡ name_at names (get_or path 0 d) → middle ≡ before ++ name →
+    after ≡ middle ++ behind_dots (texts_of names (take (length path - 1) (drop 1 path))) →
     after ≡ before ++ with_dots (texts_of names path)
 path_pushed names [] d before middle after name some is put others = absurd (omega (arith, some))
 path_pushed names (x ∷ path) d before middle after name some is put others =

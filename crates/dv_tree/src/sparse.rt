@@ -1,6 +1,6 @@
 //! Bags in the order of their ports, of which few hold values.
 
-ghost use Rattle.std.specs.Prelude.{◌≡◌, ◌<◌, ◌≤◌, ℕ, [], length, nat_eq, replicate, slice_set, unwrap_or, if◌then◌else◌, IfOk, OnOk, OnErr};
+ghost use Rattle.std.specs.Prelude.{◌≡◌, ◌<◌, ℕ, [], length, nat_eq, replicate, slice_set, unwrap_or, if◌then◌else◌, IfOk, OnOk, OnErr};
 ghost use Rattle.std.specs.Bool.{OnTrue};
 ghost use Rattle.std.specs.Option.{option_copied};
 ghost use Rattle.dv_bag.specs.Bag.{bag_at, size_of_all, union};
@@ -54,6 +54,7 @@ impl SparseBags {
         let mut sparse = SparseBags::empty(alloc, bags.len());
         for port in 0..bags.len() {
             let values = bags.get(port);
+            // A look at a bag tells that its values are in order.
             let _ = values.pairs();
             sparse.union_at(port, values)?;
         }
@@ -117,6 +118,7 @@ impl SparseBags {
         let mut bags = Bags::empty(alloc, self.ports)?;
         for port in 0..self.ports {
             if let Some(values) = self.get(port) {
+                // A look at a bag tells that its values are in order.
                 let _ = values.pairs();
                 bags.union_at(port, values)?;
             }
