@@ -32,7 +32,8 @@ pub trait Names {
     fn root_output(&self, port: u32) -> &str;
 }
 
-/// A plan as one JSON object: its components by their paths, its links, and of each process its components and its response.
+/// A plan as one JSON object: its components by their paths, its links, and of each process its components and its response. The
+/// text is put together value by value, so that each path is held once beside it and not all of them.
 ///
 /// # Errors
 ///
@@ -44,89 +45,139 @@ pub fn plan_json<N: Names>(
     groups: &Groups,
     responses: &[Response],
 ) -> Result<String, AllocError> {
-    let components = paths_json(alloc, names)?;
-    let entries = entries_json(alloc, names, &links.entrances)?;
-    let exits = exits_json(alloc, names, &links.exits)?;
-    let direct = direct_json(alloc, names, &links.direct)?;
-    let processes = processes_json(alloc, names, groups, responses)?;
-    let plan = json!(in alloc; {
-        "components": &components,
-        "entries": &entries,
-        "exits": &exits,
-        "links": &direct,
-        "processes": &processes
-    })?;
-    plan.to_string(alloc)
+    let mut text = String::new(alloc);
+    text.push_str("{\"components\":")?;
+    push_paths(alloc, &mut text, names)?;
+    text.push_str(",\"entries\":")?;
+    push_entries(alloc, &mut text, names, &links.entrances)?;
+    text.push_str(",\"exits\":")?;
+    push_exits(alloc, &mut text, names, &links.exits)?;
+    text.push_str(",\"links\":")?;
+    push_direct(alloc, &mut text, names, &links.direct)?;
+    text.push_str(",\"processes\":")?;
+    push_processes(alloc, &mut text, names, groups, responses)?;
+    text.push('}')?;
+    Ok(text)
 }
 
-fn paths_json<N: Names>(alloc: Global, names: &N) -> Result<Value, AllocError> {
-    let mut list = Vec::new(alloc);
-    for component in 0..names.components() {
-        list.push(path_json(alloc, names, component)?)?;
+// What stands before the value at a place of a list: its bracket or a comma.
+fn push_front(text: &mut String, place: usize) -> Result<(), AllocError> {
+    text.push(if place == 0 { '[' } else { ',' })
+}
+
+// Ends a list of so many values.
+fn push_end(text: &mut String, count: usize) -> Result<(), AllocError> {
+    text.push_str(if count == 0 { "[]" } else { "]" })
+}
+
+fn push_value(alloc: Global, text: &mut String, value: &Value) -> Result<(), AllocError> {
+    text.push_str(value.to_string(alloc)?.as_str())
+}
+
+fn push_paths<N: Names>(alloc: Global, text: &mut String, names: &N) -> Result<(), AllocError> {
+    let count = names.components();
+    for component in 0..count {
+        push_front(text, component as usize)?;
+        push_path(alloc, text, names, component)?;
     }
-    Ok(Value::Array(list))
+    push_end(text, count as usize)
 }
 
-fn path_json<N: Names>(alloc: Global, names: &N, component: u32) -> Result<Value, AllocError> {
+fn push_path<N: Names>(
+    alloc: Global,
+    text: &mut String,
+    names: &N,
+    component: u32,
+) -> Result<(), AllocError> {
     let path = names.path(alloc, component)?;
-    Value::try_from_str(alloc, path.as_str())
+    push_value(alloc, text, &Value::try_from_str(alloc, path.as_str())?)
 }
 
-fn direct_json<N: Names>(alloc: Global, names: &N, links: &[Link]) -> Result<Value, AllocError> {
-    let mut list = Vec::with_capacity(alloc, links.len())?;
-    for link in links {
+fn push_direct<N: Names>(
+    alloc: Global,
+    text: &mut String,
+    names: &N,
+    links: &[Link],
+) -> Result<(), AllocError> {
+    for (place, link) in links.iter().enumerate() {
+        push_front(text, place)?;
         let from = output_text(alloc, names, link)?;
         let to = input_text(alloc, names, link)?;
-        list.push(link_json(alloc, from.as_str(), to.as_str(), link.copies)?)?;
+        push_link(alloc, text, from.as_str(), to.as_str(), link.copies)?;
     }
-    Ok(Value::Array(list))
+    push_end(text, links.len())
 }
 
-fn entries_json<N: Names>(alloc: Global, names: &N, links: &[Link]) -> Result<Value, AllocError> {
-    let mut list = Vec::with_capacity(alloc, links.len())?;
-    for link in links {
+fn push_entries<N: Names>(
+    alloc: Global,
+    text: &mut String,
+    names: &N,
+    links: &[Link],
+) -> Result<(), AllocError> {
+    for (place, link) in links.iter().enumerate() {
+        push_front(text, place)?;
         let from = names.root_input(link.from_port);
         let to = input_text(alloc, names, link)?;
-        list.push(link_json(alloc, from, to.as_str(), link.copies)?)?;
+        push_link(alloc, text, from, to.as_str(), link.copies)?;
     }
-    Ok(Value::Array(list))
+    push_end(text, links.len())
 }
 
-fn exits_json<N: Names>(alloc: Global, names: &N, links: &[Link]) -> Result<Value, AllocError> {
-    let mut list = Vec::with_capacity(alloc, links.len())?;
-    for link in links {
+fn push_exits<N: Names>(
+    alloc: Global,
+    text: &mut String,
+    names: &N,
+    links: &[Link],
+) -> Result<(), AllocError> {
+    for (place, link) in links.iter().enumerate() {
+        push_front(text, place)?;
         let from = output_text(alloc, names, link)?;
         let to = names.root_output(link.to_port);
-        list.push(link_json(alloc, from.as_str(), to, link.copies)?)?;
+        push_link(alloc, text, from.as_str(), to, link.copies)?;
     }
-    Ok(Value::Array(list))
+    push_end(text, links.len())
 }
 
-fn link_json(alloc: Global, from: &str, to: &str, copies: u64) -> Result<Value, AllocError> {
-    json!(in alloc; {"copies": copies, "from": from, "to": to})
-}
-
-fn processes_json<N: Names>(
+fn push_link(
     alloc: Global,
+    text: &mut String,
+    from: &str,
+    to: &str,
+    copies: u64,
+) -> Result<(), AllocError> {
+    let link = json!(in alloc; {"copies": copies, "from": from, "to": to})?;
+    push_value(alloc, text, &link)
+}
+
+fn push_processes<N: Names>(
+    alloc: Global,
+    text: &mut String,
     names: &N,
     groups: &Groups,
     responses: &[Response],
-) -> Result<Value, AllocError> {
-    let mut list = Vec::new(alloc);
+) -> Result<(), AllocError> {
     for process in 0..groups.processes() {
-        let components = members_json(alloc, names, groups.members(process))?;
-        let response = response_json(responses.get(process).copied());
-        list.push(json!(in alloc; {"components": &components, "response": &response})?)?;
+        push_front(text, process)?;
+        text.push_str("{\"components\":")?;
+        push_members(alloc, text, names, groups.members(process))?;
+        text.push_str(",\"response\":")?;
+        push_value(alloc, text, &response_json(responses.get(process).copied()))?;
+        text.push('}')?;
     }
-    Ok(Value::Array(list))
+    push_end(text, groups.processes())
 }
 
-fn members_json<N: Names>(alloc: Global, names: &N, members: &[u32]) -> Result<Value, AllocError> {
-    let mut list = Vec::with_capacity(alloc, members.len())?;
-    for member in members {
-        list.push(path_json(alloc, names, *member)?)?;
+fn push_members<N: Names>(
+    alloc: Global,
+    text: &mut String,
+    names: &N,
+    members: &[u32],
+) -> Result<(), AllocError> {
+    for (place, member) in members.iter().enumerate() {
+        push_front(text, place)?;
+        push_path(alloc, text, names, *member)?;
     }
-    Ok(Value::Array(list))
+    push_end(text, members.len())
 }
 
 fn response_json(response: Option<Response>) -> Value {

@@ -9,13 +9,20 @@
 //! ring has raised the count or will: the count is read and changed under the bell's lock alone, and the wait begins under it.
 //!
 //! If all workers waited with work left, every queue that a visit found empty is empty still, and every one that it found full is
-//! full still. A full queue's receiver takes from it at each visit, so none is full, and so all that was prepared was put, and all
-//! that was put was taken. Of the processes that are not at the end, take one with the least clock. Its channel clocks are past it,
-//! since each sender's clock is not before it and a turn promises past the clock that it leaves; so its next turn moves it, and its
-//! worker does not wait.
+//! full still. A full queue's receiver takes from it at each visit, so none is full. A visit that neither takes nor moves puts
+//! all that stands, null messages too; so all that was prepared was put, and all that was put was taken. Of the processes that
+//! are not at the end, take one with the least clock. Its channel clocks are past it, since each sender's clock is not before it
+//! and a turn promises past the clock that it leaves; so its next turn moves it, and its worker does not wait.
 //!
 //! The caller of a streamed run may stop it by a flag of its own, which rings no worker's bell. Each worker looks at it before each
 //! turn. Until the run is at its end not all wait, so one sees it, ends, and raises the workers' flag, at which the others wake.
+//!
+//! # When a null message is put
+//!
+//! Packets with events are put at once. A null message is put where its process took a packet in the same visit, since who sent that
+//! one may wait for an answer, and where the turn moved nothing. A process that runs ahead by itself would else tell each instant,
+//! and keep awake whoever can only wait for it: such a null message stays on the process until the next round in which its worker
+//! posts, and the window of the next one begins where that one ends.
 //!
 //! # What is posted
 //!

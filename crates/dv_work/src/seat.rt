@@ -167,6 +167,17 @@ impl<P: LogicalProcess> Seat<P> {
         end.held = Some(self.process.sent(end.number));
     }
 
+    /// Whether the packet that the link at a place gets next is a null message, and found no full link yet.
+    pub fn has_null(&self, place: usize) -> bool
+        requires { place < length self.now.outs.items }
+    {
+        let end = &self.outs[place];
+        match (&end.held, self.process.out(end.number)) {
+            (None, Some(standing)) => standing.events.is_empty(),
+            _ => false,
+        }
+    }
+
     /// Puts the packet that stands on the link at a place, or that is held there, where the link has room. Tells whether it was
     /// put.
     pub fn put<N: OfJob, R: Wait>(&mut self, rt: &R, floor: &Floor<'_, N>, place: usize) -> bool

@@ -54,18 +54,21 @@ fn take_all<N: OfJob, P: LogicalProcess, R: Wait>(
     Ok(moved)
 }
 
-// Puts a packet on each link that leads away, where one stands or is held. Tells whether one was put.
+// Puts a packet on each link that leads away, where one stands or is held; a null message that stands only where such are due.
+// Tells whether one was put.
 fn put_all<N: OfJob, P: LogicalProcess, R: Wait>(
     rt: &R,
     floor: &Floor<'_, N>,
     seat: &mut Seat<P>,
+    are_nulls_due: bool,
 ) -> bool
     requires { Sits N.job P.state P.valid floor.now.links.now seat.old }
     ensures { Sits N.job P.state P.valid floor.now.links.now seat.new }
 {
     let mut moved = false;
     for place in 0..seat.outs.len() {
-        if seat.put(rt, floor, place) {
+        let is_due = are_nulls_due || !seat.has_null(place);
+        if is_due && seat.put(rt, floor, place) {
             moved = true;
         }
     }
@@ -81,12 +84,14 @@ fn progress(turned: Turned, moved: bool, holds: bool) -> Turned {
     }
 }
 
-// Takes, makes one turn if the gate lets it, and puts.
+// Takes, makes one turn if the gate lets it, and puts. Null messages are due where a packet came, since who sent it may wait for an
+// answer, and where the turn did not move the process. One that runs ahead by itself tells its clock in the rounds that tell.
 fn visit<N: OfJob, P: LogicalProcess, G: Gate<P>, R: Wait>(
     rt: &R,
     floor: &Floor<'_, N>,
     gate: &G,
     worker: usize,
+    tells: bool,
     seat: &mut Seat<P>,
     work: &mut P::Work,
 ) -> Result<Turned, Halt<G::Cause>>
@@ -112,16 +117,18 @@ fn visit<N: OfJob, P: LogicalProcess, G: Gate<P>, R: Wait>(
         return Err(Halt::Memory);
     };
     gate.after_turn(worker, seat.number, &seat.process);
-    let put = put_all(rt, floor, seat);
+    let runs_ahead = turned == Turned::Moved && !took;
+    let put = put_all(rt, floor, seat, tells || !runs_ahead);
     Ok(progress(turned, took || put, seat.holds_packets()))
 }
 
-// One visit of each process.
+// One visit of each process. In a round that tells, all null messages are due.
 fn round<N: OfJob, P: LogicalProcess, G: Gate<P>, R: Wait>(
     rt: &R,
     floor: &Floor<'_, N>,
     gate: &G,
     worker: usize,
+    tells: bool,
     seats: &mut [Seat<P>],
     work: &mut P::Work,
 ) -> Result<Turned, Halt<G::Cause>>
@@ -132,7 +139,7 @@ fn round<N: OfJob, P: LogicalProcess, G: Gate<P>, R: Wait>(
     let mut all = Turned::Done;
     for i in 0..seats.len() {
         let seat = &mut seats[i];
-        match visit(rt, floor, gate, worker, seat, work) {
+        match visit(rt, floor, gate, worker, tells, seat, work) {
             Ok(turned) => all = of_both(all, turned),
             Err(halt) => return Err(halt),
         }
@@ -150,13 +157,16 @@ fn of_both(one: Turned, other: Turned) -> Turned {
     }
 }
 
-// Whether a worker posts after a round: now and then, more often at first, so that a reader sees the first lines soon; and always
-// where it ends.
-fn posts_after<C>(round: u64, ended: &Result<Turned, Halt<C>>) -> bool {
+// Whether a worker tells others in a round how far its processes are: now and then, and more often at first, so that a reader sees
+// the first lines soon.
+fn tells_in(round: u64) -> bool {
+    round.is_power_of_two() || round % ROUNDS_TO_A_POST == 0
+}
+
+// Whether a worker posts after a round: where it tells, and always where it ends.
+fn posts_after<C>(tells: bool, ended: &Result<Turned, Halt<C>>) -> bool {
     match ended {
-        Ok(Turned::Moved | Turned::Waiting) => {
-            round.is_power_of_two() || round % ROUNDS_TO_A_POST == 0
-        }
+        Ok(Turned::Moved | Turned::Waiting) => tells,
         _ => true,
     }
 }
@@ -193,10 +203,11 @@ fn rounds<N: OfJob, P: LogicalProcess, G: Gate<P>, R: Wait>(
 {
     let mut count: u64 = 0;
     for _ in rt.forever() {
-        let seen = bell.rings(rt);
-        let ended = round(rt, floor, gate, worker, seats, work);
         count = count.wrapping_add(1);
-        if posts_after(count, &ended) {
+        let tells = tells_in(count);
+        let seen = bell.rings(rt);
+        let ended = round(rt, floor, gate, worker, tells, seats, work);
+        if posts_after(tells, &ended) {
             post_all(rt, floor, seats);
         }
         match ended {

@@ -30,8 +30,9 @@ pub overflow_cast-to : goal.overflow_cast-to
 overflow_cast-to c =
     let e = deref_pair (c.in-Some.port, c.in-Some.bag) in
     let rest = c.next.new.self in
-    let pair = (c.in-Some.port, c.in-Some.bag) in
-    let many = rest_more deref_pair c.loop-port.port-iterator rest c.next.result pair c.in-Some.is c.next.ensures.steps in
+    let many =
+    rest_more deref_pair c.loop-port.port-iterator rest c.next.result (c.in-Some.port, c.in-Some.bag)
+    c.in-Some.is c.next.ensures.steps in
     let Below : ℕ × Counts → Type 0 = λ e. e.0 < length c.args.received.now in
     let below = All-head Below e rest (All-same Below (e ∷ rest) c.loop-port.port-iterator (sym many) c.loop-port.invariant.below) in
     record { fits = omega (arith, below, c.requires) }
@@ -42,8 +43,9 @@ loop-port-preserved c =
     let e = deref_pair (c.in-Some.port, c.in-Some.bag) in
     let rest = c.next.new.self in
     let before = map (λ list. list.items) c.loop-port.lists.items in
-    let pair = (c.in-Some.port, c.in-Some.bag) in
-    let many = rest_more deref_pair c.loop-port.port-iterator rest c.next.result pair c.in-Some.is c.next.ensures.steps in
+    let many =
+    rest_more deref_pair c.loop-port.port-iterator rest c.next.result (c.in-Some.port, c.in-Some.bag)
+    c.in-Some.is c.next.ensures.steps in
     let Below : ℕ × Counts → Type 0 = λ e. e.0 < length c.args.received.now in
     record {
       below = All-tail Below e rest (All-same Below (e ∷ rest) c.loop-port.port-iterator (sym many) c.loop-port.invariant.below);
