@@ -49,11 +49,32 @@ pub fn plan_json<N: Names>(
     text.push_str("{\"components\":")?;
     push_paths(alloc, &mut text, names)?;
     text.push_str(",\"entries\":")?;
-    push_entries(alloc, &mut text, names, &links.entrances)?;
+    push_links(
+        alloc,
+        &mut text,
+        names,
+        &links.entrances,
+        Owner::Root,
+        Owner::Component,
+    )?;
     text.push_str(",\"exits\":")?;
-    push_exits(alloc, &mut text, names, &links.exits)?;
+    push_links(
+        alloc,
+        &mut text,
+        names,
+        &links.exits,
+        Owner::Component,
+        Owner::Root,
+    )?;
     text.push_str(",\"links\":")?;
-    push_direct(alloc, &mut text, names, &links.direct)?;
+    push_links(
+        alloc,
+        &mut text,
+        names,
+        &links.direct,
+        Owner::Component,
+        Owner::Component,
+    )?;
     text.push_str(",\"processes\":")?;
     push_processes(alloc, &mut text, names, groups, responses)?;
     text.push('}')?;
@@ -93,47 +114,26 @@ fn push_path<N: Names>(
     push_value(alloc, text, &Value::try_from_str(alloc, path.as_str())?)
 }
 
-fn push_direct<N: Names>(
+// To what the port at an end of a link belongs.
+#[derive(Clone, Copy)]
+enum Owner {
+    Root,
+    Component,
+}
+
+fn push_links<N: Names>(
     alloc: Global,
     text: &mut String,
     names: &N,
     links: &[Link],
+    source: Owner,
+    target: Owner,
 ) -> Result<(), AllocError> {
     for (place, link) in links.iter().enumerate() {
         push_front(text, place)?;
-        let from = output_text(alloc, names, link)?;
-        let to = input_text(alloc, names, link)?;
+        let from = source_text(alloc, names, source, link)?;
+        let to = target_text(alloc, names, target, link)?;
         push_link(alloc, text, from.as_str(), to.as_str(), link.copies)?;
-    }
-    push_end(text, links.len())
-}
-
-fn push_entries<N: Names>(
-    alloc: Global,
-    text: &mut String,
-    names: &N,
-    links: &[Link],
-) -> Result<(), AllocError> {
-    for (place, link) in links.iter().enumerate() {
-        push_front(text, place)?;
-        let from = names.root_input(link.from_port);
-        let to = input_text(alloc, names, link)?;
-        push_link(alloc, text, from, to.as_str(), link.copies)?;
-    }
-    push_end(text, links.len())
-}
-
-fn push_exits<N: Names>(
-    alloc: Global,
-    text: &mut String,
-    names: &N,
-    links: &[Link],
-) -> Result<(), AllocError> {
-    for (place, link) in links.iter().enumerate() {
-        push_front(text, place)?;
-        let from = output_text(alloc, names, link)?;
-        let to = names.root_output(link.to_port);
-        push_link(alloc, text, from.as_str(), to, link.copies)?;
     }
     push_end(text, links.len())
 }
@@ -187,16 +187,43 @@ fn response_json(response: Option<Response>) -> Value {
     }
 }
 
-// The port from which a link leads, by the path of its component.
-fn output_text<N: Names>(alloc: Global, names: &N, link: &Link) -> Result<String, AllocError> {
-    let path = names.path(alloc, link.from)?;
-    let port = names.output(link.from, link.from_port);
-    format!(in alloc; "{path}.{port}")
+// The port from which a link leads: an input of the root, or an output by the path of its component.
+fn source_text<N: Names>(
+    alloc: Global,
+    names: &N,
+    owner: Owner,
+    link: &Link,
+) -> Result<String, AllocError> {
+    match owner {
+        Owner::Root => String::from_str(alloc, names.root_input(link.from_port)),
+        Owner::Component => port_text(
+            alloc,
+            names,
+            link.from,
+            names.output(link.from, link.from_port),
+        ),
+    }
 }
 
-// The port to which a link leads, by the path of its component.
-fn input_text<N: Names>(alloc: Global, names: &N, link: &Link) -> Result<String, AllocError> {
-    let path = names.path(alloc, link.to)?;
-    let port = names.input(link.to, link.to_port);
+// The port to which a link leads: an output of the root, or an input by the path of its component.
+fn target_text<N: Names>(
+    alloc: Global,
+    names: &N,
+    owner: Owner,
+    link: &Link,
+) -> Result<String, AllocError> {
+    match owner {
+        Owner::Root => String::from_str(alloc, names.root_output(link.to_port)),
+        Owner::Component => port_text(alloc, names, link.to, names.input(link.to, link.to_port)),
+    }
+}
+
+fn port_text<N: Names>(
+    alloc: Global,
+    names: &N,
+    component: u32,
+    port: &str,
+) -> Result<String, AllocError> {
+    let path = names.path(alloc, component)?;
     format!(in alloc; "{path}.{port}")
 }
