@@ -19,7 +19,8 @@ use Rattle.dv_work.specs.declared.seat.In.{In}
 use Rattle.dv_work.specs.declared.seat.Out.{Out}
 use Rattle.dv_work.proofs.Packets.{last_of_true}
 
-pub link_after_take : (p : Option Packet) (old new : EndView) → MatchOption p (new ≡ old) (λ q. new ≡ after_take old q) → new.link ≡ old.link
+pub link_after_take : (p : Option Packet) (old new : EndView) → MatchOption p (new ≡ old) (λ q. new ≡ after_take old q)
+    → new.link ≡ old.link
 link_after_take None old new e = ap (λ (v : EndView). v.link) e
 link_after_take (Some q) old new e = ap (λ (v : EndView). v.link) e
 
@@ -56,5 +57,6 @@ pub held_is_next : (job : Job) (o : Out) (p : Packet) → (sender o.pass).link �
     → ((c : Channel) → slice_get job.channels o.number ≡ Some c → AreTrue job o.number c first_time (given o))
     → IsNext job (sender o.pass).link (sender o.pass).put p
 held_is_next job o p is held all =
-    subst (λ (n : ℕ). IsNext job n (sender o.pass).put p) (sym is) (λ c e. last_of_true job o.number c first_time (meant_packets (sender o.pass).put) (meant_packet p)
+    subst (λ (n : ℕ). IsNext job n (sender o.pass).put p) (sym is)
+    (λ c e. last_of_true job o.number c first_time (meant_packets (sender o.pass).put) (meant_packet p)
     (subst (λ (h : Option Packet). AreTrue job o.number c first_time (meant_packets (sender o.pass).put ++ packets_held h)) held (all c e)))

@@ -2,6 +2,7 @@ pub mod Numbers
 pub mod Packets
 pub mod Speaking
 pub mod Sitting
+pub mod Lists
 pub mod Ends
 pub mod Making
 pub mod Reporting

@@ -1,5 +1,6 @@
 -- Processes as they get the ends of their links.
-use Rattle.std.proofs.Common.{◌≡◌, ◌⊎◌, inl, inr, ℕ, zero, suc, ◌+◌, ◌<◌, ◌≤◌, List, [], ◌∷◌, ◌++◌, append-nil, get_or, length, map, Option, Some, None, refl, sym, ap, subst, ◌∙◌, arith}
+use Rattle.std.proofs.Common.{◌≡◌, ◌⊎◌, inl, inr, ℕ, zero, suc, ◌+◌, ◌<◌, ◌≤◌, List, [], ◌∷◌, ◌++◌, append-nil, get_or, length}
+use Rattle.std.proofs.Common.{map, Option, Some, None, refl, sym, ap, subst, ◌∙◌, arith}
 use Rattle.std.specs.List.{All, slice_get}
 use Rattle.std.proofs.Math.ListN.{length-set, set}
 use Rattle.std.proofs.lemmas.Option.{slice_get_within}
@@ -105,7 +106,8 @@ module _ {N P : Type 0} (job : Job) (state : P → ProcessState) (IsValid : P �
             alike = one.0;
             committed = fresh.committed;
             truth = λ l c e. subst (AreTrue job l c first_time) (sym (fresh.received l)) tt;
-            heard = subst (λ (t : Time). rank job.limit t ≤ least_clock (share_of job p) (state x).received) (sym fresh.clock) (omega arith);
+            heard = subst (λ (t : Time). rank job.limit t ≤ least_clock (share_of job p) (state x).received) (sym fresh.clock)
+                (omega arith);
             within = subst (IsWithin (share_of job p)) (sym fresh.clock) (omega arith, omega arith);
           };
           outs = record {
@@ -196,7 +198,8 @@ module _ {N P : Type 0} (job : Job) (state : P → ProcessState) (IsValid : P �
         let was = is.sits.outs in
         let ends = λ (i : ℕ) (q : Out) (e : slice_get (s.outs.items ++ o ∷ []) i ≡ Some q). by_end i q (get_snoc s.outs.items o i q e) in
         let gives = λ (i : ℕ) (q : Out) (e : slice_get (s.outs.items ++ o ∷ []) i ≡ Some q). by_gift i q (get_snoc s.outs.items o i q e) in
-        let below = λ (i : ℕ) (q : Out) (e : slice_get (s.outs.items ++ o ∷ []) i ≡ Some q). by_number i q (get_snoc s.outs.items o i q e) in
+        let below = λ (i : ℕ) (q : Out) (e : slice_get (s.outs.items ++ o ∷ []) i ≡ Some q). by_number i q
+        (get_snoc s.outs.items o i q e) in
         let all : AreOuts job links s.number x (s.outs.items ++ o ∷ []) = record {
           ends = ends;
           gives = gives;
@@ -221,7 +224,8 @@ module _ {N P : Type 0} (job : Job) (state : P → ProcessState) (IsValid : P �
         by_gift i q (inl e) = is.sits.outs.gives i q e
         by_gift i q (inr e) = subst (Gives job s.number x) e.1 (new_gives b o.number is o new)
 
-        by_number : (i : ℕ) (q : Out) → (slice_get s.outs.items i ≡ Some q) ⊎ ((i ≡ length s.outs.items) × (o ≡ q)) → q.number < o.number + 1
+        by_number : (i : ℕ) (q : Out) → (slice_get s.outs.items i ≡ Some q) ⊎ ((i ≡ length s.outs.items) × (o ≡ q))
+            → q.number < o.number + 1
         by_number i q (inl e) = let less = is.outs i q e in omega arith
         by_number i q (inr e) = let same : o.number ≡ q.number = ap (λ (r : Out). r.number) e.1 in omega arith
 
@@ -233,7 +237,8 @@ module _ {N P : Type 0} (job : Job) (state : P → ProcessState) (IsValid : P �
     with_in a d is new ins items =
         let was = is.sits.ins in
         let ends = λ (i : ℕ) (q : In) (e : slice_get (s.ins.items ++ d ∷ []) i ≡ Some q). by_end i q (get_snoc s.ins.items d i q e) in
-        let channels = λ (i : ℕ) (q : In) (e : slice_get (s.ins.items ++ d ∷ []) i ≡ Some q). by_channel i q (get_snoc s.ins.items d i q e) in
+        let channels = λ (i : ℕ) (q : In) (e : slice_get (s.ins.items ++ d ∷ []) i ≡ Some q). by_channel i q
+        (get_snoc s.ins.items d i q e) in
         let received = λ (i : ℕ) (q : In) (e : slice_get (s.ins.items ++ d ∷ []) i ≡ Some q). by_feed i q (get_snoc s.ins.items d i q e) in
         let below = λ (i : ℕ) (q : In) (e : slice_get (s.ins.items ++ d ∷ []) i ≡ Some q). by_number i q (get_snoc s.ins.items d i q e) in
         let all : AreIns job links x (s.ins.items ++ d ∷ []) = record {
@@ -261,7 +266,8 @@ module _ {N P : Type 0} (job : Job) (state : P → ProcessState) (IsValid : P �
         by_channel i q (inl e) = is.sits.ins.channels i q e
         by_channel i q (inr e) = subst (λ (r : In). IsLinkOf job r.number) e.1 new.channel
 
-        by_feed : (i : ℕ) (q : In) → (slice_get s.ins.items i ≡ Some q) ⊎ ((i ≡ length s.ins.items) × (d ≡ q)) → x.received q.number ≡ taken q
+        by_feed : (i : ℕ) (q : In) → (slice_get s.ins.items i ≡ Some q) ⊎ ((i ≡ length s.ins.items) × (d ≡ q))
+            → x.received q.number ≡ taken q
         by_feed i q (inl e) = is.sits.ins.received i q e
         by_feed i q (inr e) = subst (λ (r : In). x.received r.number ≡ taken r) e.1 (is.new.received d.number ∙ sym new.none)
 
@@ -280,7 +286,8 @@ module _ {N P : Type 0} (job : Job) (state : P → ProcessState) (IsValid : P �
   }
 
   -- one process has an end more
-  pub seated_more : (links : List (Link N)) (a b c d : ℕ) → a ≤ c → b ≤ d → (seats : List (Seat P)) → AreSeated job state IsValid links a b seats
+  pub seated_more : (links : List (Link N)) (a b c d : ℕ) → a ≤ c → b ≤ d → (seats : List (Seat P))
+      → AreSeated job state IsValid links a b seats
       → (p : ℕ) (s t : Seat P) → slice_get seats p ≡ Some s → t.number ≡ s.number → IsSeat job state IsValid links c d t
       → AreSeated job state IsValid links c d (set seats p t)
   seated_more links a b c d le le' seats are p s t at number is = record {
@@ -303,7 +310,8 @@ channel_at job channels are n d lt =
     (shown_at meant_channel channels n (get_or channels n d) (stands_at channels n d lt))
 
 -- the ends of a new link, which is the last of the links
-module _ {N : Type 0} (job : Job) (old new : List (Link N)) (link : Link N) (more : new ≡ old ++ link ∷ []) (n : ℕ) (last : n ≡ length old) where
+module _ {N : Type 0} (job : Job) (old new : List (Link N)) (link : Link N) (more : new ≡ old ++ link ∷ []) (n : ℕ)
+    (last : n ≡ length old) where
   is_last : slice_get new n ≡ Some link
   is_last =
       subst (λ (l : List (Link N)). slice_get l n ≡ Some link) (sym more)

@@ -1,5 +1,6 @@
 -- What a report has of each process.
-use Rattle.std.proofs.Common.{◌≡◌, ◌⊎◌, inl, inr, ℕ, ◌<◌, Bool, true, false, nat_eq, List, [], ◌∷◌, ◌++◌, length, Option, Some, refl, sym, ap, subst, ◌∙◌, arith}
+use Rattle.std.proofs.Common.{◌≡◌, ◌⊎◌, inl, inr, ℕ, ◌<◌, Bool, true, false, nat_eq, List, [], ◌∷◌, ◌++◌, length, Option, Some}
+use Rattle.std.proofs.Common.{refl, sym, ap, subst, ◌∙◌, arith}
 use Rattle.std.specs.List.{slice_get}
 use Rattle.std.proofs.Math.ListN.{length-set, set}
 use Rattle.dv_time.specs.Time.{rank}
@@ -26,13 +27,15 @@ all_more {X} v xs ys w is same all p x e =
 
 -- before the first time there is nothing
 pub none_reached : (job : Job) (parts : List PartOf) (clocks : List Time) → length parts ≡ job.processes → length clocks ≡ job.processes
-    → ((p : ℕ) (x : PartOf) → slice_get parts p ≡ Some x → x ≡ nothing) → ((p : ℕ) (t : Time) → slice_get clocks p ≡ Some t → t ≡ first_time)
+    → ((p : ℕ) (x : PartOf) → slice_get parts p ≡ Some x → x ≡ nothing)
+    → ((p : ℕ) (t : Time) → slice_get clocks p ≡ Some t → t ≡ first_time)
     → AreReached job parts clocks
 none_reached job parts clocks long count none first = record {
   count = count;
   within = λ p t at. subst (IsWithin (share_of job p)) (sym (first p t at)) (omega arith, omega arith);
   long = long;
-  parts = λ p x t at at'. none p x at ∙ start p ∙ ap (λ (u : Time). part_before (owned job p) job.limit (whole job.flat) job.outside (rank job.limit u)) (sym (first p t at'));
+  parts = λ p x t at at'. none p x at ∙ start p
+      ∙ ap (λ (u : Time). part_before (owned job p) job.limit (whole job.flat) job.outside (rank job.limit u)) (sym (first p t at'));
 }
   where
     start : (p : ℕ) → nothing ≡ part_before (owned job p) job.limit (whole job.flat) job.outside (rank job.limit first_time)
@@ -43,7 +46,8 @@ none_reached job parts clocks long count none first = record {
 -- what one process reached is entered
 pub entered : (job : Job) (parts : List PartOf) (clocks : List Time) → AreReached job parts clocks → (n : ℕ) (x : PartOf) (t : Time)
     → n < job.processes → IsWithin (share_of job n) t
-    → x ≡ part_before (owned job n) job.limit (whole job.flat) job.outside (rank job.limit t) → AreReached job (set parts n x) (set clocks n t)
+    → x ≡ part_before (owned job n) job.limit (whole job.flat) job.outside (rank job.limit t)
+    → AreReached job (set parts n x) (set clocks n t)
 entered job parts clocks are n x t inside within is =
     let long = are.long in
     let count = are.count in

@@ -23,7 +23,8 @@ use Rattle.dv_work.specs.Seats.{AreIns, AreOuts, Gives, IsFedTruly, Reports, Sit
 use Rattle.dv_work.specs.declared.seat.In.{In}
 use Rattle.dv_work.specs.declared.seat.Out.{Out}
 use Rattle.dv_work.specs.declared.seat.Seat.{Seat}
-use Rattle.dv_work.proofs.Speaking.{given_the_same, now_received, others_received, received_fed, received_gives, sent_beside, sent_fed, sent_here, speaks, turned_fed, turned_gives}
+use Rattle.dv_work.proofs.Speaking.{given_the_same, now_received, others_received, received_fed, received_gives, sent_beside}
+use Rattle.dv_work.proofs.Speaking.{sent_fed, sent_here, speaks, turned_fed, turned_gives}
 
 -- what is so of the other items, and of one that is written, is so of all after the write
 each_after : {X : Type 0} (P : ℕ → X → Type 0) (xs : List X) (i : ℕ) (x y : X) → slice_get xs i ≡ Some x
@@ -110,7 +111,8 @@ module _ {N P : Type 0} (job : Job) (state : P → ProcessState) (IsValid : P �
     there = reports.there;
     within = subst (λ (y : ProcessState). IsWithin (share_of job s.number) y.position.clock) (sym same) reports.within;
     part = subst (λ (y : ProcessState). y.part
-        ≡ part_before (owned job s.number) job.limit (whole job.flat) job.outside (rank job.limit y.position.clock)) (sym same) reports.part;
+        ≡ part_before (owned job s.number) job.limit (whole job.flat) job.outside (rank job.limit y.position.clock)) (sym same)
+        reports.part;
   }
 
   module _ (process : P) (valid : IsValid process) where

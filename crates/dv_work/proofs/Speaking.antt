@@ -1,6 +1,7 @@
 -- A process that was fed truly has committed its part, and what it prepares is true; turns, packets that come and packets that leave
 -- keep that.
-use Rattle.std.proofs.Common.{◌≡◌, inl, inr, ℕ, ◌+◌, ◌-◌, ◌≤◌, Bool, true, false, nat_eq, if◌then◌else◌, List, [], ◌∷◌, ◌++◌, append-nil, Option, Some, refl, sym, ap, subst, ◌∙◌, arith}
+use Rattle.std.proofs.Common.{◌≡◌, inl, inr, ℕ, ◌+◌, ◌-◌, ◌≤◌, Bool, true, false, nat_eq, if◌then◌else◌, List, [], ◌∷◌, ◌++◌}
+use Rattle.std.proofs.Common.{append-nil, Option, Some, refl, sym, ap, subst, ◌∙◌, arith}
 use Rattle.std.specs.List.{slice_get}
 use Rattle.dv_time.specs.Time.{rank}
 use Rattle.dv_time.specs.declared.time.Time.{Time}
@@ -8,7 +9,8 @@ use Rattle.dv_devs.specs.Parts.{part_before}
 use Rattle.dv_conservative.specs.Alike.{AreAlike}
 use Rattle.dv_conservative.specs.Events.{deliveries_at}
 use Rattle.dv_conservative.specs.Flat.{whole}
-use Rattle.dv_conservative.specs.Process.{IsWithin, Packet, Share, all_events, channel_clock, clock_after, end_rank, events_by, first_time, least_clock, packet_of, part_by, sent_on}
+use Rattle.dv_conservative.specs.Process.{IsWithin, Packet, Share, all_events, channel_clock, clock_after, end_rank, events_by}
+use Rattle.dv_conservative.specs.Process.{first_time, least_clock, packet_of, part_by, sent_on}
 use Rattle.dv_conservative.specs.True.{AreTrue, IsTruePacket, crossing_by}
 use Rattle.dv_conservative.specs.Turn.{IsTurnOf, MayBecome, Turned}
 use Rattle.dv_conservative.specs.World.{Channel, Job, incoming_from, outgoing_on, owned, packets_in, share_of}
@@ -107,7 +109,8 @@ module _ (job : Job) (p : ℕ) (x : ProcessState) (fed : IsFedTruly job p x) whe
             there = gives.there;
             own = gives.own;
             truth = subst (AreTrue job o.number c first_time) after
-                (joins job o.number c first_time (given o) packet (subst (AreTrue job o.number c first_time) before gives.truth) first truth);
+                (joins job o.number c first_time (given o) packet (subst (AreTrue job o.number c first_time) before gives.truth) first
+                truth);
             promised = made.promised ∙ sym (last_upto (given o) packet) ∙ ap (clock_after first_time) after;
           }
         where
@@ -139,7 +142,8 @@ module _ (job : Job) (p : ℕ) (x : ProcessState) (fed : IsFedTruly job p x) whe
         ∙ ap (λ (t : Bool). if t then x.received m ++ packet ∷ [] else x.received m)
         (subst (λ (n : ℕ). nat_eq m n ≡ false) (sym on_link) other)
 
-    true_now : (m : ℕ) (d : Channel) → slice_get job.channels m ≡ Some d → (t : Bool) → nat_eq m l ≡ t → AreTrue job m d first_time (y.received m)
+    true_now : (m : ℕ) (d : Channel) → slice_get job.channels m ≡ Some d → (t : Bool) → nat_eq m l ≡ t
+        → AreTrue job m d first_time (y.received m)
     true_now m d e true own =
         let place : m ≡ l = same_number m l own in
         let at : slice_get job.channels l ≡ Some d = subst (λ (n : ℕ). slice_get job.channels n ≡ Some d) place e in
@@ -163,7 +167,8 @@ module _ (job : Job) (p : ℕ) (x : ProcessState) (fed : IsFedTruly job p x) whe
 
     pub received_fed : IsFedTruly job p y
     received_fed =
-        let least = least_rises job.limit (end_rank (share_of job p)) p x.received y.received 0 job.channels (λ i d e. rises (0 + i) (nat_eq (0 + i) l) refl) in
+        let least = least_rises job.limit (end_rank (share_of job p)) p x.received y.received 0 job.channels
+        (λ i d e. rises (0 + i) (nat_eq (0 + i) l) refl) in
         let clock : rank job.limit y.position.clock ≡ rank job.limit x.position.clock
         = ap (λ pos. rank job.limit pos.clock) got.position in record {
           fits = fed.fits;
@@ -181,7 +186,8 @@ module _ (job : Job) (p : ℕ) (x : ProcessState) (fed : IsFedTruly job p x) whe
       channel = gives.channel;
       there = gives.there;
       own = gives.own;
-      truth = subst (λ pos. AreTrue job o.number gives.channel first_time (given o ++ packets_in (pos.standing o.number))) (sym got.position)
+      truth = subst (λ pos. AreTrue job o.number gives.channel first_time (given o ++ packets_in (pos.standing o.number)))
+          (sym got.position)
           gives.truth;
       promised = subst (λ pos. pos.promised o.number ≡ clock_after first_time (given o ++ packets_in (pos.standing o.number)))
           (sym got.position) gives.promised;
@@ -239,7 +245,8 @@ module _ (job : Job) (p : ℕ) (x : ProcessState) (fed : IsFedTruly job p x) whe
         }
 
 -- an end to which the same was given
-pub given_the_same : (job : Job) (p : ℕ) (x : ProcessState) (o q : Out) → q.number ≡ o.number → given q ≡ given o → Gives job p x o → Gives job p x q
+pub given_the_same : (job : Job) (p : ℕ) (x : ProcessState) (o q : Out) → q.number ≡ o.number → given q ≡ given o → Gives job p x o
+    → Gives job p x q
 given_the_same job p x o q number is gives =
     let same : prepared x o ≡ prepared x q
     = ap (λ (ps : List Packet). ps ++ packets_in (x.position.standing o.number)) (sym is)

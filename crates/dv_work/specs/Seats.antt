@@ -1,5 +1,7 @@
 -- What is known of a process that a worker owns, and of what it reports in the end.
-use Rattle.std.specs.Prelude.{◌≡◌, ℕ, ◌<◌, ◌≤◌, Bool, List, ◌++◌, slice_get, Some}
+use Rattle.std.specs.Prelude.{◌≡◌, ℕ, ◌<◌, ◌≤◌, Bool, false, List, [], ◌++◌, length, slice_get, None, Some}
+use Rattle.std.specs.List.{list_any}
+use Rattle.std.specs.Option.{is_some}
 use Rattle.dv_time.specs.Time.{rank}
 use Rattle.dv_bag.specs.declared.state.State.{State}
 use Rattle.dv_devs.specs.Parts.{part_before}
@@ -32,6 +34,14 @@ pub record IsFedTruly (job : Job) (p : ℕ) (x : ProcessState) : Type 0 where
 abbrev pub prepared : ProcessState → Out → List Packet
 prepared x o = given o ++ packets_in (x.position.standing o.number)
 
+-- the packet that an end gets next is a null message that no full link has refused yet: it has no events, and tells only that none
+-- come before its end
+pub record HasNull (x : ProcessState) (o : Out) : Type 0 where
+  pub free : o.held ≡ None
+  pub packet : Packet
+  pub stands : x.position.standing o.number ≡ Some packet
+  pub silent : packet.events ≡ []
+
 -- what a process prepares for a link that leads away from it is true, and joins
 pub record Gives (job : Job) (p : ℕ) (x : ProcessState) (o : Out) : Type 0 where
   pub channel : Channel
@@ -39,6 +49,26 @@ pub record Gives (job : Job) (p : ℕ) (x : ProcessState) (o : Out) : Type 0 whe
   pub own : channel.source ≡ p
   pub truth : AreTrue job o.number channel first_time (prepared x o)
   pub promised : x.position.promised o.number ≡ clock_after first_time (prepared x o)
+
+-- all that a process prepared for an end was put, unless the end holds a packet that found its link full
+abbrev pub HasTold : ProcessState → Out → Type 0
+HasTold x o = o.held ≡ None → x.position.standing o.number ≡ None
+
+-- so it is at so many of its ends, from the first on
+abbrev pub HasToldAtFirst : {P : Type 0} → (P → ProcessState) → ℕ → Seat P → Type 0
+HasToldAtFirst state n s = (i : ℕ) (o : Out) → i < n → slice_get s.outs.items i ≡ Some o → HasTold (state s.process) o
+
+-- so it is at all of them
+abbrev pub HasToldAll : {P : Type 0} → (P → ProcessState) → Seat P → Type 0
+HasToldAll state s = HasToldAtFirst state (length s.outs.items) s
+
+-- whether an end holds a packet
+abbrev pub holds_packet : Out → Bool
+holds_packet o = is_some o.held
+
+-- no end of a process holds one
+abbrev pub HoldsNone : {P : Type 0} → Seat P → Type 0
+HoldsNone s = list_any holds_packet s.outs.items ≡ false
 
 -- the ends of links that lead away, no two of one link
 pub record AreOuts {N : Type 0} (job : Job) (links : List (Link N)) (p : ℕ) (x : ProcessState) (outs : List Out) : Type 0 where

@@ -111,7 +111,8 @@ fn keep_halt<C: Drop>(halt: Option<Halt<C>>, memory: &mut bool, cause: &mut Opti
 
 // Whether all clocks are at a time.
 fn all_are(clocks: &[Time], end: Time) -> bool
-    ensures { IsTrue result ↔ ((p : ℕ) (t : MeantTime) → slice_get clocks.now p ≡ Some t → t ≡ end) }
+    ensures { IsTrue result ↔ ((p : ℕ) (t : MeantTime) → slice_get clocks.now p ≡ Some t
+        → t ≡ end) }
 {
     clocks.iter().all(|clock| *clock == end)
 }

@@ -69,7 +69,8 @@ where
     let started = scope.spawn_with(
         Kept { of: PhantomData },
         move || -> Worked<P, G::Cause>
-            requires { Seated N.job P.state P.valid floor.now.links.now crew × (number < length floor.now.bells.now) }
+            requires { Seated N.job P.state P.valid floor.now.links.now crew
+                × (number < length floor.now.bells.now) }
             ensures { Reported N.job P.state result }
         { work_at(rt, floor, gate, number, crew, work) },
     );

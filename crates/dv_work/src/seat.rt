@@ -1,12 +1,14 @@
 //! A process with the ends of its links.
 
-ghost use Rattle.std.specs.Prelude.{◌≡◌, ◌<◌, ◌++◌, [], ◌∷◌, length, IfErr, OnOk, OnErr, MatchOption, slice_get, Some};
+ghost use Rattle.std.specs.List.{list_any};
+ghost use Rattle.std.specs.Prelude.{◌≡◌, ◌<◌, ◌+◌, ◌++◌, ◌↔◌, false, if◌then◌else◌, [], ◌∷◌, length, slice_get, None, Some};
+ghost use Rattle.std.specs.Prelude.{IfErr, IsTrue, MatchOption, OnOk, OnErr};
 ghost use Rattle.dv_conservative.specs.Process.{first_time};
 ghost use Rattle.dv_conservative.specs.True.{AreTrue};
 ghost use Rattle.dv_conservative.specs.World.{Channel};
 ghost use Rattle.dv_proc.specs.Packets.{meant_packet};
 ghost use Rattle.dv_work.specs.Ends.{IsIn, IsOut, given, taken};
-ghost use Rattle.dv_work.specs.Seats.{Reports, Sits};
+ghost use Rattle.dv_work.specs.Seats.{HasNull, HasToldAtFirst, Reports, Sits, holds_packet};
 
 use crate::bell::{Bell, Flag};
 use crate::post::Stream;
@@ -83,6 +85,7 @@ fn take_from<N: OfJob, R: Wait>(rt: &R, links: &[Link<N>], end: &mut In) -> Opti
 }
 
 // Puts the packet that is held, where its link has room. What was given to this end stays the same. Tells whether it was put.
+// Where it was not, it is held as before.
 fn put_held<N: OfJob, R: Wait>(rt: &R, links: &[Link<N>], end: &mut Out) -> bool
     requires end { IsOut links.now end.old }
     requires all_true { (c : Channel) → slice_get N.job.channels end.old.number ≡ Some c
@@ -90,6 +93,7 @@ fn put_held<N: OfJob, R: Wait>(rt: &R, links: &[Link<N>], end: &mut Out) -> bool
     ensures end { IsOut links.now end.new }
     ensures number { end.new.number ≡ end.old.number }
     ensures given { given end.new ≡ given end.old }
+    ensures held { end.new.held ≡ (if result then None else end.old.held) }
 {
     let Some(packet) = end.held.take() else {
         return false;
@@ -155,6 +159,8 @@ impl<P: LogicalProcess> Seat<P> {
         requires place { place < length self.old.outs.items }
         ensures sits { Sits N.job P.state P.valid floor.now.links.now self.new }
         ensures ends { length self.new.outs.items ≡ length self.old.outs.items }
+        ensures told { HasToldAtFirst P.state place self.old
+            → HasToldAtFirst P.state (place + 1) self.new }
     {
         let _ = floor.links.len();
         let end = &mut self.outs[place];
@@ -170,21 +176,28 @@ impl<P: LogicalProcess> Seat<P> {
     /// Whether the packet that the link at a place gets next is a null message, and found no full link yet.
     pub fn has_null(&self, place: usize) -> bool
         requires { place < length self.now.outs.items }
+        ensures { (end : Out) → slice_get self.now.outs.items place ≡ Some end
+            → (IsTrue result ↔ HasNull (P.state self.now.process) end) }
     {
         let end = &self.outs[place];
-        match (&end.held, self.process.out(end.number)) {
-            (None, Some(standing)) => standing.events.is_empty(),
-            _ => false,
-        }
+        let None = end.held else {
+            return false;
+        };
+        let Some(standing) = self.process.out(end.number) else {
+            return false;
+        };
+        standing.events.is_empty()
     }
 
     /// Puts the packet that stands on the link at a place, or that is held there, where the link has room. Tells whether it was
-    /// put.
+    /// put. Where it was not, the process has told there all that it prepared, or the link is full.
     pub fn put<N: OfJob, R: Wait>(&mut self, rt: &R, floor: &Floor<'_, N>, place: usize) -> bool
         requires sits { Sits N.job P.state P.valid floor.now.links.now self.old }
         requires place { place < length self.old.outs.items }
         ensures sits { Sits N.job P.state P.valid floor.now.links.now self.new }
         ensures ends { length self.new.outs.items ≡ length self.old.outs.items }
+        ensures told { result ≡ false → HasToldAtFirst P.state place self.old
+            → HasToldAtFirst P.state (place + 1) self.new }
     {
         self.hold(floor, place);
         let end = &mut self.outs[place];
@@ -196,7 +209,9 @@ impl<P: LogicalProcess> Seat<P> {
     }
 
     /// Whether a packet is held for a link that was full.
-    pub fn holds_packets(&self) -> bool {
+    pub fn holds_packets(&self) -> bool
+        ensures { result ≡ list_any holds_packet self.now.outs.items }
+    {
         self.outs.iter().any(|end| end.held.is_some())
     }
 

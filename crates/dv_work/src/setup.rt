@@ -24,7 +24,8 @@ pub fn seats_of<N: OfJob, P: LogicalProcess>(
     processes: Vec<P>,
 ) -> Result<Vec<Seat<P>>, AllocError>
     requires { AreNew N.job P.state P.valid processes.items }
-    ensures { IfOk result (λ seats. AreSeated N.job P.state P.valid (no_links {N = N}) 0 0 seats.items) }
+    ensures { IfOk result (λ seats. AreSeated N.job P.state P.valid (no_links {N = N}) 0 0
+        seats.items) }
 {
     let mut seats = Vec::with_capacity(alloc, processes.len())?;
     for process in processes {
@@ -47,7 +48,8 @@ fn add_out<N: OfJob, P: LogicalProcess>(
 ) -> Result<(), AllocError>
     requires seat { IsSeat N.job P.state P.valid links.now out.number out.number seat.old }
     requires out { IsNewOut N.job links.now seat.old.number out }
-    ensures seat { OnOk result (IsSeat N.job P.state P.valid links.now (out.number + 1) out.number seat.new) }
+    ensures seat { OnOk result (IsSeat N.job P.state P.valid links.now (out.number + 1) out.number
+        seat.new) }
     ensures number { seat.new.number ≡ seat.old.number }
 {
     let _ = links.len();
@@ -62,7 +64,8 @@ fn add_in<N: OfJob, P: LogicalProcess>(
 ) -> Result<(), AllocError>
     requires seat { IsSeat N.job P.state P.valid links.now (end.number + 1) end.number seat.old }
     requires end { IsNewIn N.job links.now end }
-    ensures seat { OnOk result (IsSeat N.job P.state P.valid links.now (end.number + 1) (end.number + 1) seat.new) }
+    ensures seat { OnOk result (IsSeat N.job P.state P.valid links.now (end.number + 1)
+        (end.number + 1) seat.new) }
     ensures number { seat.new.number ≡ seat.old.number }
 {
     let _ = links.len();
@@ -89,7 +92,8 @@ pub fn connect<N: OfJob, P: LogicalProcess>(
     requires few { length channels.now < 2 ^ 32 }
     requires capacity { 0 < capacity }
     requires workers { 0 < workers }
-    ensures { IfOk result (λ links. (count : ℕ) × AreSeated N.job P.state P.valid links.items count count seats.new.items) }
+    ensures { IfOk result (λ links. (count : ℕ) × AreSeated N.job P.state P.valid links.items
+        count count seats.new.items) }
 {
     let mut links = Vec::with_capacity(alloc, channels.len())?;
     for channel in channels {
@@ -120,7 +124,8 @@ fn empty_crews<N: OfJob, P: LogicalProcess>(
     workers: usize,
 ) -> Result<Vec<Vec<Seat<P>>>, AllocError>
     ensures count { IfOk result (λ crews. length crews.items ≡ workers) }
-    ensures seated { IfOk result (λ crews. All (Seated N.job P.state P.valid links.now) crews.items) }
+    ensures seated { IfOk result (λ crews. All (Seated N.job P.state P.valid links.now)
+        crews.items) }
 {
     let _ = links.len();
     let mut crews = Vec::with_capacity(alloc, workers)?;
@@ -158,7 +163,8 @@ pub fn crews_of<N: OfJob, P: LogicalProcess>(
     requires seats { All (Sits N.job P.state P.valid links.now) seats.items }
     requires workers { 0 < workers }
     ensures count { IfOk result (λ crews. length crews.items ≡ workers) }
-    ensures seated { IfOk result (λ crews. All (Seated N.job P.state P.valid links.now) crews.items) }
+    ensures seated { IfOk result (λ crews. All (Seated N.job P.state P.valid links.now)
+        crews.items) }
 {
     let mut crews = empty_crews(alloc, links, workers)?;
     for seat in seats {

@@ -1,9 +1,10 @@
 //! A worker: it visits its processes until they are done, and waits at its bell where nothing moved.
 
-ghost use Rattle.std.specs.Prelude.{◌<◌, length, OnErr, OnOk};
+ghost use Rattle.std.specs.Prelude.{◌≡◌, ◌≢◌, ◌<◌, ◌+◌, ◌↔◌, ◌⊎◌, false, true, length, None, IfOk, OnErr, OnOk};
 ghost use Rattle.std.specs.List.{All};
+ghost use Rattle.dv_proc.specs.declared.process.Turned.TheVariants.{Done, Moved};
 ghost use Rattle.dv_work.specs.Crews.{Reported, Seated};
-ghost use Rattle.dv_work.specs.Seats.{Reports, Sits};
+ghost use Rattle.dv_work.specs.Seats.{HasToldAll, HasToldAtFirst, HoldsNone, Reports, Sits};
 
 use crate::bell::Bell;
 use crate::gate::Gate;
@@ -54,6 +55,28 @@ fn take_all<N: OfJob, P: LogicalProcess, R: Wait>(
     Ok(moved)
 }
 
+// Puts what stands on the link at a place or is held there, but no null message that stands where none is due. Tells whether it
+// was put.
+fn put_next<N: OfJob, P: LogicalProcess, R: Wait>(
+    rt: &R,
+    floor: &Floor<'_, N>,
+    seat: &mut Seat<P>,
+    place: usize,
+    are_nulls_due: bool,
+) -> bool
+    requires sits { Sits N.job P.state P.valid floor.now.links.now seat.old }
+    requires place { place < length seat.old.outs.items }
+    ensures sits { Sits N.job P.state P.valid floor.now.links.now seat.new }
+    ensures ends { length seat.new.outs.items ≡ length seat.old.outs.items }
+    ensures told { are_nulls_due ≡ true → result ≡ false → HasToldAtFirst P.state place seat.old
+        → HasToldAtFirst P.state (place + 1) seat.new }
+{
+    if !are_nulls_due && seat.has_null(place) {
+        return false;
+    }
+    seat.put(rt, floor, place)
+}
+
 // Puts a packet on each link that leads away, where one stands or is held; a null message that stands only where such are due.
 // Tells whether one was put.
 fn put_all<N: OfJob, P: LogicalProcess, R: Wait>(
@@ -63,12 +86,12 @@ fn put_all<N: OfJob, P: LogicalProcess, R: Wait>(
     are_nulls_due: bool,
 ) -> bool
     requires { Sits N.job P.state P.valid floor.now.links.now seat.old }
-    ensures { Sits N.job P.state P.valid floor.now.links.now seat.new }
+    ensures sits { Sits N.job P.state P.valid floor.now.links.now seat.new }
+    ensures told { are_nulls_due ≡ true → result ≡ false → HasToldAll P.state seat.new }
 {
     let mut moved = false;
     for place in 0..seat.outs.len() {
-        let is_due = are_nulls_due || !seat.has_null(place);
-        if is_due && seat.put(rt, floor, place) {
+        if put_next(rt, floor, seat, place, are_nulls_due) {
             moved = true;
         }
     }
@@ -76,7 +99,11 @@ fn put_all<N: OfJob, P: LogicalProcess, R: Wait>(
 }
 
 // A visit moved its process where packets moved too; and while one is held, the process is not done.
-fn progress(turned: Turned, moved: bool, holds: bool) -> Turned {
+fn progress(turned: Turned, moved: bool, holds: bool) -> Turned
+    ensures still { result ≢ Moved → (moved ≡ false) × (turned ≢ Moved) }
+    ensures moved { result ≡ Moved → (moved ≡ true) ⊎ (turned ≡ Moved) }
+    ensures done { (result ≡ Done) ↔ (moved ≡ false) × (holds ≡ false) × (turned ≡ Done) }
+{
     match turned {
         _ if moved => Turned::Moved,
         Turned::Done if holds => Turned::Waiting,
@@ -98,6 +125,8 @@ fn visit<N: OfJob, P: LogicalProcess, G: Gate<P>, R: Wait>(
     requires { Sits N.job P.state P.valid floor.now.links.now seat.old }
     ensures ok { OnOk result (Sits N.job P.state P.valid floor.now.links.now seat.new) }
     ensures err { OnErr result (Reports N.job P.state seat.new) }
+    ensures told { IfOk result (λ t. t ≢ Moved → HasToldAll P.state seat.new) }
+    ensures done { IfOk result (λ t. t ≡ Done → HoldsNone seat.new) }
 {
     let Ok(took) = take_all(rt, floor, seat) else {
         return Err(Halt::Memory);
@@ -135,6 +164,8 @@ fn round<N: OfJob, P: LogicalProcess, G: Gate<P>, R: Wait>(
     requires { All (Sits N.job P.state P.valid floor.now.links.now) seats.old }
     ensures ok { OnOk result (All (Sits N.job P.state P.valid floor.now.links.now) seats.new) }
     ensures all { All (Reports N.job P.state) seats.new }
+    ensures told { IfOk result (λ t. t ≢ Moved → All (HasToldAll P.state) seats.new) }
+    ensures done { IfOk result (λ t. t ≡ Done → All HoldsNone seats.new) }
 {
     let mut all = Turned::Done;
     for i in 0..seats.len() {
@@ -148,7 +179,11 @@ fn round<N: OfJob, P: LogicalProcess, G: Gate<P>, R: Wait>(
 }
 
 // Moved where either moved, and done where both are.
-fn of_both(one: Turned, other: Turned) -> Turned {
+fn of_both(one: Turned, other: Turned) -> Turned
+    ensures still { result ≢ Moved → (one ≢ Moved) × (other ≢ Moved) }
+    ensures moved { result ≡ Moved → (one ≡ Moved) ⊎ (other ≡ Moved) }
+    ensures done { (result ≡ Done) ↔ (one ≡ Done) × (other ≡ Done) }
+{
     match (one, other) {
         (Turned::Done, _) => other,
         (_, Turned::Done) => one,
@@ -171,7 +206,8 @@ fn posts_after<C>(tells: bool, ended: &Result<Turned, Halt<C>>) -> bool {
     }
 }
 
-// Waits until a worker's bell has rung past a count. Where that does not come soon, the worker posts before it sleeps.
+// Waits until a worker's bell has rung past a count, with all told that its processes prepared. Where the ring does not come soon,
+// the worker posts before it sleeps.
 fn wait_for_work<N: OfJob, P: LogicalProcess, R: Wait>(
     rt: &R,
     floor: &Floor<'_, N>,
@@ -179,7 +215,8 @@ fn wait_for_work<N: OfJob, P: LogicalProcess, R: Wait>(
     seen: u64,
     seats: &[Seat<P>],
 )
-    requires { All (Reports N.job P.state) seats.now }
+    requires reports { All (Reports N.job P.state) seats.now }
+    requires told { All (HasToldAll P.state) seats.now }
 {
     if bell.rings_soon(rt, seen) {
         return;
@@ -199,7 +236,9 @@ fn rounds<N: OfJob, P: LogicalProcess, G: Gate<P>, R: Wait>(
     work: &mut P::Work,
 ) -> Option<Halt<G::Cause>>
     requires { All (Sits N.job P.state P.valid floor.now.links.now) seats.old }
-    ensures { All (Reports N.job P.state) seats.new }
+    ensures reports { All (Reports N.job P.state) seats.new }
+    ensures told { result ≡ None → All (HasToldAll P.state) seats.new }
+    ensures put { result ≡ None → All HoldsNone seats.new }
 {
     let mut count: u64 = 0;
     for _ in rt.forever() {
@@ -221,7 +260,8 @@ fn rounds<N: OfJob, P: LogicalProcess, G: Gate<P>, R: Wait>(
 }
 
 /// Works until all its processes are done, or it has to end. Then it raises the flag, unless it ended for the flag. What its
-/// processes committed is posted before it sleeps, and before it ends.
+/// processes committed is posted before it sleeps, and before it ends. Where it ends because they are done, all packets that they
+/// prepared were put.
 pub fn work_at<N: OfJob, P: LogicalProcess, G: Gate<P>, R: Wait>(
     rt: &R,
     floor: &Floor<'_, N>,
@@ -234,7 +274,9 @@ where
     P::Work: Drop,
     requires seats { Seated N.job P.state P.valid floor.now.links.now seats }
     requires bell { worker < length floor.now.bells.now }
-    ensures { Reported N.job P.state result }
+    ensures reported { Reported N.job P.state result }
+    ensures told { result.halt ≡ None → All (HasToldAll P.state) result.seats.items }
+    ensures put { result.halt ≡ None → All HoldsNone result.seats.items }
 {
     let bell = &floor.bells[worker];
     let halt = rounds(

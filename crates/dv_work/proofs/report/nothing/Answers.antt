@@ -17,8 +17,10 @@ loop-process-preserved g c =
     let is = c.loop-process.invariant in
     let parts = c.in_ok-push.ensures.items in
     let clocks = c.in_ok-push-2.ensures.items in record {
-      parts = (let e = is.parts in let l = ap length parts in let k = length-append c.loop-process.parts.items (c.new.result ∷ []) in omega arith);
-      clocks = (let e = is.clocks in let l = ap length clocks in let k = length-append c.loop-process.clocks.items (first_time ∷ []) in omega arith);
+      parts = (let e = is.parts in let l = ap length parts in let k = length-append c.loop-process.parts.items (c.new.result ∷ []) in
+          omega arith);
+      clocks = (let e = is.clocks in let l = ap length clocks in let k = length-append c.loop-process.clocks.items (first_time ∷ []) in
+          omega arith);
       nothing = all_more nothing c.loop-process.parts.items c.push.new.self.items _ parts c.new.ensures is.nothing;
       first = all_more first_time c.loop-process.clocks.items c.push-in-loop-process.new.self.items _ clocks refl is.first;
     }

@@ -10,7 +10,8 @@ returns-clause-whole g c =
     let end : Time = record { tick = c.horizon.result + 1; micro = 0 } in
     let All : Time → List Time → Type 0 = λ e ts. (p : ℕ) (t : Time) → slice_get ts p ≡ Some t → t ≡ e in
     let is : end ≡ end_time g.N.OfJob.job
-    = ap (λ (n : ℕ). let t : Time = record { tick = n + 1; micro = 0 } in t) (c.horizon.ensures.is ∙ ap (λ (j : Job). j.horizon) (sym c.requires.job)) in
+    = ap (λ (n : ℕ). let t : Time = record { tick = n + 1; micro = 0 } in t)
+    (c.horizon.ensures.is ∙ ap (λ (j : Job). j.horizon) (sym c.requires.job)) in
     let tells = c.all_are-is_whole.ensures in
     let how = c.how_ended-ended.ensures in
     let same = c.deref.ensures.value in (

@@ -5,7 +5,8 @@ use Rattle.dv_work.proofs.seat.take_from.Goals as goal
 
 pub returns-clause-end : goal.returns-clause-end
 returns-clause-end g c =
-    in_after c.args.links.now c.args.end.now c.take.new.pass c.index-links-end.result c.requires.end c.index-links-end.is c.take.ensures.link
+    in_after c.args.links.now c.args.end.now c.take.new.pass c.index-links-end.result c.requires.end c.index-links-end.is
+    c.take.ensures.link
     (link_after_take c.take.result (receiver c.args.end.now.pass) (receiver c.take.new.pass) c.take.ensures.taken)
 
 pub returns-clause-all_true : goal.returns-clause-all_true

@@ -11,7 +11,8 @@ use Rattle.dv_work.proofs.setup.empty_crews.Goals as goal
 pub loop-worker-preserved : goal.loop-worker-preserved
 loop-worker-preserved g c =
     let S : Seat g.row.P.Denot → Type 0 = λ s. Sits g.N.OfJob.job g.P.LogicalProcess.state g.P.LogicalProcess.valid c.args.links.now s in
-    let C : Vec (Seat g.row.P.Denot) Global → Type 0 = λ v. Seated g.N.OfJob.job g.P.LogicalProcess.state g.P.LogicalProcess.valid c.args.links.now v in
+    let C : Vec (Seat g.row.P.Denot) Global → Type 0 = λ v. Seated g.N.OfJob.job g.P.LogicalProcess.state g.P.LogicalProcess.valid
+    c.args.links.now v in
     let xs = c.loop-worker.crews.items in
     let is : c.push.new.self.items ≡ xs ++ c.new.result ∷ [] = c.in_ok-push.ensures.items in
     let none : All S c.new.result.items = subst (λ l. All S l) (sym c.new.ensures.items) (λ k d lt. absurd (omega arith)) in (

@@ -1,6 +1,8 @@
+use Rattle.std.proofs.Common.{◌<◌, length, arith}
 use Rattle.std.proofs.lemmas.List.Elements.{All-set, All-weaker}
-use Rattle.dv_work.specs.Seats.{Reports, Sits}
+use Rattle.dv_work.specs.Seats.{HasToldAll, HoldsNone, Reports, Sits}
 use Rattle.dv_work.specs.declared.seat.Seat.{Seat}
+use Rattle.dv_work.proofs.Lists.{first_more}
 use Rattle.dv_work.proofs.Sitting.{reports}
 use Rattle.dv_work.proofs.worker.round.Goals as goal
 
@@ -12,13 +14,23 @@ returns-in-Err-clause-all g c =
     All-set R c.loop-i.seats c.loop-i.i c.visit.new.seat c.in-Err.ensures.err
     (All-weaker S R
     (λ s sits. reports g.N.OfJob.job g.P.LogicalProcess.state g.P.LogicalProcess.valid c.args.floor.now.links.now s sits)
-    c.loop-i.seats c.loop-i.invariant)
+    c.loop-i.seats c.loop-i.invariant.0)
 
 pub loop-i-preserved : goal.loop-i-preserved
 loop-i-preserved g c =
     let S : Seat g.row.P.Denot → Type 0
     = λ s. Sits g.N.OfJob.job g.P.LogicalProcess.state g.P.LogicalProcess.valid c.args.floor.now.links.now s in
-    All-set S c.loop-i.seats c.loop-i.i c.visit.new.seat c.in-Ok.ensures.ok c.loop-i.invariant
+    let T : Seat g.row.P.Denot → Type 0 = λ s. HasToldAll g.P.LogicalProcess.state s in
+    let H : Seat g.row.P.Denot → Type 0 = λ s. HoldsNone s in
+    let within : c.loop-i.i < length c.loop-i.seats = omega (arith, c.loop-i-test.true, c.loop-i.auto.seats, c.loop-i.auto.i-end) in (
+      All-set S c.loop-i.seats c.loop-i.i c.visit.new.seat c.in-Ok.ensures.ok c.loop-i.invariant.0,
+      λ still.
+          let both = c.of_both-all.ensures.still still in
+          first_more T c.loop-i.seats c.loop-i.i c.visit.new.seat within (c.loop-i.invariant.1 both.0) (c.in-Ok.ensures.told both.1),
+      λ done.
+          let both = c.of_both-all.ensures.done.0 done in
+          first_more H c.loop-i.seats c.loop-i.i c.visit.new.seat within (c.loop-i.invariant.2 both.0) (c.in-Ok.ensures.done both.1),
+    )
 
 pub returns-clause-all : goal.returns-clause-all
 returns-clause-all g c =
@@ -27,4 +39,4 @@ returns-clause-all g c =
     let R : Seat g.row.P.Denot → Type 0 = λ s. Reports g.N.OfJob.job g.P.LogicalProcess.state s in
     All-weaker S R
     (λ s sits. reports g.N.OfJob.job g.P.LogicalProcess.state g.P.LogicalProcess.valid c.args.floor.now.links.now s sits)
-    c.loop-i.seats c.loop-i.invariant
+    c.loop-i.seats c.loop-i.invariant.0
