@@ -17,7 +17,8 @@ ghost use Rattle.dv_eval.specs.Meaning.{effect_of, meaning, moment_in, outermost
 ghost use Rattle.dv_bag.specs.declared.value.ValueType.{ValueType};
 ghost use Rattle.dv_check.specs.Types.{Known, place_refusals, type_of};
 ghost use Rattle.dv_check.specs.Rules.{atomic_refusals, known_in, known_in_rule};
-ghost use Rattle.dv_accepted.specs.Fitting.{are_names_known, are_ticks_known, context_within, domain_named, fits, HoldsDatum, in_phase, is_of_type, known_within, LeadsToPhase, ReadsPort};
+ghost use Rattle.dv_accepted.specs.Fitting.{are_names_known, are_ticks_known, context_within, domain_named, fits, HoldsDatum};
+ghost use Rattle.dv_accepted.specs.Fitting.{in_phase, is_of_type, known_within, LeadsToPhase, ReadsPort};
 
 /// The start state of an accepted model fits the model: its phase is one of the model's, each variable has a number
 /// within its range, each flag a truth value, and each bag no more values than its capacity, which is at most 4,096.

@@ -42,7 +42,8 @@ first_of_run limit [] (c ∷ cs) h = absurd h
 first_of_run limit (w ∷ ws) [] h = absurd h
 first_of_run limit (w ∷ ws) (c ∷ cs) h = of_run limit w (first_of ws) h.0 (first_of_run limit ws cs h.2)
 
-pub rank-first : (limit : ℕ) (ws : List (Option Time)) (cs : List Component) → AreNextTimes limit ws cs → rank_if limit (first_of ws) ≡ least_next cs
+pub rank-first : (limit : ℕ) (ws : List (Option Time)) (cs : List Component) → AreNextTimes limit ws cs → rank_if limit (first_of ws)
+    ≡ least_next cs
 rank-first limit [] [] h = refl
 rank-first limit [] (c ∷ cs) h = absurd h
 rank-first limit (w ∷ ws) [] h = absurd h

@@ -21,7 +21,8 @@ use Rattle.dv_bag.specs.Sent.{pairs_at, sending_cmp, sent_at, sent_into}
 use Rattle.dv_bag.specs.declared.sent.Sending.{Sending}
 use Rattle.dv_bag.proofs.Monoid.{union_unit}
 use Rattle.dv_bag.proofs.Pairs.{refill-set}
-use Rattle.dv_bag.proofs.Sendings.{as_many_ports, bag_of_port, edited, no_sending, put_other, put_same, same_bag_at, sending, set_other, set_same}
+use Rattle.dv_bag.proofs.Sendings.{as_many_ports, bag_of_port, edited, no_sending, put_other, put_same, same_bag_at, sending}
+use Rattle.dv_bag.proofs.Sendings.{set_other, set_same}
 use Rattle.dv_bag.proofs.Sendings.{within_put, within_set}
 
 -- what comes before the first of two comes before the second

@@ -1,5 +1,6 @@
 -- A board, drained up to its least clock.
-use Rattle.std.proofs.Common.{◌≡◌, ℕ, suc, ◌<◌, ◌≤◌, false, List, [], ◌∷◌, length, map, slice_get, slice_index_or, Some, refl, sym, ap, ap₂, subst, ◌∙◌, arith}
+use Rattle.std.proofs.Common.{◌≡◌, ℕ, suc, ◌<◌, ◌≤◌, false, List, [], ◌∷◌, length, map, slice_get, slice_index_or, Some, refl}
+use Rattle.std.proofs.Common.{sym, ap, ap₂, subst, ◌∙◌, arith}
 use Rattle.std.specs.List.{All}
 use Rattle.std.proofs.lemmas.List.{get_or-map, length-map}
 use Rattle.std.proofs.lemmas.List.Elements.{All-contains, All-get_or, All-map}
@@ -20,7 +21,8 @@ use Rattle.dv_board.specs.Jobs.{trace}
 use Rattle.dv_board.specs.Places.{rest_of}
 use Rattle.dv_board.proofs.Between.{committed_before, committed_by_time, committed_since}
 use Rattle.dv_board.proofs.Places.{clocks_of, no_later, rest_is_held}
-use Rattle.dv_board.proofs.Wholes.{get_map, many_parts, part_at_place, part_of_process, parts_before, parts_of_trace, parts_since, trace_of_job}
+use Rattle.dv_board.proofs.Wholes.{get_map, many_parts, part_at_place, part_of_process, parts_before, parts_of_trace}
+use Rattle.dv_board.proofs.Wholes.{parts_since, trace_of_job}
 
 -- lists that agree place by place
 pub same_places : {X : Type 0} (xs ys : List X) → length xs ≡ length ys

@@ -1,5 +1,6 @@
 -- The response of a model is as short as those of its holds.
-use Rattle.std.proofs.Common.{◌≡◌, ℕ, zero, suc, ◌<◌, ◌^◌, Bool, true, false, if◌then◌else◌, ◌==◌, List, [], ◌∷◌, fold, map, min, Option, Some, None, refl, arith}
+use Rattle.std.proofs.Common.{◌≡◌, ℕ, zero, suc, ◌<◌, ◌^◌, Bool, true, false, if◌then◌else◌, ◌==◌, List, [], ◌∷◌, fold, map}
+use Rattle.std.proofs.Common.{min, Option, Some, None, refl, arith}
 use Rattle.std.specs.Prelude.{slice_get}
 use Rattle.dv_syntax.specs.declared.tree.Hold.{Hold}
 use Rattle.dv_syntax.specs.Trees.{AtomicTree, Expression, HoldTree, hold_of}

@@ -19,7 +19,8 @@ use Rattle.dv_syntax.specs.declared.tree.Link.{Link}
 use Rattle.dv_syntax.specs.Trees.{ModelTree, AtomicModel, CoupledModel, CoupledTree, FileTree}
 use Rattle.dv_eval.specs.Scope.{is_declared}
 use Rattle.dv_check.specs.Limits.{greatest_components, greatest_depth, greatest_instances, greatest_names}
-use Rattle.dv_check.specs.Names.{among, excess, excess_of, excess_past, model_named, name_of_model, numbers_of, part_named, repeats, refusal_if}
+use Rattle.dv_check.specs.Names.{among, excess, excess_of, excess_past, model_named, name_of_model, numbers_of, part_named}
+use Rattle.dv_check.specs.Names.{repeats, refusal_if}
 use Rattle.dv_check.specs.declared.declarations.NameSort.{NameSort}
 use Rattle.dv_check.specs.Models.{face_of, faces_in}
 use Rattle.dv_check.specs.Ports.{ports_of, shown_inputs, shown_outputs}

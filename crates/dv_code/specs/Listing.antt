@@ -8,11 +8,13 @@ use Rattle.dv_code.specs.declared.instruction.Leaf.TheVariants as leaf
 use Rattle.dv_code.specs.declared.instruction.Unary.{Unary}
 use Rattle.dv_code.specs.declared.instruction.Unary.TheVariants.{Negate, Not, Times}
 use Rattle.dv_code.specs.declared.instruction.Binary.{Binary}
-use Rattle.dv_code.specs.declared.instruction.Binary.TheVariants.{Add, Subtract, Multiply, Divide, Remainder, Equal, Unequal, Less, AtMost, Greater, AtLeast, Same, Different}
+use Rattle.dv_code.specs.declared.instruction.Binary.TheVariants.{Add, Subtract, Multiply, Divide, Remainder, Equal, Unequal}
+use Rattle.dv_code.specs.declared.instruction.Binary.TheVariants.{Less, AtMost, Greater, AtLeast, Same, Different}
 use Rattle.dv_code.specs.declared.instruction.Action.{Action}
 use Rattle.dv_code.specs.declared.instruction.Action.TheVariants.{SetVariable, SetFlag, AddTo, DropFrom, Send}
 use Rattle.dv_code.specs.declared.instruction.Instruction.{Instruction}
-use Rattle.dv_code.specs.declared.instruction.Instruction.TheVariants.{Push, Apply, Combine, Perform, Go, Jump, JumpFalse, FalseKeep, TrueKeep, Loop, Next, End}
+use Rattle.dv_code.specs.declared.instruction.Instruction.TheVariants.{Push, Apply, Combine, Perform, Go, Jump, JumpFalse}
+use Rattle.dv_code.specs.declared.instruction.Instruction.TheVariants.{FalseKeep, TrueKeep, Loop, Next, End}
 
 abbrev pub source_words : Source → List ℕ
 source_words (Own place) = codes "bag " ++ decimal place

@@ -4,7 +4,8 @@ ghost use Rattle.std.specs.Prelude.{◌≡◌, [], ◌∷◌};
 ghost use Rattle.dv_bag.specs.Arrivals.{nothing_arrived};
 ghost use Rattle.dv_code.specs.Machine.{Finished};
 ghost use Rattle.dv_code.specs.Runs.{Ends};
-ghost use Rattle.dv_code.specs.Rows.{IsRefused, each_sent, each_sent_marks, jump_into_body, jump_to_itself, number_for_truth, stored, three_sent, three_values, two_ends, value_left_at_end, value_left_in_body};
+ghost use Rattle.dv_code.specs.Rows.{IsRefused, each_sent, each_sent_marks, jump_into_body, jump_to_itself, number_for_truth};
+ghost use Rattle.dv_code.specs.Rows.{stored, three_sent, three_values, two_ends, value_left_at_end, value_left_in_body};
 ghost use Rattle.dv_code.specs.Valid.{IsProgram};
 
 /// A program that sends each value of a bag is valid, under these marks.

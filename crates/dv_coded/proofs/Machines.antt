@@ -39,7 +39,8 @@ number-given p arrivals s n (Err error.Memory) ok fault given = tt
 -- what is sent at the end of an effect
 sent-of : (r : Result Effect Fault) (e : Effect) (sent : List Counts) → r ≡ Ok e → sent ≡ e.sent → (r >>= λ x. Ok x.sent) ≡ Ok sent
 sent-of r e sent there same =
-    ap (λ (q : Result Effect Fault). q >>= λ x. Ok x.sent) there ∙ ap (λ (b : List Counts). let q : Result (List Counts) Fault = Ok b in q) (sym same)
+    ap (λ (q : Result Effect Fault). q >>= λ x. Ok x.sent) there
+    ∙ ap (λ (b : List Counts). let q : Result (List Counts) Fault = Ok b in q) (sym same)
 
 pub sent-given : (p : Program) (s : State) (n : ℕ) (r : Result (List Counts) RuleError) →
     ((sent : List Counts) → GivesSent p nothing_arrived s n (Ok sent) →

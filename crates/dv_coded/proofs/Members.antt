@@ -43,7 +43,8 @@ members-pushed limit all answers n k [] [] x m number there member model h = abs
 members-pushed limit all answers n k [] (i ∷ is) x m number there member model h =
     let same : m ≡ i.model = cc in
     let at : k ≡ n = omega (arith, number) in
-    let of_it = subst (λ (t : AtomicTree). IsMemberOf limit n x.model t x) same (subst (λ (j : ℕ). IsMemberOf limit j x.model m x) at member) in
+    let of_it = subst (λ (t : AtomicTree). IsMemberOf limit n x.model t x) same
+    (subst (λ (j : ℕ). IsMemberOf limit j x.model m x) at member) in
     (of_it, (subst (IsModelAt all answers x.model) same model, tt))
 members-pushed limit all answers n k (y ∷ xs) [] x m number there member model h = absurd h
 members-pushed limit all answers n k (y ∷ xs) (i ∷ is) x m number there member model h =

@@ -28,8 +28,10 @@ starting-is limit m codes s code state =
     ∙ first-is (start_state m) (hold_end limit (behaviour_by (phase_codes m)) 0 (start_state m))
 
 -- the programs take a state that fits the tables of their model, and such states alone
-pub takes : (m : AtomicTree) (p : Programs) (s : State) → AreProgramsOf m p → Fits (tables_of (scope_of m)).slots s.variables → TakesState p s
+pub takes : (m : AtomicTree) (p : Programs) (s : State) → AreProgramsOf m p → Fits (tables_of (scope_of m)).slots s.variables
+    → TakesState p s
 takes m p s of fits = subst (λ (t : Tables). Fits t.slots s.variables) (sym of.tables) fits
 
-pub taken : (m : AtomicTree) (p : Programs) (s : State) → AreProgramsOf m p → TakesState p s → Fits (tables_of (scope_of m)).slots s.variables
+pub taken : (m : AtomicTree) (p : Programs) (s : State) → AreProgramsOf m p → TakesState p s
+    → Fits (tables_of (scope_of m)).slots s.variables
 taken m p s of fits = subst (λ (t : Tables). Fits t.slots s.variables) of.tables fits

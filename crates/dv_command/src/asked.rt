@@ -1,7 +1,9 @@
 //! Requests, read from what words say.
 
 ghost use Rattle.std.specs.Prelude.{◌≡◌, ◌≤◌, ◌∷◌, [], IfOk, IfSome, map, string_bytes};
-ghost use Rattle.dv_command.specs.Asked.{Asks, AsksBehind, AsksCode, AsksDriving, AsksHorizon, AsksInputs, AsksMicrosteps, AsksModel, AsksPartition, AsksPlan, AsksRun, AsksStats, AsksTrace, AsksWith, IsAnswer, IsFitting, IsVersion, is_version};
+ghost use Rattle.dv_command.specs.Asked.{Asks, AsksBehind, AsksCode, AsksDriving, AsksHorizon, AsksInputs, AsksMicrosteps};
+ghost use Rattle.dv_command.specs.Asked.{AsksModel, AsksPartition, AsksPlan, AsksRun, AsksStats, AsksTrace, AsksWith, IsAnswer};
+ghost use Rattle.dv_command.specs.Asked.{IsFitting, IsVersion, is_version};
 ghost use Rattle.dv_command.specs.Subcommands.{subcommand_named};
 ghost use Rattle.dv_command.specs.Steps.{said_in};
 ghost use Rattle.dv_command.specs.Words.{values};
@@ -149,7 +151,8 @@ fn horizon_in(alloc: Global, parts: &[Part<'_>]) -> Result<Option<u64>, AllocErr
 /// The greatest microstep of a tick.
 fn microsteps_in(alloc: Global, parts: &[Part<'_>]) -> Result<Option<u32>, AllocError>
     ensures fits { IfOk result (IsFitting (AsksMicrosteps (map said_in parts.now))) }
-    ensures in_range { IfOk result (λ r. IfSome r (λ limit. (1 ≤ limit) × (limit ≤ greatest_limit))) }
+    ensures in_range { IfOk result (λ r. IfSome r
+        (λ limit. (1 ≤ limit) × (limit ≤ greatest_limit))) }
 {
     let most = u64::from(GREATEST_LIMIT);
     match count_in(alloc, 1, most, "--microsteps", parts)? {

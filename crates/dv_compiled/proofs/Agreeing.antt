@@ -1,5 +1,6 @@
 -- A behaviour by programs is that by rules, where each program gives what its rule or its hold means.
-use Rattle.std.proofs.Common.{◌≡◌, ℕ, Bool, true, List, length, option_map, unwrap_or, Option, Some, None, Result, Ok, IfSome, refl, sym, ap, ◌∙◌}
+use Rattle.std.proofs.Common.{◌≡◌, ℕ, Bool, true, List, length, option_map, unwrap_or, Option, Some, None, Result, Ok, IfSome}
+use Rattle.std.proofs.Common.{refl, sym, ap, ◌∙◌}
 use Rattle.std.specs.Prelude.{slice_get}
 use Rattle.std.proofs.lemmas.Bool.{and_parts, ltb-true}
 use Rattle.std.proofs.lemmas.Option.{slice_get-get_or, slice_get-map}
@@ -20,7 +21,8 @@ use Rattle.dv_eval.specs.Scope.{hold_ticks, phase_name, rule_body, rule_of, scop
 use Rattle.dv_accepted.specs.Fitting.{data_fit, fits}
 use Rattle.dv_gen.specs.ModelCode.{hold_program, phase_code, phase_codes, rule_program}
 use Rattle.dv_gen.specs.declared.model_code.PhaseCode.{PhaseCode}
-use Rattle.dv_compiled.specs.Behaviours.{arriving, behaviour_by, change_of, confluent_program, effect_in, hold_program as program_of_hold, ticks_by}
+use Rattle.dv_compiled.specs.Behaviours.{arriving, behaviour_by, change_of, confluent_program, effect_in}
+use Rattle.dv_compiled.specs.Behaviours.{hold_program as program_of_hold, ticks_by}
 use Rattle.dv_plain.specs.Source.{behaviour_of}
 use Rattle.dv_compiled.proofs.Floods.{few_passed, nothing_is_few}
 

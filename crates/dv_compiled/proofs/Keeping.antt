@@ -1,5 +1,6 @@
 -- The behaviour of an accepted model keeps to the states that fit.
-use Rattle.std.proofs.Common.{◌≡◌, ℕ, ◌<◌, Bool, true, List, length, Option, Some, None, Result, Ok, Err, IfOk, IfSome, IsTrue, option_map, refl}
+use Rattle.std.proofs.Common.{◌≡◌, ℕ, ◌<◌, Bool, true, List, length, Option, Some, None, Result, Ok, Err, IfOk, IfSome, IsTrue}
+use Rattle.std.proofs.Common.{option_map, refl}
 use Rattle.dv_syntax.specs.Trees.{AtomicTree, Statements}
 use Rattle.dv_syntax.specs.declared.tree.RuleSort.TheVariants.{Confluent, External, Internal}
 use Rattle.dv_bag.specs.Arrivals.{Arrivals, nothing_arrived}

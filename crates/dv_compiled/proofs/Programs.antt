@@ -1,5 +1,6 @@
 -- The programs of an accepted model give what its rules and its holds mean.
-use Rattle.std.proofs.Common.{◌≡◌, ℕ, ◌*◌, ◌^◌, ◌≤◌, true, List, [], ◌∷◌, get_or, length, Result, Ok, Err, IfSome, refl, sym, ap, subst, ◌∙◌, arith}
+use Rattle.std.proofs.Common.{◌≡◌, ℕ, ◌*◌, ◌^◌, ◌≤◌, true, List, [], ◌∷◌, get_or, length, Result, Ok, Err, IfSome, refl, sym}
+use Rattle.std.proofs.Common.{ap, subst, ◌∙◌, arith}
 use Rattle.std.specs.List.{All}
 use Rattle.dv_syntax.specs.Grammar.{loop_depth}
 use Rattle.dv_syntax.specs.Trees.{AtomicTree, Done, Expression, HoldTree, RuleTree, Statements}

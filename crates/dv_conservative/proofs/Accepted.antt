@@ -1,5 +1,6 @@
 -- The packet at the front of a link is accepted by its receiver.
-use Rattle.std.proofs.Common.{◌≡◌, ℕ, suc, zero, ◌+◌, ◌-◌, ◌<◌, ◌≤◌, Bool, true, false, ◌&&◌, ◌||◌, cond, nat_eq, nat_lt, nat_le, List, [], ◌∷◌, ◌++◌, map, IsTrue, Some, None, refl, ap, subst, ◌∙◌, arith}
+use Rattle.std.proofs.Common.{◌≡◌, ℕ, suc, zero, ◌+◌, ◌-◌, ◌<◌, ◌≤◌, Bool, true, false, ◌&&◌, ◌||◌, cond, nat_eq, nat_lt}
+use Rattle.std.proofs.Common.{nat_le, List, [], ◌∷◌, ◌++◌, map, IsTrue, Some, None, refl, ap, subst, ◌∙◌, arith}
 use Rattle.std.specs.List.{filter, list_all, list_any, slice_get}
 use Rattle.std.specs.Ordering.{match_ordering}
 use Rattle.std.specs.declared.cmp.Ordering.{Ordering}
@@ -11,10 +12,12 @@ use Rattle.dv_time.specs.declared.time.Time.{Time}
 use Rattle.dv_bag.specs.Bag.{Counts, bag_at, capped}
 use Rattle.dv_bag.specs.declared.state.State.{State}
 use Rattle.dv_devs.proofs.NextTimes.{rank_at_time, time_of_run}
-use Rattle.dv_conservative.specs.Events.{AreInOrder, AreInOrderAfter, Event, delivery_cmp, event_of, events_from, in_order, same_time, with_delivery}
+use Rattle.dv_conservative.specs.Events.{AreInOrder, AreInOrderAfter, Event, delivery_cmp, event_of, events_from, in_order}
+use Rattle.dv_conservative.specs.Events.{same_time, with_delivery}
 use Rattle.dv_conservative.specs.Flat.{Member}
 use Rattle.dv_conservative.specs.Links.{Delivery, Link, carried, carried_by, is_between, links_between}
-use Rattle.dv_conservative.specs.Process.{Packet, Share, are_in_order, are_in_order_after, channel_clock, clock_after, end_rank, first_time, is_event_of, is_port_of, is_window, refusal_of}
+use Rattle.dv_conservative.specs.Process.{Packet, Share, are_in_order, are_in_order_after, channel_clock, clock_after, end_rank}
+use Rattle.dv_conservative.specs.Process.{first_time, is_event_of, is_port_of, is_window, refusal_of}
 use Rattle.dv_conservative.specs.Sound.{AllLead, IsJob}
 use Rattle.dv_conservative.specs.True.{AreTrue, IsTruePacket, crossing_by}
 use Rattle.dv_conservative.specs.World.{Channel, Job, World, all_of, incoming_from, owned, packets_in, received_in, share_of}

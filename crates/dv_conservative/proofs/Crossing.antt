@@ -1,5 +1,6 @@
 -- What is settled is what crosses.
-use Rattle.std.proofs.Common.{◌≡◌, inl, inr, ℕ, suc, zero, ◌+◌, ◌-◌, ◌<◌, ◌≤◌, Bool, true, false, cond, nat_eq, List, [], ◌∷◌, ◌++◌, append-nil, map, Option, Some, None, sym, ap, ◌∙◌, subst, arith}
+use Rattle.std.proofs.Common.{◌≡◌, inl, inr, ℕ, suc, zero, ◌+◌, ◌-◌, ◌<◌, ◌≤◌, Bool, true, false, cond, nat_eq, List, [], ◌∷◌}
+use Rattle.std.proofs.Common.{◌++◌, append-nil, map, Option, Some, None, sym, ap, ◌∙◌, subst, arith}
 use Rattle.std.specs.List.{slice_get}
 use Rattle.std.proofs.lemmas.Bool.{cases_lt}
 use Rattle.dv_time.specs.Time.{rank, time_of}
@@ -11,7 +12,8 @@ use Rattle.dv_devs.proofs.NextTimes.{rank_at_time}
 use Rattle.dv_conservative.specs.Events.{Event, deliveries_at, event_of, events_between, events_from, in_order}
 use Rattle.dv_conservative.specs.Flat.{behaviours, crossings, fed, network, numbers, others}
 use Rattle.dv_conservative.specs.Links.{Delivery, SameFor, carried, links_between, sent_of}
-use Rattle.dv_conservative.specs.Process.{AllMayCome, IsSettled, MayCome, Packet, all_events, and_further, channel_clock, end_rank, events_by, events_in, first_time, least_clock, least_of, sent_on}
+use Rattle.dv_conservative.specs.Process.{AllMayCome, IsSettled, MayCome, Packet, all_events, and_further, channel_clock}
+use Rattle.dv_conservative.specs.Process.{end_rank, events_by, events_in, first_time, least_clock, least_of, sent_on}
 use Rattle.dv_conservative.specs.Sound.{IsJob}
 use Rattle.dv_conservative.specs.True.{AreTrue, crossing_by}
 use Rattle.dv_conservative.specs.World.{Channel, Job, incoming_from, outgoing_on, owned, share_of}

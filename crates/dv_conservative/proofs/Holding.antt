@@ -1,5 +1,6 @@
 -- What every step keeps: all packets are true, and no clock passes a channel clock.
-use Rattle.std.proofs.Common.{◌≡◌, inl, inr, ℕ, suc, ◌+◌, ◌-◌, ◌<◌, ◌≤◌, Bool, true, false, cond, nat_eq, List, [], ◌∷◌, ◌++◌, append-nil, append_assoc, length, Option, Some, None, refl, sym, ap, subst, ◌∙◌, arith}
+use Rattle.std.proofs.Common.{◌≡◌, inl, inr, ℕ, suc, ◌+◌, ◌-◌, ◌<◌, ◌≤◌, Bool, true, false, cond, nat_eq, List, [], ◌∷◌, ◌++◌}
+use Rattle.std.proofs.Common.{append-nil, append_assoc, length, Option, Some, None, refl, sym, ap, subst, ◌∙◌, arith}
 use Rattle.std.specs.List.{slice_get}
 use Rattle.dv_time.specs.Time.{rank, end_of}
 use Rattle.dv_time.specs.declared.time.Time.{Time}
@@ -9,10 +10,14 @@ use Rattle.dv_devs.specs.Parts.{part_before}
 use Rattle.dv_conservative.specs.Events.{deliveries_at}
 use Rattle.dv_conservative.specs.Flat.{crossings, kept, numbers, others, whole}
 use Rattle.dv_conservative.specs.Links.{SameFor}
-use Rattle.dv_conservative.specs.Process.{IsWithin, Packet, all_events, channel_clock, clock_after, components_by, end_rank, events_by, first_time, least_clock, least_of, packet_of, part_by, sent_on}
+use Rattle.dv_conservative.specs.Process.{IsWithin, Packet, all_events, channel_clock, clock_after, components_by, end_rank}
+use Rattle.dv_conservative.specs.Process.{events_by, first_time, least_clock, least_of, packet_of, part_by, sent_on}
 use Rattle.dv_conservative.specs.Sound.{IsJob}
 use Rattle.dv_conservative.specs.True.{AreTrue, IsTruePacket, crossing_by}
-use Rattle.dv_conservative.specs.World.{Answers, AnswersBy, Channel, Does, IsMove, IsPrepared, IsRun, IsTurn, Job, LinkState, Reply, Step, World, Turn, Put, Take, Stop, Done, Refused, Stopped, Empty, Full, Memory, after_put, after_take, all_of, incoming_from, new_world, outgoing_on, owned, packets_in, promised_on, received_in, refusal, share_of, took_front, with_standing}
+use Rattle.dv_conservative.specs.World.{Answers, AnswersBy, Channel, Does, IsMove, IsPrepared, IsRun, IsTurn, Job, LinkState}
+use Rattle.dv_conservative.specs.World.{Reply, Step, World, Turn, Put, Take, Stop, Done, Refused, Stopped, Empty, Full, Memory}
+use Rattle.dv_conservative.specs.World.{after_put, after_take, all_of, incoming_from, new_world, outgoing_on, owned, packets_in}
+use Rattle.dv_conservative.specs.World.{promised_on, received_in, refusal, share_of, took_front, with_standing}
 use Rattle.dv_conservative.proofs.Crossing.{heard_before, settled_is_true, true_first}
 use Rattle.dv_conservative.proofs.Kept.{part_of_share}
 use Rattle.dv_conservative.proofs.Local.{components_of_share, same_number}

@@ -1,5 +1,6 @@
 -- What a share's run adds to the trace is the part of its components.
-use Rattle.std.proofs.Common.{◌≡◌, ℕ, suc, zero, Bool, true, false, cond, nat_eq, List, [], ◌∷◌, ◌++◌, Option, Some, None, refl, sym, ap, ◌∙◌, arith}
+use Rattle.std.proofs.Common.{◌≡◌, ℕ, suc, zero, Bool, true, false, cond, nat_eq, List, [], ◌∷◌, ◌++◌, Option, Some, None, refl}
+use Rattle.std.proofs.Common.{sym, ap, ◌∙◌, arith}
 use Rattle.std.specs.List.{filter}
 use Rattle.dv_bag.specs.Bag.{Counts, bag_at}
 use Rattle.dv_bag.specs.Part.{PartOf, joined}

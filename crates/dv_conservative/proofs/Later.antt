@@ -1,5 +1,7 @@
 -- An accepted packet changes nothing before the least channel clock.
-use Rattle.std.proofs.Common.{◌≡◌, inl, inr, ℕ, suc, zero, ◌+◌, ◌-◌, ◌<◌, ◌≤◌, Bool, true, false, not, ◌&&◌, cond, nat_eq, nat_le, nat_lt, List, [], ◌∷◌, ◌++◌, append-nil, append_assoc, Some, None, refl, sym, ap, ◌∙◌, arith}
+use Rattle.std.proofs.Common.{◌≡◌, inl, inr, ℕ, suc, zero, ◌+◌, ◌-◌, ◌<◌, ◌≤◌, Bool, true, false, not, ◌&&◌, cond, nat_eq}
+use Rattle.std.proofs.Common.{nat_le, nat_lt, List, [], ◌∷◌, ◌++◌, append-nil, append_assoc, Some, None, refl, sym, ap, ◌∙◌}
+use Rattle.std.proofs.Common.{arith}
 use Rattle.std.specs.List.{list_all, list_any}
 use Rattle.std.proofs.lemmas.Bool.{and_parts, cases_lt}
 use Rattle.std.proofs.lemmas.Bool.Decides.{nat_tests}
@@ -11,7 +13,10 @@ use Rattle.dv_devs.proofs.Runs.{components_agree, emissions_agree, traces_agree}
 use Rattle.dv_conservative.specs.Events.{Event, deliveries_at, delivery_of, same_time}
 use Rattle.dv_conservative.specs.Flat.{network, numbers}
 use Rattle.dv_conservative.specs.Links.{Delivery, carried, sent_of}
-use Rattle.dv_conservative.specs.Process.{Outgoing, P1, P2, P3, P4, Packet, Share, all_events, are_in_order, brings, channel_clock, components_by, end_rank, events_by, events_in, first_from, inputs_by, is_event_of, is_port_of, is_window, known_until, least_clock, least_of, part_by, refusal_of, sent_on, with_packet}
+use Rattle.dv_conservative.specs.Process.{Outgoing, P1, P2, P3, P4, Packet, Share, all_events, are_in_order, brings}
+use Rattle.dv_conservative.specs.Process.{channel_clock, components_by, end_rank, events_by, events_in, first_from, inputs_by}
+use Rattle.dv_conservative.specs.Process.{is_event_of, is_port_of, is_window, known_until, least_clock, least_of, part_by}
+use Rattle.dv_conservative.specs.Process.{refusal_of, sent_on, with_packet}
 use Rattle.dv_conservative.proofs.Local.{same_number}
 use Rattle.dv_conservative.proofs.Settled.{first_not_before, first_not_past, none_before_first}
 use Rattle.dv_conservative.proofs.Told.{same_times}

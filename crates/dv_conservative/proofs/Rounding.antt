@@ -1,5 +1,6 @@
 -- What each round does to clocks and windows.
-use Rattle.std.proofs.Common.{◌≡◌, ◌⊎◌, inl, inr, ℕ, suc, zero, ◌+◌, ◌<◌, ◌≤◌, min, Bool, true, false, cond, nat_eq, nat_lt, List, [], ◌∷◌, ◌++◌, append-nil, length, Option, Some, None, refl, sym, ap, subst, ◌∙◌, arith}
+use Rattle.std.proofs.Common.{◌≡◌, ◌⊎◌, inl, inr, ℕ, suc, zero, ◌+◌, ◌<◌, ◌≤◌, min, Bool, true, false, cond, nat_eq, nat_lt}
+use Rattle.std.proofs.Common.{List, [], ◌∷◌, ◌++◌, append-nil, length, Option, Some, None, refl, sym, ap, subst, ◌∙◌, arith}
 use Rattle.std.specs.List.{slice_get}
 use Rattle.std.proofs.lemmas.Bool.{cases_lt}
 use Rattle.std.proofs.lemmas.Bool.Decides.{nat_tests}
@@ -9,7 +10,10 @@ use Rattle.dv_time.proofs.Ranks.{time_of-rank}
 use Rattle.dv_conservative.specs.Process.{Packet, channel_clock, clock_after, events_by, first_time, packet_of}
 use Rattle.dv_conservative.specs.Rounds.{AllHaveSources, AreRounds, HadMemory, IsDriven, Progressed, moves_from, round, turns_from}
 use Rattle.dv_conservative.specs.Turn.{IsPromised, Progresses}
-use Rattle.dv_conservative.specs.World.{Answers, AnswersBy, Channel, IsMove, IsStep, IsTurn, Job, LinkState, Reply, Step, World, Turn, Put, Take, Done, Refused, Stopped, Empty, Full, Memory, after_put, after_take, all_of, new_world, of_link, outgoing_on, packets_in, position_in, promised_on, put_reply, received_in, refusal, share_of, take_reply, took_front, with_standing}
+use Rattle.dv_conservative.specs.World.{Answers, AnswersBy, Channel, IsMove, IsStep, IsTurn, Job, LinkState, Reply, Step, World}
+use Rattle.dv_conservative.specs.World.{Turn, Put, Take, Done, Refused, Stopped, Empty, Full, Memory, after_put, after_take}
+use Rattle.dv_conservative.specs.World.{all_of, new_world, of_link, outgoing_on, packets_in, position_in, promised_on}
+use Rattle.dv_conservative.specs.World.{put_reply, received_in, refusal, share_of, take_reply, took_front, with_standing}
 use Rattle.dv_conservative.proofs.Holding.{made_all, put_all, took_all}
 use Rattle.dv_conservative.proofs.Lists.{least_at_least, promised_of, source_of}
 use Rattle.dv_conservative.proofs.Local.{same_number}

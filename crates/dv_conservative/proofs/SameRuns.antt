@@ -10,7 +10,9 @@ use Rattle.dv_devs.specs.Idle.{no_values, nothing_sent}
 use Rattle.dv_conservative.specs.Events.{Event, deliveries_at, events_between, in_order}
 use Rattle.dv_conservative.specs.Flat.{network, numbers}
 use Rattle.dv_conservative.specs.Links.{Delivery, carried, sent_of}
-use Rattle.dv_conservative.specs.Process.{IsSettled, Outgoing, Packet, Share, all_events, and_further, at_most, brings, components_by, end_rank, events_by, first_from, inputs_by, known_until, least_clock, packet_of, part_by, promise, refusal_of, sent_on}
+use Rattle.dv_conservative.specs.Process.{IsSettled, Outgoing, Packet, Share, all_events, and_further, at_most, brings}
+use Rattle.dv_conservative.specs.Process.{components_by, end_rank, events_by, first_from, inputs_by, known_until, least_clock}
+use Rattle.dv_conservative.specs.Process.{packet_of, part_by, promise, refusal_of, sent_on}
 use Rattle.dv_conservative.specs.Promise.{foreseen}
 use Rattle.dv_conservative.specs.Turn.{AllMayBecome, AllPromised, IsPromised, IsTurnOf, MayBecome, Position, Prepares, turned}
 use Rattle.dv_conservative.specs.Alike.{AreAlike, with_outside}
@@ -42,7 +44,8 @@ module _ (s t : Share) (alike : AreAlike s t) where
   pub same_sent : (events : ℕ → List Event) (out : Outgoing) (n : ℕ) → sent_on s events out n ≡ sent_on t events out n
   same_sent events out n = ap (λ (x : Share). sent_on x events out n) alike.same ∙ one_sends events out n
 
-  one_packet : (events : ℕ → List Event) (out : Outgoing) (from upto : Time) → packet_of one events out from upto ≡ packet_of t events out from upto
+  one_packet : (events : ℕ → List Event) (out : Outgoing) (from upto : Time) → packet_of one events out from upto
+      ≡ packet_of t events out from upto
   one_packet events out from upto =
       ap (λ (sent : ℕ → List Delivery). let p : Packet = record {
         link = out.number;
@@ -51,7 +54,8 @@ module _ (s t : Share) (alike : AreAlike s t) where
         events = events_between t.limit sent (rank t.limit from) (rank t.limit upto);
       } in p) (fun_ext (one_sends events out))
 
-  pub same_packet : (events : ℕ → List Event) (out : Outgoing) (from upto : Time) → packet_of s events out from upto ≡ packet_of t events out from upto
+  pub same_packet : (events : ℕ → List Event) (out : Outgoing) (from upto : Time) → packet_of s events out from upto
+      ≡ packet_of t events out from upto
   same_packet events out from upto =
       ap (λ (x : Share). packet_of x events out from upto) alike.same ∙ one_packet events out from upto
 

@@ -1,5 +1,6 @@
 -- A promise is settled, and what is settled is true.
-use Rattle.std.proofs.Common.{◌≡◌, inl, inr, ℕ, suc, zero, ◌+◌, ◌-◌, ◌<◌, ◌≤◌, min, Bool, true, false, not, ◌&&◌, cond, nat_eq, List, [], ◌∷◌, ◌++◌, append-nil, Option, Some, None, refl, sym, ap, ◌∙◌, subst, arith}
+use Rattle.std.proofs.Common.{◌≡◌, inl, inr, ℕ, suc, zero, ◌+◌, ◌-◌, ◌<◌, ◌≤◌, min, Bool, true, false, not, ◌&&◌, cond, nat_eq}
+use Rattle.std.proofs.Common.{List, [], ◌∷◌, ◌++◌, append-nil, Option, Some, None, refl, sym, ap, ◌∙◌, subst, arith}
 use Rattle.std.proofs.lemmas.Bool.{cases_lt}
 use Rattle.dv_time.specs.Time.{rank, time_of}
 use Rattle.dv_time.specs.declared.time.Time.{Time}
@@ -11,7 +12,9 @@ use Rattle.dv_devs.specs.NextTimes.{IsFrom}
 use Rattle.dv_conservative.specs.Events.{Event, deliveries_at, delivery_of, in_order, same_time}
 use Rattle.dv_conservative.specs.Flat.{network, numbers}
 use Rattle.dv_conservative.specs.Links.{Delivery, carried, sent_of}
-use Rattle.dv_conservative.specs.Process.{AllMayCome, IsSettled, MayCome, Outgoing, Packet, Share, all_events, and_further, at_most, brings, channel_clock, end_rank, events_by, first_from, inputs_by, known_until, least_clock, least_of, promise}
+use Rattle.dv_conservative.specs.Process.{AllMayCome, IsSettled, MayCome, Outgoing, Packet, Share, all_events, and_further}
+use Rattle.dv_conservative.specs.Process.{at_most, brings, channel_clock, end_rank, events_by, first_from, inputs_by}
+use Rattle.dv_conservative.specs.Process.{known_until, least_clock, least_of, promise}
 use Rattle.dv_conservative.specs.Promise.{BringsOnly, IsWaiting, foreseen}
 use Rattle.dv_conservative.specs.Sound.{AllNumbers, AllReceivedNumbers, IsSoundShare, are_of_numbers, by_place}
 use Rattle.dv_conservative.proofs.Numbers.{all_keep, all_respond, is_ready, numbers_at, numbers_come, states_stay}

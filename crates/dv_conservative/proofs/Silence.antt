@@ -1,5 +1,7 @@
 -- Until a run's next time and an answer to its first input it sends nothing.
-use Rattle.std.proofs.Common.{◌≡◌, inl, inr, ℕ, suc, zero, ◌+◌, ◌-◌, ◌/◌, ◌<◌, ◌≤◌, Bool, true, false, not, ◌&&◌, ◌||◌, cond, nat_lt, List, [], ◌∷◌, map, Option, Some, None, Result, Ok, Err, IfOk, IsTrue, refl, sym, subst, ◌∙◌, arith}
+use Rattle.std.proofs.Common.{◌≡◌, inl, inr, ℕ, suc, zero, ◌+◌, ◌-◌, ◌/◌, ◌<◌, ◌≤◌, Bool, true, false, not, ◌&&◌, ◌||◌, cond}
+use Rattle.std.proofs.Common.{nat_lt, List, [], ◌∷◌, map, Option, Some, None, Result, Ok, Err, IfOk, IsTrue, refl, sym, subst}
+use Rattle.std.proofs.Common.{◌∙◌, arith}
 use Rattle.std.specs.List.{list_all}
 use Rattle.std.proofs.Math.Nat.{div-mul-le_self, mul-le-mul_left}
 use Rattle.std.proofs.lemmas.Bool.{cases_lt}
@@ -11,7 +13,9 @@ use Rattle.dv_bag.specs.declared.fault.Fault.{Fault}
 use Rattle.dv_bag.specs.declared.fault.Fault.TheVariants.{Flood}
 use Rattle.dv_bag.specs.declared.state.State.{State}
 use Rattle.dv_bag.specs.declared.entry.Kind.{Kind}
-use Rattle.dv_devs.specs.Behaviour.{Behaviour, Component, Reaction, Change, Hold, Continues, Begins, state_with_hold, external_of, transition_of, rank_or_fault, end_of_hold, next_of, bags_or_flood, are_few, reaction_with, reaction_after_output, emission, is_imminent, is_at, all_empty, kind_of}
+use Rattle.dv_devs.specs.Behaviour.{Behaviour, Component, Reaction, Change, Hold, Continues, Begins, state_with_hold}
+use Rattle.dv_devs.specs.Behaviour.{external_of, transition_of, rank_or_fault, end_of_hold, next_of, bags_or_flood, are_few}
+use Rattle.dv_devs.specs.Behaviour.{reaction_with, reaction_after_output, emission, is_imminent, is_at, all_empty, kind_of}
 use Rattle.dv_devs.specs.Fits.{AllFit, AllKeep, Keeps}
 use Rattle.dv_devs.specs.Idle.{no_values, none_imminent, nothing_sent}
 use Rattle.dv_devs.specs.Inputs.{ArriveAlike}

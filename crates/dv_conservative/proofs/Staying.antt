@@ -1,5 +1,6 @@
 -- What is settled stays so when a packet is received.
-use Rattle.std.proofs.Common.{◌≡◌, ℕ, ◌<◌, ◌≤◌, Bool, true, false, cond, nat_eq, List, [], ◌∷◌, ◌++◌, append-nil, append_assoc, None, refl, sym, ap, ◌∙◌, subst, arith}
+use Rattle.std.proofs.Common.{◌≡◌, ℕ, ◌<◌, ◌≤◌, Bool, true, false, cond, nat_eq, List, [], ◌∷◌, ◌++◌, append-nil, append_assoc}
+use Rattle.std.proofs.Common.{None, refl, sym, ap, ◌∙◌, subst, arith}
 use Rattle.dv_time.specs.Time.{rank}
 use Rattle.dv_time.specs.declared.time.Time.{Time}
 use Rattle.dv_bag.specs.Bag.{Counts}
@@ -7,7 +8,9 @@ use Rattle.dv_devs.proofs.Runs.{emissions_agree}
 use Rattle.dv_conservative.specs.Events.{Event, deliveries_at, in_order}
 use Rattle.dv_conservative.specs.Flat.{network, numbers}
 use Rattle.dv_conservative.specs.Links.{carried, sent_of}
-use Rattle.dv_conservative.specs.Process.{AllMayCome, IsSettled, MayCome, Outgoing, Packet, Share, all_events, and_further, channel_clock, clock_after, end_rank, events_by, events_in, first_time, inputs_by, refusal_of, sent_on, with_packet}
+use Rattle.dv_conservative.specs.Process.{AllMayCome, IsSettled, MayCome, Outgoing, Packet, Share, all_events, and_further}
+use Rattle.dv_conservative.specs.Process.{channel_clock, clock_after, end_rank, events_by, events_in, first_time, inputs_by}
+use Rattle.dv_conservative.specs.Process.{refusal_of, sent_on, with_packet}
 use Rattle.dv_conservative.proofs.Later.{events_last, first, window_of}
 use Rattle.dv_conservative.proofs.Local.{same_number}
 

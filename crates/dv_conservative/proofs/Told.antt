@@ -1,5 +1,6 @@
 -- Events in order are told by what they deliver.
-use Rattle.std.proofs.Common.{◌≡◌, ◌⊎◌, inl, inr, ℕ, ◌+◌, Bool, true, false, ◌&&◌, cond, nat_eq, List, [], ◌∷◌, ℤ, refl, sym, ap, ◌∙◌, arith}
+use Rattle.std.proofs.Common.{◌≡◌, ◌⊎◌, inl, inr, ℕ, ◌+◌, Bool, true, false, ◌&&◌, cond, nat_eq, List, [], ◌∷◌, ℤ, refl, sym}
+use Rattle.std.proofs.Common.{ap, ◌∙◌, arith}
 use Rattle.std.specs.Ordering.{is_eq, ordering_reverse, ordering_then}
 use Rattle.std.specs.declared.cmp.Ordering.{Ordering}
 use Rattle.std.specs.declared.cmp.Ordering.TheVariants.{Less, Equal, Greater}
@@ -12,7 +13,8 @@ use Rattle.dv_bag.specs.Bag.{IsBag, capped, count_of, with_copies}
 use Rattle.dv_bag.proofs.Monoid.{count_with_other, count_with_same}
 use Rattle.dv_bag.proofs.Pairs.{with_copies_bag}
 use Rattle.dv_conservative.specs.Links.{Delivery, delivered}
-use Rattle.dv_conservative.specs.Events.{AllHaveCopies, AllOfRun, AreInOrder, AreInOrderAfter, DeliverTheSame, Event, deliveries_at, delivery_cmp, delivery_of, event_cmp, same_time}
+use Rattle.dv_conservative.specs.Events.{AllHaveCopies, AllOfRun, AreInOrder, AreInOrderAfter, DeliverTheSame, Event}
+use Rattle.dv_conservative.specs.Events.{deliveries_at, delivery_cmp, delivery_of, event_cmp, same_time}
 use Rattle.dv_conservative.proofs.Order.{delivery_tied, delivery_total, event_total, time_tied, time_total}
 use Rattle.dv_conservative.proofs.Windows.{itself, same_number}
 

@@ -1,5 +1,6 @@
 -- What a turn may do is a step of the world; and where it waits, nothing can change.
-use Rattle.std.proofs.Common.{◌≡◌, ◌⊎◌, inl, inr, ℕ, suc, zero, ◌+◌, ◌-◌, Bool, true, false, ◌&&◌, ◌||◌, cond, nat_eq, nat_lt, List, [], ◌∷◌, ◌++◌, map, Option, Some, None, refl, sym, ap, subst, ◌∙◌, arith}
+use Rattle.std.proofs.Common.{◌≡◌, ◌⊎◌, inl, inr, ℕ, suc, zero, ◌+◌, ◌-◌, Bool, true, false, ◌&&◌, ◌||◌, cond, nat_eq, nat_lt}
+use Rattle.std.proofs.Common.{List, [], ◌∷◌, ◌++◌, map, Option, Some, None, refl, sym, ap, subst, ◌∙◌, arith}
 use Rattle.std.specs.List.{filter, slice_get}
 use Rattle.std.proofs.lemmas.Bool.Decides.{nat_tests}
 use Rattle.dv_time.specs.Time.{rank, time_of}
@@ -12,9 +13,12 @@ use Rattle.dv_conservative.specs.Links.{Delivery}
 use Rattle.dv_conservative.specs.Process.{Outgoing, Packet, Share, end_rank, events_by, events_in, first_time, promise}
 use Rattle.dv_conservative.specs.Sound.{AllNumbers, AllReceivedNumbers, AllSound, IsJob, IsSound, IsSoundShare}
 use Rattle.dv_conservative.specs.True.{AreTrue, IsTruePacket, crossing_by}
-use Rattle.dv_conservative.specs.Turn.{AllMayBecome, AllPromised, AllStayOn, IsPromised, IsTurnOf, MayBecome, MayTurn, Moved, Waiting, Position, Prepares, Progresses, StaysOn, Turned, all_free, some_prepared, turned}
+use Rattle.dv_conservative.specs.Turn.{AllMayBecome, AllPromised, AllStayOn, IsPromised, IsTurnOf, MayBecome, MayTurn, Moved}
+use Rattle.dv_conservative.specs.Turn.{Waiting, Position, Prepares, Progresses, StaysOn, Turned, all_free, some_prepared}
+use Rattle.dv_conservative.specs.Turn.{turned}
 use Rattle.dv_conservative.specs.Turn
-use Rattle.dv_conservative.specs.World.{Channel, IsPreparedOn, IsTurn, Job, LinkState, StaysBeside, World, incoming_from, outgoing_on, owned, position_in, received_in, share_of}
+use Rattle.dv_conservative.specs.World.{Channel, IsPreparedOn, IsTurn, Job, LinkState, StaysBeside, World, incoming_from}
+use Rattle.dv_conservative.specs.World.{outgoing_on, owned, position_in, received_in, share_of}
 use Rattle.dv_conservative.proofs.Crossing.{crossing_numbers}
 use Rattle.dv_conservative.proofs.Holding.{Holds, received_true}
 use Rattle.dv_conservative.proofs.Lists.{became_of}

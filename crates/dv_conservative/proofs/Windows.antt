@@ -1,5 +1,6 @@
 -- The events of a window, rank by rank.
-use Rattle.std.proofs.Common.{◌≡◌, inl, inr, ℕ, suc, zero, ◌+◌, ◌-◌, ◌*◌, ◌<◌, ◌≤◌, Bool, true, false, ◌&&◌, cond, nat_eq, List, [], ◌∷◌, ◌++◌, append-nil, map, refl, sym, ap, ◌∙◌, subst, arith}
+use Rattle.std.proofs.Common.{◌≡◌, inl, inr, ℕ, suc, zero, ◌+◌, ◌-◌, ◌*◌, ◌<◌, ◌≤◌, Bool, true, false, ◌&&◌, cond, nat_eq, List}
+use Rattle.std.proofs.Common.{[], ◌∷◌, ◌++◌, append-nil, map, refl, sym, ap, ◌∙◌, subst, arith}
 use Rattle.std.specs.Ordering.{ordering_then}
 use Rattle.std.specs.declared.cmp.Ordering.{Ordering}
 use Rattle.std.specs.declared.cmp.Ordering.TheVariants.{Less, Equal}
@@ -11,7 +12,8 @@ use Rattle.dv_time.specs.declared.time.Time.{Time}
 use Rattle.dv_devs.proofs.Cuts.{ranks_before}
 use Rattle.dv_devs.proofs.NextTimes.{rank_at_time}
 use Rattle.dv_conservative.specs.Links.{Delivery}
-use Rattle.dv_conservative.specs.Events.{AllHaveCopies, AreInOrder, AreInOrderAfter, Event, deliveries_at, delivery_cmp, delivery_of, event_cmp, event_of, events_between, events_from, in_order, same_time}
+use Rattle.dv_conservative.specs.Events.{AllHaveCopies, AreInOrder, AreInOrderAfter, Event, deliveries_at, delivery_cmp}
+use Rattle.dv_conservative.specs.Events.{delivery_of, event_cmp, event_of, events_between, events_from, in_order, same_time}
 use Rattle.dv_conservative.proofs.Order.{Follow, HaveCopies, Ordered, copies_of, order_of, time_total}
 
 -- times of ranks

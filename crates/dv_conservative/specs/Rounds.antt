@@ -1,7 +1,8 @@
 -- Rounds: a turn for each process in order, and then for each link one put and one take.
 use Rattle.std.specs.Prelude.{◌≡◌, ℕ, zero, suc, ◌<◌, List, [], ◌∷◌, ◌++◌}
 use Rattle.dv_conservative.specs.Turn.{Progresses}
-use Rattle.dv_conservative.specs.World.{Channel, IsStep, Job, Reply, Step, World, Turn, Put, Take, Done, Memory, position_in, received_in, share_of}
+use Rattle.dv_conservative.specs.World.{Channel, IsStep, Job, Reply, Step, World, Turn, Put, Take, Done, Memory, position_in}
+use Rattle.dv_conservative.specs.World.{received_in, share_of}
 
 -- the turns of so many processes from one on
 abbrev pub turns_from : ℕ → ℕ → List Step

@@ -1,6 +1,7 @@
 -- What is asked of a model that is run in parts: numbers of the language, states that fit, links that lead to ports, and a link
 -- between processes wherever one between components crosses.
-use Rattle.std.specs.Prelude.{◌≡◌, ℕ, zero, suc, Bool, true, false, not, ◌||◌, ◌&&◌, nat_eq, IsTrue, IsFalse, IfOk, List, [], ◌∷◌, Option, None}
+use Rattle.std.specs.Prelude.{◌≡◌, ℕ, zero, suc, Bool, true, false, not, ◌||◌, ◌&&◌, nat_eq, IsTrue, IsFalse, IfOk, List, []}
+use Rattle.std.specs.Prelude.{◌∷◌, Option, None}
 use Rattle.std.specs.List.{list_all}
 use Rattle.dv_bag.specs.Bag.{Counts, is_number}
 use Rattle.dv_bag.specs.declared.state.State.{State}

@@ -1,5 +1,6 @@
 -- What a turn of a process may do, and what it must do.
-use Rattle.std.specs.Prelude.{◌≡◌, ℕ, suc, ◌<◌, ◌≤◌, min, ◌⊎◌, Bool, true, false, ◌&&◌, ◌||◌, nat_eq, nat_lt, if◌then◌else◌, is_some, is_none, List, [], ◌∷◌, Option, Some, None}
+use Rattle.std.specs.Prelude.{◌≡◌, ℕ, suc, ◌<◌, ◌≤◌, min, ◌⊎◌, Bool, true, false, ◌&&◌, ◌||◌, nat_eq, nat_lt, if◌then◌else◌}
+use Rattle.std.specs.Prelude.{is_some, is_none, List, [], ◌∷◌, Option, Some, None}
 use Rattle.dv_time.specs.Time.{rank}
 use Rattle.dv_time.specs.declared.time.Time.{Time}
 use Rattle.dv_conservative.specs.Process.{IsWithin, Outgoing, Packet, Share, end_rank, events_by, least_clock, packet_of, promise}

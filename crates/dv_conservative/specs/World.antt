@@ -1,11 +1,13 @@
 -- Processes that exchange packets over links, and what may happen to them in any order.
-use Rattle.std.specs.Prelude.{◌≡◌, ℕ, suc, ◌<◌, ◌≤◌, ◌⊎◌, Bool, true, false, nat_eq, nat_lt, if◌then◌else◌, List, [], ◌∷◌, ◌++◌, length, slice_get, Option, Some, None}
+use Rattle.std.specs.Prelude.{◌≡◌, ℕ, suc, ◌<◌, ◌≤◌, ◌⊎◌, Bool, true, false, nat_eq, nat_lt, if◌then◌else◌, List, [], ◌∷◌, ◌++◌}
+use Rattle.std.specs.Prelude.{length, slice_get, Option, Some, None}
 use Rattle.dv_time.specs.Time.{rank}
 use Rattle.dv_time.specs.declared.time.Time.{Time}
 use Rattle.dv_bag.specs.Bag.{Counts}
 use Rattle.dv_conservative.specs.Flat.{Flat, share}
 use Rattle.dv_conservative.specs.Links.{links_between}
-use Rattle.dv_conservative.specs.Process.{IsSettled, IsWithin, Outgoing, Packet, Share, clock_after, events_by, first_time, least_clock, packet_of}
+use Rattle.dv_conservative.specs.Process.{IsSettled, IsWithin, Outgoing, Packet, Share, clock_after, events_by, first_time}
+use Rattle.dv_conservative.specs.Process.{least_clock, packet_of}
 use Rattle.dv_conservative.specs.Turn.{Position}
 
 -- the ends of a link between processes

@@ -19,9 +19,11 @@ pub fn alike_shares_run_alike()
         → part_by s events n ≡ part_by t events n }
     ensures sent { (s t : Share) (events : ℕ → List Event) (out : Outgoing) (n : ℕ) → AreAlike s t
         → sent_on s events out n ≡ sent_on t events out n }
-    ensures packet { (s t : Share) (events : ℕ → List Event) (out : Outgoing) (from upto : Time) → AreAlike s t
+    ensures packet { (s t : Share) (events : ℕ → List Event) (out : Outgoing) (from upto : Time)
+        → AreAlike s t
         → packet_of s events out from upto ≡ packet_of t events out from upto }
-    ensures settled { (s t : Share) (received : ℕ → List Packet) (out : Outgoing) (upto : Time) → AreAlike s t
+    ensures settled { (s t : Share) (received : ℕ → List Packet) (out : Outgoing) (upto : Time)
+        → AreAlike s t
         → IsSettled s received out upto → IsSettled t received out upto }
     ensures promise { (s t : Share) (received : ℕ → List Packet) (k : ℕ) → AreAlike s t
         → promise s received k ≡ promise t received k }

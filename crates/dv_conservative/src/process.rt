@@ -5,7 +5,9 @@ ghost use Rattle.dv_bag.specs.declared.state.State.{State};
 ghost use Rattle.dv_time.specs.Time.{rank};
 ghost use Rattle.dv_time.specs.declared.time.Time.{Time};
 ghost use Rattle.dv_conservative.specs.Events.{in_order};
-ghost use Rattle.dv_conservative.specs.Process.{IsSettled, MayCome, Outgoing, Packet, Share, brings, components_by, end_rank, events_by, known_until, least_clock, part_by, promise, refusal_of, sent_on, with_packet};
+ghost use Rattle.dv_conservative.specs.Process.{IsSettled, MayCome, Outgoing, Packet, Share, brings, components_by, end_rank};
+ghost use Rattle.dv_conservative.specs.Process.{events_by, known_until, least_clock, part_by, promise, refusal_of, sent_on};
+ghost use Rattle.dv_conservative.specs.Process.{with_packet};
 ghost use Rattle.dv_conservative.specs.Sound.{AllReceivedNumbers, IsSoundShare};
 
 /// Promise: what a process sends before its promise is settled by what it received, true or not. A promise is later than

@@ -8,7 +8,8 @@ ghost use Rattle.dv_devs.specs.Rows.{at, counter, no_input, one, outer_line, tra
 ghost use Rattle.dv_conservative.specs.Events.{events_between};
 ghost use Rattle.dv_conservative.specs.Flat.{whole};
 ghost use Rattle.dv_conservative.specs.Process.{P1, P2, P3, P4, events_by, packet_of, part_by, promise, refusal_of};
-ghost use Rattle.dv_conservative.specs.Rows.{answer_to, clock_and_cell, event_at, nothing_received, packet, received_one, relays, twice_linked, two_relays};
+ghost use Rattle.dv_conservative.specs.Rows.{answer_to, clock_and_cell, event_at, nothing_received, packet, received_one};
+ghost use Rattle.dv_conservative.specs.Rows.{relays, twice_linked, two_relays};
 ghost use Rattle.dv_conservative.specs.Sound.{IsJob};
 ghost use Rattle.dv_conservative.specs.True.{crossing_by};
 ghost use Rattle.dv_conservative.specs.World.{outgoing_on, share_of};

@@ -5,7 +5,8 @@ ghost use Rattle.dv_bag.specs.declared.state.State.{State};
 ghost use Rattle.dv_conservative.specs.Process.{Packet, Share};
 ghost use Rattle.dv_conservative.specs.Sound.{IsJob};
 ghost use Rattle.dv_conservative.specs.Turn.{AllStayOn, IsTurnOf, MayTurn, Position, Turned, Waiting, turned};
-ghost use Rattle.dv_conservative.specs.World.{IsRun, IsTurn, Job, Reply, StaysBeside, Step, World, new_world, position_in, received_in, share_of};
+ghost use Rattle.dv_conservative.specs.World.{IsRun, IsTurn, Job, Reply, StaysBeside, Step, World, new_world, position_in};
+ghost use Rattle.dv_conservative.specs.World.{received_in, share_of};
 
 /// What a turn may do is a step of the world, in every world that steps lead to: what it promises is settled.
 pub fn a_turn_is_a_step()

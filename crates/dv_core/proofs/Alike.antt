@@ -8,7 +8,8 @@ use Rattle.dv_devs.specs.Network.{components_at, trace_before}
 use Rattle.dv_conservative.specs.Events.{Event, deliveries_at, events_between}
 use Rattle.dv_conservative.specs.Flat.{network, sends_by}
 use Rattle.dv_conservative.specs.Links.{Delivery}
-use Rattle.dv_conservative.specs.Process.{Outgoing, Packet, Share, all_events, at_most, channel_clock, end_rank, events_by, events_in, first_from, least_clock, least_of, packet_of, part_by, promise, refusal_of}
+use Rattle.dv_conservative.specs.Process.{Outgoing, Packet, Share, all_events, at_most, channel_clock, end_rank, events_by}
+use Rattle.dv_conservative.specs.Process.{events_in, first_from, least_clock, least_of, packet_of, part_by, promise, refusal_of}
 use Rattle.dv_conservative.specs.Promise.{foreseen}
 use Rattle.dv_conservative.specs.Turn.{AllMayBecome, AllPromised, AllStayOn, IsPromised, IsTurnOf, MayBecome, Position, Prepares, StaysOn}
 

@@ -1,5 +1,6 @@
 -- What the code does to a world, as steps of the theory.
-use Rattle.std.proofs.Common.{◌≡◌, ℕ, ◌^◌, ◌<◌, ◌≤◌, Bool, true, false, if◌then◌else◌, nat_lt, List, [], ◌∷◌, ◌++◌, length, map, get_or, Option, Some, None, refl, sym, ap, subst, ◌∙◌, arith}
+use Rattle.std.proofs.Common.{◌≡◌, ℕ, ◌^◌, ◌<◌, ◌≤◌, Bool, true, false, if◌then◌else◌, nat_lt, List, [], ◌∷◌, ◌++◌, length, map}
+use Rattle.std.proofs.Common.{get_or, Option, Some, None, refl, sym, ap, subst, ◌∙◌, arith}
 use Rattle.std.specs.List.{slice_get}
 use Rattle.std.proofs.Math.ListN.{set}
 use Rattle.std.proofs.lemmas.List.{length-map, map-append}
@@ -7,7 +8,9 @@ use Rattle.std.proofs.lemmas.Option.{slice_get-map, slice_get_read, slice_get_wi
 use Rattle.std.specs.Option.{option_map}
 use Rattle.std.proofs.lemmas.Bool.Decides.{nat_tests}
 use Rattle.dv_conservative.specs.Rounds.{Progressed}
-use Rattle.dv_conservative.specs.World.{Channel, IsStep, Job, LinkState, World, new_world, of_process, put_reply, received_in, refusal, share_of, take_reply, Done, Empty, Full, Memory, Refused, Stopped, Turn, Put, Take, Stop}
+use Rattle.dv_conservative.specs.World.{Channel, IsStep, Job, LinkState, World, new_world, of_process, put_reply, received_in}
+use Rattle.dv_conservative.specs.World.{refusal, share_of, take_reply, Done, Empty, Full, Memory, Refused, Stopped, Turn, Put}
+use Rattle.dv_conservative.specs.World.{Take, Stop}
 use Rattle.dv_conservative.specs.World as theory
 use Rattle.dv_proc.specs.Channels.{meant_channel}
 use Rattle.dv_core.specs.Answers.{meant_reply, meant_step}
@@ -38,7 +41,8 @@ use Rattle.dv_conservative.specs.Turn.{Turned}
 use Rattle.dv_core.specs.declared.step.Reply.{Reply}
 use Rattle.dv_core.specs.declared.state.WorldState.{WorldState}
 use Rattle.dv_core.proofs.Lookups.{map_set, set_each, set_stays}
-use Rattle.dv_core.proofs.Moves.{front_link, put_moves, put_stands, stop_stands, stop_stops, take_moves, take_stands, with_both, with_stopped}
+use Rattle.dv_core.proofs.Moves.{front_link, put_moves, put_stands, stop_stands, stop_stops, take_moves, take_stands, with_both}
+use Rattle.dv_core.proofs.Moves.{with_stopped}
 use Rattle.dv_core.proofs.Refusals.{has_room, is_full, nothing_queued, nothing_stands, put_if, some_queued, take_if}
 use Rattle.dv_core.proofs.Standing.{link_is, reached_by}
 use Rattle.dv_core.proofs.Turns.{is_granted, is_refused, turned_progress, turned_stands, turned_step, with_state}

@@ -1,5 +1,6 @@
 -- Rounds, runs and the headline.
-use Rattle.std.proofs.Common.{◌≡◌, inl, inr, ℕ, zero, suc, ◌+◌, ◌-◌, ◌<◌, ◌≤◌, List, [], ◌∷◌, ◌++◌, length, drop, Some, refl, sym, ap, subst, ◌∙◌, arith}
+use Rattle.std.proofs.Common.{◌≡◌, inl, inr, ℕ, zero, suc, ◌+◌, ◌-◌, ◌<◌, ◌≤◌, List, [], ◌∷◌, ◌++◌, length, drop, Some, refl}
+use Rattle.std.proofs.Common.{sym, ap, subst, ◌∙◌, arith}
 use Rattle.std.specs.List.{slice_get}
 use Rattle.std.proofs.lemmas.List.{length-map}
 use Rattle.std.proofs.lemmas.Option.{slice_get_within}
@@ -16,7 +17,8 @@ use Rattle.dv_conservative.proofs.Wholes.{all_united}
 use Rattle.dv_conservative.specs.Flat.{whole}
 use Rattle.dv_conservative.specs.Process.{IsWithin, events_by, least_clock, part_by}
 use Rattle.dv_conservative.specs.Rounds.{AllHaveSources, AreRounds, HadMemory, Progressed, moves_from, turns_from}
-use Rattle.dv_conservative.specs.World.{Channel, IsRun, IsStep, Job, World, Put, Take, Turn, all_of, new_world, owned, received_in, share_of}
+use Rattle.dv_conservative.specs.World.{Channel, IsRun, IsStep, Job, World, Put, Take, Turn, all_of, new_world, owned}
+use Rattle.dv_conservative.specs.World.{received_in, share_of}
 use Rattle.dv_conservative.specs.World as theory
 use Rattle.dv_conservative.proofs.SameRuns.{same_limit, same_part}
 use Rattle.dv_conservative.proofs.Holding.{Holds, holds_after, holds_at_first, part_now}
@@ -25,7 +27,8 @@ use Rattle.dv_proc.specs.Channels.{meant_channel}
 use Rattle.dv_core.specs.Answers.{meant_reply, meant_step}
 use Rattle.dv_core.specs.Kept.{Kept, clock_of, world_of}
 use Rattle.dv_core.specs.ProcessState.{ProcessState}
-use Rattle.dv_core.specs.Worlds.{AreTheTrace, HaveAllParts, IsAnswered, IsCut, IsTrueToModel, IsWhole, end_time, kept_by, outer_of, shown, with_replies}
+use Rattle.dv_core.specs.Worlds.{AreTheTrace, HaveAllParts, IsAnswered, IsCut, IsTrueToModel, IsWhole, end_time, kept_by}
+use Rattle.dv_core.specs.Worlds.{outer_of, shown, with_replies}
 use Rattle.dv_core.specs.Standing.{Continues, Stands}
 use Rattle.dv_core.specs.declared.step.Step.{Step}
 use Rattle.dv_core.specs.declared.step.Reply.{Reply}

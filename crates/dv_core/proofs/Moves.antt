@@ -8,7 +8,8 @@ use Rattle.dv_conservative.specs.Alike.{AreAlike}
 use Rattle.dv_conservative.specs.Process.{Packet, Share, clock_after, events_by, first_time, part_by, with_packet}
 use Rattle.dv_conservative.specs.True.{AreTrue, IsTruePacket}
 use Rattle.dv_conservative.specs.Turn.{Position}
-use Rattle.dv_conservative.specs.World.{Channel, IsMove, IsStop, Job, LinkState, World, after_put, after_take, all_of, new_world, packets_in, promised_on, share_of, took_front}
+use Rattle.dv_conservative.specs.World.{Channel, IsMove, IsStop, Job, LinkState, World, after_put, after_take, all_of}
+use Rattle.dv_conservative.specs.World.{new_world, packets_in, promised_on, share_of, took_front}
 use Rattle.dv_conservative.proofs.Holding.{holds_after, holds_at_first, put_all, took_all}
 use Rattle.dv_conservative.proofs.Local.{same_number}
 use Rattle.dv_core.specs.Kept.{Kept, clock_of, is_stopped, link_of, queue_of, received_of, standing_of, world_of}

@@ -1,9 +1,11 @@
 -- What refuses a put and a take.
-use Rattle.std.proofs.Common.{◌≡◌, ℕ, ◌<◌, ◌≤◌, Bool, true, false, if◌then◌else◌, nat_lt, List, [], ◌∷◌, length, Option, Some, None, ap, ◌∙◌, arith}
+use Rattle.std.proofs.Common.{◌≡◌, ℕ, ◌<◌, ◌≤◌, Bool, true, false, if◌then◌else◌, nat_lt, List, [], ◌∷◌, length, Option, Some}
+use Rattle.std.proofs.Common.{None, ap, ◌∙◌, arith}
 use Rattle.std.specs.List.{slice_get}
 use Rattle.std.proofs.lemmas.Bool.Decides.{nat_tests}
 use Rattle.dv_conservative.specs.Process.{Packet}
-use Rattle.dv_conservative.specs.World.{Channel, Job, LinkState, Reply, World, of_link, put_reply, refusal, take_reply, Full, Empty, Stopped, Put, Take}
+use Rattle.dv_conservative.specs.World.{Channel, Job, LinkState, Reply, World, of_link, put_reply, refusal, take_reply, Full}
+use Rattle.dv_conservative.specs.World.{Empty, Stopped, Put, Take}
 use Rattle.dv_core.specs.Kept.{Kept, is_stopped, link_of, queue_of, standing_of, world_of}
 use Rattle.dv_core.specs.ProcessState.{ProcessState}
 use Rattle.dv_core.proofs.Standing.{link_is}

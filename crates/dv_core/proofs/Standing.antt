@@ -1,10 +1,12 @@
 -- How the state of a process agrees with the world.
-use Rattle.std.proofs.Common.{◌≡◌, ℕ, suc, ◌+◌, Bool, true, false, cond, nat_eq, List, [], ◌∷◌, ◌++◌, Option, Some, refl, sym, ap, subst, ◌∙◌, arith}
+use Rattle.std.proofs.Common.{◌≡◌, ℕ, suc, ◌+◌, Bool, true, false, cond, nat_eq, List, [], ◌∷◌, ◌++◌, Option, Some, refl, sym}
+use Rattle.std.proofs.Common.{ap, subst, ◌∙◌, arith}
 use Rattle.std.specs.List.{slice_get}
 use Rattle.dv_time.specs.declared.time.Time.{Time}
 use Rattle.dv_conservative.specs.Process.{Packet, clock_after}
 use Rattle.dv_conservative.specs.Turn.{AllStayOn, Position}
-use Rattle.dv_conservative.specs.World.{Channel, IsRun, IsStep, Job, LinkState, Reply, Step, World, incoming_from, new_world, outgoing_from, outgoing_on, position_in, promised_on, received_in}
+use Rattle.dv_conservative.specs.World.{Channel, IsRun, IsStep, Job, LinkState, Reply, Step, World, incoming_from, new_world}
+use Rattle.dv_conservative.specs.World.{outgoing_from, outgoing_on, position_in, promised_on, received_in}
 use Rattle.dv_conservative.proofs.Local.{same_number}
 use Rattle.dv_core.specs.Kept.{Kept, link_of, received_of, standing_of, world_of}
 use Rattle.dv_core.specs.Standing.{IsReached}

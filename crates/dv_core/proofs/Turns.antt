@@ -1,12 +1,15 @@
 -- A turn of a process is a step of the world.
-use Rattle.std.proofs.Common.{◌≡◌, inl, inr, ℕ, ◌+◌, Bool, true, false, nat_eq, List, [], ◌∷◌, ◌++◌, Option, Some, None, refl, sym, ap, subst, ◌∙◌, arith, append_assoc}
+use Rattle.std.proofs.Common.{◌≡◌, inl, inr, ℕ, ◌+◌, Bool, true, false, nat_eq, List, [], ◌∷◌, ◌++◌, Option, Some, None, refl}
+use Rattle.std.proofs.Common.{sym, ap, subst, ◌∙◌, arith, append_assoc}
 use Rattle.std.specs.List.{slice_get}
 use Rattle.std.proofs.Math.ListN.{set, length-set}
 use Rattle.dv_conservative.specs.Alike.{AreAlike}
 use Rattle.dv_conservative.specs.Process.{Packet, Share, clock_after, events_by, first_time, packet_of}
 use Rattle.dv_conservative.specs.Rounds.{Progressed}
 use Rattle.dv_conservative.specs.Turn.{IsTurnOf, MayBecome}
-use Rattle.dv_conservative.specs.World.{Channel, IsStep, IsTurn, Job, LinkState, Reply, StaysBeside, Step, World, Answers, AnswersBy, new_world, of_process, outgoing_on, position_in, promised_on, received_in, refusal, share_of, Done, Turn}
+use Rattle.dv_conservative.specs.World.{Channel, IsStep, IsTurn, Job, LinkState, Reply, StaysBeside, Step, World, Answers}
+use Rattle.dv_conservative.specs.World.{AnswersBy, new_world, of_process, outgoing_on, position_in, promised_on, received_in}
+use Rattle.dv_conservative.specs.World.{refusal, share_of, Done, Turn}
 use Rattle.dv_conservative.proofs.SameRuns.{same_turn}
 use Rattle.dv_conservative.proofs.Holding.{holds_after, holds_at_first}
 use Rattle.dv_conservative.proofs.Lists.{became_of}

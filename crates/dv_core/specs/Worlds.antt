@@ -80,7 +80,8 @@ with_replies [] rs = []
 with_replies (s ∷ ss) [] = []
 with_replies (s ∷ ss) (r ∷ rs) = (meant_step s, meant_reply r) ∷ with_replies ss rs
 
--- The headline: all processes are there; every packet that stands, is on its way or was received is true, and the windows of each link join from the start;
+-- The headline: all processes are there; every packet that stands, is on its way or was received is true, and the
+-- windows of each link join from the start;
 -- no clock passes a channel clock or the end; and each process has committed exactly its part of the whole run before its clock.
 pub record IsTrueToModel (job : Job) (k : Kept) : Type 0 where
   pub count : length k.states ≡ job.processes

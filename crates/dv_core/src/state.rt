@@ -1,6 +1,7 @@
 //! What a world keeps, and what steps do to it.
 
-ghost use Rattle.std.specs.Prelude.{◌≡◌, ◌≢◌, ◌+◌, ◌^◌, ◌≤◌, ◌<◌, ℕ, ◌↔◌, IsTrue, IfOk, OnErr, OnOk, map, [], length, replicate, slice_get, Some, vec_len, true, false};
+ghost use Rattle.std.specs.Prelude.{◌≡◌, ◌≢◌, ◌+◌, ◌^◌, ◌≤◌, ◌<◌, ℕ, ◌↔◌, IsTrue, IfOk, OnErr, OnOk, map, [], length};
+ghost use Rattle.std.specs.Prelude.{replicate, slice_get, Some, vec_len, true, false};
 ghost use Rattle.dv_time.specs.Time.{end_of};
 ghost use Rattle.dv_conservative.specs.Rounds.{IsDriven, moves_from, round};
 ghost use Rattle.dv_conservative.specs.World.{IsRun, new_world};

@@ -31,7 +31,8 @@ impl<J: PlannedJob, P: LogicalProcess> World<J, P> {
     ghost use Rattle.std.specs.Prelude.{◌≡◌, ◌≢◌, ◌+◌, ◌≤◌, ◌<◌, ℕ, ◌↔◌, IsTrue, IfOk, OnErr, map, length, slice_get, Some, vec_len};
     ghost use Rattle.dv_time.specs.Time.{end_of};
     ghost use Rattle.dv_conservative.specs.World.{IsRun, new_world};
-    ghost use Rattle.dv_core.specs.Worlds.{AreMadeFor, AreTheTrace, EndsAs, IsAnswered, IsTrueToModel, IsWhole, kept_by, shown, with_replies};
+    ghost use Rattle.dv_core.specs.Worlds.{AreMadeFor, AreTheTrace, EndsAs, IsAnswered, IsTrueToModel, IsWhole, kept_by, shown};
+    ghost use Rattle.dv_core.specs.Worlds.{with_replies};
     ghost use Rattle.dv_core.specs.declared.step.Ended.TheVariants as ended;
 
     /// A new world: no packet is on its way, and nobody is stopped. The links are in the order of their numbers, and so many

@@ -11,11 +11,13 @@ ghost use Rattle.dv_cut.specs.Cuts.{CutOf, between, entrances_to, exits_from};
 
 /// What a cut has of a process is what the process's share of the job has: the job's model, cut to its owners.
 pub fn cuts_are_shares()
-    ensures links { (job : Job) (c : CutOf) (p : ℕ) → job.owner ≡ owner_of c.grouping → job.flat.links ≡ c.direct
+    ensures links { (job : Job) (c : CutOf) (p : ℕ) → job.owner ≡ owner_of c.grouping
+        → job.flat.links ≡ c.direct
         → (share_of job p).flat.links ≡ between c p p }
     ensures entrances { (job : Job) (c : CutOf) (p : ℕ) → job.owner ≡ owner_of c.grouping
         → job.flat.entrances ≡ c.entrances → (share_of job p).flat.entrances ≡ entrances_to c p }
-    ensures exits { (job : Job) (c : CutOf) (p : ℕ) → job.owner ≡ owner_of c.grouping → job.flat.exits ≡ c.exits
+    ensures exits { (job : Job) (c : CutOf) (p : ℕ) → job.owner ≡ owner_of c.grouping
+        → job.flat.exits ≡ c.exits
         → (share_of job p).flat.exits ≡ exits_from c p }
 {}
 

@@ -1,5 +1,6 @@
 -- Traces and parts, cut at a time.
-use Rattle.std.proofs.Common.{◌≡◌, inl, inr, ℕ, suc, zero, ◌+◌, ◌-◌, ◌<◌, ◌≤◌, Bool, true, false, not, cond, nat_eq, List, [], ◌∷◌, ◌++◌, map, Option, Some, None, refl, sym, ap, subst, ◌∙◌, arith}
+use Rattle.std.proofs.Common.{◌≡◌, inl, inr, ℕ, suc, zero, ◌+◌, ◌-◌, ◌<◌, ◌≤◌, Bool, true, false, not, cond, nat_eq, List, []}
+use Rattle.std.proofs.Common.{◌∷◌, ◌++◌, map, Option, Some, None, refl, sym, ap, subst, ◌∙◌, arith}
 use Rattle.std.specs.List.{All, filter, range_with_len}
 use Rattle.std.specs.Ordering.{is_lt}
 use Rattle.std.specs.declared.cmp.Ordering.TheVariants.{Less}
@@ -11,7 +12,8 @@ use Rattle.dv_bag.specs.Bag.{Counts, size}
 use Rattle.dv_bag.specs.Part.{PartOf, before, nothing, joined, since}
 use Rattle.dv_devs.specs.Behaviour.{Component, Reaction}
 use Rattle.dv_devs.specs.Cuts.{IsAllAt, IsAllBefore, RiseFrom, all_between}
-use Rattle.dv_devs.specs.Network.{Network, all_before, components_at, emissions, emissions_at, entries_by, entry_of, instant, line_of, outer_from, part_of_instant, trace_at, trace_before}
+use Rattle.dv_devs.specs.Network.{Network, all_before, components_at, emissions, emissions_at, entries_by, entry_of, instant}
+use Rattle.dv_devs.specs.Network.{line_of, outer_from, part_of_instant, trace_at, trace_before}
 use Rattle.dv_devs.specs.Parts.{part_at, part_before, sent_among}
 use Rattle.dv_bag.specs.declared.entry.Entry.{Entry}
 use Rattle.dv_bag.specs.declared.entry.Outer.{Outer}

@@ -1,12 +1,18 @@
 -- States stay fit, and behaviours that agree at them run alike.
-use Rattle.std.proofs.Common.{◌≡◌, ℕ, suc, zero, ◌+◌, ◌-◌, ◌<◌, Bool, true, false, not, ◌&&◌, ◌||◌, cond, List, [], ◌∷◌, map, Option, Some, None, Result, Ok, Err, IfOk, IfSome, IsTrue, refl, ap, ◌∙◌, arith}
+use Rattle.std.proofs.Common.{◌≡◌, ℕ, suc, zero, ◌+◌, ◌-◌, ◌<◌, Bool, true, false, not, ◌&&◌, ◌||◌, cond, List, [], ◌∷◌, map}
+use Rattle.std.proofs.Common.{Option, Some, None, Result, Ok, Err, IfOk, IfSome, IsTrue, refl, ap, ◌∙◌, arith}
 use Rattle.std.specs.List.{filter, list_all}
 use Rattle.std.proofs.lemmas.Bool.{and_parts}
 use Rattle.dv_time.specs.Time.{tick_of}
 use Rattle.dv_bag.specs.Bag.{Counts}
-use Rattle.dv_devs.specs.Behaviour.{Behaviour, Component, Reaction, Change, Hold, Continues, Begins, state_with_hold, internal_of, external_of, confluent_of, transition_of, next_of, bags_or_flood, reaction_with, reaction_after_output, reaction, emission, is_imminent, all_empty, kind_of, are_few}
+use Rattle.dv_devs.specs.Behaviour.{Behaviour, Component, Reaction, Change, Hold, Continues, Begins, state_with_hold}
+use Rattle.dv_devs.specs.Behaviour.{internal_of, external_of, confluent_of, transition_of, next_of, bags_or_flood}
+use Rattle.dv_devs.specs.Behaviour.{reaction_with, reaction_after_output, reaction, emission, is_imminent, all_empty, kind_of}
+use Rattle.dv_devs.specs.Behaviour.{are_few}
 use Rattle.dv_bag.specs.Outcome.{◌>>=◌}
-use Rattle.dv_devs.specs.Network.{Network, reactions, instant, components_after, components_at, emissions, emissions_at, first_bags, other_bags, sent_by, part_of_instant, entries_by, outer_from, trace_at, trace_before}
+use Rattle.dv_devs.specs.Network.{Network, reactions, instant, components_after, components_at, emissions, emissions_at}
+use Rattle.dv_devs.specs.Network.{first_bags, other_bags, sent_by, part_of_instant, entries_by, outer_from, trace_at}
+use Rattle.dv_devs.specs.Network.{trace_before}
 use Rattle.dv_bag.specs.declared.fault.Fault.{Fault}
 use Rattle.dv_bag.specs.declared.fault.Fault.TheVariants.{Flood}
 use Rattle.dv_bag.specs.declared.state.State.{State}

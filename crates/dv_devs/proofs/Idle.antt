@@ -1,9 +1,11 @@
 -- Instants at which nothing happens.
-use Rattle.std.proofs.Common.{◌≡◌, ◌⊎◌, inl, inr, ℕ, ◌+◌, Bool, true, false, not, ◌&&◌, ◌||◌, cond, nat_eq, List, [], ◌∷◌, length, map, None, Result, Ok, Err, IsTrue, refl, sym, ap, ◌∙◌, arith}
+use Rattle.std.proofs.Common.{◌≡◌, ◌⊎◌, inl, inr, ℕ, ◌+◌, Bool, true, false, not, ◌&&◌, ◌||◌, cond, nat_eq, List, [], ◌∷◌}
+use Rattle.std.proofs.Common.{length, map, None, Result, Ok, Err, IsTrue, refl, sym, ap, ◌∙◌, arith}
 use Rattle.std.proofs.lemmas.Bool.{and_parts}
 use Rattle.dv_bag.specs.Bag.{Counts, size}
 use Rattle.dv_devs.specs.Behaviour.{Behaviour, Component, Reaction, reaction, emission, all_empty, is_imminent}
-use Rattle.dv_devs.specs.Network.{Network, sent_by, emissions, first_bags, other_bags, reactions, components_after, entries_by, outer_from, part_of_instant}
+use Rattle.dv_devs.specs.Network.{Network, sent_by, emissions, first_bags, other_bags, reactions, components_after, entries_by}
+use Rattle.dv_devs.specs.Network.{outer_from, part_of_instant}
 use Rattle.dv_devs.specs.Idle.{IsIdle, LeavesOnlyWhatIsSent, no_values, none_imminent, nothing_sent}
 use Rattle.dv_bag.specs.Part.{PartOf, nothing}
 use Rattle.dv_bag.specs.declared.fault.Fault.{Fault}

@@ -1,10 +1,15 @@
 -- Next times only rise, and a quiet component has none.
-use Rattle.std.proofs.Common.{◌≡◌, ◌⊎◌, inl, inr, ℕ, suc, zero, ◌+◌, ◌-◌, Bool, true, false, not, ◌&&◌, ◌||◌, cond, nat_lt, List, [], ◌∷◌, length, map, Option, Some, None, Result, Ok, Err, IfOk, IsTrue, refl, sym, ap, subst, ◌∙◌, arith}
+use Rattle.std.proofs.Common.{◌≡◌, ◌⊎◌, inl, inr, ℕ, suc, zero, ◌+◌, ◌-◌, Bool, true, false, not, ◌&&◌, ◌||◌, cond, nat_lt}
+use Rattle.std.proofs.Common.{List, [], ◌∷◌, length, map, Option, Some, None, Result, Ok, Err, IfOk, IsTrue, refl, sym, ap}
+use Rattle.std.proofs.Common.{subst, ◌∙◌, arith}
 use Rattle.std.proofs.lemmas.Bool.Decides.{nat_tests}
 use Rattle.dv_time.specs.Time.{IsOfRun, after, rank, tick_of, time_of}
 use Rattle.dv_time.specs.declared.time.Time.{Time}
 use Rattle.dv_bag.specs.Bag.{Counts}
-use Rattle.dv_devs.specs.Behaviour.{Behaviour, Component, Reaction, Change, Hold, Continues, Begins, state_with_hold, internal_of, external_of, confluent_of, transition_of, rank_or_fault, end_of_hold, next_of, bags_or_flood, reaction_with, reaction_after_output, reaction, emission, is_imminent, is_at, all_empty, kind_of}
+use Rattle.dv_devs.specs.Behaviour.{Behaviour, Component, Reaction, Change, Hold, Continues, Begins, state_with_hold}
+use Rattle.dv_devs.specs.Behaviour.{internal_of, external_of, confluent_of, transition_of, rank_or_fault, end_of_hold, next_of}
+use Rattle.dv_devs.specs.Behaviour.{bags_or_flood, reaction_with, reaction_after_output, reaction, emission, is_imminent, is_at}
+use Rattle.dv_devs.specs.Behaviour.{all_empty, kind_of}
 use Rattle.dv_devs.specs.Network.{Network, reactions, components_after, components_at, emissions, first_bags, other_bags}
 use Rattle.dv_devs.specs.NextTimes.{AllFrom, AllQuietForGood, IsFrom, IsReady, earlier, least_next}
 use Rattle.dv_bag.specs.declared.fault.Fault.{Fault}

@@ -5,7 +5,8 @@ use Rattle.dv_bag.specs.Bag.{Counts}
 use Rattle.dv_bag.specs.Part.{PartOf, joined}
 use Rattle.dv_devs.specs.Behaviour.{Reaction}
 use Rattle.dv_devs.specs.Inputs.{ArriveAlike}
-use Rattle.dv_devs.specs.Network.{Network, components_at, components_after, emissions, emissions_at, entries_by, outer_from, part_of_instant, reactions, trace_at, trace_before}
+use Rattle.dv_devs.specs.Network.{Network, components_at, components_after, emissions, emissions_at, entries_by, outer_from}
+use Rattle.dv_devs.specs.Network.{part_of_instant, reactions, trace_at, trace_before}
 
 module _ {I : Type 0} (limit : ℕ) (net : Network I) (i j : ℕ → I) where
   -- inputs that arrive alike before a rank

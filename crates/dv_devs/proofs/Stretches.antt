@@ -1,13 +1,17 @@
 -- Runs between one instant at which something happens and the next.
-use Rattle.std.proofs.Common.{◌≡◌, ◌⊎◌, inl, inr, ℕ, suc, zero, ◌<◌, ◌≤◌, Bool, true, false, not, ◌&&◌, ◌||◌, min, List, [], ◌∷◌, ◌++◌, length, slice_get, Option, Some, None, Result, Ok, Err, IsTrue, append-nil, refl, sym, ap, subst, ◌∙◌, arith}
+use Rattle.std.proofs.Common.{◌≡◌, ◌⊎◌, inl, inr, ℕ, suc, zero, ◌<◌, ◌≤◌, Bool, true, false, not, ◌&&◌, ◌||◌, min, List, []}
+use Rattle.std.proofs.Common.{◌∷◌, ◌++◌, length, slice_get, Option, Some, None, Result, Ok, Err, IsTrue, append-nil, refl, sym}
+use Rattle.std.proofs.Common.{ap, subst, ◌∙◌, arith}
 use Rattle.std.proofs.lemmas.Bool.{cases_lt}
 use Rattle.std.proofs.lemmas.Option.{none-some, same_Some}
 use Rattle.std.proofs.lemmas.List.Elements.{Contains-append_right}
 use Rattle.std.proofs.lemmas.Bool.Decides.{nat_tests}
 use Rattle.dv_bag.specs.Bag.{Counts}
-use Rattle.dv_devs.specs.Behaviour.{Behaviour, Component, reaction, reaction_after_output, emission, reaction_with, is_imminent, is_at, kind_of, bags_or_flood, all_empty, transition_of, next_of}
+use Rattle.dv_devs.specs.Behaviour.{Behaviour, Component, reaction, reaction_after_output, emission, reaction_with, is_imminent}
+use Rattle.dv_devs.specs.Behaviour.{is_at, kind_of, bags_or_flood, all_empty, transition_of, next_of}
 use Rattle.dv_bag.specs.Outcome.{◌>>=◌}
-use Rattle.dv_devs.specs.Network.{Network, reactions, components_after, components_at, trace_before, trace_at, part_of_instant, emissions, first_bags, other_bags, entry_of, entries_by}
+use Rattle.dv_devs.specs.Network.{Network, reactions, components_after, components_at, trace_before, trace_at, part_of_instant}
+use Rattle.dv_devs.specs.Network.{emissions, first_bags, other_bags, entry_of, entries_by}
 use Rattle.dv_bag.specs.Part.{PartOf, nothing, joined}
 use Rattle.dv_devs.specs.Idle.{none_imminent, IsIdle, BringsNothing, LeavesOnlyWhatIsSent}
 use Rattle.dv_devs.specs.NextTimes.{AllFrom, AllQuietForGood, HasEntry, IsFrom, IsReady, earlier, least_next}

@@ -1,7 +1,8 @@
 -- Atomic models, and what happens to one component at one instant.
 -- Parallel DEVS is that of Chow and Zeigler (1994) and of Zeigler, Praehofer and Kim (Theory of Modeling and Simulation, 2000);
 -- the hold that continues, the default confluent transition in whole ticks, the faults and the microstep limit are this project's.
-use Rattle.std.specs.Prelude.{ℕ, ◌-◌, Bool, true, false, not, ◌||◌, ◌&&◌, nat_eq, nat_le, if◌then◌else◌, List, [], Option, Some, None, Result, Ok, Err}
+use Rattle.std.specs.Prelude.{ℕ, ◌-◌, Bool, true, false, not, ◌||◌, ◌&&◌, nat_eq, nat_le, if◌then◌else◌, List, [], Option, Some}
+use Rattle.std.specs.Prelude.{None, Result, Ok, Err}
 use Rattle.std.specs.List.{list_all}
 use Rattle.dv_time.specs.Time.{after, rank, tick_of, time_of}
 use Rattle.dv_time.specs.declared.time.Time.{Time}

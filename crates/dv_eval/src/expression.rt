@@ -6,7 +6,8 @@ ghost use Rattle.dv_bag.specs.Bag.{total};
 ghost use Rattle.dv_bag.specs.Reading.{HoldsFew, bag_held_at, datum_of};
 ghost use Rattle.dv_syntax.specs.Trees.{expression_of};
 ghost use Rattle.dv_eval.specs.Contexts.{context_of, moment_of};
-ghost use Rattle.dv_eval.specs.Meaning.{bag_of_name, bag_received, call_result, datum_of_name, is_decided, meaning, number_of, operator_result, prefix_result, same, truth_of, value_of_name};
+ghost use Rattle.dv_eval.specs.Meaning.{bag_of_name, bag_received, call_result, datum_of_name, is_decided, meaning, number_of};
+ghost use Rattle.dv_eval.specs.Meaning.{operator_result, prefix_result, same, truth_of, value_of_name};
 ghost use Rattle.dv_bag.specs.Limits.{greatest_count};
 
 use crate::moment::{Context, Moment};

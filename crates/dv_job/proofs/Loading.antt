@@ -1,5 +1,6 @@
 -- What loading a text gives, step by step; and that a text has one answer.
-use Rattle.std.proofs.Common.{◌≡◌, ◌⊎◌, ℕ, List, Option, Some, None, Result, Err, ◌≤◌, ◌^◌, length, map, refl, ap, ◌∙◌, sym, subst, inl, inr, arith}
+use Rattle.std.proofs.Common.{◌≡◌, ◌⊎◌, ℕ, List, Option, Some, None, Result, Err, ◌≤◌, ◌^◌, length, map, refl, ap, ◌∙◌, sym}
+use Rattle.std.proofs.Common.{subst, inl, inr, arith}
 use Rattle.std.proofs.lemmas.List.{length-map}
 use Rattle.dv_lex.specs.declared.token.Token.{Token}
 use Rattle.dv_lex.specs.declared.error.LoadError.{LoadError}
@@ -48,14 +49,28 @@ linked (Some s) links is = let none : Some s ≡ None = is in cc
 pub unchecked : (e : LoadError) (text : List ℕ) (names : List (List ℕ)) (tokens : List Token) (f : FileTree) →
     IsTokensOf text names tokens → IsFileOf tokens f → IsAnswerTo f e → IsUnloaded e text
 unchecked (Refused r) text names tokens f lexed parsed refused =
-    inr (inr (record { names = names; tokens = tokens; file = f; lexed = lexed; parsed = parsed; refused = broken (refusal_of f) (link_refusal f) r refused }))
+    inr (inr (record {
+      names = names;
+      tokens = tokens;
+      file = f;
+      lexed = lexed;
+      parsed = parsed;
+      refused = broken (refusal_of f) (link_refusal f) r refused;
+    }))
 unchecked Memory text names tokens f lexed parsed refused = tt
 
 -- nor one that has too many links
 pub crowded : (e : LoadError) (text : List ℕ) (names : List (List ℕ)) (f : FileTree) → IsCheckedFileOf text names f →
     IsLinkAnswer f e → IsUnloaded e text
 crowded (Refused r) text names f c refused =
-    inr (inr (record { names = names; tokens = c.tokens; file = f; lexed = c.lexed; parsed = c.parsed; refused = linked (refusal_of f) (link_refusal f) c.checked ∙ refused }))
+    inr (inr (record {
+      names = names;
+      tokens = c.tokens;
+      file = f;
+      lexed = c.lexed;
+      parsed = c.parsed;
+      refused = linked (refusal_of f) (link_refusal f) c.checked ∙ refused;
+    }))
 crowded Memory text names f c refused = tt
 
 -- the error of a text that is not loaded is its answer, or want of memory
@@ -64,7 +79,8 @@ answered (Refused r) text refused = record { refusal = r; refused = refused; ans
 answered Memory text refused = tt
 
 -- what is checked stays so in a tree of the same file and names
-pub still_checked : {F : Type 0} (tree_of : F → FileTree) (text : List ℕ) (names others : List (List ℕ)) (f g : F) → g ≡ f → others ≡ names →
+pub still_checked : {F : Type 0} (tree_of : F → FileTree) (text : List ℕ) (names others : List (List ℕ)) (f g : F) → g ≡ f
+    → others ≡ names →
     IsCheckedFileOf text names (tree_of f) → IsCheckedFileOf text others (tree_of g)
 still_checked tree_of text names others f g same also c =
     subst (λ (ns : List (List ℕ)). IsCheckedFileOf text ns (tree_of g)) (sym also)
@@ -85,7 +101,8 @@ pub few_paths : {T : Type 0} (bytes : T → List ℕ) (paths : List T) (names : 
     map bytes paths ≡ paths_of names f → length paths ≤ 2 ^ 32
 few_paths bytes paths names f h e =
     let few = few_components f h in
-    let count = sym (length-map paths bytes) ∙ ap length e ∙ length-map (instances f) (λ (i : Instance). with_dots (texts_of names i.path)) in
+    let count = sym (length-map paths bytes) ∙ ap length e
+    ∙ length-map (instances f) (λ (i : Instance). with_dots (texts_of names i.path)) in
     omega (arith, few, count)
 
 -- ---- One answer, by the laws of tokens and of files
@@ -141,7 +158,8 @@ module _ (tokens_law : TokenLaws) (files_law : FileLaws) where
   one_refused text r other one two =
       same_in_option (file_refusal one.file) r other one.refused
       (subst (λ (f : FileTree). file_refusal f ≡ Some other)
-      (sym (same_file text one.names two.names one.tokens two.tokens one.file two.file one.lexed one.parsed two.lexed two.parsed)) two.refused)
+      (sym (same_file text one.names two.names one.tokens two.tokens one.file two.file one.lexed one.parsed two.lexed two.parsed))
+      two.refused)
 
   one_later : (text : List ℕ) (r other : Refusal) → HasNoFile text r ⊎ IsRefusedFile text r →
       HasNoFile text other ⊎ IsRefusedFile text other → r ≡ other
@@ -169,8 +187,11 @@ module _ (tokens_law : TokenLaws) (files_law : FileLaws) where
 
   pub one_model : (text : List ℕ) (names others : List (List ℕ)) (f g : FileTree) → IsModelOf text names f → IsModelOf text others g →
       (names ≡ others) × (f ≡ g)
-  one_model text names others f g one two =
-      ((tokens_law.one_list text names others one.tokens two.tokens one.lexed two.lexed).0, same_file text names others one.tokens two.tokens f g one.lexed one.parsed two.lexed two.parsed)
+  one_model text names others f g one two = (
+    (tokens_law.one_list text names others one.tokens two.tokens one.lexed two.lexed).0,
+    same_file text names others one.tokens
+        two.tokens f g one.lexed one.parsed two.lexed two.parsed,
+  )
 
   model_and_refusal : (text : List ℕ) (names : List (List ℕ)) (f : FileTree) (r : Refusal) → IsModelOf text names f →
       IsRefusedText text r → ⊥

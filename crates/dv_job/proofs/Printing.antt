@@ -39,7 +39,8 @@ abbrev pub AreByTime : Type 0
 AreByTime =
     (limit : ℕ) (net : Network (List Counts)) (inputs : ℕ → List Counts) (n : ℕ) → IsByTime (trace_before limit net inputs n)
 
-pub trace_by_time : (f : FileTree) (played : List Input) (h l : ℕ) (trace : PartOf) → AreByTime → trace ≡ trace_of f played h l → IsByTime trace
+pub trace_by_time : (f : FileTree) (played : List Input) (h l : ℕ) (trace : PartOf) → AreByTime → trace ≡ trace_of f played h l
+    → IsByTime trace
 trace_by_time f played h l trace are is = subst IsByTime (sym is) (are l (network_of l f) (outside f l played) (end_of l h))
 
 -- a model and its inputs, both read

@@ -1,5 +1,6 @@
 -- From what ran and what was written of it to what a run of bytes leaves.
-use Rattle.std.proofs.Common.{◌≡◌, ℕ, ◌<◌, ◌≤◌, Bool, true, false, if◌then◌else◌, List, [], ◌++◌, append-nil, length, Option, None, Some, Result, Ok, Err, IfOk, IfErr, refl, ap, ◌∙◌, sym, subst, inl, inr}
+use Rattle.std.proofs.Common.{◌≡◌, ℕ, ◌<◌, ◌≤◌, Bool, true, false, if◌then◌else◌, List, [], ◌++◌, append-nil, length, Option}
+use Rattle.std.proofs.Common.{None, Some, Result, Ok, Err, IfOk, IfErr, refl, ap, ◌∙◌, sym, subst, inl, inr}
 use Rattle.std.specs.Prelude.{OnOk}
 use Rattle.std.specs.Io.KnownBytes.{Appends, Keeps}
 use Rattle.dv_time.specs.Time.{end_of}
@@ -27,10 +28,12 @@ use Rattle.dv_text.specs.Names.{component_names, root_ports}
 use Rattle.dv_text.specs.Texts.{ComponentNames, ending_text, instants_text, part_text, partial_ending}
 use Rattle.dv_text.specs.Writing.{StopsShort, TakesFront}
 use Rattle.dv_text.proofs.Endings.{ending-some}
-use Rattle.dv_text.proofs.Taking.{Appends-append, AppendsBeginning-longer, AppendsBeginning-text, StopsShort-behind, StopsShort-from, StopsShort-longer}
+use Rattle.dv_text.proofs.Taking.{Appends-append, AppendsBeginning-longer, AppendsBeginning-text, StopsShort-behind}
+use Rattle.dv_text.proofs.Taking.{StopsShort-from, StopsShort-longer}
 use Rattle.dv_job.specs.Job.{IsModelOf, run_text}
 use Rattle.dv_job.specs.Planned.{AnswersPlan}
-use Rattle.dv_job.specs.Running.{EndsBy, EndsByWorkers, IsPlanned, IsTextOf, LeftByRun, PrintsCutAt, PrintsSome, PrintsWhole, ended_for, granted}
+use Rattle.dv_job.specs.Running.{EndsBy, EndsByWorkers, IsPlanned, IsTextOf, LeftByRun, PrintsCutAt, PrintsSome, PrintsWhole}
+use Rattle.dv_job.specs.Running.{ended_for, granted}
 use Rattle.dv_job.specs.Stepping.{AnswersSteps}
 use Rattle.dv_job.specs.Written.{IsUnwritten, end_text, ended_at}
 use Rattle.dv_job.specs.declared.ended.Why.{Why}
@@ -100,7 +103,8 @@ module _ (names : List (List ℕ)) (f : FileTree) (played : List Input) (groups 
       ports = root_ports names f
 
       more : List ℕ
-      more = part_text all ports (trace_between o.limit (network_of o.limit f) (outside f o.limit played) cut.upto (end_of o.limit o.horizon))
+      more = part_text all ports (trace_between o.limit (network_of o.limit f) (outside f o.limit played) cut.upto
+          (end_of o.limit o.horizon))
 
       short : PrintsSome model inputs partition o old new
       short =
@@ -193,7 +197,8 @@ module _ (names : List (List ℕ)) (f : FileTree) (played : List Input) (groups 
     ends_whole : (Ends : JobEnded → Type 0) → (PrintsWhole model inputs partition o old new ended.Whole → Ends ended.Whole)
         → (PrintsWhole model inputs partition o old new ended.Faulted → Ends ended.Faulted) → r.ended ≡ ran.Whole
         → Appends mid new (ending_text (text_end.Whole o.horizon)) → Ends (if r.faulted then ended.Faulted else ended.Whole)
-    ends_whole Ends well badly whole written = by_fault r.faulted (prints_whole whole (if r.faulted then ended.Faulted else ended.Whole) refl written)
+    ends_whole Ends well badly whole written =
+        by_fault r.faulted (prints_whole whole (if r.faulted then ended.Faulted else ended.Whole) refl written)
       where
         by_fault : (b : Bool) → PrintsWhole model inputs partition o old new (if b then ended.Faulted else ended.Whole)
             → Ends (if b then ended.Faulted else ended.Whole)

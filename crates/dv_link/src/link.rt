@@ -69,7 +69,8 @@ impl<N: OfJob> Link<N> {
     ) -> Result<(Self, SendPass, TakePass), AllocError>
         requires { 0 < capacity }
         ensures sender { IfOk result (λ r. IsSendPassOf r.0 r.1 × (sender r.1 ≡ new_sender link)) }
-        ensures receiver { IfOk result (λ r. IsTakePassOf r.0 r.2 × (receiver r.2 ≡ new_receiver link)) }
+        ensures receiver { IfOk result (λ r. IsTakePassOf r.0 r.2
+            × (receiver r.2 ≡ new_receiver link)) }
     {
         let (line, pass) = Line::<N>::ruled(alloc, capacity)?;
         let (send, take) = ends::<N, Brand>(&line, pass, link);

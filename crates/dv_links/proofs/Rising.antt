@@ -1,5 +1,6 @@
 -- The links of a text rise by the component that they lead from.
-use Rattle.std.proofs.Common.{◌≡◌, ℕ, zero, suc, ◌<◌, ◌≤◌, List, [], ◌∷◌, ◌++◌, length, map, get_or, refl, ap, sym, ◌∙◌, append_assoc, subst, arith}
+use Rattle.std.proofs.Common.{◌≡◌, ℕ, zero, suc, ◌<◌, ◌≤◌, List, [], ◌∷◌, ◌++◌, length, map, get_or, refl, ap, sym, ◌∙◌}
+use Rattle.std.proofs.Common.{append_assoc, subst, arith}
 use Rattle.std.specs.List.{AllByRecursion, cons_option, filter_map, flat_map, range_with_len}
 use Rattle.std.specs.List.Sorted.{IsNonDecreasingBy}
 use Rattle.std.proofs.lemmas.List.{get_or-map, length-map}
@@ -66,7 +67,8 @@ module _ {To : Type 0} (copies : ComponentPort → To → ℕ) (tos : List To) w
       all_append (λ l. sender l ≡ k) (links_from copies tos (port_at k p)) (flat_map (links_from copies tos) (map (port_at k) ps))
       (of_port k (port_at k p) tos refl) (of_ports k ps)
 
-  from_component : (k : ℕ) (count : AtomicTree → ℕ) (is : List Instance) → RiseFrom sender k (flat_map (links_from copies tos) (ports_from k count is))
+  from_component : (k : ℕ) (count : AtomicTree → ℕ) (is : List Instance)
+      → RiseFrom sender k (flat_map (links_from copies tos) (ports_from k count is))
   from_component k count [] = tt
   from_component k count (i ∷ is) =
       let here = map (port_at k) (range_with_len 0 (count i.model)) in
@@ -77,5 +79,6 @@ module _ {To : Type 0} (copies : ComponentPort → To → ℕ) (tos : List To) w
       (lower sender k (suc k) (flat_map (links_from copies tos) (ports_from (suc k) count is)) (omega arith)
       (from_component (suc k) count is)))
 
-  pub links_rise : (count : AtomicTree → ℕ) (is : List Instance) → IsNonDecreasingBy sender (flat_map (links_from copies tos) (ports_from 0 count is))
+  pub links_rise : (count : AtomicTree → ℕ) (is : List Instance)
+      → IsNonDecreasingBy sender (flat_map (links_from copies tos) (ports_from 0 count is))
   links_rise count is = rises sender 0 (flat_map (links_from copies tos) (ports_from 0 count is)) (from_component 0 count is)

@@ -9,6 +9,8 @@ ghost use Rattle.dv_sound.specs.Members.{direct_of, exit_of};
 
 /// The links of a text rise by the component that they lead from.
 pub fn links_rise()
-    ensures direct { (f : FileTree) → IsNonDecreasingBy (λ (l : Link). l.from) (map direct_of (direct_links f)) }
-    ensures exits { (f : FileTree) → IsNonDecreasingBy (λ (l : Link). l.from) (map exit_of (exit_links f)) }
+    ensures direct { (f : FileTree) → IsNonDecreasingBy (λ (l : Link). l.from)
+        (map direct_of (direct_links f)) }
+    ensures exits { (f : FileTree) → IsNonDecreasingBy (λ (l : Link). l.from)
+        (map exit_of (exit_links f)) }
 {}

@@ -1,5 +1,6 @@
 -- What is left of a listing, model by model.
-use Rattle.std.proofs.Common.{◌≡◌, ℕ, ◌+◌, ◌<◌, ◌≤◌, Bool, true, false, List, [], ◌∷◌, ◌++◌, length, map, drop, get_or, Option, refl, subst, ap, sym, ◌∙◌, append_assoc, append-nil, arith}
+use Rattle.std.proofs.Common.{◌≡◌, ℕ, ◌+◌, ◌<◌, ◌≤◌, Bool, true, false, List, [], ◌∷◌, ◌++◌, length, map, drop, get_or, Option}
+use Rattle.std.proofs.Common.{refl, subst, ap, sym, ◌∙◌, append_assoc, append-nil, arith}
 use Rattle.std.proofs.lemmas.List.{drop_all, drop_more, get_or-map, length-append, length-map}
 use Rattle.std.proofs.lemmas.List.Elements.{All-get_or}
 use Rattle.std.specs.List.{All, filter_map}
@@ -77,7 +78,8 @@ none_left names models is_first i past =
 
 -- an atomic model among compilable ones
 pub compilable_at : (models : List Model) (i : ℕ) (m : Model) (a : Atomic)
-    → All (λ (t : ModelTree). IsCompilableModel t) (map model_of models) → i < length models → m ≡ get_or models i m → m ≡ model.Atomic a → IsCompilable (atomic_of a)
+    → All (λ (t : ModelTree). IsCompilableModel t) (map model_of models) → i < length models → m ≡ get_or models i m → m ≡ model.Atomic a
+    → IsCompilable (atomic_of a)
 compilable_at models i m a all within is atomic =
     let P : ModelTree → Type 0 = λ t. IsCompilableModel t in
     let some : i < length (map model_of models) = omega (arith, within, length-map models model_of) in

@@ -1,5 +1,6 @@
 -- How many components are looked at as they emit, and as they are committed.
-use Rattle.std.proofs.Common.{◌≡◌, ℕ, ◌+◌, ◌-◌, ◌^◌, ◌<◌, ◌≤◌, min, Bool, true, false, not, ◌&&◌, ◌||◌, cond, length, List, [], ◌∷◌, Option, Some, None, Result, refl, ap, ap₂, sym, ◌∙◌, subst, arith}
+use Rattle.std.proofs.Common.{◌≡◌, ℕ, ◌+◌, ◌-◌, ◌^◌, ◌<◌, ◌≤◌, min, Bool, true, false, not, ◌&&◌, ◌||◌, cond, length, List, []}
+use Rattle.std.proofs.Common.{◌∷◌, Option, Some, None, Result, refl, ap, ap₂, sym, ◌∙◌, subst, arith}
 use Rattle.std.specs.List.{All, count_by, slice_get}
 use Rattle.std.proofs.lemmas.Bool.{and_parts, eqb-true}
 use Rattle.std.proofs.lemmas.List.{length-append}
@@ -8,7 +9,8 @@ use Rattle.dv_time.specs.Time.{rank}
 use Rattle.dv_time.specs.declared.time.Time.{Time}
 use Rattle.dv_bag.specs.Bag.{Counts}
 use Rattle.dv_bag.specs.declared.entry.What.{What}
-use Rattle.dv_devs.specs.Behaviour.{Behaviour, Component, Reaction, all_empty, is_at, is_imminent, reaction, reaction_after_output, emission}
+use Rattle.dv_devs.specs.Behaviour.{Behaviour, Component, Reaction, all_empty, is_at, is_imminent, reaction}
+use Rattle.dv_devs.specs.Behaviour.{reaction_after_output, emission}
 use Rattle.dv_devs.specs.Network.{entries_by, entry_of, reactions}
 use Rattle.dv_conservative.specs.Flat.{network}
 use Rattle.dv_react.specs.Components.{component_of, components_of, next_of_wait}

@@ -1,5 +1,6 @@
 -- Components that react one after the other.
-use Rattle.std.proofs.Common.{◌≡◌, inl, inr, ℕ, ◌+◌, ◌<◌, Bool, false, List, [], ◌∷◌, ◌++◌, length, get_or, take, Option, Some, Result, refl, sym, ap, ◌∙◌, subst, arith, append-nil}
+use Rattle.std.proofs.Common.{◌≡◌, inl, inr, ℕ, ◌+◌, ◌<◌, Bool, false, List, [], ◌∷◌, ◌++◌, length, get_or, take, Option, Some}
+use Rattle.std.proofs.Common.{Result, refl, sym, ap, ◌∙◌, subst, arith, append-nil}
 use Rattle.std.specs.List.{All, slice_get, slice_set}
 use Rattle.std.proofs.lemmas.Bool.{cases_lt}
 use Rattle.std.proofs.lemmas.List.{append_assoc, get_or-set_other, get_or-set_same, length-set, map-append, take_more}
@@ -28,7 +29,8 @@ use Rattle.dv_share.proofs.Places.{found_here, there}
 use Rattle.dv_local.specs.Commits.{HasReacted, HaveReacted, IsGivenAt}
 
 -- with another component at a place they are still components, if it waits and fits there
-pub put_stays : {S : Type 0} (fits : S → State → Type 0) (t : Tables S) (rs : List Running) (p : ℕ) (s : Running) → AreComponents fits t rs → p < length rs
+pub put_stays : {S : Type 0} (fits : S → State → Type 0) (t : Tables S) (rs : List Running) (p : ℕ) (s : Running)
+    → AreComponents fits t rs → p < length rs
     → IsWaitOfRun t.limit s.wait → ((m : Member) → slice_get t.members.items p ≡ Some m → FitsAt fits t.models.items m.model s.state)
     → AreComponents fits t (slice_set rs p s)
 put_stays fits t rs p s are lt wait fit = record {
@@ -102,7 +104,8 @@ module _ {S : Type 0} (behaviour : S → Behaviour) (fits : S → State → Type
         let right : IsOutcome behaviour fits t now rs es xs x.place one.outcome =
         outcome_one behaviour fits t now rs es xs x r.0 one.outcome r.1 (found_here x.place i d xs places.rise early refl)
         (one.is r.0 (stays r.0 r.1)) in
-        let entry = entry_of t.limit now (number_of (slice_get t.members.items x.place)) (event_of (happened_in one.outcome) (sent_of (given_at x.place es))) in
+        let entry = entry_of t.limit now (number_of (slice_get t.members.items x.place))
+        (event_of (happened_in one.outcome) (sent_of (given_at x.place es))) in
         record {
           outcomes = h.outcomes ++ o ∷ [];
           places =

@@ -1,5 +1,6 @@
 -- The first time at which something comes, of what is held and of inputs from outside.
-use Rattle.std.proofs.Common.{◌≡◌, inl, inr, ℕ, suc, ◌<◌, ◌≤◌, Bool, true, false, not, cond, nat_eq, nat_lt, List, [], ◌∷◌, ◌++◌, length, map, get_or, Option, Some, None, refl, sym, ap, subst, ◌∙◌, arith}
+use Rattle.std.proofs.Common.{◌≡◌, inl, inr, ℕ, suc, ◌<◌, ◌≤◌, Bool, true, false, not, cond, nat_eq, nat_lt, List, [], ◌∷◌}
+use Rattle.std.proofs.Common.{◌++◌, length, map, get_or, Option, Some, None, refl, sym, ap, subst, ◌∙◌, arith}
 use Rattle.std.specs.List.{All, Contains}
 use Rattle.std.specs.Option.{IfSome, MatchOption}
 use Rattle.std.proofs.lemmas.Bool.{le-ltb, false≢true}
@@ -47,7 +48,8 @@ module _ (v : View) (k : ℕ) (one other : ℕ → Type 0) (calm : (n : ℕ) →
   abbrev pub Loud : ℕ → Type 0
   Loud n = brings_at v n ≡ true
 
-  pub both_first : (a b : Option Time) → IsFirstRank v.share.limit one Loud k a → IsFirstRank v.share.limit other Loud k b → IsFirstInput v k (sooner a b)
+  pub both_first : (a b : Option Time) → IsFirstRank v.share.limit one Loud k a → IsFirstRank v.share.limit other Loud k b
+      → IsFirstInput v k (sooner a b)
   both_first None None h g = λ n le. calm n (h n le) (g n le)
   both_first None (Some u) h g = (g.0, g.1, g.2, λ n le lt. calm n (h n le) (g.3 n le lt))
   both_first (Some t) None h g = (h.0, h.1, h.2, λ n le lt. calm n (h.3 n le lt) (g n le))
@@ -73,7 +75,8 @@ first_reaches ms (a ∷ xs) lt h =
     (q.0, a.port, q.1, q.3, inl (p.0, sym q.2, refl))
 
 -- the next time of an input is that of one which is there
-next_there : (limit : ℕ) (t : Time) (xs : List Input) (u : Time) → next_from limit xs t ≡ Some u → (i : Input) × Contains xs i × (i.time ≡ u)
+next_there : (limit : ℕ) (t : Time) (xs : List Input) (u : Time) → next_from limit xs t ≡ Some u
+    → (i : Input) × Contains xs i × (i.time ≡ u)
 next_there limit t [] u e = absurd (cc)
 next_there limit t (x ∷ xs) u e = step (is_passed limit t x) (next_there limit t xs u) e
   where
@@ -112,11 +115,13 @@ module _ {S : Type 0} (behaviour : S → Behaviour) (x : LocalState S) where
       carried v.share.flat.entrances (λ k. v.share.outside n)
       ++ (carried v.share.flat.links (sent_of (numbers v.share.flat.members) (nothing_sent (network v.share.flat))) ++ v.held n)
 
-  loud : (n port : ℕ) (m : Member) → Contains x.share.tables.members.items m → port < m.inputs → Reaches m.number port (coming n) → brings_at v n ≡ true
+  loud : (n port : ℕ) (m : Member) → Contains x.share.tables.members.items m → port < m.inputs → Reaches m.number port (coming n)
+      → brings_at v n ≡ true
   loud n port m c lt r =
       ap not (received_some behaviour limit x.share.tables.models.items (coming n) port x.share.tables.members.items c.0 m c.1 c.2 lt r)
 
-  pub loud_inside : (t : Time) → IsOfRun limit t → 0 < length (but t) → All (IsOfPort x.share.tables.members.items) (but t) → brings_at v (rank limit t) ≡ true
+  pub loud_inside : (t : Time) → IsOfRun limit t → 0 < length (but t) → All (IsOfPort x.share.tables.members.items) (but t)
+      → brings_at v (rank limit t) ≡ true
   loud_inside t run lt h =
       let r = first_reaches x.share.tables.members.items (but t) lt h in
       let m = r.0 in
@@ -125,9 +130,11 @@ module _ {S : Type 0} (behaviour : S → Behaviour) (x : LocalState S) where
       subst (λ (u : Time). Reaches m.number r.1 (map delivery_of (but u))) (sym (time_of-rank limit t run)) r.4 in
       loud n r.1 m r.2 r.3
       (reaches_right m.number r.1 (carried v.share.flat.entrances (λ k. v.share.outside n)) _
-      (reaches_right m.number r.1 (carried v.share.flat.links (sent_of (numbers v.share.flat.members) (nothing_sent (network v.share.flat)))) (v.held n) held))
+      (reaches_right m.number r.1 (carried v.share.flat.links
+      (sent_of (numbers v.share.flat.members) (nothing_sent (network v.share.flat)))) (v.held n) held))
 
-  pub loud_outside : (i : Input) → Contains x.share.inputs i → IsOfRun limit i.time → IsLed x.share i → brings_at v (rank limit i.time) ≡ true
+  pub loud_outside : (i : Input) → Contains x.share.inputs i → IsOfRun limit i.time → IsLed x.share i → brings_at v (rank limit i.time)
+      ≡ true
   loud_outside i c run led =
       let n = rank limit i.time in
       let l = led.1.0 in
@@ -152,7 +159,8 @@ module _ {S : Type 0} (behaviour : S → Behaviour) (x : LocalState S) where
   before : (t : Time) (n : ℕ) → IsOfRun limit t → n < rank limit t → is_before (time_of limit n) t ≡ true
   before t n h lt =
       let e : rank limit (time_of limit n) ≡ n = rank_at_time limit n in
-      is_before-rank limit (time_of limit n) t (time_of_run limit n) h ∙ lt-true (rank limit (time_of limit n)) (rank limit t) (omega (arith, lt, e))
+      is_before-rank limit (time_of limit n) t (time_of_run limit n) h ∙ lt-true (rank limit (time_of limit n)) (rank limit t)
+      (omega (arith, lt, e))
     where
       lt-true : (a b : ℕ) → a < b → nat_lt a b ≡ true
       lt-true a b lt = grind (arith, nat_tests)
@@ -161,7 +169,8 @@ module _ {S : Type 0} (behaviour : S → Behaviour) (x : LocalState S) where
   after_from t from h g e = no_less (rank limit t) (rank limit from) (sym (is_before-rank limit t from h g) ∙ e)
 
   pub first_inside : (r : Option Time) (from : Time) → IsOfRun limit from → AllArrive limit x.share.tables.members.items x.inbox
-      → MatchOption r ((t : Time) → is_before t from ≡ false → but t ≡ []) (λ first. (is_before first from ≡ false) × (0 < length (but first)))
+      → MatchOption r ((t : Time) → is_before t from ≡ false → but t ≡ [])
+      (λ first. (is_before first from ≡ false) × (0 < length (but first)))
       → IfSome r (λ first. (t : Time) → is_before t from ≡ false → is_before t first ≡ true → but t ≡ [])
       → IsFirstRank limit QuietInside (λ n. brings_at v n ≡ true) (rank limit from) r
   first_inside None from run arrive there least = λ n le. there (time_of limit n) (at_or_after from n run le)

@@ -1,5 +1,6 @@
 -- What events bring, kept in an inbox, is delivered as the events are.
-use Rattle.std.proofs.Common.{◌≡◌, inl, inr, ℕ, suc, ◌<◌, ◌≤◌, Bool, true, false, ◌&&◌, cond, nat_eq, nat_le, nat_lt, List, [], ◌∷◌, ◌++◌, length, map, filter, refl, sym, ap, subst, ◌∙◌, arith}
+use Rattle.std.proofs.Common.{◌≡◌, inl, inr, ℕ, suc, ◌<◌, ◌≤◌, Bool, true, false, ◌&&◌, cond, nat_eq, nat_le, nat_lt, List, []}
+use Rattle.std.proofs.Common.{◌∷◌, ◌++◌, length, map, filter, refl, sym, ap, subst, ◌∙◌, arith}
 use Rattle.std.specs.List.{All, list_all}
 use Rattle.std.proofs.lemmas.Bool.{eqb-true}
 use Rattle.std.proofs.lemmas.Bool.Decides.{nat_tests}
@@ -35,13 +36,15 @@ and_right : (a b : Bool) → (a && b) ≡ true → b ≡ true
 and_right true b h = h
 and_right false b h = cc
 
-map_cond : (s : Bool) (a : Arrival) (xs : List Arrival) → map delivery_of (cond s (a ∷ xs) xs) ≡ cond s (delivery_of a ∷ map delivery_of xs) (map delivery_of xs)
+map_cond : (s : Bool) (a : Arrival) (xs : List Arrival) → map delivery_of (cond s (a ∷ xs) xs)
+    ≡ cond s (delivery_of a ∷ map delivery_of xs) (map delivery_of xs)
 map_cond true a xs = refl
 map_cond false a xs = refl
 
 step_in : (limit : ℕ) (b : Bool) (t : Time) (e : EventOfCode) (es : List EventOfCode)
     → map delivery_of (coming_at t (map coming_of (cond b (e ∷ filter (brings limit) es) (filter (brings limit) es))))
-    ≡ cond b (cond (same_time e.time t) (meant_delivery (meant_event e) ∷ map delivery_of (coming_at t (map coming_of (filter (brings limit) es))))
+    ≡ cond b (cond (same_time e.time t)
+    (meant_delivery (meant_event e) ∷ map delivery_of (coming_at t (map coming_of (filter (brings limit) es))))
     (map delivery_of (coming_at t (map coming_of (filter (brings limit) es)))))
     (map delivery_of (coming_at t (map coming_of (filter (brings limit) es))))
 step_in limit true t e es = map_cond (same_time e.time t) (coming_of e).arrival (coming_at t (map coming_of (filter (brings limit) es)))
@@ -79,7 +82,8 @@ module _ (k port : ℕ) where
   no_copies : (limit n : ℕ) (e : EventOfCode) → brings limit e ≡ false → same_time e.time (time_of limit n) ≡ true → e.copies ≡ 0
   no_copies limit n e h same =
       let m : e.time.micro ≡ micro_of limit n =
-      eqb-true e.time.micro (micro_of limit n) (and_right (nat_eq e.time.tick (tick_of limit n)) (nat_eq e.time.micro (micro_of limit n)) same) in
+      eqb-true e.time.micro (micro_of limit n) (and_right (nat_eq e.time.tick (tick_of limit n)) (nat_eq e.time.micro (micro_of limit n))
+      same) in
       zero_copies e.copies (not_left (nat_lt 0 e.copies) (nat_le e.time.micro limit) h
       (within e.time.micro limit (subst (λ (k : ℕ). k ≤ limit) (sym m) (omega arith))))
 
@@ -90,7 +94,8 @@ module _ (k port : ℕ) where
   alike limit n (e ∷ es) bag =
       ap (λ (ds : List Delivery). delivered k port ds bag) (step_in limit (brings limit e) (time_of limit n) e es)
       ∙ one_more (brings limit e) (same_time e.time (time_of limit n)) (meant_delivery (meant_event e))
-      (map delivery_of (coming_at (time_of limit n) (map coming_of (filter (brings limit) es)))) (deliveries_at limit (meant_events es) n) bag
+      (map delivery_of (coming_at (time_of limit n) (map coming_of (filter (brings limit) es)))) (deliveries_at limit (meant_events es) n)
+      bag
       (no_copies limit n e) (alike limit n es bag)
 
 -- what is kept is delivered as what was held, and the events beside it
@@ -136,10 +141,12 @@ module _ {S : Type 0} (behaviour : S → Behaviour) (models : List S) (limit : �
       → All (IsOfPort ms) (coming_at t (map coming_of (filter (brings limit) es)))
       → All (IsOfPort ms) (coming_at t (map coming_of (cond b (e ∷ filter (brings limit) es) (filter (brings limit) es))))
   step_all true t e es y p h =
-      cond_all (IsOfPort ms) (same_time e.time t) (coming_of e).arrival (coming_at t (map coming_of (filter (brings limit) es))) (less 0 e.copies (and_left (nat_lt 0 e.copies) (nat_le e.time.micro limit) (sym y)), p) h
+      cond_all (IsOfPort ms) (same_time e.time t) (coming_of e).arrival (coming_at t (map coming_of (filter (brings limit) es)))
+      (less 0 e.copies (and_left (nat_lt 0 e.copies) (nat_le e.time.micro limit) (sym y)), p) h
   step_all false t e es y p h = h
 
-  pub all_here : (t : Time) (es : List EventOfCode) → list_all is_here (meant_events es) ≡ true → All (IsOfPort ms) (coming_at t (map coming_of (filter (brings limit) es)))
+  pub all_here : (t : Time) (es : List EventOfCode) → list_all is_here (meant_events es) ≡ true
+      → All (IsOfPort ms) (coming_at t (map coming_of (filter (brings limit) es)))
   all_here t [] h = all_none (IsOfPort ms)
   all_here t (e ∷ es) h =
       step_all (brings limit e) t e es refl
@@ -172,7 +179,8 @@ module _ {S : Type 0} (behaviour : S → Behaviour) (models : List S) (limit : �
   run_here t (e ∷ es) lt =
       step_run (brings limit e) t e es refl (run_here t es) lt
 
-  either_run : (t : Time) (xs ys : List Arrival) → (0 < length xs → IsOfRun limit t) → (0 < length ys → IsOfRun limit t) → 0 < length (xs ++ ys) → IsOfRun limit t
+  either_run : (t : Time) (xs ys : List Arrival) → (0 < length xs → IsOfRun limit t) → (0 < length ys → IsOfRun limit t)
+      → 0 < length (xs ++ ys) → IsOfRun limit t
   either_run t [] ys h k lt = k lt
   either_run t (x ∷ xs) ys h k lt = h (omega arith)
 
@@ -181,7 +189,8 @@ module _ {S : Type 0} (behaviour : S → Behaviour) (models : List S) (limit : �
       → list_all is_here (meant_events es) ≡ true → AllArrive limit ms old → AllArrive limit ms new
   kept_arrive old new es e here h = (
     λ t. subst (λ (xs : List Arrival). All (IsOfPort ms) xs) (sym (e t))
-        (All-append (IsOfPort ms) (arrivals_at t old) (coming_at t (map coming_of (filter (brings limit) es))) (h.0 t) (all_here t es here)),
+        (All-append (IsOfPort ms) (arrivals_at t old) (coming_at t (map coming_of (filter (brings limit) es))) (h.0 t)
+        (all_here t es here)),
     λ t lt. either_run t (arrivals_at t old) (coming_at t (map coming_of (filter (brings limit) es))) (h.1 t) (run_here t es)
         (subst (λ (xs : List Arrival). 0 < length xs) (e t) lt),
   )

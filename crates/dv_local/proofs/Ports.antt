@@ -1,5 +1,6 @@
 -- Ports of members, found by place.
-use Rattle.std.proofs.Common.{◌≡◌, ◌≢◌, ℕ, zero, suc, ◌<◌, ◌≤◌, Bool, true, false, ◌||◌, nat_eq, nat_lt, List, [], ◌∷◌, map, Some, refl, ap, ◌∙◌, arith}
+use Rattle.std.proofs.Common.{◌≡◌, ◌≢◌, ℕ, zero, suc, ◌<◌, ◌≤◌, Bool, true, false, ◌||◌, nat_eq, nat_lt, List, [], ◌∷◌, map}
+use Rattle.std.proofs.Common.{Some, refl, ap, ◌∙◌, arith}
 use Rattle.std.specs.List.{slice_get}
 use Rattle.std.proofs.lemmas.Bool.{eq-eqb}
 use Rattle.dv_devs.specs.Behaviour.{Behaviour}
@@ -46,7 +47,8 @@ module _ {S : Type 0} (behaviour : S → Behaviour) (limit : ℕ) (models : List
     where
       below : (low p : ℕ) (m : Member) (ms : List Member) → RiseFrom low (numbers_of ms) → slice_get ms p ≡ Some m → low ≤ m.number
       below low p m [] h g = absurd (cc)
-      below low zero m (n ∷ ms) h g = let same : n ≡ m = cc in let e : n.number ≡ m.number = ap (λ (x : Member). x.number) same in omega (arith, h.0)
+      below low zero m (n ∷ ms) h g = let same : n ≡ m = cc in let e : n.number ≡ m.number = ap (λ (x : Member). x.number) same in
+          omega (arith, h.0)
       below low (suc p) m (n ∷ ms) h g = let b : suc n.number ≤ m.number = below (suc n.number) p m ms h.1 g in omega (arith, h.0)
 
   pub port_at : (p : ℕ) (m : Member) (ms : List Member) → AreRising (numbers_of ms) → slice_get ms p ≡ Some m → m.number ≡ k

@@ -1,5 +1,6 @@
 -- What deliveries with copies bring, for ports that there are.
-use Rattle.std.proofs.Common.{◌≡◌, ◌⊎◌, inl, inr, ℕ, zero, suc, ◌+◌, ◌*◌, ◌<◌, Bool, true, false, ◌&&◌, cond, nat_eq, List, [], ◌∷◌, ◌++◌, length, map, get_or, ℤ, refl, sym, subst, arith}
+use Rattle.std.proofs.Common.{◌≡◌, ◌⊎◌, inl, inr, ℕ, zero, suc, ◌+◌, ◌*◌, ◌<◌, Bool, true, false, ◌&&◌, cond, nat_eq, List, []}
+use Rattle.std.proofs.Common.{◌∷◌, ◌++◌, length, map, get_or, ℤ, refl, sym, subst, arith}
 use Rattle.std.specs.Ordering.{int_cmp, match_ordering}
 use Rattle.std.specs.declared.cmp.Ordering.{Ordering}
 use Rattle.std.specs.declared.cmp.Ordering.TheVariants.{Less, Equal, Greater}
@@ -65,7 +66,8 @@ and_false false = refl
 not_empty : (b : Counts) → 0 < total b → nat_eq (size b) 0 ≡ false
 not_empty b h = differ (size b) 0 (λ e. let z : size b ≡ 0 = e in absurd (omega (arith, h, z)))
 
-inbox_some : (k : ℕ) (ds : List Delivery) (first n i : ℕ) → i < n → 0 < total (delivered k (first + i) ds []) → all_empty (inbox k ds first n) ≡ false
+inbox_some : (k : ℕ) (ds : List Delivery) (first n i : ℕ) → i < n → 0 < total (delivered k (first + i) ds [])
+    → all_empty (inbox k ds first n) ≡ false
 inbox_some k ds first zero i lt h = absurd (omega (arith, lt))
 inbox_some k ds first (suc n) zero lt h =
     let here : 0 < total (delivered k first ds []) = subst (λ (p : ℕ). 0 < total (delivered k p ds [])) (omega arith) h in
@@ -82,7 +84,8 @@ module _ {S : Type 0} (behaviour : S → Behaviour) (limit : ℕ) (models : List
       (subst (λ (p : ℕ). 0 < total (delivered m.number p ds [])) (omega arith) (reaches_total m.number port ds h))
 
   -- what reaches a port of a member is a value that arrives
-  pub received_some : (ms : List Member) (i : ℕ) (m : Member) → i < length ms → get_or ms i m ≡ m → port < m.inputs → Reaches m.number port ds
+  pub received_some : (ms : List Member) (i : ℕ) (m : Member) → i < length ms → get_or ms i m ≡ m → port < m.inputs
+      → Reaches m.number port ds
       → no_values (received (map (member_by behaviour limit models) ms) ds) ≡ false
   received_some [] i m lt e p h = absurd (omega (arith, lt))
   received_some (n ∷ ms) zero m lt e p h =
@@ -110,6 +113,8 @@ pub entered : (ls : List Link) (i : ℕ) (l : Link) (bags : List Counts) → i <
 entered [] i l bags lt e c h = absurd (omega (arith, lt))
 entered (x ∷ ls) zero l bags lt e c h =
     reaches_left l.to l.to_port (carried_by x (bag_at bags x.from_port)) (carried ls (λ k. bags))
-    (subst (λ (y : Link). Reaches l.to l.to_port (carried_by y (bag_at bags y.from_port))) (sym e) (carried_some l (bag_at bags l.from_port) c h))
+    (subst (λ (y : Link). Reaches l.to l.to_port (carried_by y (bag_at bags y.from_port))) (sym e)
+    (carried_some l (bag_at bags l.from_port) c h))
 entered (x ∷ ls) (suc i) l bags lt e c h =
-    reaches_right l.to l.to_port (carried_by x (bag_at bags x.from_port)) (carried ls (λ k. bags)) (entered ls i l bags (omega (arith, lt)) e c h)
+    reaches_right l.to l.to_port (carried_by x (bag_at bags x.from_port)) (carried ls (λ k. bags))
+    (entered ls i l bags (omega (arith, lt)) e c h)

@@ -28,7 +28,8 @@ same_numbers behaviour limit models [] = refl
 same_numbers behaviour limit models (m ∷ ms) = ap (λ (ks : List ℕ). m.number ∷ ks) (same_numbers behaviour limit models ms)
 
 -- the way at a place is what the share has there
-pub way_at : (ways : List Way) (place : ℕ) (w : Way) (out : Outgoing) → slice_get ways place ≡ Some w → slice_get (map outgoing_of ways) place ≡ Some out
+pub way_at : (ways : List Way) (place : ℕ) (w : Way) (out : Outgoing) → slice_get ways place ≡ Some w
+    → slice_get (map outgoing_of ways) place ≡ Some out
     → out ≡ outgoing_of w
 way_at [] place w out h g = absurd (cc)
 way_at (v ∷ vs) zero w out h g = let same : v ≡ w = cc in let there : outgoing_of v ≡ out = cc in sym there ∙ ap outgoing_of same

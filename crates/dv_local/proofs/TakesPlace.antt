@@ -1,5 +1,6 @@
 -- What takes place at an instant is what the theory says, and the components after it are put in.
-use Rattle.std.proofs.Common.{◌≡◌, ℕ, ◌<◌, ◌≤◌, Bool, true, false, cond, nat_eq, List, [], ◌∷◌, ◌++◌, length, map, take, Option, Some, None, refl, sym, ap, ap₂, subst, ◌∙◌, arith}
+use Rattle.std.proofs.Common.{◌≡◌, ℕ, ◌<◌, ◌≤◌, Bool, true, false, cond, nat_eq, List, [], ◌∷◌, ◌++◌, length, map, take, Option}
+use Rattle.std.proofs.Common.{Some, None, refl, sym, ap, ap₂, subst, ◌∙◌, arith}
 use Rattle.std.specs.List.{All}
 use Rattle.dv_time.specs.Time.{IsOfRun, rank, time_of}
 use Rattle.dv_time.specs.declared.time.Time.{Time}
@@ -19,7 +20,8 @@ use Rattle.dv_react.specs.declared.outcome.Outcome.{Outcome}
 use Rattle.dv_react.specs.declared.running.Running.{Running}
 use Rattle.dv_agenda.specs.Comings.{Arrivals, arrivals_at}
 use Rattle.dv_share.specs.Places.{places_of}
-use Rattle.dv_share.specs.Share.{AreAmong, AreComponents, AreEmitted, AreOutcomes, AreReceived, StandByPlace, coming, flat_by, numbers_of, reactions_by, sent_in}
+use Rattle.dv_share.specs.Share.{AreAmong, AreComponents, AreEmitted, AreOutcomes, AreReceived, StandByPlace, coming, flat_by}
+use Rattle.dv_share.specs.Share.{numbers_of, reactions_by, sent_in}
 use Rattle.dv_share.specs.declared.tables.Tables.{Tables}
 use Rattle.dv_share.proofs.Commits.{entries_of_instant}
 use Rattle.dv_share.proofs.Instants.{outcomes_are}
@@ -38,14 +40,18 @@ use Rattle.dv_local.specs.Undoing.{arrivals_but, is_taken}
 use Rattle.dv_local.specs.declared.state.LocalState.{LocalState}
 use Rattle.dv_local.proofs.Sending.{same_numbers}
 
-module _ {S : Type 0} (behaviour : S → Behaviour) (x : LocalState S) (n : ℕ) (outside : List Counts) (ds : List Delivery) (os : List (Placed Outcome)) where
+module _ {S : Type 0} (behaviour : S → Behaviour) (x : LocalState S) (n : ℕ) (outside : List Counts) (ds : List Delivery)
+    (os : List (Placed Outcome)) where
   instant_part : AreEmitted behaviour x.share.tables n x.components.running.items x.emitted.items
       → AreOutcomes behaviour x.share.tables n x.components.running.items outside ds x.emitted.items os
       → (es : List Entry) (ls : List Outer)
-      → es ≡ entries_by x.share.tables.limit n (numbers_of x.share.tables.members.items) (reactions_by x.share.tables.limit 0 x.components.running.items x.emitted.items os)
-      → ls ≡ outer_from x.share.tables.limit n 0 (inbox 0 (carried x.share.tables.exits (sent_in x.share.tables.members.items x.emitted.items)) 0 x.share.tables.outputs)
+      → es ≡ entries_by x.share.tables.limit n (numbers_of x.share.tables.members.items)
+      (reactions_by x.share.tables.limit 0 x.components.running.items x.emitted.items os)
+      → ls ≡ outer_from x.share.tables.limit n 0
+      (inbox 0 (carried x.share.tables.exits (sent_in x.share.tables.members.items x.emitted.items)) 0 x.share.tables.outputs)
       → (let p : PartOf = record { entries = es; outer = ls } in p)
-      ≡ part_of_instant x.share.tables.limit (network (flat_by behaviour x.share.tables)) n (outside, ds) (components_of x.share.tables.limit x.components.running.items)
+      ≡ part_of_instant x.share.tables.limit (network (flat_by behaviour x.share.tables)) n (outside, ds)
+      (components_of x.share.tables.limit x.components.running.items)
   instant_part emitted outcomes es ls e l =
       let t = x.share.tables in
       let net = network (flat_by behaviour t) in
@@ -56,8 +62,10 @@ module _ {S : Type 0} (behaviour : S → Behaviour) (x : LocalState S) (n : ℕ)
       ∙ ap (λ (rs : List Reaction). entries_by t.limit n (numbers_of t.members.items) rs) (sym outcomes.reactions)
       ∙ ap (λ (ks : List ℕ). entries_by t.limit n ks (instant t.limit net n (outside, ds) cs)) (sym numbers))
       (l
-      ∙ ap (λ (sent : List (List Counts)). outer_from t.limit n 0 (inbox 0 (carried t.exits (sent_from (numbers_of t.members.items) sent)) 0 t.outputs)) (sym emitted.sent)
-      ∙ ap (λ (ks : List ℕ). outer_from t.limit n 0 (inbox 0 (carried t.exits (sent_from ks (emissions net.behaviours n cs))) 0 t.outputs)) (sym numbers))
+      ∙ ap (λ (sent : List (List Counts)). outer_from t.limit n 0
+      (inbox 0 (carried t.exits (sent_from (numbers_of t.members.items) sent)) 0 t.outputs)) (sym emitted.sent)
+      ∙ ap (λ (ks : List ℕ). outer_from t.limit n 0 (inbox 0 (carried t.exits (sent_from ks (emissions net.behaviours n cs))) 0
+      t.outputs)) (sym numbers))
 
 delivered : (xs : List Arrival) → deliveries_of (map delivered_by xs) ≡ map delivery_of xs
 delivered [] = refl
@@ -65,8 +73,10 @@ delivered (x ∷ xs) = ap (λ (ds : List Delivery). delivery_of x ∷ ds) (deliv
 
 -- what comes in is what is seen to come in
 pub input_is : {S : Type 0} (behaviour : S → Behaviour) (x : LocalState S) (now : Time) (outside : List Counts) (ds : List DeliveryOfCode)
-    → IsOfRun x.share.tables.limit now → x.undo.taken ≡ None → outside ≡ inputs_at x.share.tables.limit x.share.ports x.share.inputs (rank x.share.tables.limit now)
-    → ds ≡ map delivered_by (arrivals_at now x.inbox) → (outside, deliveries_of ds) ≡ input_at (view_by behaviour x) (rank x.share.tables.limit now)
+    → IsOfRun x.share.tables.limit now → x.undo.taken ≡ None
+    → outside ≡ inputs_at x.share.tables.limit x.share.ports x.share.inputs (rank x.share.tables.limit now)
+    → ds ≡ map delivered_by (arrivals_at now x.inbox) → (outside, deliveries_of ds)
+    ≡ input_at (view_by behaviour x) (rank x.share.tables.limit now)
 input_is behaviour x now outside ds of_run taken o d =
     let limit = x.share.tables.limit in
     ap₂ (λ (a : List Counts) (b : List Delivery). (a, b)) o
@@ -79,7 +89,8 @@ not_taken : (limit m : ℕ) (now : Time) → IsOfRun limit now → rank limit no
 not_taken limit m now of_run lt =
     same_as_rank limit m now of_run ∙ differ (rank limit now) m (λ e. absurd (omega (arith, lt, e)))
 
-module _ {S : Type 0} (behaviour : S → Behaviour) (fits : S → State → Type 0) (x : LocalState S) (now : Time) (outside : List Counts) (ds : List Delivery)
+module _ {S : Type 0} (behaviour : S → Behaviour) (fits : S → State → Type 0) (x : LocalState S) (now : Time) (outside : List Counts)
+    (ds : List Delivery)
     (xs : List (Placed (List Counts))) where
   abbrev tables : Tables S
   tables = x.share.tables
@@ -91,7 +102,8 @@ module _ {S : Type 0} (behaviour : S → Behaviour) (fits : S → State → Type
   n = rank tables.limit now
 
   -- what components committed that reacted to all that comes is the part of the instant, and they are those after it
-  pub took_place : (ss : List Running) (p : PartOf) (visits : ℕ) → IsOfRun tables.limit now → (outside, ds) ≡ input_at (view_by behaviour x) n
+  pub took_place : (ss : List Running) (p : PartOf) (visits : ℕ) → IsOfRun tables.limit now
+      → (outside, ds) ≡ input_at (view_by behaviour x) n
       → AreComponents fits tables standing → AreEmitted behaviour tables n standing x.emitted.items
       → AreAmong (places_of x.emitted.items) (places_of xs) → AreReceived tables.members.items (coming tables x.emitted.items outside ds) xs
       → HaveReacted behaviour fits tables n standing x.emitted.items xs (places_of xs) ss x.committed.entries p.entries
@@ -111,7 +123,8 @@ module _ {S : Type 0} (behaviour : S → Behaviour) (fits : S → State → Type
       let net = network (flat_by behaviour tables) in
       let os = reacted.outcomes in
       let outcomes : AreOutcomes behaviour tables n standing outside ds x.emitted.items os =
-      outcomes_are behaviour fits tables n standing x.emitted.items xs os outside ds are emitted among received reacted.places reacted.right in
+      outcomes_are behaviour fits tables n standing x.emitted.items xs os outside ds are emitted among received reacted.places
+      reacted.right in
       let stand : StandByPlace (length tables.members.items) os =
       subst (λ (k : ℕ). StandByPlace k os) are.count outcomes.places in
       let entries = reacted.entries

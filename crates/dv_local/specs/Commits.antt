@@ -21,19 +21,21 @@ use Rattle.dv_share.specs.declared.tables.Member.{Member}
 use Rattle.dv_share.specs.declared.tables.Tables.{Tables}
 
 -- what was emitted at a place is what the output function of the component there gives
-abbrev pub IsGivenAt : {S : Type 0} → (S → Behaviour) → Tables S → ℕ → List (Placed (Result (List Counts) Fault)) → List Running → ℕ → Type 0
+abbrev pub IsGivenAt : {S : Type 0} → (S → Behaviour) → Tables S → ℕ → List (Placed (Result (List Counts) Fault)) → List Running → ℕ
+    → Type 0
 IsGivenAt behaviour t now es rs p =
     (m : Member) (r : Running) → slice_get t.members.items p ≡ Some m → slice_get rs p ≡ Some r
     → given_at p es ≡ emission (behaviour_in behaviour t m) now (component_of t.limit r)
 
 -- The component at the place of an arrival reacted: it is the one that its outcome leaves, and its entry was committed.
 pub record HasReacted {S : Type 0} (behaviour : S → Behaviour) (fits : S → State → Type 0) (t : Tables S) (now : ℕ)
-    (es : List (Placed (Result (List Counts) Fault))) (x : Placed (List Counts)) (rs ss : List Running) (old new : List Entry) : Type 0 where
-  pub outcome : Outcome
-  pub is : (r : Running) → slice_get rs x.place ≡ Some r → IsOutcomeOf behaviour fits t now r (given_at x.place es) x outcome
-  pub components : (r : Running) → slice_get rs x.place ≡ Some r → ss ≡ slice_set rs x.place (left_by r outcome)
-  pub entries : new ≡ old ++ entry_of t.limit now (number_of (slice_get t.members.items x.place))
-      (event_of (happened_in outcome) (sent_of (given_at x.place es)))
+    (es : List (Placed (Result (List Counts) Fault))) (x : Placed (List Counts)) (rs ss : List Running) (old new : List Entry) : Type 0
+  where
+    pub outcome : Outcome
+    pub is : (r : Running) → slice_get rs x.place ≡ Some r → IsOutcomeOf behaviour fits t now r (given_at x.place es) x outcome
+    pub components : (r : Running) → slice_get rs x.place ≡ Some r → ss ≡ slice_set rs x.place (left_by r outcome)
+    pub entries : new ≡ old ++ entry_of t.limit now (number_of (slice_get t.members.items x.place))
+        (event_of (happened_in outcome) (sent_of (given_at x.place es)))
 
 -- The components at some places reacted: they are those that their outcomes leave, and their entries were committed.
 pub record HaveReacted {S : Type 0} (behaviour : S → Behaviour) (fits : S → State → Type 0) (t : Tables S) (now : ℕ) (rs : List Running)

@@ -45,7 +45,8 @@ AreOfRun limit inputs = All (λ (i : Input). IsOfRun limit i.time) inputs
 -- an input from outside leads to a port of a component: an entry link takes it there
 abbrev pub IsLed : {S : Type 0} → Share S → Input → Type 0
 IsLed p i = (i.port < p.ports)
-    × ((l : Link) × Contains p.tables.entrances l × (l.from_port ≡ i.port) × (0 < l.copies) × IsPortOf p.tables.members.items l.to l.to_port)
+    × ((l : Link) × Contains p.tables.entrances l × (l.from_port ≡ i.port) × (0 < l.copies) × IsPortOf p.tables.members.items l.to
+    l.to_port)
 
 -- a share that can run: tables, bounds of the run, and inputs from outside at times of the run that lead to components here
 pub record IsShare {S : Type 0} (fits : S → State → Type 0) (p : Share S) : Type 0 where

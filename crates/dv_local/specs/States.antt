@@ -66,7 +66,8 @@ AreEmittedIf behaviour x (Some t) =
     × AreEmitted behaviour x.share.tables (rank x.share.tables.limit t) x.components.running.items x.emitted.items
 
 -- what is always so
-pub record IsKept {S : Type 0} (behaviour : S → Behaviour) (fits : S → State → Type 0) (comes : S → List Counts → Type 0) (x : LocalState S) : Type 0 where
+pub record IsKept {S : Type 0} (behaviour : S → Behaviour) (fits : S → State → Type 0) (comes : S → List Counts → Type 0)
+    (x : LocalState S) : Type 0 where
   pub share : IsShare fits x.share
   pub all_come : (a : S) (bags : List Counts) → comes a bags
   pub components : AreComponents fits x.share.tables x.components.running.items

@@ -1,6 +1,7 @@
 //! The components to which something happens at an instant react, and what happens is committed.
 
-ghost use Rattle.std.specs.Prelude.{◌≡◌, ◌<◌, ◌+◌, ◌∷◌, [], List, Some, IfOk, MatchOption, OnOk, length, slice_get, slice_set, vec_capacity, vec_len};
+ghost use Rattle.std.specs.Prelude.{◌≡◌, ◌<◌, ◌+◌, ◌∷◌, [], List, Some, IfOk, MatchOption, OnOk, length, slice_get, slice_set};
+ghost use Rattle.std.specs.Prelude.{vec_capacity, vec_len};
 ghost use Rattle.std.specs.Option.{option_map};
 ghost use Rattle.dv_bag.specs.Bag.{Counts};
 ghost use Rattle.dv_react.specs.Components.{rank_of};
@@ -139,8 +140,10 @@ struct Left {
 
 // What an outcome leaves, if something happened.
 fn left_by(component: &Running, outcome: Outcome) -> Result<Option<Left>, AllocError>
-    ensures happened { IfOk result (λ left. option_map (λ (l : Left). l.what) left ≡ happened_in outcome) }
-    ensures left { IfOk result (λ left. MatchOption left (left_by component.now outcome ≡ component.now)
+    ensures happened { IfOk result (λ left. option_map (λ (l : Left). l.what) left
+        ≡ happened_in outcome) }
+    ensures left { IfOk result (λ left. MatchOption left (left_by component.now outcome
+        ≡ component.now)
         (λ l. l.after ≡ left_by component.now outcome)) }
 {
     match outcome {

@@ -17,8 +17,10 @@ impl Components {
     /// Puts another component at a place, and gives the one that stood there.
     pub fn replace(&mut self, place: u32, component: Running) -> Running
         requires { place < length self.old.running.items }
-        ensures before { (d : RunningOfCode) → result ≡ slice_index_or self.old.running.items place d }
-        ensures components { self.new.running.items ≡ slice_set self.old.running.items place component }
+        ensures before { (d : RunningOfCode)
+            → result ≡ slice_index_or self.old.running.items place d }
+        ensures components { self.new.running.items
+            ≡ slice_set self.old.running.items place component }
         ensures visits { self.new.visits ≡ self.old.visits }
     {
         mem::replace(&mut self.running[place as usize], component)
@@ -36,7 +38,8 @@ impl Components {
     /// Puts a component back where it stood.
     pub fn put_back(&mut self, place: u32, component: Running)
         requires { place < length self.old.running.items }
-        ensures components { self.new.running.items ≡ slice_set self.old.running.items place component }
+        ensures components { self.new.running.items
+            ≡ slice_set self.old.running.items place component }
         ensures visits { self.new.visits ≡ self.old.visits }
     {
         self.running[place as usize] = component;

@@ -25,7 +25,8 @@ pub(crate) fn comings_of(
     limit: u32,
     events: &[Event],
 ) -> Result<Vec<Coming>, AllocError>
-    ensures { IfOk result (λ comings. comings.items ≡ map coming_of (filter (brings limit) events.now)) }
+    ensures { IfOk result (λ comings. comings.items
+        ≡ map coming_of (filter (brings limit) events.now)) }
 {
     events
         .iter()

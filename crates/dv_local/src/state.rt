@@ -64,7 +64,8 @@ impl<A: Atomic + Drop> LocalState<A> {
         requires share { IsShare A.fits share }
         requires components { AreComponents A.fits share.tables running.items }
         ensures kept { IfOk result (λ x. IsKept A.behaviour A.fits A.comes x) }
-        ensures share { IfOk result (λ x. (view_by A.behaviour x).share ≡ share_by A.behaviour share) }
+        ensures share { IfOk result (λ x. (view_by A.behaviour x).share
+            ≡ share_by A.behaviour share) }
         ensures components { IfOk result (λ x. (view_by A.behaviour x).components
             ≡ components_of share.tables.limit running.items) }
         ensures committed { IfOk result (λ x. (view_by A.behaviour x).committed ≡ nothing) }
@@ -126,7 +127,8 @@ impl<A: Atomic> LocalState<A> {
     /// Whether there is such an input port of a component.
     pub fn is_port(&self, component: u32, port: u32) -> bool
         requires { IsKept A.behaviour A.fits A.comes self.now }
-        ensures { result ≡ is_port_of (view_by A.behaviour self.now).share.flat.members component port }
+        ensures { result ≡ is_port_of (view_by A.behaviour self.now).share.flat.members component
+            port }
     {
         let members = self.share.tables.members.as_slice();
         match place_of(members, component) {
@@ -165,7 +167,8 @@ impl<A: Atomic> LocalState<A> {
     pub fn keep(&mut self, events: &[Event]) -> Result<(), AllocError>
         requires kept { IsKept A.behaviour A.fits A.comes self.old }
         requires settled { settled_by A.behaviour self.old ≡ view_by A.behaviour self.old }
-        requires ports { are_for_ports (view_by A.behaviour self.old).share (meant_events events.now) ≡ true }
+        requires ports { are_for_ports (view_by A.behaviour self.old).share
+            (meant_events events.now) ≡ true }
         ensures is_kept { IsKept A.behaviour A.fits A.comes self.new }
         ensures kept { OnOk result (IsAfterEvents (meant_events events.now)
             (view_by A.behaviour self.old) (view_by A.behaviour self.new)) }
@@ -235,7 +238,8 @@ impl<A: Atomic> LocalState<A> {
         requires before_end { rank (view_by A.behaviour self.old).share.limit now
             < end_rank (view_by A.behaviour self.old).share }
         ensures kept { IsKept A.behaviour A.fits A.comes self.new }
-        ensures reacted { OnOk result (IsAfterInstant (rank (view_by A.behaviour self.old).share.limit now)
+        ensures reacted { OnOk result (IsAfterInstant
+            (rank (view_by A.behaviour self.old).share.limit now)
             (view_by A.behaviour self.old) (view_by A.behaviour self.new)) }
         ensures visits { OnOk result (CountsInstant
             (rank (view_by A.behaviour self.old).share.limit now)

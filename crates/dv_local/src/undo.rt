@@ -50,7 +50,8 @@ pub(crate) fn put_all_back(
 )
     requires within { AreWithin (length components.old.running.items) before.old.items }
     requires agenda { agenda.old ≡ waits_of components.old.running.items }
-    ensures components { components.new.running.items ≡ undone before.old.items components.old.running.items }
+    ensures components { components.new.running.items
+        ≡ undone before.old.items components.old.running.items }
     ensures visits { components.new.visits ≡ components.old.visits }
     ensures agenda { agenda.new ≡ waits_of components.new.running.items }
     ensures empty { before.new.items ≡ [] }

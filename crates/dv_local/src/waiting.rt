@@ -91,7 +91,8 @@ pub(crate) fn outside_at(
 // The place of the first input at a time or after it, by a binary search.
 fn inputs_before(inputs: &[Input], time: Time) -> usize
     requires { IsByTime inputs.now }
-    ensures place { (limit : ℕ) → AreOfRun limit inputs.now → result ≡ inputs_before limit inputs.now time }
+    ensures place { (limit : ℕ) → AreOfRun limit inputs.now
+        → result ≡ inputs_before limit inputs.now time }
     ensures within { result ≤ length inputs.now }
 {
     inputs.partition_point(|input| input.time.is_before(time))

@@ -1,5 +1,6 @@
 -- Lines, united in any grouping.
-use Rattle.std.proofs.Common.{◌≡◌, ℕ, zero, suc, ◌+◌, ◌<◌, ◌≤◌, List, [], ◌∷◌, ◌++◌, length, take, drop, slice_index_or, Option, None, Some, refl, sym, ap, ap₂, ◌∙◌, subst, arith, nat_lt, ⊎_elim}
+use Rattle.std.proofs.Common.{◌≡◌, ℕ, zero, suc, ◌+◌, ◌<◌, ◌≤◌, List, [], ◌∷◌, ◌++◌, length, take, drop, slice_index_or, Option}
+use Rattle.std.proofs.Common.{None, Some, refl, sym, ap, ap₂, ◌∙◌, subst, arith, nat_lt, ⊎_elim}
 use Rattle.std.specs.List.{All}
 use Rattle.std.specs.Option.{option_to_list}
 use Rattle.std.specs.Ordering.{match_ordering}
@@ -58,7 +59,8 @@ sooner_still a b c h k =
     at_tick first second (micro_of a b h first) (micro_of b c k second))
     (cases_Bool (nat_lt a.time.tick c.time.tick))
   where
-    at_tick : a.time.tick ≡ b.time.tick → b.time.tick ≡ c.time.tick → a.time.micro ≤ b.time.micro → b.time.micro ≤ c.time.micro → line_cmp a c ≡ Less
+    at_tick : a.time.tick ≡ b.time.tick → b.time.tick ≡ c.time.tick → a.time.micro ≤ b.time.micro → b.time.micro ≤ c.time.micro
+        → line_cmp a c ≡ Less
     at_tick first second le more =
         ⊎_elim (λ t. less_micro a c (first ∙ second) (ltb-true a.time.micro c.time.micro t))
         (λ f.
@@ -102,7 +104,8 @@ swapped a b h k l =
 abbrev Bagged : Outer → Type 0
 Bagged o = IsBag o.values
 
-all_with : (P : Outer → Type 0) (z : Outer) (xs : List Outer) → P z → ((q : Outer) → P q → P (with_values q z)) → All P xs → All P (with_line z xs)
+all_with : (P : Outer → Type 0) (z : Outer) (xs : List Outer) → P z → ((q : Outer) → P q → P (with_values q z)) → All P xs
+    → All P (with_line z xs)
 all_with P z [] h more k = All-cons P z [] h (All-nil P)
 all_with P z (p ∷ ps) h more k = by_order (line_cmp z p) (all_with P z ps h more (All-tail P p ps k))
   where
@@ -154,26 +157,31 @@ merged-empty (x ∷ xs) = refl
 past : (x : Outer) (xs ys : List Outer) → All (λ (z : Outer). line_cmp z x ≡ Greater) ys → merged_lines (x ∷ xs) ys ≡ x ∷ merged_lines xs ys
 past x xs [] h = ap (λ (t : List Outer). x ∷ t) (sym (merged-empty xs))
 past x xs (y ∷ ys) h =
-    ap (λ (r : Ordering). match_ordering r (y ∷ merged_lines (x ∷ xs) ys) (with_values x y ∷ merged_lines xs ys) (x ∷ merged_lines xs (y ∷ ys)))
+    ap (λ (r : Ordering). match_ordering r (y ∷ merged_lines (x ∷ xs) ys) (with_values x y ∷ merged_lines xs ys)
+    (x ∷ merged_lines xs (y ∷ ys)))
     (All-head (λ (z : Outer). line_cmp z x ≡ Greater) y ys h)
 
 merged-first : (y : Outer) (xs ys : List Outer) → All (λ (z : Outer). line_cmp y z ≡ Less) ys
     → merged_lines xs (y ∷ ys) ≡ merged_lines (with_line y xs) ys
-merged-first y [] ys h = sym (past y [] ys (All-weaker (λ (z : Outer). line_cmp y z ≡ Less) (λ (z : Outer). line_cmp z y ≡ Greater) (λ z l. later y z l) ys h))
+merged-first y [] ys h = sym (past y [] ys (All-weaker (λ (z : Outer). line_cmp y z ≡ Less) (λ (z : Outer). line_cmp z y ≡ Greater)
+    (λ z l. later y z l) ys h))
 merged-first y (x ∷ xs) ys h = by_order (line_cmp y x) refl (merged-first y xs ys h)
   where
     by_order : (r : Ordering) → line_cmp y x ≡ r → merged_lines xs (y ∷ ys) ≡ merged_lines (with_line y xs) ys
         → match_ordering r (y ∷ merged_lines (x ∷ xs) ys) (with_values x y ∷ merged_lines xs ys) (x ∷ merged_lines xs (y ∷ ys))
         ≡ merged_lines (match_ordering r (y ∷ x ∷ xs) (with_values x y ∷ xs) (x ∷ with_line y xs)) ys
     by_order Less e more =
-        sym (past y (x ∷ xs) ys (All-weaker (λ (z : Outer). line_cmp y z ≡ Less) (λ (z : Outer). line_cmp z y ≡ Greater) (λ z l. later y z l) ys h))
+        sym (past y (x ∷ xs) ys (All-weaker (λ (z : Outer). line_cmp y z ≡ Less) (λ (z : Outer). line_cmp z y ≡ Greater)
+        (λ z l. later y z l) ys h))
     by_order Equal e more =
         sym (past (with_values x y) xs ys
-        (All-weaker (λ (z : Outer). line_cmp y z ≡ Less) (λ (z : Outer). line_cmp z x ≡ Greater) (λ z l. sym (alike_after y x z e) ∙ later y z l) ys h))
+        (All-weaker (λ (z : Outer). line_cmp y z ≡ Less) (λ (z : Outer). line_cmp z x ≡ Greater) (λ z l. sym (alike_after y x z e)
+        ∙ later y z l) ys h))
     by_order Greater e more =
         ap (λ (t : List Outer). x ∷ t) more
         ∙ sym (past x (with_line y xs) ys
-        (All-weaker (λ (z : Outer). line_cmp y z ≡ Less) (λ (z : Outer). line_cmp z x ≡ Greater) (λ z l. later x z (sooner_still x y z (sooner y x e) l)) ys h))
+        (All-weaker (λ (z : Outer). line_cmp y z ≡ Less) (λ (z : Outer). line_cmp z x ≡ Greater)
+        (λ z l. later x z (sooner_still x y z (sooner y x e) l)) ys h))
 
 pub merged_is_union : (xs ys : List Outer) → AreLines ys → merged_lines xs ys ≡ union_of_lines xs ys
 merged_is_union xs [] h = merged-empty xs
@@ -227,7 +235,8 @@ with_lines_swap y z (p ∷ ps) h k l =
     by_orders Less Less e d more =
         ap (λ (t : List Outer). match_ordering (line_cmp z y) (z ∷ y ∷ p ∷ ps) (with_values y z ∷ p ∷ ps) (y ∷ t)) (goes_first z p ps d)
         ∙ (swap_first y z (p ∷ ps) h k
-        ∙ sym (ap (λ (t : List Outer). match_ordering (line_cmp y z) (y ∷ z ∷ p ∷ ps) (with_values z y ∷ p ∷ ps) (z ∷ t)) (goes_first y p ps e)))
+        ∙ sym (ap (λ (t : List Outer). match_ordering (line_cmp y z) (y ∷ z ∷ p ∷ ps) (with_values z y ∷ p ∷ ps) (z ∷ t))
+        (goes_first y p ps e)))
     by_orders Less Equal e d more =
         goes_past z y (p ∷ ps) (later y z (sym (alike_after p z y (level z p d)) ∙ e))
         ∙ (ap (λ (t : List Outer). y ∷ t) (joins z p ps d) ∙ sym (goes_first y (with_values p z) ps e))
@@ -236,7 +245,8 @@ with_lines_swap y z (p ∷ ps) h k l =
         ∙ (ap (λ (t : List Outer). y ∷ t) (goes_past z p ps d) ∙ sym (goes_first y p (with_line z ps) e))
     by_orders Equal Less e d more =
         goes_first z (with_values p y) ps d
-        ∙ sym (goes_past y z (p ∷ ps) (later z y (sym (alike_after p y z (level y p e)) ∙ d)) ∙ ap (λ (t : List Outer). z ∷ t) (joins y p ps e))
+        ∙ sym (goes_past y z (p ∷ ps) (later z y (sym (alike_after p y z (level y p e)) ∙ d))
+        ∙ ap (λ (t : List Outer). z ∷ t) (joins y p ps e))
     by_orders Equal Equal e d more =
         joins z (with_values p y) ps d
         ∙ (ap (λ (o : Outer). o ∷ ps) (both (All-head Bagged p ps l)) ∙ sym (joins y (with_values p z) ps e))
@@ -244,7 +254,8 @@ with_lines_swap y z (p ∷ ps) h k l =
         goes_past z (with_values p y) ps d ∙ sym (joins y p (with_line z ps) e)
     by_orders Greater Less e d more =
         goes_first z p (with_line y ps) d
-        ∙ sym (goes_past y z (p ∷ ps) (later z y (sooner_still z p y d (sooner y p e))) ∙ ap (λ (t : List Outer). z ∷ t) (goes_past y p ps e))
+        ∙ sym (goes_past y z (p ∷ ps) (later z y (sooner_still z p y d (sooner y p e)))
+        ∙ ap (λ (t : List Outer). z ∷ t) (goes_past y p ps e))
     by_orders Greater Equal e d more =
         joins z p (with_line y ps) d ∙ sym (goes_past y (with_values p z) ps e)
     by_orders Greater Greater e d more =
@@ -263,7 +274,8 @@ with_both y z (p ∷ ps) e h k l = by_order (line_cmp y p) refl (with_both y z p
         ap (λ (v : Counts). at p.time p.port v ∷ ps) (sym (union_assoc p.values y.values z.values (All-head Bagged p ps l) h k))
         ∙ sym (ap (λ (r : Ordering). put r z (with_values p y) ps (with_line z ps)) (alike z y p e ∙ d))
     by_order Greater d more =
-        ap (λ (t : List Outer). p ∷ t) more ∙ sym (ap (λ (r : Ordering). put r z p (with_line y ps) (with_line z (with_line y ps))) (alike z y p e ∙ d))
+        ap (λ (t : List Outer). p ∷ t) more
+        ∙ sym (ap (λ (r : Ordering). put r z p (with_line y ps) (with_line z (with_line y ps))) (alike z y p e ∙ d))
 
 -- a line goes in before others or after them
 with_line_last : (z : Outer) (xs ys : List Outer) → Bagged z → All Bagged xs → All Bagged ys
@@ -278,7 +290,8 @@ with_line_within : (z : Outer) (xs ys : List Outer) → Bagged z → All Bagged 
     → union_of_lines xs (with_line z ys) ≡ with_line z (union_of_lines xs ys)
 with_line_within z xs [] h k l = refl
 with_line_within z xs (y ∷ ys) h k l =
-    by_order (line_cmp z y) refl (with_line_within z (with_line y xs) ys h (bagged_with y xs (All-head Bagged y ys l) k) (All-tail Bagged y ys l))
+    by_order (line_cmp z y) refl (with_line_within z (with_line y xs) ys h (bagged_with y xs (All-head Bagged y ys l) k)
+    (All-tail Bagged y ys l))
   where
     first : Bagged y
     first = All-head Bagged y ys l
@@ -347,7 +360,8 @@ second_sooner x y (x0 ∷ xs) ys rest None l here there t e = ap (merged_lines (
 second_sooner x y (x0 ∷ xs) ys rest (Some z) l here there t e =
     let same : z ≡ y = sym (there ∙ ap (λ (t : List Outer). slice_index_or t 0 y) e) in
     ap (merged_lines (x0 ∷ xs)) e
-    ∙ ap (λ (r : Ordering). match_ordering r (z ∷ merged_lines (x0 ∷ xs) rest) (with_values x0 z ∷ merged_lines xs rest) (x0 ∷ merged_lines xs (z ∷ rest)))
+    ∙ ap (λ (r : Ordering). match_ordering r (z ∷ merged_lines (x0 ∷ xs) rest) (with_values x0 z ∷ merged_lines xs rest)
+    (x0 ∷ merged_lines xs (z ∷ rest)))
     (ap₂ line_cmp same (sym here) ∙ t)
 
 pub first_sooner : (x y : Outer) (xs ys rest : List Outer) (r : Option Outer) → 0 < length ys
@@ -358,7 +372,8 @@ first_sooner x y xs (y0 ∷ ys) rest None l here there t e = ap (λ (l : List Ou
 first_sooner x y xs (y0 ∷ ys) rest (Some z) l here there t e =
     let same : z ≡ x = sym (here ∙ ap (λ (t : List Outer). slice_index_or t 0 x) e) in
     ap (λ (l : List Outer). merged_lines l (y0 ∷ ys)) e
-    ∙ ap (λ (r : Ordering). match_ordering r (y0 ∷ merged_lines (z ∷ rest) ys) (with_values z y0 ∷ merged_lines rest ys) (z ∷ merged_lines rest (y0 ∷ ys)))
+    ∙ ap (λ (r : Ordering). match_ordering r (y0 ∷ merged_lines (z ∷ rest) ys) (with_values z y0 ∷ merged_lines rest ys)
+    (z ∷ merged_lines rest (y0 ∷ ys)))
     (ap₂ line_cmp (sym there) same ∙ t)
 
 -- ---- lists of lines

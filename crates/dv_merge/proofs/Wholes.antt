@@ -1,5 +1,7 @@
 -- Parts of a run's trace.
-use Rattle.std.proofs.Common.{◌≡◌, ℕ, zero, suc, ◌+◌, ◌<◌, Bool, true, false, ◌&&◌, nat_eq, nat_le, nat_lt, cond, List, [], ◌∷◌, ◌++◌, length, map, slice_get, slice_index_or, Option, None, Some, option_map, refl, sym, ap, ap₂, ◌∙◌, subst, arith}
+use Rattle.std.proofs.Common.{◌≡◌, ℕ, zero, suc, ◌+◌, ◌<◌, Bool, true, false, ◌&&◌, nat_eq, nat_le, nat_lt, cond, List, [], ◌∷◌}
+use Rattle.std.proofs.Common.{◌++◌, length, map, slice_get, slice_index_or, Option, None, Some, option_map, refl, sym, ap, ap₂}
+use Rattle.std.proofs.Common.{◌∙◌, subst, arith}
 use Rattle.std.specs.List.{All}
 use Rattle.std.specs.Ordering.{is_lt, nat_cmp, ordering_then}
 use Rattle.std.specs.declared.cmp.Ordering.{Ordering}
@@ -56,10 +58,12 @@ are_lines parts h =
     All-map AreLines (λ (x : PartOf). x.outer) parts
     (λ k d lt. h k (slice_index_or parts k d) (slice_get-get_or parts k d lt))
 
-all_processes : (owner : ℕ → ℕ) (n : ℕ) (es : List Entry) → All (λ (e : Entry). owner e.component < n) es → of_processes owner 0 (0 + n) es ≡ es
+all_processes : (owner : ℕ → ℕ) (n : ℕ) (es : List Entry) → All (λ (e : Entry). owner e.component < n) es
+    → of_processes owner 0 (0 + n) es ≡ es
 all_processes owner n es h =
     filter_keeps (λ (e : Entry). nat_le 0 (owner e.component) && nat_lt (owner e.component) (0 + n)) es
-    (All-weaker (λ (e : Entry). owner e.component < n) (λ (e : Entry). nat_le 0 (owner e.component) && nat_lt (owner e.component) (0 + n) ≡ true)
+    (All-weaker (λ (e : Entry). owner e.component < n) (λ (e : Entry). nat_le 0 (owner e.component) && nat_lt (owner e.component) (0 + n)
+    ≡ true)
     (λ e lt. within (owner e.component) lt) es h)
   where
     within : (k : ℕ) → k < n → nat_le 0 k && nat_lt k (0 + n) ≡ true
@@ -128,7 +132,8 @@ lower_all e (f ∷ fs) t low s lt h r =
     All-cons (λ (f : Entry). precedes e f ≡ true) f fs (lower e f t s (All-head (IsAt t) f fs h) (omega (arith, r.0)))
     (lower_all e fs t (suc f.component) s (omega (arith, r.0)) (All-tail (IsAt t) f fs h) r.1)
 
-instant_in_order : (t : Time) (low : ℕ) (es : List Entry) → All (IsAt t) es → RiseFrom low (map (λ (f : Entry). f.component) es) → AreInOrder es
+instant_in_order : (t : Time) (low : ℕ) (es : List Entry) → All (IsAt t) es → RiseFrom low (map (λ (f : Entry). f.component) es)
+    → AreInOrder es
 instant_in_order t low [] h r = tt
 instant_in_order t low (e ∷ es) h r = (
   lower_all e es t (suc e.component) (All-head (IsAt t) e es h) (omega arith) (All-tail (IsAt t) e es h) r.1,
@@ -140,7 +145,8 @@ in_order_append : (xs ys : List Entry) (t : Time) → AreInOrder xs → AreInOrd
 in_order_append [] ys t h k early now = k
 in_order_append (x ∷ xs) ys t h k early now = (
   All-append (λ (f : Entry). precedes x f ≡ true) xs ys h.0
-      (All-weaker (IsAt t) (λ (f : Entry). precedes x f ≡ true) (λ f s. earlier x f t (All-head (λ (e : Entry). time_cmp e.time t ≡ Less) x xs early) s) ys now),
+      (All-weaker (IsAt t) (λ (f : Entry). precedes x f ≡ true)
+      (λ f s. earlier x f t (All-head (λ (e : Entry). time_cmp e.time t ≡ Less) x xs early) s) ys now),
   in_order_append xs ys t h.1 k (All-tail (λ (e : Entry). time_cmp e.time t ≡ Less) x xs early) now,
 )
 
@@ -172,7 +178,8 @@ lines_append [] ys t h k early now = k
 lines_append (x ∷ xs) ys t h k early now = (
   h.0,
   All-append (λ (p : Outer). line_cmp x p ≡ Less) xs ys h.1
-      (All-weaker (LeavesAt t) (λ (p : Outer). line_cmp x p ≡ Less) (λ p s. line_earlier x p t (All-head (λ (o : Outer). time_cmp o.time t ≡ Less) x xs early) s) ys now),
+      (All-weaker (LeavesAt t) (λ (p : Outer). line_cmp x p ≡ Less)
+      (λ p s. line_earlier x p t (All-head (λ (o : Outer). time_cmp o.time t ≡ Less) x xs early) s) ys now),
   lines_append xs ys t h.2 k (All-tail (λ (o : Outer). time_cmp o.time t ≡ Less) x xs early) now,
 )
 
@@ -186,7 +193,8 @@ instant_lines limit now port (b ∷ bs) h = by_test (nat_eq (size b) 0) (instant
     by_test true rest = rest
     by_test false rest = (
       All-head IsBag b bs h,
-      lines_lower (record { time = time_of limit now; port = port; values = b }) (outer_from limit now (port + 1) bs) (time_of limit now) (port + 1) refl (omega arith)
+      lines_lower (record { time = time_of limit now; port = port; values = b }) (outer_from limit now (port + 1) bs) (time_of limit now)
+          (port + 1) refl (omega arith)
           (lines_of_instant limit now (port + 1) bs) (ports_rise limit now (port + 1) bs),
       rest,
     )
@@ -210,12 +218,14 @@ module _ {I : Type 0} (limit : ℕ) (net : Network I) (inputs : ℕ → I) where
   trace_in_order rise (suc n) =
       let now = traces_at limit net inputs n in
       let early = trace_is_before limit net inputs n in
-      in_order_append (trace_before limit net inputs n).entries (trace_at limit net inputs n).entries (time_of limit n) (trace_in_order rise n)
+      in_order_append (trace_before limit net inputs n).entries (trace_at limit net inputs n).entries (time_of limit n)
+      (trace_in_order rise n)
       (instant_in_order (time_of limit n) 0 (trace_at limit net inputs n).entries now.0
       (numbers_rise limit n 0 net.numbers (instant limit net n (inputs n) (components_at limit net inputs n)) rise))
       early.0 now.0
 
-  part_lines : LeavesLinearly net → (who : ℕ → Bool) (n : ℕ) → SendsBags limit net inputs n → AreLines (part_before who limit net inputs n).outer
+  part_lines : LeavesLinearly net → (who : ℕ → Bool) (n : ℕ) → SendsBags limit net inputs n
+      → AreLines (part_before who limit net inputs n).outer
   part_lines linear who zero h = tt
   part_lines linear who (suc n) h =
       let now = parts_at limit net inputs who n in
@@ -223,7 +233,8 @@ module _ {I : Type 0} (limit : ℕ) (net : Network I) (inputs : ℕ → I) where
       let sent = sent_among who net.numbers (emissions_at limit net inputs n) in
       lines_append (part_before who limit net inputs n).outer (part_at who limit net inputs n).outer (time_of limit n)
       (part_lines linear who n (λ k lt. h k (omega arith)))
-      (instant_lines limit n 0 (net.leaves sent) (linear.bags sent (bags_among who net.numbers (emissions_at limit net inputs n) (h n (omega arith)))))
+      (instant_lines limit n 0 (net.leaves sent)
+      (linear.bags sent (bags_among who net.numbers (emissions_at limit net inputs n) (h n (omega arith)))))
       early.1 now.1
 
   pub committed : (owner : ℕ → ℕ) (n : ℕ) (parts : List PartOf) → AreCommitted limit net inputs owner n parts

@@ -22,11 +22,12 @@ pub record ArePartsOf (owner : ℕ → ℕ) (whole : PartOf) (parts : List PartO
   pub outer : united (lines_at parts) (length parts) ≡ whole.outer
 
 -- A run in which each process has committed its part before one rank.
-pub record AreCommitted {I : Type 0} (limit : ℕ) (net : Network I) (inputs : ℕ → I) (owner : ℕ → ℕ) (n : ℕ) (parts : List PartOf) : Type 0 where
-  pub ready : IsReady net
-  pub rise : RiseFrom 0 net.numbers
-  pub outputs : LeavesOnlyWhatIsSent net
-  pub linear : LeavesLinearly net
-  pub bags : SendsBags limit net inputs n
-  pub owned : (k : ℕ) → owner k < length parts
-  pub each : (p : ℕ) (x : PartOf) → slice_get parts p ≡ Some x → x ≡ part_before (λ k. nat_eq (owner k) p) limit net inputs n
+pub record AreCommitted {I : Type 0} (limit : ℕ) (net : Network I) (inputs : ℕ → I) (owner : ℕ → ℕ) (n : ℕ) (parts : List PartOf) : Type 0
+  where
+    pub ready : IsReady net
+    pub rise : RiseFrom 0 net.numbers
+    pub outputs : LeavesOnlyWhatIsSent net
+    pub linear : LeavesLinearly net
+    pub bags : SendsBags limit net inputs n
+    pub owned : (k : ℕ) → owner k < length parts
+    pub each : (p : ℕ) (x : PartOf) → slice_get parts p ≡ Some x → x ≡ part_before (λ k. nat_eq (owner k) p) limit net inputs n

@@ -29,7 +29,8 @@ fn both_lines(
 ) -> Result<Option<Outer>, AllocError>
     requires first { 0 < length first.old.items }
     requires second { 0 < length second.old.items }
-    ensures { IfOk result (λ line. AreBoth first.old.items second.old.items line first.new.items second.new.items) }
+    ensures { IfOk result (λ line. AreBoth first.old.items second.old.items line first.new.items
+        second.new.items) }
 {
     let Some(mut line) = first.pop_front() else {
         return Ok(None);
@@ -48,8 +49,10 @@ fn next_line(
 ) -> Result<Option<Outer>, AllocError>
     ensures next { IfOk result (λ line. merged_lines first.old.items second.old.items
         ≡ option_to_list line ++ merged_lines first.new.items second.new.items) }
-    ensures none { IfOk result (λ line. line ≡ None → merged_lines first.new.items second.new.items ≡ []) }
-    ensures less { IfOk result (λ line. (length first.new.items + length second.new.items) + length (option_to_list line)
+    ensures none { IfOk result (λ line. line ≡ None
+        → merged_lines first.new.items second.new.items ≡ []) }
+    ensures less { IfOk result (λ line. (length first.new.items + length second.new.items)
+        + length (option_to_list line)
         ≤ length first.old.items + length second.old.items) }
 {
     if first.is_empty() {
@@ -67,7 +70,8 @@ fn next_line(
 
 // Two lists of lines, as one.
 fn unite_two(alloc: Global, first: Vec<Outer>, second: Vec<Outer>) -> Result<Vec<Outer>, AllocError>
-    ensures { IfOk result (λ all. AreLines second.items → all.items ≡ union_of_lines first.items second.items) }
+    ensures { IfOk result (λ all. AreLines second.items
+        → all.items ≡ union_of_lines first.items second.items) }
 {
     let count = first.len() + second.len();
     let mut first = VecDeque::from_vec(first);

@@ -18,7 +18,8 @@ use Rattle.dv_syntax.specs.Grammar.{the_limits, IsFileOf}
 use Rattle.dv_parser.specs.Reading.{Obstacle, Read, read_then, choose, begins, after, name_at, is_end, many, many_at, becoming}
 use Rattle.dv_parser.specs.Reading.{Reader, braces_at, item_at, coupled_item_at, atomic_at, coupled_at, model_at, file_at}
 use Rattle.dv_parser.specs.Reading.{with_items, with_item, with_coupled_items, with_coupled_item, empty_atomic, empty_coupled}
-use Rattle.dv_parser.specs.Reading.{atomic_tree_at, coupled_tree_at, tree_at, file_tree_at, refusal_in, obstacle_of, answer_of, Fails, IsRefused}
+use Rattle.dv_parser.specs.Reading.{atomic_tree_at, coupled_tree_at, tree_at, file_tree_at, refusal_in, obstacle_of, answer_of}
+use Rattle.dv_parser.specs.Reading.{Fails, IsRefused}
 use Rattle.dv_parser.proofs.Tokens.{then_ok, ok_is, err_is}
 use Rattle.dv_parser.proofs.Readers.{Shortens, later}
 use Rattle.dv_parser.proofs.Models.{model_shortens, file_sound}

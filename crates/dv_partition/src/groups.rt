@@ -40,7 +40,8 @@ impl Groups {
         requires few { processes ≤ greatest_processes }
         requires owned { AllByRecursion (λ p. p < processes) owners.items }
         requires fit { length owners.items ≤ 2 ^ 32 }
-        ensures { IfOk result (λ groups. groups ≡ record { processes = processes; owners = owners.items }) }
+        ensures { IfOk result (λ groups. groups
+            ≡ record { processes = processes; owners = owners.items }) }
     {
         let numbers = numbers_below(alloc, owners.len())?;
         let members = parted(alloc, processes, &owners, numbers)?;

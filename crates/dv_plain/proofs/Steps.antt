@@ -248,7 +248,8 @@ outputs_from-drop limit (i ∷ is) now (r ∷ rs) (suc k) = outputs_from-drop li
 
 -- what is so of the output of one component, in the list of what is so of all
 pub given-at :
-    {Y : Type 0} (f : Result (List Counts) Fault → Y) (limit : ℕ) (is : List Instance) (now : ℕ) (rs : List Running) (k : ℕ) (m : AtomicTree)
+    {Y : Type 0} (f : Result (List Counts) Fault → Y) (limit : ℕ) (is : List Instance) (now : ℕ) (rs : List Running) (k : ℕ)
+    (m : AtomicTree)
     (r : Running) (all : List Y) (d : Y) →
     slice_get (map (λ (i : Instance). i.model) is) k ≡ Some m → k < length rs → r ≡ get_or rs k r →
     all ≡ map f (outputs_from limit is now rs 0) →

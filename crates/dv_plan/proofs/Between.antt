@@ -16,7 +16,8 @@ nothing_to from to (l ∷ ls) h =
     by_test true = refl
     by_test false = refl
 
-pub nothing_beyond : (c : CutOf) (p q : ℕ) → c.grouping.processes ≤ q → ((k : ℕ) → owner_of c.grouping k < c.grouping.processes) → between c p q ≡ []
+pub nothing_beyond : (c : CutOf) (p q : ℕ) → c.grouping.processes ≤ q → ((k : ℕ) → owner_of c.grouping k < c.grouping.processes)
+    → between c p q ≡ []
 nothing_beyond c p q past below =
     nothing_to (owned_by c.grouping p) (owned_by c.grouping q) c.direct
     (λ k. ne_eqb (owner_of c.grouping k) q (λ e. let less = below k in absurd (omega (arith, e, less, past))))

@@ -1,5 +1,6 @@
 -- The least of responses of holds is one of a hold.
-use Rattle.std.proofs.Common.{ℕ, ◌+◌, ◌<◌, ◌^◌, Bool, true, false, cond, nat_eq, List, [], ◌∷◌, map, Option, Some, None, arith, subst, sym, ◌≡◌}
+use Rattle.std.proofs.Common.{ℕ, ◌+◌, ◌<◌, ◌^◌, Bool, true, false, cond, nat_eq, List, [], ◌∷◌, map, Option, Some, None, arith}
+use Rattle.std.proofs.Common.{subst, sym, ◌≡◌}
 use Rattle.std.specs.List.{All}
 use Rattle.dv_bag.specs.declared.response.Response.{Response}
 use Rattle.dv_bag.specs.declared.response.Response.TheVariants.{Ticks, Never}
@@ -25,15 +26,18 @@ earlier_short None b h k = k
 earlier_short (Some x) None h k = h
 earlier_short (Some x) (Some y) h k = omega (arith, h, k)
 
-least_short : (owner : ℕ → ℕ) (p k : ℕ) (rs : List Response) → All (λ (r : Response). IsOfHold r) rs → IsShort (least_response owner p k (map ticks_of rs))
+least_short : (owner : ℕ → ℕ) (p k : ℕ) (rs : List Response) → All (λ (r : Response). IsOfHold r) rs
+    → IsShort (least_response owner p k (map ticks_of rs))
 least_short owner p k [] h = tt
 least_short owner p k (r ∷ rs) h =
     by_test (nat_eq (owner k) p) (least_short owner p (k + 1) rs (all_rest (λ (r : Response). IsOfHold r) r rs h))
   where
     by_test : (t : Bool) → IsShort (least_response owner p (k + 1) (map ticks_of rs)) →
-        IsShort (cond t (earlier (ticks_of r) (least_response owner p (k + 1) (map ticks_of rs))) (least_response owner p (k + 1) (map ticks_of rs)))
+        IsShort (cond t (earlier (ticks_of r) (least_response owner p (k + 1) (map ticks_of rs)))
+        (least_response owner p (k + 1) (map ticks_of rs)))
     by_test true rest =
-        earlier_short (ticks_of r) (least_response owner p (k + 1) (map ticks_of rs)) (to_short r (all_first (λ (r : Response). IsOfHold r) r rs h)) rest
+        earlier_short (ticks_of r) (least_response owner p (k + 1) (map ticks_of rs))
+        (to_short r (all_first (λ (r : Response). IsOfHold r) r rs h)) rest
     by_test false rest = rest
 
 pub least_hold : (owner : ℕ → ℕ) (p : ℕ) (rs : List Response) (r : Response) → All (λ (r : Response). IsOfHold r) rs →

@@ -1,5 +1,6 @@
 -- Inputs that are kept of inputs whose times never fall.
-use Rattle.std.proofs.Common.{◌≡◌, ℕ, ◌+◌, ◌<◌, ◌≤◌, Bool, true, false, cond, List, [], ◌∷◌, ◌++◌, length, drop, filter, get_or, ap, sym, ◌∙◌, subst, arith}
+use Rattle.std.proofs.Common.{◌≡◌, ℕ, ◌+◌, ◌<◌, ◌≤◌, Bool, true, false, cond, List, [], ◌∷◌, ◌++◌, length, drop, filter, get_or}
+use Rattle.std.proofs.Common.{ap, sym, ◌∙◌, subst, arith}
 use Rattle.std.proofs.lemmas.List.{at_drop_more}
 use Rattle.std.proofs.lemmas.Bool.Decides.{nat_tests}
 use Rattle.dv_time.specs.Limits.{greatest_tick}
@@ -44,7 +45,8 @@ small_at low [] y ys h = small_of low y ys h
 small_at low (x ∷ xs) y ys h = small_at x.time xs y ys (rest_of low x (xs ++ y ∷ ys) h)
 
 -- one more that passes comes after those that are kept
-module _ (test : Input → Bool) (xs kept : List Input) (i : ℕ) (d x : Input) (lt : i < length xs) (at : get_or xs i d ≡ x) (passes : test x ≡ true)
+module _ (test : Input → Bool) (xs kept : List Input) (i : ℕ) (d x : Input) (lt : i < length xs) (at : get_or xs i d ≡ x)
+    (passes : test x ≡ true)
     (so_far : kept ++ filter test (drop i xs) ≡ filter test xs) (from : IsFrom (start_of 0) xs) where
   all_from : IsFrom (start_of 0) (kept ++ x ∷ filter test (drop (i + 1) xs))
   all_from =

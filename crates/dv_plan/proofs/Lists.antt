@@ -1,5 +1,6 @@
 -- Lists of which some items are kept.
-use Rattle.std.proofs.Common.{◌≡◌, ◌⊎◌, inl, inr, ◌++◌, ℕ, zero, suc, ◌+◌, ◌<◌, ◌≤◌, Bool, true, false, ◌||◌, cond, nat_eq, List, [], ◌∷◌, length, map, filter, drop, get_or, Some, refl, ap, sym, ◌∙◌, arith}
+use Rattle.std.proofs.Common.{◌≡◌, ◌⊎◌, inl, inr, ◌++◌, ℕ, zero, suc, ◌+◌, ◌<◌, ◌≤◌, Bool, true, false, ◌||◌, cond, nat_eq}
+use Rattle.std.proofs.Common.{List, [], ◌∷◌, length, map, filter, drop, get_or, Some, refl, ap, sym, ◌∙◌, arith}
 use Rattle.std.specs.List.{All, AllByRecursion, Contains, list_any, slice_get}
 use Rattle.std.proofs.lemmas.List.{at_drop_more}
 use Rattle.dv_partition.specs.Steps.{with_key}
@@ -38,13 +39,15 @@ module _ {X : Type 0} where
   any_some test [] h = absurd (cc)
   any_some test (x ∷ xs) h = by_test (test x) refl (any_some test xs) h
     where
-      by_test : (b : Bool) → test x ≡ b → (list_any test xs ≡ true → (y : X) × Contains xs y × (test y ≡ true)) → (b || list_any test xs) ≡ true →
+      by_test : (b : Bool) → test x ≡ b → (list_any test xs ≡ true → (y : X) × Contains xs y × (test y ≡ true))
+          → (b || list_any test xs) ≡ true →
           (y : X) × Contains (x ∷ xs) y × (test y ≡ true)
       by_test true e rest h = (x, (0, omega arith, refl), e)
       by_test false e rest h = let r = rest h in (r.0, (suc r.1.0, omega (arith, r.1.1), r.1.2), r.2)
 
   -- an item of a list with one more
-  pub get_pushed : (xs : List X) (x y : X) (p : ℕ) → slice_get (xs ++ x ∷ []) p ≡ Some y → (slice_get xs p ≡ Some y) ⊎ ((p ≡ length xs) × (y ≡ x))
+  pub get_pushed : (xs : List X) (x y : X) (p : ℕ) → slice_get (xs ++ x ∷ []) p ≡ Some y
+      → (slice_get xs p ≡ Some y) ⊎ ((p ≡ length xs) × (y ≡ x))
   get_pushed [] x y zero e = let same : y ≡ x = cc in inr (refl, same)
   get_pushed [] x y (suc p) e = absurd (cc)
   get_pushed (z ∷ xs) x y zero e = inl e
@@ -54,7 +57,8 @@ module _ {X : Type 0} where
   ]
 
   -- the first of what is left
-  pub first_left : (xs : List X) (i : ℕ) (x d : X) (rest : List X) → i < length xs → drop i xs ≡ x ∷ rest → (get_or xs i d ≡ x) × (drop (i + 1) xs ≡ rest)
+  pub first_left : (xs : List X) (i : ℕ) (x d : X) (rest : List X) → i < length xs → drop i xs ≡ x ∷ rest
+      → (get_or xs i d ≡ x) × (drop (i + 1) xs ≡ rest)
   first_left xs i x d rest lt e =
       let both : get_or xs i d ∷ drop (i + 1) xs ≡ x ∷ rest = sym (at_drop_more (λ ys. ys) xs i d lt) ∙ e in
       (cc, cc)
@@ -79,7 +83,8 @@ map_kept f test [] = refl
 map_kept f test (x ∷ xs) = by_test (test (f x)) (map_kept f test xs)
   where
     by_test : (b : Bool) → map f (filter (λ y. test (f y)) xs) ≡ filter test (map f xs) →
-        map f (cond b (x ∷ filter (λ y. test (f y)) xs) (filter (λ y. test (f y)) xs)) ≡ cond b (f x ∷ filter test (map f xs)) (filter test (map f xs))
+        map f (cond b (x ∷ filter (λ y. test (f y)) xs) (filter (λ y. test (f y)) xs))
+        ≡ cond b (f x ∷ filter test (map f xs)) (filter test (map f xs))
     by_test true rest = ap (λ ys. f x ∷ ys) rest
     by_test false rest = rest
 
@@ -88,10 +93,12 @@ lower low high [] le h = tt
 lower low high (p ∷ ps) le h = (omega (arith, le, h.0), h.1)
 
 -- numbers of components that are kept rise as they did
-pub rise_kept : (test : Member → Bool) (low : ℕ) (ms : List Member) → RiseFrom low (numbers_of ms) → RiseFrom low (numbers_of (filter test ms))
+pub rise_kept : (test : Member → Bool) (low : ℕ) (ms : List Member) → RiseFrom low (numbers_of ms)
+    → RiseFrom low (numbers_of (filter test ms))
 rise_kept test low [] h = tt
 rise_kept test low (m ∷ ms) h = by_test (test m) (rise_kept test (suc m.number) ms h.1)
   where
-    by_test : (b : Bool) → RiseFrom (suc m.number) (numbers_of (filter test ms)) → RiseFrom low (numbers_of (cond b (m ∷ filter test ms) (filter test ms)))
+    by_test : (b : Bool) → RiseFrom (suc m.number) (numbers_of (filter test ms))
+        → RiseFrom low (numbers_of (cond b (m ∷ filter test ms) (filter test ms)))
     by_test true rest = (h.0, rest)
     by_test false rest = lower low (suc m.number) (numbers_of (filter test ms)) (omega (arith, h.0)) rest

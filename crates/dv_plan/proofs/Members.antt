@@ -13,7 +13,8 @@ use Rattle.dv_plan.specs.Wholes.{AreMembers, IsMember}
 use Rattle.dv_plan.proofs.Lists.{all_at}
 
 module _ {S : Type 0} (fits : S → State → Type 0) (limit : ℕ) (models : List S) where
-  fit_at : (ms : List Member) (p : ℕ) (m : Member) (r : Running) → AllByRecursion (IsMember fits limit models) ms → slice_get ms p ≡ Some m →
+  fit_at : (ms : List Member) (p : ℕ) (m : Member) (r : Running) → AllByRecursion (IsMember fits limit models) ms
+      → slice_get ms p ≡ Some m →
       slice_get (starts_of ms) p ≡ Some r → FitsAt fits models m.model r.state
   fit_at [] p m r h e f = absurd (cc)
   fit_at (x ∷ ms) zero m r h e f =
@@ -23,7 +24,8 @@ module _ {S : Type 0} (fits : S → State → Type 0) (limit : ℕ) (models : Li
       (subst (λ (q : Running). FitsAt fits models x.model q.state) start h.0.fit)
   fit_at (x ∷ ms) (suc p) m r h e f = fit_at ms p m r h.1 e f
 
-pub tables_by_members : {S : Type 0} (fits : S → State → Type 0) (t : Tables S) → AreMembers fits t.limit t.models.items t.members.items → AreTables fits t
+pub tables_by_members : {S : Type 0} (fits : S → State → Type 0) (t : Tables S) → AreMembers fits t.limit t.models.items t.members.items
+    → AreTables fits t
 tables_by_members fits t h =
     let all = all_at (IsMember fits t.limit t.models.items) t.members.items h.each in
     record {
@@ -31,7 +33,8 @@ tables_by_members fits t h =
       models = λ k d lt. (all k d lt).model;
       starts = record {
         count = length-map t.members.items (λ (m : Member). m.start);
-        waits = All-map (λ (r : Running). IsWaitOfRun t.limit r.wait) (λ (m : Member). m.start) t.members.items (λ k d lt. (all k d lt).wait);
+        waits = All-map (λ (r : Running). IsWaitOfRun t.limit r.wait) (λ (m : Member). m.start) t.members.items
+            (λ k d lt. (all k d lt).wait);
         fit = λ p m r e f. fit_at fits t.limit t.models.items t.members.items p m r h.each e f;
       };
     }

@@ -1,5 +1,6 @@
 -- What comes from outside and leads to no component of a share makes no difference to it.
-use Rattle.std.proofs.Common.{◌≡◌, ◌⊎◌, ℕ, zero, suc, ◌+◌, ◌*◌, ◌<◌, ◌≤◌, Bool, true, false, ◌&&◌, ◌||◌, cond, nat_eq, nat_le, nat_lt, List, [], ◌∷◌, ◌++◌, map, filter, inl, inr, refl, ap, sym, ◌∙◌, arith}
+use Rattle.std.proofs.Common.{◌≡◌, ◌⊎◌, ℕ, zero, suc, ◌+◌, ◌*◌, ◌<◌, ◌≤◌, Bool, true, false, ◌&&◌, ◌||◌, cond, nat_eq, nat_le}
+use Rattle.std.proofs.Common.{nat_lt, List, [], ◌∷◌, ◌++◌, map, filter, inl, inr, refl, ap, sym, ◌∙◌, arith}
 use Rattle.std.specs.List.{AllByRecursion}
 use Rattle.std.proofs.Math.Nat.{mul-zero}
 use Rattle.std.proofs.lemmas.Bool.{and_parts, cases_Bool, cases_lt, eq-eqb, eqb-true, false≢true}
@@ -95,16 +96,19 @@ module _ (k port : ℕ) where
   no_copies l (p ∷ ps) b e =
       let times : p.1 * l.copies ≡ 0 = ap (λ n. p.1 * n) e ∙ mul-zero p.1 in
       let none : capped (p.1 * l.copies) ≡ 0 = omega (arith, times) in
-      ap (λ n. cond (nat_eq l.to k && nat_eq l.to_port port) (with_copies p.0 n (delivered k port (carried_by l ps) b)) (delivered k port (carried_by l ps) b)) none
+      ap (λ n. cond (nat_eq l.to k && nat_eq l.to_port port) (with_copies p.0 n (delivered k port (carried_by l ps) b))
+      (delivered k port (carried_by l ps) b)) none
       ∙ by_test (nat_eq l.to k && nat_eq l.to_port port)
       ∙ no_copies l ps b e
     where
-      by_test : (t : Bool) → cond t (with_copies p.0 0 (delivered k port (carried_by l ps) b)) (delivered k port (carried_by l ps) b) ≡ delivered k port (carried_by l ps) b
+      by_test : (t : Bool) → cond t (with_copies p.0 0 (delivered k port (carried_by l ps) b)) (delivered k port (carried_by l ps) b)
+          ≡ delivered k port (carried_by l ps) b
       by_test true = refl
       by_test false = refl
 
   -- one that leads to none of the components brings none of them anything
-  nowhere : (ms : List MemberOfCode) (l : Link) (bag b : Counts) → is_port ms k port ≡ true → leads ms l ≡ false → delivered k port (carried_by l bag) b ≡ b
+  nowhere : (ms : List MemberOfCode) (l : Link) (bag b : Counts) → is_port ms k port ≡ true → leads ms l ≡ false
+      → delivered k port (carried_by l bag) b ≡ b
   nowhere ms l bag b there idle = elim (cases_Bool (nat_eq l.to k && nat_eq l.to_port port)) [
     | inr f ↦ passed l bag b f
     | inl t ↦

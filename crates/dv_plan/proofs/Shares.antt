@@ -1,5 +1,6 @@
 -- What is made of the components of a process is its share of the job.
-use Rattle.std.proofs.Common.{◌≡◌, inl, inr, [], ◌∷◌, ◌++◌, Some, ℕ, ◌<◌, ◌≤◌, Bool, true, false, ◌&&◌, nat_eq, nat_le, nat_lt, List, length, map, get_or, Option, None, refl, ap, sym, ◌∙◌, subst, arith, zero-add}
+use Rattle.std.proofs.Common.{◌≡◌, inl, inr, [], ◌∷◌, ◌++◌, Some, ℕ, ◌<◌, ◌≤◌, Bool, true, false, ◌&&◌, nat_eq, nat_le, nat_lt}
+use Rattle.std.proofs.Common.{List, length, map, get_or, Option, None, refl, ap, sym, ◌∙◌, subst, arith, zero-add}
 use Rattle.std.specs.List.{All, Contains, range_with_len, slice_get}
 use Rattle.std.proofs.lemmas.Bool.{false≢true}
 use Rattle.std.proofs.lemmas.Bool.Decides.{nat_tests}
@@ -72,7 +73,8 @@ share_with limit horizon f outside incoming outgoing response = record {
   response = response;
 }
 
-module _ {S : Type 0} (behaviour : S → Behaviour) (fits : S → State → Type 0) (w : Whole S) (inputs : List Input) (g : Grouping) (c : Common)
+module _ {S : Type 0} (behaviour : S → Behaviour) (fits : S → State → Type 0) (w : Whole S) (inputs : List Input) (g : Grouping)
+    (c : Common)
     (h : IsWhole fits w) (common : IsCommonOf w inputs g c) (p : ℕ) (there : p < g.processes) (s : Share S)
     (made : IsMadeOf c p (members_of g p w.members.items) w.models.items s) where
   abbrev job : Job
@@ -127,7 +129,8 @@ module _ {S : Type 0} (behaviour : S → Behaviour) (fits : S → State → Type
   response_same =
       made.response None
       ∙ ap (λ (rs : List (Option ℕ)). get_or rs p None) common.responses
-      ∙ get_or-map-range_with_len (λ q. least_response (owner_of g) q 0 (map ticks_of w.responses.items)) 0 g.processes p p None there (zero-add p)
+      ∙ get_or-map-range_with_len (λ q. least_response (owner_of g) q 0 (map ticks_of w.responses.items)) 0 g.processes p p None there
+      (zero-add p)
 
   inputs_same : s.inputs ≡ led_inputs w.limit w.ports own target.entrances inputs
   inputs_same =
@@ -179,8 +182,10 @@ module _ {S : Type 0} (behaviour : S → Behaviour) (fits : S → State → Type
   same =
       let out = (share_by behaviour s).outside in
       let t = share_of job p in
-      ap (λ (n : ℕ). share_with n s.horizon (flat_by behaviour s.tables) out s.sources.items (map outgoing_of s.ways.items) (ticks_of s.response)) limit
-      ∙ ap (λ (n : ℕ). share_with w.limit n (flat_by behaviour s.tables) out s.sources.items (map outgoing_of s.ways.items) (ticks_of s.response))
+      ap (λ (n : ℕ). share_with n s.horizon (flat_by behaviour s.tables) out s.sources.items (map outgoing_of s.ways.items)
+      (ticks_of s.response)) limit
+      ∙ ap (λ (n : ℕ). share_with w.limit n (flat_by behaviour s.tables) out s.sources.items (map outgoing_of s.ways.items)
+      (ticks_of s.response))
       (made.horizon ∙ common.horizon)
       ∙ ap (λ (f : Flat). share_with w.limit w.horizon f out s.sources.items (map outgoing_of s.ways.items) (ticks_of s.response)) flat_same
       ∙ ap (λ (ns : List ℕ). share_with w.limit w.horizon target out ns (map outgoing_of s.ways.items) (ticks_of s.response))
@@ -190,7 +195,8 @@ module _ {S : Type 0} (behaviour : S → Behaviour) (fits : S → State → Type
       ∙ ap (outgoing_from job p 0) common.links)
       ∙ ap (λ (r : Option ℕ). share_with w.limit w.horizon target out t.incoming t.outgoing r) response_same
 
-  outside_same : (n : ℕ) → inputs_at s.tables.limit s.ports s.inputs n ≡ inputs_at w.limit w.ports (led_inputs w.limit w.ports own target.entrances inputs) n
+  outside_same : (n : ℕ) → inputs_at s.tables.limit s.ports s.inputs n
+      ≡ inputs_at w.limit w.ports (led_inputs w.limit w.ports own target.entrances inputs) n
   outside_same n =
       ap (λ (l : ℕ). inputs_at l s.ports s.inputs n) limit
       ∙ ap (λ (q : ℕ). inputs_at w.limit q s.inputs n) ports
@@ -215,21 +221,25 @@ module _ {S : Type 0} (behaviour : S → Behaviour) (fits : S → State → Type
   }
 
 -- so is each of several
-pub shares_of_plan : {S : Type 0} (behaviour : S → Behaviour) (fits : S → State → Type 0) (w : Whole S) (inputs : List Input) (g : Grouping) {c : Common}
-    (lists : List (List Member)) (code : List S) (shares : List (Share S)) → AreMade c lists code shares → IsWhole fits w → IsCommonOf w inputs g c
+pub shares_of_plan : {S : Type 0} (behaviour : S → Behaviour) (fits : S → State → Type 0) (w : Whole S) (inputs : List Input)
+    (g : Grouping) {c : Common}
+    (lists : List (List Member)) (code : List S) (shares : List (Share S)) → AreMade c lists code shares → IsWhole fits w
+    → IsCommonOf w inputs g c
     → lists ≡ map (λ p. members_of g p w.members.items) (range_with_len 0 g.processes) → code ≡ w.models.items → length shares ≡ g.processes
     → (p : ℕ) (s : Share S) → slice_get shares p ≡ Some s → IsShareOf behaviour fits (job_by behaviour w inputs g) p s
 shares_of_plan {S} behaviour fits w inputs g {c} lists code shares all h common listed coded long p s e =
     let within = get_within shares s p e in
     let there : p < g.processes = omega (arith, within, long) in
     let own : get_or lists p [] ≡ members_of g p w.members.items =
-    ap (λ ls. get_or ls p []) listed ∙ get_or-map-range_with_len (λ q. members_of g q w.members.items) 0 g.processes p p [] there (zero-add p) in
+    ap (λ ls. get_or ls p []) listed ∙ get_or-map-range_with_len (λ q. members_of g q w.members.items) 0 g.processes p p [] there
+    (zero-add p) in
     made_is_share behaviour fits w inputs g c h common p there s
     (subst (λ (ms : List Member). IsMadeOf c p ms w.models.items s) own
     (subst (λ (xs : List S). IsMadeOf c p (get_or lists p []) xs s) coded (all p s e)))
 
 -- and of one more
-pub made_more : {S : Type 0} (c : Common) (lists : List (List Member)) (code : List S) (shares : List (Share S)) (one : Share S) (process : ℕ)
+pub made_more : {S : Type 0} (c : Common) (lists : List (List Member)) (code : List S) (shares : List (Share S)) (one : Share S)
+    (process : ℕ)
     (ms : List Member) (own : List S) → AreMade c lists code shares → length shares ≡ process → get_or lists process [] ≡ ms → own ≡ code
     → IsMadeOf c process ms own one → AreMade c lists code (shares ++ one ∷ [])
 made_more {S} c lists code shares one process ms models all long listed coded made p s e = elim (get_pushed shares one s p e) [

@@ -124,7 +124,8 @@ fn share_of_process<A: Drop>(
 fn ways(alloc: Global, cut: &Cut<'_>, process: u32, away: &[Away]) -> Result<Vec<Way>, AllocError>
     requires there { process < cut.now.grouping.processes }
     requires rises { Rises cut.now }
-    ensures { IfOk result (λ found. map outgoing_of found.items ≡ map (way_of cut.now process) away.now) }
+    ensures { IfOk result (λ found. map outgoing_of found.items
+        ≡ map (way_of cut.now process) away.now) }
 {
     let mut found = Vec::with_capacity(alloc, away.len())?;
     for link in away {

@@ -25,7 +25,8 @@ behaves None = refl
 behaves (Some l) = refl
 
 -- a component behaves as by the programs themselves
-member_lent : (limit : ℕ) (lent : List Lent) (x : Member) → member_by behaviour_of_lent limit lent x ≡ member_by behaviour_of limit (lie_at lent) x
+member_lent : (limit : ℕ) (lent : List Lent) (x : Member) → member_by behaviour_of_lent limit lent x
+    ≡ member_by behaviour_of limit (lie_at lent) x
 member_lent limit lent x =
     let same : behaviour_at behaviour_of_lent (slice_get lent x.model) ≡ behaviour_at behaviour_of (slice_get (lie_at lent) x.model) =
     behaves (slice_get lent x.model) ∙ ap (behaviour_at behaviour_of) (sym (slice_get-map (λ (l : Lent). l.programs.now) lent x.model)) in
@@ -47,10 +48,12 @@ stands_lent : (limit : ℕ) (lent : List Lent) (x : Member) → StandsAmong limi
 stands_lent limit lent x h = record {
   model = subst (λ (n : ℕ). x.model < n) (length-map lent (λ (l : Lent). l.programs.now)) h.model;
   wait = h.wait;
-  fit = λ a e. h.fits a.programs.now (slice_get-map (λ (l : Lent). l.programs.now) lent x.model ∙ ap (option_map (λ (l : Lent). l.programs.now)) e);
+  fit = λ a e. h.fits a.programs.now (slice_get-map (λ (l : Lent). l.programs.now) lent x.model
+      ∙ ap (option_map (λ (l : Lent). l.programs.now)) e);
 }
 
-each : (limit : ℕ) (lent : List Lent) (xs : List Member) → All (StandsAmong limit (lie_at lent)) xs → AllByRecursion (IsMember lent_takes limit lent) xs
+each : (limit : ℕ) (lent : List Lent) (xs : List Member) → All (StandsAmong limit (lie_at lent)) xs
+    → AllByRecursion (IsMember lent_takes limit lent) xs
 each limit lent [] h = tt
 each limit lent (x ∷ xs) h =
     (stands_lent limit lent x (h 0 x (omega arith)), each limit lent xs (λ k d lt. h (suc k) d (omega (arith, lt))))

@@ -19,7 +19,8 @@ use Rattle.dv_sound.specs.Members.{entry_of}
 use Rattle.dv_tree.specs.Instances.{Instance}
 
 -- links of the code rise where what they stand for does
-pub links_rise : (ls : List Link) (meant : List Meant) → links_of ls ≡ meant → IsNonDecreasingBy (λ (l : Meant). l.from) meant → RiseBySender ls
+pub links_rise : (ls : List Link) (meant : List Meant) → links_of ls ≡ meant → IsNonDecreasingBy (λ (l : Meant). l.from) meant
+    → RiseBySender ls
 links_rise ls meant e h =
     rises_before link_of (λ (l : Meant). l.from) ls (subst (λ (ms : List Meant). IsNonDecreasingBy (λ (l : Meant). l.from) ms) (sym e) h)
 
@@ -45,5 +46,6 @@ all_ticks [] = refl
 all_ticks (r ∷ rs) =
     ap (λ (o : Option ℕ). o ∷ map ticks_foreseen rs) (same_ticks r) ∙ ap (λ (os : List (Option ℕ)). ticks_of r ∷ os) (all_ticks rs)
 
-pub as_many_responses : (rs : List Response) (is : List Instance) → map ticks_of rs ≡ map (λ (i : Instance). response_of i.model) is → length rs ≡ length is
+pub as_many_responses : (rs : List Response) (is : List Instance) → map ticks_of rs ≡ map (λ (i : Instance). response_of i.model) is
+    → length rs ≡ length is
 as_many_responses rs is e = sym (length-map rs ticks_of) ∙ ap length e ∙ length-map is (λ (i : Instance). response_of i.model)

@@ -7,7 +7,8 @@ use Rattle.dv_bag.specs.Part.{PartOf}
 use Rattle.dv_devs.specs.Behaviour.{Component, is_imminent}
 use Rattle.dv_conservative.specs.Links.{Delivery}
 use Rattle.dv_conservative.specs.Process.{Share, end_rank}
-use Rattle.dv_proc.specs.Accesses.{CountsInstant, CountsStep, CountsTurn, IsAfterEmission, accesses_at, accesses_before_end, accesses_between, entries_at, imminent_at}
+use Rattle.dv_proc.specs.Accesses.{CountsInstant, CountsStep, CountsTurn, IsAfterEmission, accesses_at, accesses_before_end}
+use Rattle.dv_proc.specs.Accesses.{accesses_between, entries_at, imminent_at}
 use Rattle.dv_proc.specs.Advancing.{IsAdvance}
 use Rattle.dv_proc.specs.Local.{IsAfterInstant, View, sent_at}
 

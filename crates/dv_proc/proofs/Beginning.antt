@@ -1,5 +1,6 @@
 -- A process as a run begins.
-use Rattle.std.proofs.Common.{◌≡◌, ℕ, zero, suc, ◌+◌, ◌-◌, ◌*◌, ◌<◌, ◌≤◌, min, Bool, true, false, cond, take, get_or, length, nat_eq, List, [], ◌∷◌, ◌++◌, map, Option, None, refl, ap, sym, ◌∙◌, subst, arith}
+use Rattle.std.proofs.Common.{◌≡◌, ℕ, zero, suc, ◌+◌, ◌-◌, ◌*◌, ◌<◌, ◌≤◌, min, Bool, true, false, cond, take, get_or, length}
+use Rattle.std.proofs.Common.{nat_eq, List, [], ◌∷◌, ◌++◌, map, Option, None, refl, ap, sym, ◌∙◌, subst, arith}
 use Rattle.dv_time.specs.Time.{IsOfRun, rank}
 use Rattle.dv_time.specs.declared.time.Time.{Time}
 use Rattle.dv_bag.specs.declared.state.State.{State}
@@ -11,7 +12,8 @@ use Rattle.dv_devs.specs.NextTimes.{IsFrom, least_next}
 use Rattle.dv_conservative.proofs.Numbers.{is_ready}
 use Rattle.dv_conservative.specs.Events.{Event, deliveries_at, in_order}
 use Rattle.dv_conservative.specs.Flat.{network}
-use Rattle.dv_conservative.specs.Process.{IsWithin, Outgoing as OutgoingAsMeant, Packet, Share, all_events, channel_clock, components_by, end_rank, events_by, events_in, first_time, inputs_by, sent_on}
+use Rattle.dv_conservative.specs.Process.{IsWithin, Outgoing as OutgoingAsMeant, Packet, Share, all_events, channel_clock}
+use Rattle.dv_conservative.specs.Process.{components_by, end_rank, events_by, events_in, first_time, inputs_by, sent_on}
 use Rattle.dv_conservative.specs.Sound.{AllNumbers, AllReceivedNumbers, IsSoundShare}
 use Rattle.dv_proc.proofs.Pending.{silent_from}
 use Rattle.dv_proc.proofs.Silent.{nothing_away}
@@ -24,7 +26,8 @@ use Rattle.dv_proc.specs.declared.incoming.Incoming.{Incoming}
 use Rattle.dv_proc.specs.declared.outgoing.Outgoing.{Outgoing}
 use Rattle.dv_proc.specs.declared.packet.Packet.{Packet as PacketOfCode}
 
-push_incoming : (ns : List ℕ) (i : ℕ) (is : List Incoming) (x : Incoming) → i < length ns → x.number ≡ get_or ns i 0 → x.packets.items ≡ [] → x.clock ≡ first_time →
+push_incoming : (ns : List ℕ) (i : ℕ) (is : List Incoming) (x : Incoming) → i < length ns → x.number ≡ get_or ns i 0
+    → x.packets.items ≡ [] → x.clock ≡ first_time →
     AreNewIncoming (take i ns) is → AreNewIncoming (take (suc i) ns) (is ++ x ∷ [])
 push_incoming [] i is x lt e p c h = absurd (omega arith)
 push_incoming (n ∷ ns) zero [] x lt e p c h = (e, p, c, tt)
@@ -32,7 +35,8 @@ push_incoming (n ∷ ns) zero (j ∷ is) x lt e p c h = absurd h
 push_incoming (n ∷ ns) (suc i) [] x lt e p c h = absurd h
 push_incoming (n ∷ ns) (suc i) (j ∷ is) x lt e p c h = (h.0, h.1, h.2, push_incoming ns i is x (omega arith) e p c h.3)
 
-pub more_incoming : (ns : List ℕ) (i : ℕ) (is : List Incoming) (x : Incoming) → i < length ns → x.number ≡ get_or ns i 0 → x.packets.items ≡ [] → x.clock ≡ first_time →
+pub more_incoming : (ns : List ℕ) (i : ℕ) (is : List Incoming) (x : Incoming) → i < length ns → x.number ≡ get_or ns i 0
+    → x.packets.items ≡ [] → x.clock ≡ first_time →
     AreNewIncoming (take i ns) is → AreNewIncoming (take (i + 1) ns) (is ++ x ∷ [])
 more_incoming ns i is x lt e p c h =
     let next : suc i ≡ i + 1 = omega arith in
@@ -46,7 +50,8 @@ push_outgoing (n ∷ ns) zero (j ∷ os) x lt e s t p h = absurd h
 push_outgoing (n ∷ ns) (suc i) [] x lt e s t p h = absurd h
 push_outgoing (n ∷ ns) (suc i) (j ∷ os) x lt e s t p h = (h.0, h.1, h.2, h.3, push_outgoing ns i os x (omega arith) e s t p h.4)
 
-pub more_outgoing : (ns : List ℕ) (i : ℕ) (os : List Outgoing) (x : Outgoing) → i < length ns → x.number ≡ get_or ns i 0 → x.standing ≡ None →
+pub more_outgoing : (ns : List ℕ) (i : ℕ) (os : List Outgoing) (x : Outgoing) → i < length ns → x.number ≡ get_or ns i 0
+    → x.standing ≡ None →
     x.promised ≡ first_time → x.pending.items ≡ [] → AreNewOutgoing (take i ns) os → AreNewOutgoing (take (i + 1) ns) (os ++ x ∷ [])
 more_outgoing ns i os x lt e s t p h =
     let next : suc i ≡ i + 1 = omega arith in

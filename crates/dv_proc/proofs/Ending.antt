@@ -1,5 +1,7 @@
 -- A turn ends: packets are prepared, and the process stands at its clock.
-use Rattle.std.proofs.Common.{◌≡◌, ◌⊎◌, inl, inr, ℕ, zero, suc, ◌+◌, ◌-◌, ◌<◌, ◌≤◌, min, Bool, true, false, not, ◌&&◌, ◌||◌, cond, nat_eq, nat_lt, length, List, [], ◌∷◌, ◌++◌, is_none, is_some, Option, Some, None, refl, ap, sym, ◌∙◌, subst, arith}
+use Rattle.std.proofs.Common.{◌≡◌, ◌⊎◌, inl, inr, ℕ, zero, suc, ◌+◌, ◌-◌, ◌<◌, ◌≤◌, min, Bool, true, false, not, ◌&&◌, ◌||◌}
+use Rattle.std.proofs.Common.{cond, nat_eq, nat_lt, length, List, [], ◌∷◌, ◌++◌, is_none, is_some, Option, Some, None, refl, ap}
+use Rattle.std.proofs.Common.{sym, ◌∙◌, subst, arith}
 use Rattle.std.specs.List.{list_all, list_any}
 use Rattle.std.proofs.lemmas.Bool.{and_parts, cases_lt}
 use Rattle.std.proofs.lemmas.Bool.Decides.{nat_tests}
@@ -8,8 +10,10 @@ use Rattle.dv_time.specs.Time.{IsOfRun, is_before, rank}
 use Rattle.dv_time.specs.declared.time.Time.{Time}
 use Rattle.dv_conservative.proofs.Windows.{itself}
 use Rattle.dv_conservative.specs.Events.{Event, events_between, in_order}
-use Rattle.dv_conservative.specs.Process.{IsWithin, Outgoing as OutgoingAsMeant, Packet, Share, end_rank, events_by, packet_of, promise, sent_on}
-use Rattle.dv_conservative.specs.Turn.{AllMayBecome, AllPromised, IsPromised, MayBecome, Position, Prepares, StaysOn, all_free, some_prepared}
+use Rattle.dv_conservative.specs.Process.{IsWithin, Outgoing as OutgoingAsMeant, Packet, Share, end_rank, events_by, packet_of}
+use Rattle.dv_conservative.specs.Process.{promise, sent_on}
+use Rattle.dv_conservative.specs.Turn.{AllMayBecome, AllPromised, IsPromised, MayBecome, Position, Prepares, StaysOn, all_free}
+use Rattle.dv_conservative.specs.Turn.{some_prepared}
 use Rattle.dv_proc.proofs.Pending.{none_between, silent_between}
 use Rattle.dv_proc.proofs.Received.{eq_sym}
 use Rattle.dv_proc.specs.Advancing.{AreBeside, IsFinished, waiting}
@@ -29,7 +33,12 @@ AreNumbered (out ∷ outs) [] = ⊥
 
 stands_beside : (m : ℕ) (p : Option Packet) (t : Time) (c : Time) (x : Position) (outs : List OutgoingAsMeant) (os : List Outgoing) →
     list_any (nat_eq m) (outgoing_numbers os) ≡ false → AllStand x outs os →
-    AllStand (record { clock = c; standing = λ l. cond (nat_eq l m) p (x.standing l); promised = λ l. cond (nat_eq l m) t (x.promised l) }) outs os
+    AllStand (record {
+      clock = c;
+      standing = λ l. cond (nat_eq l m) p (x.standing l);
+      promised =
+          λ l. cond (nat_eq l m) t (x.promised l);
+    }) outs os
 stands_beside m p t c x [] [] h k = tt
 stands_beside m p t c x [] (o ∷ os) h k = absurd k
 stands_beside m p t c x (out ∷ outs) [] h k = absurd k
@@ -40,9 +49,19 @@ stands_beside m p t c x (out ∷ outs) (o ∷ os) h k =
     next = record { clock = c; standing = λ l. cond (nat_eq l m) p (x.standing l); promised = λ l. cond (nat_eq l m) t (x.promised l) }
 
     by_test : (list_any (nat_eq m) (outgoing_numbers os) ≡ false →
-        AllStand (record { clock = c; standing = λ l. cond (nat_eq l m) p (x.standing l); promised = λ l. cond (nat_eq l m) t (x.promised l) }) outs os) →
+        AllStand (record {
+          clock = c;
+          standing = λ l. cond (nat_eq l m) p (x.standing l);
+          promised =
+              λ l. cond (nat_eq l m) t (x.promised l);
+        }) outs os) →
         (b : Bool) → nat_eq m o.number ≡ b → (b || list_any (nat_eq m) (outgoing_numbers os)) ≡ false →
-        AllStand (record { clock = c; standing = λ l. cond (nat_eq l m) p (x.standing l); promised = λ l. cond (nat_eq l m) t (x.promised l) })
+        AllStand (record {
+          clock = c;
+          standing = λ l. cond (nat_eq l m) p (x.standing l);
+          promised =
+              λ l. cond (nat_eq l m) t (x.promised l);
+        })
         (out ∷ outs) (o ∷ os)
     by_test rest true e h = absurd (cc)
     by_test rest false e h =
@@ -71,7 +90,8 @@ all_stand c (out ∷ outs) (o ∷ os) h apart =
       stands_beside o.number (standing_on o.standing) o.promised c (position_by c os) outs os apart.0 (all_stand c outs os h.1 apart.1),
     )
 
-pub caught_numbers : (s : Share) (events : ℕ → List Event) (upto : ℕ) (emitted : Bool) (now : Time) (outs : List OutgoingAsMeant) (os : List Outgoing) →
+pub caught_numbers : (s : Share) (events : ℕ → List Event) (upto : ℕ) (emitted : Bool) (now : Time) (outs : List OutgoingAsMeant)
+    (os : List Outgoing) →
     AreCaught s events upto emitted now outs os → AreNumbered outs os
 caught_numbers s events upto emitted now [] [] h = tt
 caught_numbers s events upto emitted now [] (o ∷ os) h = absurd h
@@ -104,11 +124,14 @@ module _ (s : Share) (received : ℕ → List Packet) (clock now upto : Time) (e
   abbrev until : ℕ
   until = min (suc (rank s.limit now)) (end_rank s)
 
-  module _ (before after : Position) (at : after.clock ≡ now) (out : OutgoingAsMeant) (x y : Outgoing) (was : StandsAt before out x) (is : StandsAt after out y)
+  module _ (before after : Position) (at : after.clock ≡ now) (out : OutgoingAsMeant) (x y : Outgoing) (was : StandsAt before out x)
+      (is : StandsAt after out y)
       (caught : IsCaught s (events_by received) until emitted now out x) (ends : IsFinished emitted now upto x y) where
-    all_events : events_between s.limit (sent_on s (events_by received) out) (rank s.limit x.promised) (rank s.limit upto) ≡ meant_events (waiting emitted now x)
+    all_events : events_between s.limit (sent_on s (events_by received) out) (rank s.limit x.promised) (rank s.limit upto)
+        ≡ meant_events (waiting emitted now x)
     all_events =
-        silent_between s.limit (sent_on s (events_by received) out) (rank s.limit x.promised) until (rank s.limit upto) later (silent out) ∙ sym caught.caught
+        silent_between s.limit (sent_on s (events_by received) out) (rank s.limit x.promised) until (rank s.limit upto) later (silent out)
+        ∙ sym caught.caught
 
     is_later : is_before x.promised upto ≡ nat_lt (rank s.limit x.promised) (rank s.limit upto)
     is_later = is_before-rank s.limit x.promised upto caught.within.0 of_run
@@ -137,7 +160,13 @@ module _ (s : Share) (received : ℕ → List Packet) (clock now upto : Time) (e
       where
         by_test : (t : Bool) → is_prepared upto x ≡ t → y.promised ≡ cond t upto x.promised →
             standing_on y.standing
-            ≡ cond t (Some (let p : Packet = record { link = x.number; from = x.promised; upto = upto; events = meant_events (waiting emitted now x) } in p))
+            ≡ cond t (Some (let p : Packet = record {
+              link = x.number;
+              from = x.promised;
+              upto = upto;
+              events =
+                  meant_events (waiting emitted now x);
+            } in p))
             (standing_on x.standing)
             → MayBecome s received out before after
         by_test true t e p =
@@ -152,9 +181,21 @@ module _ (s : Share) (received : ℕ → List Packet) (clock now upto : Time) (e
               kept = subst (λ (t : Time). rank s.limit upto ≤ promise s received (rank s.limit t)) (sym at) (omega arith);
               stands = is.standing ∙ p
                   ∙ ap (λ (n : ℕ).
-                  Some (let q : Packet = record { link = n; from = x.promised; upto = upto; events = meant_events (waiting emitted now x) } in q))
+                  Some (let q : Packet = record {
+                    link = n;
+                    from = x.promised;
+                    upto = upto;
+                    events =
+                        meant_events (waiting emitted now x);
+                  } in q))
                   (sym caught.number)
-                  ∙ ap (λ (es : List Event). Some (let q : Packet = record { link = out.number; from = x.promised; upto = upto; events = es } in q))
+                  ∙ ap (λ (es : List Event). Some (let q : Packet = record {
+                    link = out.number;
+                    from = x.promised;
+                    upto = upto;
+                    events =
+                        es;
+                  } in q))
                   (sym all_events)
                   ∙ ap (λ (t : Time). Some (packet_of s (events_by received) out t upto)) (sym was.promised);
               promised = is.promised ∙ e;
@@ -188,7 +229,13 @@ module _ (s : Share) (received : ℕ → List Packet) (clock now upto : Time) (e
       where
         by_test : (t : Bool) → is_prepared upto x ≡ t →
             standing_on y.standing
-            ≡ cond t (Some (let p : Packet = record { link = x.number; from = x.promised; upto = upto; events = meant_events (waiting emitted now x) } in p))
+            ≡ cond t (Some (let p : Packet = record {
+              link = x.number;
+              from = x.promised;
+              upto = upto;
+              events =
+                  meant_events (waiting emitted now x);
+            } in p))
             (standing_on x.standing)
             → (is_none (before.standing out.number) && is_some (after.standing out.number)) ≡ t
         by_test true t p =
@@ -207,8 +254,10 @@ module _ (s : Share) (received : ℕ → List Packet) (clock now upto : Time) (e
   module _ (before after : Position) (at : after.clock ≡ now) where
     pub links_end : (outs : List OutgoingAsMeant) (xs ys : List Outgoing) → AllStand before outs xs → AllStand after outs ys →
         AreCaught s (events_by received) until emitted now outs xs → AreBeside (λ j. IsFinished emitted now upto) xs ys →
-        ArePending s (events_by received) until outs ys × AllMayBecome s received before after outs × AllPromised s received before after outs
-        × (some_prepared before after outs ≡ list_any (is_prepared upto) xs) × (all_free after outs ≡ list_all (λ (o : Outgoing). is_none o.standing) ys)
+        ArePending s (events_by received) until outs ys × AllMayBecome s received before after outs × AllPromised s received before after
+        outs
+        × (some_prepared before after outs ≡ list_any (is_prepared upto) xs)
+        × (all_free after outs ≡ list_all (λ (o : Outgoing). is_none o.standing) ys)
     links_end [] [] [] was is caught ends = (tt, tt, tt, refl, refl)
     links_end [] [] (y ∷ ys) was is caught ends = absurd is
     links_end [] (x ∷ xs) ys was is caught ends = absurd was

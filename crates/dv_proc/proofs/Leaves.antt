@@ -1,5 +1,6 @@
 -- A packet that stood is given away.
-use Rattle.std.proofs.Common.{◌≡◌, ℕ, zero, suc, ◌+◌, ◌<◌, ◌≤◌, min, Bool, true, false, cond, get_or, length, nat_eq, List, [], ◌∷◌, Option, Some, None, refl, ap, sym, ◌∙◌, subst, arith}
+use Rattle.std.proofs.Common.{◌≡◌, ℕ, zero, suc, ◌+◌, ◌<◌, ◌≤◌, min, Bool, true, false, cond, get_or, length, nat_eq, List, []}
+use Rattle.std.proofs.Common.{◌∷◌, Option, Some, None, refl, ap, sym, ◌∙◌, subst, arith}
 use Rattle.std.specs.Prelude.{slice_set}
 use Rattle.std.proofs.lemmas.Bool.Decides.{nat_tests}
 use Rattle.dv_time.specs.Time.{rank}
@@ -9,7 +10,8 @@ use Rattle.dv_conservative.specs.Events.{Event, events_between}
 use Rattle.dv_conservative.specs.Process.{IsWithin, Outgoing as OutgoingAsMeant, Packet, Share, end_rank, events_by, sent_on}
 use Rattle.dv_proc.proofs.Received.{eq_sym}
 use Rattle.dv_proc.specs.Arriving.{AreApart, received_by}
-use Rattle.dv_proc.specs.Leaving.{ArePending, IsOutPlace, IsPending, out_place_from, outgoing_numbers, promised_by, standing_by, standing_on}
+use Rattle.dv_proc.specs.Leaving.{ArePending, IsOutPlace, IsPending, out_place_from, outgoing_numbers, promised_by, standing_by}
+use Rattle.dv_proc.specs.Leaving.{standing_on}
 use Rattle.dv_proc.specs.Local.{View}
 use Rattle.std.specs.Prelude.{MatchOption}
 use Rattle.dv_proc.specs.Packets.{meant_events, meant_packet}
@@ -56,7 +58,8 @@ pub none_there : (number : ℕ) (os : List Outgoing) → out_place_from 0 number
 none_there number os e = none_stands_by number 0 os e
 
 -- where no link has the number, none stands there
-pub none_free : (number : ℕ) (os : List Outgoing) → standing_by os number ≡ None → (l : ℕ) → standing_by os l ≡ cond (nat_eq l number) None (standing_by os l)
+pub none_free : (number : ℕ) (os : List Outgoing) → standing_by os number ≡ None → (l : ℕ)
+    → standing_by os l ≡ cond (nat_eq l number) None (standing_by os l)
 none_free number os e l = by_test (nat_eq l number) refl
   where
     by_test : (t : Bool) → nat_eq l number ≡ t → standing_by os l ≡ cond t None (standing_by os l)
@@ -65,7 +68,8 @@ none_free number os e l = by_test (nat_eq l number) refl
 
 module _ (n : ℕ) (x y : Outgoing) (number : y.number ≡ x.number) (standing : y.standing ≡ None) (promised : y.promised ≡ x.promised)
     (pending : y.pending.items ≡ x.pending.items) where
-  pub stood_here : (place : ℕ) (os : List Outgoing) → IsOutPlace n place os → x ≡ get_or os place x → standing_by os n ≡ standing_on x.standing
+  pub stood_here : (place : ℕ) (os : List Outgoing) → IsOutPlace n place os → x ≡ get_or os place x
+      → standing_by os n ≡ standing_on x.standing
   stood_here place [] h e = absurd h
   stood_here zero (o ∷ os) h e = rw h (ap (λ (z : Outgoing). standing_on z.standing) (sym e))
   stood_here (suc place) (o ∷ os) h e = rw h.0 (stood_here place os h.1 e)
@@ -103,12 +107,14 @@ module _ (n : ℕ) (x y : Outgoing) (number : y.number ≡ x.number) (standing :
       ∙ ap (λ (t : Time). cond (nat_eq l o.number) t (promised_by os l)) (promised ∙ ap (λ (z : Outgoing). z.promised) e)
   promised_there (suc place) (o ∷ os) h e l = ap (λ (t : Time). cond (nat_eq l o.number) o.promised t) (promised_there place os h.1 e l)
 
-  numbers_there : (place : ℕ) (os : List Outgoing) → IsOutPlace n place os → x ≡ get_or os place x → outgoing_numbers (slice_set os place y) ≡ outgoing_numbers os
+  numbers_there : (place : ℕ) (os : List Outgoing) → IsOutPlace n place os → x ≡ get_or os place x
+      → outgoing_numbers (slice_set os place y) ≡ outgoing_numbers os
   numbers_there place [] h e = absurd h
   numbers_there zero (o ∷ os) h e = ap (λ (m : ℕ). m ∷ outgoing_numbers os) (number ∙ ap (λ (z : Outgoing). z.number) e)
   numbers_there (suc place) (o ∷ os) h e = ap (λ (ms : List ℕ). o.number ∷ ms) (numbers_there place os h.1 e)
 
-  pending_there : (s : Share) (events : ℕ → List Event) (upto place : ℕ) (outs : List OutgoingAsMeant) (os : List Outgoing) → IsOutPlace n place os →
+  pending_there : (s : Share) (events : ℕ → List Event) (upto place : ℕ) (outs : List OutgoingAsMeant) (os : List Outgoing)
+      → IsOutPlace n place os →
       x ≡ get_or os place x → ArePending s events upto outs os → ArePending s events upto outs (slice_set os place y)
   pending_there s events upto place outs [] h e k = absurd h
   pending_there s events upto place [] (o ∷ os) h e k = absurd k
@@ -117,13 +123,15 @@ module _ (n : ℕ) (x y : Outgoing) (number : y.number ≡ x.number) (standing :
       number = k.0.number ∙ sym (number ∙ ap (λ (z : Outgoing). z.number) e);
       within = subst (IsWithin s) (sym (promised ∙ ap (λ (z : Outgoing). z.promised) e)) k.0.within;
       pending = ap meant_events (pending ∙ ap (λ (z : Outgoing). z.pending.items) e) ∙ k.0.pending
-          ∙ ap (λ (t : Time). events_between s.limit (sent_on s events out) (rank s.limit t) upto) (sym (promised ∙ ap (λ (z : Outgoing). z.promised) e));
+          ∙ ap (λ (t : Time). events_between s.limit (sent_on s events out) (rank s.limit t) upto)
+          (sym (promised ∙ ap (λ (z : Outgoing). z.promised) e));
     },
     k.1,
   )
   pending_there s events upto (suc place) (out ∷ outs) (o ∷ os) h e k = (k.0, pending_there s events upto place outs os h.1 e k.1)
 
-  pub process_there : (v : View) (is : List Incoming) (os : List Outgoing) (clock : Time) (place : ℕ) → IsProcess v is os clock → IsOutPlace n place os →
+  pub process_there : (v : View) (is : List Incoming) (os : List Outgoing) (clock : Time) (place : ℕ) → IsProcess v is os clock
+      → IsOutPlace n place os →
       x ≡ get_or os place x → IsProcess v is (slice_set os place y) clock
   process_there v is os clock place process h e = record {
     standing = record {
@@ -135,12 +143,14 @@ module _ (n : ℕ) (x y : Outgoing) (number : y.number ≡ x.number) (standing :
       within = process.standing.within;
       heard = process.standing.heard;
       away = subst AreApart (sym (numbers_there place os h e)) process.standing.away;
-      pending = pending_there v.share (events_by (received_by is)) (min (suc (rank v.share.limit clock)) (end_rank v.share)) place v.share.outgoing os h e
+      pending = pending_there v.share (events_by (received_by is)) (min (suc (rank v.share.limit clock)) (end_rank v.share)) place
+          v.share.outgoing os h e
           process.standing.pending;
     };
     run = process.run;
   }
 
-pub match_out : (r : Option PacketOfCode) (s : Option Packet) → s ≡ standing_on r → MatchOption r (s ≡ None) (λ p. s ≡ Some (meant_packet p))
+pub match_out : (r : Option PacketOfCode) (s : Option Packet) → s ≡ standing_on r
+    → MatchOption r (s ≡ None) (λ p. s ≡ Some (meant_packet p))
 match_out None s e = e
 match_out (Some p) s e = e

@@ -1,5 +1,7 @@
 -- A turn moves the clock: what was sent on the way waits, or was computed.
-use Rattle.std.proofs.Common.{◌≡◌, ◌⊎◌, inl, inr, ℕ, zero, suc, ◌+◌, ◌-◌, ◌<◌, ◌≤◌, min, Bool, true, false, not, ◌&&◌, cond, nat_eq, nat_lt, get_or, length, List, [], ◌∷◌, ◌++◌, map, IsTrue, Option, Some, None, refl, ap, sym, ◌∙◌, subst, arith}
+use Rattle.std.proofs.Common.{◌≡◌, ◌⊎◌, inl, inr, ℕ, zero, suc, ◌+◌, ◌-◌, ◌<◌, ◌≤◌, min, Bool, true, false, not, ◌&&◌, cond}
+use Rattle.std.proofs.Common.{nat_eq, nat_lt, get_or, length, List, [], ◌∷◌, ◌++◌, map, IsTrue, Option, Some, None, refl, ap}
+use Rattle.std.proofs.Common.{sym, ◌∙◌, subst, arith}
 use Rattle.std.specs.Prelude.{slice_get}
 use Rattle.std.proofs.lemmas.Bool.{cases_lt}
 use Rattle.std.proofs.lemmas.Bool.Decides.{nat_tests}
@@ -21,7 +23,8 @@ use Rattle.dv_conservative.proofs.Numbers.{is_ready}
 use Rattle.dv_conservative.specs.Events.{Event, event_of, events_between, in_order}
 use Rattle.dv_conservative.specs.Flat.{network, numbers}
 use Rattle.dv_conservative.specs.Links.{Delivery, carried, sent_of}
-use Rattle.dv_conservative.specs.Process.{IsWithin, Outgoing as OutgoingAsMeant, Packet, Share, components_by, end_rank, events_by, inputs_by, least_clock, sent_on}
+use Rattle.dv_conservative.specs.Process.{IsWithin, Outgoing as OutgoingAsMeant, Packet, Share, components_by, end_rank}
+use Rattle.dv_conservative.specs.Process.{events_by, inputs_by, least_clock, sent_on}
 use Rattle.dv_conservative.specs.Sound.{IsSoundShare}
 use Rattle.dv_conservative.specs.Turn.{Position}
 use Rattle.dv_proc.proofs.Ending.{tail_beside}

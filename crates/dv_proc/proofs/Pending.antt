@@ -1,5 +1,6 @@
 -- The events of windows that grow, and windows in which nothing is sent.
-use Rattle.std.proofs.Common.{◌≡◌, ℕ, zero, suc, ◌+◌, ◌-◌, ◌<◌, ◌≤◌, inl, inr, List, [], ◌∷◌, ◌++◌, append-nil, append_assoc, map, refl, ap, sym, ◌∙◌, subst, arith}
+use Rattle.std.proofs.Common.{◌≡◌, ℕ, zero, suc, ◌+◌, ◌-◌, ◌<◌, ◌≤◌, inl, inr, List, [], ◌∷◌, ◌++◌, append-nil, append_assoc}
+use Rattle.std.proofs.Common.{map, refl, ap, sym, ◌∙◌, subst, arith}
 use Rattle.std.proofs.lemmas.Bool.{cases_lt}
 use Rattle.dv_time.specs.Time.{time_of}
 use Rattle.dv_conservative.specs.Events.{Event, event_of, events_between, events_from, in_order}
@@ -10,7 +11,8 @@ module _ (limit : ℕ) (stream : ℕ → List Delivery) where
   abbrev pub at_rank : ℕ → List Event
   at_rank n = map (event_of (time_of limit n)) (in_order (stream n))
 
-  pub from_parts : (start a b : ℕ) → events_from limit stream start (a + b) ≡ events_from limit stream start a ++ events_from limit stream (start + a) b
+  pub from_parts : (start a b : ℕ) → events_from limit stream start (a + b) ≡ events_from limit stream start a ++ events_from limit stream
+      (start + a) b
   from_parts start zero b =
       let count : zero + b ≡ b = omega arith in
       let first : start + zero ≡ start = omega arith in
@@ -23,7 +25,8 @@ module _ (limit : ℕ) (stream : ℕ → List Delivery) where
       ∙ ap (λ (n : ℕ). at_rank start ++ (events_from limit stream (start + 1) a ++ events_from limit stream n b)) first
       ∙ sym (append_assoc (at_rank start) (events_from limit stream (start + 1) a) (events_from limit stream (start + suc a) b))
 
-  pub silent_from : (start count : ℕ) → ((n : ℕ) → start ≤ n → n < start + count → in_order (stream n) ≡ []) → events_from limit stream start count ≡ []
+  pub silent_from : (start count : ℕ) → ((n : ℕ) → start ≤ n → n < start + count → in_order (stream n) ≡ [])
+      → events_from limit stream start count ≡ []
   silent_from start zero h = refl
   silent_from start (suc count) h =
       ap (λ (ds : List Delivery). map (event_of (time_of limit start)) ds ++ events_from limit stream (start + 1) count)

@@ -1,5 +1,7 @@
 -- What one packet more makes of what was received.
-use Rattle.std.proofs.Common.{◌≡◌, inl, inr, ℕ, zero, suc, ◌+◌, ◌-◌, ◌<◌, ◌≤◌, min, Bool, true, false, not, ◌||◌, cond, nat_eq, length, get_or, take, List, [], ◌∷◌, ◌++◌, append-nil, append_assoc, map, IsTrue, Option, Some, None, refl, ap, sym, ◌∙◌, subst, arith}
+use Rattle.std.proofs.Common.{◌≡◌, inl, inr, ℕ, zero, suc, ◌+◌, ◌-◌, ◌<◌, ◌≤◌, min, Bool, true, false, not, ◌||◌, cond, nat_eq}
+use Rattle.std.proofs.Common.{length, get_or, take, List, [], ◌∷◌, ◌++◌, append-nil, append_assoc, map, IsTrue, Option, Some}
+use Rattle.std.proofs.Common.{None, refl, ap, sym, ◌∙◌, subst, arith}
 use Rattle.std.specs.Prelude.{slice_set}
 use Rattle.std.specs.List.{list_any}
 use Rattle.std.proofs.lemmas.Bool.Decides.{nat_tests}
@@ -13,7 +15,8 @@ use Rattle.dv_conservative.proofs.Settled.{events_append}
 use Rattle.dv_conservative.proofs.Windows.{at_append, itself}
 use Rattle.dv_conservative.specs.Events.{Event, deliveries_at}
 use Rattle.dv_conservative.specs.Links.{Delivery, delivered}
-use Rattle.dv_conservative.specs.Process.{Packet, Share, all_events, channel_clock, clock_after, events_by, events_in, least_of, with_packet}
+use Rattle.dv_conservative.specs.Process.{Packet, Share, all_events, channel_clock, clock_after, events_by, events_in, least_of}
+use Rattle.dv_conservative.specs.Process.{with_packet}
 use Rattle.dv_conservative.specs.Sound.{AllNumbers, AllReceivedNumbers}
 use Rattle.dv_proc.specs.Arriving.{AreApart, AreClocked, IsClocked, IsPlace, incoming_numbers, least_among, received_by}
 use Rattle.dv_proc.specs.Local.{DeliverAlike}
@@ -31,12 +34,14 @@ eq_sym a b = grind (arith, nat_tests)
 abbrev meant : Incoming → List Packet
 meant i = meant_packets i.packets.items
 
-pub received_here : (n place : ℕ) (is : List Incoming) (x : Incoming) → IsPlace n place is → x ≡ get_or is place x → received_by is n ≡ meant x
+pub received_here : (n place : ℕ) (is : List Incoming) (x : Incoming) → IsPlace n place is → x ≡ get_or is place x
+    → received_by is n ≡ meant x
 received_here n place [] x h e = absurd h
 received_here n zero (i ∷ is) x h e = rw h (ap meant (sym e))
 received_here n (suc place) (i ∷ is) x h e = rw h.0 (received_here n place is x h.1 e)
 
-pub clocked_here : (limit n place : ℕ) (is : List Incoming) (x : Incoming) → AreClocked limit is → IsPlace n place is → x ≡ get_or is place x → IsClocked limit x
+pub clocked_here : (limit n place : ℕ) (is : List Incoming) (x : Incoming) → AreClocked limit is → IsPlace n place is
+    → x ≡ get_or is place x → IsClocked limit x
 clocked_here limit n place [] x c h e = absurd h
 clocked_here limit n zero (i ∷ is) x c h e = subst (IsClocked limit) (sym e) c.0
 clocked_here limit n (suc place) (i ∷ is) x c h e = clocked_here limit n place is x c.1 h.1 e
@@ -48,7 +53,8 @@ module _ (n : ℕ) (x y : Incoming) (p : Packet) (number : y.number ≡ x.number
   number_here zero (i ∷ is) h e = ap (λ (j : Incoming). j.number) e ∙ sym (same_number n i.number h)
   number_here (suc place) (i ∷ is) h e = number_here place is h.1 e
 
-  pub numbers_stay : (place : ℕ) (is : List Incoming) → IsPlace n place is → x ≡ get_or is place x → incoming_numbers (slice_set is place y) ≡ incoming_numbers is
+  pub numbers_stay : (place : ℕ) (is : List Incoming) → IsPlace n place is → x ≡ get_or is place x
+      → incoming_numbers (slice_set is place y) ≡ incoming_numbers is
   numbers_stay place [] h e = absurd h
   numbers_stay zero (i ∷ is) h e = ap (λ (m : ℕ). m ∷ incoming_numbers is) (number ∙ ap (λ (j : Incoming). j.number) e)
   numbers_stay (suc place) (i ∷ is) h e = ap (λ (ms : List ℕ). i.number ∷ ms) (numbers_stay place is h.1 e)
@@ -64,7 +70,8 @@ module _ (n : ℕ) (x y : Incoming) (p : Packet) (number : y.number ≡ x.number
       let test_p : nat_eq l p.link ≡ nat_eq l n = ap (nat_eq l) link in
       rw (test_y, test_p, test_i) (by_test (nat_eq l n))
     where
-      by_test : (t : Bool) → cond t (meant y) (received_by is l) ≡ cond t (cond t (meant i) (received_by is l) ++ p ∷ []) (cond t (meant i) (received_by is l))
+      by_test : (t : Bool) → cond t (meant y) (received_by is l) ≡ cond t (cond t (meant i) (received_by is l) ++ p ∷ [])
+          (cond t (meant i) (received_by is l))
       by_test true = more ∙ ap (λ (j : Incoming). meant j ++ p ∷ []) e
       by_test false = refl
   received_with (suc place) (i ∷ is) h e l = by_test (received_with place is h.1 e l) (nat_eq l i.number) refl
@@ -78,7 +85,8 @@ module _ (n : ℕ) (x y : Incoming) (p : Packet) (number : y.number ≡ x.number
           rw away refl
       by_test rest false s = rest
 
-  pub clocked_with : (limit place : ℕ) (is : List Incoming) → AreClocked limit is → IsClocked limit y → AreClocked limit (slice_set is place y)
+  pub clocked_with : (limit place : ℕ) (is : List Incoming) → AreClocked limit is → IsClocked limit y
+      → AreClocked limit (slice_set is place y)
   clocked_with limit place [] c k = tt
   clocked_with limit zero (i ∷ is) c k = (k, c.1)
   clocked_with limit (suc place) (i ∷ is) c k = (c.0, clocked_with limit place is c.1 k)
@@ -105,7 +113,8 @@ module _ (limit : ℕ) (received : ℕ → List Packet) (p : Packet) where
           ≤ min (rank limit (channel_clock (cond t (received l ++ p ∷ []) (received l)))) (least_of limit bound ls (with_packet received p))
       by_test rest true s =
           let here : l ≡ p.link = same_number l p.link s in
-          let last : rank limit (channel_clock (received l ++ p ∷ [])) ≡ rank limit p.upto = ap (rank limit) (clock_last _ (received l) p) in
+          let last : rank limit (channel_clock (received l ++ p ∷ [])) ≡ rank limit p.upto =
+          ap (rank limit) (clock_last _ (received l) p) in
           let old : rank limit (channel_clock (received l)) ≡ rank limit (channel_clock (received p.link))
           = ap (λ (m : ℕ). rank limit (channel_clock (received m))) here in
           omega arith
@@ -125,7 +134,8 @@ module _ (limit : ℕ) (received : ℕ → List Packet) (p : Packet) where
   none_on n [] h = refl
   none_on n (l ∷ ls) h = by_test (λ k. none_on n ls k) (nat_eq p.link l) refl h
     where
-      by_test : (list_any (nat_eq p.link) ls ≡ false → all_events ls (events_by (with_packet received p)) ≡ all_events ls (events_by received)) →
+      by_test : (list_any (nat_eq p.link) ls ≡ false → all_events ls (events_by (with_packet received p))
+          ≡ all_events ls (events_by received)) →
           (t : Bool) → nat_eq p.link l ≡ t → (t || list_any (nat_eq p.link) ls) ≡ false →
           all_events (l ∷ ls) (events_by (with_packet received p)) ≡ all_events (l ∷ ls) (events_by received)
       by_test rest true s h = absurd (cc)
@@ -163,7 +173,8 @@ module _ (limit : ℕ) (received : ℕ → List Packet) (p : Packet) where
           let split : deliveries_at limit (events_by (with_packet received p) l ++ all_events ls (events_by (with_packet received p))) n
           ≡ (first ++ dest) ++ others
           = at_append limit (events_by (with_packet received p) l) (all_events ls (events_by (with_packet received p))) n
-          ∙ ap (λ (es : List Event). deliveries_at limit es n ++ deliveries_at limit (all_events ls (events_by (with_packet received p))) n) on
+          ∙ ap (λ (es : List Event). deliveries_at limit es n ++ deliveries_at limit (all_events ls (events_by (with_packet received p)))
+          n) on
           ∙ ap (λ (ds : List Delivery). ds ++ deliveries_at limit (all_events ls (events_by (with_packet received p))) n)
           (at_append limit (events_in (received l)) p.events n)
           ∙ ap (λ (es : List Event). (first ++ dest) ++ deliveries_at limit es n) stay in
@@ -183,9 +194,11 @@ module _ (limit : ℕ) (received : ℕ → List Packet) (p : Packet) where
           let others = deliveries_at limit (all_events ls (events_by received)) n in
           let news = deliveries_at limit (all_events ls (events_by (with_packet received p))) n in
           let on : events_by (with_packet received p) l ≡ events_in (received l) = rw away refl in
-          let split : deliveries_at limit (events_by (with_packet received p) l ++ all_events ls (events_by (with_packet received p))) n ≡ first ++ news
+          let split : deliveries_at limit (events_by (with_packet received p) l ++ all_events ls (events_by (with_packet received p))) n
+          ≡ first ++ news
           = at_append limit (events_by (with_packet received p) l) (all_events ls (events_by (with_packet received p))) n
-          ∙ ap (λ (es : List Event). deliveries_at limit es n ++ deliveries_at limit (all_events ls (events_by (with_packet received p))) n) on in
+          ∙ ap (λ (es : List Event). deliveries_at limit es n ++ deliveries_at limit (all_events ls (events_by (with_packet received p)))
+          n) on in
           let old : deliveries_at limit (events_by received l ++ all_events ls (events_by received)) n ≡ first ++ others
           = at_append limit (events_by received l) (all_events ls (events_by received)) n in
           ap (λ (ds : List Delivery). delivered k port ds bag) split
@@ -201,7 +214,8 @@ least_beside : (limit bound m : ℕ) (ps : List Packet) (received : ℕ → List
 least_beside limit bound m ps received [] h = refl
 least_beside limit bound m ps received (l ∷ ls) h = by_test (λ k. least_beside limit bound m ps received ls k) (nat_eq m l) refl h
   where
-    by_test : (list_any (nat_eq m) ls ≡ false → least_of limit bound ls (λ l. cond (nat_eq l m) ps (received l)) ≡ least_of limit bound ls received) →
+    by_test : (list_any (nat_eq m) ls ≡ false → least_of limit bound ls (λ l. cond (nat_eq l m) ps (received l))
+        ≡ least_of limit bound ls received) →
         (t : Bool) → nat_eq m l ≡ t → (t || list_any (nat_eq m) ls) ≡ false →
         least_of limit bound (l ∷ ls) (λ l. cond (nat_eq l m) ps (received l)) ≡ least_of limit bound (l ∷ ls) received
     by_test rest true s h = absurd (cc)
@@ -239,28 +253,33 @@ any_here n zero (i ∷ is) h = rw h refl
 any_here n (suc place) (i ∷ is) h = rw h.0 (any_here n place is h.1)
 
 -- a link that is the same but for room
-module _ (n : ℕ) (x y : Incoming) (number : y.number ≡ x.number) (clock : y.clock ≡ x.clock) (packets : y.packets.items ≡ x.packets.items) where
-  pub numbers_same : (place : ℕ) (is : List Incoming) → IsPlace n place is → x ≡ get_or is place x → incoming_numbers (slice_set is place y) ≡ incoming_numbers is
-  numbers_same place [] h e = absurd h
-  numbers_same zero (i ∷ is) h e = ap (λ (m : ℕ). m ∷ incoming_numbers is) (number ∙ ap (λ (j : Incoming). j.number) e)
-  numbers_same (suc place) (i ∷ is) h e = ap (λ (ms : List ℕ). i.number ∷ ms) (numbers_same place is h.1 e)
+module _ (n : ℕ) (x y : Incoming) (number : y.number ≡ x.number) (clock : y.clock ≡ x.clock) (packets : y.packets.items ≡ x.packets.items)
+  where
+    pub numbers_same : (place : ℕ) (is : List Incoming) → IsPlace n place is → x ≡ get_or is place x
+        → incoming_numbers (slice_set is place y) ≡ incoming_numbers is
+    numbers_same place [] h e = absurd h
+    numbers_same zero (i ∷ is) h e = ap (λ (m : ℕ). m ∷ incoming_numbers is) (number ∙ ap (λ (j : Incoming). j.number) e)
+    numbers_same (suc place) (i ∷ is) h e = ap (λ (ms : List ℕ). i.number ∷ ms) (numbers_same place is h.1 e)
 
-  pub received_same : (place : ℕ) (is : List Incoming) → IsPlace n place is → x ≡ get_or is place x → (l : ℕ) →
-      received_by (slice_set is place y) l ≡ received_by is l
-  received_same place [] h e l = absurd h
-  received_same zero (i ∷ is) h e l =
-      ap (λ (m : ℕ). cond (nat_eq l m) (meant y) (received_by is l)) (number ∙ ap (λ (j : Incoming). j.number) e)
-      ∙ ap (λ (ps : List PacketOfCode). cond (nat_eq l i.number) (meant_packets ps) (received_by is l)) (packets ∙ ap (λ (j : Incoming). j.packets.items) e)
-  received_same (suc place) (i ∷ is) h e l = ap (λ (ps : List Packet). cond (nat_eq l i.number) (meant i) ps) (received_same place is h.1 e l)
+    pub received_same : (place : ℕ) (is : List Incoming) → IsPlace n place is → x ≡ get_or is place x → (l : ℕ) →
+        received_by (slice_set is place y) l ≡ received_by is l
+    received_same place [] h e l = absurd h
+    received_same zero (i ∷ is) h e l =
+        ap (λ (m : ℕ). cond (nat_eq l m) (meant y) (received_by is l)) (number ∙ ap (λ (j : Incoming). j.number) e)
+        ∙ ap (λ (ps : List PacketOfCode). cond (nat_eq l i.number) (meant_packets ps) (received_by is l))
+        (packets ∙ ap (λ (j : Incoming). j.packets.items) e)
+    received_same (suc place) (i ∷ is) h e l = ap (λ (ps : List Packet). cond (nat_eq l i.number) (meant i) ps)
+        (received_same place is h.1 e l)
 
-  pub clocked_same : (limit place : ℕ) (is : List Incoming) → IsPlace n place is → x ≡ get_or is place x → AreClocked limit is → AreClocked limit (slice_set is place y)
-  clocked_same limit place [] h e c = absurd h
-  clocked_same limit zero (i ∷ is) h e c = (
-    (
-      clock ∙ ap (λ (j : Incoming). j.clock) e ∙ c.0.0
-          ∙ ap (λ (ps : List PacketOfCode). channel_clock (meant_packets ps)) (sym (packets ∙ ap (λ (j : Incoming). j.packets.items) e)),
-      subst (IsOfRun limit) (sym (clock ∙ ap (λ (j : Incoming). j.clock) e)) c.0.1,
-    ),
-    c.1,
-  )
-  clocked_same limit (suc place) (i ∷ is) h e c = (c.0, clocked_same limit place is h.1 e c.1)
+    pub clocked_same : (limit place : ℕ) (is : List Incoming) → IsPlace n place is → x ≡ get_or is place x → AreClocked limit is
+        → AreClocked limit (slice_set is place y)
+    clocked_same limit place [] h e c = absurd h
+    clocked_same limit zero (i ∷ is) h e c = (
+      (
+        clock ∙ ap (λ (j : Incoming). j.clock) e ∙ c.0.0
+            ∙ ap (λ (ps : List PacketOfCode). channel_clock (meant_packets ps)) (sym (packets ∙ ap (λ (j : Incoming). j.packets.items) e)),
+        subst (IsOfRun limit) (sym (clock ∙ ap (λ (j : Incoming). j.clock) e)) c.0.1,
+      ),
+      c.1,
+    )
+    clocked_same limit (suc place) (i ∷ is) h e c = (c.0, clocked_same limit place is h.1 e c.1)

@@ -1,5 +1,7 @@
 -- A process that takes a packet.
-use Rattle.std.proofs.Common.{◌≡◌, inl, inr, ℕ, zero, suc, ◌+◌, ◌-◌, ◌<◌, ◌≤◌, min, Bool, true, false, not, ◌&&◌, cond, nat_eq, nat_le, nat_lt, get_or, length, List, [], ◌∷◌, ◌++◌, Option, Some, None, refl, ap, sym, ◌∙◌, subst, arith}
+use Rattle.std.proofs.Common.{◌≡◌, inl, inr, ℕ, zero, suc, ◌+◌, ◌-◌, ◌<◌, ◌≤◌, min, Bool, true, false, not, ◌&&◌, cond, nat_eq}
+use Rattle.std.proofs.Common.{nat_le, nat_lt, get_or, length, List, [], ◌∷◌, ◌++◌, Option, Some, None, refl, ap, sym, ◌∙◌}
+use Rattle.std.proofs.Common.{subst, arith}
 use Rattle.std.specs.Prelude.{slice_set}
 use Rattle.std.specs.List.{list_all, list_any}
 use Rattle.std.proofs.lemmas.Bool.{and_parts, cases_lt}
@@ -12,10 +14,13 @@ use Rattle.dv_conservative.proofs.Settled.{least_within}
 use Rattle.dv_conservative.proofs.Told.{same_times}
 use Rattle.dv_conservative.proofs.Windows.{same_windows}
 use Rattle.dv_conservative.specs.Events.{Event, events_between, in_order, same_time}
-use Rattle.dv_conservative.specs.Process.{Outgoing as OutgoingAsMeant, P1, P2, P3, P4, Packet, Refused, Share, are_in_order, channel_clock, end_rank, events_by, is_event_of, is_port_of, is_window, least_clock, refusal_of, sent_on, with_packet}
+use Rattle.dv_conservative.specs.Process.{Outgoing as OutgoingAsMeant, P1, P2, P3, P4, Packet, Refused, Share, are_in_order}
+use Rattle.dv_conservative.specs.Process.{channel_clock, end_rank, events_by, is_event_of, is_port_of, is_window, least_clock}
+use Rattle.dv_conservative.specs.Process.{refusal_of, sent_on, with_packet}
 use Rattle.dv_conservative.specs.Links.{Delivery}
 use Rattle.dv_conservative.specs.Sound.{AllNumbers, AllReceivedNumbers}
-use Rattle.dv_proc.proofs.Received.{any_here, clock_last, clocked_here, clocked_same, clocked_with, least_rises, numbers_same, numbers_stay, numbers_with, received_here, received_same, received_with}
+use Rattle.dv_proc.proofs.Received.{any_here, clock_last, clocked_here, clocked_same, clocked_with, least_rises, numbers_same}
+use Rattle.dv_proc.proofs.Received.{numbers_stay, numbers_with, received_here, received_same, received_with}
 use Rattle.dv_proc.proofs.Runs.{run_received}
 use Rattle.dv_proc.specs.Arriving.{AreApart, IsClocked, IsPlace, incoming_numbers, received_by}
 use Rattle.dv_proc.specs.Leaving.{ArePending}
@@ -30,7 +35,8 @@ by_link : (a : Bool) (rest : Option Refused) → cond (not a) (Some P1) rest ≡
 by_link true rest h = refl
 by_link false rest h = absurd (cc)
 
-pub there : (s : Share) (received : ℕ → List Packet) (p : Packet) → refusal_of s received p ≡ None → list_any (nat_eq p.link) s.incoming ≡ true
+pub there : (s : Share) (received : ℕ → List Packet) (p : Packet) → refusal_of s received p ≡ None → list_any (nat_eq p.link) s.incoming
+    ≡ true
 there s received p fine = by_link (list_any (nat_eq p.link) s.incoming) _ fine
 
 -- what waits stays, where what is sent does
@@ -61,7 +67,8 @@ module _ (s : Share) (is : List Incoming) (os : List Outgoing) (clock : Time) (s
 
   rises : rank s.limit (channel_clock (received_by is p.link)) ≤ rank s.limit p.upto
   rises =
-      let begin : rank s.limit p.from ≡ rank s.limit (channel_clock (received_by is p.link)) = ap (rank s.limit) (first s (received_by is) p fine) in
+      let begin : rank s.limit p.from ≡ rank s.limit (channel_clock (received_by is p.link)) =
+      ap (rank s.limit) (first s (received_by is) p fine) in
       omega (arith, window_of s (received_by is) p fine)
 
   clocked_y : IsClocked s.limit y
@@ -86,7 +93,8 @@ module _ (s : Share) (is : List Incoming) (os : List Outgoing) (clock : Time) (s
         heard = subst (λ (r : ℕ → List Packet). rank s.limit clock ≤ least_clock s r) (sym received_now)
             (omega (arith, standing.heard, least_rises s.limit (received_by is) p (end_rank s) s.incoming rises));
         away = standing.away;
-        pending = subst (λ (r : ℕ → List Packet). ArePending s (events_by r) (min (suc (rank s.limit clock)) (end_rank s)) s.outgoing os) (sym received_now)
+        pending = subst (λ (r : ℕ → List Packet). ArePending s (events_by r) (min (suc (rank s.limit clock)) (end_rank s)) s.outgoing os)
+            (sym received_now)
             (pending_stays s (events_by (received_by is)) (events_by (with_packet (received_by is) p))
             (min (suc (rank s.limit clock)) (end_rank s)) s.outgoing os
             (λ out n lt. ap in_order (sent_stays s (received_by is) p out n fine (omega (arith, standing.heard))))
@@ -209,11 +217,14 @@ module _ (s : Share) (is xs : List Incoming) (os : List Outgoing) (clock : Time)
     found_of_run = subst (λ (l : ℕ). IsOfRun l p.from) (sym le) (of_run_here s is os clock standing p place x at item joins)
 
     module _ (w : Bool)
-        (we : w ≡ (nat_lt (rank limit p.from) (rank limit p.upto) && (nat_le (rank limit p.upto) (end_of limit horizon) && nat_le p.upto.micro limit))) where
+        (we : w ≡ (nat_lt (rank limit p.from) (rank limit p.upto) &&
+        (nat_le (rank limit p.upto) (end_of limit horizon) && nat_le p.upto.micro limit))) where
       meets : w ≡ is_window s p
       meets = we
-          ∙ ap (λ (l : ℕ). nat_lt (rank l p.from) (rank l p.upto) && (nat_le (rank l p.upto) (end_of l horizon) && nat_le p.upto.micro l)) le
-          ∙ ap (λ (h : ℕ). nat_lt (rank s.limit p.from) (rank s.limit p.upto) && (nat_le (rank s.limit p.upto) (end_of s.limit h) && nat_le p.upto.micro s.limit)) he
+          ∙ ap (λ (l : ℕ). nat_lt (rank l p.from) (rank l p.upto) && (nat_le (rank l p.upto) (end_of l horizon) && nat_le p.upto.micro l))
+          le
+          ∙ ap (λ (h : ℕ). nat_lt (rank s.limit p.from) (rank s.limit p.upto) &&
+          (nat_le (rank s.limit p.upto) (end_of s.limit h) && nat_le p.upto.micro s.limit)) he
 
       pub found_none : w ≡ false → (refusal_of s (received_by is) p ≡ Some P4) × Unit {0}
       found_none h = (no_window s is os clock standing p place x at item joins (sym meets ∙ h), tt)
@@ -235,7 +246,8 @@ module _ (s : Share) (is xs : List Incoming) (os : List Outgoing) (clock : Time)
             let none : are_in_order p.events ≡ false = sym oe ∙ h in
             (other_event s is os clock standing p place x at item joins is_one (rw none refl), tt)
 
-        module _ (o : Bool) (oe : o ≡ are_in_order p.events) (ordered : o ≡ true) (e : Bool) (ee : e ≡ list_all (is_event_of s p) p.events) where
+        module _ (o : Bool) (oe : o ≡ are_in_order p.events) (ordered : o ≡ true) (e : Bool)
+            (ee : e ≡ list_all (is_event_of s p) p.events) where
           all : are_in_order p.events ≡ true
           all = sym oe ∙ ordered
 

@@ -1,5 +1,6 @@
 -- The local run from one instant to the next.
-use Rattle.std.proofs.Common.{◌≡◌, ℕ, zero, suc, ◌+◌, ◌-◌, ◌<◌, ◌≤◌, Bool, true, false, not, nat_eq, List, [], ◌∷◌, ◌++◌, map, IsTrue, Option, Some, None, refl, ap, sym, ◌∙◌, subst, arith}
+use Rattle.std.proofs.Common.{◌≡◌, ℕ, zero, suc, ◌+◌, ◌-◌, ◌<◌, ◌≤◌, Bool, true, false, not, nat_eq, List, [], ◌∷◌, ◌++◌, map}
+use Rattle.std.proofs.Common.{IsTrue, Option, Some, None, refl, ap, sym, ◌∙◌, subst, arith}
 use Rattle.dv_time.specs.Time.{rank}
 use Rattle.dv_bag.specs.Bag.{Counts}
 use Rattle.dv_bag.specs.Part.{PartOf, joined}
@@ -8,7 +9,8 @@ use Rattle.dv_devs.proofs.Stretches.{resting_components, resting_trace, rests_un
 use Rattle.dv_devs.specs.Behaviour.{Component, Reaction}
 use Rattle.dv_devs.specs.Idle.{AllBringNothing, LeavesOnlyWhatIsSent, no_values, nothing_sent}
 use Rattle.dv_devs.specs.Inputs.{ArriveAlike}
-use Rattle.dv_devs.specs.Network.{Network, components_after, components_at, emissions, entries_by, outer_from, part_of_instant, reactions, trace_before}
+use Rattle.dv_devs.specs.Network.{Network, components_after, components_at, emissions, entries_by, outer_from, part_of_instant}
+use Rattle.dv_devs.specs.Network.{reactions, trace_before}
 use Rattle.dv_devs.specs.NextTimes.{IsFrom, IsReady, least_next}
 use Rattle.dv_conservative.proofs.Bags.{nothing_leaves}
 use Rattle.dv_conservative.proofs.Delivered.{delivered-append}
@@ -17,7 +19,8 @@ use Rattle.dv_conservative.specs.Events.{Event, deliveries_at}
 use Rattle.dv_conservative.specs.Flat.{Flat, Member, network, numbers, received}
 use Rattle.dv_conservative.specs.Links.{Delivery, carried, delivered, inbox, sent_of}
 use Rattle.dv_conservative.proofs.Later.{components_stay, part_stays}
-use Rattle.dv_conservative.specs.Process.{Packet, Share, all_events, brings, components_by, events_by, inputs_by, least_clock, part_by, refusal_of, with_packet}
+use Rattle.dv_conservative.specs.Process.{Packet, Share, all_events, brings, components_by, events_by, inputs_by, least_clock}
+use Rattle.dv_conservative.specs.Process.{part_by, refusal_of, with_packet}
 use Rattle.std.specs.List.{list_any}
 use Rattle.dv_proc.specs.Arriving.{AreApart}
 use Rattle.dv_proc.proofs.Received.{deliver_with}
@@ -41,7 +44,8 @@ module _ {I : Type 0} (limit : ℕ) (net : Network I) (n : ℕ) (cs : List Compo
       (alike (emissions net.behaviours n cs))
 
 -- deliveries that nobody can tell apart arrive alike
-inbox_alike : (k : ℕ) (ds es : List Delivery) (port n : ℕ) → ((port : ℕ) (bag : Counts) → delivered k port ds bag ≡ delivered k port es bag) →
+inbox_alike : (k : ℕ) (ds es : List Delivery) (port n : ℕ)
+    → ((port : ℕ) (bag : Counts) → delivered k port ds bag ≡ delivered k port es bag) →
     inbox k ds port n ≡ inbox k es port n
 inbox_alike k ds es port zero h = refl
 inbox_alike k ds es port (suc n) h =
@@ -69,27 +73,33 @@ arrive_alike f outside ds es h sent =
 module _ (v : View) (events : ℕ → List Event) (k : ℕ) (run : IsLocalRun v events k) where
   pub inputs_alike : (n : ℕ) → k ≤ n → ArriveAlike (network v.share.flat) (input_at v n) (inputs_by v.share events n)
   inputs_alike n le =
-      arrive_alike v.share.flat (v.share.outside n) (v.held n) (deliveries_at v.share.limit (all_events v.share.incoming events) n) (run.held n le)
+      arrive_alike v.share.flat (v.share.outside n) (v.held n) (deliveries_at v.share.limit (all_events v.share.incoming events) n)
+      (run.held n le)
 
   -- what is held brings what the events bring
   pub brings_alike : (n : ℕ) → k ≤ n → brings_at v n ≡ brings v.share events n
-  brings_alike n le = ap (λ (received : List (List Counts)). not (no_values received)) (inputs_alike n le (nothing_sent (network v.share.flat)))
+  brings_alike n le = ap (λ (received : List (List Counts)). not (no_values received))
+      (inputs_alike n le (nothing_sent (network v.share.flat)))
 
   -- an instant later
   pub run_after : (w : View) → IsAfterInstant k v w → IsLocalRun w events (suc k)
   run_after w after = record {
     components = subst (λ (s : Share). w.components ≡ components_by s events (suc k)) (sym after.share)
         (after.components
-        ∙ after_alike v.share.limit (network v.share.flat) k v.components (input_at v k) (inputs_by v.share events k) (inputs_alike k (omega arith))
+        ∙ after_alike v.share.limit (network v.share.flat) k v.components (input_at v k) (inputs_by v.share events k)
+        (inputs_alike k (omega arith))
         ∙ ap (components_after v.share.limit (network v.share.flat) k (inputs_by v.share events k)) run.components);
     committed = subst (λ (s : Share). w.committed ≡ part_by s events (suc k)) (sym after.share)
         (after.committed
         ∙ ap (joined v.committed)
-        (part_alike v.share.limit (network v.share.flat) k v.components (input_at v k) (inputs_by v.share events k) (inputs_alike k (omega arith))
+        (part_alike v.share.limit (network v.share.flat) k v.components (input_at v k) (inputs_by v.share events k)
+        (inputs_alike k (omega arith))
         ∙ ap (part_of_instant v.share.limit (network v.share.flat) k (inputs_by v.share events k)) run.components)
         ∙ ap (λ (p : PartOf). joined p
-        (part_of_instant v.share.limit (network v.share.flat) k (inputs_by v.share events k) (components_by v.share events k))) run.committed);
-    held = λ n later. subst (λ (s : Share). DeliverAlike (w.held n) (deliveries_at s.limit (all_events s.incoming events) n)) (sym after.share)
+        (part_of_instant v.share.limit (network v.share.flat) k (inputs_by v.share events k) (components_by v.share events k)))
+        run.committed);
+    held = λ n later. subst (λ (s : Share). DeliverAlike (w.held n) (deliveries_at s.limit (all_events s.incoming events) n))
+        (sym after.share)
         (subst (λ (ds : List Delivery). DeliverAlike ds (deliveries_at v.share.limit (all_events v.share.incoming events) n))
         (sym (after.held n (omega arith))) (run.held n (omega arith)));
   }
@@ -134,7 +144,8 @@ run_received v w received p k run fine le apart some after = record {
   committed = subst (λ (s : Share). w.committed ≡ part_by s (events_by (with_packet received p)) k) (sym after.share)
       (after.committed ∙ run.committed ∙ sym (part_stays v.share received p k fine le));
   held = λ n later.
-      subst (λ (s : Share). DeliverAlike (w.held n) (deliveries_at s.limit (all_events s.incoming (events_by (with_packet received p))) n)) (sym after.share)
+      subst (λ (s : Share). DeliverAlike (w.held n) (deliveries_at s.limit (all_events s.incoming (events_by (with_packet received p)))
+      n)) (sym after.share)
       (λ c port bag.
       after.held n c port bag
       ∙ delivered-append c port (v.held n) (deliveries_at v.share.limit p.events n) bag

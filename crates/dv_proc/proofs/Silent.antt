@@ -1,5 +1,6 @@
 -- Before its promise a local run sends nothing beyond the instant at which it stands.
-use Rattle.std.proofs.Common.{◌≡◌, inl, inr, ℕ, zero, suc, ◌+◌, ◌-◌, ◌<◌, ◌≤◌, min, Bool, true, false, not, cond, nat_eq, List, [], ◌∷◌, ◌++◌, map, IsTrue, Option, Some, None, refl, ap, sym, ◌∙◌, subst, arith}
+use Rattle.std.proofs.Common.{◌≡◌, inl, inr, ℕ, zero, suc, ◌+◌, ◌-◌, ◌<◌, ◌≤◌, min, Bool, true, false, not, cond, nat_eq, List}
+use Rattle.std.proofs.Common.{[], ◌∷◌, ◌++◌, map, IsTrue, Option, Some, None, refl, ap, sym, ◌∙◌, subst, arith}
 use Rattle.dv_time.specs.Time.{rank}
 use Rattle.dv_bag.specs.Bag.{Counts, bag_at}
 use Rattle.dv_bag.specs.declared.state.State.{State}
@@ -13,7 +14,8 @@ use Rattle.dv_conservative.proofs.Silence.{sends_nothing_at}
 use Rattle.dv_conservative.specs.Events.{Event, deliveries_at, in_order}
 use Rattle.dv_conservative.specs.Flat.{network, numbers}
 use Rattle.dv_conservative.specs.Links.{Delivery, Link, carried, carried_by, sent_of}
-use Rattle.dv_conservative.specs.Process.{Outgoing, Packet, Share, all_events, at_most, brings, components_by, end_rank, events_by, inputs_by, known_until, least_clock, promise, sent_on}
+use Rattle.dv_conservative.specs.Process.{Outgoing, Packet, Share, all_events, at_most, brings, components_by, end_rank}
+use Rattle.dv_conservative.specs.Process.{events_by, inputs_by, known_until, least_clock, promise, sent_on}
 use Rattle.dv_conservative.specs.Promise.{IsWaiting, foreseen, reach}
 use Rattle.dv_conservative.specs.Sound.{AllReceivedNumbers, IsSoundShare, are_of_numbers, by_place}
 
@@ -27,7 +29,8 @@ sent_none (j ∷ js) [] k = by_test (nat_eq j k) (sent_none js [] k)
     by_test false h = h
 sent_none (j ∷ js) (b ∷ bs) k = by_test (nat_eq j k) (sent_none js bs k)
   where
-    by_test : (t : Bool) → sent_of js (map (λ (b : Behaviour). []) bs) k ≡ [] → cond t [] (sent_of js (map (λ (b : Behaviour). []) bs) k) ≡ []
+    by_test : (t : Bool) → sent_of js (map (λ (b : Behaviour). []) bs) k ≡ [] → cond t [] (sent_of js (map (λ (b : Behaviour). []) bs) k)
+        ≡ []
     by_test true h = refl
     by_test false h = h
 
@@ -57,7 +60,8 @@ module _ (fits : ℕ → State → Bool) (s : Share) (received : ℕ → List Pa
   abbrev until : ℕ
   until = known_until s received k
 
-  waits : IsWaiting (by_place fits s.flat.members) are_of_numbers s.response s.limit (network s.flat) (inputs_by s (events_by received)) k until
+  waits : IsWaiting (by_place fits s.flat.members) are_of_numbers s.response s.limit (network s.flat) (inputs_by s (events_by received)) k
+      until
   waits = record {
     ready = is_ready fits (λ k. s.response) s.flat sound.sound;
     keep = all_keep fits (λ k. s.response) s.flat.members sound.sound;
@@ -66,7 +70,8 @@ module _ (fits : ℕ → State → Bool) (s : Share) (received : ℕ → List Pa
         (λ n. numbers_at s.limit (all_events s.incoming (events_by received)) n (received_numbers s.limit received s.incoming ours)) k;
     order = first_not_before (brings s (events_by received)) k (least_clock s received - k);
     silent = λ j le lt. not_false _ (none_before_first (brings s (events_by received)) k (least_clock s received - k) j le lt);
-    comes_later = λ j le. numbers_come s.flat (s.outside j) (deliveries_at s.limit (all_events s.incoming (events_by received)) j) (sound.outside j)
+    comes_later = λ j le. numbers_come s.flat (s.outside j) (deliveries_at s.limit (all_events s.incoming (events_by received)) j)
+        (sound.outside j)
         (numbers_at s.limit (all_events s.incoming (events_by received)) j (received_numbers s.limit received s.incoming ours));
   }
 
@@ -82,6 +87,8 @@ module _ (fits : ℕ → State → Bool) (s : Share) (received : ℕ → List Pa
       by_test true lt = absurd (omega arith)
       by_test false lt =
           nothing_away s (events_by received) out n
-          (sends_nothing_at (by_place fits s.flat.members) are_of_numbers s.response s.limit (network s.flat) (inputs_by s (events_by received))
+          (sends_nothing_at (by_place fits s.flat.members) are_of_numbers s.response s.limit (network s.flat)
+          (inputs_by s (events_by received))
           k until (suc n) waits
-          (below_most (end_rank s) (suc n) (earlier (least_next cs) (reach s.limit until s.response)) (omega arith)) n (omega arith) (omega arith))
+          (below_most (end_rank s) (suc n) (earlier (least_next cs) (reach s.limit until s.response)) (omega arith)) n (omega arith)
+          (omega arith))

@@ -1,5 +1,7 @@
 -- A whole turn: where it moved the clock, and as it ends.
-use Rattle.std.proofs.Common.{◌≡◌, ◌⊎◌, inl, inr, ℕ, zero, suc, ◌+◌, ◌-◌, ◌<◌, ◌≤◌, min, Bool, true, false, not, ◌&&◌, ◌||◌, cond, nat_eq, nat_lt, get_or, length, List, [], ◌∷◌, ◌++◌, map, IsTrue, Option, Some, None, refl, ap, sym, ◌∙◌, subst, arith}
+use Rattle.std.proofs.Common.{◌≡◌, ◌⊎◌, inl, inr, ℕ, zero, suc, ◌+◌, ◌-◌, ◌<◌, ◌≤◌, min, Bool, true, false, not, ◌&&◌, ◌||◌}
+use Rattle.std.proofs.Common.{cond, nat_eq, nat_lt, get_or, length, List, [], ◌∷◌, ◌++◌, map, IsTrue, Option, Some, None, refl}
+use Rattle.std.proofs.Common.{ap, sym, ◌∙◌, subst, arith}
 use Rattle.std.specs.Prelude.{slice_get}
 use Rattle.std.specs.List.{list_all, list_any}
 use Rattle.std.specs.Prelude.{is_none}
@@ -12,7 +14,8 @@ use Rattle.dv_devs.specs.NextTimes.{least_next}
 use Rattle.dv_conservative.proofs.Later.{known_at}
 use Rattle.dv_conservative.proofs.Settled.{least_within, promise_later, promise_within}
 use Rattle.dv_conservative.specs.Events.{Event, event_of, in_order}
-use Rattle.dv_conservative.specs.Process.{IsWithin, Outgoing as OutgoingAsMeant, Packet, Share, at_most, brings, components_by, end_rank, events_by, known_until, least_clock, promise, sent_on}
+use Rattle.dv_conservative.specs.Process.{IsWithin, Outgoing as OutgoingAsMeant, Packet, Share, at_most, brings, components_by}
+use Rattle.dv_conservative.specs.Process.{end_rank, events_by, known_until, least_clock, promise, sent_on}
 use Rattle.dv_conservative.specs.Promise.{foreseen}
 use Rattle.dv_conservative.specs.Sound.{AllReceivedNumbers, IsSoundShare}
 use Rattle.dv_conservative.specs.Turn.{AllMayBecome, AllPromised, IsTurnOf, Position, all_free, some_prepared}
@@ -30,7 +33,8 @@ use Rattle.dv_proc.specs.declared.incoming.Incoming.{Incoming}
 use Rattle.dv_proc.specs.declared.outgoing.Outgoing.{Outgoing}
 
 -- the promise that the code finds is the one that is meant
-pub promise_found : (v : View) (received : ℕ → List Packet) (now upto : Time) (limit horizon m n : ℕ) → limit ≡ v.share.limit → horizon ≡ v.share.horizon →
+pub promise_found : (v : View) (received : ℕ → List Packet) (now upto : Time) (limit horizon m n : ℕ) → limit ≡ v.share.limit
+    → horizon ≡ v.share.horizon →
     IsLocalRun v (events_by received) (rank v.share.limit now) → m ≡ least_clock v.share received → IsKnown v (rank limit now) m n →
     rank limit upto ≡ at_most (end_of limit horizon) (foreseen limit (rank limit now) v.components n v.share.response) →
     rank v.share.limit upto ≡ promise v.share received (rank v.share.limit now)
@@ -48,7 +52,8 @@ promise_found v received now upto limit horizon m n le he run me known e =
     (λ nothing. there.some (brings_alike v (events_by received) k run n there.order ∙ nothing) ∙ me) in
     far
     ∙ ap (λ (cs : List Component). at_most (end_rank v.share) (foreseen v.share.limit k cs n v.share.response)) run.components
-    ∙ ap (λ (c : ℕ). at_most (end_rank v.share) (foreseen v.share.limit k (components_by v.share (events_by received) k) c v.share.response)) (sym until)
+    ∙ ap (λ (c : ℕ). at_most (end_rank v.share) (foreseen v.share.limit k (components_by v.share (events_by received) k) c
+    v.share.response)) (sym until)
 
 finished_numbers : (emitted : Bool) (now upto : Time) (xs ys : List Outgoing) → AreBeside (λ j. IsFinished emitted now upto) xs ys →
     outgoing_numbers ys ≡ outgoing_numbers xs
@@ -61,7 +66,8 @@ finished_numbers emitted now upto (x ∷ xs) (y ∷ ys) h =
     ∙ ap (λ (ns : List ℕ). x.number ∷ ns)
     (finished_numbers emitted now upto xs ys (tail_beside (λ j. IsFinished emitted now upto) x y xs ys h))
 
-same_numbers : (outs : List OutgoingAsMeant) (xs ys : List Outgoing) → outgoing_numbers ys ≡ outgoing_numbers xs → AreNumbered outs xs → AreNumbered outs ys
+same_numbers : (outs : List OutgoingAsMeant) (xs ys : List Outgoing) → outgoing_numbers ys ≡ outgoing_numbers xs → AreNumbered outs xs
+    → AreNumbered outs ys
 same_numbers [] [] [] e h = tt
 same_numbers [] [] (y ∷ ys) e h = absurd (cc)
 same_numbers [] (x ∷ xs) ys e h = absurd h
@@ -73,7 +79,8 @@ same_numbers (out ∷ outs) (x ∷ xs) (y ∷ ys) e h =
     (h.0 ∙ sym head, same_numbers outs xs ys tail h.1)
 
 -- a turn ends
-module _ (v : View) (is : List Incoming) (xs ys : List Outgoing) (emitted : Bool) (clock now upto : Time) (midway : IsMidway v is xs emitted now)
+module _ (v : View) (is : List Incoming) (xs ys : List Outgoing) (emitted : Bool) (clock now upto : Time)
+    (midway : IsMidway v is xs emitted now)
     (of_run : IsOfRun v.share.limit upto) (far : rank v.share.limit upto ≡ promise v.share (received_by is) (rank v.share.limit now))
     (ends : AreBeside (λ j. IsFinished emitted now upto) xs ys) where
   abbrev s : Share
@@ -104,7 +111,8 @@ module _ (v : View) (is : List Incoming) (xs ys : List Outgoing) (emitted : Bool
   apart_after = subst AreApart (sym stay) midway.away
 
   numbered : AreNumbered v.share.outgoing xs
-  numbered = caught_numbers v.share (events_by (received_by is)) (min (suc k) (end_rank v.share)) emitted now v.share.outgoing xs midway.caught
+  numbered = caught_numbers v.share (events_by (received_by is)) (min (suc k) (end_rank v.share)) emitted now v.share.outgoing xs
+      midway.caught
 
   links : ArePending v.share (events_by (received_by is)) (min (suc k) (end_rank v.share)) v.share.outgoing ys
       × AllMayBecome v.share (received_by is) (position_by clock xs) (position_by now ys) v.share.outgoing
@@ -112,7 +120,8 @@ module _ (v : View) (is : List Incoming) (xs ys : List Outgoing) (emitted : Bool
       × (some_prepared (position_by clock xs) (position_by now ys) v.share.outgoing ≡ list_any (is_prepared upto) xs)
       × (all_free (position_by now ys) v.share.outgoing ≡ list_all (λ (o : Outgoing). is_none o.standing) ys)
   links =
-      links_end v.share (received_by is) clock now upto emitted of_run far later last silent (position_by clock xs) (position_by now ys) refl
+      links_end v.share (received_by is) clock now upto emitted of_run far later last silent (position_by clock xs) (position_by now ys)
+      refl
       v.share.outgoing xs ys
       (all_stand clock v.share.outgoing xs numbered midway.away)
       (all_stand now v.share.outgoing ys (same_numbers v.share.outgoing xs ys stay numbered) apart_after)
@@ -148,7 +157,8 @@ module _ (v : View) (is : List Incoming) (xs ys : List Outgoing) (emitted : Bool
   free_ended = links.4
 
 -- where the clock is the least channel clock a turn stays
-pub midway_rest : (v : View) (is : List Incoming) (os : List Outgoing) (clock : Time) → IsProcess v is os clock → IsMidway v is os false clock
+pub midway_rest : (v : View) (is : List Incoming) (os : List Outgoing) (clock : Time) → IsProcess v is os clock
+    → IsMidway v is os false clock
 midway_rest v is os clock process = record {
   sound = process.standing.sound;
   linked = process.standing.linked;
@@ -158,13 +168,15 @@ midway_rest v is os clock process = record {
   within = process.standing.within;
   heard = process.standing.heard;
   away = process.standing.away;
-  caught = caught_at_rest v.share (events_by (received_by is)) (min (suc (rank v.share.limit clock)) (end_rank v.share)) clock v.share.outgoing os
+  caught = caught_at_rest v.share (events_by (received_by is)) (min (suc (rank v.share.limit clock)) (end_rank v.share)) clock
+      v.share.outgoing os
       process.standing.pending;
   run = process.run;
 }
 
 -- a process whose links have more room
-pub process_roomy : (v : View) (is : List Incoming) (xs ys : List Outgoing) (clock : Time) → IsProcess v is xs clock → AreBeside (λ j. IsSameLink) xs ys →
+pub process_roomy : (v : View) (is : List Incoming) (xs ys : List Outgoing) (clock : Time) → IsProcess v is xs clock
+    → AreBeside (λ j. IsSameLink) xs ys →
     IsProcess v is ys clock
 process_roomy v is xs ys clock process same = record {
   standing = record {
@@ -176,7 +188,8 @@ process_roomy v is xs ys clock process same = record {
     within = process.standing.within;
     heard = process.standing.heard;
     away = subst AreApart (sym (numbers_kept xs ys same)) process.standing.away;
-    pending = pending_kept v.share (events_by (received_by is)) (min (suc (rank v.share.limit clock)) (end_rank v.share)) v.share.outgoing xs ys same
+    pending = pending_kept v.share (events_by (received_by is)) (min (suc (rank v.share.limit clock)) (end_rank v.share)) v.share.outgoing
+        xs ys same
         process.standing.pending;
   };
   run = process.run;
@@ -197,14 +210,16 @@ module _ (v w : View) (is : List Incoming) (xs ys : List Outgoing) (clock now : 
 
   pub rose_past : rank limit clock < rank limit now
   rose_past =
-      let up = rose process.standing.sound.0 v w (events_by (received_by is)) (rank limit clock) m (rank limit now) run_v before moved process.standing.sound.1 in
+      let up = rose process.standing.sound.0 v w (events_by (received_by is)) (rank limit clock) m (rank limit now) run_v before moved
+      process.standing.sound.1 in
       omega arith
 
   least_w : least_clock w.share (received_by is) ≡ least_clock v.share (received_by is)
   least_w = ap (λ (s : Share). least_clock s (received_by is)) moved.instant.share
 
   run_w : IsLocalRun w (events_by (received_by is)) (rank limit now)
-  run_w = run_there process.standing.sound.0 v w (events_by (received_by is)) (rank limit clock) m (rank limit now) run_v before moved process.standing.sound.1
+  run_w = run_there process.standing.sound.0 v w (events_by (received_by is)) (rank limit clock) m (rank limit now) run_v before moved
+      process.standing.sound.1
 
   ended : rank limit now ≤ end_rank w.share
   ended =
@@ -238,7 +253,8 @@ module _ (v w : View) (is : List Incoming) (xs ys : List Outgoing) (clock now : 
     within = (of_run_w, subst (λ (n : ℕ). n ≤ end_rank w.share) (sym at_w) ended);
     heard = subst (λ (n : ℕ). n ≤ least_clock w.share (received_by is)) (sym at_w) (omega (arith, moved.next.within, me, least_w));
     away = subst AreApart (sym (numbers_kept xs ys same)) process.standing.away;
-    caught = subst (λ (n : ℕ). AreCaught w.share (events_by (received_by is)) (min (suc n) (end_rank w.share)) emitted now w.share.outgoing ys) (sym at_w)
+    caught = subst (λ (n : ℕ). AreCaught w.share (events_by (received_by is)) (min (suc n) (end_rank w.share)) emitted now
+        w.share.outgoing ys) (sym at_w)
         (links_caught process.standing.sound.0 v w (events_by (received_by is)) (rank limit clock) m (rank limit now) run_v before moved
         process.standing.sound.1 now of_run_w at_w emitted e ended w.share.outgoing ys waited
         (λ yes j d lt out there. (fresh yes j d lt).fresh out there));
@@ -253,6 +269,7 @@ module _ (v w : View) (is : List Incoming) (xs ys : List Outgoing) (clock now : 
         | inl reached ↦ inl (reached ∙ me ∙ sym least_w)
         | inr due ↦ elim due [
           | inl at ↦ inr (inl (subst (λ (cs : List Component). is_at (rank limit now) (least_next cs) ≡ true) run_w.components at))
-          | inr comes ↦ inr (inr (sym (brings_alike w (events_by (received_by is)) (rank limit now) run_w (rank limit now) (omega arith)) ∙ comes.1))
+          | inr comes ↦ inr (inr (sym (brings_alike w (events_by (received_by is)) (rank limit now) run_w (rank limit now) (omega arith))
+              ∙ comes.1))
         ]
       ])

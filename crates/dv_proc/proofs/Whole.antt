@@ -1,5 +1,7 @@
 -- A turn, in the terms of the code.
-use Rattle.std.proofs.Common.{◌≡◌, ◌⊎◌, inl, inr, ℕ, zero, suc, ◌+◌, ◌-◌, ◌<◌, ◌≤◌, min, Bool, true, false, not, ◌&&◌, ◌||◌, cond, nat_eq, nat_lt, take, drop, get_or, length, List, [], ◌∷◌, ◌++◌, append-nil, IsTrue, refl, ap, sym, ◌∙◌, subst, arith}
+use Rattle.std.proofs.Common.{◌≡◌, ◌⊎◌, inl, inr, ℕ, zero, suc, ◌+◌, ◌-◌, ◌<◌, ◌≤◌, min, Bool, true, false, not, ◌&&◌, ◌||◌}
+use Rattle.std.proofs.Common.{cond, nat_eq, nat_lt, take, drop, get_or, length, List, [], ◌∷◌, ◌++◌, append-nil, IsTrue, refl}
+use Rattle.std.proofs.Common.{ap, sym, ◌∙◌, subst, arith}
 use Rattle.std.specs.List.{list_all, list_any}
 use Rattle.std.specs.Prelude.{is_none}
 use Rattle.std.proofs.lemmas.Bool.Decides.{nat_tests}
@@ -29,7 +31,8 @@ take_whole (suc n) [] h = refl
 take_whole (suc n) (x ∷ xs) h = ap (λ (ys : List Outgoing). x ∷ ys) (take_whole n xs (omega arith))
 
 -- a whole list written back
-pub written_back : (len : ℕ) (now old : List Outgoing) → length now ≡ length old → len ≡ length old → take len (now ++ drop (length now) old) ≡ now
+pub written_back : (len : ℕ) (now old : List Outgoing) → length now ≡ length old → len ≡ length old
+    → take len (now ++ drop (length now) old) ≡ now
 written_back len now old e f =
     ap (λ (zs : List Outgoing). take len (now ++ zs)) (nothing_left (length now) old (omega arith))
     ∙ ap (take len) (append-nil now) ∙ take_whole len now (omega arith)
@@ -51,7 +54,8 @@ least_before_end s is limit horizon r le he e =
     let last : end_of limit horizon ≡ end_rank s = ap (λ (l : ℕ). end_of l horizon) le ∙ ap (end_of s.limit) he in
     omega (arith, least_within s (received_by is))
 
-module _ (v : View) (is : List Incoming) (xs ms ys : List Outgoing) (emitted : Bool) (clock now upto : Time) (midway : IsMidway v is xs emitted now)
+module _ (v : View) (is : List Incoming) (xs ms ys : List Outgoing) (emitted : Bool) (clock now upto : Time)
+    (midway : IsMidway v is xs emitted now)
     (limit horizon m n : ℕ) (le : limit ≡ v.share.limit) (he : horizon ≡ v.share.horizon) (me : m ≡ least_clock v.share (received_by is))
     (known : IsKnown v (rank limit now) m n)
     (e : rank limit upto ≡ at_most (end_of limit horizon) (foreseen limit (rank limit now) v.components n v.share.response))
@@ -107,7 +111,8 @@ module _ (v : View) (is : List Incoming) (xs ms ys : List Outgoing) (emitted : B
       let rose_is : rose ≡ nat_lt (rank v.share.limit clock) (rank v.share.limit now)
       = r ∙ ap (λ (i : ℕ). nat_lt i (rank limit now)) (sym at_clock) ∙ ap (nat_lt (rank v.share.limit clock)) (sym at_now) in
       ap (λ (t : Bool). cond (t && free) Done (cond (rose || prepared) Moved Waiting)) (at_end before b)
-      ∙ ap (λ (t : Bool). cond (nat_eq (rank v.share.limit now) (end_rank v.share) && t) Done (cond (rose || prepared) Moved Waiting)) free_is
+      ∙ ap (λ (t : Bool). cond (nat_eq (rank v.share.limit now) (end_rank v.share) && t) Done (cond (rose || prepared) Moved Waiting))
+      free_is
       ∙ ap (λ (t : Bool).
       cond (nat_eq (rank v.share.limit now) (end_rank v.share) && all_free (position_by now ys) v.share.outgoing) Done
       (cond (t || prepared) Moved Waiting)) rose_is

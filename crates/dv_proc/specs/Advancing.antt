@@ -1,5 +1,6 @@
 -- What a turn computes: the clock that it leaves, until when inputs are known, and what is sent at the clock.
-use Rattle.std.specs.Prelude.{◌≡◌, ℕ, suc, ◌<◌, ◌≤◌, ◌⊎◌, ◌+◌, ◌++◌, ◌&&◌, not, Bool, true, false, List, length, map, slice_get, slice_index_or, Option, Some, None, if◌then◌else◌, [], vec_capacity, vec_len}
+use Rattle.std.specs.Prelude.{◌≡◌, ℕ, suc, ◌<◌, ◌≤◌, ◌⊎◌, ◌+◌, ◌++◌, ◌&&◌, not, Bool, true, false, List, length, map, slice_get}
+use Rattle.std.specs.Prelude.{slice_index_or, Option, Some, None, if◌then◌else◌, [], vec_capacity, vec_len}
 use Rattle.dv_time.specs.Time.{is_before, rank}
 use Rattle.dv_time.specs.declared.time.Time.{Time}
 use Rattle.dv_bag.specs.Bag.{Counts}
@@ -67,5 +68,11 @@ pub record IsFinished (emitted : Bool) (now upto : Time) (x y : Outgoing) : Type
   pub pending : y.pending.items ≡ (if is_prepared upto x then [] else waiting emitted now x)
   pub standing : standing_on y.standing
       ≡ (if is_prepared upto x
-      then Some (let p : Packet = record { link = x.number; from = x.promised; upto = upto; events = meant_events (waiting emitted now x) } in p)
+      then Some (let p : Packet = record {
+        link = x.number;
+        from = x.promised;
+        upto = upto;
+        events =
+            meant_events (waiting emitted now x);
+      } in p)
       else standing_on x.standing)

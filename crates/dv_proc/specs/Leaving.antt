@@ -1,5 +1,6 @@
 -- The links that lead away: what stands and is promised by the number of a link, and what waits to be sent.
-use Rattle.std.specs.Prelude.{◌≡◌, ℕ, zero, suc, ◌+◌, true, false, nat_eq, nat_lt, Bool, ◌&&◌, is_none, if◌then◌else◌, List, [], ◌∷◌, ◌++◌, map, option_map, Option, Some, None}
+use Rattle.std.specs.Prelude.{◌≡◌, ℕ, zero, suc, ◌+◌, true, false, nat_eq, nat_lt, Bool, ◌&&◌, is_none, if◌then◌else◌, List, []}
+use Rattle.std.specs.Prelude.{◌∷◌, ◌++◌, map, option_map, Option, Some, None}
 use Rattle.dv_time.specs.Time.{is_before, rank}
 use Rattle.dv_time.specs.declared.time.Time.{Time}
 use Rattle.dv_conservative.specs.Events.{Event, events_between}

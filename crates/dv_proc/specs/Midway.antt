@@ -18,7 +18,8 @@ use Rattle.dv_proc.specs.declared.process.Turned.{Turned}
 use Rattle.dv_proc.specs.declared.process.Turned.TheVariants as turned
 
 -- what is sent on a link and is in no packet yet, to a rank, waits or was computed
-pub record IsCaught (s : Share) (events : ℕ → List Event) (upto : ℕ) (emitted : Bool) (now : Time) (out : OutgoingAsMeant) (o : Outgoing) : Type 0 where
+pub record IsCaught (s : Share) (events : ℕ → List Event) (upto : ℕ) (emitted : Bool) (now : Time) (out : OutgoingAsMeant)
+    (o : Outgoing) : Type 0 where
   pub number : out.number ≡ o.number
   pub within : IsWithin s o.promised
   pub caught : meant_events (waiting emitted now o) ≡ events_between s.limit (sent_on s events out) (rank s.limit o.promised) upto
@@ -26,7 +27,8 @@ pub record IsCaught (s : Share) (events : ℕ → List Event) (upto : ℕ) (emit
 -- so it is on all links
 abbrev pub AreCaught : Share → (ℕ → List Event) → ℕ → Bool → Time → List OutgoingAsMeant → List Outgoing → Type 0
 AreCaught s events upto emitted now [] [] = Unit {0}
-AreCaught s events upto emitted now (out ∷ outs) (o ∷ os) = IsCaught s events upto emitted now out o × AreCaught s events upto emitted now outs os
+AreCaught s events upto emitted now (out ∷ outs) (o ∷ os) = IsCaught s events upto emitted now out o × AreCaught s events upto emitted now
+    outs os
 AreCaught s events upto emitted now [] (o ∷ os) = ⊥
 AreCaught s events upto emitted now (out ∷ outs) [] = ⊥
 

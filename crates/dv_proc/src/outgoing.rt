@@ -1,6 +1,7 @@
 //! The links that lead away from a process: what was sent and waits, and the packet that stands.
 
-ghost use Rattle.std.specs.Prelude.{◌≡◌, ◌<◌, ◌≤◌, ◌+◌, ◌++◌, [], ℕ, IfOk, IfSome, IsTrue, MatchOption, None, OnOk, Some, if◌then◌else◌, is_none, length, slice_index_or, vec_capacity, vec_len};
+ghost use Rattle.std.specs.Prelude.{◌≡◌, ◌<◌, ◌≤◌, ◌+◌, ◌++◌, [], ℕ, IfOk, IfSome, IsTrue, MatchOption, None, OnOk, Some};
+ghost use Rattle.std.specs.Prelude.{if◌then◌else◌, is_none, length, slice_index_or, vec_capacity, vec_len};
 ghost use Rattle.std.specs.List.{list_all, list_any};
 ghost use Rattle.dv_time.specs.Time.{is_before};
 ghost use Rattle.dv_proc.specs.Leaving.{AreNewOutgoing, is_prepared, out_place_from, standing_by};
@@ -143,7 +144,8 @@ pub fn fill_all<L: Local>(local: &L, outgoing: &mut [Outgoing], now: Time) -> Re
 
 /// Ends a turn on all links.
 pub fn finish_all(alloc: Global, outgoing: &mut [Outgoing], emitted: bool, now: Time, upto: Time)
-    requires { IsTrue emitted → (j : ℕ) (d : Outgoing) → j < length outgoing.old → HasRoom (slice_index_or outgoing.old j d) }
+    requires { IsTrue emitted → (j : ℕ) (d : Outgoing) → j < length outgoing.old
+        → HasRoom (slice_index_or outgoing.old j d) }
     ensures { AreBeside (λ j. IsFinished emitted now upto) outgoing.old outgoing.new }
 {
     for place in 0..outgoing.len() {

@@ -1,6 +1,7 @@
 //! One logical process.
 
-ghost use Rattle.std.specs.Prelude.{◌≡◌, ◌<◌, ◌≤◌, ◌⊎◌, ◌&&◌, ◌||◌, ℕ, [], Bool, MatchOption, None, Some, map, IfErr, IfOk, IsTrue, MatchResult, OnErr, OnOk, if◌then◌else◌, length, nat_eq, slice_index_or};
+ghost use Rattle.std.specs.Prelude.{◌≡◌, ◌<◌, ◌≤◌, ◌⊎◌, ◌&&◌, ◌||◌, ℕ, [], Bool, MatchOption, None, Some, map, IfErr, IfOk};
+ghost use Rattle.std.specs.Prelude.{IsTrue, MatchResult, OnErr, OnOk, if◌then◌else◌, length, nat_eq, slice_index_or};
 ghost use Rattle.std.specs.List.{list_all};
 ghost use Rattle.dv_time.specs.Time.{IsOfRun, rank};
 ghost use Rattle.dv_conservative.specs.Process.{Outgoing as OutgoingAsMeant, first_time, is_event_of, least_clock, refusal_of, with_packet};
@@ -70,15 +71,18 @@ impl<L: Local> Process<L> {
         requires begun { IsBegun (L.view local) }
         requires sound { (fits : ℕ → State → Bool) × IsSoundShare fits (L.view local).share }
         requires linked { (L.view local).share.incoming ≡ incoming.now }
-        requires away { map (λ (o : OutgoingAsMeant). o.number) (L.view local).share.outgoing ≡ outgoing.now }
+        requires away { map (λ (o : OutgoingAsMeant). o.number) (L.view local).share.outgoing
+            ≡ outgoing.now }
         requires apart_in { AreApart incoming.now }
         requires apart_out { AreApart outgoing.now }
-        ensures process { IfOk result (λ p. IsProcess (L.view p.local) p.incoming.items p.outgoing.items p.clock) }
+        ensures process { IfOk result (λ p. IsProcess (L.view p.local) p.incoming.items
+            p.outgoing.items p.clock) }
         ensures settled { IfOk result (λ p. L.settled p.local ≡ L.view p.local) }
         ensures local { IfOk result (λ p. p.local ≡ local) }
         ensures received { IfOk result (λ p. (l : ℕ) → received_by p.incoming.items l ≡ []) }
         ensures standing { IfOk result (λ p. (l : ℕ) → standing_by p.outgoing.items l ≡ None) }
-        ensures promised { IfOk result (λ p. (l : ℕ) → promised_by p.outgoing.items l ≡ first_time) }
+        ensures promised { IfOk result (λ p. (l : ℕ) → promised_by p.outgoing.items l
+            ≡ first_time) }
         ensures clock { IfOk result (λ p. p.clock ≡ first_time) }
         ensures visits { IfOk result (λ p. (L.view p.local).visits ≡ 0) }
     {

@@ -1,5 +1,6 @@
 -- What was written of a text that ran in processes: the lines of the text's own trace.
-use Rattle.std.proofs.Common.{◌≡◌, ◌≢◌, ℕ, ◌+◌, ◌<◌, ◌≤◌, inl, inr, Bool, true, nat_eq, List, length, Option, Some, None, Result, Ok, Err, IfOk, refl, sym, ap, ◌∙◌, subst, arith}
+use Rattle.std.proofs.Common.{◌≡◌, ◌≢◌, ℕ, ◌+◌, ◌<◌, ◌≤◌, inl, inr, Bool, true, nat_eq, List, length, Option, Some, None}
+use Rattle.std.proofs.Common.{Result, Ok, Err, IfOk, refl, sym, ap, ◌∙◌, subst, arith}
 use Rattle.std.proofs.lemmas.Bool.{cases_lt}
 use Rattle.std.proofs.lemmas.Option.{slice_get_within}
 use Rattle.std.specs.List.{slice_get}
@@ -94,32 +95,38 @@ module _ (names : List (List ℕ)) (f : FileTree) (played : List Input) (limit :
 pub plus_nothing : (x : ℕ) → x + 0 ≡ x
 plus_nothing x = omega arith
 
-module _ (j : TextJob) (text : AreOfOneText j.tree.now.names (file_of j.tree.now.file)) (accepted : refusal_of (file_of j.tree.now.file) ≡ None)
+module _ (j : TextJob) (text : AreOfOneText j.tree.now.names (file_of j.tree.now.file)) (accepted : refusal_of (file_of j.tree.now.file)
+    ≡ None)
     (laws : Laws (file_of j.tree.now.file) j.limit) {old new : Option (List ℕ)} where
   -- up to the least of the clocks that were reached
-  pub is_printed : (w : Written) (r : Ran) → IsWrittenTo (text_job j) j.tree.now old new w → rank j.limit w.mark ≡ least_rank j.limit r.clocks.items
+  pub is_printed : (w : Written) (r : Ran) → IsWrittenTo (text_job j) j.tree.now old new w
+      → rank j.limit w.mark ≡ least_rank j.limit r.clocks.items
       → r.faulted ≡ w.faulted → 0 < length r.clocks.items → AreAtEnd (text_job j) r.ended r.clocks.items
       → IsPrinted j.tree.now.names (file_of j.tree.now.file) j.inputs.now j.horizon j.limit old new r
   is_printed w r written mark fault some at_end = record {
     lines =
         subst (λ (n : ℕ). Appends old new (lines_before j.tree.now.names (file_of j.tree.now.file) j.inputs.now j.limit n)) mark
-        (subst (Appends old new) (same_lines j.tree.now.names (file_of j.tree.now.file) j.inputs.now j.limit text accepted laws (rank j.limit w.mark)) written.text);
+        (subst (Appends old new) (same_lines j.tree.now.names (file_of j.tree.now.file) j.inputs.now j.limit text accepted laws
+        (rank j.limit w.mark)) written.text);
     faults =
         fault ∙ written.faults
         ∙ ap has_fault (same_trace j.tree.now.names (file_of j.tree.now.file) j.inputs.now j.limit text accepted laws (rank j.limit w.mark))
-        ∙ ap (λ (n : ℕ). has_fault (trace_before j.limit (network_of j.limit (file_of j.tree.now.file)) (outside (file_of j.tree.now.file) j.limit j.inputs.now) n)) mark;
+        ∙ ap (λ (n : ℕ). has_fault (trace_before j.limit (network_of j.limit (file_of j.tree.now.file))
+        (outside (file_of j.tree.now.file) j.limit j.inputs.now) n)) mark;
     some = some;
     whole = λ e.
         least_of_same j.limit (end_of j.limit j.horizon) r.clocks.items some
         (λ p t at. ap (rank j.limit) (at_end e p t at) ∙ plus_nothing (end_of j.limit j.horizon));
   }
 
-  pub is_cut_short : IsBegun (text_job j) j.tree.now old new → IsCutShort j.tree.now.names (file_of j.tree.now.file) j.inputs.now j.horizon j.limit old new
+  pub is_cut_short : IsBegun (text_job j) j.tree.now old new
+      → IsCutShort j.tree.now.names (file_of j.tree.now.file) j.inputs.now j.horizon j.limit old new
   is_cut_short begun = record {
     upto = begun.upto;
     within = begun.within;
     lines =
-        subst (AppendsBeginning old new) (same_lines j.tree.now.names (file_of j.tree.now.file) j.inputs.now j.limit text accepted laws begun.upto) begun.text;
+        subst (AppendsBeginning old new) (same_lines j.tree.now.names (file_of j.tree.now.file) j.inputs.now j.limit text accepted laws
+        begun.upto) begun.text;
   }
 
 -- ---- In rounds

@@ -46,7 +46,8 @@ lines_before names f played limit n =
 pub record IsPrinted (names : List (List ℕ)) (f : FileTree) (played : List Input) (horizon limit : ℕ) (old new : Option (List ℕ))
     (ran : Ran) : Type 0 where
   pub lines : Appends old new (lines_before names f played limit (least_rank limit ran.clocks.items))
-  pub faults : ran.faulted ≡ has_fault (trace_before limit (network_of limit f) (outside f limit played) (least_rank limit ran.clocks.items))
+  pub faults : ran.faulted ≡ has_fault
+      (trace_before limit (network_of limit f) (outside f limit played) (least_rank limit ran.clocks.items))
   pub some : 0 < length ran.clocks.items
   pub whole : ran.ended ≡ Whole → least_rank limit ran.clocks.items ≡ end_of limit horizon
 

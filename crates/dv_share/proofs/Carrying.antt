@@ -10,7 +10,8 @@ pub drop_next : {X : Type 0} (xs : List X) (i : ℕ) (x : X) → i < length xs �
 drop_next {X} xs i x lt is =
     drop-cons xs i x lt ∙ ap (λ (y : X). y ∷ drop (suc i) xs) (sym is) ∙ ap (λ (n : ℕ). x ∷ drop n xs) (sym (add-one i))
 
-pub carry_more : (new old : List Delivery) (ds rest all : List Meant) → deliveries_of new ≡ deliveries_of old ++ ds → deliveries_of old ++ (ds ++ rest) ≡ all →
+pub carry_more : (new old : List Delivery) (ds rest all : List Meant) → deliveries_of new ≡ deliveries_of old ++ ds
+    → deliveries_of old ++ (ds ++ rest) ≡ all →
     deliveries_of new ++ rest ≡ all
 carry_more new old ds rest all more so_far = ap (λ (es : List Meant). es ++ rest) more ∙ append_assoc (deliveries_of old) ds rest ∙ so_far
 

@@ -1,5 +1,6 @@
 -- What is collected of deliveries in the order of their components, one component after the other.
-use Rattle.std.proofs.Common.{◌≡◌, inl, inr, ℕ, ◌-◌, ◌<◌, ◌≤◌, Bool, true, false, ◌||◌, nat_eq, List, [], ◌∷◌, ◌++◌, length, get_or, take, drop, Some, refl, sym, ap, ◌∙◌, subst, arith}
+use Rattle.std.proofs.Common.{◌≡◌, inl, inr, ℕ, ◌-◌, ◌<◌, ◌≤◌, Bool, true, false, ◌||◌, nat_eq, List, [], ◌∷◌, ◌++◌, length}
+use Rattle.std.proofs.Common.{get_or, take, drop, Some, refl, sym, ap, ◌∙◌, subst, arith}
 use Rattle.std.specs.List.{All, AllWithin, filter, slice_get}
 use Rattle.std.proofs.lemmas.Bool.{cases_lt, eq-eqb}
 use Rattle.std.proofs.lemmas.List.{map-append}
@@ -34,7 +35,8 @@ pub record Collected (ms : List Member) (ds : List Delivery) (start : ℕ) (xs :
   pub places : StandByPlace (length ms) xs
   pub bags : All (λ (x : Placed (List Counts)). (m : Member) → slice_get ms x.place ≡ Some m → x.what ≡ inbox_of m (deliveries_of ds)) xs
   pub stand : (p : ℕ) (m : Member) → slice_get ms p ≡ Some m → is_in p (places_of xs) ≡ false → NoneBefore m.number start ds
-  pub later : All (λ (x : Placed (List Counts)). (m : Member) → slice_get ms x.place ≡ Some m → (i : ℕ) (d : Delivery) → start ≤ i → i < length ds
+  pub later : All (λ (x : Placed (List Counts)). (m : Member) → slice_get ms x.place ≡ Some m → (i : ℕ) (d : Delivery) → start ≤ i
+      → i < length ds
       → m.number < (get_or ds i d).component) xs
   pub parted : ArePartedAt start ds
 
@@ -53,7 +55,8 @@ run_is_inbox ds k start end ports r =
     part_is_filter (λ (d : Delivery). nat_eq d.component k) start end ds (omega (arith, r.onward)) r.within
     (λ i d le lt. differ _ k (λ e. absurd (omega (arith, e, r.before i d le lt)))) (λ i d le lt. eq-eqb _ k (r.here i d le lt))
     (λ i d le lt. differ _ k (λ e. absurd (omega (arith, e, r.behind i d le lt)))) in
-    ap (λ (es : List Meant). inbox k es 0 ports) (ap deliveries_of run ∙ sym (filter_map (λ (d : Meant). nat_eq d.component k) delivery_of ds))
+    ap (λ (es : List Meant). inbox k es 0 ports)
+    (ap deliveries_of run ∙ sym (filter_map (λ (d : Meant). nat_eq d.component k) delivery_of ds))
     ∙ inbox_same k (filter (λ (d : Meant). nat_eq d.component k) (deliveries_of ds)) (deliveries_of ds) 0 ports
     (λ port. delivered_filter k port (deliveries_of ds) [])
 
@@ -73,7 +76,8 @@ parts_at_end ds k start end r i j d lt le within =
       | inr ge ↦ let same = r.here i d ge lt in omega (arith, same, last)
     ]
 
-pub collected_none : (ms : List Member) (ds : List Delivery) (k start end : ℕ) (xs : List (Placed (List Counts))) → Collected ms ds start xs →
+pub collected_none : (ms : List Member) (ds : List Delivery) (k start end : ℕ) (xs : List (Placed (List Counts)))
+    → Collected ms ds start xs →
     IsRun ds k start end → ((p : ℕ) (m : Member) → slice_get ms p ≡ Some m → m.number ≡ k → ⊥) → Collected ms ds end xs
 collected_none ms ds k start end xs h r absent = record {
   places = h.places;
@@ -83,16 +87,19 @@ collected_none ms ds k start end xs h r absent = record {
   parted = parts_at_end ds k start end r;
 }
 
-pub collected_found : (ms : List Member) (ds : List Delivery) (k start end p : ℕ) (m : Member) (d : Delivery) (xs : List (Placed (List Counts))) (what : List Counts) →
+pub collected_found : (ms : List Member) (ds : List Delivery) (k start end p : ℕ) (m : Member) (d : Delivery)
+    (xs : List (Placed (List Counts))) (what : List Counts) →
     AreRising (numbers_of ms) → Collected ms ds start xs → IsRun ds k start end → slice_get ms p ≡ Some m → m.number ≡ k →
-    what ≡ inbox k (deliveries_of (take (end - start) (drop start ds))) 0 m.inputs → Collected ms ds end (xs ++ record { place = p; what = what } ∷ [])
+    what ≡ inbox k (deliveries_of (take (end - start) (drop start ds))) 0 m.inputs
+    → Collected ms ds end (xs ++ record { place = p; what = what } ∷ [])
 collected_found ms ds k start end p m d xs what up h r at number is = record {
   places = record {
     rise =
         subst AreRising (sym (map-append (λ (x : Placed (List Counts)). x.place) xs (record { place = p; what = what } ∷ [])))
         (rise_push 0 p (places_of xs) h.places.rise (omega arith) (map_all (λ (x : Placed (List Counts)). x.place) (λ q. q < p) xs below));
     within =
-        All-push (λ (x : Placed (List Counts)). x.place < length ms) xs (record { place = p; what = what }) h.places.within (slice_get_within ms p m at);
+        All-push (λ (x : Placed (List Counts)). x.place < length ms) xs (record { place = p; what = what }) h.places.within
+        (slice_get_within ms p m at);
   };
   bags =
       All-push (λ (x : Placed (List Counts)). (n : Member) → slice_get ms x.place ≡ Some n → x.what ≡ inbox_of n (deliveries_of ds)) xs
@@ -127,7 +134,8 @@ collected_found ms ds k start end p m d xs what up h r at number is = record {
             | inl higher ↦
                 let up_there = rise_at (λ (m : Member). m.number) 0 ms p q m up higher (h.places.within i x lt) in
                 let first-is : get_or ms p m ≡ m = same_Some _ m (sym (slice_get-get_or ms p m (slice_get_within ms p m at)) ∙ at) in
-                let second-is : get_or ms q m ≡ member.0 = same_Some _ member.0 (sym (slice_get-get_or ms q m (h.places.within i x lt)) ∙ member.1) in
+                let second-is : get_or ms q m ≡ member.0 = same_Some _ member.0 (sym (slice_get-get_or ms q m (h.places.within i x lt))
+                ∙ member.1) in
                 let one = ap (λ (m : Member). m.number) first-is in
                 let two = ap (λ (m : Member). m.number) second-is in
                 absurd (omega (arith, up_there, one, two, less, r.here start d (omega arith) r.onward, number))
@@ -139,10 +147,12 @@ collected_found ms ds k start end p m d xs what up h r at number is = record {
           ]
         ]
 
-    stands : (q : ℕ) (n : Member) → slice_get ms q ≡ Some n → is_in q (places_of (xs ++ record { place = p; what = what } ∷ [])) ≡ false → NoneBefore n.number end ds
+    stands : (q : ℕ) (n : Member) → slice_get ms q ≡ Some n → is_in q (places_of (xs ++ record { place = p; what = what } ∷ [])) ≡ false
+        → NoneBefore n.number end ds
     stands q n at-n out =
         let pushed : (is_in q (places_of xs) || nat_eq p q) ≡ false =
-        sym (ap (is_in q) (map-append (λ (x : Placed (List Counts)). x.place) xs (record { place = p; what = what } ∷ [])) ∙ in_push q p (places_of xs)) ∙ out in
+        sym (ap (is_in q) (map-append (λ (x : Placed (List Counts)). x.place) xs (record { place = p; what = what } ∷ []))
+        ∙ in_push q p (places_of xs)) ∙ out in
         let parts = both (is_in q (places_of xs)) (nat_eq p q) pushed in
         stand_on ds k n.number start end r (λ same. apart parts.1 same) (h.stand q n at-n parts.0)
       where
@@ -158,13 +168,15 @@ collected_found ms ds k start end p m d xs what up h r at number is = record {
           | inl less ↦
               let up_there = rise_at (λ (m : Member). m.number) 0 ms p q m up less (slice_get_within ms q n at-n) in
               let one = ap (λ (m : Member). m.number) (same_Some _ m (sym (slice_get-get_or ms p m (slice_get_within ms p m at)) ∙ at)) in
-              let two = ap (λ (m : Member). m.number) (same_Some _ n (sym (slice_get-get_or ms q m (slice_get_within ms q n at-n)) ∙ at-n)) in
+              let two = ap (λ (m : Member). m.number)
+              (same_Some _ n (sym (slice_get-get_or ms q m (slice_get_within ms q n at-n)) ∙ at-n)) in
               absurd (omega (arith, up_there, one, two, same, number))
           | inr ge ↦ elim (cases_lt q p) [
             | inl less ↦
                 let up_there = rise_at (λ (m : Member). m.number) 0 ms q p m up less (slice_get_within ms p m at) in
                 let one = ap (λ (m : Member). m.number) (same_Some _ m (sym (slice_get-get_or ms p m (slice_get_within ms p m at)) ∙ at)) in
-                let two = ap (λ (m : Member). m.number) (same_Some _ n (sym (slice_get-get_or ms q m (slice_get_within ms q n at-n)) ∙ at-n)) in
+                let two = ap (λ (m : Member). m.number)
+                (same_Some _ n (sym (slice_get-get_or ms q m (slice_get_within ms q n at-n)) ∙ at-n)) in
                 absurd (omega (arith, up_there, one, two, same, number))
             | inr le ↦ absurd (false_true (sym other ∙ eq-eqb p q (omega (arith, ge, le))))
           ]
@@ -179,14 +191,17 @@ collected_new ms ds = record {
   parted = λ i j d lt. absurd (omega (arith, lt));
 }
 
-none_for : (k : ℕ) (ds : List Delivery) → ((i : ℕ) (d : Delivery) → i < length ds → (get_or ds i d).component ≡ k → ⊥) → NoneFor k (deliveries_of ds)
+none_for : (k : ℕ) (ds : List Delivery) → ((i : ℕ) (d : Delivery) → i < length ds → (get_or ds i d).component ≡ k → ⊥)
+    → NoneFor k (deliveries_of ds)
 none_for k ds h = map_all delivery_of (λ (d : Meant). nat_eq d.component k ≡ false) ds (λ i d lt. differ _ k (h i d lt))
 
-pub collected_stand : (ms : List Member) (ds : List Delivery) (start : ℕ) (xs : List (Placed (List Counts))) → Collected ms ds start xs → length ds ≤ start →
+pub collected_stand : (ms : List Member) (ds : List Delivery) (start : ℕ) (xs : List (Placed (List Counts))) → Collected ms ds start xs
+    → length ds ≤ start →
     AllStand ms (deliveries_of ds) xs
 collected_stand ms ds start xs h done p m at out = none_for m.number ds (λ i d lt. h.stand p m at out i d (omega (arith, lt, done)) lt)
 
-pub collected_all : (ms : List Member) (ds : List Delivery) (start : ℕ) (xs : List (Placed (List Counts))) → Collected ms ds start xs → length ds ≤ start →
+pub collected_all : (ms : List Member) (ds : List Delivery) (start : ℕ) (xs : List (Placed (List Counts))) → Collected ms ds start xs
+    → length ds ≤ start →
     AreReceived ms (deliveries_of ds) xs
 collected_all ms ds start xs h done = record {
   places = h.places;

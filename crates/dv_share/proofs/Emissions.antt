@@ -1,5 +1,6 @@
 -- What the output functions at the due places give is what all components send.
-use Rattle.std.proofs.Common.{◌≡◌, inl, inr, ℕ, zero, suc, ◌+◌, ◌<◌, true, false, List, [], ◌∷◌, length, get_or, map, take, Option, Some, Result, Ok, Err, IsTrue, refl, sym, ap, ◌∙◌, subst, arith}
+use Rattle.std.proofs.Common.{◌≡◌, inl, inr, ℕ, zero, suc, ◌+◌, ◌<◌, true, false, List, [], ◌∷◌, length, get_or, map, take}
+use Rattle.std.proofs.Common.{Option, Some, Result, Ok, Err, IsTrue, refl, sym, ap, ◌∙◌, subst, arith}
 use Rattle.std.specs.List.{All, slice_get}
 use Rattle.std.specs.Option.{unwrap_or}
 use Rattle.std.proofs.lemmas.Option.{same_Some}
@@ -26,7 +27,8 @@ IsGiven behaviour t now rs p w =
     (m : Member) (r : Running) → slice_get t.members.items p ≡ Some m → slice_get rs p ≡ Some r
     → w ≡ emission (behaviour_of behaviour (slice_get t.models.items m.model)) now (component_of t.limit r)
 
-pub given_one : {S : Type 0} (behaviour : S → Behaviour) (t : Tables S) (now : ℕ) (rs : List Running) (p : ℕ) (w : Result (List Counts) Fault) (m : Member)
+pub given_one : {S : Type 0} (behaviour : S → Behaviour) (t : Tables S) (now : ℕ) (rs : List Running) (p : ℕ)
+    (w : Result (List Counts) Fault) (m : Member)
     (r : Running) (a : S) → slice_get t.members.items p ≡ Some m → slice_get rs p ≡ Some r → slice_get t.models.items m.model ≡ Some a →
     emission (behaviour a) now (component_of t.limit r) ≡ w → IsGiven behaviour t now rs p w
 given_one {S} behaviour t now rs p w m r a at-m at-r at-a is = λ n q at-n at-q.
@@ -42,14 +44,17 @@ loud_sends : (c : Component) (r : Result (List Counts) Fault) → c.quiet ≡ fa
 loud_sends c (Ok bags) e = rw e refl
 loud_sends c (Err f) e = refl
 
-sent_is : (limit now : ℕ) (b : Behaviour) (r : Running) → sent_by (component_of limit r) (emission b now (component_of limit r)) ≡ sent_of (emission b now (component_of limit r))
+sent_is : (limit now : ℕ) (b : Behaviour) (r : Running) → sent_by (component_of limit r) (emission b now (component_of limit r))
+    ≡ sent_of (emission b now (component_of limit r))
 sent_is limit now b r = by_wait r.wait
   where
     with_wait : Wait → Running
     with_wait w = record { state = r.state; last = r.last; wait = w }
 
-    by_wait : (w : Wait) → sent_by (component_of limit (with_wait w)) (emission b now (component_of limit (with_wait w))) ≡ sent_of (emission b now (component_of limit (with_wait w)))
-    by_wait (Until t) = loud_sends (component_of limit (with_wait (Until t))) (emission b now (component_of limit (with_wait (Until t)))) refl
+    by_wait : (w : Wait) → sent_by (component_of limit (with_wait w)) (emission b now (component_of limit (with_wait w)))
+        ≡ sent_of (emission b now (component_of limit (with_wait w)))
+    by_wait (Until t) = loud_sends (component_of limit (with_wait (Until t))) (emission b now (component_of limit (with_wait (Until t))))
+        refl
     by_wait Forever = refl
     by_wait Quiet = refl
 
@@ -87,13 +92,15 @@ module _ {S : Type 0} (behaviour : S → Behaviour) (limit now : ℕ) (models : 
       (sent_is limit now (behaviour_of behaviour (slice_get models m.model)) r ∙ sym (ap sent_of here))
       ∙ ap (λ (xs : List (List Counts)). sent_of (given_at q es) ∷ xs) rest
 
-module _ {S : Type 0} (behaviour : S → Behaviour) (t : Tables S) (now : ℕ) (rs : List Running) (es : List (Placed (Result (List Counts) Fault))) (due : List ℕ) where
+module _ {S : Type 0} (behaviour : S → Behaviour) (t : Tables S) (now : ℕ) (rs : List Running)
+    (es : List (Placed (Result (List Counts) Fault))) (due : List ℕ) where
   pub emitted_all : length rs ≡ length t.members.items → AreDue t.limit now rs due → places_of es ≡ due →
       All (λ (e : Placed (Result (List Counts) Fault)). IsGiven behaviour t now rs e.place e.what) es → AreEmitted behaviour t now rs es
   emitted_all count are_due same given = record {
     places = record {
       rise = subst AreRising (sym same) are_due.rise;
-      within = all_map (λ (e : Placed (Result (List Counts) Fault)). e.place) (λ p. p < length rs) es (subst (λ (ps : List ℕ). All (λ p. p < length rs) ps) (sym same) are_due.within);
+      within = all_map (λ (e : Placed (Result (List Counts) Fault)). e.place) (λ p. p < length rs) es
+          (subst (λ (ps : List ℕ). All (λ p. p < length rs) ps) (sym same) are_due.within);
     };
     imminent = λ p r at soon. subst (λ (ps : List ℕ). IsTrue (is_in p ps)) (sym same) (are_due.imminent p r at soon);
     given = at_place;

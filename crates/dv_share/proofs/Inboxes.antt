@@ -1,5 +1,6 @@
 -- The bags that deliveries make, one delivery after the other.
-use Rattle.std.proofs.Common.{◌≡◌, inl, inr, ℕ, zero, suc, ◌+◌, ◌<◌, ◌≤◌, Bool, true, false, ◌&&◌, cond, nat_eq, List, [], ◌∷◌, ◌++◌, length, get_or, set, replicate, ℤ, IsTrue, refl, sym, ap, ◌∙◌, arith}
+use Rattle.std.proofs.Common.{◌≡◌, inl, inr, ℕ, zero, suc, ◌+◌, ◌<◌, ◌≤◌, Bool, true, false, ◌&&◌, cond, nat_eq, List, [], ◌∷◌}
+use Rattle.std.proofs.Common.{◌++◌, length, get_or, set, replicate, ℤ, IsTrue, refl, sym, ap, ◌∙◌, arith}
 use Rattle.std.specs.List.{filter}
 use Rattle.std.proofs.lemmas.Bool.{eq-eqb, eqb-true}
 use Rattle.dv_bag.specs.Bag.{Counts, union, with_copies}
@@ -14,7 +15,8 @@ pub union_one : (v : ℤ) (n : ℕ) (b : Counts) → union b (with_copies v n []
 union_one v zero b = refl
 union_one v (suc n) b = copies_capped v (suc n) b
 
-pub delivered_more : (k port : ℕ) (ds : List Delivery) (d : Delivery) → delivered k port (ds ++ d ∷ []) [] ≡ taken k port d (delivered k port ds [])
+pub delivered_more : (k port : ℕ) (ds : List Delivery) (d : Delivery) → delivered k port (ds ++ d ∷ []) []
+    ≡ taken k port d (delivered k port ds [])
 delivered_more k port ds d = delivered-append k port ds (d ∷ []) [] ∙ delivered_either k port ds (d ∷ []) []
 
 pub inbox_length : (k : ℕ) (ds : List Delivery) (a n : ℕ) → length (inbox k ds a n) ≡ n
@@ -37,7 +39,8 @@ pub inbox_apart : (k : ℕ) (ds : List Delivery) (d : Delivery) (a n : ℕ) → 
     inbox k (ds ++ d ∷ []) a n ≡ inbox k ds a n
 inbox_apart k ds d a zero h = refl
 inbox_apart k ds d a (suc n) h =
-    ap (λ (b : Counts). b ∷ inbox k (ds ++ d ∷ []) (a + 1) n) (delivered_more k a ds d ∙ taken_elsewhere k a d (delivered k a ds []) (h a (omega arith) (omega arith)))
+    ap (λ (b : Counts). b ∷ inbox k (ds ++ d ∷ []) (a + 1) n) (delivered_more k a ds d ∙ taken_elsewhere k a d (delivered k a ds [])
+    (h a (omega arith) (omega arith)))
     ∙ ap (λ (bs : List Counts). delivered k a ds [] ∷ bs) (inbox_apart k ds d (a + 1) n (λ port le lt. h port (omega arith) (omega arith)))
 
 taken_missed : (k port : ℕ) (d : Delivery) (bag : Counts) → (d.component ≡ k → d.port ≡ port → ⊥) → taken k port d bag ≡ bag
@@ -47,11 +50,13 @@ taken_missed k port d bag h = elim (yes_or_no (nat_eq d.component k)) [
 ]
 
 -- nor does one for another component
-pub inbox_missed : (k : ℕ) (ds : List Delivery) (d : Delivery) (a n : ℕ) → ((port : ℕ) → a ≤ port → port < a + n → d.component ≡ k → d.port ≡ port → ⊥) →
+pub inbox_missed : (k : ℕ) (ds : List Delivery) (d : Delivery) (a n : ℕ)
+    → ((port : ℕ) → a ≤ port → port < a + n → d.component ≡ k → d.port ≡ port → ⊥) →
     inbox k (ds ++ d ∷ []) a n ≡ inbox k ds a n
 inbox_missed k ds d a zero h = refl
 inbox_missed k ds d a (suc n) h =
-    ap (λ (b : Counts). b ∷ inbox k (ds ++ d ∷ []) (a + 1) n) (delivered_more k a ds d ∙ taken_missed k a d (delivered k a ds []) (h a (omega arith) (omega arith)))
+    ap (λ (b : Counts). b ∷ inbox k (ds ++ d ∷ []) (a + 1) n) (delivered_more k a ds d
+    ∙ taken_missed k a d (delivered k a ds []) (h a (omega arith) (omega arith)))
     ∙ ap (λ (bs : List Counts). delivered k a ds [] ∷ bs) (inbox_missed k ds d (a + 1) n (λ port le lt. h port (omega arith) (omega arith)))
 
 -- one for a port adds its copies there
@@ -62,7 +67,8 @@ inbox_step k ds d a (suc n) zero here at =
     let first : nat_eq d.component k ≡ true = eq-eqb d.component k here in
     let second : nat_eq d.port a ≡ true = eq-eqb d.port a (omega (arith, at)) in
     ap (λ (b : Counts). b ∷ inbox k (ds ++ d ∷ []) (a + 1) n)
-    (delivered_more k a ds d ∙ ap (λ (t : Bool). cond t (with_copies d.value d.copies (delivered k a ds [])) (delivered k a ds [])) (both first second))
+    (delivered_more k a ds d ∙ ap (λ (t : Bool). cond t (with_copies d.value d.copies (delivered k a ds [])) (delivered k a ds []))
+    (both first second))
     ∙ ap (λ (bs : List Counts). with_copies d.value d.copies (delivered k a ds []) ∷ bs)
     (inbox_apart k ds d (a + 1) n (λ port le lt e. absurd (omega (arith, at, e, le))))
   where
@@ -74,22 +80,26 @@ inbox_step k ds d a (suc n) (suc i) here at =
     ∙ ap (λ (bs : List Counts). delivered k a ds [] ∷ bs) (inbox_step k ds d (a + 1) n i here (omega (arith, at)))
 
 -- only those for a component matter to it
-pub delivered_filter : (k port : ℕ) (ds : List Delivery) (bag : Counts) → delivered k port (filter (λ (d : Delivery). nat_eq d.component k) ds) bag ≡ delivered k port ds bag
+pub delivered_filter : (k port : ℕ) (ds : List Delivery) (bag : Counts)
+    → delivered k port (filter (λ (d : Delivery). nat_eq d.component k) ds) bag ≡ delivered k port ds bag
 delivered_filter k port [] bag = refl
 delivered_filter k port (d ∷ ds) bag =
     let rest : List Delivery = filter (λ (d : Delivery). nat_eq d.component k) ds in
     elim (yes_or_no (nat_eq d.component k)) [
       | inl e ↦ ap (λ (t : Bool). delivered k port (cond t (d ∷ rest) rest) bag) e ∙ ap (taken k port d) (delivered_filter k port ds bag)
-      | inr e ↦ ap (λ (t : Bool). delivered k port (cond t (d ∷ rest) rest) bag) e ∙ delivered_filter k port ds bag ∙ sym (passed k port d (delivered k port ds bag) e)
+      | inr e ↦ ap (λ (t : Bool). delivered k port (cond t (d ∷ rest) rest) bag) e ∙ delivered_filter k port ds bag
+          ∙ sym (passed k port d (delivered k port ds bag) e)
     ]
   where
     passed : (k port : ℕ) (d : Delivery) (b : Counts) → nat_eq d.component k ≡ false → taken k port d b ≡ b
     passed k port d b e = rw e refl
 
-pub inbox_same : (k : ℕ) (ds es : List Delivery) (a n : ℕ) → ((port : ℕ) → delivered k port ds [] ≡ delivered k port es []) → inbox k ds a n ≡ inbox k es a n
+pub inbox_same : (k : ℕ) (ds es : List Delivery) (a n : ℕ) → ((port : ℕ) → delivered k port ds [] ≡ delivered k port es [])
+    → inbox k ds a n ≡ inbox k es a n
 inbox_same k ds es a zero h = refl
 inbox_same k ds es a (suc n) h =
-    ap (λ (b : Counts). b ∷ inbox k ds (a + 1) n) (h a) ∙ ap (λ (bs : List Counts). delivered k a es [] ∷ bs) (inbox_same k ds es (a + 1) n h)
+    ap (λ (b : Counts). b ∷ inbox k ds (a + 1) n) (h a) ∙ ap (λ (bs : List Counts). delivered k a es [] ∷ bs)
+    (inbox_same k ds es (a + 1) n h)
 
 delivered_none : (k port : ℕ) (ds : List Delivery) → NoneFor k ds → delivered k port ds [] ≡ []
 delivered_none k port [] h = refl

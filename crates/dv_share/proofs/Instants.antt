@@ -1,5 +1,6 @@
 -- The outcomes of the components that are touched are the instant of the network.
-use Rattle.std.proofs.Common.{◌≡◌, inl, inr, ℕ, zero, suc, ◌+◌, ◌<◌, Bool, true, false, not, ◌&&◌, ◌||◌, cond, List, [], ◌∷◌, ◌++◌, length, get_or, map, Option, Some, None, Result, IsTrue, refl, sym, ap, ◌∙◌, subst, arith}
+use Rattle.std.proofs.Common.{◌≡◌, inl, inr, ℕ, zero, suc, ◌+◌, ◌<◌, Bool, true, false, not, ◌&&◌, ◌||◌, cond, List, [], ◌∷◌}
+use Rattle.std.proofs.Common.{◌++◌, length, get_or, map, Option, Some, None, Result, IsTrue, refl, sym, ap, ◌∙◌, subst, arith}
 use Rattle.std.specs.List.{All, slice_get}
 use Rattle.std.specs.Option.{unwrap_or}
 use Rattle.std.proofs.lemmas.Option.{same_Some, slice_get-get_or, slice_get_within}
@@ -17,7 +18,8 @@ use Rattle.dv_conservative.specs.Flat.{behaviours, network, numbers, received as
 use Rattle.dv_conservative.specs.Links.{Delivery, carried, sent_of as sent_from}
 use Rattle.dv_share.specs.Outcomes.{IsOutcome, IsOutcomeOf, behaviour_in}
 use Rattle.dv_share.specs.Places.{AreRising, found, is_in, places_of}
-use Rattle.dv_share.specs.Share.{AreAmong, AreComponents, AreEmitted, AreOutcomes, AreReceived, FitsAt, behaviour_of, coming, flat_by, given_at}
+use Rattle.dv_share.specs.Share.{AreAmong, AreComponents, AreEmitted, AreOutcomes, AreReceived, FitsAt, behaviour_of, coming}
+use Rattle.dv_share.specs.Share.{flat_by, given_at}
 use Rattle.dv_share.specs.Share.{inbox_of, left_from, member_by, numbers_of, outcome_at, reactions_by, sents_by}
 use Rattle.dv_share.specs.declared.place.Placed.{Placed}
 use Rattle.dv_share.specs.declared.tables.Member.{Member}
@@ -37,11 +39,13 @@ at_rest : (limit now : ℕ) (b : Behaviour) (c : Component) (bags : List Counts)
     reaction limit b now c bags ≡ record { event = None; component = c }
 at_rest limit now b c bags late none =
     let rests : Reaction = record { event = None; component = c } in
-    ap (λ (t : Bool). cond t (reaction_after_output limit b now c bags (emission b now c)) rests) (off c.quiet (is_imminent now c) (all_empty bags) late none)
+    ap (λ (t : Bool). cond t (reaction_after_output limit b now c bags (emission b now c)) rests)
+    (off c.quiet (is_imminent now c) (all_empty bags) late none)
 
 -- what came of a component is the outcome at its place
 pub outcome_one : {S : Type 0} (behaviour : S → Behaviour) (fits : S → State → Type 0) (t : Tables S) (now : ℕ) (rs : List Running)
-    (es : List (Placed (Result (List Counts) Fault))) (xs : List (Placed (List Counts))) (x : Placed (List Counts)) (r : Running) (o : Outcome) →
+    (es : List (Placed (Result (List Counts) Fault))) (xs : List (Placed (List Counts))) (x : Placed (List Counts)) (r : Running)
+    (o : Outcome) →
     slice_get rs x.place ≡ Some r → found x.place xs ≡ Some x.what → IsOutcomeOf behaviour fits t now r (given_at x.place es) x o →
     IsOutcome behaviour fits t now rs es xs x.place o
 outcome_one behaviour fits t now rs es xs x r o at-r here is =
@@ -58,13 +62,15 @@ outcome_one behaviour fits t now rs es xs x r o at-r here is =
           subst (λ (s : Running). FitsAt fits t.models.items m.model (left_by s o).state) (same_Some r s (sym at-r ∙ at-s)) (is.fit m at-m);
     }
 
-module _ {S : Type 0} (behaviour : S → Behaviour) (limit now : ℕ) (models : List S) (es : List (Placed (Result (List Counts) Fault))) (os : List (Placed Outcome))
+module _ {S : Type 0} (behaviour : S → Behaviour) (limit now : ℕ) (models : List S) (es : List (Placed (Result (List Counts) Fault)))
+    (os : List (Placed Outcome))
     (ds : List Delivery) where
   reactions_are : (q : ℕ) (ms : List Member) (rs : List Running) → length rs ≡ length ms →
       ((p : ℕ) (m : Member) (r : Running) → slice_get ms p ≡ Some m → slice_get rs p ≡ Some r →
       reaction limit (behaviour_of behaviour (slice_get models m.model)) now (component_of limit r) (inbox_of m ds)
       ≡ reaction_by limit r (sent_of (given_at (q + p) es)) (outcome_at (q + p) os)) →
-      reactions limit (behaviours (map (member_by behaviour limit models) ms)) now (components_of limit rs) (received_by (map (member_by behaviour limit models) ms) ds)
+      reactions limit (behaviours (map (member_by behaviour limit models) ms)) now (components_of limit rs)
+      (received_by (map (member_by behaviour limit models) ms) ds)
       ≡ reactions_by limit q rs es os
   reactions_are q [] [] count h = refl
   reactions_are q [] (r ∷ rs) count h = absurd (omega (arith, count))
@@ -83,7 +89,8 @@ module _ {S : Type 0} (behaviour : S → Behaviour) (limit now : ℕ) (models : 
       here
       ∙ ap (λ (xs : List Reaction). reaction_by limit r (sent_of (given_at q es)) (outcome_at q os) ∷ xs) rest
 
-same_numbers : {S : Type 0} (behaviour : S → Behaviour) (limit : ℕ) (models : List S) (ms : List Member) → numbers (map (member_by behaviour limit models) ms) ≡ numbers_of ms
+same_numbers : {S : Type 0} (behaviour : S → Behaviour) (limit : ℕ) (models : List S) (ms : List Member)
+    → numbers (map (member_by behaviour limit models) ms) ≡ numbers_of ms
 same_numbers behaviour limit models [] = refl
 same_numbers behaviour limit models (m ∷ ms) = ap (λ (ks : List ℕ). m.number ∷ ks) (same_numbers behaviour limit models ms)
 
@@ -91,7 +98,8 @@ module _ {S : Type 0} (behaviour : S → Behaviour) (fits : S → State → Type
     (es : List (Placed (Result (List Counts) Fault))) (xs : List (Placed (List Counts))) (os : List (Placed Outcome)) where
   -- what all components receive of what is sent and comes, by the tables
   received_of : (outside : List Counts) (ds : List Delivery) → AreEmitted behaviour t now rs es →
-      (network (flat_by behaviour t)).arrives (emissions (network (flat_by behaviour t)).behaviours now (components_of t.limit rs)) (outside, ds)
+      (network (flat_by behaviour t)).arrives (emissions (network (flat_by behaviour t)).behaviours now (components_of t.limit rs))
+      (outside, ds)
       ≡ received_by (flat_by behaviour t).members (coming t es outside ds)
   received_of outside ds given =
       ap (λ (sent : List (List Counts)). (network (flat_by behaviour t)).arrives sent (outside, ds)) given.sent
@@ -119,7 +127,8 @@ module _ {S : Type 0} (behaviour : S → Behaviour) (fits : S → State → Type
         | inl o ↦ elim (some_or_none (found p xs)) [
           | inl bags ↦
               let here : bags.0 ≡ inbox_of m (coming t es outside ds) =
-              found_all (λ q b. (n : Member) → slice_get t.members.items q ≡ Some n → b ≡ inbox_of n (coming t es outside ds)) p bags.0 xs received.bags bags.1 m at-m in
+              found_all (λ q b. (n : Member) → slice_get t.members.items q ≡ Some n → b ≡ inbox_of n (coming t es outside ds)) p bags.0 xs
+              received.bags bags.1 m at-m in
               let is = found_all (IsOutcome behaviour fits t now rs es xs) p o.0 os right o.1 in
               ap (reaction t.limit (behaviour_in behaviour t m) now (component_of t.limit r)) (sym here)
               ∙ is.reacts m r bags.0 at-m at-r bags.1
@@ -134,7 +143,8 @@ module _ {S : Type 0} (behaviour : S → Behaviour) (fits : S → State → Type
               | inl soon ↦ absurd (false_true (sym out ∙ among p (given.imminent p r at-r soon)))
               | inr late ↦ late
             ] in
-            at_rest t.limit now (behaviour_in behaviour t m) (component_of t.limit r) (inbox_of m (coming t es outside ds)) late (received.rest p m at-m out)
+            at_rest t.limit now (behaviour_in behaviour t m) (component_of t.limit r) (inbox_of m (coming t es outside ds)) late
+            (received.rest p m at-m out)
             ∙ sym (ap (λ (x : Option Outcome). reaction_by t.limit r (sent_of (given_at p es)) (unwrap_or x Nothing)) none)
       ]
         where
@@ -158,7 +168,8 @@ left_length q (r ∷ rs) os = ap suc (left_length (suc q) rs os)
 
 module _ {S : Type 0} (behaviour : S → Behaviour) (fits : S → State → Type 0) (t : Tables S) (now : ℕ) (rs : List Running)
     (es : List (Placed (Result (List Counts) Fault))) (xs : List (Placed (List Counts))) (os : List (Placed Outcome)) where
-  outcome_keeps : (p : ℕ) (r : Running) → AreComponents fits t rs → All (λ (o : Placed Outcome). IsOutcome behaviour fits t now rs es xs o.place o.what) os →
+  outcome_keeps : (p : ℕ) (r : Running) → AreComponents fits t rs
+      → All (λ (o : Placed Outcome). IsOutcome behaviour fits t now rs es xs o.place o.what) os →
       slice_get rs p ≡ Some r → IsWaitOfRun t.limit (left_by r (outcome_at p os)).wait
       × ((m : Member) → slice_get t.members.items p ≡ Some m → FitsAt fits t.models.items m.model (left_by r (outcome_at p os)).state)
   outcome_keeps p r are right at = elim (some_or_none (found p os)) [
@@ -172,7 +183,8 @@ module _ {S : Type 0} (behaviour : S → Behaviour) (fits : S → State → Type
         let same : Nothing ≡ outcome_at p os = sym (ap (λ (x : Option Outcome). unwrap_or x Nothing) none) in
         let lt = slice_get_within rs p r at in
         let here : get_or rs p r ≡ r = same_Some _ r (sym (slice_get-get_or rs p r lt) ∙ at) in (
-          subst (λ (x : Outcome). IsWaitOfRun t.limit (left_by r x).wait) same (subst (λ (s : Running). IsWaitOfRun t.limit s.wait) here (are.waits p r lt)),
+          subst (λ (x : Outcome). IsWaitOfRun t.limit (left_by r x).wait) same
+              (subst (λ (s : Running). IsWaitOfRun t.limit s.wait) here (are.waits p r lt)),
           λ m at-m. subst (λ (x : Outcome). FitsAt fits t.models.items m.model (left_by r x).state) same (are.fit p m r at-m at),
         )
   ]
@@ -196,14 +208,16 @@ module _ {S : Type 0} (behaviour : S → Behaviour) (fits : S → State → Type
 pub components_left : (limit q : ℕ) (rs : List Running) (es : List (Placed (Result (List Counts) Fault))) (os : List (Placed Outcome)) →
     map (λ (r : Reaction). r.component) (reactions_by limit q rs es os) ≡ components_of limit (left_from q rs os)
 components_left limit q [] es os = refl
-components_left limit q (r ∷ rs) es os = ap (λ (cs : List Component). component_of limit (left_by r (outcome_at q os)) ∷ cs) (components_left limit (suc q) rs es os)
+components_left limit q (r ∷ rs) es os = ap (λ (cs : List Component). component_of limit (left_by r (outcome_at q os)) ∷ cs)
+    (components_left limit (suc q) rs es os)
 
 -- outcomes at the places where something comes or was emitted are the instant, and leave components
 pub outcomes_are : {S : Type 0} (behaviour : S → Behaviour) (fits : S → State → Type 0) (t : Tables S) (now : ℕ) (rs : List Running)
     (es : List (Placed (Result (List Counts) Fault))) (xs : List (Placed (List Counts))) (os : List (Placed Outcome))
     (outside : List Counts) (ds : List Delivery) → AreComponents fits t rs → AreEmitted behaviour t now rs es →
     AreAmong (places_of es) (places_of xs) → AreReceived t.members.items (coming t es outside ds) xs → places_of os ≡ places_of xs →
-    All (λ (o : Placed Outcome). IsOutcome behaviour fits t now rs es xs o.place o.what) os → AreOutcomes behaviour t now rs outside ds es os
+    All (λ (o : Placed Outcome). IsOutcome behaviour fits t now rs es xs o.place o.what) os
+    → AreOutcomes behaviour t now rs outside ds es os
 outcomes_are behaviour fits t now rs es xs os outside ds are emitted among received same right =
     let below : All (λ p. p < length t.members.items) (places_of os) =
     subst (λ (ps : List ℕ). All (λ p. p < length t.members.items) ps) (sym same)

@@ -1,5 +1,6 @@
 -- Links in order of their senders carry what the senders' rows carry, one after the other.
-use Rattle.std.proofs.Common.{◌≡◌, inl, inr, ℕ, zero, suc, ◌+◌, ◌<◌, ◌≤◌, true, false, nat_eq, List, [], ◌∷◌, ◌++◌, length, get_or, map, Option, Some, None, Result, Ok, refl, sym, ap, ◌∙◌, subst, arith}
+use Rattle.std.proofs.Common.{◌≡◌, inl, inr, ℕ, zero, suc, ◌+◌, ◌<◌, ◌≤◌, true, false, nat_eq, List, [], ◌∷◌, ◌++◌, length}
+use Rattle.std.proofs.Common.{get_or, map, Option, Some, None, Result, Ok, refl, sym, ap, ◌∙◌, subst, arith}
 use Rattle.std.specs.List.{All, filter, slice_get}
 use Rattle.std.proofs.lemmas.Bool.{cases_lt, eq-eqb, eqb-true}
 use Rattle.std.proofs.lemmas.List.{append_assoc}
@@ -54,7 +55,8 @@ module _ (S : ℕ → List Counts) where
   skip [] l ls h = refl
   skip (k ∷ ks) l ls h = elim (yes_or_no (nat_eq k l.from)) [
     | inl e ↦ absurd (false_true (sym (rw e at h)))
-    | inr e ↦ rw (turned k l.from false e) (ap (λ (ds : List Delivery). carried (filter (leads_from k) ls) S ++ ds) (skip ks l ls (rw e at h)))
+    | inr e ↦ rw (turned k l.from false e) (ap (λ (ds : List Delivery). carried (filter (leads_from k) ls) S ++ ds)
+        (skip ks l ls (rw e at h)))
   ]
 
   none_lead : (k low : ℕ) (ls : List Link) → Rise low ls → k < low → filter (leads_from k) ls ≡ []
@@ -75,14 +77,17 @@ module _ (S : ℕ → List Counts) where
     | inr ge ↦ elim (cases_lt k l.from) [
       | inl lt ↦
           let all : Rise (suc k) (l ∷ ls) = (omega (arith, lt), h.1) in
-          rest (l ∷ ls) all ∙ sym (ap (λ (ms : List Link). carried ms S ++ groups ks (l ∷ ls)) (none_lead k (suc k) (l ∷ ls) all (omega arith)))
+          rest (l ∷ ls) all ∙ sym (ap (λ (ms : List Link). carried ms S ++ groups ks (l ∷ ls))
+          (none_lead k (suc k) (l ∷ ls) all (omega arith)))
       | inr le-k ↦
           let here : l.from ≡ k = omega (arith, ge, le-k) in
           let out : is_in l.from ks ≡ false = not_below (suc k) l.from ks up (omega (arith, here)) in
           let test : nat_eq l.from k ≡ true = eq-eqb l.from k here in
-          ap (λ (ds : List Delivery). carried_by l (bag_at (S l.from) l.from_port) ++ ds) (walk low k ks up rest none l.from ls (omega (arith, h.0)) h.1)
+          ap (λ (ds : List Delivery). carried_by l (bag_at (S l.from) l.from_port) ++ ds)
+          (walk low k ks up rest none l.from ls (omega (arith, h.0)) h.1)
           ∙ sym (append_assoc (carried_by l (bag_at (S l.from) l.from_port)) (carried (filter (leads_from k) ls) S) (groups ks ls))
-          ∙ sym (rw test (ap (λ (ds : List Delivery). (carried_by l (bag_at (S l.from) l.from_port) ++ carried (filter (leads_from k) ls) S) ++ ds) (skip ks l ls out)))
+          ∙ sym (rw test (ap (λ (ds : List Delivery). (carried_by l (bag_at (S l.from) l.from_port) ++ carried (filter (leads_from k) ls)
+          S) ++ ds) (skip ks l ls out)))
     ]
   ]
 
@@ -92,7 +97,8 @@ module _ (S : ℕ → List Counts) where
       ap (λ (ds : List Delivery). ds ++ carried ls S) (quiet l (none l.from h.0))
       ∙ none_carry l.from ls h.1 (λ j le. none j (omega (arith, h.0)))
 
-  pub grouped : (ks : List ℕ) (low : ℕ) (ls : List Link) → RiseFrom low ks → Rise low ls → ((j : ℕ) → low ≤ j → is_in j ks ≡ false → S j ≡ [])
+  pub grouped : (ks : List ℕ) (low : ℕ) (ls : List Link) → RiseFrom low ks → Rise low ls
+      → ((j : ℕ) → low ≤ j → is_in j ks ≡ false → S j ≡ [])
       → carried ls S ≡ groups ks ls
   grouped [] low ls up h none = none_carry low ls h (λ j le. none j le refl)
   grouped (k ∷ ks) low ls up h none =
@@ -114,7 +120,8 @@ number_from low [] q h lt = absurd (omega arith)
 number_from low (m ∷ ms) zero h lt = h.0
 number_from low (m ∷ ms) (suc q) h lt = let rest = number_from (suc m.number) ms q h.1 (omega arith) in omega (arith, h.0, rest)
 
-pub numbers_rise : (low : ℕ) (ms : List Member) (p q : ℕ) → RiseFrom low (numbers_of ms) → p < q → q < length ms → number_at ms p < number_at ms q
+pub numbers_rise : (low : ℕ) (ms : List Member) (p q : ℕ) → RiseFrom low (numbers_of ms) → p < q → q < length ms
+    → number_at ms p < number_at ms q
 numbers_rise low [] p q h lt within = absurd (omega arith)
 numbers_rise low (m ∷ ms) p zero h lt within = absurd (omega arith)
 numbers_rise low (m ∷ ms) zero (suc q) h lt within = let rest = number_from (suc m.number) ms q h.1 (omega arith) in omega (arith, rest)
@@ -137,7 +144,8 @@ module _ (es : List (Placed (Result (List Counts) Fault))) where
       let next : suc q + p ≡ q + suc p = omega arith in
       rw apart (sent_at_place (suc n.number) p (suc q) ms m h.1 e ∙ ap (λ (i : ℕ). sent_of (given_at i es)) next)
 
-  pub nothing_sent : (j q : ℕ) (ms : List Member) → ((p : ℕ) (m : Member) → slice_get ms p ≡ Some m → m.number ≡ j → sent_of (given_at (q + p) es) ≡ []) →
+  pub nothing_sent : (j q : ℕ) (ms : List Member)
+      → ((p : ℕ) (m : Member) → slice_get ms p ≡ Some m → m.number ≡ j → sent_of (given_at (q + p) es) ≡ []) →
       sent_from (numbers_of ms) (sents_by q ms es) j ≡ []
   nothing_sent j q [] h = refl
   nothing_sent j q (n ∷ ms) h = elim (yes_or_no (nat_eq n.number j)) [
@@ -147,23 +155,28 @@ module _ (es : List (Placed (Result (List Counts) Fault))) where
     | inr e ↦
         rw e
         (nothing_sent j (suc q) ms
-        (λ p m at d. let next : q + suc p ≡ suc q + p = omega arith in subst (λ (i : ℕ). sent_of (given_at i es) ≡ []) next (h (suc p) m at d)))
+        (λ p m at d. let next : q + suc p ≡ suc q + p = omega arith in subst (λ (i : ℕ). sent_of (given_at i es) ≡ []) next
+        (h (suc p) m at d)))
   ]
 
 abbrev pub keys : List Member → List (Placed (Result (List Counts) Fault)) → List ℕ
 keys ms es = map (λ (e : Placed (Result (List Counts) Fault)). number_at ms e.place) es
 
-keys_rise : (low lowest : ℕ) (ms : List Member) (es : List (Placed (Result (List Counts) Fault))) → AreRising (numbers_of ms) → RiseFrom low (places_of es) →
-    All (λ (e : Placed (Result (List Counts) Fault)). e.place < length ms) es → ((p : ℕ) → low ≤ p → p < length ms → lowest ≤ number_at ms p) → RiseFrom lowest (keys ms es)
+keys_rise : (low lowest : ℕ) (ms : List Member) (es : List (Placed (Result (List Counts) Fault))) → AreRising (numbers_of ms)
+    → RiseFrom low (places_of es) →
+    All (λ (e : Placed (Result (List Counts) Fault)). e.place < length ms) es
+    → ((p : ℕ) → low ≤ p → p < length ms → lowest ≤ number_at ms p) → RiseFrom lowest (keys ms es)
 keys_rise low lowest ms [] up h within least = tt
 keys_rise low lowest ms (e ∷ es) up h within least = (
   least e.place h.0 (all_first (λ (e : Placed (Result (List Counts) Fault)). e.place < length ms) e es within),
-  keys_rise (suc e.place) (suc (number_at ms e.place)) ms es up h.1 (all_rest (λ (e : Placed (Result (List Counts) Fault)). e.place < length ms) e es within)
+  keys_rise (suc e.place) (suc (number_at ms e.place)) ms es up h.1
+      (all_rest (λ (e : Placed (Result (List Counts) Fault)). e.place < length ms) e es within)
       (λ p le lt. numbers_rise 0 ms e.place p up (omega arith) lt),
 )
 
 -- the number of a place that is there is among the keys
-key_in : (p : ℕ) (m : Member) (ms : List Member) (es : List (Placed (Result (List Counts) Fault))) → slice_get ms p ≡ Some m → is_in m.number (keys ms es) ≡ false →
+key_in : (p : ℕ) (m : Member) (ms : List Member) (es : List (Placed (Result (List Counts) Fault))) → slice_get ms p ≡ Some m
+    → is_in m.number (keys ms es) ≡ false →
     is_in p (places_of es) ≡ false
 key_in p m ms [] at h = refl
 key_in p m ms (e ∷ es) at h = elim (yes_or_no (nat_eq (number_at ms e.place) m.number)) [
@@ -178,7 +191,8 @@ key_in p m ms (e ∷ es) at h = elim (yes_or_no (nat_eq (number_at ms e.place) m
 
 module _ (ms : List Member) (links : List Link) where
   rows_are_groups : (S : ℕ → List Counts) (es : List (Placed (Result (List Counts) Fault))) →
-      All (λ (e : Placed (Result (List Counts) Fault)). S (number_at ms e.place) ≡ sent_of e.what) es → rows ms links es ≡ groups S (keys ms es) links
+      All (λ (e : Placed (Result (List Counts) Fault)). S (number_at ms e.place) ≡ sent_of e.what) es
+      → rows ms links es ≡ groups S (keys ms es) links
   rows_are_groups S [] h = refl
   rows_are_groups S (e ∷ es) h =
       let this = all_first (λ (e : Placed (Result (List Counts) Fault)). S (number_at ms e.place) ≡ sent_of e.what) e es h in
@@ -190,7 +204,8 @@ module _ (ms : List Member) (links : List Link) where
       (rows_are_groups S es (all_rest (λ (e : Placed (Result (List Counts) Fault)). S (number_at ms e.place) ≡ sent_of e.what) e es h))
 
 -- what links carry of what was emitted, sender by sender
-pub rows_are_carried : (ms : List Member) (links : List Link) (es : List (Placed (Result (List Counts) Fault))) → AreRising (numbers_of ms) → Rise 0 links →
+pub rows_are_carried : (ms : List Member) (links : List Link) (es : List (Placed (Result (List Counts) Fault)))
+    → AreRising (numbers_of ms) → Rise 0 links →
     StandByPlace (length ms) es → rows ms links es ≡ carried links (sent_in ms es)
 rows_are_carried ms links es up h places =
     let S : ℕ → List Counts = sent_in ms es in
@@ -209,7 +224,8 @@ rows_are_carried ms links es up h places =
     (key_in p m ms es is (subst (λ (k : ℕ). is_in k (keys ms es) ≡ false) (sym same) out))) in
     ap (λ (o : Option (Result (List Counts) Fault)). sent_of (unwrap_or o (Ok []))) gone)))
   where
-    by_given : (i : ℕ) (e : Placed (Result (List Counts) Fault)) → slice_get es i ≡ Some e → sent_of (given_at (0 + e.place) es) ≡ sent_of e.what
+    by_given : (i : ℕ) (e : Placed (Result (List Counts) Fault)) → slice_get es i ≡ Some e → sent_of (given_at (0 + e.place) es)
+        ≡ sent_of e.what
     by_given i e at =
         let start : 0 + e.place ≡ e.place = omega arith in
         ap (λ (p : ℕ). sent_of (given_at p es)) start

@@ -1,5 +1,6 @@
 -- Deliveries in order are told by what they deliver.
-use Rattle.std.proofs.Common.{◌≡◌, inl, inr, ℕ, suc, ◌+◌, ◌^◌, ◌<◌, ◌≤◌, Bool, true, false, ◌&&◌, cond, nat_eq, List, [], ◌∷◌, ◌++◌, length, get_or, drop, map, reverse, ℤ, refl, sym, ap, ◌∙◌, subst, arith}
+use Rattle.std.proofs.Common.{◌≡◌, inl, inr, ℕ, suc, ◌+◌, ◌^◌, ◌<◌, ◌≤◌, Bool, true, false, ◌&&◌, cond, nat_eq, List, [], ◌∷◌}
+use Rattle.std.proofs.Common.{◌++◌, length, get_or, drop, map, reverse, ℤ, refl, sym, ap, ◌∙◌, subst, arith}
 use Rattle.std.specs.Ordering.{int_eq, int_cmp, is_eq, is_lt, match_ordering, ordering_reverse}
 use Rattle.std.specs.declared.cmp.Ordering.{Ordering}
 use Rattle.std.specs.declared.cmp.Ordering.TheVariants.{Less, Equal, Greater}
@@ -28,7 +29,8 @@ of_run [] = tt
 of_run (d ∷ ds) = (omega arith, of_run ds)
 
 module _ (ds es : List Meant) (same : (k port : ℕ) → delivered k port ds [] ≡ delivered k port es []) where
-  first : (n k port : ℕ) → delivered k port (deliveries_at 0 (events_between 0 (λ m. ds) 0 1) n) [] ≡ delivered k port (deliveries_at 0 (events_between 0 (λ m. es) 0 1) n) []
+  first : (n k port : ℕ) → delivered k port (deliveries_at 0 (events_between 0 (λ m. ds) 0 1) n) []
+      ≡ delivered k port (deliveries_at 0 (events_between 0 (λ m. es) 0 1) n) []
   first n k port = elim (cases_lt n 1) [
     | inl lt ↦
         ap (λ (xs : List Meant). delivered k port xs []) (within_window 0 (λ m. ds) 0 1 n (omega arith) lt)
@@ -45,7 +47,8 @@ module _ (ds es : List Meant) (same : (k port : ℕ) → delivered k port ds [] 
   pub in_order_same : in_order ds ≡ in_order es
   in_order_same =
       let events : events_between 0 (λ m. ds) 0 1 ≡ events_between 0 (λ m. es) 0 1 =
-      told 0 (events_between 0 (λ m. ds) 0 1) (events_between 0 (λ m. es) 0 1) (window_in_order 0 (λ m. ds) 0 1) (window_in_order 0 (λ m. es) 0 1)
+      told 0 (events_between 0 (λ m. ds) 0 1) (events_between 0 (λ m. es) 0 1) (window_in_order 0 (λ m. ds) 0 1)
+      (window_in_order 0 (λ m. es) 0 1)
       (window_has_copies 0 (λ m. ds) 0 1) (window_has_copies 0 (λ m. es) 0 1) (of_run (in_order ds)) (of_run (in_order es)) first in
       sym (within_window 0 (λ m. ds) 0 1 0 (omega arith) (omega arith))
       ∙ ap (λ (xs : List Event). deliveries_at 0 xs 0) events
@@ -56,8 +59,10 @@ pub turned_push : (ds : List Delivery) (d : Delivery) → reverse (deliveries_of
 turned_push ds d = ap reverse (map-append delivery_of ds (d ∷ [])) ∙ reverse-append (deliveries_of ds) (delivery_of d ∷ [])
 
 pub joined_last : (d next : Delivery) (copies : ℕ) (old new rest : List Delivery) → old ≡ rest ++ next ∷ [] →
-    new ≡ rest ++ record { component = next.component; port = next.port; value = next.value; copies = copies } ∷ [] → copies ≡ capped (d.copies + next.copies) →
-    next.component ≡ d.component → next.port ≡ d.port → next.value ≡ d.value → reverse (deliveries_of new) ≡ joined_before (delivery_of d) (reverse (deliveries_of old))
+    new ≡ rest ++ record { component = next.component; port = next.port; value = next.value; copies = copies } ∷ []
+    → copies ≡ capped (d.copies + next.copies) →
+    next.component ≡ d.component → next.port ≡ d.port → next.value ≡ d.value → reverse (deliveries_of new)
+    ≡ joined_before (delivery_of d) (reverse (deliveries_of old))
 joined_last d next copies old new rest before after sum component port value =
     let first : same_key (delivery_of d) (delivery_of next) ≡ true =
     rw (eq-eqb next.component d.component component, eq-eqb next.port d.port port) (int_same next.value d.value value) in
@@ -65,7 +70,8 @@ joined_last d next copies old new rest before after sum component port value =
     ∙ turned_push rest (record { component = next.component; port = next.port; value = next.value; copies = copies })
     ∙ ap
     (λ (n : ℕ).
-    (let x : Meant = record { component = next.component; port = next.port; value = next.value; copies = n } in x) ∷ reverse (deliveries_of rest))
+    (let x : Meant = record { component = next.component; port = next.port; value = next.value; copies = n } in x) ∷ reverse
+    (deliveries_of rest))
     sum
     ∙ sym
     (ap (λ (ds : List Delivery). joined_before (delivery_of d) (reverse (deliveries_of ds))) before
@@ -73,7 +79,13 @@ joined_last d next copies old new rest before after sum component port value =
     ∙ ap
     (λ (t : Bool).
     cond t
-    ((let x : Meant = record { component = next.component; port = next.port; value = next.value; copies = capped (d.copies + next.copies) } in x)
+    ((let x : Meant = record {
+      component = next.component;
+      port = next.port;
+      value = next.value;
+      copies =
+          capped (d.copies + next.copies);
+    } in x)
     ∷ reverse (deliveries_of rest))
     (delivery_of d ∷ delivery_of next ∷ reverse (deliveries_of rest)))
     first)
@@ -95,7 +107,8 @@ greater_equal h = cc
 int_tied : (v w : ℤ) → int_eq v w ≡ true → v ≡ w
 int_tied v w h =
     let equal = is_equal (int_cmp v w) h in
-    by_order v w (λ l. absurd (less_equal (sym (cmp_less v w l) ∙ equal))) (λ e. e) (λ g. absurd (greater_equal (sym (cmp_greater v w g) ∙ equal)))
+    by_order v w (λ l. absurd (less_equal (sym (cmp_less v w l) ∙ equal))) (λ e. e)
+    (λ g. absurd (greater_equal (sym (cmp_greater v w g) ∙ equal)))
 
 key_equal : (d e : Meant) → same_key d e ≡ true → delivery_cmp d e ≡ Equal
 key_equal d e h =
@@ -162,7 +175,8 @@ in_front : (d : Meant) (es : List Meant) → NotAfter d es → capped d.copies �
 in_front d [] h kept = ap (λ (n : ℕ). as_kept d n ∷ []) (sym kept)
 in_front d (e ∷ es) h kept = by_cmp d e (delivery_cmp d e) refl h.0 es kept
 
-not_after_all : (d : Meant) (ds : List Delivery) → ((i : ℕ) (x : Delivery) → i < length ds → delivery_cmp d (delivery_of (get_or ds i x)) ≡ Greater → ⊥) →
+not_after_all : (d : Meant) (ds : List Delivery)
+    → ((i : ℕ) (x : Delivery) → i < length ds → delivery_cmp d (delivery_of (get_or ds i x)) ≡ Greater → ⊥) →
     NotAfter d (deliveries_of ds)
 not_after_all d [] h = tt
 not_after_all d (x ∷ xs) h = (h 0 x (omega arith), not_after_all d xs (λ i y lt. h (suc i) y (omega (arith, lt))))
@@ -171,7 +185,8 @@ not_after_all d (x ∷ xs) h = (h 0 x (omega arith), not_after_all d xs (λ i y 
 behind : (ds : List Delivery) (i j : ℕ) (x : Delivery) → AreSorted ds → i ≤ j → j < length ds →
     delivery_cmp (delivery_of (get_or ds i x)) (delivery_of (get_or ds j x)) ≡ Greater → ⊥
 behind ds i j x sorted le lt h =
-    let far = sorted_far (λ a b. is_lt (delivery_cmp (delivery_of a) (delivery_of b))) (ranks_by delivery_total delivery_of) ds sorted i j x le lt in
+    let far = sorted_far (λ a b. is_lt (delivery_cmp (delivery_of a) (delivery_of b))) (ranks_by delivery_total delivery_of) ds sorted i j
+    x le lt in
     let o = delivery_cmp (delivery_of (get_or ds j x)) (delivery_of (get_or ds i x)) in
     by_reverse o (sym (delivery_total.antisymm (delivery_of (get_or ds i x)) (delivery_of (get_or ds j x))) ∙ h) far
   where
@@ -181,8 +196,10 @@ behind ds i j x sorted le lt h =
     by_reverse Greater e f = absurd (cc)
 
 -- a step from the last to the first
-pub in_order_step : (ds : List Delivery) (i : ℕ) (x : Delivery) (front : List Meant) → AreSorted ds → i < length ds → 0 < (get_or ds i x).copies →
-    (get_or ds i x).copies < 2 ^ 64 → front ≡ in_order (deliveries_of (drop (i + 1) ds)) → joined_before (delivery_of (get_or ds i x)) front ≡ in_order (deliveries_of (drop i ds))
+pub in_order_step : (ds : List Delivery) (i : ℕ) (x : Delivery) (front : List Meant) → AreSorted ds → i < length ds
+    → 0 < (get_or ds i x).copies →
+    (get_or ds i x).copies < 2 ^ 64 → front ≡ in_order (deliveries_of (drop (i + 1) ds))
+    → joined_before (delivery_of (get_or ds i x)) front ≡ in_order (deliveries_of (drop i ds))
 in_order_step ds i x front sorted lt some kept so_far =
     let d = delivery_of (get_or ds i x) in
     let rest = deliveries_of (drop (i + 1) ds) in
@@ -205,7 +222,8 @@ in_order_step ds i x front sorted lt some kept so_far =
     refl2 : get_or ds i x ≡ get_or ds i (get_or ds i x)
     refl2 = sym (get_or_from_slice_get ds i (get_or ds i x) (get_or ds i x) (slice_get-get_or ds i x lt))
 
-pub skip_step : (ds : List Delivery) (i : ℕ) (x : Delivery) → i < length ds → ((get_or ds i x).copies ≡ 0) → in_order (deliveries_of (drop (i + 1) ds)) ≡ in_order (deliveries_of (drop i ds))
+pub skip_step : (ds : List Delivery) (i : ℕ) (x : Delivery) → i < length ds → ((get_or ds i x).copies ≡ 0)
+    → in_order (deliveries_of (drop (i + 1) ds)) ≡ in_order (deliveries_of (drop i ds))
 skip_step ds i x lt none =
     let d = delivery_of (get_or ds i x) in
     let rest = deliveries_of (drop (i + 1) ds) in

@@ -36,4 +36,5 @@ pub record IsOutcome {S : Type 0} (behaviour : S → Behaviour) (fits : S → St
       → found p xs ≡ Some bags → reaction t.limit (behaviour_in behaviour t m) now (component_of t.limit r) bags
       ≡ reaction_by t.limit r (sent_of (given_at p es)) o
   pub waits : (r : Running) → slice_get rs p ≡ Some r → IsWaitOfRun t.limit (left_by r o).wait
-  pub fit : (m : Member) (r : Running) → slice_get t.members.items p ≡ Some m → slice_get rs p ≡ Some r → FitsAt fits t.models.items m.model (left_by r o).state
+  pub fit : (m : Member) (r : Running) → slice_get t.members.items p ≡ Some m → slice_get rs p ≡ Some r
+      → FitsAt fits t.models.items m.model (left_by r o).state

@@ -1,5 +1,6 @@
 -- What stands between the lists of the code and those of the theory.
-use Rattle.std.specs.Prelude.{ℕ, ◌+◌, ◌≤◌, ◌<◌, Bool, false, ◌&&◌, nat_eq, if◌then◌else◌, length, slice_index_or, ◌≡◌, List, [], ◌∷◌, ◌++◌, filter, slice_get, Option, Some, None, Result, pos}
+use Rattle.std.specs.Prelude.{ℕ, ◌+◌, ◌≤◌, ◌<◌, Bool, false, ◌&&◌, nat_eq, if◌then◌else◌, length, slice_index_or, ◌≡◌, List, []}
+use Rattle.std.specs.Prelude.{◌∷◌, ◌++◌, filter, slice_get, Option, Some, None, Result, pos}
 use Rattle.std.specs.List.{All}
 use Rattle.std.specs.List.Sorted.{IsNonDecreasingBy}
 use Rattle.std.specs.Ordering.{int_eq, is_lt}

@@ -1,5 +1,6 @@
 -- What the tables of a share stand for, and the lists of an instant over them.
-use Rattle.std.specs.Prelude.{◌≡◌, ℕ, suc, ◌<◌, true, false, IsTrue, List, [], ◌∷◌, ◌++◌, map, length, slice_get, unwrap_or, Option, Some, None, Result, Ok}
+use Rattle.std.specs.Prelude.{◌≡◌, ℕ, suc, ◌<◌, true, false, IsTrue, List, [], ◌∷◌, ◌++◌, map, length, slice_get, unwrap_or}
+use Rattle.std.specs.Prelude.{Option, Some, None, Result, Ok}
 use Rattle.std.specs.List.{All}
 use Rattle.dv_bag.specs.Bag.{Counts}
 use Rattle.dv_bag.specs.declared.fault.Fault.{Fault}

@@ -37,7 +37,8 @@ pub fn arrivals<A: Atomic>(
     requires emitted { StandByPlace (length tables.now.members.items) emitted.now }
     ensures received { OnOk result (AreReceived tables.now.members.items
         (coming tables.now emitted.now outside.now (deliveries_of deliveries.now)) received.new.items) }
-    ensures emitted { OnOk result (AreAmong (places_of emitted.now) (places_of received.new.items)) }
+    ensures emitted { OnOk result (AreAmong (places_of emitted.now)
+        (places_of received.new.items)) }
 {
     incoming.clear();
     carry_outside(incoming, tables.entrances.as_slice(), outside)?;
@@ -57,8 +58,10 @@ fn collect(
 ) -> Result<(), AllocError>
     requires numbers { AreRising (numbers_of members.now) }
     requires incoming { RiseByComponent incoming.now }
-    ensures received { OnOk result (AreReceived members.now (deliveries_of incoming.now) received.new.items) }
-    ensures all { OnOk result (AllStand members.now (deliveries_of incoming.now) received.new.items) }
+    ensures received { OnOk result (AreReceived members.now (deliveries_of incoming.now)
+        received.new.items) }
+    ensures all { OnOk result (AllStand members.now (deliveries_of incoming.now)
+        received.new.items) }
 {
     received.clear();
     let mut start = 0;

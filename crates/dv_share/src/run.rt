@@ -60,7 +60,8 @@ fn places_of<T: Numbered>(items: &[T], number: usize) -> (usize, usize)
     ensures within { result.1 ≤ length items.now }
     ensures before { AllWithin (λ (x : T). T.number x < number) items.now 0 result.0 }
     ensures there { AllWithin (λ (x : T). T.number x ≡ number) items.now result.0 result.1 }
-    ensures behind { AllWithin (λ (x : T). number < T.number x) items.now result.1 (length items.now) }
+    ensures behind { AllWithin (λ (x : T). number < T.number x) items.now result.1
+        (length items.now) }
 {
     let first = items.partition_point(|item| item.number() < number);
     (first, run_end(items, first, number))
@@ -75,7 +76,8 @@ pub(crate) fn run_end<T: Numbered>(items: &[T], start: usize, number: usize) -> 
     ensures onward { start ≤ result }
     ensures within { result ≤ length items.now }
     ensures there { AllWithin (λ (x : T). T.number x ≡ number) items.now start result }
-    ensures behind { AllWithin (λ (x : T). number < T.number x) items.now result (length items.now) }
+    ensures behind { AllWithin (λ (x : T). number < T.number x) items.now result
+        (length items.now) }
 {
     let mut end = start;
     while end < items.len() && items[end].number() == number {

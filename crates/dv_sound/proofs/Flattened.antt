@@ -1,5 +1,6 @@
 -- A text as a flat model routes as its links do, and so has the trace of its network.
-use Rattle.std.proofs.Common.{◌≡◌, ℕ, zero, suc, ◌+◌, ◌*◌, ◌≤◌, Bool, true, false, ◌&&◌, ◌||◌, ◌==◌, cond, nat_eq, nat_lt, List, [], ◌∷◌, ◌++◌, length, map, IsTrue, refl, sym, ap, ◌∙◌, subst, arith}
+use Rattle.std.proofs.Common.{◌≡◌, ℕ, zero, suc, ◌+◌, ◌*◌, ◌≤◌, Bool, true, false, ◌&&◌, ◌||◌, ◌==◌, cond, nat_eq, nat_lt, List}
+use Rattle.std.proofs.Common.{[], ◌∷◌, ◌++◌, length, map, IsTrue, refl, sym, ap, ◌∙◌, subst, arith}
 use Rattle.std.specs.Prelude.{slice_index_or}
 use Rattle.std.specs.List.{cons_option, filter, flat_map, fold, range_with_len}
 use Rattle.std.proofs.lemmas.Bool.{and_parts}

@@ -1,5 +1,6 @@
 -- What a text meets as a job.
-use Rattle.std.proofs.Common.{◌≡◌, ℕ, zero, suc, ◌+◌, Bool, true, false, ◌&&◌, cond, nat_eq, List, [], ◌∷◌, length, Option, Some, IsTrue, refl, sym, ap, ◌∙◌, subst, arith}
+use Rattle.std.proofs.Common.{◌≡◌, ℕ, zero, suc, ◌+◌, Bool, true, false, ◌&&◌, cond, nat_eq, List, [], ◌∷◌, length, Option}
+use Rattle.std.proofs.Common.{Some, IsTrue, refl, sym, ap, ◌∙◌, subst, arith}
 use Rattle.std.specs.List.{AllByRecursion, slice_get}
 use Rattle.std.proofs.lemmas.Bool.Decides.{nat_tests}
 use Rattle.dv_time.specs.Time.{time_of}
@@ -82,12 +83,14 @@ least_below owner base (x ∷ is) zero i e hold h =
 least_below owner base (x ∷ is) (suc j) i e hold h =
     let next : base + 1 + j ≡ base + suc j = omega arith in
     by_test (nat_eq (owner base) (owner (base + suc j)))
-    (subst (λ (n : ℕ). IsAtLeast (least_response owner (owner n) (base + 1) (responses_of is)) hold) next (least_below owner (base + 1) is j i e hold h))
+    (subst (λ (n : ℕ). IsAtLeast (least_response owner (owner n) (base + 1) (responses_of is)) hold) next
+    (least_below owner (base + 1) is j i e hold h))
   where
     by_test : (t : Bool) → IsAtLeast (least_response owner (owner (base + suc j)) (base + 1) (responses_of is)) hold →
         IsAtLeast (cond t (earlier (response_of x.model) (least_response owner (owner (base + suc j)) (base + 1) (responses_of is)))
         (least_response owner (owner (base + suc j)) (base + 1) (responses_of is))) hold
-    by_test true rest = sooner_second (response_of x.model) (least_response owner (owner (base + suc j)) (base + 1) (responses_of is)) hold rest
+    by_test true rest = sooner_second (response_of x.model) (least_response owner (owner (base + suc j)) (base + 1) (responses_of is))
+        hold rest
     by_test false rest = rest
 
 -- all components, by their numbers
@@ -115,6 +118,8 @@ all_sound limit owner f sound compilable numbers =
     let one = sound limit (0 + j) i.model (at_place (λ (i : Instance). IsCompilableModel (AtomicModel i.model)) is j i compilable e)
     (at_place (λ (i : Instance). IsModelOfNumbers (AtomicModel i.model)) is j i numbers e) in
     let test : fits_kept i.model ≡ fits_number is (0 + j) = sym (fits_at_number is j i e) ∙ ap (fits_number is) number in
-    subst (λ (t : State → Bool). IsSound t (least_response owner (owner (0 + j)) 0 (responses_of is)) (member_of limit (0 + j) i.model)) test
-    (is_sound_sooner (fits_kept i.model) (response_of i.model) (least_response owner (owner (0 + j)) 0 (responses_of is)) (member_of limit (0 + j) i.model)
+    subst (λ (t : State → Bool). IsSound t (least_response owner (owner (0 + j)) 0 (responses_of is)) (member_of limit (0 + j) i.model))
+    test
+    (is_sound_sooner (fits_kept i.model) (response_of i.model) (least_response owner (owner (0 + j)) 0 (responses_of is))
+    (member_of limit (0 + j) i.model)
     (least_below owner 0 is j i e) one))

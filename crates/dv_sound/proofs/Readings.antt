@@ -1,5 +1,6 @@
 -- The values of inputs that were read are numbers of the language.
-use Rattle.std.proofs.Common.{◌≡◌, ℕ, zero, suc, ◌+◌, ◌<◌, ◌^◌, All, Bool, true, false, ◌&&◌, ◌==◌, cond, nat_lt, List, [], ◌∷◌, Option, Some, None, Ok, ℤ, pos, neg_ℤ, refl, subst, arith}
+use Rattle.std.proofs.Common.{◌≡◌, ℕ, zero, suc, ◌+◌, ◌<◌, ◌^◌, All, Bool, true, false, ◌&&◌, ◌==◌, cond, nat_lt, List, [], ◌∷◌}
+use Rattle.std.proofs.Common.{Option, Some, None, Ok, ℤ, pos, neg_ℤ, refl, subst, arith}
 use Rattle.std.specs.Prelude.{option_map}
 use Rattle.std.specs.Str.Parse.{digits_value}
 use Rattle.std.proofs.lemmas.Bool.{and_parts, lt-ltb, ltb-true}

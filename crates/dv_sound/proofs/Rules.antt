@@ -1,5 +1,7 @@
 -- Rules keep states to numbers of the language, and send such numbers.
-use Rattle.std.proofs.Common.{◌≡◌, ℕ, zero, suc, ◌-◌, Bool, true, false, ◌&&◌, ◌||◌, cond, nat_eq, nat_le, List, [], ◌∷◌, ◌++◌, length, replicate, ℤ, Option, Some, None, Result, Ok, Err, IfOk, IsTrue, refl, sym, ap, ◌∙◌, arith}
+use Rattle.std.proofs.Common.{◌≡◌, ℕ, zero, suc, ◌-◌, Bool, true, false, ◌&&◌, ◌||◌, cond, nat_eq, nat_le, List, [], ◌∷◌, ◌++◌}
+use Rattle.std.proofs.Common.{length, replicate, ℤ, Option, Some, None, Result, Ok, Err, IfOk, IsTrue, refl, sym, ap, ◌∙◌}
+use Rattle.std.proofs.Common.{arith}
 use Rattle.std.specs.Prelude.{slice_get, slice_set}
 use Rattle.std.specs.List.{list_all}
 use Rattle.std.specs.Ordering.{int_cmp, match_ordering}
@@ -25,7 +27,10 @@ use Rattle.dv_devs.specs.Behaviour.{are_few}
 use Rattle.dv_eval.specs.declared.scope.Domain.{Domain}
 use Rattle.dv_eval.specs.declared.scope.Domain.TheVariants as domain
 use Rattle.dv_eval.specs.Scope.{Scope, names_of, place_of}
-use Rattle.dv_eval.specs.Meaning.{Context, addition, addition_at, addition_to, assignment, assignment_at, assignment_in_domain, assignment_to, bag_of_name, capacity_of, effect_of, in_loop, moment_in, number_of, outermost, removal, removal_at, removal_from, repetition, run, sending, truth_of, value_within, with_goto, with_value_at}
+use Rattle.dv_eval.specs.Meaning.{Context, addition, addition_at, addition_to, assignment, assignment_at, assignment_in_domain}
+use Rattle.dv_eval.specs.Meaning.{assignment_to, bag_of_name, capacity_of, effect_of, in_loop, moment_in, number_of, outermost}
+use Rattle.dv_eval.specs.Meaning.{removal, removal_at, removal_from, repetition, run, sending, truth_of, value_within}
+use Rattle.dv_eval.specs.Meaning.{with_goto, with_value_at}
 use Rattle.dv_accepted.proofs.Outcomes.{if_ok_branch, if_ok_then}
 use Rattle.dv_conservative.specs.Sound.{are_of_numbers, is_of_numbers}
 use Rattle.dv_conservative.proofs.Numbers.{numbers_with}

@@ -1,5 +1,6 @@
 -- The numbers of a file are those of the tokens that spell it, and these are of the language.
-use Rattle.std.proofs.Common.{◌≡◌, ℕ, zero, suc, ◌+◌, ◌<◌, ◌^◌, Bool, true, false, ◌&&◌, cond, List, [], ◌∷◌, ◌++◌, length, map, Option, Some, None, refl, sym, subst, arith}
+use Rattle.std.proofs.Common.{◌≡◌, ℕ, zero, suc, ◌+◌, ◌<◌, ◌^◌, Bool, true, false, ◌&&◌, cond, List, [], ◌∷◌, ◌++◌, length, map}
+use Rattle.std.proofs.Common.{Option, Some, None, refl, sym, subst, arith}
 use Rattle.std.specs.List.{AllByRecursion, cons_option, flat_map}
 use Rattle.std.proofs.lemmas.Bool.{and_from, and_parts, lt-ltb}
 use Rattle.dv_lex.specs.Lexemes.{Lexeme, Blank, Comment, Identifier, Numeral, Reserved, Sign}
@@ -10,17 +11,21 @@ use Rattle.dv_lex.specs.declared.token.Symbol.TheVariants as symbol
 use Rattle.dv_lex.specs.declared.token.Token.{Token}
 use Rattle.dv_lex.specs.declared.token.TokenKind.{TokenKind}
 use Rattle.dv_lex.specs.declared.token.TokenKind.TheVariants as kind
-use Rattle.dv_syntax.specs.Grammar.{Anywhere, At, IsFileOf, IsSpelled, Spelled, Spells, bound_spelling, braces, declaration_spelling, expression_spelling, file_spelling, item_spelling, minus_spelling, model_spelling, name, number, sign, statements_spelling, word}
+use Rattle.dv_syntax.specs.Grammar.{Anywhere, At, IsFileOf, IsSpelled, Spelled, Spells, bound_spelling, braces}
+use Rattle.dv_syntax.specs.Grammar.{declaration_spelling, expression_spelling, file_spelling, item_spelling, minus_spelling}
+use Rattle.dv_syntax.specs.Grammar.{model_spelling, name, number, sign, statements_spelling, word}
 use Rattle.dv_syntax.specs.Trees.{Expression, Literal, TruthValue, Named, Parens, Prefixed, Binary, Call, Elapsed, Times, FileTree}
 use Rattle.dv_syntax.specs.Trees.{Statements, Done, Assign, Goto, Send, If, IfElse, For, Add, Drop}
-use Rattle.dv_syntax.specs.Written.{AtomicItem, Declares, Lists, Starts, Holds, Rules, WrittenAtomic, WrittenCoupled, WrittenModel, sorted_items, sorted_model}
+use Rattle.dv_syntax.specs.Written.{AtomicItem, Declares, Lists, Starts, Holds, Rules, WrittenAtomic, WrittenCoupled}
+use Rattle.dv_syntax.specs.Written.{WrittenModel, sorted_items, sorted_model}
 use Rattle.dv_syntax.specs.declared.tree.Declaration.{Declaration}
 use Rattle.dv_syntax.specs.declared.tree.Declaration.TheVariants as declaration
 use Rattle.dv_syntax.specs.declared.tree.Name.{Name}
 use Rattle.dv_syntax.specs.declared.tree.Number.{Number}
 use Rattle.dv_syntax.specs.declared.tree.Variable.{Variable}
 use Rattle.dv_bag.specs.Bag.{is_number}
-use Rattle.dv_eval.specs.Scope.{bound_value, is_declared, names_of, signed, start_data, start_datum, state_variable_of, state_variables_in, with_variable, with_variables}
+use Rattle.dv_eval.specs.Scope.{bound_value, is_declared, names_of, signed, start_data, start_datum, state_variable_of}
+use Rattle.dv_eval.specs.Scope.{state_variables_in, with_variable, with_variables}
 use Rattle.dv_eval.specs.declared.scope.Domain.{Domain}
 use Rattle.dv_sound.specs.Jobs.{IsModelOfNumbers}
 use Rattle.dv_sound.specs.Kept.{are_kept, is_kept, name_numbers, names_numbers, rules_name_numbers}

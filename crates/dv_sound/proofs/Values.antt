@@ -1,5 +1,7 @@
 -- What expressions give are numbers of the language.
-use Rattle.std.proofs.Common.{◌≡◌, ℕ, zero, suc, ◌+◌, ◌-◌, ◌^◌, ◌≤◌, Bool, true, false, not, ◌&&◌, ◌==◌, cond, nat_le, nat_lt, List, [], ◌∷◌, ℤ, pos, negsuc, neg_ℤ, ◌+ℤ◌, ◌-ℤ◌, ◌*ℤ◌, ◌||◌, int_lt, Option, Some, None, Ok, Err, IfOk, IsTrue, refl, sym, ap, ◌∙◌, arith}
+use Rattle.std.proofs.Common.{◌≡◌, ℕ, zero, suc, ◌+◌, ◌-◌, ◌^◌, ◌≤◌, Bool, true, false, not, ◌&&◌, ◌==◌, cond, nat_le, nat_lt}
+use Rattle.std.proofs.Common.{List, [], ◌∷◌, ℤ, pos, negsuc, neg_ℤ, ◌+ℤ◌, ◌-ℤ◌, ◌*ℤ◌, ◌||◌, int_lt, Option, Some, None, Ok, Err}
+use Rattle.std.proofs.Common.{IfOk, IsTrue, refl, sym, ap, ◌∙◌, arith}
 use Rattle.std.specs.Prelude.{slice_get, int_div, int_rem}
 use Rattle.std.specs.List.{list_all}
 use Rattle.std.specs.Ordering.{int_cmp, int_eq, match_ordering}
@@ -28,7 +30,9 @@ use Rattle.dv_bag.specs.declared.value.Value.{Value}
 use Rattle.dv_bag.specs.declared.value.Value.TheVariants as value
 use Rattle.dv_devs.specs.Behaviour.{are_few}
 use Rattle.dv_eval.specs.Scope.{Scope, names_of, place_of}
-use Rattle.dv_eval.specs.Meaning.{Moment, bag_between, bag_of_name, bag_received, call_result, datum_at, datum_of_name, is_decided, loop_value, meaning, number_of, operator_result, prefix_result, same, truth_of, value_in_loop, value_of_datum, value_of_name}
+use Rattle.dv_eval.specs.Meaning.{Moment, bag_between, bag_of_name, bag_received, call_result, datum_at, datum_of_name}
+use Rattle.dv_eval.specs.Meaning.{is_decided, loop_value, meaning, number_of, operator_result, prefix_result, same, truth_of}
+use Rattle.dv_eval.specs.Meaning.{value_in_loop, value_of_datum, value_of_name}
 use Rattle.dv_accepted.proofs.Outcomes.{if_ok_branch, if_ok_then}
 use Rattle.dv_conservative.specs.Sound.{are_of_numbers, is_of_numbers}
 use Rattle.dv_sound.specs.Kept.{are_kept, is_kept, names_numbers}

@@ -1,7 +1,8 @@
 -- Numbers of the language, in states, in what arrives and in the texts of rules.
 use Rattle.std.specs.Prelude.{◌^◌, Bool, true, ◌&&◌, nat_le, nat_lt, IsTrue, List}
 use Rattle.std.specs.List.{list_all}
-use Rattle.dv_syntax.specs.Trees.{AtomicTree, Expression, Literal, TruthValue, Named, Parens, Prefixed, Binary, Call, Elapsed, Times, RuleTree}
+use Rattle.dv_syntax.specs.Trees.{AtomicTree, Expression, Literal, TruthValue, Named, Parens, Prefixed, Binary, Call, Elapsed}
+use Rattle.dv_syntax.specs.Trees.{Times, RuleTree}
 use Rattle.dv_syntax.specs.Trees.{Statements, Done, Assign, Goto, Send, If, IfElse, For, Add, Drop}
 use Rattle.dv_bag.specs.Bag.{is_number, total}
 use Rattle.dv_bag.specs.Limits.{greatest_count}

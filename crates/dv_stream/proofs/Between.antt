@@ -19,7 +19,8 @@ use Rattle.dv_merge.proofs.Wholes.{are_lines, whole_again}
 use Rattle.dv_board.specs.Clocks.{IsNoLater}
 use Rattle.dv_board.specs.Jobs.{IsMergeable, trace}
 use Rattle.dv_board.proofs.Drained.{same_places}
-use Rattle.dv_board.proofs.Wholes.{get_map, many_parts, part_at_place, part_of_process, parts_before, parts_of_trace, parts_since, trace_of_job}
+use Rattle.dv_board.proofs.Wholes.{get_map, many_parts, part_at_place, part_of_process, parts_before, parts_of_trace}
+use Rattle.dv_board.proofs.Wholes.{parts_since, trace_of_job}
 use Rattle.dv_core.proofs.Lookups.{some_at}
 use Rattle.dv_serial.specs.Clocks.{least_time}
 use Rattle.dv_work.specs.Reached.{AreReached}
@@ -38,7 +39,8 @@ module _ (job : Job) (parts : List PartOf) (times : List Time) (reached : AreRea
   parts_by_time k d lt =
       let at = slice_get-get_or parts k d lt in
       let t = clock_at k _ at in
-      subst IsByTime (sym (reached.parts k _ t.0 at t.1)) (part_by_time job.limit (whole job.flat) job.outside (owned job k) (rank job.limit t.0))
+      subst IsByTime (sym (reached.parts k _ t.0 at t.1)) (part_by_time job.limit (whole job.flat) job.outside (owned job k)
+      (rank job.limit t.0))
 
   pub all_of_run : AllOfRun job.limit times
   all_of_run p t at = let h = reached.within p t at in h.0
@@ -84,7 +86,8 @@ module _ (job : Job) (parts : List PartOf) (times : List Time) (reached : AreRea
           ap cut (reached.parts p x t.0 at t.1)
           ∙ ap (λ (u : Time). since from (before u (part_of_process job (rank job.limit t.0) p)))
           (sym (time_of-rank job.limit least least_of_run))
-          ∙ ap (since from) (part_cut job.limit (whole job.flat) job.outside (owned job p) end (rank job.limit t.0) (least_no_later p t.0 t.1))
+          ∙ ap (since from) (part_cut job.limit (whole job.flat) job.outside (owned job p) end (rank job.limit t.0)
+          (least_no_later p t.0 t.1))
 
       cut_pieces : map cut parts ≡ map (since from) (parts_before job end)
       cut_pieces =

@@ -1,9 +1,11 @@
 -- No clock falls, and rounds after rounds are rounds.
-use Rattle.std.proofs.Common.{◌≡◌, inl, inr, ℕ, zero, suc, ◌+◌, ◌≤◌, Bool, true, false, nat_eq, List, [], ◌∷◌, Option, Some, None, refl, sym, ap, subst, arith}
+use Rattle.std.proofs.Common.{◌≡◌, inl, inr, ℕ, zero, suc, ◌+◌, ◌≤◌, Bool, true, false, nat_eq, List, [], ◌∷◌, Option, Some}
+use Rattle.std.proofs.Common.{None, refl, sym, ap, subst, arith}
 use Rattle.dv_time.specs.Time.{rank}
 use Rattle.dv_time.specs.declared.time.Time.{Time}
 use Rattle.dv_conservative.specs.Rounds.{AreRounds, IsDriven, round}
-use Rattle.dv_conservative.specs.World.{Answers, AnswersBy, IsStep, IsTurn, Job, Reply, Step, World, Turn, Put, Take, Stop, Done, Refused, Stopped, Empty, Full, Memory, refusal}
+use Rattle.dv_conservative.specs.World.{Answers, AnswersBy, IsStep, IsTurn, Job, Reply, Step, World, Turn, Put, Take, Stop}
+use Rattle.dv_conservative.specs.World.{Done, Refused, Stopped, Empty, Full, Memory, refusal}
 use Rattle.dv_conservative.proofs.Local.{same_number}
 use Rattle.dv_core.specs.Worlds.{EndsAs, IsCut}
 use Rattle.dv_core.specs.declared.step.Ended.{Ended}

@@ -1,5 +1,6 @@
 -- What was written, mark after mark.
-use Rattle.std.proofs.Common.{◌≡◌, ℕ, ◌+◌, ◌-◌, ◌≤◌, ◌||◌, Bool, true, false, List, ◌++◌, Option, Result, Ok, Err, IfOk, OnErr, refl, sym, ap, subst, ◌∙◌, arith}
+use Rattle.std.proofs.Common.{◌≡◌, ℕ, ◌+◌, ◌-◌, ◌≤◌, ◌||◌, Bool, true, false, List, ◌++◌, Option, Result, Ok, Err, IfOk, OnErr}
+use Rattle.std.proofs.Common.{refl, sym, ap, subst, ◌∙◌, arith}
 use Rattle.std.specs.Prelude.{OnOk}
 use Rattle.std.specs.Io.KnownBytes.{Appends}
 use Rattle.std.proofs.lemmas.List.Folds.{list_any-append}
@@ -20,7 +21,8 @@ use Rattle.dv_tree.specs.Tables.{Source}
 use Rattle.dv_text.specs.Names.{tree_names, tree_ports}
 use Rattle.dv_text.specs.Texts.{ComponentNames, instants_text, part_text}
 use Rattle.dv_text.specs.Writing.{AppendsBeginning}
-use Rattle.dv_text.proofs.Taking.{Appends-append, Appends-nothing, AppendsBeginning-behind, AppendsBeginning-from, AppendsBeginning-nothing, AppendsBeginning-text, TakesFront-all}
+use Rattle.dv_text.proofs.Taking.{Appends-append, Appends-nothing, AppendsBeginning-behind, AppendsBeginning-from}
+use Rattle.dv_text.proofs.Taking.{AppendsBeginning-nothing, AppendsBeginning-text, TakesFront-all}
 use Rattle.dv_text.specs.declared.writing.WriteError.{WriteError}
 use Rattle.dv_stream.specs.Faults.{has_fault, is_fault}
 use Rattle.dv_stream.specs.Written.{Falters, GoesOn, IsBegun, IsWrittenTo, lines_before, lines_between}
@@ -47,7 +49,8 @@ module _ (job : Job) (tree : Source) (continue : LinesContinue) where
       continue (tree_names tree) (tree_ports tree) job.limit (whole job.flat) job.outside (rank job.limit from) (rank job.limit upto) le
 
   -- before the first time there is nothing
-  pub nothing_written : (known : Option (List ℕ)) (w : Written) → w.mark ≡ first_time → w.faulted ≡ false → IsWrittenTo job tree known known w
+  pub nothing_written : (known : Option (List ℕ)) (w : Written) → w.mark ≡ first_time → w.faulted ≡ false
+      → IsWrittenTo job tree known known w
   nothing_written known w mark fault =
       let first : rank job.limit first_time ≡ 0 = omega arith in
       let at : rank job.limit w.mark ≡ 0 = ap (rank job.limit) mark ∙ first in

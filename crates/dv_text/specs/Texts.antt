@@ -1,5 +1,6 @@
 -- The bytes of a trace: the text of each instant, one after the other, and the end.
-use Rattle.std.specs.Prelude.{ℕ, zero, suc, true, false, nat_eq, if◌then◌else◌, List, [], ◌∷◌, ◌++◌, map, slice_get, unwrap_or, codes, filter}
+use Rattle.std.specs.Prelude.{ℕ, zero, suc, true, false, nat_eq, if◌then◌else◌, List, [], ◌∷◌, ◌++◌, map, slice_get, unwrap_or}
+use Rattle.std.specs.Prelude.{codes, filter}
 use Rattle.std.specs.Fmt.{decimal, signed_decimal}
 use Rattle.std.specs.List.{flat_map}
 use Rattle.std.specs.Ordering.{is_eq}

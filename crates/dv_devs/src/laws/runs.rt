@@ -4,7 +4,8 @@ ghost use Rattle.std.specs.Prelude.{◌≡◌, ℕ, suc, ◌<◌, ◌≤◌, IfO
 ghost use Rattle.dv_devs.specs.Behaviour.{Component, end_of_hold, is_imminent};
 ghost use Rattle.dv_devs.specs.Idle.{AllBringNothing, AllIdle, IsIdle, LeavesOnlyWhatIsSent, none_imminent, nothing_sent};
 ghost use Rattle.dv_devs.specs.Inputs.{ArriveAlikeBefore};
-ghost use Rattle.dv_devs.specs.Network.{Network, components_after, components_at, emissions, emissions_at, part_of_instant, trace_at, trace_before};
+ghost use Rattle.dv_devs.specs.Network.{Network, components_after, components_at, emissions, emissions_at, part_of_instant};
+ghost use Rattle.dv_devs.specs.Network.{trace_at, trace_before};
 ghost use Rattle.dv_devs.specs.NextTimes.{AllFrom, AllQuietForGood, HasEntry, IsFrom, IsReady, least_next};
 
 /// What is before a rank depends on what arrives before it, and what is sent at a rank depends on what arrives

@@ -19,7 +19,8 @@ pub returns-clause-fits : goal.returns-clause-fits
 returns-clause-fits g c =
     let p = c.args.program.now in
     let program = c.code-code.ensures.program in
-    fits-given p (left_by p.shape.sort) c.args.arrivals.now c.args.state _ (length p.code * greatest_count ^ deepest_loops) c.run_rule.result
+    fits-given p (left_by p.shape.sort) c.args.arrivals.now c.args.state _ (length p.code * greatest_count ^ deepest_loops)
+    c.run_rule.result
     (c.runs_end_in_one_way.ensures p c.args.arrivals.now c.args.state)
     (c.valid_programs_end.ensures p (left_by p.shape.sort) deepest_loops program.valid program.small c.args.arrivals.now c.are_few.ensures
     c.args.state c.requires.fits)

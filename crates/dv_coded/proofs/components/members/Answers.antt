@@ -13,7 +13,8 @@ use Rattle.dv_coded.proofs.components.members.Goals as goal
 pub index-programs-requires : goal.index-programs-requires
 index-programs-requires c =
     let is = instances (file_of c.args.tree.now.file) in
-    let has = has_model is c.loop-component.component (omega (arith, c.loop-component-test.true, c.component_count-component-end.ensures.value)) in
+    let has = has_model is c.loop-component.component
+    (omega (arith, c.loop-component-test.true, c.component_count-component-end.ensures.value)) in
     let all = c.of_component.new.self in
     let at = c.in_ok-model.ensures.model has.model has.there in
     omega (arith, model-within all.programs.items all.responses.items c.in_ok-model.model has.model at, all.programs.ok.0)

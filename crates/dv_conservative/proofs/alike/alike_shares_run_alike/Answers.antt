@@ -1,4 +1,5 @@
-use Rattle.dv_conservative.proofs.SameRuns.{alike_itself, same_answer, same_components, same_packet, same_part, same_promise, same_refusal, same_sent, same_turn, still_settled}
+use Rattle.dv_conservative.proofs.SameRuns.{alike_itself, same_answer, same_components, same_packet, same_part, same_promise}
+use Rattle.dv_conservative.proofs.SameRuns.{same_refusal, same_sent, same_turn, still_settled}
 use Rattle.dv_conservative.proofs.alike.alike_shares_run_alike.Goals as goal
 
 pub returns-clause-components : goal.returns-clause-components

@@ -20,7 +20,8 @@ loop-number-preserved c = λ job.
     let old = c.loop-number.found.items in
     let rest = outgoing_from job p (i + 1) after in
     let one : Away = record { number = i; target = here.target } in
-    let before = sym (at_drop_more (λ cs. map (away_of job p) old ++ outgoing_from job p i (map meant_channel cs)) channels i none c.loop-number-test.true)
+    let before = sym (at_drop_more (λ cs. map (away_of job p) old ++ outgoing_from job p i (map meant_channel cs)) channels i none
+    c.loop-number-test.true)
     ∙ c.loop-number.invariant job in
     elim c.if-channel-process.branch [
       | then-channel-process+in_ok-push w ↦

@@ -20,7 +20,8 @@ loop-component-preserved c =
     let long = c.loop-component.invariant.long in
     let own = owner_of g in
     let k = c.owner.result in
-    let lt : own i < length found = subst (λ n. own i < n) (sym long) (subst (λ j. j < g.processes) c.owner.ensures.exact c.owner.ensures.below) in
+    let lt : own i < length found = subst (λ n. own i < n) (sym long)
+    (subst (λ j. j < g.processes) c.owner.ensures.exact c.owner.ensures.below) in
     let rest = map ticks_of (drop (i + 1) components) in
     let here = get_or components i Never in
     let lower = c.lower.ensures
@@ -31,7 +32,8 @@ loop-component-preserved c =
       least = λ p within.
           ap (λ ls. earlier (get_or ls p None) (least_response own p (i + 1) rest)) lower
           ∙ lowered own found i p (ticks_of here) rest lt
-          ∙ sym (at_drop_more (λ rs. earlier (get_or found p None) (least_response own p i (map ticks_of rs))) components i Never c.loop-component-test.true)
+          ∙ sym (at_drop_more (λ rs. earlier (get_or found p None) (least_response own p i (map ticks_of rs))) components i Never
+          c.loop-component-test.true)
           ∙ c.loop-component.invariant.least p within;
     }
 
@@ -49,6 +51,7 @@ returns c =
     (λ p lt.
     let within : p < g.processes = subst (λ n. p < n) long lt in
     sym (earlier_none (get_or found p None))
-    ∙ sym (at_drop_all (λ rs. earlier (get_or found p None) (least_response own p i (map ticks_of rs))) components i c.loop-component-test.false)
+    ∙ sym (at_drop_all (λ rs. earlier (get_or found p None) (least_response own p i (map ticks_of rs))) components i
+    c.loop-component-test.false)
     ∙ c.loop-component.invariant.least p within
     ∙ sym (get_or-map-range_with_len wanted 0 g.processes p p None within (zero-add p)))

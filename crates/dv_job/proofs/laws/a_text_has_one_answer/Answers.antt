@@ -3,11 +3,20 @@ use Rattle.dv_job.proofs.laws.a_text_has_one_answer.Goals as goal
 
 of_tokens : (c : goal.After-tokens_have_one_answer) → TokenLaws
 of_tokens c =
-    record { some = c.a_text_has_tokens_or_a_refusal.ensures; one_list = c.tokens_are_unique.ensures; one_refusal = c.refusals_are_unique.ensures; not_both = c.tokens_or_refused.ensures }
+    record {
+      some = c.a_text_has_tokens_or_a_refusal.ensures;
+      one_list = c.tokens_are_unique.ensures;
+      one_refusal = c.refusals_are_unique.ensures;
+      not_both = c.tokens_or_refused.ensures;
+    }
 
 of_files : (c : goal.After-tokens_have_one_answer) → FileLaws
 of_files c =
-    record { some = c.tokens_have_one_answer.ensures.some; one_file = c.tokens_spell_one_file.ensures; not_both = c.tokens_have_one_answer.ensures.not_both }
+    record {
+      some = c.tokens_have_one_answer.ensures.some;
+      one_file = c.tokens_spell_one_file.ensures;
+      not_both = c.tokens_have_one_answer.ensures.not_both;
+    }
 
 pub returns-clause-some : goal.returns-clause-some
 returns-clause-some c = some_answer (of_tokens c) (of_files c)

@@ -7,5 +7,6 @@ use Rattle.dv_job.proofs.load.load_groups.Goals as goal
 pub partition-requires : goal.partition-requires
 partition-requires c =
     let f = file_of c.args.tree.now.file in
-    let few = few_paths string_bytes c.in_ok-paths-in-Json.paths.items _ f (c.checked_files.ensures f c.requires.checked) c.in_ok-paths-in-Json.ensures in
+    let few = few_paths string_bytes c.in_ok-paths-in-Json.paths.items _ f (c.checked_files.ensures f c.requires.checked)
+    c.in_ok-paths-in-Json.ensures in
     record { fit = omega (arith, few, ap length c.deref.ensures.value) }

@@ -7,7 +7,8 @@ use Rattle.dv_syntax.specs.declared.tree.Model.{Model}
 use Rattle.dv_gen.specs.ModelCode.{IsCompilableModel}
 use Rattle.dv_tree.specs.Tables.{scope_of_model}
 use Rattle.dv_text.specs.Writing.{StopsShort}
-use Rattle.dv_text.proofs.Taking.{OnErr-always, StopsShort-after, StopsShort-from, TakesFront-handed, TakesFront-left, TakesFront-nothing, TakesFront-pushed, TakesFront-rest, some-behind}
+use Rattle.dv_text.proofs.Taking.{OnErr-always, StopsShort-after, StopsShort-from, TakesFront-handed, TakesFront-left}
+use Rattle.dv_text.proofs.Taking.{TakesFront-nothing, TakesFront-pushed, TakesFront-rest, some-behind}
 use Rattle.dv_tree.proofs.Below.{scope_read}
 use Rattle.dv_listing.specs.Listing.{listing_text, text_of_model}
 use Rattle.dv_listing.proofs.Left.{StopsShort-before, all_left, atomic_next, atomic_some, compilable_at, coupled_next, left_from, none_left}

@@ -28,7 +28,8 @@ new-requires-3-clause-begun g c =
     c.in_ok-state.ensures.components ∙ ap (components_of t.limit) running in
     subst (λ (y : LocalState _). IsBegun (view_by b y)) (sym c.new-2.ensures)
     (record {
-      components = components ∙ starts_are b t.limit t.models.items t.members.items ∙ ap (λ (s : Share). (network s.flat).start) (sym share);
+      components = components ∙ starts_are b t.limit t.models.items t.members.items ∙ ap (λ (s : Share). (network s.flat).start)
+          (sym share);
       committed = c.in_ok-state.ensures.committed;
       held = λ n k port bag. ap (λ (ds : List Delivery). delivered k port ds bag) (c.in_ok-state.ensures.held n);
       visits = c.in_ok-state.ensures.visits;

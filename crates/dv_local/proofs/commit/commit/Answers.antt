@@ -41,7 +41,8 @@ commit_one-requires g c =
       limit = c.requires.limit;
       components = inv.components;
       comes = c.requires.comes;
-      place = subst (λ (y : Placed (List Counts)). y.place < length t.members.items) (sym c.arrival-item.is) (c.requires.received.within i x early);
+      place = subst (λ (y : Placed (List Counts)). y.place < length t.members.items) (sym c.arrival-item.is)
+          (c.requires.received.within i x early);
       rise = c.requires.emitted.places.rise;
       given =
           subst (λ (y : Placed (List Counts)). IsGivenAt b t now es c.loop-arrival.components.running.items y.place) (sym c.arrival-item.is)

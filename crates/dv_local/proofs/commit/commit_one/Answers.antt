@@ -1,4 +1,5 @@
-use Rattle.std.proofs.Common.{◌≡◌, ◌∙◌, ◌<◌, [], ◌∷◌, ◌++◌, List, Option, Some, None, MatchOption, length, slice_get, slice_set, append-nil, refl, sym, ap, subst, arith}
+use Rattle.std.proofs.Common.{◌≡◌, ◌∙◌, ◌<◌, [], ◌∷◌, ◌++◌, List, Option, Some, None, MatchOption, length, slice_get, slice_set}
+use Rattle.std.proofs.Common.{append-nil, refl, sym, ap, subst, arith}
 use Rattle.std.proofs.lemmas.List.{set-get_or}
 use Rattle.std.proofs.lemmas.Option.{get_or_from_slice_get, same_Some, slice_get_read}
 use Rattle.std.specs.Option.{option_map}
@@ -32,7 +33,8 @@ returns-in_default-clause-reacted g c =
     let none : happened_in o ≡ None =
     sym c.in_ok-left.ensures.happened ∙ ap (λ (l : Option Left). option_map (λ (l : Left). l.what) l) c.in_default.is in
     let unchanged : left_by r o ≡ r =
-    subst (λ (l : Option Left). MatchOption l (left_by r o ≡ r) (λ (l : Left). l.after ≡ left_by r o)) c.in_default.is c.in_ok-left.ensures.left in
+    subst (λ (l : Option Left). MatchOption l (left_by r o ≡ r) (λ (l : Left). l.after ≡ left_by r o)) c.in_default.is
+    c.in_ok-left.ensures.left in
     record {
       outcome = o;
       is = λ s at-s.
@@ -61,7 +63,8 @@ returns-clause-reacted g c =
     let happened : happened_in o ≡ Some left.what =
     sym c.in_ok-left.ensures.happened ∙ ap (λ (l : Option Left). option_map (λ (l : Left). l.what) l) c.in-Some.is in
     let after : left.after ≡ left_by r o =
-    subst (λ (l : Option Left). MatchOption l (left_by r o ≡ r) (λ (l : Left). l.after ≡ left_by r o)) c.in-Some.is c.in_ok-left.ensures.left in
+    subst (λ (l : Option Left). MatchOption l (left_by r o ≡ r) (λ (l : Left). l.after ≡ left_by r o)) c.in-Some.is
+    c.in_ok-left.ensures.left in
     record {
       outcome = o;
       is = λ s at-s.
@@ -89,7 +92,8 @@ returns-clause-components g c =
     let lt : p < length rs = omega (arith, c.requires.place, c.requires.components.count) in
     let left = c.in-Some.left in
     let after : left.after ≡ left_by r o =
-    subst (λ (l : Option Left). MatchOption l (left_by r o ≡ r) (λ (l : Left). l.after ≡ left_by r o)) c.in-Some.is c.in_ok-left.ensures.left in
+    subst (λ (l : Option Left). MatchOption l (left_by r o ≡ r) (λ (l : Left). l.after ≡ left_by r o)) c.in-Some.is
+    c.in_ok-left.ensures.left in
     subst (AreComponents fits t) (sym c.put_in.ensures.components)
     (put_stays fits t rs p left.after c.requires.components lt
     (subst (λ (s : Running). IsWaitOfRun t.limit s.wait) (sym after) c.in_ok-outcome.ensures.outcome.waits)

@@ -21,6 +21,7 @@ returns g c =
     slice_get_read ms (length ms) c.args.place m refl c.requires.place c.index.ensures in
     let entry : Time → ℕ → List Counts → List Entry =
     λ t k bags. (let e : Entry = record { time = t; component = k; what = c.args.what; sent = bags } in e) ∷ [] in
-    ap (λ (t : Time). entry t m.number sent) (sym (time_of-rank limit c.args.moment.now.instant.now.time c.args.moment.now.instant.now.of_run))
+    ap (λ (t : Time). entry t m.number sent)
+    (sym (time_of-rank limit c.args.moment.now.instant.now.time c.args.moment.now.instant.now.of_run))
     ∙ ap (λ (o : Option Member). entry (time_of limit now) (number_of o) sent) (sym at)
     ∙ ap (λ (bags : List Counts). entry (time_of limit now) (number_of (slice_get ms c.args.place)) bags) c.in_ok-sent_at.ensures

@@ -17,4 +17,5 @@ returns-clause-place c = λ limit run.
     let p = c.partition_point.result in
     let point = IsPartitionPoint-from_clause (λ (i : InputOfCode). is_before i.time t) _ _
     c.partition_point.ensures.partitioned (parted xs t c.requires) (λ a r q k. search rules) in
-    sym (before_are limit t p xs nothing run (omega arith) (λ k lt. point.0 k nothing (omega arith) lt) (λ lt. point.1 p nothing (omega arith) lt))
+    sym (before_are limit t p xs nothing run (omega arith) (λ k lt. point.0 k nothing (omega arith) lt)
+    (λ lt. point.1 p nothing (omega arith) lt))

@@ -8,7 +8,8 @@ use Rattle.dv_packets.proofs.process.does_hold_of_job.Goals as goal
 pub components_of-requires : goal.components_of-requires
 components_of-requires c = record {
   compilable =
-      c.texts_are_compilable.ensures c.args.job.now.tree.now.names (file_of c.args.job.now.tree.now.file) c.requires.text c.requires.accepted;
+      c.texts_are_compilable.ensures c.args.job.now.tree.now.names (file_of c.args.job.now.tree.now.file) c.requires.text
+      c.requires.accepted;
 }
 
 pub last_process-requires : goal.last_process-requires

@@ -13,7 +13,8 @@ use Rattle.dv_react.specs.declared.running.Running.{Running}
 use Rattle.dv_plain.specs.InputTimes.{IsOfRunIf, rank_if}
 use Rattle.dv_react.specs.Components.{IsWaitOfRun, component_of}
 use Rattle.dv_plain.specs.Source.{network_of, outside}
-use Rattle.dv_plain.proofs.Reached.{Reached, reached-coming, reached-end, reached-matched, reached-place, reached-start, reached-step, work, work-step}
+use Rattle.dv_plain.proofs.Reached.{Reached, reached-coming, reached-end, reached-matched, reached-place, reached-start}
+use Rattle.dv_plain.proofs.Reached.{reached-step, work, work-step}
 use Rattle.dv_plain.proofs.run.resultant_run.Goals as goal
 use Rattle.dv_plain.proofs.run.resultant_run.Goals.{in-At+then-now-horizon, in_default}
 

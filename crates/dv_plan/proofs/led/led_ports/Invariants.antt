@@ -7,6 +7,7 @@ use Rattle.dv_plan.proofs.led.led_ports.Given as goal
 abbrev pub invariant-loop-link : goal.invariant-loop-link
 invariant-loop-link l = record {
   long : length l.led.items ≡ l.ports;
-  marked : (port : ℕ) → (get_or l.led.items port false || (nat_lt port l.ports && is_led l.members (links_of (drop l.link-index l.entrances)) port))
+  marked : (port : ℕ) → (get_or l.led.items port false ||
+      (nat_lt port l.ports && is_led l.members (links_of (drop l.link-index l.entrances)) port))
       ≡ (nat_lt port l.ports && is_led l.members (links_of l.entrances) port);
 }

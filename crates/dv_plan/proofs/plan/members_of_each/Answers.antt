@@ -18,7 +18,8 @@ returns-clause-each c =
     c.in_ok-lists.ensures
     ∙ ap (λ (ks : List ℕ). map (λ k. with_key k ks ms) (range_with_len 0 c.processes.result))
     (c.deref-2.ensures.value ∙ c.in_ok-owners.ensures ∙ ap (map key) c.deref.ensures.value)
-    ∙ same_map (λ k. with_key k (map key ms) ms) (λ p. members_of g p ms) (range_with_len 0 c.processes.result) (λ p. with_key_kept key p ms)
+    ∙ same_map (λ k. with_key k (map key ms) ms) (λ p. members_of g p ms) (range_with_len 0 c.processes.result)
+    (λ p. with_key_kept key p ms)
     ∙ ap (λ (n : ℕ). map (λ p. members_of g p ms) (range_with_len 0 n)) c.processes.ensures.exact
 
 pub returns-clause-few : goal.returns-clause-few

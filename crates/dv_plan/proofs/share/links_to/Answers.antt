@@ -7,7 +7,8 @@ pub returns-else-place-processes : goal.returns-else-place-processes
 returns-else-place-processes c =
     let cut = c.args.cut.now in
     sym (nothing_beyond cut c.args.source c.args.target
-    (subst (λ (n : ℕ). n ≤ c.args.target) (c.processes.ensures.exact ∙ ap (λ (v : Grouping). v.processes) c.groups.ensures) c.if-place-processes.false)
+    (subst (λ (n : ℕ). n ≤ c.args.target) (c.processes.ensures.exact ∙ ap (λ (v : Grouping). v.processes) c.groups.ensures)
+    c.if-place-processes.false)
     (λ k.
     subst (λ (v : Grouping). owner_of v k < v.processes) c.groups.ensures
     (subst (λ (n : ℕ). owner_of c.groups.result.now k < n) c.processes.ensures.exact (c.processes.ensures.owned k))))

@@ -24,13 +24,15 @@ pub routes-requires-2 : goal.routes-requires-2
 routes-requires-2 g c =
     let cut = c.args.common.now.cut.now in
     subst (λ (ls : List Link). IsNonDecreasingBy (λ (l : Link). l.from) ls) (sym c.entrances-entrances.ensures)
-    (IsNonDecreasingBy-filter (λ (l : Link). l.from) (λ (l : Link). owned_by cut.grouping c.args.process l.to) cut.entrances c.requires.rises.entrances)
+    (IsNonDecreasingBy-filter (λ (l : Link). l.from) (λ (l : Link). owned_by cut.grouping c.args.process l.to) cut.entrances
+    c.requires.rises.entrances)
 
 pub routes-requires-3 : goal.routes-requires-3
 routes-requires-3 g c =
     let cut = c.args.common.now.cut.now in
     subst (λ (ls : List Link). IsNonDecreasingBy (λ (l : Link). l.from) ls) (sym c.exits.ensures)
-    (IsNonDecreasingBy-filter (λ (l : Link). l.from) (λ (l : Link). owned_by cut.grouping c.args.process l.from) cut.exits c.requires.rises.exits)
+    (IsNonDecreasingBy-filter (λ (l : Link). l.from) (λ (l : Link). owned_by cut.grouping c.args.process l.from) cut.exits
+    c.requires.rises.exits)
 
 pub returns : goal.returns
 returns g c =

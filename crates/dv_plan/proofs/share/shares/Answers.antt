@@ -42,7 +42,8 @@ loop-process-preserved g c =
             count = ap length items ∙ length-append old (share ∷ []) ∙ ap (λ (n : ℕ). n + 1) invariant.count;
             made = λ p s e.
                 made_more c.args.common.now (map (λ l. l.items) all) c.args.models.now old share i list.items w.in_ok-models.models.items
-                invariant.made invariant.count (get_or-map (λ l. l.items) all i list [] lt ∙ ap (λ l. l.items) first.0) w.in_ok-models.ensures
+                invariant.made invariant.count (get_or-map (λ l. l.items) all i list [] lt ∙ ap (λ l. l.items) first.0)
+                w.in_ok-models.ensures
                 w.in_ok-share.ensures p s (subst (λ xs. slice_get xs p ≡ Some s) items e);
           }
       | in_default w ↦

@@ -20,7 +20,8 @@ routes-requires c =
     let cut = c.args.cut.now in
     let target = (get_or c.args.away.now c.loop-link.link-index nowhere).target in
     subst (λ (ls : List Link). IsNonDecreasingBy (λ (l : Link). l.from) ls) (sym c.links_to.ensures)
-    (IsNonDecreasingBy-filter (λ (l : Link). l.from) (is_between (owned_by cut.grouping c.args.process) (owned_by cut.grouping target)) cut.direct c.requires.rises.direct)
+    (IsNonDecreasingBy-filter (λ (l : Link). l.from) (is_between (owned_by cut.grouping c.args.process) (owned_by cut.grouping target))
+    cut.direct c.requires.rises.direct)
 
 pub loop-link-preserved : goal.loop-link-preserved
 loop-link-preserved c =
@@ -34,5 +35,6 @@ loop-link-preserved c =
     ap (λ (ys : List Outgoing). ys ++ map (way_of cut p) (drop (i + 1) away))
     (ap (map outgoing_of) c.in_ok-push.ensures.items ∙ map-append outgoing_of old (way ∷ []))
     ∙ pushed (way_of cut p) away i nowhere (map outgoing_of old) (outgoing_of way) c.loop-link-test.true
-    (ap (λ (ls : List Link). let out : Outgoing = record { number = link.number; links = ls } in out) (c.in_ok-routes.ensures ∙ c.links_to.ensures))
+    (ap (λ (ls : List Link). let out : Outgoing = record { number = link.number; links = ls } in out) (c.in_ok-routes.ensures
+    ∙ c.links_to.ensures))
     ∙ c.loop-link.invariant

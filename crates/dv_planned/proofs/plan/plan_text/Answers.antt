@@ -37,17 +37,21 @@ new-requires c =
     record {
       members = record {
         rise = c.requires.components.rise;
-        each = all_lent c.args.job.now.limit c.in_ok-lent.lent.items c.args.models.now members c.in_ok-lent.ensures c.requires.components.among;
+        each = all_lent c.args.job.now.limit c.in_ok-lent.lent.items c.args.models.now members c.in_ok-lent.ensures
+            c.requires.components.among;
       };
       few = omega (arith, few, count);
       direct =
-          links_rise links.direct.items (map direct_of (direct_links f)) (c.in_ok-between.ensures.direct ∙ ap (map direct_of) c.requires.links.direct)
+          links_rise links.direct.items (map direct_of (direct_links f)) (c.in_ok-between.ensures.direct
+          ∙ ap (map direct_of) c.requires.links.direct)
           (c.links_rise.ensures.direct f);
       entrances =
-          links_rise links.entrances.items (map entry_of (entry_links f)) (c.in_ok-between.ensures.entrances ∙ ap (map entry_of) c.requires.links.entries)
+          links_rise links.entrances.items (map entry_of (entry_links f)) (c.in_ok-between.ensures.entrances
+          ∙ ap (map entry_of) c.requires.links.entries)
           (entries_rise (entry_links f));
       exits =
-          links_rise links.exits.items (map exit_of (exit_links f)) (c.in_ok-between.ensures.exits ∙ ap (map exit_of) c.requires.links.exits)
+          links_rise links.exits.items (map exit_of (exit_links f)) (c.in_ok-between.ensures.exits
+          ∙ ap (map exit_of) c.requires.links.exits)
           (c.links_rise.ensures.exits f);
       holds = holds c.args.responses.items c.requires.components.short;
       responses = omega (arith, few, answers);
@@ -68,8 +72,10 @@ returns c =
       ports = c.input_count.result;
       outputs = c.output_count.result;
     } in
-    subst (λ (job : Job). IfOk c.new.result (IsPlanOf behaviour_of_lent lent_takes job)) (job_of_text f whole c.args.job.now.inputs.now c.args.job.now.groups.now (record {
-      members = members_lent c.args.job.now.limit c.in_ok-lent.lent.items c.args.models.now c.args.members.items c.in_ok-lent.ensures ∙ c.requires.components.members;
+    subst (λ (job : Job). IfOk c.new.result (IsPlanOf behaviour_of_lent lent_takes job))
+    (job_of_text f whole c.args.job.now.inputs.now c.args.job.now.groups.now (record {
+      members = members_lent c.args.job.now.limit c.in_ok-lent.lent.items c.args.models.now c.args.members.items c.in_ok-lent.ensures
+          ∙ c.requires.components.members;
       direct = c.in_ok-between.ensures.direct ∙ ap (map direct_of) c.requires.links.direct;
       entrances = c.in_ok-between.ensures.entrances ∙ ap (map entry_of) c.requires.links.entries;
       exits = c.in_ok-between.ensures.exits ∙ ap (map exit_of) c.requires.links.exits;

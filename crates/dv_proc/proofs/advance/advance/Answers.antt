@@ -18,7 +18,8 @@ returns-clause-advance g c =
     record {
       instant = instant;
       next = next_due w limit (rank w.share.limit c.succ.result) (suc (rank limit c.args.clock)) (rank limit c.args.least)
-          (rank limit c.sooner-next.result) (rank limit c.sooner.result) c.next.result c.first_input-input.result le start c.next.ensures.least
+          (rank limit c.sooner-next.result) (rank limit c.sooner.result) c.next.result c.first_input-input.result le start
+          c.next.ensures.least
           c.first_input-input.ensures c.sooner-next.ensures.rank c.sooner.ensures.rank;
     }
 

@@ -15,7 +15,8 @@ use Rattle.dv_run.proofs.compiled.compiled_run.Goals as goal
 pub components_of-requires : goal.components_of-requires
 components_of-requires g c = record {
   compilable =
-      c.texts_are_compilable.ensures c.args.job.now.tree.now.names (file_of c.args.job.now.tree.now.file) c.requires.text c.requires.accepted;
+      c.texts_are_compilable.ensures c.args.job.now.tree.now.names (file_of c.args.job.now.tree.now.file) c.requires.text
+      c.requires.accepted;
 }
 
 pub run_components-requires-clause-components : goal.run_components-requires-clause-components

@@ -33,7 +33,8 @@ returns-clause-run c =
       begin =
           all_can_begin j.tree.now.names f j.inputs.now j.horizon j.limit j.groups.now.processes (owner_of j.groups.now)
           c.requires.text c.requires.accepted c.requires.numbers owned laws.sound laws.begun laws.apart_in laws.apart_out
-          plan planned (subst (AllByRecursion (λ (s : Share Lent). AllInputNumbers s.inputs)) c.deref.ensures.value c.shares_have_numbers.ensures);
+          plan planned (subst (AllByRecursion (λ (s : Share Lent). AllInputNumbers s.inputs)) c.deref.ensures.value
+          c.shares_have_numbers.ensures);
       sound = (
         fits_number (instances f),
         c.texts_are_jobs.ensures j.tree.now.names f j.inputs.now j.limit j.horizon j.groups.now.processes (owner_of j.groups.now)

@@ -5,7 +5,8 @@ use Rattle.dv_run.proofs.steps.compiled_steps.Goals as goal
 pub components_of-requires : goal.components_of-requires
 components_of-requires c = record {
   compilable =
-      c.texts_are_compilable.ensures c.args.job.now.tree.now.names (file_of c.args.job.now.tree.now.file) c.requires.text c.requires.accepted;
+      c.texts_are_compilable.ensures c.args.job.now.tree.now.names (file_of c.args.job.now.tree.now.file) c.requires.text
+      c.requires.accepted;
 }
 
 pub step_components-requires-clause-components : goal.step_components-requires-clause-components

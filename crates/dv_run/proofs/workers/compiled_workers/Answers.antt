@@ -16,7 +16,8 @@ use Rattle.dv_run.proofs.workers.compiled_workers.Goals as goal
 pub components_of-requires : goal.components_of-requires
 components_of-requires g c = record {
   compilable =
-      c.texts_are_compilable.ensures c.args.job.now.tree.now.names (file_of c.args.job.now.tree.now.file) c.requires.text c.requires.accepted;
+      c.texts_are_compilable.ensures c.args.job.now.tree.now.names (file_of c.args.job.now.tree.now.file) c.requires.text
+      c.requires.accepted;
 }
 
 pub work_components-requires-clause-components : goal.work_components-requires-clause-components

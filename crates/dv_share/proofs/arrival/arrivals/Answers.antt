@@ -81,6 +81,7 @@ returns-clause-emitted g c =
     subst (IsPermutation c.mark.new.deliveries.items) (sym c.deref-4.ensures.value) c.sort_unstable.ensures.permutation in
     on_ok_weaker c.collect.result
     (λ h.
-    marked_stand ms es sorted c.mark.new.deliveries.items ((entered ++ led) ++ deliveries_of ds) c.collect.new.received.items c.requires.emitted moved four
+    marked_stand ms es sorted c.mark.new.deliveries.items ((entered ++ led) ++ deliveries_of ds) c.collect.new.received.items
+    c.requires.emitted moved four
     (subst (λ (ms : List Member). AllStand ms (deliveries_of sorted) c.collect.new.received.items) c.deref-3.ensures.value h))
     c.collect.ensures.all

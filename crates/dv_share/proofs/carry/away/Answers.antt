@@ -22,7 +22,8 @@ returns c =
     let moved : IsPermutation all sorted = subst (IsPermutation all) (sym c.deref.ensures.value) c.sort_unstable.ensures.permutation in
     let led : deliveries_of all ≡ carried c.args.links.now (sent_in ms es) =
     c.in_ok-carry_emitted.ensures
-    ∙ ap (λ (ds : List Delivery). deliveries_of ds ++ carried (links_of c.as_slice.result.now) (sent_in ms es)) c.new-deliveries.ensures.items
+    ∙ ap (λ (ds : List Delivery). deliveries_of ds ++ carried (links_of c.as_slice.result.now) (sent_in ms es))
+    c.new-deliveries.ensures.items
     ∙ ap (λ (ls : List Link). carried ls (sent_in ms es)) c.as_slice.ensures.links in
     IfOk-weaker c.unite.result _ _
     (λ ds h.

@@ -8,7 +8,9 @@ use Rattle.dv_share.proofs.carry.carry_emitted.Goals as goal
 pub returns : goal.returns
 returns c =
     subst
-    (λ (ds : List Meant). IfOk c.carry_rows.result (λ _. deliveries_of c.carry_rows.new.deliveries.items ≡ deliveries_of c.args.deliveries.now.items ++ ds))
-    (rows_are_carried c.args.members.now (links_of c.args.links.now) c.args.emitted.now c.requires.numbers (rise_of c.args.links.now c.requires.links)
+    (λ (ds : List Meant). IfOk c.carry_rows.result (λ _. deliveries_of c.carry_rows.new.deliveries.items
+    ≡ deliveries_of c.args.deliveries.now.items ++ ds))
+    (rows_are_carried c.args.members.now (links_of c.args.links.now) c.args.emitted.now c.requires.numbers
+    (rise_of c.args.links.now c.requires.links)
     c.requires.emitted)
     c.carry_rows.ensures

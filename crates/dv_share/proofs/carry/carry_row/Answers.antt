@@ -25,8 +25,11 @@ loop-link-preserved c =
     let rest = carried (links_of (drop (i + 1) ls)) (λ k. sent) in
     let all = deliveries_of c.args.deliveries.now.items ++ carried (links_of ls) (λ k. sent) in
     let early : i < length ls = omega arith in
-    let bag = ap pairs_of c.run_of.ensures ∙ pairs_are l.from_port c.as_slice-sendings.result.now ∙ c.as_slice-sendings.ensures.bags l.from_port in
+    let bag = ap pairs_of c.run_of.ensures ∙ pairs_are l.from_port c.as_slice-sendings.result.now
+    ∙ c.as_slice-sendings.ensures.bags l.from_port in
     carry_more c.carry_sendings.new.deliveries.items old (carried_by (link_of l) (bag_at sent l.from_port)) rest all
     (c.in_ok-carry_sendings.ensures ∙ ap (λ ps. deliveries_of old ++ carried_by (link_of l) ps) bag)
-    (sym (ap (λ (ds : List Meant). deliveries_of old ++ ds) (ap (λ ms. carried (links_of ms) (λ k. sent)) (drop_next ls i l early (sym (get_or_from_slice_get ls i l l (slice_get-get_or ls i no_link early))))))
+    (sym (ap (λ (ds : List Meant). deliveries_of old ++ ds)
+    (ap (λ ms. carried (links_of ms) (λ k. sent))
+    (drop_next ls i l early (sym (get_or_from_slice_get ls i l l (slice_get-get_or ls i no_link early))))))
     ∙ c.loop-link.invariant)

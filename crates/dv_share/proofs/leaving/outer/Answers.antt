@@ -30,7 +30,8 @@ returns-clause-outer g c =
     let now = rank_of c.args.instant.now in
     let led : deliveries_of c.carry_emitted.new.deliveries.items ≡ carried t.exits (sent_in t.members.items es) =
     c.in_ok-carry_emitted.ensures
-    ∙ ap (λ (ds : List Delivery). deliveries_of ds ++ carried (links_of c.as_slice.result.now) (sent_in c.deref.result.now es)) c.clear.ensures.items
+    ∙ ap (λ (ds : List Delivery). deliveries_of ds ++ carried (links_of c.as_slice.result.now) (sent_in c.deref.result.now es))
+    c.clear.ensures.items
     ∙ ap (λ (ls : List Link). carried ls (sent_in c.deref.result.now es)) c.as_slice.ensures.links
     ∙ ap (λ (ms : List Member). carried t.exits (sent_in ms es)) c.deref.ensures.value in
     let bags =

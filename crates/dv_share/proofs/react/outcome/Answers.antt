@@ -12,7 +12,8 @@ use Rattle.dv_share.specs.declared.tables.Member.{Member}
 use Rattle.dv_share.proofs.react.outcome.Goals as goal
 
 -- three facts of what is answered make a fourth
-joined : {X E : Type 0} (P Q R T : X → Type 0) (r : Result X E) → IfOk r P → IfOk r Q → IfOk r R → ((x : X) → P x → Q x → R x → T x) → IfOk r T
+joined : {X E : Type 0} (P Q R T : X → Type 0) (r : Result X E) → IfOk r P → IfOk r Q → IfOk r R → ((x : X) → P x → Q x → R x → T x)
+    → IfOk r T
 joined P Q R T (Ok x) p q s f = f x p q s
 joined P Q R T (Err e) p q s f = tt
 

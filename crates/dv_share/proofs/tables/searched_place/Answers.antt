@@ -4,7 +4,8 @@ use Rattle.std.proofs.lemmas.Option.{get_or_from_slice_get, slice_get-get_or, sl
 use Rattle.std.proofs.lemmas.List.Sorted.{IsPartitionPoint-from_clause, IsPartitionedBy-ltb}
 use Rattle.dv_share.specs.declared.tables.Member.{Member}
 use Rattle.dv_share.proofs.Order.{never_falls, nowhere}
-use Rattle.dv_share.proofs.tables.searched_place.Goals.{else-place-members-via-then-place-members+else-members-place, else-place-members-via-else-place-members}
+use Rattle.dv_share.proofs.tables.searched_place.Goals.{else-place-members-via-then-place-members+else-members-place}
+use Rattle.dv_share.proofs.tables.searched_place.Goals.{else-place-members-via-else-place-members}
 use Rattle.dv_share.proofs.tables.searched_place.Goals as goal
 
 pub returns-else-place-members : goal.returns-else-place-members
@@ -22,7 +23,9 @@ returns-else-place-members c =
       | else-place-members-via-then-place-members+else-members-place w ↦
           absurd
           (w.if-members-place.false
-          (ap (λ (x : Member). x.number) (get_or_from_slice_get xs c.partition_point-place.result (get_or xs c.partition_point-place.result d) w.index-members-place.result (slice_get-get_or xs c.partition_point-place.result d lt)) ∙ e))
+          (ap (λ (x : Member). x.number) (get_or_from_slice_get xs c.partition_point-place.result
+          (get_or xs c.partition_point-place.result d) w.index-members-place.result
+          (slice_get-get_or xs c.partition_point-place.result d lt)) ∙ e))
       | else-place-members-via-else-place-members w ↦ absurd (omega (arith, lt, w.if-place-members.false))
     ])
     p m (slice_get_within xs p m at) (ap (λ (m : Member). m.number) (get_or_from_slice_get xs p m m at) ∙ e)

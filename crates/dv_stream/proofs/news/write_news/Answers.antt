@@ -10,7 +10,8 @@ returns-in_err-written-clause-err g c =
     let contents = g.W.Write.contents in
     let old = contents c.loop.writer in
     let new = contents c.write_posted.new.writer in
-    OnErr-always _ (begun_from job c.args.tree.now c.a_trace_is_its_pieces.ensures.lines {a = contents c.args.writer.now} {b = old} {c = new}
+    OnErr-always _ (begun_from job c.args.tree.now c.a_trace_is_its_pieces.ensures.lines {a = contents c.args.writer.now} {b = old}
+    {c = new}
     c.loop.written c.loop.invariant.written
     (subst (λ t. Falters job t old new c.loop.written) c.loop.invariant.tree c.in_err-written.ensures.err))
 

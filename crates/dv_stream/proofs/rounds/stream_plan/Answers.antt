@@ -40,7 +40,8 @@ returns-in_err-parts-clause-err g c =
     let w = c.in_ok-ended.written in
     let within : rank (means c.args.job).limit w.mark ≤ end_of (means c.args.job).limit (means c.args.job).horizon
     = subst (λ j. rank (means j).limit w.mark ≤ end_of (means j).limit (means j).horizon) same
-    (subst (λ t. rank (means after.job).limit t ≤ end_of (means after.job).limit (means after.job).horizon) (sym c.in_ok-ended.ensures.least)
+    (subst (λ t. rank (means after.job).limit t ≤ end_of (means after.job).limit (means after.job).horizon)
+    (sym c.in_ok-ended.ensures.least)
     (least_within (means after.job) (parts_in means state after) (clocks_in means state after)
     (reached_in means state after c.in_ok-ended.ensures.true_to_model) some)) in
     OnErr-always _ (begun_to (means c.args.job) tree start now w

@@ -55,7 +55,8 @@ loop-left-init g c =
       same = c.serial-ended.ensures.job;
       tree = c.write_more.ensures.tree;
       rounds =
-          subst (λ (n : ℕ). EndsAs job n c.serial-ended.result (shown means state c.args.world.now) (shown means state c.serial-ended.new.self))
+          subst (λ (n : ℕ). EndsAs job n c.serial-ended.result (shown means state c.args.world.now)
+          (shown means state c.serial-ended.new.self))
           gone c.serial-ended.ensures.rounds;
       true_to_model = c.serial-ended.ensures.true_to_model;
       written =

@@ -5,7 +5,8 @@ use Rattle.dv_time.specs.declared.time.Time.{Time}
 use Rattle.dv_bag.specs.Part.{IsByTime, PartOf, before, since}
 use Rattle.dv_serial.specs.Clocks.{least_time}
 use Rattle.dv_text.proofs.Taking.{OnErr-always}
-use Rattle.dv_stream.proofs.Between.{all_given, in_order, least_within, map_twice, mark_of_run, mark_order, mark_within, parts_by_time, pieces_are}
+use Rattle.dv_stream.proofs.Between.{all_given, in_order, least_within, map_twice, mark_of_run, mark_order, mark_within}
+use Rattle.dv_stream.proofs.Between.{parts_by_time, pieces_are}
 use Rattle.dv_stream.proofs.Writing.{falters_at_once}
 use Rattle.dv_stream.proofs.rounds.write_more.Goals as goal
 

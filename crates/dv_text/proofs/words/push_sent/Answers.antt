@@ -1,4 +1,5 @@
-use Rattle.std.proofs.Common.{◌≤◌, ◌<◌, ◌+◌, ◌++◌, [], List, ℕ, ap, append-nil, ◌∙◌, sym, inl, inr, length, drop, get_or, string_bytes, arith}
+use Rattle.std.proofs.Common.{◌≤◌, ◌<◌, ◌+◌, ◌++◌, [], List, ℕ, ap, append-nil, ◌∙◌, sym, inl, inr, length, drop, get_or}
+use Rattle.std.proofs.Common.{string_bytes, arith}
 use Rattle.std.proofs.lemmas.List.{drop_all, drop_more}
 use Rattle.dv_bag.specs.Bag.{bag_at}
 use Rattle.dv_tree.specs.Paths.{texts_of}

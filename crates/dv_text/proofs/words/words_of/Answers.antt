@@ -7,5 +7,6 @@ returns-then-component-component_count c = sym (names_at-past c.args.tree.now c.
 
 pub returns : goal.returns
 returns c =
-    let found = names_at-found c.args.tree.now c.args.component c.path.result.now c.scope-scope.result.now c.path.ensures c.scope-scope.ensures in
+    let found = names_at-found c.args.tree.now c.args.component c.path.result.now c.scope-scope.result.now c.path.ensures
+    c.scope-scope.ensures in
     rw (c.phases.ensures, c.variables.ensures, c.outputs.ensures) found

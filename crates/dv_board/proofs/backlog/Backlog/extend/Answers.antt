@@ -17,7 +17,8 @@ returns-in-Err-clause-refused g c =
     let within : p < length held = omega (arith, many, c.requires.process) in
     let at = c.index_mut-held.ensures.value in
     let is = c.self.invariant.each p h (slice_get-get_or held p h within ∙ ap Some (sym at)) in
-    subst (λ (b : BacklogOf). IsNoLater job c.args.piece.from (clock_of b p) × IsSooner job (clock_of b p) c.args.piece.clock) c.self.view_is
+    subst (λ (b : BacklogOf). IsNoLater job c.args.piece.from (clock_of b p) × IsSooner job (clock_of b p) c.args.piece.clock)
+    c.self.view_is
     (subst (λ (t : Time). IsNoLater job c.args.piece.from t × IsSooner job t c.args.piece.clock) (sym (clock_read held p h within at)) (
       no_later job h.clock c.args.piece.from is.of_run c.requires.from_of_run (sym c.is_before.ensures.order ∙ c.if-is_before.false),
       sooner job h.clock c.args.piece.clock is.of_run c.requires.of_run c.in-Err.ensures.more,
@@ -33,10 +34,12 @@ invariant_of-self-2 g c =
     let many = c.self.invariant.many in
     let within : p < length held = omega (arith, many, c.requires.process) in
     let is = c.self.invariant.each p h (slice_get-get_or held p h within ∙ ap Some (sym c.index_mut-held.ensures.value)) in
-    let low = no_later job h.clock c.args.piece.from is.of_run c.requires.from_of_run (sym c.is_before.ensures.order ∙ c.if-is_before.false) in
+    let low = no_later job h.clock c.args.piece.from is.of_run c.requires.from_of_run (sym c.is_before.ensures.order
+    ∙ c.if-is_before.false) in
     held_set job mark held p c.join.new.self c.self.invariant
     (subst (IsHeld job mark p) (sym c.in_default.ensures.ok)
-    (piece_is_held job mark p h c.args.piece.part c.args.piece.from c.args.piece.clock is c.requires.of_run c.requires.within low c.requires.part))
+    (piece_is_held job mark p h c.args.piece.part c.args.piece.from c.args.piece.clock is c.requires.of_run c.requires.within low
+    c.requires.part))
 
 pub returns-clause-clocks : goal.returns-clause-clocks
 returns-clause-clocks g c =
@@ -46,7 +49,8 @@ returns-clause-clocks g c =
     let many = c.self.invariant.many in
     let within : p < length held = omega (arith, many, c.requires.process) in
     let read = clock_read held p h within c.index_mut-held.ensures.value in
-    subst (λ (b : BacklogOf). clocks_of (set held p c.join.new.self) ≡ set b.clocks p (later (clock_of b p) c.args.piece.clock)) c.self.view_is
+    subst (λ (b : BacklogOf). clocks_of (set held p c.join.new.self) ≡ set b.clocks p (later (clock_of b p) c.args.piece.clock))
+    c.self.view_is
     (clocks_set held p c.join.new.self
     ∙ ap (set (clocks_of held) p)
     (ap (λ (g : Held). g.clock) c.in_default.ensures.ok

@@ -9,6 +9,7 @@ pub returns-clause-given : goal.returns-clause-given
 returns-clause-given c =
     let p = c.args.program.now in
     let received = c.args.arrivals.now.received in
-    subst (λ (s : State). GivesAs change_of c.change.result (change_of_effect (effect_by p (arriving received 0) s))) c.in_ok-clone.ensures.cases
+    subst (λ (s : State). GivesAs change_of c.change.result (change_of_effect (effect_by p (arriving received 0) s)))
+    c.in_ok-clone.ensures.cases
     (subst (λ (n : ℕ). GivesAs change_of c.change.result (change_of_effect (effect_by p (arriving received n) c.in_ok-clone.field-0)))
     c.requires.at_once c.change.ensures.given)

@@ -35,7 +35,8 @@ returns-clause-known c =
     (model_there (file_of c.args.tree.now.file).models (instances (file_of c.args.tree.now.file)) c.args.component
     c.model_place-place.result m c.model_place-place.ensures.model c.atomic.ensures)
     (read-there c.args.self.now.places.items c.model_place-place.result c.index.result.now
-    (omega (arith, c.model_place-place.ensures.within, c.requires.known.count)) c.index.ensures ∙ ap Some (none-else c.index.result.now c.in_default.not-Some)) refl refl refl
+    (omega (arith, c.model_place-place.ensures.within, c.requires.known.count)) c.index.ensures
+    ∙ ap Some (none-else c.index.result.now c.in_default.not-Some)) refl refl refl
 
 pub returns-clause-model : goal.returns-clause-model
 returns-clause-model c = λ m at.

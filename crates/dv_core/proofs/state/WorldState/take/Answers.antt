@@ -1,5 +1,6 @@
 use Rattle.std.proofs.Common.{◌∷◌, ap, refl, sym, ◌∙◌, arith, rules}
-use Rattle.dv_core.proofs.Answering.{ends, flagged, only_memory, receiver_valid, take_accepts, take_stopped, take_empty, take_refused, take_done}
+use Rattle.dv_core.proofs.Answering.{ends, flagged, only_memory, receiver_valid, take_accepts, take_stopped, take_empty}
+use Rattle.dv_core.proofs.Answering.{take_refused, take_done}
 use Rattle.dv_core.proofs.Lookups.{empty_of}
 use Rattle.dv_core.proofs.state.WorldState.take.Goals as goal
 

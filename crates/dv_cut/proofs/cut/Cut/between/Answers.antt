@@ -22,7 +22,8 @@ list_at-requires c =
     ∙ ap length c.self.invariant.between
     ∙ lists_long (pair_key g) (n * n) c.self.inside.links.direct.items in
     let within = mul-add-lt p n q n (subst (λ k. p < k) all c.requires.source) (subst (λ k. q < k) all c.requires.target) in
-    subst (λ k. p * k + q < length c.deref.result.now) (sym c.processes-processes.ensures.exact) (subst (λ k. p * n + q < k) (sym long) within)
+    subst (λ k. p * k + q < length c.deref.result.now) (sym c.processes-processes.ensures.exact)
+    (subst (λ k. p * n + q < k) (sym long) within)
 
 pub returns : goal.returns
 returns c =
@@ -31,7 +32,8 @@ returns c =
     let p = c.args.source in
     let q = c.args.target in
     let direct = c.self.inside.links.direct.items in
-    let below : (k : ℕ) → owner_of g k < n = λ k. subst (λ m. owner_of g k < m) c.processes-processes.ensures.exact (c.processes-processes.ensures.owned k) in
+    let below : (k : ℕ) → owner_of g k < n = λ k. subst (λ m. owner_of g k < m) c.processes-processes.ensures.exact
+    (c.processes-processes.ensures.owned k) in
     let all = sym (ap (λ v. v.grouping.processes) c.self.view_is) in
     let lp = subst (λ k. p < k) all c.requires.source in
     let lq = subst (λ k. q < k) all c.requires.target in

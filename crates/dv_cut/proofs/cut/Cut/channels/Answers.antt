@@ -25,7 +25,8 @@ pub returns : goal.returns
 returns c =
     let g = c.self.inside.groups.now in
     let direct = c.self.inside.links.direct.items in
-    let below : (k : ℕ) → owner_of g k < g.processes = λ k. subst (λ m. owner_of g k < m) c.processes.ensures.exact (c.processes.ensures.owned k) in
+    let below : (k : ℕ) → owner_of g k < g.processes = λ k. subst (λ m. owner_of g k < m) c.processes.ensures.exact
+    (c.processes.ensures.owned k) in
     let lists = lists_by (pair_key g) (g.processes * g.processes) direct in
     let P : List Meant → Type 0 = λ cs. IfOk c.channels.result (λ found. map meant_channel found.items ≡ cs) in
     subst P

@@ -29,7 +29,8 @@ returns-clause-is_kept g c =
     let es = c.args.events.now in
     let old : Arrivals = s.inbox in
     let new : Arrivals = c.add_all.new.self in
-    let comings : c.deref.result.now ≡ map coming_of (filter (brings s.share.tables.limit) es) = c.deref.ensures.value ∙ c.in_ok-comings.ensures in
+    let comings : c.deref.result.now ≡ map coming_of (filter (brings s.share.tables.limit) es) = c.deref.ensures.value
+    ∙ c.in_ok-comings.ensures in
     let here : are_for_ports (view_by g.A.Atomic.behaviour s).share (meant_events es) ≡ true =
     subst (λ (v : View). are_for_ports v.share (meant_events es) ≡ true) (sym c.settle.ensures.view) c.requires.ports in
     record {
@@ -58,7 +59,8 @@ returns-clause-kept g c =
     let es = c.args.events.now in
     let old : Arrivals = s.inbox in
     let new : Arrivals = c.add_all.new.self in
-    let comings : c.deref.result.now ≡ map coming_of (filter (brings s.share.tables.limit) es) = c.deref.ensures.value ∙ c.in_ok-comings.ensures in
+    let comings : c.deref.result.now ≡ map coming_of (filter (brings s.share.tables.limit) es) = c.deref.ensures.value
+    ∙ c.in_ok-comings.ensures in
     let view : view_by b s ≡ view_by b c.args.self.now = c.settle.ensures.view in
     on_ok c.add_all.result _ ((u : Time) → arrivals_at u new ≡ arrivals_at u old ++ coming_at u c.deref.result.now) c.add_all.ensures.added
     (λ added. record {
@@ -68,11 +70,14 @@ returns-clause-kept g c =
       visits = ap (λ (v : View). v.visits) view;
       held = λ n.
           let u = time_of limit n in
-          let e : arrivals_but s.undo.taken u new ≡ arrivals_but s.undo.taken u old ++ coming_at u (map coming_of (filter (brings s.share.tables.limit) es)) =
-          subst (λ (o : Option Time). arrivals_but o u new ≡ arrivals_but o u old ++ coming_at u (map coming_of (filter (brings s.share.tables.limit) es)))
+          let e : arrivals_but s.undo.taken u new ≡ arrivals_but s.undo.taken u old ++ coming_at u
+          (map coming_of (filter (brings s.share.tables.limit) es)) =
+          subst (λ (o : Option Time). arrivals_but o u new
+          ≡ arrivals_but o u old ++ coming_at u (map coming_of (filter (brings s.share.tables.limit) es)))
           (sym c.settle.ensures.at_rest.taken)
           (added u ∙ ap (λ (cs : List Coming). arrivals_at u old ++ coming_at u cs) comings) in
-          subst (λ (v : View). DeliverAlike (held_by limit s.undo.taken new n) (v.held n ++ deliveries_at v.share.limit (meant_events es) n)) view
+          subst (λ (v : View). DeliverAlike (held_by limit s.undo.taken new n)
+          (v.held n ++ deliveries_at v.share.limit (meant_events es) n)) view
           (kept_alike limit n (arrivals_but s.undo.taken u old) (arrivals_but s.undo.taken u new) es e);
     })
 

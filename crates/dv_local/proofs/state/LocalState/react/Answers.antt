@@ -54,15 +54,19 @@ returns-clause-reacted g c =
     let held : ds ≡ map delivered_by (arrivals_at c.args.now x.inbox) =
     c.deref.ensures.value ∙ c.in_ok-held.ensures ∙ ap (λ (ys : List Arrival). map delivered_by ys) c.at.ensures in
     let among : AreAmong (places_of gs) (places_of xs) =
-    subst (λ (fs : List (Placed (Result (List Counts) Fault))). AreAmong (places_of fs) (places_of xs)) same-es c.in_ok-arrivals.ensures.emitted in
+    subst (λ (fs : List (Placed (Result (List Counts) Fault))). AreAmong (places_of fs) (places_of xs)) same-es
+    c.in_ok-arrivals.ensures.emitted in
     let received : AreReceived t.members.items (coming t gs outside meant) xs =
     subst (λ (fs : List (Placed (Result (List Counts) Fault))). AreReceived t.members.items (coming t fs outside meant) xs) same-es
     c.in_ok-arrivals.ensures.received in
     let reacted : HaveReacted b fits t n rs gs xs (places_of xs) put x.committed.entries c.commit.new.committed.entries =
-    subst (λ (old : List Entry). HaveReacted b fits t n rs gs xs (places_of xs) put old c.commit.new.committed.entries) c.in_ok-outer.ensures.entries
-    (subst (λ (ys : List (Placed (List Counts))). HaveReacted b fits t n rs gs ys (places_of ys) put c.outer.new.committed.entries c.commit.new.committed.entries)
+    subst (λ (old : List Entry). HaveReacted b fits t n rs gs xs (places_of xs) put old c.commit.new.committed.entries)
+    c.in_ok-outer.ensures.entries
+    (subst (λ (ys : List (Placed (List Counts))). HaveReacted b fits t n rs gs ys (places_of ys) put c.outer.new.committed.entries
+    c.commit.new.committed.entries)
     c.deref-2.ensures.value
-    (subst (λ (fs : List (Placed (Result (List Counts) Fault))). HaveReacted b fits t n rs fs c.deref-2.result.now (places_of c.deref-2.result.now) put
+    (subst (λ (fs : List (Placed (Result (List Counts) Fault))). HaveReacted b fits t n rs fs c.deref-2.result.now
+    (places_of c.deref-2.result.now) put
     c.outer.new.committed.entries c.commit.new.committed.entries) same-es c.in_ok-commit.ensures.reacted)) in
     let outer =
     c.in_ok-commit.ensures.outer ∙ c.in_ok-outer.ensures.outer
@@ -109,7 +113,8 @@ returns-clause-visits g c =
     let put : c.len.result ≡ entries_at v n =
     omega (arith, c.len.ensures, c.commit.new.before.ok.0, c.in_ok-commit.ensures.count, grown, none, old) in
     let stood = c.in_ok-commit.ensures.visits in
-    let never : x.components.visits ≤ c.count.new.self.visits = subst (λ (k : ℕ). k ≤ c.count.new.self.visits) stood c.count.ensures.never_fall in
+    let never : x.components.visits ≤ c.count.new.self.visits = subst (λ (k : ℕ). k ≤ c.count.new.self.visits) stood
+    c.count.ensures.never_fall in
     let count : c.count.new.self.visits ≡ min (x.components.visits + c.len.result) (2 ^ 64 - 1) =
     c.count.ensures.visits ∙ ap (λ (k : ℕ). min (k + c.len.result) (2 ^ 64 - 1)) stood in
     instant_counted n v (view_by b x) w c.len.result found put never count
@@ -121,5 +126,8 @@ outside_at-requires g c =
     let x = c.emit.new.self in
     let v : View = view_by b c.args.self.now in
     let found : IsAfterEmission (rank v.share.limit c.args.now) v (view_by b x) =
-    subst (λ (y : View). IsAfterEmission (rank y.share.limit c.args.now) y (view_by b x)) c.settle.ensures.view c.emit.ensures.found in
-    (x.share.tables.limit, subst (λ (s : Share). IsOfRun s.limit c.args.now) (sym found.share) c.requires.of_run, c.emit.ensures.kept.share.of_run)
+    subst (λ (y : View). IsAfterEmission (rank y.share.limit c.args.now) y (view_by b x)) c.settle.ensures.view c.emit.ensures.found in (
+      x.share.tables.limit,
+      subst (λ (s : Share). IsOfRun s.limit c.args.now) (sym found.share) c.requires.of_run,
+      c.emit.ensures.kept.share.of_run,
+    )

@@ -33,7 +33,8 @@ returns g c =
     let es = c.as_slice-emitted.result.now in
     let within : p < length ws = omega arith in
     let there : slice_get x.share.ways.items p ≡ Some w =
-    subst (λ (vs : List Way). slice_get vs p ≡ Some w) c.as_slice-ways.ensures.value (slice_get-get_or ws p w within ∙ ap Some (sym c.index-ways-place.is)) in
+    subst (λ (vs : List Way). slice_get vs p ≡ Some w) c.as_slice-ways.ensures.value (slice_get-get_or ws p w within
+    ∙ ap Some (sym c.index-ways-place.is)) in
     let led : deliveries_of c.deref.result.now ≡ in_order (carried w.links (sent_in ms es)) =
     ap (λ (ds : List Delivery). deliveries_of ds) c.deref.ensures.value ∙ c.in_ok-deliveries.ensures
     ∙ ap (λ (v : Way). in_order (carried v.links (sent_in ms es))) (sym c.index-ways-place.is) in

@@ -18,8 +18,10 @@ returns-clause-kept g c =
       components = c.requires.components;
       agenda = c.requires.agenda;
       arrive = still_arrive t.limit t.members.items x.undo.taken x.inbox c.let_go.new.inbox c.let_go.ensures c.requires.arrive;
-      within = subst (λ (xs : List (Placed Running)). AreWithin (length rs) xs) (sym c.clear.ensures.items) (all_none (λ (p : Placed Running). p.place < length rs));
-      before = subst (λ (xs : List (Placed Running)). AreComponents g.A.Atomic.fits t (undone xs rs)) (sym c.clear.ensures.items) c.requires.components;
+      within = subst (λ (xs : List (Placed Running)). AreWithin (length rs) xs) (sym c.clear.ensures.items)
+          (all_none (λ (p : Placed Running). p.place < length rs));
+      before = subst (λ (xs : List (Placed Running)). AreComponents g.A.Atomic.fits t (undone xs rs)) (sym c.clear.ensures.items)
+          c.requires.components;
       emitted = c.requires.emitted;
       still = c.requires.still;
     }

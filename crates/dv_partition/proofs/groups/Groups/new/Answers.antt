@@ -11,7 +11,8 @@ use Rattle.dv_partition.proofs.groups.Groups.new.Goals as goal
 pub parted-requires : goal.parted-requires
 parted-requires c =
     let owners = c.args.owners.items in
-    let numbers = c.in_ok-numbers.ensures ∙ ap (range_with_len 0) (c.len.ensures ∙ sym c.deref.ensures.len ∙ ap length c.deref.ensures.value) in
+    let numbers = c.in_ok-numbers.ensures
+    ∙ ap (range_with_len 0) (c.len.ensures ∙ sym c.deref.ensures.len ∙ ap length c.deref.ensures.value) in
     ap length c.deref.ensures.value
     ∙ sym (length-range_with_len 0 (length owners)) ∙ sym (ap length numbers)
 
@@ -19,7 +20,8 @@ pub invariant_of-result : goal.invariant_of-result
 invariant_of-result c =
     let owners = c.args.owners.items in
     let n = c.args.processes in
-    let numbers = c.in_ok-numbers.ensures ∙ ap (range_with_len 0) (c.len.ensures ∙ sym c.deref.ensures.len ∙ ap length c.deref.ensures.value) in
+    let numbers = c.in_ok-numbers.ensures
+    ∙ ap (range_with_len 0) (c.len.ensures ∙ sym c.deref.ensures.len ∙ ap length c.deref.ensures.value) in
     let long : length c.in_ok-members.members.items ≡ n =
     sym (length-map c.in_ok-members.members.items (λ list. list.items))
     ∙ ap length c.in_ok-members.ensures

@@ -72,7 +72,8 @@ pub shares-requires-clause-rise : goal.shares-requires-clause-rise
 shares-requires-clause-rise g c =
     let groups = c.args.groups.now in
     let ms = c.args.whole.members.items in
-    subst (λ (lists : List (List Member)). AllByRecursion (λ (xs : List Member). AreRising (numbers_of xs)) lists) (sym c.in_ok-members.ensures.each)
+    subst (λ (lists : List (List Member)). AllByRecursion (λ (xs : List Member). AreRising (numbers_of xs)) lists)
+    (sym c.in_ok-members.ensures.each)
     (all_made (λ (xs : List Member). AreRising (numbers_of xs)) (λ p. members_of groups p ms)
     (λ p. rise_kept (λ (m : Member). owned_by groups p m.number) 0 ms c.requires.members.rise) (range_with_len 0 groups.processes))
 
@@ -90,7 +91,8 @@ returns g c =
       links = links;
       count = count;
       shares =
-          shares_of_plan g.A.Atomic.behaviour g.A.Atomic.fits w c.args.inputs.now groups (map (λ l. l.items) members) c.deref-4.result.now c.in_ok-shares.shares.items
+          shares_of_plan g.A.Atomic.behaviour g.A.Atomic.fits w c.args.inputs.now groups (map (λ l. l.items) members) c.deref-4.result.now
+          c.in_ok-shares.shares.items
           c.in_ok-shares.ensures.made c.requires (record {
             limit = refl;
             horizon = refl;
@@ -100,7 +102,8 @@ returns g c =
             links = ap (λ (cs : List Channel). map meant_channel cs) c.deref-2.ensures.value ∙ links;
             responses =
                 ap (λ (rs : List Response). map ticks_of rs) c.deref-3.ensures.value ∙ c.in_ok-least.ensures
-                ∙ ap (λ (rs : List Response). map (λ p. least_response (owner_of groups) p 0 (map ticks_of rs)) (range_with_len 0 groups.processes))
+                ∙ ap (λ (rs : List Response). map (λ p. least_response (owner_of groups) p 0 (map ticks_of rs))
+                (range_with_len 0 groups.processes))
                 c.deref.ensures.value;
             inputs = refl;
           })

@@ -13,7 +13,8 @@ use Rattle.dv_proc.proofs.process.Process.finish.Goals as goal
 
 pub promise_at-upto-requires-clause-within : goal.promise_at-upto-requires-clause-within
 promise_at-upto-requires-clause-within g c =
-    least_before_end (g.L.Local.view c.args.self.now.local).share c.args.self.now.incoming.items c.args.frame.now.limit c.args.frame.now.horizon
+    least_before_end (g.L.Local.view c.args.self.now.local).share c.args.self.now.incoming.items c.args.frame.now.limit
+    c.args.frame.now.horizon
     (rank c.args.frame.now.limit c.args.least) c.requires.limit c.requires.horizon c.requires.least
 
 pub returns-clause-process : goal.returns-clause-process
@@ -23,10 +24,13 @@ returns-clause-process g c =
     let back = written_back c.args.self.now.outgoing.len c.finish_all.new.outgoing c.args.self.now.outgoing.items count
     (sym c.as_mut_slice.ensures.len ∙ ap length c.as_mut_slice.ensures.value) in
     subst (λ (zs : List Outgoing). IsProcess (g.L.Local.view c.args.self.now.local) c.args.self.now.incoming.items zs c.args.now) (sym back)
-    (whole_process (g.L.Local.view c.args.self.now.local) c.args.self.now.incoming.items c.args.self.now.outgoing.items c.as_mut_slice.result.now c.finish_all.new.outgoing
-    c.args.emitted c.args.self.now.clock c.args.now c.promise_at-upto.result c.requires.midway c.args.frame.now.limit c.args.frame.now.horizon
+    (whole_process (g.L.Local.view c.args.self.now.local) c.args.self.now.incoming.items c.args.self.now.outgoing.items
+    c.as_mut_slice.result.now c.finish_all.new.outgoing
+    c.args.emitted c.args.self.now.clock c.args.now c.promise_at-upto.result c.requires.midway c.args.frame.now.limit
+    c.args.frame.now.horizon
     (rank c.args.frame.now.limit c.args.least) c.promise_at-upto.ensures.promise.0 c.requires.limit c.requires.horizon c.requires.least
-    c.promise_at-upto.ensures.promise.1.0 c.promise_at-upto.ensures.promise.1.1 c.promise_at-upto.ensures.of_run c.as_mut_slice.ensures.value
+    c.promise_at-upto.ensures.promise.1.0 c.promise_at-upto.ensures.promise.1.1 c.promise_at-upto.ensures.of_run
+    c.as_mut_slice.ensures.value
     c.finish_all.ensures c.requires.heard c.requires.goes)
 
 pub returns-clause-turn : goal.returns-clause-turn
@@ -38,10 +42,13 @@ returns-clause-turn g c =
     subst (λ (zs : List Outgoing).
     IsTurnOf (g.L.Local.view c.args.self.now.local).share (received_by c.args.self.now.incoming.items)
     (position_by c.args.self.now.clock c.args.self.now.outgoing.items) (position_by c.args.now zs)) (sym back)
-    (whole_turn (g.L.Local.view c.args.self.now.local) c.args.self.now.incoming.items c.args.self.now.outgoing.items c.as_mut_slice.result.now c.finish_all.new.outgoing
-    c.args.emitted c.args.self.now.clock c.args.now c.promise_at-upto.result c.requires.midway c.args.frame.now.limit c.args.frame.now.horizon
+    (whole_turn (g.L.Local.view c.args.self.now.local) c.args.self.now.incoming.items c.args.self.now.outgoing.items
+    c.as_mut_slice.result.now c.finish_all.new.outgoing
+    c.args.emitted c.args.self.now.clock c.args.now c.promise_at-upto.result c.requires.midway c.args.frame.now.limit
+    c.args.frame.now.horizon
     (rank c.args.frame.now.limit c.args.least) c.promise_at-upto.ensures.promise.0 c.requires.limit c.requires.horizon c.requires.least
-    c.promise_at-upto.ensures.promise.1.0 c.promise_at-upto.ensures.promise.1.1 c.promise_at-upto.ensures.of_run c.as_mut_slice.ensures.value
+    c.promise_at-upto.ensures.promise.1.0 c.promise_at-upto.ensures.promise.1.1 c.promise_at-upto.ensures.of_run
+    c.as_mut_slice.ensures.value
     c.finish_all.ensures c.requires.heard c.requires.goes)
 
 pub returns-clause-answer : goal.returns-clause-answer
@@ -54,15 +61,21 @@ returns-clause-answer g c =
     = subst (λ (l : ℕ). IsOfRun l c.args.now) (sym c.requires.limit) c.requires.midway.within.0 in
     subst (λ (zs : List Outgoing).
     meant_turned c.answer.result
-    ≡ turned (g.L.Local.view c.args.self.now.local).share (position_by c.args.self.now.clock c.args.self.now.outgoing.items) (position_by c.args.now zs)) (sym back)
-    (c.answer.ensures ∙ whole_answer (g.L.Local.view c.args.self.now.local) c.args.self.now.incoming.items c.args.self.now.outgoing.items c.as_mut_slice.result.now c.finish_all.new.outgoing
-    c.args.emitted c.args.self.now.clock c.args.now c.promise_at-upto.result c.requires.midway c.args.frame.now.limit c.args.frame.now.horizon
+    ≡ turned (g.L.Local.view c.args.self.now.local).share (position_by c.args.self.now.clock c.args.self.now.outgoing.items)
+    (position_by c.args.now zs)) (sym back)
+    (c.answer.ensures ∙ whole_answer (g.L.Local.view c.args.self.now.local) c.args.self.now.incoming.items c.args.self.now.outgoing.items
+    c.as_mut_slice.result.now c.finish_all.new.outgoing
+    c.args.emitted c.args.self.now.clock c.args.now c.promise_at-upto.result c.requires.midway c.args.frame.now.limit
+    c.args.frame.now.horizon
     (rank c.args.frame.now.limit c.args.least) c.promise_at-upto.ensures.promise.0 c.requires.limit c.requires.horizon c.requires.least
-    c.promise_at-upto.ensures.promise.1.0 c.promise_at-upto.ensures.promise.1.1 c.promise_at-upto.ensures.of_run c.as_mut_slice.ensures.value
+    c.promise_at-upto.ensures.promise.1.0 c.promise_at-upto.ensures.promise.1.1 c.promise_at-upto.ensures.of_run
+    c.as_mut_slice.ensures.value
     c.finish_all.ensures c.requires.heard c.requires.goes
     c.is_before.result c.are_free-free.result c.is_before-rose.result c.can_prepare_any-prepared.result
-    (c.is_before.ensures.rank c.args.frame.now.limit now c.end.ensures.of_run ∙ ap (nat_lt (rank c.args.frame.now.limit c.args.now)) c.end.ensures.rank)
-    (c.are_free-free.ensures ∙ ap (λ (zs : List Outgoing). list_all (λ (o : Outgoing). is_none o.standing) zs) (c.as_slice-2.ensures.value ∙ back))
+    (c.is_before.ensures.rank c.args.frame.now.limit now c.end.ensures.of_run ∙ ap (nat_lt (rank c.args.frame.now.limit c.args.now))
+    c.end.ensures.rank)
+    (c.are_free-free.ensures ∙ ap (λ (zs : List Outgoing). list_all (λ (o : Outgoing). is_none o.standing) zs) (c.as_slice-2.ensures.value
+    ∙ back))
     (c.is_before-rose.ensures.rank c.args.frame.now.limit c.requires.clock now)
     (c.can_prepare_any-prepared.ensures
     ∙ ap (λ (zs : List Outgoing). list_any (is_prepared c.promise_at-upto.result) zs) c.as_slice.ensures.value))

@@ -7,7 +7,8 @@ use Rattle.dv_proc.proofs.process.Process.new.Goals as goal
 
 pub returns-clause-process : goal.returns-clause-process
 returns-clause-process g c =
-    process_begun c.requires.sound.0 (g.L.Local.view c.args.local) c.in_ok-incoming.incoming.items c.in_ok-outgoing.outgoing.items c.requires.begun
+    process_begun c.requires.sound.0 (g.L.Local.view c.args.local) c.in_ok-incoming.incoming.items c.in_ok-outgoing.outgoing.items
+    c.requires.begun
     c.requires.sound.1
     (subst (λ (ns : List ℕ). AreNewIncoming ns c.in_ok-incoming.incoming.items) (sym c.requires.linked) c.in_ok-incoming.ensures)
     (subst (λ (ns : List ℕ). AreNewOutgoing ns c.in_ok-outgoing.outgoing.items) (sym c.requires.away) c.in_ok-outgoing.ensures)
