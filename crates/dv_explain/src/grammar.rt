@@ -61,7 +61,8 @@ const COLON: Part = Part::Sign(Symbol::Colon, ":");
 
 const COMMA: Part = Part::Sign(Symbol::Comma, ",");
 
-const DOT: Part = Part::Sign(Symbol::Dot, ".");
+/// The dot of a link's end; no other text has one.
+pub const DOT: Part = Part::Sign(Symbol::Dot, ".");
 
 const RANGE: Part = Part::Sign(Symbol::Range, "..");
 

@@ -1,7 +1,7 @@
 //! A token that can't stand where it stands: what may stand there, what was met, and what seems to be meant.
 
 use crate::expectations::{Expectations, expectations_at};
-use crate::grammar::{Part, SEMICOLON, is_comparison};
+use crate::grammar::{DOT, Part, SEMICOLON, is_comparison};
 use crate::met::met_at;
 use crate::slips::{begins_line, slip_at};
 use dv_lex::{Keyword, Symbol, Token, TokenKind, tokens};
@@ -43,6 +43,9 @@ fn hint_at(
     }
     if expected.have(SEMICOLON) && begins_line(text, place) {
         return "It begins a line: the line before may lack its `;`.\n";
+    }
+    if expected.have(DOT) {
+        return "An end of a link is `PART.PORT`, or `self.PORT` for a port of the model itself.\n";
     }
     let is_assigned = match next {
         Some(next) => next.kind == TokenKind::Symbol(Symbol::Assign),
