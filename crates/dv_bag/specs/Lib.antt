@@ -12,6 +12,7 @@ pub mod Part
 pub mod Reading
 pub mod Words
 -- What serves proofs.
+pub mod Bags
 pub mod InputSteps
 pub mod Same
 pub mod Sent

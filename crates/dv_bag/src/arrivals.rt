@@ -6,7 +6,8 @@ ghost use Rattle.dv_bag.specs.Arrivals.{AreFew, nothing_arrived};
 ghost use Rattle.dv_bag.specs.Bag.{bag_at, total};
 ghost use Rattle.dv_bag.specs.Limits.{greatest_count};
 
-use crate::bag::{Bag, Bags};
+use crate::bag::Bag;
+use crate::bags::Bags;
 use std::marker::Model;
 
 /// What an instant brings to an atomic model: the values that have arrived at the input ports, at most
@@ -56,8 +57,7 @@ impl<'a> Arrivals<'a> {
         ensures bag { unwrap_or (option_copied result) [] ≡ bag_at self.now.received port }
         ensures few { IfSome result (λ bag. total bag.now ≤ greatest_count) }
     {
-        let received = self.received?;
-        received.as_slice().get(port)
+        self.received?.get(port)
     }
 
     /// No bag has more values than it may. It does nothing.

@@ -1,13 +1,13 @@
 //! Bags of values.
 
 ghost use Rattle.std.specs.Cmp.{decided, partial_equiv_from_equiv};
-ghost use Rattle.std.specs.Prelude.{◌≡◌, ◌<◌, ◌≤◌, ◌*◌, ◌^◌, ◌*ℤ◌, ◌≤ℤ◌, neg_ℤ, pos, ◌↔◌, [], length, nat_eq, replicate};
-ghost use Rattle.std.specs.Prelude.{slice_set, unwrap_or, IfOk, IfErr, IfSome, OnOk, OnErr, IsOk, IsTrue};
+ghost use Rattle.std.specs.Prelude.{◌≡◌, ◌<◌, ◌≤◌, ◌*◌, ◌^◌, ◌*ℤ◌, ◌≤ℤ◌, neg_ℤ, pos, ◌↔◌, [], length, nat_eq};
+ghost use Rattle.std.specs.Prelude.{unwrap_or, IfOk, IfErr, IfSome, OnOk, OnErr, IsOk, IsTrue};
 ghost use Rattle.std.specs.Option.{option_copied};
 ghost use Rattle.smallvec.specs.SmallVec.{HasRoomFor};
-ghost use Rattle.dv_bag.specs.Bag.{IsBag, bag_at, count_of, least, most, place_of, size, size_of_all, sum_or_overflow, total};
+ghost use Rattle.dv_bag.specs.Bag.{IsBag, count_of, least, most, place_of, size, sum_or_overflow, total};
 ghost use Rattle.dv_bag.specs.Bag.{union, with_copies, without_one};
-ghost use Rattle.dv_bag.specs.Same.{same_bag, same_bags, same_bag-decides, same_bags-decides};
+ghost use Rattle.dv_bag.specs.Same.{same_bag, same_bag-decides};
 ghost use Rattle.dv_bag.specs.Numbers.{IsBagOfNumbers};
 ghost use Rattle.dv_bag.specs.Limits.{greatest_count};
 
@@ -273,138 +273,4 @@ impl PartialEq for Bag {
 
 impl Eq for Bag {
     ghost laws = { decided same_bag same_bag-decides };
-}
-
-/// Bags in the order of their ports.
-#[derive(Debug, Drop)]
-pub struct Bags {
-    bags: SmallVec<Bag, 2>,
-}
-
-impl Model for Bags {
-    ghost use Rattle.std.specs.Prelude.{List};
-    ghost use Rattle.dv_bag.specs.Bag.{Counts};
-
-    ghost Value = { List Counts };
-
-    ghost view = { λ b. b.bags.items };
-}
-
-impl Bags {
-    /// An empty bag for each of so many ports.
-    ///
-    /// # Errors
-    ///
-    /// No memory for so many bags.
-    pub fn empty(alloc: Global, ports: usize) -> Result<Self, AllocError>
-        ensures { IfOk result (λ bags. bags ≡ replicate ports []) }
-    {
-        let mut bags = SmallVec::with_capacity(alloc, ports)?;
-        for _ in 0..ports {
-            bags.push(Bag::new(alloc))?;
-        }
-        Ok(Bags { bags })
-    }
-
-    /// The number of ports.
-    pub fn len(&self) -> usize
-        ensures { result ≡ length self.now }
-    {
-        self.bags.len()
-    }
-
-    /// The bag of a port.
-    pub fn get(&self, port: usize) -> &Bag
-        requires { port < length self.now }
-        ensures { result.now ≡ bag_at self.now port }
-    {
-        &self.bags[port]
-    }
-
-    /// One more copy of a value at a port.
-    ///
-    /// # Errors
-    ///
-    /// No memory for a value that the bag lacks. All bags are as before.
-    pub fn insert(&mut self, port: usize, value: i64) -> Result<(), AllocError>
-        requires { port < length self.old }
-        ensures ok { OnOk result
-            (self.new ≡ slice_set self.old port (with_copies value 1 (bag_at self.old port))) }
-        ensures err { OnErr result (self.new ≡ self.old) }
-    {
-        let bag = &mut self.bags[port];
-        bag.insert(value)
-    }
-
-    /// So many more copies of a value at a port. No copies change nothing.
-    ///
-    /// # Errors
-    ///
-    /// No memory for a value that the bag lacks. All bags are as before.
-    pub fn insert_copies(&mut self, port: usize, value: i64, copies: u64) -> Result<(), AllocError>
-        requires { port < length self.old }
-        ensures ok { OnOk result
-            (self.new ≡ slice_set self.old port (with_copies value copies (bag_at self.old port))) }
-        ensures err { OnErr result (self.new ≡ self.old) }
-    {
-        let bag = &mut self.bags[port];
-        bag.insert_copies(value, copies)
-    }
-
-    /// The values of a bag at a port, beside those that are there.
-    ///
-    /// # Errors
-    ///
-    /// No memory for as many more values as the other bag has. All bags are as before.
-    pub fn union_at(&mut self, port: usize, values: &Bag) -> Result<(), AllocError>
-        requires { port < length self.old }
-        ensures ok { OnOk result
-            (self.new ≡ slice_set self.old port (union (bag_at self.old port) values.now)) }
-        ensures err { OnErr result (self.new ≡ self.old) }
-    {
-        let bag = &mut self.bags[port];
-        bag.union(values)
-    }
-
-    /// The number of values in all bags, each copy counted. One above 2^64-1 stands as that number.
-    pub fn total(&self) -> u64
-        ensures { result ≡ size_of_all self.now }
-    {
-        let mut total: u64 = 0;
-        for bag in self.bags.as_slice() {
-            total = total.saturating_add(bag.size());
-        }
-        total
-    }
-
-    /// The bags by port.
-    pub fn as_slice(&self) -> &[Bag]
-        ensures { result.now ≡ self.now }
-    {
-        self.bags.as_slice()
-    }
-}
-
-impl Clone for Bags {
-    ghost is_clone = { λ b c. c ≡ b };
-
-    fn clone(&self) -> Result<Self, AllocError> {
-        Ok(Bags {
-            bags: self.bags.clone()?,
-        })
-    }
-}
-
-impl PartialEq for Bags {
-    ghost eq = { same_bags };
-
-    ghost laws = { partial_equiv_from_equiv (decided same_bags same_bags-decides) };
-
-    fn eq(&self, other: &Self) -> bool {
-        self.bags == other.bags
-    }
-}
-
-impl Eq for Bags {
-    ghost laws = { decided same_bags same_bags-decides };
 }

@@ -11,7 +11,7 @@ ghost use Rattle.dv_time.specs.Limits.{greatest_tick};
 /// What comes in, and when.
 pub mod laws;
 
-use crate::bag::Bags;
+use crate::bags::Bags;
 use dv_time::Time;
 use std::alloc::{AllocError, Global};
 use std::marker::Model;
@@ -141,7 +141,7 @@ impl Inputs {
         ensures { IfOk result (λ bags. bags ≡ bags_at ports self.now time) }
     {
         let arriving = front_at(self.inputs.as_slice(), place, time);
-        let mut bags = Bags::empty(alloc, ports)?;
+        let mut bags = Bags::empty(alloc, ports);
         put_all(&mut bags, arriving)?;
         Ok(bags)
     }

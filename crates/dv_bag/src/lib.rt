@@ -7,6 +7,8 @@ pub mod arithmetic;
 pub mod arrivals;
 /// Bags of values.
 pub mod bag;
+/// Bags by port.
+pub mod bags;
 /// The entries of a trace.
 pub mod entry;
 /// Faults.
@@ -29,7 +31,8 @@ pub mod state;
 pub mod value;
 
 pub use arrivals::Arrivals;
-pub use bag::{Bag, Bags};
+pub use bag::Bag;
+pub use bags::{Bags, PortBag};
 pub use entry::{Entry, Kind, Outer, What};
 pub use fault::{Fault, RuleError};
 pub use inputs::{Input, Inputs};

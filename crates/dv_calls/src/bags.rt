@@ -88,20 +88,28 @@ fn unite(rt: &impl Abort, bags: &mut Bags, port: usize, values: &Bag) {
     bags.union_at(port, values).expect(rt, "memory");
 }
 
+fn same_in_port(rt: &impl Abort, bag: Option<&Bag>, wanted: Option<&[(i64, u64)]>) {
+    assert_eq!(rt; bag.map(|bag| bag.pairs()), wanted);
+}
+
 #[test]
 fn bags_stand_by_port(rt: HostRuntime) {
-    let mut bags = Bags::empty(rt.alloc(), 3).expect(&rt, "memory");
+    let mut bags = Bags::empty(rt.alloc(), 3);
+    same!(rt; bags.is_empty(), true);
     put(&rt, &mut bags, 2, 5);
     unite(&rt, &mut bags, 2, &bag_of(&rt, &[5, 4]));
     put(&rt, &mut bags, 0, 1);
-    same!(rt; bags.total(), 4);
     let copy = bags.clone().expect(&rt, "memory");
-    same!(rt; copy == bags, true);
-    assert_eq!(rt; bags.len(), 3);
-    same!(rt; bags.get(0).pairs(), [(1, 1)].as_slice());
-    same!(rt; bags.get(1).is_empty(), true);
-    same!(rt; bags.get(2).pairs(), [(4, 1), (5, 2)].as_slice());
-    same!(rt; bags.as_slice().len(), 3);
+    for bags in [bags, copy] {
+        same!(rt; bags.is_empty(), false);
+        same!(rt; bags.are_few(), true);
+        same!(rt; bags.len(), 3);
+        same_in_port(&rt, bags.get(0), Some(&[(1, 1)]));
+        same_in_port(&rt, bags.get(1), None);
+        same_in_port(&rt, bags.get(2), Some(&[(4, 1), (5, 2)]));
+        same_in_port(&rt, bags.get(3), None);
+        same!(rt; bags.held().len(), 2);
+    }
 }
 
 // What is sent by these values, each at a port that is there.

@@ -1,24 +1,28 @@
--- Lists that rise by a key of what is made of their items.
-use Rattle.std.proofs.Common.{◌≡◌, ℕ, ◌<◌, ◌≤◌, List, [], ◌∷◌, length, map, get_or, ap, sym, subst, arith}
-use Rattle.std.specs.List.Sorted.{IsNonDecreasingBy}
-use Rattle.std.proofs.lemmas.List.{get_or-map, length-map}
+-- Links that are kept of links in the order of the ports that they lead from.
+use Rattle.std.proofs.Common.{◌≡◌, Bool, true, false, cond, List, [], ◌∷◌, filter, refl, ap, subst}
+use Rattle.std.proofs.lemmas.List.Kept.{IsNonDecreasingBy-filter}
+use Rattle.dv_conservative.specs.Links.{Link}
+use Rattle.dv_share.specs.Links.{RiseByPort, RiseBySource, leads_from}
 
--- a list rises where what is made of it does, and the other way
-pub rises_before : {X Y : Type 0} (f : X → Y) (key : Y → ℕ) (xs : List X) → IsNonDecreasingBy key (map f xs)
-    → IsNonDecreasingBy (λ x. key (f x)) xs
-rises_before f key xs h i j d le lt =
-    let there : j < length (map f xs) = subst (λ n. j < n) (sym (length-map xs f)) lt in
-    let low = get_or-map f xs i d (f d) (omega arith) in
-    let high = get_or-map f xs j d (f d) lt in
-    subst (λ k. k ≤ key (f (get_or xs j d))) (ap key low)
-    (subst (λ k. key (get_or (map f xs) i (f d)) ≤ k) (ap key high) (h i j (f d) le there))
+-- two tests in either order keep the same
+filters_swap : {X : Type 0} (p q : X → Bool) (xs : List X) → filter p (filter q xs) ≡ filter q (filter p xs)
+filters_swap p q [] = refl
+filters_swap {X} p q (x ∷ xs) = step (p x) (q x) refl refl (filters_swap p q xs)
+  where
+    step : (s t : Bool) → p x ≡ s → q x ≡ t → filter p (filter q xs) ≡ filter q (filter p xs) →
+        filter p (cond (q x) (x ∷ filter q xs) (filter q xs)) ≡ filter q (cond (p x) (x ∷ filter p xs) (filter p xs))
+    step true true is at rest = rw (is, at, is) (ap (λ (ys : List X). x ∷ ys) rest)
+    step true false is at rest = rw (is, at) rest
+    step false true is at rest = rw (at, is) rest
+    step false false is at rest = rw (is, at) rest
 
-pub rises_after : {X Y : Type 0} (f : X → Y) (key : Y → ℕ) (xs : List X) → IsNonDecreasingBy (λ x. key (f x)) xs
-    → IsNonDecreasingBy key (map f xs)
-rises_after f key [] h i j d le lt = absurd (omega arith)
-rises_after f key (x ∷ xs) h i j d le lt =
-    let there : j < length (x ∷ xs) = subst (λ n. j < n) (length-map (x ∷ xs) f) lt in
-    let low = get_or-map f (x ∷ xs) i x d (omega arith) in
-    let high = get_or-map f (x ∷ xs) j x d there in
-    subst (λ k. k ≤ key (get_or (map f (x ∷ xs)) j d)) (sym (ap key low))
-    (subst (λ k. key (f (get_or (x ∷ xs) i x)) ≤ k) (sym (ap key high)) (h i j x le there))
+pub kept_by_source : (test : Link → Bool) (ls : List Link) → RiseBySource ls → RiseBySource (filter test ls)
+kept_by_source test ls rise = record {
+  senders = IsNonDecreasingBy-filter (λ (l : Link). l.from) test ls rise.senders;
+  ports = λ k.
+      subst RiseByPort (filters_swap test (leads_from k) ls)
+      (IsNonDecreasingBy-filter (λ (l : Link). l.from_port) test (filter (leads_from k) ls) (rise.ports k));
+}
+
+pub kept_by_port : (test : Link → Bool) (ls : List Link) → RiseByPort ls → RiseByPort (filter test ls)
+kept_by_port test ls rise = IsNonDecreasingBy-filter (λ (l : Link). l.from_port) test ls rise

@@ -6,7 +6,6 @@ pub mod Capped
 pub mod Copies
 pub mod Enough
 pub mod Found
-pub mod HeldWalk
 pub mod Levels
 pub mod LinkCounts
 pub mod LinkSums

@@ -13,7 +13,7 @@ use crate::link::ComponentPort;
 use crate::ports::port_count;
 use crate::probes::route_probes;
 use dv_bag::{Bag, Bags};
-use dv_tree::{SparseBags, Tree};
+use dv_tree::Tree;
 use std::alloc::{AllocError, Global};
 
 /// How many copies of a probe come to a target.
@@ -63,7 +63,7 @@ fn arrivals_at_inputs(
     alloc: Global,
     probes: usize,
     tree: &Tree,
-    received: &[SparseBags],
+    received: &[Bags],
 ) -> Result<Vec<Vec<Arrival<ComponentPort>>>, AllocError>
     requires { map length received.now
         ≡ map (λ i. input_count i.model) (instances (file_of tree.now.file)) }
@@ -84,20 +84,19 @@ fn arrivals_at_inputs(
 // something arrived.
 fn add_component(
     component: u32,
-    received: &SparseBags,
+    received: &Bags,
     lists: &mut Vec<Vec<Arrival<ComponentPort>>>,
 ) -> Result<(), AllocError>
     requires { length received.now ≤ 2 ^ 32 }
     ensures { OnOk result (map (λ list. list.items) lists.new.items
         ≡ with_component component received.now (map (λ list. list.items) lists.old.items)) }
 {
-    let held = received.held();
-    for (port, bag) in held {
+    for held in received.held() {
         let to = ComponentPort {
             component,
-            port: *port as u32,
+            port: held.port as u32,
         };
-        add_arrivals(to, bag, lists)?;
+        add_arrivals(to, &held.bag, lists)?;
     }
     Ok(())
 }
@@ -114,8 +113,8 @@ fn arrivals_at_outputs(
         (range_with_len 0 (length leaving.now))) }
 {
     let mut lists = empty_lists(alloc, probes)?;
-    for port in 0..leaving.len() {
-        add_arrivals(port as u32, leaving.get(port), &mut lists)?;
+    for held in leaving.held() {
+        add_arrivals(held.port as u32, &held.bag, &mut lists)?;
     }
     Ok(lists)
 }

@@ -73,7 +73,7 @@ fn come_probes(alloc: Global, first: usize, ports: usize) -> Result<Bags, AllocE
     requires { first + ports < 2 ^ 63 }
     ensures { IfOk result (λ input. input ≡ probes_from first ports) }
 {
-    let mut input = Bags::empty(alloc, ports)?;
+    let mut input = Bags::empty(alloc, ports);
     for port in 0..ports {
         input.insert(port, (first + port) as i64)?;
     }

@@ -7,7 +7,7 @@ use dv_bag::{Arrivals, RuleError, State};
 use dv_code::{
     Action, Binary, Instruction, Leaf, ProgramSort, Shape, Source, Tables, Unary, Valid,
 };
-use dv_samples::{Level, Random, Runs, are_few, deliveries, state_at, tables_of_each_slot};
+use dv_samples::{Level, Random, Runs, deliveries, state_at, tables_of_each_slot};
 use std::alloc::{AllocError, Global};
 use std::marker::Brand;
 use std::process::Abort;
@@ -150,7 +150,7 @@ impl Found {
         for level in [Level::Low, Level::Middle, Level::High] {
             let state = state_at(rt.alloc(), slots, level)?;
             for received in &deliveries(rt.alloc(), 1)? {
-                if are_few(received) {
+                if received.are_few() {
                     let arrivals = Arrivals::new(received, 3);
                     let ending = ending(runs, program, &state, &arrivals);
                     self.count_run(rt, ending);

@@ -7,7 +7,7 @@ ghost use Rattle.dv_bag.specs.Bag.{Counts};
 ghost use Rattle.dv_react.specs.Components.{rank_of};
 ghost use Rattle.dv_react.specs.Outcomes.{happened_in, left_by, sent_of};
 ghost use Rattle.dv_devs.specs.Network.{entry_of};
-ghost use Rattle.dv_share.specs.Commits.{HasGrown};
+ghost use Rattle.dv_react.specs.Committed.{HasGrown};
 ghost use Rattle.dv_share.specs.Places.{AreRising, places_of};
 ghost use Rattle.dv_share.specs.Rows.{number_of};
 ghost use Rattle.dv_share.specs.Share.{AreComponents, AreEmitted, AreTables, StandByPlace, given_at};

@@ -3,6 +3,6 @@ pub mod Silence
 pub mod Ready
 pub mod Steps
 pub mod Least
-pub mod Lines
+pub mod Emitted
 pub mod InputWalk
 pub mod Reached

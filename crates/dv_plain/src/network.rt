@@ -13,11 +13,11 @@ ghost use Rattle.dv_plain.specs.Source.{behaviour_of, network_of};
 ghost use Rattle.dv_check.specs.Limits.{greatest_names};
 
 use crate::atom::Atom;
-use dv_bag::{Bags, Entry, Fault, Outer, Part, Sent, What};
+use dv_bag::{Bags, Entry, Fault, Part, Sent, What};
 use dv_react::outcome::put_in;
-use dv_react::{Instant, Running, compute};
+use dv_react::{Instant, Running, commit_outer, compute};
+use dv_tree::Tree;
 use dv_tree::laws::each_component_receives;
-use dv_tree::{SparseBags, Tree};
 use std::alloc::{AllocError, Global};
 use std::mem;
 
@@ -145,7 +145,7 @@ fn react_all(
     alloc: Global,
     tree: &Tree,
     instant: &Instant,
-    received: &[SparseBags],
+    received: &[Bags],
     emitted: &mut Outputs,
     components: &mut [Running],
     trace: &mut Part,
@@ -170,28 +170,15 @@ fn react_all(
     for k in 0..tree.component_count() {
         let atom = Atom::of(tree, k);
         let fault = emitted.faults[k];
-        let comes = received[k].to_bags(alloc)?;
-        let happened = react(alloc, &atom, instant, &mut components[k], &comes, fault)?;
+        let happened = react(
+            alloc,
+            &atom,
+            instant,
+            &mut components[k],
+            &received[k],
+            fault,
+        )?;
         push_event(instant, k as u32, happened, emitted.take(alloc, k), trace)?;
-    }
-    Ok(())
-}
-
-// The lines of what leaves the model at an instant, by port.
-fn leave(instant: &Instant, leaving: &Bags, trace: &mut Part) -> Result<(), AllocError>
-    requires { length leaving.now ≤ greatest_names }
-    ensures { OnOk result (trace.new ≡ record trace.old {
-      outer = trace.old.outer ++ outer_from instant.now.limit (rank_of instant.now) 0 leaving.now;
-    }) }
-{
-    for (port, values) in leaving.as_slice().iter().enumerate() {
-        if !values.is_empty() {
-            trace.push_outer(Outer {
-                time: instant.time,
-                port: port as u32,
-                values: values.clone()?,
-            })?;
-        }
     }
     Ok(())
 }
@@ -232,6 +219,6 @@ pub fn run_instant(
         components,
         trace,
     )?;
-    leave(instant, &routed.leaving, trace)?;
+    commit_outer(instant, &routed.leaving, trace)?;
     Ok(())
 }

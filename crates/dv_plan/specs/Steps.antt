@@ -1,14 +1,13 @@
 -- What each part of the code does.
 use Rattle.std.specs.Prelude.{◌≡◌, ℕ, Bool, ◌&&◌, nat_eq, nat_le, nat_lt, List, [], filter, map, slice_get, slice_index_or, Option, Some}
 use Rattle.std.specs.List.{list_any, range_with_len}
-use Rattle.std.specs.List.Sorted.{IsNonDecreasingBy}
 use Rattle.dv_bag.specs.declared.inputs.Input.{Input}
 use Rattle.dv_conservative.specs.Channels.{all_channels}
 use Rattle.dv_conservative.specs.Links.{Link}
 use Rattle.dv_conservative.specs.Process.{Outgoing}
 use Rattle.dv_conservative.specs.Responses.{least_response}
 use Rattle.dv_conservative.specs.World.{Job, incoming_from, outgoing_from}
-use Rattle.dv_share.specs.Links.{links_of}
+use Rattle.dv_share.specs.Links.{RiseByPort, RiseBySource, links_of}
 use Rattle.dv_share.specs.declared.tables.Member.{Member}
 use Rattle.dv_proc.specs.Foreseeing.{ticks_of}
 use Rattle.dv_local.specs.Shares.{outgoing_of}
@@ -70,11 +69,11 @@ abbrev pub AreMade : {S : Type 0} → Common → List (List Member) → List S �
 AreMade {S} c lists models shares =
     (p : ℕ) (s : Share S) → slice_get shares p ≡ Some s → IsMadeOf c p (slice_index_or lists p []) models s
 
--- the links of a cut rise by the components that they lead from
+-- the links of a cut stand in the order of the ports that they lead from
 pub record Rises (c : CutOf) : Type 0 where
-  pub direct : IsNonDecreasingBy (λ (l : Link). l.from) c.direct
-  pub entrances : IsNonDecreasingBy (λ (l : Link). l.from) c.entrances
-  pub exits : IsNonDecreasingBy (λ (l : Link). l.from) c.exits
+  pub direct : RiseBySource c.direct
+  pub entrances : RiseByPort c.entrances
+  pub exits : RiseBySource c.exits
 
 -- the links of a whole, cut to groups
 abbrev pub cut_of : {S : Type 0} → Whole S → Grouping → CutOf

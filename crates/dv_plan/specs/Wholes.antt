@@ -11,7 +11,7 @@ use Rattle.dv_conservative.specs.Channels.{all_channels}
 use Rattle.dv_conservative.specs.Responses.{least_response}
 use Rattle.dv_conservative.specs.World.{Job}
 use Rattle.dv_react.specs.Components.{IsWaitOfRun}
-use Rattle.dv_share.specs.Links.{RiseBySender, links_of}
+use Rattle.dv_share.specs.Links.{RiseByPort, RiseBySource, links_of}
 use Rattle.dv_share.specs.Places.{AreRising}
 use Rattle.dv_share.specs.Share.{FitsAt, flat_by, numbers_of}
 use Rattle.dv_share.specs.declared.tables.Member.{Member}
@@ -56,14 +56,14 @@ pub record AreMembers {S : Type 0} (fits : S → State → Type 0) (limit : ℕ)
   pub rise : AreRising (numbers_of ms)
   pub each : AllByRecursion (IsMember fits limit models) ms
 
--- What may be planned: components whose numbers rise, links that rise by the components that they lead from, responses of holds,
+-- What may be planned: components whose numbers rise, links in the order of the ports that they lead from, responses of holds,
 -- and bounds of the language.
 pub record IsWhole {S : Type 0} (fits : S → State → Type 0) (w : Whole S) : Type 0 where
   pub members : AreMembers fits w.limit w.models.items w.members.items
   pub few : length w.members.items < 2 ^ 32
-  pub direct : RiseBySender w.links.direct.items
-  pub entrances : RiseBySender w.links.entrances.items
-  pub exits : RiseBySender w.links.exits.items
+  pub direct : RiseBySource (links_of w.links.direct.items)
+  pub entrances : RiseByPort (links_of w.links.entrances.items)
+  pub exits : RiseBySource (links_of w.links.exits.items)
   pub holds : All (λ (r : Response). IsOfHold r) w.responses.items
   pub responses : length w.responses.items ≤ 2 ^ 32
   pub limit : w.limit ≤ greatest_limit

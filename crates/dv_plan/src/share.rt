@@ -2,9 +2,7 @@
 
 ghost use Rattle.std.specs.Prelude.{◌≡◌, ◌<◌, ◌≤◌, ◌^◌, IfOk, List, length, map};
 ghost use Rattle.std.specs.List.{AllByRecursion};
-ghost use Rattle.std.specs.List.Sorted.{IsNonDecreasingBy};
-ghost use Rattle.dv_conservative.specs.Links.{Link as Meant};
-ghost use Rattle.dv_share.specs.Links.{links_of};
+ghost use Rattle.dv_share.specs.Links.{RiseBySource, links_of};
 ghost use Rattle.dv_share.specs.Places.{AreRising};
 ghost use Rattle.dv_share.specs.Share.{numbers_of};
 ghost use Rattle.dv_share.specs.declared.tables.Member.{Member as MemberOfCode};
@@ -18,7 +16,7 @@ use dv_cut::channels::{incoming, outgoing};
 use dv_cut::{Away, Cut};
 use dv_local::{Share, Way};
 use dv_proc::Channel;
-use dv_share::{Link, Member, Routes, Tables};
+use dv_share::{Entrances, Link, Member, Routes, Tables};
 use std::alloc::{AllocError, Global};
 
 /// What the shares of all processes are made of: the bounds of the run, the ports of the outside, the cut with the links
@@ -100,7 +98,7 @@ fn share_of_process<A: Drop>(
         members,
         models,
         links: routes(alloc, common.cut.between(place, place))?,
-        entrances: routes(alloc, entrances)?,
+        entrances: Entrances::new(copies(alloc, entrances)?),
         exits: routes(alloc, common.cut.exits(place))?,
         outputs: common.outputs,
     };
@@ -150,9 +148,9 @@ fn links_to<'c>(cut: &'c Cut<'_>, source: u32, target: u32) -> &'c [Link]
     }
 }
 
-// Links that rise by the components that they lead from, to find those of each.
+// Links in the order of the ports that they lead from, to find those of each.
 fn routes(alloc: Global, links: &[Link]) -> Result<Routes, AllocError>
-    requires { IsNonDecreasingBy (λ (l : Meant). l.from) (links_of links.now) }
+    requires { RiseBySource (links_of links.now) }
     ensures { IfOk result (λ found. found ≡ links_of links.now) }
 {
     Ok(Routes::new(copies(alloc, links)?))

@@ -1,32 +1,14 @@
--- The links and the responses of a text as those of a plan.
-use Rattle.std.proofs.Common.{◌≡◌, ℕ, List, [], ◌∷◌, length, get_or, map, refl, ap, sym, ◌∙◌, subst, arith}
+-- The responses of a text as those of a plan.
+use Rattle.std.proofs.Common.{◌≡◌, ℕ, List, [], ◌∷◌, length, get_or, map, refl, ap, sym, ◌∙◌}
 use Rattle.std.specs.List.{All}
-use Rattle.std.specs.List.Sorted.{IsNonDecreasingBy}
 use Rattle.std.specs.Prelude.{Option}
 use Rattle.std.proofs.lemmas.List.{length-map}
 use Rattle.dv_bag.specs.declared.response.Response.{Response}
 use Rattle.dv_bag.specs.declared.response.Response.TheVariants.{Ticks, Never}
 use Rattle.dv_bound.specs.Response.{response_of, ticks_of}
 use Rattle.dv_bound.specs.Short.{IsShort}
-use Rattle.dv_conservative.specs.Links.{Link as Meant}
-use Rattle.dv_cut.proofs.Rising.{rises_after, rises_before}
-use Rattle.dv_flat.specs.declared.link.ComponentPort.{ComponentPort}
-use Rattle.dv_flat.specs.declared.link.Link.{Link as TextLink}
 use Rattle.dv_proc.specs.Foreseeing.{IsOfHold, ticks_of as ticks_foreseen}
-use Rattle.dv_share.specs.Links.{RiseBySender, link_of, links_of}
-use Rattle.dv_share.specs.declared.link.Link.{Link}
-use Rattle.dv_sound.specs.Members.{entry_of}
 use Rattle.dv_tree.specs.Instances.{Instance}
-
--- links of the code rise where what they stand for does
-pub links_rise : (ls : List Link) (meant : List Meant) → links_of ls ≡ meant → IsNonDecreasingBy (λ (l : Meant). l.from) meant
-    → RiseBySender ls
-links_rise ls meant e h =
-    rises_before link_of (λ (l : Meant). l.from) ls (subst (λ (ms : List Meant). IsNonDecreasingBy (λ (l : Meant). l.from) ms) (sym e) h)
-
--- all links from outside lead from 0
-pub entries_rise : (es : List (TextLink ℕ ComponentPort)) → IsNonDecreasingBy (λ (l : Meant). l.from) (map entry_of es)
-entries_rise es = rises_after entry_of (λ (l : Meant). l.from) es (λ i j d le lt. omega arith)
 
 hold_of : (r : Response) → IsShort (ticks_of r) → IsOfHold r
 hold_of (Ticks n) h = h

@@ -3,7 +3,7 @@
 use dv_bag::{Arrivals, Effect, RuleError, Sent, State, Value};
 use dv_code::Valid;
 use dv_eval::{Context, Moment, Scope, eval, run_rule};
-use dv_samples::{Compiled, Level, Pair, Runs, Tree, are_few, deliveries, state_at};
+use dv_samples::{Compiled, Level, Pair, Runs, Tree, deliveries, state_at};
 use dv_syntax::{Expr, Stmt};
 use std::alloc::{AllocError, Global};
 use std::process::Abort;
@@ -179,7 +179,7 @@ impl Endings {
         scope: &Scope,
     ) -> Result<(), AllocError> {
         for received in &deliveries(rt.alloc(), scope.inputs().len())? {
-            if are_few(received) {
+            if received.are_few() {
                 let arrivals = Arrivals::new(received, 3);
                 self.compare(rt, runs, pair, state, &arrivals, scope);
             }

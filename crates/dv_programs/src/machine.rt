@@ -7,7 +7,7 @@ use dv_bag::{
     Variables,
 };
 use dv_code::{Action, Binary, Instruction, Leaf, ProgramSort, Shape, Slot, Source, Tables, Valid};
-use dv_samples::{Runs, are_few, shape_of_one_bag};
+use dv_samples::{Runs, shape_of_one_bag};
 use dv_valid::validate;
 use std::alloc::{AllocError, Global};
 use std::marker::Brand;
@@ -113,7 +113,7 @@ fn three_stored(alloc: Global) -> Result<State, AllocError> {
 
 /// Two 3s, a 7 and a 2 at an input port.
 fn four_values(alloc: Global) -> Result<Bags, AllocError> {
-    let mut bags = Bags::empty(alloc, 1)?;
+    let mut bags = Bags::empty(alloc, 1);
     for value in [3, 7, 3, 2] {
         if 0 < bags.len() {
             bags.insert(0, value)?;
@@ -170,7 +170,7 @@ fn outline_of_four<R: Abort + AllocGlobal, L: Ledger>(
     state: &State,
 ) -> Result<Outline, RuleError> {
     let bags = four_values(rt.alloc())?;
-    assert!(rt; are_few(&bags));
+    assert!(rt; bags.are_few());
     outline_with(rt, runs, program, state, &Arrivals::new(&bags, 0))
 }
 

@@ -1,4 +1,5 @@
-//! The reaction of one component at an instant, for any code that gives the behaviour of an atomic model.
+//! The reaction of one component at an instant, for any code that gives the behaviour of an atomic model, and the lines
+//! of what leaves then.
 #![tactic(auto)]
 
 /// Code that gives the behaviour of an atomic model.
@@ -9,6 +10,9 @@ mod fault;
 
 /// An instant of a run.
 pub mod instant;
+
+/// The lines of what leaves the model.
+pub mod leaving;
 
 /// What comes of a component at an instant, before it is put in.
 pub mod outcome;
@@ -30,6 +34,7 @@ pub mod wait;
 
 pub use atomic::{Atomic, Change};
 pub use instant::Instant;
+pub use leaving::commit_outer;
 pub use outcome::Outcome;
 pub use reaction::compute;
 pub use running::Running;

@@ -42,17 +42,6 @@ fn fits_slot(slot: Slot, datum: Option<DatumView>) -> bool
     }
 }
 
-/// Whether there are at most `GREATEST_COUNT` values at each port.
-pub fn are_few(received: &Bags) -> bool
-    ensures sizes { result ≡ list_all (λ b. nat_le (size b) greatest_count) received.now }
-    ensures few { IsTrue result → AreFew received.now }
-{
-    received
-        .as_slice()
-        .iter()
-        .all(|bag| bag.size() <= GREATEST_COUNT)
-}
-
 /// Where in its range each slot of a state is.
 #[derive(Clone, Copy, Debug)]
 pub enum Level {
@@ -115,7 +104,7 @@ fn bag_at(alloc: Global, capacity: u64, level: Level) -> Result<Bag, AllocError>
 /// Nothing, one value, and some of which one comes three times, at each of so many ports.
 pub fn deliveries(alloc: Global, ports: usize) -> Result<[Bags; 3], AllocError> {
     Ok([
-        Bags::empty(alloc, ports)?,
+        Bags::empty(alloc, ports),
         bags_of(alloc, ports, &[1])?,
         bags_of(alloc, ports, &[5, 5, 5, -2])?,
     ])
@@ -123,7 +112,7 @@ pub fn deliveries(alloc: Global, ports: usize) -> Result<[Bags; 3], AllocError> 
 
 /// These values at each of so many ports.
 fn bags_of(alloc: Global, ports: usize, values: &[i64]) -> Result<Bags, AllocError> {
-    let mut bags = Bags::empty(alloc, ports)?;
+    let mut bags = Bags::empty(alloc, ports);
     for port in 0..ports {
         put_all(&mut bags, port, values)?;
     }

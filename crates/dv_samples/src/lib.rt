@@ -16,7 +16,7 @@ mod shapes;
 mod texts;
 
 pub use compiled::{Compiled, Pair, Tree, atomic_at, checked, compile};
-pub use fitting::{Level, are_few, deliveries, state_at};
+pub use fitting::{Level, deliveries, state_at};
 pub use random::Random;
 pub use runs::Runs;
 pub use shapes::{shape_of_one_bag, tables_of_each_slot};

@@ -17,6 +17,7 @@ use Rattle.dv_share.specs.Rows.{number_of, rows}
 use Rattle.dv_share.specs.Share.{StandByPlace, given_at, numbers_of, sent_in, sents_by}
 use Rattle.dv_share.specs.declared.place.Placed.{Placed}
 use Rattle.dv_share.specs.declared.tables.Member.{Member}
+use Rattle.dv_share.proofs.Rising.{Rise as RiseBy}
 use Rattle.dv_share.proofs.Places.{all_first, all_rest, there, differ, found_absent, found_at, itself, not_below, turned, yes_or_no}
 
 false_true : false ≡ true → ⊥
@@ -24,20 +25,11 @@ false_true h = cc
 
 -- senders never fall, from one on
 abbrev pub Rise : ℕ → List Link → Type 0
-Rise low [] = Unit {0}
-Rise low (l ∷ ls) = (low ≤ l.from) × Rise l.from ls
-
-rise_weaken : (low lower : ℕ) (ls : List Link) → lower ≤ low → Rise low ls → Rise lower ls
-rise_weaken low lower [] le h = tt
-rise_weaken low lower (l ∷ ls) le h = (omega (arith, h.0), h.1)
+Rise low ls = RiseBy (λ (l : Link). l.from) low ls
 
 pub carried_none : (ls : List Link) (S : ℕ → List Counts) → ((k : ℕ) → S k ≡ []) → carried ls S ≡ []
 carried_none [] S h = refl
 carried_none (l ∷ ls) S h = rw (h l.from) (carried_none ls S h)
-
-pub carried_silent : (ls : List Link) (bags : List Counts) → ((port : ℕ) → bag_at bags port ≡ []) → carried ls (λ k. bags) ≡ []
-carried_silent [] bags h = refl
-carried_silent (l ∷ ls) bags h = rw (h l.from_port) (carried_silent ls bags h)
 
 module _ (S : ℕ → List Counts) where
   abbrev pub groups : List ℕ → List Link → List Delivery

@@ -1,5 +1,5 @@
 -- What the links and deliveries of the code stand for.
-use Rattle.std.specs.Prelude.{ℕ, ◌*◌, Bool, nat_eq, List, map, ℤ}
+use Rattle.std.specs.Prelude.{ℕ, ◌*◌, Bool, nat_eq, List, filter, map, ℤ}
 use Rattle.std.specs.List.Sorted.{IsNonDecreasingBy}
 use Rattle.dv_bag.specs.Bag.{Counts, capped}
 use Rattle.dv_bag.specs.declared.sent.Sending.{Sending}
@@ -27,10 +27,15 @@ carried_one l value copies = record { component = l.to; port = l.to_port; value 
 abbrev pub pairs_of : List Sending → Counts
 pairs_of ss = map (λ s. (s.value, s.copies)) ss
 
--- links stand in the order of the components that they lead from
-abbrev pub RiseBySender : List Link → Type 0
-RiseBySender ls = IsNonDecreasingBy (λ (l : Link). l.from) ls
-
 -- leads a link from a component
 abbrev pub leads_from : ℕ → Meant → Bool
 leads_from k l = nat_eq l.from k
+
+-- links stand in the order of the ports that they lead from
+abbrev pub RiseByPort : List Meant → Type 0
+RiseByPort ls = IsNonDecreasingBy (λ (l : Meant). l.from_port) ls
+
+-- links stand in the order of the components that they lead from, and those of one component in the order of its ports
+pub record RiseBySource (ls : List Meant) : Type 0 where
+  pub senders : IsNonDecreasingBy (λ (l : Meant). l.from) ls
+  pub ports : (k : ℕ) → RiseByPort (filter (leads_from k) ls)

@@ -8,7 +8,7 @@ use Rattle.dv_bag.specs.Bag.{Counts, capped}
 use Rattle.dv_bag.specs.declared.fault.Fault.{Fault}
 use Rattle.dv_react.specs.Outcomes.{sent_of}
 use Rattle.dv_conservative.specs.Events.{delivery_cmp}
-use Rattle.dv_conservative.specs.Links.{Link, Delivery, carried}
+use Rattle.dv_conservative.specs.Links.{Link, Delivery, carried, carried_by}
 use Rattle.dv_share.specs.Links.{delivery_of, leads_from}
 use Rattle.dv_share.specs.Places.{is_in, places_of}
 use Rattle.dv_share.specs.declared.link.Delivery.{Delivery as DeliveryOfCode}
@@ -19,6 +19,11 @@ use Rattle.dv_share.specs.declared.tables.Member.{Member}
 abbrev pub number_of : Option Member → ℕ
 number_of None = 0
 number_of (Some m) = m.number
+
+-- what links carry of one bag, one after the other
+abbrev pub carried_each : List Link → Counts → List Delivery
+carried_each [] b = []
+carried_each (l ∷ ls) b = carried_by l b ++ carried_each ls b
 
 -- what is carried of the emissions, one after the other
 abbrev pub rows : List Member → List Link → List (Placed (Result (List Counts) Fault)) → List Delivery

@@ -11,7 +11,7 @@ ghost use Rattle.dv_conservative.specs.Links.{inbox};
 use crate::carry::{carry_emitted, carry_outside, mark};
 use crate::link::Delivery;
 use crate::place::Placed;
-use crate::run::run_end;
+use crate::run::{ByComponent, run_end};
 use crate::tables::{Member, Tables, place_of};
 use dv_bag::{Bags, Fault, Sent};
 use dv_react::Atomic;
@@ -41,8 +41,8 @@ pub fn arrivals<A: Atomic>(
         (places_of received.new.items)) }
 {
     incoming.clear();
-    carry_outside(incoming, tables.entrances.as_slice(), outside)?;
-    carry_emitted(incoming, &tables.members, tables.links.as_slice(), emitted)?;
+    carry_outside(incoming, &tables.entrances, outside)?;
+    carry_emitted(incoming, &tables.members, &tables.links, emitted)?;
     incoming.extend_from_slice(deliveries)?;
     mark(incoming, &tables.members, emitted)?;
     incoming.sort_unstable();
@@ -67,7 +67,7 @@ fn collect(
     let mut start = 0;
     while start < incoming.len() {
         let component = incoming[start].component;
-        let end = run_end(incoming, start, component as usize);
+        let end = run_end::<ByComponent, _>(incoming, start, component as usize);
         if let Some(place) = place_of(members, component) {
             let inputs = members[place].inputs;
             let what = bags_of(alloc, component, inputs, &incoming[start..end])?;
@@ -92,7 +92,7 @@ pub fn bags_of(
 ) -> Result<Bags, AllocError>
     ensures { IfOk result (λ bags. bags ≡ inbox component (deliveries_of deliveries.now) 0 ports) }
 {
-    let mut bags = Bags::empty(alloc, ports as usize)?;
+    let mut bags = Bags::empty(alloc, ports as usize);
     for delivery in deliveries {
         if delivery.is_for(component, ports) {
             deliver(&mut bags, delivery)?;

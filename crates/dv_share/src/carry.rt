@@ -1,18 +1,17 @@
 //! What links carry.
 
-ghost use Rattle.std.specs.Prelude.{◌≡◌, ℕ, ◌++◌, IfOk, IsTrue, [], length, reverse};
-ghost use Rattle.dv_bag.specs.Bag.{bag_at};
+ghost use Rattle.std.specs.Prelude.{◌≡◌, ◌++◌, IfOk, length, reverse};
 ghost use Rattle.dv_conservative.specs.Links.{carried, carried_by};
 ghost use Rattle.dv_conservative.specs.Events.{in_order};
-ghost use Rattle.dv_share.specs.Links.{RiseBySender, deliveries_of, delivery_of, link_of, links_of, pairs_of};
+ghost use Rattle.dv_share.specs.Links.{RiseByPort, deliveries_of, delivery_of, link_of, links_of, pairs_of};
 ghost use Rattle.dv_share.specs.Places.{AreRising};
-ghost use Rattle.dv_share.specs.Rows.{AreSorted, joined_before, marks, rows};
+ghost use Rattle.dv_share.specs.Rows.{AreSorted, carried_each, joined_before, marks, rows};
 ghost use Rattle.dv_share.specs.Share.{StandByPlace, numbers_of, sent_in};
 
 use crate::link::{Delivery, Link};
 use crate::place::Placed;
-use crate::routes::{Routes, links_from};
-use crate::run::run_of;
+use crate::routes::{Entrances, Routes, links_at};
+use crate::run::{ByPort, run_end};
 use crate::tables::Member;
 use dv_bag::sent::Sending;
 use dv_bag::{Bag, Bags, Fault, Sent};
@@ -26,15 +25,15 @@ use std::alloc::{AllocError, Global};
 pub fn carry_emitted(
     deliveries: &mut Vec<Delivery>,
     members: &[Member],
-    links: &[Link],
+    links: &Routes,
     emitted: &[Placed<Result<Sent, Fault>>],
 ) -> Result<(), AllocError>
     requires numbers { AreRising (numbers_of members.now) }
-    requires links { RiseBySender links.now }
     requires emitted { StandByPlace (length members.now) emitted.now }
     ensures { IfOk result (λ _. deliveries_of deliveries.new.items
-        ≡ deliveries_of deliveries.old.items ++ carried (links_of links.now) (sent_in members.now emitted.now)) }
+        ≡ deliveries_of deliveries.old.items ++ carried links.now (sent_in members.now emitted.now)) }
 {
+    links.are_in_order();
     carry_rows(deliveries, members, links, emitted)
 }
 
@@ -42,31 +41,50 @@ pub fn carry_emitted(
 fn carry_rows(
     deliveries: &mut Vec<Delivery>,
     members: &[Member],
-    links: &[Link],
+    links: &Routes,
     emitted: &[Placed<Result<Sent, Fault>>],
 ) -> Result<(), AllocError>
-    requires links { RiseBySender links.now }
     requires emitted { StandByPlace (length members.now) emitted.now }
     ensures { IfOk result (λ _. deliveries_of deliveries.new.items
-        ≡ deliveries_of deliveries.old.items ++ rows members.now (links_of links.now) emitted.now) }
+        ≡ deliveries_of deliveries.old.items ++ rows members.now links.now emitted.now) }
 {
     for emission in emitted {
         if let Ok(sent) = &emission.what {
             let number = members[emission.place as usize].number;
-            carry_row(deliveries, links_from(links, number), sent)?;
+            carry_row(deliveries, links.of_component(number), sent)?;
         }
     }
     Ok(())
 }
 
-// What links carry of what one component sends.
+// What links carry of what one component sends. It looks at those alone that lead from a port at which something is sent.
 fn carry_row(deliveries: &mut Vec<Delivery>, links: &[Link], sent: &Sent) -> Result<(), AllocError>
+    requires { RiseByPort (links_of links.now) }
     ensures { IfOk result (λ _. deliveries_of deliveries.new.items
         ≡ deliveries_of deliveries.old.items ++ carried (links_of links.now) (λ k. sent.now)) }
 {
     let sendings = sent.as_slice();
+    let mut start = 0;
+    while start < sendings.len() {
+        let port = sendings[start].port;
+        let end = run_end::<ByPort, _>(sendings, start, port);
+        carry_port(deliveries, links_at(links, port), &sendings[start..end])?;
+        start = end;
+    }
+    Ok(())
+}
+
+// What links from one port carry of what is sent there.
+fn carry_port(
+    deliveries: &mut Vec<Delivery>,
+    links: &[Link],
+    sendings: &[Sending],
+) -> Result<(), AllocError>
+    ensures { IfOk result (λ _. deliveries_of deliveries.new.items
+        ≡ deliveries_of deliveries.old.items ++ carried_each (links_of links.now) (pairs_of sendings.now)) }
+{
     for link in links {
-        carry_sendings(deliveries, link, run_of(sendings, link.from_port as usize))?;
+        carry_sendings(deliveries, link, sendings)?;
     }
     Ok(())
 }
@@ -86,40 +104,36 @@ fn carry_sendings(
     Ok(())
 }
 
-/// What entry links carry of what comes from outside, behind what is there.
+/// What entry links carry of what comes from outside, behind what is there. It looks at those alone that lead from a port
+/// at which something comes.
 ///
 /// # Errors
 ///
 /// No memory for it.
 pub fn carry_outside(
     deliveries: &mut Vec<Delivery>,
-    links: &[Link],
+    links: &Entrances,
     outside: &Bags,
 ) -> Result<(), AllocError>
     ensures { IfOk result (λ _. deliveries_of deliveries.new.items
-        ≡ deliveries_of deliveries.old.items ++ carried (links_of links.now) (λ k. outside.now)) }
+        ≡ deliveries_of deliveries.old.items ++ carried links.now (λ k. outside.now)) }
 {
-    if are_silent(outside.as_slice()) {
-        return Ok(());
-    }
-    for link in links {
-        if let Some(bag) = outside.as_slice().get(link.from_port as usize) {
-            carry_bag(deliveries, link, bag)?;
-        }
+    let links = links.as_slice();
+    for held in outside.held() {
+        carry_held(deliveries, links_at(links, held.port), &held.bag)?;
     }
     Ok(())
 }
 
-// Whether there is no value at any port.
-fn are_silent(bags: &[Bag]) -> bool
-    ensures { IsTrue result → (port : ℕ) → bag_at bags.now port ≡ [] }
+// What links from one port carry of its bag.
+fn carry_held(deliveries: &mut Vec<Delivery>, links: &[Link], bag: &Bag) -> Result<(), AllocError>
+    ensures { IfOk result (λ _. deliveries_of deliveries.new.items
+        ≡ deliveries_of deliveries.old.items ++ carried_each (links_of links.now) bag.now) }
 {
-    for bag in bags {
-        if !bag.is_empty() {
-            return false;
-        }
+    for link in links {
+        carry_bag(deliveries, link, bag)?;
     }
-    true
+    Ok(())
 }
 
 // What a link carries of a bag.
@@ -177,7 +191,7 @@ pub fn away(
         ≡ in_order (carried links.now (sent_in members.now emitted.now))) }
 {
     let mut deliveries = Vec::new(alloc);
-    carry_emitted(&mut deliveries, members, links.as_slice(), emitted)?;
+    carry_emitted(&mut deliveries, members, links, emitted)?;
     deliveries.sort_unstable();
     unite(alloc, &deliveries)
 }

@@ -3,7 +3,7 @@
 ghost use Rattle.std.specs.Prelude.{◌≡◌, ◌≤◌, ◌^◌, ◌++◌, OnOk, length};
 ghost use Rattle.dv_devs.specs.Network.{outer_from};
 ghost use Rattle.dv_react.specs.Components.{rank_of};
-ghost use Rattle.dv_share.specs.Commits.{HasGrown};
+ghost use Rattle.dv_react.specs.Committed.{HasGrown};
 ghost use Rattle.dv_share.specs.Places.{AreRising};
 ghost use Rattle.dv_share.specs.Share.{StandByPlace, numbers_of, sent_in};
 ghost use Rattle.dv_conservative.specs.Links.{carried, inbox};
@@ -13,8 +13,8 @@ use crate::carry::carry_emitted;
 use crate::link::Delivery;
 use crate::place::Placed;
 use crate::tables::Tables;
-use dv_bag::{Bag, Fault, Outer, Part, Sent};
-use dv_react::Instant;
+use dv_bag::{Fault, Part, Sent};
+use dv_react::{Instant, commit_outer};
 use std::alloc::{AllocError, Global};
 
 /// Commits what leaves the model of what was emitted, by output port of the root: a line for each port with values. The
@@ -40,27 +40,7 @@ pub fn outer<A>(
     ensures entries { committed.new.entries ≡ committed.old.entries }
 {
     leaving.clear();
-    carry_emitted(leaving, &tables.members, tables.exits.as_slice(), emitted)?;
+    carry_emitted(leaving, &tables.members, &tables.exits, emitted)?;
     let bags = bags_of(alloc, 0, tables.outputs, leaving)?;
-    commit_lines(instant, bags.as_slice(), committed)
-}
-
-// Commits a line for each port with values.
-fn commit_lines(instant: &Instant, bags: &[Bag], committed: &mut Part) -> Result<(), AllocError>
-    requires { length bags.now ≤ 2 ^ 32 }
-    ensures outer { OnOk result (committed.new.outer ≡ committed.old.outer
-        ++ outer_from instant.now.limit (rank_of instant.now) 0 bags.now) }
-    ensures grown { HasGrown committed.old.outer committed.new.outer }
-    ensures entries { committed.new.entries ≡ committed.old.entries }
-{
-    for (port, bag) in bags.iter().enumerate() {
-        if !bag.is_empty() {
-            committed.push_outer(Outer {
-                time: instant.time,
-                port: port as u32,
-                values: bag.clone()?,
-            })?;
-        }
-    }
-    Ok(())
+    commit_outer(instant, &bags, committed)
 }

@@ -7,8 +7,14 @@ ghost use Rattle.std.specs.List.Sorted.{IsNonDecreasingBy};
 use crate::link::{Delivery, Link};
 use dv_bag::sent::Sending;
 
-/// What is of a number.
-pub trait Numbered {
+/// By the number of a component.
+pub struct ByComponent;
+
+/// By the number of a port.
+pub struct ByPort;
+
+/// What is of a number, by one of those that it has.
+pub trait Numbered<By> {
     /// The number.
     ghost number: { Self → ℕ };
 
@@ -18,7 +24,7 @@ pub trait Numbered {
 }
 
 /// A delivery is of the component that it is for.
-impl Numbered for Delivery {
+impl Numbered<ByComponent> for Delivery {
     ghost number = { λ d. d.component };
 
     fn number(&self) -> usize {
@@ -27,7 +33,7 @@ impl Numbered for Delivery {
 }
 
 /// A link is of the component that it leads from.
-impl Numbered for Link {
+impl Numbered<ByComponent> for Link {
     ghost number = { λ l. l.from };
 
     fn number(&self) -> usize {
@@ -35,8 +41,17 @@ impl Numbered for Link {
     }
 }
 
+/// A link is of the port that it leads from.
+impl Numbered<ByPort> for Link {
+    ghost number = { λ l. l.from_port };
+
+    fn number(&self) -> usize {
+        self.from_port as usize
+    }
+}
+
 /// A sending is of its port.
-impl Numbered for Sending {
+impl Numbered<ByPort> for Sending {
     ghost number = { λ s. s.port };
 
     fn number(&self) -> usize {
@@ -44,17 +59,17 @@ impl Numbered for Sending {
     }
 }
 
-/// The items that are of a number, by a binary search and a walk over them.
-pub(crate) fn run_of<T: Numbered>(items: &[T], number: usize) -> &[T]
+/// The items that are of a number, by two binary searches.
+pub(crate) fn run_of<By, T: Numbered<By>>(items: &[T], number: usize) -> &[T]
     requires { IsNonDecreasingBy T.number items.now }
     ensures { result.now ≡ filter (λ (x : T). nat_eq (T.number x) number) items.now }
 {
-    let (first, end) = places_of(items, number);
+    let (first, end) = places_of::<By, T>(items, number);
     &items[first..end]
 }
 
 // Where the items of a number begin and end.
-fn places_of<T: Numbered>(items: &[T], number: usize) -> (usize, usize)
+fn places_of<By, T: Numbered<By>>(items: &[T], number: usize) -> (usize, usize)
     requires { IsNonDecreasingBy T.number items.now }
     ensures order { result.0 ≤ result.1 }
     ensures within { result.1 ≤ length items.now }
@@ -64,11 +79,12 @@ fn places_of<T: Numbered>(items: &[T], number: usize) -> (usize, usize)
         (length items.now) }
 {
     let first = items.partition_point(|item| item.number() < number);
-    (first, run_end(items, first, number))
+    let end = items.partition_point(|item| item.number() <= number);
+    (first, end)
 }
 
 /// Where the items of a number end, from a place on from which no item is of a number before it.
-pub(crate) fn run_end<T: Numbered>(items: &[T], start: usize, number: usize) -> usize
+pub(crate) fn run_end<By, T: Numbered<By>>(items: &[T], start: usize, number: usize) -> usize
     requires rise { IsNonDecreasingBy T.number items.now }
     requires within { start ≤ length items.now }
     requires from { (d : T) → start < length items.now

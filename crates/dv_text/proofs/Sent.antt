@@ -1,8 +1,12 @@
 -- What was sent, and the variables of a state.
 use Rattle.std.proofs.Common.{◌≡◌, ◌⊎◌, inl, inr, nat_eq, cond, subst, ℕ, Bool, true, false, List, [], ◌∷◌, ◌++◌, refl, sym, ap}
-use Rattle.std.proofs.Common.{◌∙◌, append_assoc, append-nil, arith}
+use Rattle.std.proofs.Common.{◌∙◌, append_assoc, append-nil, arith, zero, suc, ◌+◌, ◌<◌, ◌≤◌, length, drop, get_or}
+use Rattle.std.proofs.lemmas.Bool.{cases_lt, ne_eqb}
 use Rattle.std.proofs.lemmas.Bool.Decides.{nat_tests}
-use Rattle.dv_bag.specs.Bag.{Counts, size, size_of_all}
+use Rattle.std.proofs.lemmas.List.{drop_all, drop_more}
+use Rattle.dv_bag.specs.Bag.{Counts, bag_at, size, size_of_all}
+use Rattle.dv_bag.specs.Sent.{RiseFrom, pairs_at}
+use Rattle.dv_bag.specs.declared.sent.Sending.{Sending}
 use Rattle.dv_bag.specs.declared.state.Datum.{Datum}
 use Rattle.dv_tree.specs.Paths.{name_at, texts_of}
 use Rattle.dv_text.specs.Writing.{sent_from}
@@ -114,3 +118,69 @@ next_port line line1 line2 is_first name b rest some mark port =
     ∙ append_assoc (line ++ cond is_first (32 ∷ 62 ∷ []) []) text rest
     ∙ append_assoc line (cond is_first (32 ∷ 62 ∷ []) []) (text ++ rest)
     ∙ ap (λ t. line ++ t) (marked is_first name b rest some)
+
+-- ports at which nothing was sent are passed over
+module _ (texts : List (List ℕ)) (names : List ℕ) (bags : List Counts) where
+  abbrev pub left_text : ℕ → List ℕ
+  left_text p = ports_text (texts_of texts (drop p names)) (drop p bags)
+
+  no_names_left : (p : ℕ) → length names ≤ p → left_text p ≡ []
+  no_names_left p ge = no_ports (texts_of texts (drop p names)) (drop p bags) (inl (ap (texts_of texts) (drop_all p names ge)))
+
+  no_bags_left : (p : ℕ) → length bags ≤ p → left_text p ≡ []
+  no_bags_left p ge = no_ports (texts_of texts (drop p names)) (drop p bags) (inr (drop_all p bags ge))
+
+  one_passed : (p : ℕ) → bag_at bags p ≡ [] → left_text p ≡ left_text (p + 1)
+  one_passed p none = elim (cases_lt p (length names)) [
+    | inr ge ↦ no_names_left p ge ∙ sym (no_names_left (p + 1) (omega (arith, ge)))
+    | inl lt ↦ elim (cases_lt p (length bags)) [
+      | inr ge ↦ no_bags_left p ge ∙ sym (no_bags_left (p + 1) (omega (arith, ge)))
+      | inl within ↦
+          ap (λ ns. ports_text (texts_of texts ns) (drop p bags)) (drop_more names p 0 lt)
+          ∙ ap (ports_text (texts_of texts (get_or names p 0 ∷ drop (p + 1) names))) (drop_more bags p [] within)
+          ∙ ap (λ (b : Counts). port_text (name_at texts (get_or names p 0)) b ++ left_text (p + 1)) none
+    ]
+  ]
+
+  pub ports_passed : (count p : ℕ) → ((x : ℕ) → p ≤ x → x < p + count → bag_at bags x ≡ []) → left_text p ≡ left_text (p + count)
+  ports_passed zero p none = ap left_text (let same : p ≡ p + 0 = omega arith in same)
+  ports_passed (suc count) p none =
+      one_passed p (none p (omega arith) (omega arith))
+      ∙ ports_passed count (p + 1) (λ x le lt. none x (omega (arith, le)) (omega (arith, lt)))
+      ∙ ap left_text (let same : (p + 1) + count ≡ p + suc count = omega arith in same)
+
+  pub nothing_left : (p : ℕ) → ((x : ℕ) → p ≤ x → bag_at bags x ≡ []) → left_text p ≡ []
+  nothing_left p none =
+      ports_passed (length bags) p (λ x le lt. none x le) ∙ no_bags_left (p + length bags) (omega arith)
+
+-- the sendings before a place go to ports below a bound
+module _ (ss : List Sending) (rise : RiseFrom 0 ss) (bags : List Counts) (pairs : (port : ℕ) → pairs_at port ss ≡ bag_at bags port) where
+  port_from : (low i : ℕ) (d : Sending) (xs : List Sending) → RiseFrom low xs → i < length xs → low ≤ (get_or xs i d).port
+  port_from low i d [] h lt = absurd (omega arith)
+  port_from low zero d (x ∷ xs) h lt = h.0
+  port_from low (suc i) d (x ∷ xs) h lt = let rest = port_from x.port i d xs h.1 (omega (arith, lt)) in omega (arith, h.0, rest)
+
+  ports_follow : (low i j : ℕ) (d : Sending) (xs : List Sending) → RiseFrom low xs → i ≤ j → j < length xs →
+      (get_or xs i d).port ≤ (get_or xs j d).port
+  ports_follow low i j d [] h le lt = absurd (omega arith)
+  ports_follow low zero zero d (x ∷ xs) h le lt = omega arith
+  ports_follow low zero (suc j) d (x ∷ xs) h le lt = port_from x.port j d xs h.1 (omega (arith, lt))
+  ports_follow low (suc i) zero d (x ∷ xs) h le lt = absurd (omega (arith, le))
+  ports_follow low (suc i) (suc j) d (x ∷ xs) h le lt = ports_follow x.port i j d xs h.1 (omega (arith, le)) (omega (arith, lt))
+
+  no_pairs : (x : ℕ) (xs : List Sending) → ((k : ℕ) (d : Sending) → k < length xs → (get_or xs k d).port ≡ x → ⊥) → pairs_at x xs ≡ []
+  no_pairs x [] none = refl
+  no_pairs x (s ∷ xs) none =
+      rw (ne_eqb s.port x (none 0 s (omega arith))) (no_pairs x xs (λ k d lt. none (suc k) d (omega (arith, lt))))
+
+  -- nothing goes to a port from the bound on and before that of the place
+  pub nothing_between : (i next x : ℕ) → ((k : ℕ) (d : Sending) → k < i → (get_or ss k d).port < next) → next ≤ x →
+      ((d : Sending) → i < length ss → x < (get_or ss i d).port) → bag_at bags x ≡ []
+  nothing_between i next x before le behind =
+      sym (pairs x) ∙ no_pairs x ss (λ k d lt same. elim (cases_lt k i) [
+        | inl early ↦ let low = before k d early in omega (arith, low, le, same)
+        | inr late ↦
+            let up = ports_follow 0 i k d ss rise late lt in
+            let gap = behind d (omega (arith, late, lt)) in
+            omega (arith, up, gap, same)
+      ])

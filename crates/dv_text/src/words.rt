@@ -95,6 +95,7 @@ fn push_variable_name(line: &mut String, name: &str) -> Result<(), AllocError>
     line.push('=')
 }
 
+// What was sent. It looks at those ports alone at which something was.
 fn push_sent(line: &mut String, words: &Words, sent: &Sent) -> Result<(), AllocError>
     ensures { OnOk result (string_bytes line.new ≡ string_bytes line.old
         ++ sent_text (ports_text (names_found words.now).outputs sent.now)) }
@@ -103,11 +104,17 @@ fn push_sent(line: &mut String, words: &Words, sent: &Sent) -> Result<(), AllocE
         return Ok(());
     }
     let mut is_first = true;
-    for (port, name) in words.outputs.iter().enumerate() {
-        if port >= sent.len() {
-            return Ok(());
+    let mut next = 0;
+    for sending in sent.as_slice() {
+        // A port is written with the first value that went there.
+        if sending.port >= next {
+            let Some(name) = words.outputs.get(sending.port) else {
+                return Ok(());
+            };
+            let name = words.tree.name(*name);
+            is_first = push_next_port(line, is_first, name, sent, sending.port)?;
+            next = sending.port + 1;
         }
-        is_first = push_next_port(line, is_first, words.tree.name(*name), sent, port)?;
     }
     Ok(())
 }

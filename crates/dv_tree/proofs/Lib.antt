@@ -3,7 +3,6 @@ pub mod Below
 pub mod Dots
 pub mod Fitting
 pub mod Gathered
-pub mod HeldBags
 pub mod Kept
 pub mod Limits
 pub mod Linear

@@ -9,4 +9,3 @@ pub mod Unions
 -- What serves proofs.
 pub mod Tables
 pub mod Nodes
-pub mod Sparse

@@ -5,8 +5,7 @@ ghost use Rattle.std.specs.Option.{option_copied};
 ghost use Rattle.dv_tree.specs.Routing.{along, joined_at, with_values};
 
 use crate::couplings::{Coupling, Target};
-use crate::sparse::SparseBags;
-use dv_bag::{Bag, Sent};
+use dv_bag::{Bag, Bags, Sent};
 use std::alloc::{AllocError, Global};
 use std::marker::Model;
 
@@ -14,8 +13,8 @@ use std::marker::Model;
 /// part.
 #[derive(Drop)]
 pub(crate) struct Arrived {
-    pub(crate) own: SparseBags,
-    pub(crate) parts: Vec<SparseBags>,
+    pub(crate) own: Bags,
+    pub(crate) parts: Vec<Bags>,
 }
 
 impl Model for Arrived {
@@ -35,20 +34,20 @@ impl Arrived {
         ensures { result ≡ record { own = []; parts = [] } }
     {
         Arrived {
-            own: SparseBags::empty(alloc, 0),
+            own: Bags::empty(alloc, 0),
             parts: Vec::new(alloc),
         }
     }
 
     /// What stands at the outputs of the model itself.
-    pub(crate) fn own(&self) -> &SparseBags
+    pub(crate) fn own(&self) -> &Bags
         ensures { result.now ≡ self.now.own }
     {
         &self.own
     }
 
     /// What stands at the inputs of the parts, alone.
-    pub(crate) fn into_parts(self) -> Vec<SparseBags>
+    pub(crate) fn into_parts(self) -> Vec<Bags>
         ensures { result.items ≡ self.parts }
     {
         let Arrived { own: _, parts } = self;
@@ -104,14 +103,10 @@ impl Arrived {
     /// # Errors
     ///
     /// No memory for the values.
-    pub(crate) fn add_bags(
-        &mut self,
-        couplings: &[Coupling],
-        bags: &SparseBags,
-    ) -> Result<(), AllocError>
+    pub(crate) fn add_bags(&mut self, couplings: &[Coupling], bags: &Bags) -> Result<(), AllocError>
         ensures { OnOk result (self.new ≡ along couplings.now bags.now self.old) }
     {
-        if bags.is_silent() {
+        if bags.is_empty() {
             return Ok(());
         }
         for coupling in couplings {
@@ -122,7 +117,7 @@ impl Arrived {
 }
 
 // More values at a port; past the last port there is no place for them.
-fn join(bags: &mut SparseBags, port: usize, values: &Bag) -> Result<(), AllocError>
+fn join(bags: &mut Bags, port: usize, values: &Bag) -> Result<(), AllocError>
     ensures { OnOk result (bags.new ≡ joined_at port values.now bags.old) }
 {
     if port < bags.len() {

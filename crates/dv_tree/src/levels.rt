@@ -13,8 +13,8 @@ use crate::arrived::Arrived;
 use crate::couplings::{Coupling, PlacedLink, Target, own_couplings, part_couplings};
 use crate::placed_parts::{PlacedPart, part_names, placed_parts};
 use crate::places::Places;
-use crate::sparse::SparseBags;
 use crate::tables::numbers;
+use dv_bag::Bags;
 use dv_syntax::{Coupled, End, Link, Model as ModelItem, Name};
 use std::alloc::{AllocError, Global};
 use std::marker::Model;
@@ -87,18 +87,18 @@ impl Level {
     pub(crate) fn nothing(&self, alloc: Global) -> Result<Arrived, AllocError>
         ensures { IfOk result (λ arrived. arrived ≡ nothing_in self.now) }
     {
-        let own = SparseBags::empty(alloc, self.outputs);
+        let own = Bags::empty(alloc, self.outputs);
         let parts = empty_bags(alloc, &self.inputs)?;
         Ok(Arrived { own, parts })
     }
 }
 
-fn empty_bags(alloc: Global, ports: &[usize]) -> Result<Vec<SparseBags>, AllocError>
+fn empty_bags(alloc: Global, ports: &[usize]) -> Result<Vec<Bags>, AllocError>
     ensures { IfOk result (λ bags. bags.items ≡ map (λ ports. replicate ports []) ports.now) }
 {
     let mut bags = Vec::with_capacity(alloc, ports.len())?;
     for count in ports {
-        bags.push(SparseBags::empty(alloc, *count))?;
+        bags.push(Bags::empty(alloc, *count))?;
     }
     Ok(bags)
 }

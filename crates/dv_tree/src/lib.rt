@@ -17,8 +17,6 @@ mod placed_parts;
 mod places;
 /// How values travel.
 mod routing;
-/// Bags of which few hold values.
-mod sparse;
 /// The tables of the models of a file.
 mod tables;
 /// The tree of a checked text.
@@ -27,5 +25,4 @@ pub mod tree;
 pub use couplings::{Coupling, Target};
 pub use levels::{Level, level_at};
 pub use placed_parts::PlacedPart;
-pub use sparse::SparseBags;
 pub use tree::{Routed, Tree};

@@ -11,8 +11,7 @@ ghost use Rattle.dv_tree.specs.Routing.{along, along_all, first_bags};
 use crate::arrived::Arrived;
 use crate::couplings::Coupling;
 use crate::levels::{Level, level_at};
-use crate::sparse::SparseBags;
-use dv_bag::Sent;
+use dv_bag::{Bags, Sent};
 use std::alloc::{AllocError, Global};
 use std::vec::IntoIter;
 
@@ -156,9 +155,9 @@ pub(crate) fn sink(
     depth: usize,
     level: &Level,
     levels: &[Option<Level>],
-    input: &SparseBags,
+    input: &Bags,
     kept: &mut IntoIter<Arrived>,
-    received: &mut Vec<SparseBags>,
+    received: &mut Vec<Bags>,
 ) -> Result<(), AllocError>
     ensures kept { OnOk result (into_iter_items kept.new
         ≡ drop (suc (coupled_count (nodes_to depth levels.now level.now)))
@@ -180,9 +179,9 @@ fn sink_parts(
     depth: usize,
     level: &Level,
     levels: &[Option<Level>],
-    parts: &mut IntoIter<SparseBags>,
+    parts: &mut IntoIter<Bags>,
     kept: &mut IntoIter<Arrived>,
-    received: &mut Vec<SparseBags>,
+    received: &mut Vec<Bags>,
 ) -> Result<(), AllocError>
     ensures kept { OnOk result (into_iter_items kept.new
         ≡ drop (coupled_count (nodes_to depth levels.now level.now)) (into_iter_items kept.old)) }
@@ -208,9 +207,9 @@ fn sink_part(
     depth: usize,
     inside: Option<&Level>,
     levels: &[Option<Level>],
-    comes: SparseBags,
+    comes: Bags,
     kept: &mut IntoIter<Arrived>,
-    received: &mut Vec<SparseBags>,
+    received: &mut Vec<Bags>,
 ) -> Result<(), AllocError>
     ensures kept { OnOk result (into_iter_items kept.new ≡ drop
         (part_coupled (nodes_to depth levels.now) (option_copied inside.entry))
@@ -228,9 +227,9 @@ fn sink_part(
 // What comes to the parts of a coupled model, from what comes to its inputs and what is kept of it, which is taken.
 fn next_parts(
     level: &Level,
-    input: &SparseBags,
+    input: &Bags,
     kept: &mut IntoIter<Arrived>,
-) -> Result<Option<IntoIter<SparseBags>>, AllocError>
+) -> Result<Option<IntoIter<Bags>>, AllocError>
     ensures parts { IfOk result (λ parts. option_map into_iter_items parts
         ≡ option_map (to_level level.now input.now) (slice_get (into_iter_items kept.old) 0)) }
     ensures rest { OnOk result (into_iter_items kept.new ≡ drop 1 (into_iter_items kept.old)) }
@@ -243,12 +242,12 @@ fn next_parts(
 }
 
 // What comes to the next part.
-fn next_bags(alloc: Global, parts: &mut IntoIter<SparseBags>) -> SparseBags
+fn next_bags(alloc: Global, parts: &mut IntoIter<Bags>) -> Bags
     ensures value { result ≡ first_bags (into_iter_items parts.old) }
     ensures rest { into_iter_items parts.new ≡ drop 1 (into_iter_items parts.old) }
 {
     match parts.next() {
         Some(bags) => bags,
-        None => SparseBags::empty(alloc, 0),
+        None => Bags::empty(alloc, 0),
     }
 }

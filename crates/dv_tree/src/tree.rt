@@ -15,7 +15,6 @@ use crate::components::{Component, add_components, name_at};
 use crate::levels::{Level, level_at, levels};
 use crate::places::Places;
 use crate::routing::{rise, sink};
-use crate::sparse::SparseBags;
 use crate::tables::{
     self, inputs, model_numbers, numbers, outputs, root_inputs, root_outputs, scopes,
 };
@@ -28,11 +27,10 @@ use dv_syntax::{Atomic, File, Model as ModelItem};
 use std::alloc::{AllocError, Global};
 use std::marker::Model;
 
-/// What travels at one instant: what each component receives, and what leaves by the root's output ports. An input port
-/// of a component at which nothing arrives takes no memory.
+/// What travels at one instant: what each component receives, and what leaves by the root's output ports.
 #[derive(Drop)]
 pub struct Routed {
-    pub received: Vec<SparseBags>,
+    pub received: Vec<Bags>,
     pub leaving: Bags,
 }
 
@@ -338,20 +336,19 @@ fn route(
 {
     let mut received = Vec::new(alloc);
     let Some(level) = root else {
-        let leaving = Bags::empty(alloc, 0)?;
+        let leaving = Bags::empty(alloc, 0);
         return Ok(Routed { received, leaving });
     };
     let mut kept = Vec::new(alloc);
     rise(alloc, GREATEST_DEPTH, level, levels, sent, &mut kept)?;
-    let leaving = kept[0].own().to_bags(alloc)?;
-    let input = SparseBags::of(alloc, input)?;
+    let leaving = kept[0].own().clone()?;
     let mut kept = kept.into_iter();
     sink(
         alloc,
         GREATEST_DEPTH,
         level,
         levels,
-        &input,
+        input,
         &mut kept,
         &mut received,
     )?;

@@ -1,18 +1,39 @@
-use Rattle.std.proofs.Common.{◌∙◌, ◌+◌, ◌-◌, ap, arith, length, map, sym}
+use Rattle.std.proofs.Common.{◌+◌, ℕ, [], List, drop, length, map, replicate, refl, ap, sym, ◌∙◌, arith}
 use Rattle.std.specs.Prelude.{fold}
-use Rattle.std.specs.List.{range_with_len}
-use Rattle.dv_flat.specs.Probes.{with_arrivals, with_output}
-use Rattle.dv_flat.proofs.Ranges.{range_more}
+use Rattle.std.proofs.lemmas.List.{at_drop_all, at_drop_more}
+use Rattle.dv_bag.specs.declared.bags.PortBag.{PortBag}
+use Rattle.dv_bag.proofs.PortBags.{port_below}
+use Rattle.dv_bag.proofs.PortWalks.{held_fold}
+use Rattle.dv_flat.specs.Probes.{with_arrivals}
+use Rattle.dv_flat.specs.declared.arrivals.Arrival.{Arrival}
 use Rattle.dv_flat.proofs.arrivals.arrivals_at_outputs.Goals as goal
 
-pub loop-port-preserved : goal.loop-port-preserved
-loop-port-preserved c =
-    let leaving = c.args.leaving.now in
-    let port = c.loop-port.port in
-    let lists = map (λ list. list.items) c.loop-port.lists.items in
-    let rest = range_with_len (port + 1) (length leaving - (port + 1)) in
-    ap (λ ls. fold (with_output leaving) ls rest)
-    (c.in_ok-add_arrivals.ensures ∙ ap (with_arrivals port lists) c.get.ensures)
-    ∙ (ap (fold (with_output leaving) lists)
-    (sym (range_more port (length leaving) (omega (arith, c.loop-port-test.true, c.len-port-end.ensures))))
-    ∙ c.loop-port.invariant)
+-- with the arrivals of one bag
+abbrev with_bag : List (List (Arrival ℕ)) → PortBag → List (List (Arrival ℕ))
+with_bag lists h = with_arrivals h.port lists h.bag
+
+pub overflow_cast-held : goal.overflow_cast-held
+overflow_cast-held c =
+    let below = port_below (length c.args.leaving.now) c.loop-held.held-index c.held-held-items.result.now c.held-item.result
+    c.held-held-items.ensures.within c.loop-held-test.true in
+    record { fits = omega (arith, below, ap (λ (h : PortBag). h.port) c.held-item.is, c.requires) }
+
+pub loop-held-preserved : goal.loop-held-preserved
+loop-held-preserved c =
+    let items = c.held-held-items.result.now in
+    let i = c.loop-held.held-index in
+    ap (λ ls. fold with_bag ls (drop (i + 1) items)) c.in_ok-add_arrivals.ensures
+    ∙ ap (λ (g : PortBag). fold with_bag (with_bag (map (λ list. list.items) c.loop-held.lists.items) g) (drop (i + 1) items))
+    c.held-item.is
+    ∙ sym (at_drop_more (fold with_bag (map (λ list. list.items) c.loop-held.lists.items)) items i c.held-item.result
+    c.loop-held-test.true)
+    ∙ c.loop-held.invariant
+
+pub returns : goal.returns
+returns c =
+    let items = c.held-held-items.result.now in
+    sym (at_drop_all (fold with_bag (map (λ list. list.items) c.loop-held.lists.items)) items c.loop-held.held-index (omega arith))
+    ∙ c.loop-held.invariant
+    ∙ held_fold (λ lists port bag. with_arrivals port lists bag) (λ lists port. refl) (length c.args.leaving.now)
+    c.args.leaving.now items (replicate c.args.probes []) c.held-held-items.ensures.all c.held-held-items.ensures.within
+    c.held-held-items.ensures.order

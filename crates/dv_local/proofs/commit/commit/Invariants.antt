@@ -1,6 +1,6 @@
 use Rattle.std.proofs.Common.{◌≡◌, ◌+◌, length, take}
 use Rattle.dv_react.specs.Components.{rank_of}
-use Rattle.dv_share.specs.Commits.{HasGrown}
+use Rattle.dv_react.specs.Committed.{HasGrown}
 use Rattle.dv_share.specs.Places.{places_of}
 use Rattle.dv_share.specs.Share.{AreComponents}
 use Rattle.dv_local.specs.Commits.{HaveReacted}

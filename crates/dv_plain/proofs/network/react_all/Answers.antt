@@ -91,9 +91,8 @@ loop-k-preserved c =
     (get_or_default xs k c.index-components-k.result r within) in
     let received = c.args.received.now in
     let within_received : k < length received = omega (arith, c.requires.received, c.component_count-k-end.ensures.value) in
-    let comes = c.in_ok-comes.comes in
-    let here : comes ≡ get_or received k comes =
-    c.in_ok-comes.ensures ∙ c.index-received-k.is ∙ get_or_default received k c.index-received-k.result comes within_received in
+    let comes = c.index-received-k.result in
+    let here : comes ≡ get_or received k comes = c.index-received-k.is in
     let step =
     reactions_from-step limit is now first received k m r comes c.of-atom.ensures within_first same.0 within_received here in
     let sent = c.args.emitted.now.sent.items in

@@ -10,7 +10,7 @@ use Rattle.dv_tree.specs.Routing.{arrives, leaves}
 use Rattle.dv_plain.specs.Outputs.{reactions_at}
 use Rattle.dv_react.specs.Components.{component_of, rank_of}
 use Rattle.dv_plain.specs.Source.{network_of}
-use Rattle.dv_plain.proofs.Lines.{emissions-outputs}
+use Rattle.dv_plain.proofs.Emitted.{emissions-outputs}
 use Rattle.dv_plain.proofs.network.run_instant.Goals as goal
 
 pub react_all-requires-clause-received : goal.react_all-requires-clause-received
@@ -61,7 +61,8 @@ returns-clause-trace c =
     let leaving = c.in_ok-routed.ensures.leaving ∙ ap (leaves f) (sent c) in
     let entries = t.entries ++ entries_by limit now numbers (instant limit (network_of limit f) now c.args.input.now cs) in
     let lines = t.outer ++ outer_from limit now 0 c.in_ok-routed.routed.leaving in
-    c.in_ok-leave.ensures
+    ap (λ (es : List Entry). part_by es c.commit_outer.new.committed.outer) c.commit_outer.ensures.entries
+    ∙ ap (part_by c.react_all.new.trace.entries) c.in_ok-commit_outer.ensures.outer
     ∙ ap (λ (p : PartOf). part_by p.entries (p.outer ++ outer_from limit now 0 c.in_ok-routed.routed.leaving))
     c.in_ok-react_all.ensures.entries
     ∙ ap (λ bags. part_by (t.entries ++ entries_by limit now numbers (happened bags)) lines) (received c)

@@ -1,14 +1,14 @@
 use Rattle.std.proofs.Common.{List, ap, map, refl, subst, sym, ◌∙◌}
-use Rattle.std.specs.List.Sorted.{IsNonDecreasingBy}
 use Rattle.std.proofs.lemmas.List.{get_or-map}
-use Rattle.std.proofs.lemmas.List.Kept.{IsNonDecreasingBy-filter}
 use Rattle.dv_bag.specs.declared.response.Response.TheVariants.{Ticks}
 use Rattle.dv_conservative.specs.Links.{Link, is_between}
-use Rattle.dv_share.specs.Links.{links_of}
+use Rattle.dv_share.specs.Links.{RiseByPort, RiseBySource, links_of}
+use Rattle.dv_share.specs.declared.link.Link.{Link as CodeLink}
 use Rattle.dv_share.specs.declared.tables.Member.{Member}
 use Rattle.dv_proc.specs.Foreseeing.{ticks_of}
 use Rattle.dv_cut.specs.Cuts.{owned_by}
 use Rattle.dv_cut.specs.declared.channels.Away.{Away}
+use Rattle.dv_cut.proofs.Rising.{kept_by_port, kept_by_source}
 use Rattle.dv_plan.specs.Steps.{led_inputs, way_of}
 use Rattle.dv_plan.proofs.Shares.{ways_of_job}
 use Rattle.dv_plan.proofs.share.share_of_process.Goals as goal
@@ -17,22 +17,20 @@ pub routes-requires : goal.routes-requires
 routes-requires g c =
     let cut = c.args.common.now.cut.now in
     let own = owned_by cut.grouping c.args.process in
-    subst (λ (ls : List Link). IsNonDecreasingBy (λ (l : Link). l.from) ls) (sym c.between.ensures)
-    (IsNonDecreasingBy-filter (λ (l : Link). l.from) (is_between own own) cut.direct c.requires.rises.direct)
+    subst RiseBySource (sym c.between.ensures) (kept_by_source (is_between own own) cut.direct c.requires.rises.direct)
+
+pub new-requires : goal.new-requires
+new-requires g c =
+    let cut = c.args.common.now.cut.now in
+    subst (λ (ls : List CodeLink). RiseByPort (links_of ls)) (sym c.in_ok-copies.ensures)
+    (subst RiseByPort (sym c.entrances-entrances.ensures)
+    (kept_by_port (λ (l : Link). owned_by cut.grouping c.args.process l.to) cut.entrances c.requires.rises.entrances))
 
 pub routes-requires-2 : goal.routes-requires-2
 routes-requires-2 g c =
     let cut = c.args.common.now.cut.now in
-    subst (λ (ls : List Link). IsNonDecreasingBy (λ (l : Link). l.from) ls) (sym c.entrances-entrances.ensures)
-    (IsNonDecreasingBy-filter (λ (l : Link). l.from) (λ (l : Link). owned_by cut.grouping c.args.process l.to) cut.entrances
-    c.requires.rises.entrances)
-
-pub routes-requires-3 : goal.routes-requires-3
-routes-requires-3 g c =
-    let cut = c.args.common.now.cut.now in
-    subst (λ (ls : List Link). IsNonDecreasingBy (λ (l : Link). l.from) ls) (sym c.exits.ensures)
-    (IsNonDecreasingBy-filter (λ (l : Link). l.from) (λ (l : Link). owned_by cut.grouping c.args.process l.from) cut.exits
-    c.requires.rises.exits)
+    subst RiseBySource (sym c.exits.ensures)
+    (kept_by_source (λ (l : Link). owned_by cut.grouping c.args.process l.from) cut.exits c.requires.rises.exits)
 
 pub returns : goal.returns
 returns g c =
@@ -46,8 +44,8 @@ returns g c =
       members = refl;
       models = refl;
       links = c.in_ok-routes.ensures ∙ c.between.ensures;
-      entrances = c.in_ok-routes-2.ensures ∙ c.entrances-entrances.ensures;
-      exits = c.in_ok-routes-3.ensures ∙ c.exits.ensures;
+      entrances = c.new.ensures ∙ ap (λ (ls : List CodeLink). links_of ls) c.in_ok-copies.ensures ∙ c.entrances-entrances.ensures;
+      exits = c.in_ok-routes-2.ensures ∙ c.exits.ensures;
       outputs = refl;
       ports = refl;
       response = λ d. sym (get_or-map ticks_of common.responses.now p (Ticks 0) d c.requires.response);

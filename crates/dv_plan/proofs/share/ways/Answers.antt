@@ -1,14 +1,14 @@
 use Rattle.std.proofs.Common.{List, [], ◌∷◌, ◌+◌, ◌++◌, ap, drop, get_or, map, subst, sym, ◌∙◌}
-use Rattle.std.specs.List.Sorted.{IsNonDecreasingBy}
 use Rattle.std.proofs.lemmas.List.{map-append}
-use Rattle.std.proofs.lemmas.List.Kept.{IsNonDecreasingBy-filter}
 use Rattle.dv_conservative.specs.Links.{Link, is_between}
 use Rattle.dv_conservative.specs.Process.{Outgoing}
 use Rattle.dv_local.specs.Shares.{outgoing_of}
 use Rattle.dv_local.specs.declared.share.Way.{Way}
 use Rattle.dv_cut.specs.Cuts.{owned_by}
 use Rattle.dv_cut.specs.declared.channels.Away.{Away}
+use Rattle.dv_share.specs.Links.{RiseBySource}
 use Rattle.dv_cut.proofs.Loops.{pushed}
+use Rattle.dv_cut.proofs.Rising.{kept_by_source}
 use Rattle.dv_plan.specs.Steps.{way_of}
 use Rattle.dv_plan.proofs.share.ways.Goals as goal
 
@@ -19,9 +19,9 @@ pub routes-requires : goal.routes-requires
 routes-requires c =
     let cut = c.args.cut.now in
     let target = (get_or c.args.away.now c.loop-link.link-index nowhere).target in
-    subst (λ (ls : List Link). IsNonDecreasingBy (λ (l : Link). l.from) ls) (sym c.links_to.ensures)
-    (IsNonDecreasingBy-filter (λ (l : Link). l.from) (is_between (owned_by cut.grouping c.args.process) (owned_by cut.grouping target))
-    cut.direct c.requires.rises.direct)
+    subst RiseBySource (sym c.links_to.ensures)
+    (kept_by_source (is_between (owned_by cut.grouping c.args.process) (owned_by cut.grouping target)) cut.direct
+    c.requires.rises.direct)
 
 pub loop-link-preserved : goal.loop-link-preserved
 loop-link-preserved c =

@@ -1,18 +1,18 @@
-use Rattle.std.proofs.Common.{[], map, ap, ◌∙◌, subst, arith}
+use Rattle.std.proofs.Common.{[], map, ap, sym, ◌∙◌, subst, arith}
 use Rattle.std.specs.Prelude.{IfOk}
 use Rattle.dv_conservative.specs.World.{Job}
 use Rattle.dv_coded.specs.Lent.{behaviour_of_lent, lent_takes}
 use Rattle.dv_coded.specs.declared.lent.Lent.{Lent}
-use Rattle.dv_flat.specs.Links.{direct_links, entry_links, exit_links}
 use Rattle.dv_plan.specs.Plans.{IsPlanOf}
 use Rattle.dv_plan.specs.declared.whole.Whole.{Whole}
+use Rattle.dv_share.specs.Links.{RiseByPort, RiseBySource}
 use Rattle.dv_sound.specs.Members.{direct_of, entry_of, exit_of}
 use Rattle.dv_syntax.specs.Trees.{file_of}
 use Rattle.dv_tree.specs.Instances.{instances}
 use Rattle.dv_tree.proofs.Limits.{few_components, few_leave, length-leaves}
 use Rattle.dv_planned.proofs.Jobs.{job_of_text}
 use Rattle.dv_planned.proofs.Lent.{all_lent, as_many, members_lent}
-use Rattle.dv_planned.proofs.Lists.{all_ticks, as_many_responses, entries_rise, holds, links_rise}
+use Rattle.dv_planned.proofs.Lists.{all_ticks, as_many_responses, holds}
 use Rattle.dv_planned.proofs.plan.plan_text.Goals as goal
 
 -- an accepted text has few output ports
@@ -31,7 +31,6 @@ new-requires c =
     let f = file_of c.args.job.now.tree.now.file in
     let few = few_components f (c.checked_files.ensures f c.requires.accepted) in
     let members = c.args.members.items in
-    let links = c.in_ok-between.between in
     let count = as_many c.args.job.now.limit c.args.models.now members (instances f) c.requires.components.members in
     let answers = as_many_responses c.args.responses.items (instances f) c.requires.components.responses in
     record {
@@ -42,16 +41,13 @@ new-requires c =
       };
       few = omega (arith, few, count);
       direct =
-          links_rise links.direct.items (map direct_of (direct_links f)) (c.in_ok-between.ensures.direct
-          ∙ ap (map direct_of) c.requires.links.direct)
+          subst RiseBySource (sym (c.in_ok-between.ensures.direct ∙ ap (map direct_of) c.requires.links.direct))
           (c.links_rise.ensures.direct f);
       entrances =
-          links_rise links.entrances.items (map entry_of (entry_links f)) (c.in_ok-between.ensures.entrances
-          ∙ ap (map entry_of) c.requires.links.entries)
-          (entries_rise (entry_links f));
+          subst RiseByPort (sym (c.in_ok-between.ensures.entrances ∙ ap (map entry_of) c.requires.links.entries))
+          (c.links_rise.ensures.entrances f);
       exits =
-          links_rise links.exits.items (map exit_of (exit_links f)) (c.in_ok-between.ensures.exits
-          ∙ ap (map exit_of) c.requires.links.exits)
+          subst RiseBySource (sym (c.in_ok-between.ensures.exits ∙ ap (map exit_of) c.requires.links.exits))
           (c.links_rise.ensures.exits f);
       holds = holds c.args.responses.items c.requires.components.short;
       responses = omega (arith, few, answers);

@@ -1,8 +1,8 @@
 use Rattle.std.proofs.Common.{◌≡◌, ◌∙◌, ◌++◌, List, IsPermutation, subst, ap, sym}
 use Rattle.std.proofs.lemmas.List.{map-append}
 use Rattle.std.proofs.lemmas.Result.{on_ok_weaker}
-use Rattle.dv_conservative.specs.Links.{Delivery as Meant, Link, carried}
-use Rattle.dv_share.specs.Links.{deliveries_of, delivery_of, links_of}
+use Rattle.dv_conservative.specs.Links.{Delivery as Meant, carried}
+use Rattle.dv_share.specs.Links.{deliveries_of, delivery_of}
 use Rattle.dv_share.specs.Rows.{AllStand, RiseByComponent, marks}
 use Rattle.dv_share.specs.Share.{AreReceived, coming, sent_in}
 use Rattle.dv_share.specs.declared.link.Delivery.{Delivery}
@@ -26,12 +26,10 @@ returns-clause-received g c =
     let led : List Meant = carried t.links (sent_in ms es) in
     let one : deliveries_of c.carry_outside.new.deliveries.items ≡ entered =
     c.in_ok-carry_outside.ensures
-    ∙ ap (λ (ds : List Delivery). deliveries_of ds ++ carried (links_of c.as_slice.result.now) (λ k. outside)) c.clear.ensures.items
-    ∙ ap (λ (ls : List Link). carried ls (λ k. outside)) c.as_slice.ensures.links in
+    ∙ ap (λ (ds : List Delivery). deliveries_of ds ++ entered) c.clear.ensures.items in
     let two : deliveries_of c.carry_emitted.new.deliveries.items ≡ entered ++ led =
     c.in_ok-carry_emitted.ensures
-    ∙ ap (λ (ds : List Meant). ds ++ carried (links_of c.as_slice-2.result.now) (sent_in c.deref.result.now es)) one
-    ∙ ap (λ (ls : List Link). entered ++ carried ls (sent_in c.deref.result.now es)) c.as_slice-2.ensures.links
+    ∙ ap (λ (ds : List Meant). ds ++ carried t.links (sent_in c.deref.result.now es)) one
     ∙ ap (λ (ms : List Member). entered ++ carried t.links (sent_in ms es)) c.deref.ensures.value in
     let three : deliveries_of c.extend_from_slice.new.self.items ≡ (entered ++ led) ++ deliveries_of ds =
     ap deliveries_of c.in_ok-extend_from_slice.ensures.items
@@ -62,12 +60,10 @@ returns-clause-emitted g c =
     let led : List Meant = carried t.links (sent_in ms es) in
     let one : deliveries_of c.carry_outside.new.deliveries.items ≡ entered =
     c.in_ok-carry_outside.ensures
-    ∙ ap (λ (ds : List Delivery). deliveries_of ds ++ carried (links_of c.as_slice.result.now) (λ k. outside)) c.clear.ensures.items
-    ∙ ap (λ (ls : List Link). carried ls (λ k. outside)) c.as_slice.ensures.links in
+    ∙ ap (λ (ds : List Delivery). deliveries_of ds ++ entered) c.clear.ensures.items in
     let two : deliveries_of c.carry_emitted.new.deliveries.items ≡ entered ++ led =
     c.in_ok-carry_emitted.ensures
-    ∙ ap (λ (ds : List Meant). ds ++ carried (links_of c.as_slice-2.result.now) (sent_in c.deref.result.now es)) one
-    ∙ ap (λ (ls : List Link). entered ++ carried ls (sent_in c.deref.result.now es)) c.as_slice-2.ensures.links
+    ∙ ap (λ (ds : List Meant). ds ++ carried t.links (sent_in c.deref.result.now es)) one
     ∙ ap (λ (ms : List Member). entered ++ carried t.links (sent_in ms es)) c.deref.ensures.value in
     let three : deliveries_of c.extend_from_slice.new.self.items ≡ (entered ++ led) ++ deliveries_of ds =
     ap deliveries_of c.in_ok-extend_from_slice.ensures.items

@@ -9,7 +9,7 @@ use Rattle.dv_share.proofs.arrival.bags_of.Goals.{then-is_for+in_ok-deliver, els
 use Rattle.dv_share.proofs.arrival.bags_of.Goals as goal
 
 pub loop-delivery-init : goal.loop-delivery-init
-loop-delivery-init c = c.in_ok-bags.ensures ∙ sym (inbox_nothing c.args.component 0 c.args.ports)
+loop-delivery-init c = c.empty-bags.ensures ∙ sym (inbox_nothing c.args.component 0 c.args.ports)
 
 pub deliver-requires : goal.deliver-requires
 deliver-requires c =

@@ -1,8 +1,8 @@
 use Rattle.std.proofs.Common.{◌≡◌, ◌∙◌, ◌++◌, List, IsPermutation, sym, ap, subst}
 use Rattle.std.proofs.lemmas.Result.{IfOk-weaker}
 use Rattle.dv_conservative.specs.Events.{in_order}
-use Rattle.dv_conservative.specs.Links.{Link, carried}
-use Rattle.dv_share.specs.Links.{deliveries_of, links_of}
+use Rattle.dv_conservative.specs.Links.{carried}
+use Rattle.dv_share.specs.Links.{deliveries_of}
 use Rattle.dv_share.specs.Rows.{AreSorted}
 use Rattle.dv_share.specs.Share.{sent_in}
 use Rattle.dv_share.specs.declared.link.Delivery.{Delivery}
@@ -22,9 +22,7 @@ returns c =
     let moved : IsPermutation all sorted = subst (IsPermutation all) (sym c.deref.ensures.value) c.sort_unstable.ensures.permutation in
     let led : deliveries_of all ≡ carried c.args.links.now (sent_in ms es) =
     c.in_ok-carry_emitted.ensures
-    ∙ ap (λ (ds : List Delivery). deliveries_of ds ++ carried (links_of c.as_slice.result.now) (sent_in ms es))
-    c.new-deliveries.ensures.items
-    ∙ ap (λ (ls : List Link). carried ls (sent_in ms es)) c.as_slice.ensures.links in
+    ∙ ap (λ (ds : List Delivery). deliveries_of ds ++ carried c.args.links.now (sent_in ms es)) c.new-deliveries.ensures.items in
     IfOk-weaker c.unite.result _ _
     (λ ds h.
     h

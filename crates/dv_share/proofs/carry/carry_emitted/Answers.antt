@@ -1,6 +1,6 @@
 use Rattle.std.proofs.Common.{◌≡◌, ◌++◌, List, IfOk, subst}
-use Rattle.dv_conservative.specs.Links.{Delivery as Meant}
-use Rattle.dv_share.specs.Links.{deliveries_of, links_of}
+use Rattle.dv_conservative.specs.Links.{Delivery as Meant, Link}
+use Rattle.dv_share.specs.Links.{deliveries_of}
 use Rattle.dv_share.proofs.Rising.{rise_of}
 use Rattle.dv_share.proofs.Senders.{rows_are_carried}
 use Rattle.dv_share.proofs.carry.carry_emitted.Goals as goal
@@ -10,7 +10,7 @@ returns c =
     subst
     (λ (ds : List Meant). IfOk c.carry_rows.result (λ _. deliveries_of c.carry_rows.new.deliveries.items
     ≡ deliveries_of c.args.deliveries.now.items ++ ds))
-    (rows_are_carried c.args.members.now (links_of c.args.links.now) c.args.emitted.now c.requires.numbers
-    (rise_of c.args.links.now c.requires.links)
+    (rows_are_carried c.args.members.now c.args.links.now c.args.emitted.now c.requires.numbers
+    (rise_of (λ (l : Link). l.from) c.args.links.now c.are_in_order.ensures.senders)
     c.requires.emitted)
     c.carry_rows.ensures

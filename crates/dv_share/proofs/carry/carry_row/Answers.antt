@@ -1,35 +1,72 @@
-use Rattle.std.proofs.Common.{◌≡◌, ◌+◌, ◌<◌, ◌++◌, List, length, drop, sym, ap, ◌∙◌, get_or, arith}
+use Rattle.std.proofs.Common.{◌≡◌, ◌<◌, ◌++◌, ℕ, List, nat_eq, filter, pos, length, get_or, sym, ap, ◌∙◌, arith}
+use Rattle.std.specs.List.{slice_range}
+use Rattle.std.proofs.lemmas.List.{append-nil, append_assoc}
 use Rattle.std.proofs.lemmas.Option.{get_or_from_slice_get, slice_get-get_or}
-use Rattle.dv_bag.specs.Bag.{bag_at}
-use Rattle.dv_conservative.specs.Links.{Delivery as Meant, carried, carried_by}
-use Rattle.dv_share.specs.Links.{deliveries_of, link_of, links_of, pairs_of}
-use Rattle.dv_share.specs.declared.link.Link.{Link}
-use Rattle.dv_share.proofs.Carrying.{carry_more, drop_next}
-use Rattle.dv_share.proofs.Sends.{pairs_are, ports_never_fall}
+use Rattle.dv_bag.specs.declared.sent.Sending.{Sending}
+use Rattle.dv_conservative.specs.Links.{Delivery as Meant, Link}
+use Rattle.dv_share.specs.Links.{deliveries_of, links_of, pairs_of}
+use Rattle.dv_share.specs.Rows.{carried_each}
+use Rattle.dv_share.proofs.Ports.{all_below, carried_below, next_port, no_next, no_pairs, none_below, none_first, parted_on, sent_step}
+use Rattle.dv_share.proofs.Sends.{ports_never_fall}
 use Rattle.dv_share.proofs.carry.carry_row.Goals as goal
 
-no_link : Link
-no_link = record { from = 0; from_port = 0; to = 0; to_port = 0; copies = 0 }
+none : Sending
+none = record { port = 0; value = pos 0; copies = 0 }
 
-pub run_of-requires : goal.run_of-requires
-run_of-requires c = ports_never_fall 0 _ c.as_slice-sendings.ensures.order
+-- the first sending is of its port, whatever stands past the end
+first_is : (ss : List Sending) (start : ℕ) → start < length ss → (d : Sending) → (get_or ss start d).port ≡ (get_or ss start none).port
+first_is ss start early d =
+    ap (λ (s : Sending). s.port) (get_or_from_slice_get ss start (get_or ss start none) d (slice_get-get_or ss start none early))
 
-pub loop-link-preserved : goal.loop-link-preserved
-unfolding no_link
-loop-link-preserved c =
-    let ls = c.args.links.now in
-    let i = c.loop-link.link-index in
-    let l = get_or ls i no_link in
-    let sent = c.args.sent.now in
-    let old = c.loop-link.deliveries.items in
-    let rest = carried (links_of (drop (i + 1) ls)) (λ k. sent) in
-    let all = deliveries_of c.args.deliveries.now.items ++ carried (links_of ls) (λ k. sent) in
-    let early : i < length ls = omega arith in
-    let bag = ap pairs_of c.run_of.ensures ∙ pairs_are l.from_port c.as_slice-sendings.result.now
-    ∙ c.as_slice-sendings.ensures.bags l.from_port in
-    carry_more c.carry_sendings.new.deliveries.items old (carried_by (link_of l) (bag_at sent l.from_port)) rest all
-    (c.in_ok-carry_sendings.ensures ∙ ap (λ ps. deliveries_of old ++ carried_by (link_of l) ps) bag)
-    (sym (ap (λ (ds : List Meant). deliveries_of old ++ ds)
-    (ap (λ ms. carried (links_of ms) (λ k. sent))
-    (drop_next ls i l early (sym (get_or_from_slice_get ls i l l (slice_get-get_or ls i no_link early))))))
-    ∙ c.loop-link.invariant)
+pub loop-start-init : goal.loop-start-init
+loop-start-init c =
+    let ss = c.as_slice-sendings.result.now in
+    let old = deliveries_of c.args.deliveries.now.items in
+    let sorted = ports_never_fall 0 ss c.as_slice-sendings.ensures.order in
+    let nothing = none_below c.args.sent.now (next_port (λ s. s.port) ss 0) (links_of c.args.links.now)
+    (λ x is. sym (c.as_slice-sendings.ensures.bags x) ∙ no_pairs x ss (none_first (λ s. s.port) ss sorted x is)) in
+    record {
+      within = omega arith;
+      parted = λ k d lt within. absurd (omega arith);
+      carried = sym (ap (λ (ds : List Meant). old ++ ds) nothing ∙ append-nil old);
+    }
+
+pub run_end-end-requires-clause-rise : goal.run_end-end-requires-clause-rise
+run_end-end-requires-clause-rise c = ports_never_fall 0 _ c.as_slice-sendings.ensures.order
+
+pub loop-start-preserved : goal.loop-start-preserved
+unfolding none
+loop-start-preserved c =
+    let ss = c.as_slice-sendings.result.now in
+    let ls = links_of c.args.links.now in
+    let start = c.loop-start.start in
+    let end = c.run_end-end.result in
+    let p = (get_or ss start none).port in
+    let run = c.run_end-end.ensures in
+    let sorted = ports_never_fall 0 ss c.as_slice-sendings.ensures.order in
+    let at = first_is ss start c.loop-start-test.true in
+    let before = carried_below c.args.sent.now (next_port (λ s. s.port) ss start) ls in
+    let more = carried_each (filter (λ l. nat_eq l.from_port p) ls) (pairs_of (slice_range ss start end)) in
+    record {
+      within = run.within;
+      parted = parted_on (λ s. s.port) ss p start end c.loop-start.invariant.parted c.loop-start-test.true at run.there run.behind;
+      carried =
+          c.in_ok-carry_port.ensures
+          ∙ ap
+          (λ (links : List Link). deliveries_of c.loop-start.deliveries.items ++ carried_each links (pairs_of (slice_range ss start end)))
+          c.links_at.ensures
+          ∙ ap (λ (ds : List Meant). ds ++ more) c.loop-start.invariant.carried
+          ∙ append_assoc (deliveries_of c.args.deliveries.now.items) before more
+          ∙ ap (λ (ds : List Meant). deliveries_of c.args.deliveries.now.items ++ ds)
+          (sym (sent_step c.args.sent.now ss ls p start end none c.requires sorted c.loop-start.invariant.parted
+          c.as_slice-sendings.ensures.bags c.loop-start-test.true at run.onward run.within run.there run.behind));
+    }
+
+pub returns : goal.returns
+returns c =
+    let ss = c.as_slice-sendings.result.now in
+    let ls = links_of c.args.links.now in
+    c.loop-start.invariant.carried
+    ∙ ap (λ o. deliveries_of c.args.deliveries.now.items ++ carried_below c.args.sent.now o ls)
+    (no_next (λ s. s.port) ss c.loop-start.start (omega arith))
+    ∙ ap (λ (ds : List Meant). deliveries_of c.args.deliveries.now.items ++ ds) (all_below c.args.sent.now ls)

@@ -5,7 +5,7 @@ use Rattle.dv_bag.specs.Bag.{Counts}
 use Rattle.dv_bag.specs.declared.fault.Fault.{Fault}
 use Rattle.dv_react.specs.Outcomes.{sent_of}
 use Rattle.dv_conservative.specs.Links.{Delivery as Meant, Link, carried}
-use Rattle.dv_share.specs.Links.{deliveries_of, leads_from, links_of}
+use Rattle.dv_share.specs.Links.{deliveries_of, leads_from}
 use Rattle.dv_share.specs.Rows.{number_of, rows}
 use Rattle.dv_share.specs.declared.tables.Member.{Member}
 use Rattle.dv_share.proofs.Carrying.{carry_more, drop_next}
@@ -17,7 +17,7 @@ pub loop-emission-preserved : goal.loop-emission-preserved
 loop-emission-preserved c =
     let es = c.args.emitted.now in
     let ms = c.args.members.now in
-    let links = links_of c.args.links.now in
+    let links = c.args.links.now in
     let i = c.loop-emission.emission-index in
     let e = c.emission-item.result in
     let old = c.loop-emission.deliveries.items in
@@ -32,7 +32,7 @@ loop-emission-preserved c =
           let at : slice_get ms e.place ≡ Some m = slice_get-get_or ms e.place w.index-members-emission.result within in
           carry_more c.match-emission.deliveries.items old (carried (filter (leads_from m.number) links) (λ k. w.in-Ok.sent)) rest all
           (ap (λ v. deliveries_of v.items) w.deliveries-is ∙ w.in_ok-carry_row.ensures
-          ∙ ap (λ (ls : List Link). deliveries_of old ++ carried ls (λ k. w.in-Ok.sent)) w.links_from.ensures)
+          ∙ ap (λ (ls : List Link). deliveries_of old ++ carried ls (λ k. w.in-Ok.sent)) w.of_component.ensures.links)
           (ap (λ (ds : List Meant). deliveries_of old ++ ds)
           (sym
           (next ∙ ap (λ (o : Option Member). carried (filter (leads_from (number_of o)) links) (λ k. sent_of e.what) ++ rest) at

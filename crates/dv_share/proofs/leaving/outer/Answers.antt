@@ -3,20 +3,19 @@ use Rattle.std.proofs.lemmas.Result.{on_ok_weaker}
 use Rattle.dv_bag.specs.Bag.{Counts}
 use Rattle.dv_devs.specs.Network.{outer_from}
 use Rattle.dv_react.specs.Components.{rank_of}
-use Rattle.dv_conservative.specs.Links.{Delivery as Meant, Link, carried, inbox}
-use Rattle.dv_share.specs.Links.{deliveries_of, links_of}
+use Rattle.dv_conservative.specs.Links.{Delivery as Meant, carried, inbox}
+use Rattle.dv_share.specs.Links.{deliveries_of}
 use Rattle.dv_share.specs.Share.{sent_in}
 use Rattle.dv_share.specs.declared.link.Delivery.{Delivery}
 use Rattle.dv_share.specs.declared.tables.Member.{Member}
 use Rattle.dv_share.proofs.Inboxes.{inbox_length}
 use Rattle.dv_share.proofs.leaving.outer.Goals as goal
 
-pub commit_lines-requires : goal.commit_lines-requires
-commit_lines-requires g c =
+pub commit_outer-requires : goal.commit_outer-requires
+commit_outer-requires g c =
     let small : c.args.tables.now.outputs < 2 ^ 32 = search rules in
     omega (
       arith,
-      ap length c.as_slice-2.ensures,
       ap length c.in_ok-bags.ensures,
       inbox_length 0 (deliveries_of c.deref-2.result.now) 0 c.args.tables.now.outputs,
       small,
@@ -30,14 +29,12 @@ returns-clause-outer g c =
     let now = rank_of c.args.instant.now in
     let led : deliveries_of c.carry_emitted.new.deliveries.items ≡ carried t.exits (sent_in t.members.items es) =
     c.in_ok-carry_emitted.ensures
-    ∙ ap (λ (ds : List Delivery). deliveries_of ds ++ carried (links_of c.as_slice.result.now) (sent_in c.deref.result.now es))
+    ∙ ap (λ (ds : List Delivery). deliveries_of ds ++ carried t.exits (sent_in c.deref.result.now es))
     c.clear.ensures.items
-    ∙ ap (λ (ls : List Link). carried ls (sent_in c.deref.result.now es)) c.as_slice.ensures.links
     ∙ ap (λ (ms : List Member). carried t.exits (sent_in ms es)) c.deref.ensures.value in
     let bags =
-    c.as_slice-2.ensures
-    ∙ c.in_ok-bags.ensures
+    c.in_ok-bags.ensures
     ∙ ap (λ (ds : List Delivery). inbox 0 (deliveries_of ds) 0 t.outputs) c.deref-2.ensures.value
     ∙ ap (λ (ds : List Meant). inbox 0 ds 0 t.outputs) led in
-    on_ok_weaker c.commit_lines.result
-    (λ h. h ∙ ap (λ (xs : List Counts). c.args.committed.now.outer ++ outer_from limit now 0 xs) bags) c.commit_lines.ensures.outer
+    on_ok_weaker c.commit_outer.result
+    (λ h. h ∙ ap (λ (xs : List Counts). c.args.committed.now.outer ++ outer_from limit now 0 xs) bags) c.commit_outer.ensures.outer

@@ -1,13 +1,9 @@
-use Rattle.std.proofs.Common.{◌≡◌, ◌∙◌, ◌<◌, Option, Some, Result, Ok, Err, IfOk, List, length, slice_get, ap, sym, subst, refl}
-use Rattle.std.proofs.lemmas.Option.{same_Some, slice_get_read}
-use Rattle.dv_bag.specs.Bag.{Counts}
-use Rattle.dv_bag.specs.declared.fault.Fault.{Fault}
-use Rattle.dv_devs.specs.Behaviour.{emission, reaction}
-use Rattle.dv_react.specs.Components.{IsWaitOfRun, component_of, rank_of}
-use Rattle.dv_react.specs.Outcomes.{fault_of, left_by, reaction_by, sent_of}
-use Rattle.dv_react.specs.declared.outcome.Outcome.{Outcome}
-use Rattle.dv_share.specs.Outcomes.{behaviour_in}
-use Rattle.dv_share.specs.Share.{behaviour_of, given_at}
+use Rattle.std.proofs.Common.{◌≡◌, ◌∙◌, ◌<◌, Option, Some, Result, Ok, Err, IfOk, length, slice_get, ap, sym, subst, refl}
+use Rattle.std.proofs.lemmas.Option.{slice_get_read}
+use Rattle.dv_devs.specs.Behaviour.{emission}
+use Rattle.dv_react.specs.Components.{component_of, rank_of}
+use Rattle.dv_react.specs.Outcomes.{fault_of}
+use Rattle.dv_share.specs.Share.{behaviour_of}
 use Rattle.dv_share.specs.declared.tables.Member.{Member}
 use Rattle.dv_share.proofs.react.outcome.Goals as goal
 

@@ -17,6 +17,6 @@ found c = arriving c.requires.0 c.args.time c.args.place c.args.self.now c.self.
 pub returns : goal.returns
 returns c =
     c.in_ok-put_all.ensures
-    ∙ ap (λ (inputs : List Input). with_inputs inputs c.in_ok-bags.bags) (found c)
-    ∙ ap (with_inputs (filter (is_at c.args.time) c.args.self.now)) c.in_ok-bags.ensures
+    ∙ ap (λ (inputs : List Input). with_inputs inputs c.empty-bags.result) (found c)
+    ∙ ap (with_inputs (filter (is_at c.args.time) c.args.self.now)) c.empty-bags.ensures
     ∙ put_at_time c.args.ports c.args.time c.args.self.now

@@ -4,18 +4,15 @@ use Rattle.std.proofs.lemmas.List.{length-map}
 use Rattle.std.proofs.lemmas.List.FromFn.{length-map-range_with_len}
 use Rattle.dv_bag.specs.declared.response.Response.{Response}
 use Rattle.dv_conservative.specs.Channels.{all_channels}
-use Rattle.dv_conservative.specs.Links.{Link as Meant}
 use Rattle.dv_conservative.specs.Responses.{least_response}
-use Rattle.dv_share.specs.Links.{link_of}
 use Rattle.dv_share.specs.Places.{AreRising}
 use Rattle.dv_share.specs.Share.{numbers_of}
 use Rattle.dv_share.specs.declared.tables.Member.{Member}
 use Rattle.dv_proc.specs.Foreseeing.{ticks_of}
-use Rattle.dv_partition.specs.Groups.{Grouping, owner_of}
+use Rattle.dv_partition.specs.Groups.{owner_of}
 use Rattle.dv_proc.specs.Channels.{meant_channel}
 use Rattle.dv_cut.specs.Cuts.{CutOf, owned_by}
 use Rattle.dv_proc.specs.declared.channel.Channel.{Channel}
-use Rattle.dv_cut.proofs.Rising.{rises_after}
 use Rattle.dv_plan.specs.Steps.{Rises, members_of}
 use Rattle.dv_plan.proofs.Few.{few_channels}
 use Rattle.dv_plan.proofs.Lists.{all_made, rise_kept}
@@ -61,11 +58,10 @@ shares-requires-clause-few g c =
 
 pub shares-requires-clause-rises : goal.shares-requires-clause-rises
 shares-requires-clause-rises g c =
-    let links = c.args.whole.links in
     subst (λ (k : CutOf). Rises k) (sym c.in_ok-cut.ensures) (record {
-      direct = rises_after link_of (λ (l : Meant). l.from) links.direct.items c.requires.direct;
-      entrances = rises_after link_of (λ (l : Meant). l.from) links.entrances.items c.requires.entrances;
-      exits = rises_after link_of (λ (l : Meant). l.from) links.exits.items c.requires.exits;
+      direct = c.requires.direct;
+      entrances = c.requires.entrances;
+      exits = c.requires.exits;
     })
 
 pub shares-requires-clause-rise : goal.shares-requires-clause-rise

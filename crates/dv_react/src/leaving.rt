@@ -1,0 +1,37 @@
+//! The lines of what leaves the model at an instant.
+
+ghost use Rattle.std.specs.Prelude.{◌≡◌, ◌++◌, ◌^◌, ◌≤◌, OnOk, length};
+ghost use Rattle.dv_devs.specs.Network.{outer_from};
+ghost use Rattle.dv_react.specs.Committed.{HasGrown};
+ghost use Rattle.dv_react.specs.Components.{rank_of};
+
+use crate::instant::Instant;
+use dv_bag::{Bags, Outer, Part};
+use std::alloc::AllocError;
+
+/// Commits what leaves the model at an instant, by output port of the root: a line for each port with values. The work
+/// is in these ports.
+///
+/// # Errors
+///
+/// No memory for the lines, of which some may have been committed then.
+pub fn commit_outer(
+    instant: &Instant,
+    leaving: &Bags,
+    committed: &mut Part,
+) -> Result<(), AllocError>
+    requires { length leaving.now ≤ 2 ^ 32 }
+    ensures outer { OnOk result (committed.new.outer ≡ committed.old.outer
+        ++ outer_from instant.now.limit (rank_of instant.now) 0 leaving.now) }
+    ensures grown { HasGrown committed.old.outer committed.new.outer }
+    ensures entries { committed.new.entries ≡ committed.old.entries }
+{
+    for held in leaving.held() {
+        committed.push_outer(Outer {
+            time: instant.time,
+            port: held.port as u32,
+            values: held.bag.clone()?,
+        })?;
+    }
+    Ok(())
+}

@@ -1,6 +1,0 @@
-use Rattle.dv_tree.proofs.HeldBags.{Fills}
-use Rattle.dv_tree.proofs.sparse.SparseBags.to_bags.Given as goal
-
--- the bags of the ports so far
-abbrev pub invariant-loop-port : goal.invariant-loop-port
-invariant-loop-port l = Fills l.self l.bags l.port
