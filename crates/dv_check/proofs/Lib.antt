@@ -1,5 +1,6 @@
 pub mod Lists
 pub mod Firsts
+pub mod Tables
 pub mod Found
 pub mod Blocks
 pub mod Declared

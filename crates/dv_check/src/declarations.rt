@@ -62,7 +62,7 @@ pub fn sorts_of(
 ) -> Result<Directory<NameSort>, AllocError>
     ensures { IfOk result (λ sorts. value_for sorts ≡ sort_in declarations.now) }
 {
-    let mut sorts = Directory::new(alloc);
+    let mut sorts = Directory::with_room(alloc, declarations.len())?;
     for declaration in declarations {
         let name = names::name_of_declaration(declaration);
         sorts.add(name.number, sort_of(declaration))?;
@@ -75,7 +75,7 @@ pub fn sorts_of(
 fn places_of(alloc: Global, declarations: &[Declaration]) -> Result<Directory<u32>, AllocError>
     ensures { IfOk result (λ places. value_for places ≡ place_in declarations.now) }
 {
-    let mut places = Directory::new(alloc);
+    let mut places = Directory::with_room(alloc, declarations.len())?;
     for declaration in declarations {
         let name = names::name_of_declaration(declaration);
         places.add(name.number, name.place)?;

@@ -1,43 +1,87 @@
 //! What names stand for, where the first declaration counts.
 
-ghost use Rattle.std.specs.Prelude.{◌≡◌, OnOk};
+ghost use Rattle.std.specs.Prelude.{◌≡◌, is_none, IfOk, OnOk};
 ghost use Rattle.std.specs.Option.{option_copied};
-ghost use Rattle.dv_check.specs.Tables.{value_for, no_value, with_first};
+ghost use Rattle.dv_check.specs.Tables.{entry_for, no_value, value_for, with_first};
 
+use crate::table::Table;
 use std::alloc::{AllocError, Global};
-use std::collections::HashMap;
 
-/// For each number the value that was added for it first.
+/// The greatest number of values that are looked for one after the other.
+const GREATEST_FEW: usize = 8;
+
+/// For each number the value that was added for it first. Most lists of names are short, and a short list is searched
+/// sooner than a table is made for it.
 #[derive(Drop)]
-pub struct Directory<V: Drop> {
-    values: HashMap<u32, V>,
+pub enum Directory<V: Drop> {
+    Few(Vec<(u32, V)>),
+    Many(Box<Table<V>>),
 }
 
-#[tactic(auto, unfolding(crate::specs::Tables::value_for, crate::specs::Tables::no_value, crate::specs::Tables::with_first))]
+#[tactic(auto, unfolding(crate::specs::Tables::value_for))]
 impl<V: Drop> Directory<V> {
-    /// No values.
-    pub fn new(alloc: Global) -> Self
-        ensures { value_for result ≡ no_value }
+    /// No values, and made for so many.
+    #[tactic(auto, using(crate::proofs::Tables::entry_none), unfolding(crate::specs::Tables::value_for))]
+    pub fn with_room(alloc: Global, count: usize) -> Result<Self, AllocError>
+        ensures { IfOk result (λ directory. value_for directory ≡ no_value) }
     {
-        Directory {
-            values: HashMap::new(alloc),
+        if count <= GREATEST_FEW {
+            Ok(Directory::Few(Vec::new(alloc)))
+        } else {
+            Ok(Directory::Many(Box::new(alloc, Table::with_room(alloc, count))?))
         }
     }
 
-    /// Adds a value, unless there is one for the number.
-    pub fn add(&mut self, number: u32, value: V) -> Result<(), AllocError>
-        ensures { OnOk result (value_for self.new ≡ with_first (value_for self.old) number value) }
+    /// Adds a value, unless there is one for the number, and answers whether there was none.
+    pub fn add(&mut self, number: u32, value: V) -> Result<bool, AllocError>
+        ensures new { IfOk result (λ is_new. is_new ≡ is_none (value_for self.old number)) }
+        ensures added { OnOk result
+            (value_for self.new ≡ with_first (value_for self.old) number value) }
     {
-        if !self.values.contains_key(&number) {
-            self.values.insert(number, value)?;
+        match self {
+            Directory::Few(entries) => add_entry(entries, number, value),
+            Directory::Many(table) => table.add(number, value),
         }
-        Ok(())
     }
 
     /// The value of a number.
     pub fn get(&self, number: u32) -> Option<&V>
         ensures { option_copied result ≡ value_for self.now number }
     {
-        self.values.get(&number)
+        match self {
+            Directory::Few(entries) => entry_for(entries, number),
+            Directory::Many(table) => table.get(number),
+        }
     }
+}
+
+// Adds a value to a list of values by their numbers, unless there is one for the number.
+#[tactic(auto, using(crate::proofs::Tables::entry_more, crate::proofs::Tables::stays_first))]
+fn add_entry<V: Drop>(
+    entries: &mut Vec<(u32, V)>,
+    number: u32,
+    value: V,
+) -> Result<bool, AllocError>
+    ensures new { IfOk result (λ is_new. is_new ≡ is_none (entry_for entries.old.items number)) }
+    ensures added { OnOk result (entry_for entries.new.items
+        ≡ with_first (entry_for entries.old.items) number value) }
+{
+    let is_new = entry_for(entries, number).is_none();
+    if is_new {
+        entries.push((number, value))?;
+    }
+    Ok(is_new)
+}
+
+// The first value of a number in a list.
+#[tactic(auto, unfolding(crate::specs::Tables::entry_for, crate::specs::Names::first_of))]
+fn entry_for<V>(entries: &[(u32, V)], number: u32) -> Option<&V>
+    ensures { option_copied result ≡ entry_for entries.now number }
+{
+    for entry in entries {
+        if entry.0 == number {
+            return Some(&entry.1);
+        }
+    }
+    None
 }

@@ -75,6 +75,9 @@ mod starts;
 /// The statements of rules.
 mod statements;
 
+/// What names stand for, in a table by their numbers.
+mod table;
+
 pub use checked::Checked;
 pub use checker::check;
 pub use limits::{GREATEST_COMPONENTS, GREATEST_DEPTH, GREATEST_INSTANCES, GREATEST_NAMES};

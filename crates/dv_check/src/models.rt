@@ -42,7 +42,7 @@ pub fn faces_of(
 ) -> Result<Directory<Directory<NameSort>>, AllocError>
     ensures { IfOk result (λ faces. faces_by faces ≡ faces_in (map model_of models.now)) }
 {
-    let mut faces = Directory::new(alloc);
+    let mut faces = Directory::with_room(alloc, models.len())?;
     for model in models {
         faces.add(name_of(model).number, face_of(alloc, model)?)?;
     }

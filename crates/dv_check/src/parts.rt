@@ -48,7 +48,7 @@ pub fn part_names(alloc: Global, parts: &[Part]) -> Result<Vec<Name>, AllocError
 fn directory_of(alloc: Global, parts: &[Part]) -> Result<Directory<Part>, AllocError>
     ensures { IfOk result (λ directory. value_for directory ≡ parts_in parts.now) }
 {
-    let mut directory = Directory::new(alloc);
+    let mut directory = Directory::with_room(alloc, parts.len())?;
     for part in parts {
         directory.add(part.name.number, *part)?;
     }

@@ -15,7 +15,7 @@ pub fn positions_of(alloc: Global, models: &[Model]) -> Result<Directory<usize>,
     ensures { IfOk result
         (λ positions. value_for positions ≡ position_of (map model_of models.now)) }
 {
-    let mut positions = Directory::new(alloc);
+    let mut positions = Directory::with_room(alloc, models.len())?;
     for (index, model) in models.iter().enumerate() {
         positions.add(name_of(model).number, index)?;
     }

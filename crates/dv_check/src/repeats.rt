@@ -11,7 +11,9 @@ use dv_lex::RefusalNumber;
 use dv_syntax::{Name, Part};
 use std::alloc::{AllocError, Global};
 
-/// Notes each name that stands again behind an earlier one.
+/// Notes each name that stands again behind an earlier one. A name alone stands behind none, and most lists that are
+/// asked are that short, so no set is made for them.
+#[tactic(auto, using(crate::proofs::Lists::no_repeats))]
 pub fn find_repeats(
     alloc: Global,
     number: RefusalNumber,
@@ -20,7 +22,21 @@ pub fn find_repeats(
 ) -> Result<(), AllocError>
     ensures { OnOk result (found.new ≡ with_refusals found.old (repeats number names.now)) }
 {
-    let mut seen = NumberSet::new(alloc);
+    match names {
+        [] | [_] => Ok(()),
+        _ => find_repeats_by_set(alloc, number, names, found),
+    }
+}
+
+fn find_repeats_by_set(
+    alloc: Global,
+    number: RefusalNumber,
+    names: &[Name],
+    found: &mut Findings,
+) -> Result<(), AllocError>
+    ensures { OnOk result (found.new ≡ with_refusals found.old (repeats number names.now)) }
+{
+    let mut seen = NumberSet::with_room(alloc, names.len())?;
     for name in names {
         if !seen.insert(name.number)? {
             found.note(number, name.place);
@@ -33,7 +49,7 @@ pub fn find_repeats(
 pub fn first_parts(alloc: Global, parts: &[Part]) -> Result<Vec<Part>, AllocError>
     ensures { IfOk result (λ firsts. firsts.items ≡ first_parts parts.now) }
 {
-    let mut seen = NumberSet::new(alloc);
+    let mut seen = NumberSet::with_room(alloc, parts.len())?;
     let mut firsts = Vec::new(alloc);
     for part in parts {
         if seen.insert(part.name.number)? {

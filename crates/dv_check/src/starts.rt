@@ -34,7 +34,7 @@ fn directory_of(
     ensures { IfOk result (λ directory. value_for directory
         ≡ first_of number_of_state_variable domain_of_state_variable variables.now) }
 {
-    let mut directory = Directory::new(alloc);
+    let mut directory = Directory::with_room(alloc, variables.len())?;
     for variable in variables {
         directory.add(variable.0.number, variable.1)?;
     }

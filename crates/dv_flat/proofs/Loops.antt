@@ -8,6 +8,8 @@ use Rattle.std.proofs.lemmas.List.Sums.{sum_by-cons}
 use Rattle.dv_syntax.specs.Trees.{ModelTree, model_of}
 use Rattle.dv_syntax.specs.declared.tree.Model.{Model}
 use Rattle.dv_eval.specs.Scope.{Scope}
+use Rattle.std.specs.Borrow.{Bor}
+use Rattle.dv_tree.specs.Reached.{borrowed, borrowed_models}
 use Rattle.dv_bag.specs.Bag.{capped}
 use Rattle.dv_flat.specs.Ways.{WayCounts, crossing_ways, joined_ways, model_ways, no_ways, output_ways}
 use Rattle.dv_flat.specs.Ways.{own_inputs, part_ways, ways_by, with_output}
@@ -85,15 +87,21 @@ inside_end all [] = refl
 inside_end all (cs ∷ couplings) = refl
 
 -- the ways of one model more
-pub over_more : (below : List WayCounts) (models : List ModelTree) (items : List Model) (m : Model) (place : ℕ) (scopes : List Scope)
-    (levels : List (Option LevelTable)) (scope : Scope) (level : Option LevelTable) (over pushed : List WayCounts) (ways : WayCounts) →
-    models ≡ map model_of items → scopes ≡ map scope_of_model models → levels ≡ levels_of models → place < length items →
-    m ≡ get_or items place m → scope ≡ get_or scopes place scope → level ≡ level_at levels place →
-    ways ≡ ways_by (own_inputs (model_of m)) scope level below → pushed ≡ over ++ ways ∷ [] →
-    Gathers (λ xs. map (model_ways below models) (map model_of xs)) over place items →
-    Gathers (λ xs. map (model_ways below models) (map model_of xs)) pushed (place + 1) items
-over_more below models items m place scopes levels scope level over pushed ways are scopes_are levels_are within read scope_is level_is
-    ways_are pushed_is gathered =
+pub over_more : (below : List WayCounts) (models : List ModelTree) (lent : List (Bor Model)) (l : Bor Model) (place : ℕ)
+    (scopes : List Scope) (levels : List (Option LevelTable)) (scope : Scope) (level : Option LevelTable) (over pushed : List WayCounts)
+    (ways : WayCounts) →
+    models ≡ borrowed_models lent → scopes ≡ map scope_of_model models → levels ≡ levels_of models → place < length lent →
+    l ≡ get_or lent place l → scope ≡ get_or scopes place scope → level ≡ level_at levels place →
+    ways ≡ ways_by (own_inputs (model_of l.now)) scope level below → pushed ≡ over ++ ways ∷ [] →
+    Gathers (λ xs. map (model_ways below models) (map model_of xs)) over place (borrowed lent) →
+    Gathers (λ xs. map (model_ways below models) (map model_of xs)) pushed (place + 1) (borrowed lent)
+over_more below models lent l place scopes levels scope level over pushed ways are scopes_are levels_are within_lent read_lent scope_is
+    level_is ways_are pushed_is gathered =
+    let items = borrowed lent in
+    let m = l.now in
+    let within : place < length items = omega (arith, within_lent, length-map lent (λ (x : Bor Model). x.now)) in
+    let read : m ≡ get_or items place m =
+    sym (get_or-map (λ (x : Bor Model). x.now) lent place l m within_lent ∙ ap (λ (x : Bor Model). x.now) (sym read_lent)) in
     let made : List Model → List WayCounts = λ xs. map (model_ways below models) (map model_of xs) in
     let rest = drop (place + 1) items in
     let one : made (drop place items) ≡ made (m ∷ rest) =

@@ -8,16 +8,22 @@ use Rattle.std.proofs.lemmas.List.Sums.{sum_by-append}
 use Rattle.dv_syntax.specs.Trees.{ModelTree, CoupledTree, FileTree}
 use Rattle.dv_syntax.specs.declared.tree.Name.{Name}
 use Rattle.dv_bag.specs.Bag.{Counts, bag_at, capped}
-use Rattle.dv_check.specs.Tree.{tree_of}
+use Rattle.dv_check.specs.Tree.{PartTree, tree_of}
+use Rattle.dv_eval.specs.Scope.{scope_of}
 use Rattle.dv_check.specs.Limits.{greatest_depth}
 use Rattle.dv_check.specs.Names.{numbers_of}
 use Rattle.dv_tree.specs.Couplings.{couplings_of_inputs, couplings_of_parts}
 use Rattle.dv_tree.specs.Instances.{Instance, inputs_in, instances, instances_in, outputs_in, root_inputs, root_of, tree_in}
 use Rattle.dv_tree.specs.Routing.{arrives, arrives_in_root, arriving, first_bags, from_parts, leaves_root, leaving, to_parts}
 use Rattle.dv_tree.specs.Tables.{LevelTable, level_of, root_table}
+use Rattle.dv_tree.specs.Reached.{AreReached, HaveModels, text_of_reached}
+use Rattle.dv_tree.specs.declared.couplings.Coupling.{Coupling}
+use Rattle.dv_tree.proofs.ReachedModels.{HasModels, no_parts, atomic, coupled, own_same, parts_same, root_has, root_same, tree_has}
+use Rattle.dv_tree.proofs.ReachedModels.{tree_same}
 use Rattle.dv_flat.specs.Ends.{input_count, port_at, ports_from}
 use Rattle.dv_flat.specs.Limit.{link_count}
-use Rattle.dv_flat.specs.Ways.{WayCounts, all_ways, at_port, coupled_ways, no_ways, part_ways, ways_below}
+use Rattle.dv_flat.specs.Ways.{WayCounts, all_ways, at_port, component_ways, coupled_ways, input_ways, inside_ways, no_ways, output_ways}
+use Rattle.dv_flat.specs.Ways.{part_ways, ways_below}
 use Rattle.dv_flat.proofs.Alike.{Alike}
 use Rattle.dv_flat.proofs.Copies.{copies}
 use Rattle.dv_flat.proofs.Levels.{levels_counted}
@@ -128,6 +134,38 @@ links_are_ways f =
     let out = root_left f.models (root_of f) in
     omega (arith, direct_sum f, entry_sum f, exit_sum f, both, arriving_all, root, out)
 
+-- ---- By way of the models that the root leads to
+
+module _ (models reached : List ModelTree) where
+  ways_same : (m : CoupledTree) → HaveModels models reached m.parts → (parts : List WayCounts) →
+      ways_of_model reached m parts ≡ ways_of_model models m parts
+  ways_same m have parts =
+      let made : List Coupling → List (List Coupling) → WayCounts =
+      λ own couplings. record {
+        inputs = input_ways (length m.inputs) parts own;
+        outputs = output_ways couplings parts (replicate (length m.outputs) 0);
+        inside = capped (inside_ways couplings parts);
+      } in
+      ap (λ own. made own (couplings_of_parts reached m)) (own_same models reached m have)
+      ∙ ap (made (couplings_of_inputs models m)) (parts_same models reached m have)
+
+  tree_ways_same : {t : PartTree} → HasModels models reached t → tree_ways reached t ≡ tree_ways models t
+  tree_ways_same no_parts = refl
+  tree_ways_same (atomic m rest) = ap (λ ws. component_ways (scope_of m) ∷ ws) (tree_ways_same rest)
+  tree_ways_same (coupled {inside = inside} {rest = others} m have within rest) =
+      ap (λ ws. ways_of_model reached m ws ∷ tree_ways reached others) (tree_ways_same within)
+      ∙ (ap (λ w. w ∷ tree_ways reached others) (ways_same m have (tree_ways models inside))
+      ∙ ap (λ ws. ways_of_model models m (tree_ways models inside) ∷ ws) (tree_ways_same rest))
+
+root_ways_same : (f : FileTree) (reached : List ModelTree) (h : AreReached f reached) (o : Option CoupledTree) →
+    root_of (text_of_reached f reached) ≡ o → root_ways reached o ≡ root_ways f.models o
+root_ways_same f reached h None e = refl
+root_ways_same f reached h (Some m) e =
+    let have = root_has f reached h m e in
+    ap (ways_of_model reached m) (tree_ways_same f.models reached (tree_has f reached h greatest_depth m have))
+    ∙ (ap (λ t. ways_of_model reached m (tree_ways f.models t)) (tree_same f reached h greatest_depth m have)
+    ∙ ways_same f.models reached m have (tree_ways f.models (tree_of f.models m)))
+
 -- the root's ways by tables
 ways_by_table : (models : List ModelTree) (root : Option CoupledTree) (l : LevelTable) → Some l ≡ option_map (level_of models) root →
     coupled_ways (length (numbers_of (inputs_in root))) l (part_ways (ways_below greatest_depth models) l.parts) ≡ root_ways models root
@@ -141,12 +179,17 @@ ways_by_table models (Some m) l e =
     ∙ levels_counted greatest_depth models m)
 
 -- a text has as many links as its root has ways, as far as they are kept
-pub counted_by_ways : (f : FileTree) (l : LevelTable) (inputs : ℕ) (below : List WayCounts) (total : ℕ) → Some l ≡ root_table f →
-    inputs ≡ length (root_inputs f) → below ≡ ways_below greatest_depth f.models →
+pub counted_by_ways : (f : FileTree) (reached : List ModelTree) (l : LevelTable) (inputs : ℕ) (below : List WayCounts) (total : ℕ) →
+    AreReached f reached → Some l ≡ root_table (text_of_reached f reached) →
+    inputs ≡ length (root_inputs f) → below ≡ ways_below greatest_depth reached →
     total ≡ capped (all_ways (coupled_ways inputs l (part_ways below l.parts))) → total ≡ capped (link_count f)
-counted_by_ways f l inputs below total root_is inputs_are below_is total_is =
+counted_by_ways f reached l inputs below total h root_is inputs_are below_is total_is =
+    let root = root_of (text_of_reached f reached) in
+    let same = root_same f reached h in
+    let count = inputs_are ∙ ap (λ o. length (numbers_of (inputs_in o))) (sym same) in
     let ways : coupled_ways inputs l (part_ways below l.parts) ≡ root_ways f.models (root_of f) =
-    ap (λ n. coupled_ways n l (part_ways below l.parts)) inputs_are
-    ∙ (ap (λ ws. coupled_ways (length (root_inputs f)) l (part_ways ws l.parts)) below_is
-    ∙ ways_by_table f.models (root_of f) l root_is) in
+    ap (λ n. coupled_ways n l (part_ways below l.parts)) count
+    ∙ (ap (λ ws. coupled_ways (length (numbers_of (inputs_in root))) l (part_ways ws l.parts)) below_is
+    ∙ (ways_by_table reached root l root_is
+    ∙ (root_ways_same f reached h root refl ∙ ap (root_ways f.models) same))) in
     total_is ∙ (ap (λ w. capped (all_ways w)) ways ∙ sym (links_are_ways f))

@@ -1,6 +1,6 @@
 //! How many links a text has, counted model by model: neither instances are visited nor ways walked.
 
-ghost use Rattle.std.specs.Prelude.{◌≡◌, ◌<◌, ◌≤◌, None, fold, option_copied, replicate, slice_index_or, sum, IfOk, IfErr, OnOk};
+ghost use Rattle.std.specs.Prelude.{◌≡◌, ◌<◌, ◌≤◌, None, fold, map, option_copied, replicate, slice_index_or, sum, IfOk, IfErr, OnOk};
 ghost use Rattle.std.specs.List.{sum_by};
 ghost use Rattle.dv_syntax.specs.Trees.{file_of, model_of};
 ghost use Rattle.dv_bag.specs.Bag.{capped};
@@ -249,15 +249,15 @@ fn ways_by(
     }
 }
 
-// The ways of the models by those that they have one level less deep.
+// The ways of the models that the root leads to, by those that they have one level less deep.
 fn ways_over(alloc: Global, tree: &Tree, below: &[Ways]) -> Result<Vec<Ways>, AllocError>
     ensures { IfOk result (λ over. over.items
-        ≡ ways_over below.now (file_of tree.now.file).models) }
+        ≡ ways_over below.now (map model_of tree.now.reached)) }
 {
     let scopes = tree.scopes();
     let levels = tree.levels();
     let mut over = Vec::new(alloc);
-    for (place, model) in tree.file().models.iter().enumerate() {
+    for (place, model) in tree.reached().iter().enumerate() {
         let inputs = own_inputs(model);
         let level = level_at(levels, place);
         over.push(ways_by(alloc, inputs, &scopes[place], level, below)?)?;
@@ -265,14 +265,15 @@ fn ways_over(alloc: Global, tree: &Tree, below: &[Ways]) -> Result<Vec<Ways>, Al
     Ok(over)
 }
 
-/// The ways of the models whose parts show down to fewer levels than this. Those of one level are counted from those of
-/// the level before: the work is in the length of the text, however many ways there are.
+/// The ways of the models that the root leads to, whose parts show down to fewer levels than this. Those of one level are
+/// counted from those of the level before: the work is in the length of these models, however many ways there are.
 ///
 /// # Errors
 ///
 /// No memory for the numbers of ways.
 pub(crate) fn ways_below(alloc: Global, levels: usize, tree: &Tree) -> Result<Vec<Ways>, AllocError>
-    ensures { IfOk result (λ ways. ways.items ≡ ways_below levels (file_of tree.now.file).models) }
+    ensures { IfOk result (λ ways. ways.items
+        ≡ ways_below levels (map model_of tree.now.reached)) }
 {
     let mut ways = Vec::new(alloc);
     for _level in 0..levels {
@@ -320,7 +321,7 @@ fn test_links(count: u64, place: u32) -> Result<(), Refusal>
 ///
 /// No memory for the numbers of ways.
 pub(crate) fn capped_count(alloc: Global, tree: &Tree, below: &[Ways]) -> Result<u64, AllocError>
-    requires { below.now ≡ ways_below greatest_depth (file_of tree.now.file).models }
+    requires { below.now ≡ ways_below greatest_depth (map model_of tree.now.reached) }
     ensures { IfOk result (λ count. count ≡ capped (link_count (file_of tree.now.file))) }
 {
     let Some(root) = tree.root_level() else {

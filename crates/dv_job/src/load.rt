@@ -46,6 +46,8 @@ fn read(alloc: Global, text: &[u8]) -> Result<Checked, LoadError>
 {
     let lexed = tokens(alloc, text)?;
     let file = parse(alloc, &lexed.tokens, text.len() as u32)?;
+    // A text may have millions of tokens, and what follows needs none.
+    drop(lexed.tokens);
     check(alloc, file, lexed.names)
 }
 

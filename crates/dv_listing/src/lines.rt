@@ -15,8 +15,24 @@ use dv_syntax::Atomic;
 use dv_tree::Tree;
 use std::alloc::{AllocError, Global};
 
-/// An atomic model, whose names are in this scope, with an empty line before it unless it is the first.
+/// An atomic model, with an empty line before it unless it is the first.
 pub fn push_model(
+    alloc: Global,
+    text: &mut String,
+    tree: &Tree,
+    is_first: bool,
+    model: &Atomic,
+) -> Result<(), AllocError>
+    requires { IsCompilable (atomic_of model.now) }
+    ensures { OnOk result (string_bytes text.new ≡ string_bytes text.old
+        ++ (gap is_first ++ model_text tree.now.names (atomic_of model.now))) }
+{
+    let scope = Scope::of(alloc, model)?;
+    push_model_in(alloc, text, tree, is_first, model, &scope)
+}
+
+// The same, where the names of the model are in this scope.
+fn push_model_in(
     alloc: Global,
     text: &mut String,
     tree: &Tree,

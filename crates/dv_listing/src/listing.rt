@@ -31,10 +31,9 @@ pub fn write_listing<W: Write>(alloc: Global, tree: &Tree, writer: &mut W) -> Re
 {
     let mut text = String::new(alloc);
     let mut is_first = true;
-    for (place, model) in tree.file().models.iter().enumerate() {
+    for model in &tree.file().models {
         if let Model::Atomic(atomic) = model {
-            let scope = &tree.scopes()[place];
-            push_model(alloc, &mut text, tree, is_first, atomic, scope)?;
+            push_model(alloc, &mut text, tree, is_first, atomic)?;
             is_first = false;
             hand_over_if_long(&mut text, writer)?;
         }

@@ -171,8 +171,9 @@ fn phases(alloc: Global, tokens: &[Token]) -> Result<(AtomicItem, &[Token]), Par
     let (first, rest) = name(rest)?;
     let mut names = Vec::new(alloc);
     names.push(first)?;
-    let (names, rest) = further_names(names, rest)?;
+    let (mut names, rest) = further_names(names, rest)?;
     let rest = after_symbol(rest, Symbol::Semicolon)?;
+    names.shrink_to_fit();
     Ok((AtomicItem::Lists(Phases { place, names }), rest))
 }
 
@@ -335,6 +336,17 @@ fn add(atomic: &mut Atomic, item: AtomicItem) -> Result<(), ParseError>
     Ok(())
 }
 
+/// Gives back the room that no item of the model took: a text may have very many models of a few items each.
+fn trim(atomic: &mut Atomic)
+    ensures { atomic_of atomic.new ≡ atomic_of atomic.old }
+{
+    atomic.declarations.shrink_to_fit();
+    atomic.phases.shrink_to_fit();
+    atomic.starts.shrink_to_fit();
+    atomic.holds.shrink_to_fit();
+    atomic.rules.shrink_to_fit();
+}
+
 /// Adds the items before the brace that closes their model.
 fn items(
     alloc: Global,
@@ -376,7 +388,8 @@ pub fn atomic(alloc: Global, tokens: &[Token]) -> Result<(Atomic, &[Token]), Par
     let rest = after_keyword(tokens, Keyword::Atomic)?;
     let (name, rest) = name(rest)?;
     let rest = after_symbol(rest, Symbol::OpenBrace)?;
-    let (atomic, rest) = items(alloc, empty(alloc, name), rest)?;
+    let (mut atomic, rest) = items(alloc, empty(alloc, name), rest)?;
     let rest = after_symbol(rest, Symbol::CloseBrace)?;
+    trim(&mut atomic);
     Ok((atomic, rest))
 }

@@ -109,6 +109,16 @@ fn add(coupled: &mut Coupled, item: CoupledItem) -> Result<(), ParseError>
     Ok(())
 }
 
+/// Gives back the room that no item of the model took.
+fn trim(coupled: &mut Coupled)
+    ensures { coupled_of coupled.new ≡ coupled_of coupled.old }
+{
+    coupled.inputs.shrink_to_fit();
+    coupled.outputs.shrink_to_fit();
+    coupled.parts.shrink_to_fit();
+    coupled.links.shrink_to_fit();
+}
+
 /// Adds the items before the brace that closes their model.
 fn items(mut coupled: Coupled, tokens: &[Token]) -> Result<(Coupled, &[Token]), ParseError>
     ensures { Gives (λ x. (coupled_of x.0, x.1.now)) result
@@ -145,7 +155,8 @@ pub fn coupled(alloc: Global, tokens: &[Token]) -> Result<(Coupled, &[Token]), P
     let rest = after_keyword(tokens, Keyword::Coupled)?;
     let (name, rest) = name(rest)?;
     let rest = after_symbol(rest, Symbol::OpenBrace)?;
-    let (coupled, rest) = items(empty(alloc, name), rest)?;
+    let (mut coupled, rest) = items(empty(alloc, name), rest)?;
     let rest = after_symbol(rest, Symbol::CloseBrace)?;
+    trim(&mut coupled);
     Ok((coupled, rest))
 }

@@ -278,14 +278,16 @@ fn statements(
     Ok((statements, rest))
 }
 
-/// The block of these statements, behind which a brace closes it, and what follows it.
+/// The block of these statements, behind which a brace closes it, and what follows it. The block has no room for more: most
+/// have one statement, and a text may have millions of them.
 #[tactic(auto, using(crate::proofs::Rows::joined_items), unfolding(crate::specs::Reading::read_then))]
-fn closed_block(statements: Vec<Stmt>, tokens: &[Token]) -> Result<(Block, &[Token]), Obstacle>
+fn closed_block(mut statements: Vec<Stmt>, tokens: &[Token]) -> Result<(Block, &[Token]), Obstacle>
     ensures { Reads {Y = Statements × List Token} (λ x. (block_of x.0, x.1.now)) result
         (read_then (after (TokenKind.Symbol Symbol.CloseBrace) tokens.now)
         (λ rest. Ok (joined (map single_of statements.items), rest))) }
 {
     let rest = after_symbol(tokens, Symbol::CloseBrace)?;
+    statements.shrink_to_fit();
     Ok((Block { statements }, rest))
 }
 

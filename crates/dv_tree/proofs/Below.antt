@@ -1,5 +1,6 @@
 -- The parts of coupled models by their tables, one level down.
 use Rattle.std.proofs.Common.{◌≡◌, ◌≢◌, ℕ, zero, suc, ◌-◌, ◌<◌, List, length, map, get_or, refl, ap, sym, ◌∙◌, arith}
+use Rattle.std.specs.Borrow.{Bor}
 use Rattle.std.specs.Prelude.{Option}
 use Rattle.std.proofs.lemmas.List.{get_or-map, length-map}
 use Rattle.dv_syntax.specs.Trees.{model_of}
@@ -7,6 +8,7 @@ use Rattle.dv_syntax.specs.declared.tree.Model.{Model}
 use Rattle.dv_eval.specs.Scope.{Scope}
 use Rattle.dv_tree.specs.declared.placed_parts.PlacedPart.{PlacedPart}
 use Rattle.dv_tree.specs.Nodes.{nodes_by, nodes_to}
+use Rattle.dv_tree.specs.Reached.{borrowed, borrowed_models}
 use Rattle.dv_tree.specs.Tables.{LevelTable, scope_of_model}
 
 -- above no level the parts are those of the table
@@ -30,3 +32,11 @@ scope_read models scopes place m s all within model scope =
     ∙ (ap (λ xs. get_or xs place s) all
     ∙ (get_or-map scope_of_model (map model_of models) place (model_of m) s (omega (arith, within, length-map models model_of))
     ∙ ap scope_of_model (get_or-map model_of models place m (model_of m) within ∙ ap model_of (sym model))))
+
+-- the same where the models are borrowed
+pub scope_lent : (models : List (Bor Model)) (scopes : List Scope) (place : ℕ) (m : Bor Model) (s : Scope) →
+    scopes ≡ map scope_of_model (borrowed_models models) → place < length models → m ≡ get_or models place m →
+    s ≡ get_or scopes place s → s ≡ scope_of_model (model_of m.now)
+scope_lent models scopes place m s all within model scope =
+    scope_read (borrowed models) scopes place m.now s all (omega (arith, within, length-map models (λ (x : Bor Model). x.now)))
+    (sym (get_or-map (λ (x : Bor Model). x.now) models place m m.now within ∙ ap (λ (x : Bor Model). x.now) (sym model))) scope

@@ -13,6 +13,7 @@ pub mod Onward
 pub mod PlaceLemmas
 pub mod Placed
 pub mod Quiet
+pub mod ReachedModels
 pub mod Received
 pub mod Roots
 pub mod Standing

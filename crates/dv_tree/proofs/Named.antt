@@ -1,20 +1,22 @@
 -- The components by number are those of the text, each with its path and the place of its model.
 use Rattle.std.proofs.Common.{◌≡◌, ℕ, zero, suc, ◌+◌, ◌<◌, List, [], ◌∷◌, ◌++◌, length, map, get_or, refl, ap, sym, ◌∙◌, subst, arith}
 use Rattle.std.specs.Prelude.{Option, Some, None, option_map, slice_get}
-use Rattle.std.proofs.lemmas.List.{length-append}
+use Rattle.std.specs.Borrow.{Bor}
+use Rattle.std.proofs.lemmas.List.{get_or-map, length-append, length-map}
 use Rattle.std.proofs.lemmas.Option.{slice_get-map, slice_get_within, get_or_from_slice_get}
-use Rattle.dv_syntax.specs.Trees.{ModelTree, AtomicModel, AtomicTree, CoupledTree, atomic_of, file_of, model_of}
+use Rattle.dv_syntax.specs.Trees.{ModelTree, AtomicModel, AtomicTree, CoupledTree, FileTree, atomic_of, file_of, model_of}
 use Rattle.dv_syntax.specs.declared.tree.Atomic.{Atomic}
 use Rattle.dv_syntax.specs.declared.tree.Model.{Model}
 use Rattle.dv_syntax.specs.declared.tree.Model.TheVariants as model
-use Rattle.dv_syntax.specs.declared.tree.File.{File}
 use Rattle.dv_eval.specs.Scope.{Scope, scope_of}
 use Rattle.dv_check.specs.declared.checked.Checked.{Checked}
 use Rattle.dv_check.specs.Tree.{PartTree, NoParts, AtomicPart, CoupledPart, component_count}
 use Rattle.dv_check.specs.Limits.{greatest_depth}
 use Rattle.dv_tree.specs.Instances.{Instance, instances_in, instances, root_of, tree_in}
 use Rattle.dv_tree.specs.Tables.{Source, level_of, levels_of, scope_of_model, scopes_of}
+use Rattle.dv_tree.specs.Reached.{AreReached, borrowed, borrowed_models, text_of_reached}
 use Rattle.dv_tree.specs.Nodes.{Nodes, components_in, components_of_root, components_of}
+use Rattle.dv_tree.proofs.ReachedModels.{root_tree_same}
 use Rattle.dv_tree.proofs.Mirrors.{Mirrors, none, atomic, coupled, mirrors_to}
 
 -- a component of the tables is one of the text
@@ -48,14 +50,20 @@ root_named : (models : List ModelTree) (root : Option CoupledTree) →
 root_named models None = no_more
 root_named models (Some m) = all_named [] (mirrors_to greatest_depth models m)
 
-pub tree_named : (checked : Checked) (s : Source) (components : List (List ℕ × ℕ)) →
-    record { file = checked.file; names = checked.names } ≡ s → components ≡ components_of (file_of checked.file) →
-    AreNamed (file_of checked.file).models components (instances (file_of s.file))
-tree_named checked s components view are =
-    let f = file_of checked.file in
-    let Named : Source → Type 0 = λ x. AreNamed f.models components (instances (file_of x.file)) in
-    let Tables : List (List ℕ × ℕ) → Type 0 = λ cs. AreNamed f.models cs (instances f) in
-    subst Named view (subst Tables (sym are) (root_named f.models (root_of f)))
+-- what is kept of a checked text: the models that the root leads to
+module _ (checked : Checked) (models : List (Bor Model)) (s : Source)
+    (view : record { file = checked.file; names = checked.names; reached = borrowed models } ≡ s)
+    (h : AreReached (file_of checked.file) (borrowed_models models)) (components : List (List ℕ × ℕ))
+    (are : components ≡ components_of (text_of_reached (file_of checked.file) (borrowed_models models))) where
+  pub tree_named : AreNamed (borrowed_models models) components (instances (file_of s.file))
+  tree_named =
+      let f = file_of checked.file in
+      let reached = borrowed_models models in
+      let Named : Source → Type 0 = λ x. AreNamed reached components (instances (file_of x.file)) in
+      let Tables : List (List ℕ × ℕ) → Type 0 = λ cs. AreNamed reached cs (instances f) in
+      let Trees : PartTree → Type 0 = λ t. AreNamed reached (components_of (text_of_reached f reached)) (instances_in [] t) in
+      subst Named view
+      (subst Tables (sym are) (subst Trees (root_tree_same f reached h) (root_named reached (root_of (text_of_reached f reached)))))
 
 -- as many components as the tree has
 pub length-instances_in : (path : List ℕ) (t : PartTree) → length (instances_in path t) ≡ component_count t
@@ -98,35 +106,66 @@ has_atomic (x ∷ models) (suc place) m e =
     let rest = has_atomic models place m e in
     record { atomic = rest.atomic; there = rest.there; shows = rest.shows }
 
+-- the place in the text of a model that is kept
+pub record IsPlacedIn (models : List ModelTree) (places : List ℕ) (k : ℕ) (m : ModelTree) : Type 0 where
+  pub place : ℕ
+  pub kept : slice_get places k ≡ Some place
+  pub there : slice_get models place ≡ Some m
+
+placed_in : (models : List ModelTree) (places : List ℕ) (reached : List ModelTree) (k : ℕ) (m : ModelTree) →
+    map (slice_get models) places ≡ map Some reached → slice_get reached k ≡ Some m → IsPlacedIn models places k m
+placed_in models places [] k m are e = absurd (cc)
+placed_in models [] (x ∷ reached) k m are e = absurd (cc)
+placed_in models (p ∷ places) (x ∷ reached) zero m are e =
+    let first : slice_get models p ≡ Some x = cc in
+    let same : x ≡ m = cc in record { place = p; kept = refl; there = first ∙ ap Some same }
+placed_in models (p ∷ places) (x ∷ reached) (suc k) m are e =
+    let rest : map (slice_get models) places ≡ map Some reached = cc in
+    let is = placed_in models places reached k m rest e in record { place = is.place; kept = is.kept; there = is.there }
+
 -- what the tables of a text have of a component
-pub record IsFound (file : File) (is : List Instance) (components : List (List ℕ × ℕ)) (scopes : List Scope) (k : ℕ) : Type 0 where
+pub record IsFound (f : FileTree) (models : List (Bor Model)) (places : List ℕ) (is : List Instance) (components : List (List ℕ × ℕ))
+    (scopes : List Scope) (k : ℕ) : Type 0 where
   pub path : List ℕ
   pub place : ℕ
+  pub place_in_text : ℕ
   pub atomic : Atomic
   pub component : slice_get components k ≡ Some (path, place)
   pub scope : slice_get scopes place ≡ Some (scope_of (atomic_of atomic))
-  pub there : slice_get file.models.items place ≡ Some (model.Atomic atomic)
+  pub there : slice_get (borrowed models) place ≡ Some (model.Atomic atomic)
+  pub placed : slice_get places place ≡ Some place_in_text
+  pub in_text : slice_get f.models place_in_text ≡ Some (AtomicModel (atomic_of atomic))
   pub shown : slice_get is k ≡ Some (record { path = path; model = atomic_of atomic })
 
-pub found : (checked : Checked) (s : Source) (components : List (List ℕ × ℕ)) (scopes : List Scope) (k : ℕ) →
-    record { file = checked.file; names = checked.names } ≡ s → components ≡ components_of (file_of checked.file) →
-    scopes ≡ scopes_of (file_of checked.file) → k < length (instances (file_of s.file)) →
-    IsFound checked.file (instances (file_of s.file)) components scopes k
-found checked s components scopes k view components_are scopes_are within =
+pub found : (checked : Checked) (models : List (Bor Model)) (places : List ℕ) (s : Source) (components : List (List ℕ × ℕ))
+    (scopes : List Scope) (k : ℕ) →
+    record { file = checked.file; names = checked.names; reached = borrowed models } ≡ s →
+    AreReached (file_of checked.file) (borrowed_models models) →
+    map (slice_get (file_of checked.file).models) places ≡ map Some (borrowed_models models) →
+    components ≡ components_of (text_of_reached (file_of checked.file) (borrowed_models models)) →
+    scopes ≡ scopes_of (text_of_reached (file_of checked.file) (borrowed_models models)) → k < length (instances (file_of s.file)) →
+    IsFound (file_of checked.file) models places (instances (file_of s.file)) components scopes k
+found checked models places s components scopes k view h places_are components_are scopes_are within =
     let f = file_of checked.file in
-    let is = component_at k (tree_named checked s components view components_are) within in
-    let has = has_atomic checked.file.models.items is.component.1 is.instance.model is.named.model in
-    let kept : List ℕ → Option (List ℕ × ℕ) = λ p. Some (p, is.component.1) in
+    let reached = borrowed_models models in
+    let is = component_at k (tree_named checked models s view h components components_are) within in
+    let at = is.component.1 in
+    let has = has_atomic (borrowed models) at is.instance.model is.named.model in
+    let placed = placed_in f.models places reached at (AtomicModel is.instance.model) places_are is.named.model in
+    let kept : List ℕ → Option (List ℕ × ℕ) = λ p. Some (p, at) in
     record {
       path = is.instance.path;
-      place = is.component.1;
+      place = at;
+      place_in_text = placed.place;
       atomic = has.atomic;
       component = is.kept ∙ ap kept is.named.path;
       scope =
-          ap (λ ss. slice_get ss is.component.1) scopes_are
-          ∙ (slice_get-map scope_of_model f.models is.component.1
+          ap (λ ss. slice_get ss at) scopes_are
+          ∙ (slice_get-map scope_of_model reached at
           ∙ (ap (option_map scope_of_model) is.named.model ∙ ap (λ m. Some (scope_of m)) (sym has.shows)));
       there = has.there;
+      placed = placed.kept;
+      in_text = placed.there ∙ ap (λ m. Some (AtomicModel m)) (sym has.shows);
       shown = is.shown ∙ ap (λ m. Some (record { path = is.instance.path; model = m })) (sym has.shows);
     }
 
@@ -135,8 +174,8 @@ read_is : {X : Type 0} (xs : List X) (i : ℕ) (x y : X) → slice_get xs i ≡ 
 read_is xs i x y there read = read ∙ get_or_from_slice_get xs i x y there
 
 -- what the code reads of a component, of its model and of what that declares
-module _ {file : File} {is : List Instance} {components : List (List ℕ × ℕ)} {scopes : List Scope} {k : ℕ}
-    (h : IsFound file is components scopes k) where
+module _ {f : FileTree} {models : List (Bor Model)} {places : List ℕ} {is : List Instance} {components : List (List ℕ × ℕ)}
+    {scopes : List Scope} {k : ℕ} (h : IsFound f models places is components scopes k) where
   pub within_components : k < length components
   within_components = slice_get_within components k _ h.component
 
@@ -146,15 +185,30 @@ module _ {file : File} {is : List Instance} {components : List (List ℕ × ℕ)
   pub place_read : (x : List ℕ × ℕ) (place : ℕ) → x ≡ get_or components k x → place ≡ x.1 → place ≡ h.place
   place_read x place read is = is ∙ ap (λ (y : List ℕ × ℕ). y.1) (component_read x read)
 
-  pub within_models : h.place < length file.models.items
-  within_models = slice_get_within file.models.items h.place _ h.there
+  pub within_models : h.place < length models
+  within_models =
+      omega (
+        arith,
+        slice_get_within (borrowed models) h.place _ h.there,
+        length-map models (λ (m : Bor Model). m.now),
+      )
+
+  pub within_places : h.place < length places
+  within_places = slice_get_within places h.place _ h.placed
 
   pub within_scopes : h.place < length scopes
   within_scopes = slice_get_within scopes h.place _ h.scope
 
-  pub model_read : (place : ℕ) (y : Model) → place ≡ h.place → y ≡ get_or file.models.items place y → y ≡ model.Atomic h.atomic
+  pub model_read : (place : ℕ) (y : Bor Model) → place ≡ h.place → y ≡ get_or models place y → y.now ≡ model.Atomic h.atomic
   model_read place y at there =
-      let Reads : ℕ → Type 0 = λ n. y ≡ get_or file.models.items n y in read_is file.models.items h.place _ y h.there (subst Reads at there)
+      let Reads : ℕ → Type 0 = λ n. y ≡ get_or models n y in
+      read_is (borrowed models) h.place _ y.now h.there
+      (sym (get_or-map (λ (m : Bor Model). m.now) models h.place y y.now within_models
+      ∙ ap (λ (m : Bor Model). m.now) (sym (subst Reads at there))))
+
+  pub text_place_read : (place there : ℕ) → place ≡ h.place → there ≡ get_or places place there → there ≡ h.place_in_text
+  text_place_read place there at read =
+      let Reads : ℕ → Type 0 = λ n. there ≡ get_or places n there in read_is places h.place _ there h.placed (subst Reads at read)
 
   pub scope_read : (place : ℕ) (y : Scope) → place ≡ h.place → y ≡ get_or scopes place y → y ≡ scope_of (atomic_of h.atomic)
   scope_read place y at there =
@@ -164,3 +218,8 @@ module _ {file : File} {is : List Instance} {components : List (List ℕ × ℕ)
   pub view_shown : {A : Type 0} (view : Instance → A) →
       slice_get (map view is) k ≡ Some (view (record { path = h.path; model = atomic_of h.atomic }))
   view_shown view = slice_get-map view is k ∙ ap (option_map view) h.shown
+
+  -- the model at its place in the text
+  pub text_shown : (place : ℕ) → place ≡ h.place_in_text →
+      slice_get f.models place ≡ slice_get (map (λ (i : Instance). AtomicModel i.model) is) k
+  text_shown place at = ap (slice_get f.models) at ∙ (h.in_text ∙ sym (view_shown (λ (i : Instance). AtomicModel i.model)))

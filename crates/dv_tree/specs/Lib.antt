@@ -7,5 +7,6 @@ pub mod Routing
 pub mod Rows
 pub mod Unions
 -- What serves proofs.
+pub mod Reached
 pub mod Tables
 pub mod Nodes

@@ -4,7 +4,9 @@ use Rattle.std.specs.Prelude.{option_map, refl}
 use Rattle.std.specs.List.{range_with_len}
 use Rattle.std.specs.Coded.{Coded, code_by, coded×, coded_list, coded_ℕ}
 use Rattle.dv_syntax.specs.contracts.tree.File as file
+use Rattle.dv_syntax.specs.contracts.tree.Model as model
 use Rattle.dv_syntax.specs.declared.tree.File.{File}
+use Rattle.dv_syntax.specs.declared.tree.Model.{Model}
 use Rattle.dv_syntax.specs.declared.tree.Name.{Name}
 use Rattle.dv_syntax.specs.declared.tree.Part.{Part}
 use Rattle.dv_syntax.specs.Trees.{ModelTree, AtomicModel, CoupledModel, CoupledTree, FileTree}
@@ -22,16 +24,18 @@ use Rattle.dv_tree.specs.contracts.placed_parts.PlacedPart as placed
 use Rattle.dv_tree.specs.declared.couplings.Coupling.{Coupling}
 use Rattle.dv_tree.specs.declared.placed_parts.PlacedPart.{PlacedPart}
 
--- a checked file and the texts of its names
+-- a checked file, the texts of its names, and the models of it of which there are tables
 pub record Source : Type 0 where
   pub file : File
   pub names : List (List ℕ)
+  pub reached : List Model
 
--- a source is stored as the pair of its fields
+-- a source is stored as the tuple of its fields
 abbrev pub source_code : Coded Source
 source_code =
-    code_by (File × List (List ℕ)) (coded× file.the_row.coded (coded_list (coded_list coded_ℕ))) (λ s. (s.file, s.names))
-    (λ p. record { file = p.0; names = p.1 }) (λ _. refl)
+    code_by (File × (List (List ℕ) × List Model))
+    (coded× file.the_row.coded (coded× (coded_list (coded_list coded_ℕ)) (coded_list model.the_row.coded)))
+    (λ s. (s.file, (s.names, s.reached))) (λ p. record { file = p.0; names = p.1.0; reached = p.1.1 }) (λ _. refl)
 
 -- the names of the models, in the order of the text
 abbrev pub model_names : List ModelTree → List ℕ

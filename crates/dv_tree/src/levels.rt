@@ -7,6 +7,7 @@ ghost use Rattle.dv_eval.specs.Scope.{place_of};
 ghost use Rattle.dv_check.specs.Names.{numbers_of};
 ghost use Rattle.dv_tree.specs.Couplings.{place_at};
 ghost use Rattle.dv_tree.specs.Nodes.{level_at, nothing_in};
+ghost use Rattle.dv_tree.specs.Reached.{borrowed_models};
 ghost use Rattle.dv_tree.specs.Tables.{level_by, level_by_model, links_by, part_names, placed_by, ports_at};
 
 use crate::arrived::Arrived;
@@ -291,16 +292,16 @@ fn level_of_model(
     }
 }
 
-/// The tables of the coupled models of a file, by the places of the models.
+/// The tables of the coupled ones of these models, by their places.
 pub(crate) fn levels(
     alloc: Global,
-    items: &[ModelItem],
+    items: &[&ModelItem],
     models: &Places,
     inputs: &[Places],
     outputs: &[Places],
 ) -> Result<Vec<Option<Level>>, AllocError>
     ensures { IfOk result (λ levels. levels.items
-        ≡ map (level_by_model models.now inputs.now outputs.now) (map model_of items.now)) }
+        ≡ map (level_by_model models.now inputs.now outputs.now) (borrowed_models items.now)) }
 {
     let mut levels = Vec::with_capacity(alloc, items.len())?;
     for item in items {

@@ -15,6 +15,8 @@ mod levels;
 mod placed_parts;
 /// The places of names in a list.
 mod places;
+/// The models that the root leads to.
+mod reached;
 /// How values travel.
 mod routing;
 /// The tables of the models of a file.

@@ -6,11 +6,12 @@ ghost use Rattle.dv_syntax.specs.Trees.{coupled_of, file_of, model_of};
 ghost use Rattle.dv_check.specs.Names.{name_of_model, numbers_of};
 ghost use Rattle.dv_check.specs.Ports.{shown_inputs, shown_outputs};
 ghost use Rattle.dv_tree.specs.Instances.{coupled_model, inputs_in, outputs_in, root_of};
+ghost use Rattle.dv_tree.specs.Reached.{borrowed_models, parts_inside};
 ghost use Rattle.dv_tree.specs.Tables.{model_names, scope_of_model};
 
 use crate::places::Places;
 use dv_eval::Scope;
-use dv_syntax::{Coupled, File, Model, Name};
+use dv_syntax::{Coupled, File, Model, Name, Part};
 use std::alloc::{AllocError, Global};
 
 fn number_of(model: &Model) -> u32
@@ -33,9 +34,30 @@ pub(crate) fn model_numbers(alloc: Global, models: &[Model]) -> Result<Vec<u32>,
     Ok(numbers)
 }
 
-/// What each model declares, in the order of the text.
-pub(crate) fn scopes(alloc: Global, models: &[Model]) -> Result<Vec<Scope>, AllocError>
-    ensures { IfOk result (λ scopes. scopes.items ≡ map scope_of_model (map model_of models.now)) }
+/// The parts of a model; an atomic one has none.
+pub(crate) fn parts_inside(model: &Model) -> &[Part]
+    ensures { result.now ≡ parts_inside (model_of model.now) }
+{
+    match model {
+        Model::Atomic(_) => &[],
+        Model::Coupled(coupled) => &coupled.parts,
+    }
+}
+
+/// The names of models that are borrowed, in their order.
+pub(crate) fn numbers_of_models(alloc: Global, models: &[&Model]) -> Result<Vec<u32>, AllocError>
+    ensures { IfOk result (λ numbers. numbers.items ≡ model_names (borrowed_models models.now)) }
+{
+    let mut numbers = Vec::with_capacity(alloc, models.len())?;
+    for model in models {
+        numbers.push(number_of(model))?;
+    }
+    Ok(numbers)
+}
+
+/// What each of these models declares, in their order.
+pub(crate) fn scopes(alloc: Global, models: &[&Model]) -> Result<Vec<Scope>, AllocError>
+    ensures { IfOk result (λ scopes. scopes.items ≡ map scope_of_model (borrowed_models models.now)) }
 {
     let mut scopes = Vec::with_capacity(alloc, models.len())?;
     for model in models {
@@ -83,11 +105,11 @@ fn outputs_of(alloc: Global, model: &Model, scope: &Scope) -> Result<Vec<u32>, A
 /// The places of the input ports of each model.
 pub(crate) fn inputs(
     alloc: Global,
-    models: &[Model],
+    models: &[&Model],
     scopes: &[Scope],
 ) -> Result<Vec<Places>, AllocError>
-    requires { scopes.now ≡ map scope_of_model (map model_of models.now) }
-    ensures { IfOk result (λ inputs. inputs.items ≡ map shown_inputs (map model_of models.now)) }
+    requires { scopes.now ≡ map scope_of_model (borrowed_models models.now) }
+    ensures { IfOk result (λ inputs. inputs.items ≡ map shown_inputs (borrowed_models models.now)) }
 {
     let mut inputs = Vec::with_capacity(alloc, models.len())?;
     for (place, model) in models.iter().enumerate() {
@@ -100,11 +122,11 @@ pub(crate) fn inputs(
 /// The places of the output ports of each model.
 pub(crate) fn outputs(
     alloc: Global,
-    models: &[Model],
+    models: &[&Model],
     scopes: &[Scope],
 ) -> Result<Vec<Places>, AllocError>
-    requires { scopes.now ≡ map scope_of_model (map model_of models.now) }
-    ensures { IfOk result (λ outputs. outputs.items ≡ map shown_outputs (map model_of models.now)) }
+    requires { scopes.now ≡ map scope_of_model (borrowed_models models.now) }
+    ensures { IfOk result (λ outputs. outputs.items ≡ map shown_outputs (borrowed_models models.now)) }
 {
     let mut outputs = Vec::with_capacity(alloc, models.len())?;
     for (place, model) in models.iter().enumerate() {

@@ -7,16 +7,18 @@ ghost use Rattle.dv_eval.specs.Scope.{scope_of};
 ghost use Rattle.dv_tree.specs.Instances.{instances, root_inputs, root_outputs};
 ghost use Rattle.dv_tree.specs.Nodes.{components_of_root, root_leaving, root_level, root_received};
 ghost use Rattle.dv_tree.specs.Paths.{behind_dots, name_at, texts_of, with_dots};
+ghost use Rattle.dv_tree.specs.Reached.{AreReached, borrowed, borrowed_models, text_of_reached};
 ghost use Rattle.dv_tree.specs.Routing.{arrives, leaves};
-ghost use Rattle.dv_tree.specs.Tables.{levels_of, model_names, root_table, scope_of_model, scopes_of};
+ghost use Rattle.dv_tree.specs.Tables.{levels_of, model_names, root_table, scope_of_model};
 ghost use Rattle.dv_check.specs.Limits.{greatest_components, greatest_names};
 
 use crate::components::{Component, add_components, name_at};
 use crate::levels::{Level, level_at, levels};
 use crate::places::Places;
+use crate::reached::Reached;
 use crate::routing::{rise, sink};
 use crate::tables::{
-    self, inputs, model_numbers, numbers, outputs, root_inputs, root_outputs, scopes,
+    self, inputs, numbers, numbers_of_models, outputs, root_inputs, root_outputs, scopes,
 };
 use dv_bag::{Bags, Sent};
 use dv_check::laws::checked_files;
@@ -34,10 +36,12 @@ pub struct Routed {
     pub leaving: Bags,
 }
 
-/// The components of a checked text by number, and the couplings of its models.
+/// The components of a checked text by number, and the couplings of the models that its root leads to. Of the others it
+/// keeps nothing.
 #[derive(Drop)]
 pub struct Tree<'c> {
     checked: &'c Checked,
+    reached: Reached<'c>,
     levels: Vec<Option<Level>>,
     root: Option<usize>,
     scopes: Vec<Scope>,
@@ -47,25 +51,35 @@ pub struct Tree<'c> {
 }
 
 impl<'c> Model for Tree<'c> {
-    ghost use Rattle.std.specs.Prelude.{◌≡◌};
+    ghost use Rattle.std.specs.Prelude.{◌≡◌, map, slice_get, Some};
     ghost use Rattle.dv_syntax.specs.Trees.{file_of};
     ghost use Rattle.dv_tree.specs.Instances.{root_inputs, root_outputs};
     ghost use Rattle.dv_tree.specs.Nodes.{components_of, root_level};
+    ghost use Rattle.dv_tree.specs.Reached.{AreReached, borrowed, borrowed_models, text_of_reached};
     ghost use Rattle.dv_tree.specs.Tables.{Source, levels_of, root_table, scopes_of, source_code};
 
     ghost Value = { Source };
 
     ghost coded = { source_code };
 
-    ghost view = { λ t. record { file = t.checked.now.file; names = t.checked.now.names } };
+    ghost view = { λ t. record {
+      file = t.checked.now.file;
+      names = t.checked.now.names;
+      reached = borrowed t.reached.models.items;
+    } };
 
     ghost invariant = { λ t.
-        (t.levels.items ≡ levels_of (file_of t.checked.now.file).models)
-        × (root_level t.levels.items t.root ≡ root_table (file_of t.checked.now.file))
-        × (t.scopes.items ≡ scopes_of (file_of t.checked.now.file))
-        × (t.components.items ≡ components_of (file_of t.checked.now.file))
-        × (t.inputs.items ≡ root_inputs (file_of t.checked.now.file))
-        × (t.outputs.items ≡ root_outputs (file_of t.checked.now.file)) };
+        let f = file_of t.checked.now.file in
+        let reached = borrowed_models t.reached.models.items in
+        let tables = text_of_reached f reached in
+        (t.levels.items ≡ levels_of reached)
+        × (root_level t.levels.items t.root ≡ root_table tables)
+        × (t.scopes.items ≡ scopes_of tables)
+        × (t.components.items ≡ components_of tables)
+        × (t.inputs.items ≡ root_inputs f)
+        × (t.outputs.items ≡ root_outputs f)
+        × AreReached f reached
+        × (map (slice_get f.models) t.reached.places.items ≡ map Some reached) };
 }
 
 impl<'c> Tree<'c> {
@@ -78,16 +92,18 @@ impl<'c> Tree<'c> {
         ensures { IfOk result (λ t. (t.file ≡ checked.now.file) × (t.names ≡ checked.now.names)) }
     {
         let file = &checked.file;
-        let models = Places::of(alloc, model_numbers(alloc, &file.models)?)?;
-        let scopes = scopes(alloc, &file.models)?;
-        let levels = tables_of(alloc, &file.models, &models, &scopes)?;
-        let root = models.place(file.root.number);
+        let reached = Reached::of(alloc, file)?;
+        let names = Places::of(alloc, numbers_of_models(alloc, &reached.models)?)?;
+        let scopes = scopes(alloc, &reached.models)?;
+        let levels = tables_of(alloc, &reached.models, &names, &scopes)?;
+        let root = names.place(file.root.number);
         let components = components_of(alloc, &levels, root)?;
         let coupled = tables::root(file);
         let inputs = numbers(alloc, root_inputs(coupled))?;
         let outputs = numbers(alloc, root_outputs(coupled))?;
         Ok(Tree {
             checked,
+            reached,
             levels,
             root,
             scopes,
@@ -104,23 +120,33 @@ impl<'c> Tree<'c> {
         &self.checked.file
     }
 
-    /// The tables of the coupled models, by the places of the models; an atomic model has none.
+    /// The models that the root leads to, in the order of the text. Tables go by the places of models among these.
+    pub fn reached(&self) -> &[&'c ModelItem]
+        ensures { borrowed result.now ≡ self.now.reached }
+    {
+        &self.reached.models
+    }
+
+    /// The tables of the coupled ones of these models; an atomic model has none.
     pub fn levels(&self) -> &[Option<Level>]
-        ensures { result.now ≡ levels_of (file_of self.now.file).models }
+        ensures { result.now ≡ levels_of (map model_of self.now.reached) }
     {
         &self.levels
     }
 
-    /// What each model declares, by the places of the models; a coupled model declares nothing here.
+    /// What each of these models declares; a coupled model declares nothing here.
     pub fn scopes(&self) -> &[Scope]
-        ensures { result.now ≡ scopes_of (file_of self.now.file) }
+        ensures { result.now ≡ map scope_of_model (map model_of self.now.reached) }
     {
         &self.scopes
     }
 
     /// The table of the root, where that is a coupled model.
     pub fn root_level(&self) -> Option<&Level>
-        ensures { option_copied result ≡ root_table (file_of self.now.file) }
+        ensures reached { AreReached (file_of self.now.file) (map model_of self.now.reached) }
+        ensures value { option_copied result
+            ≡ root_table (text_of_reached (file_of self.now.file)
+            (map model_of self.now.reached)) }
     {
         root_level(&self.levels, self.root)
     }
@@ -141,7 +167,7 @@ impl<'c> Tree<'c> {
             ≡ Some (atomic_of result.now) }
     {
         let place = self.components[component].model();
-        match &self.checked.file.models[place] {
+        match self.reached.models[place] {
             ModelItem::Atomic(model) => model,
             ModelItem::Coupled(_) => unreachable!(),
         }
@@ -155,7 +181,8 @@ impl<'c> Tree<'c> {
             (instances (file_of self.now.file))) component
             ≡ slice_get (file_of self.now.file).models result }
     {
-        self.components[component].model()
+        let place = self.components[component].model();
+        self.reached.places[place]
     }
 
     /// What the model of a component declares.
@@ -282,16 +309,16 @@ impl<'c> Tree<'c> {
     }
 }
 
-/// The tables of the coupled models of a file, from what its models declare.
+/// The tables of the coupled ones of these models, from what they declare.
 fn tables_of(
     alloc: Global,
-    items: &[ModelItem],
+    items: &[&ModelItem],
     models: &Places,
     scopes: &[Scope],
 ) -> Result<Vec<Option<Level>>, AllocError>
-    requires names { models.now ≡ model_names (map model_of items.now) }
-    requires scopes { scopes.now ≡ map scope_of_model (map model_of items.now) }
-    ensures { IfOk result (λ levels. levels.items ≡ levels_of (map model_of items.now)) }
+    requires names { models.now ≡ model_names (borrowed_models items.now) }
+    requires scopes { scopes.now ≡ map scope_of_model (borrowed_models items.now) }
+    ensures { IfOk result (λ levels. levels.items ≡ levels_of (borrowed_models items.now)) }
 {
     let inputs = inputs(alloc, items, scopes)?;
     let outputs = outputs(alloc, items, scopes)?;

@@ -8,4 +8,4 @@ loop-declaration-preserved c =
     first_of_step_itself number_of_declaration place_of_declaration c.args.declarations.now c.loop-declaration.declaration-index
     c.declaration-item.result _ _ _ _ c.loop-declaration-test.true c.declaration-item.is
     (ap (λ n. n.number) c.name_of_declaration-name.ensures) (ap (λ n. n.place) c.name_of_declaration-name.ensures)
-    c.loop-declaration.invariant c.in_ok-add.ensures
+    c.loop-declaration.invariant c.in_ok-add.ensures.added

@@ -7,4 +7,4 @@ pub loop-declaration-preserved : goal.loop-declaration-preserved
 loop-declaration-preserved c =
     first_of_step_itself number_of_declaration sort_of c.args.declarations.now c.loop-declaration.declaration-index
     c.declaration-item.result _ _ _ _ c.loop-declaration-test.true c.declaration-item.is
-    (ap (λ n. n.number) c.name_of_declaration-name.ensures) c.sort_of.ensures c.loop-declaration.invariant c.in_ok-add.ensures
+    (ap (λ n. n.number) c.name_of_declaration-name.ensures) c.sort_of.ensures c.loop-declaration.invariant c.in_ok-add.ensures.added

@@ -1,7 +1,6 @@
 use Rattle.std.proofs.Common.{ap, sym, ◌∙◌, map}
 use Rattle.std.specs.Option.{option_copied}
-use Rattle.dv_syntax.specs.Trees.{file_of, model_of}
-use Rattle.dv_syntax.specs.declared.tree.File.{File}
+use Rattle.dv_syntax.specs.Trees.{model_of}
 use Rattle.dv_flat.specs.Ways.{ways_by}
 use Rattle.dv_flat.proofs.Loops.{over_more}
 use Rattle.dv_flat.proofs.limit.ways_over.Goals as goal
@@ -9,12 +8,11 @@ use Rattle.dv_flat.proofs.limit.ways_over.Goals as goal
 pub loop-place-preserved : goal.loop-place-preserved
 loop-place-preserved c =
     let at = c.loop-place in
-    let models = (file_of c.args.tree.now.file).models in
-    let items = c.deref-model-items.ensures.value ∙ ap (λ (f : File). f.models.items) c.file.ensures in
-    over_more c.args.below.now models c.deref-model-items.result.now c.model-item.result at.place c.scopes-scopes.result.now
+    let models = map model_of c.args.tree.now.reached in
+    over_more c.args.below.now models c.reached-model-items.result.now c.model-item.result at.place c.scopes-scopes.result.now
     c.levels-levels.result.now c.index-scopes-place.result _ at.over.items c.push.new.self.items c.in_ok-ways_by.field-0
-    (ap (map model_of) (sym items)) c.scopes-scopes.ensures c.levels-levels.ensures c.loop-place-test.true c.model-item.is
-    c.index-scopes-place.is c.level_at-level.ensures
+    (ap (map model_of) (sym c.reached-model-items.ensures)) c.scopes-scopes.ensures c.levels-levels.ensures c.loop-place-test.true
+    c.model-item.is c.index-scopes-place.is c.level_at-level.ensures
     (c.in_ok-ways_by.ensures
     ∙ ap (λ n. ways_by n c.index-scopes-place.result (option_copied c.level_at-level.result) c.args.below.now)
     c.own_inputs-inputs.ensures)

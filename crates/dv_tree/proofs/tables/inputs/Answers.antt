@@ -1,16 +1,16 @@
 use Rattle.std.proofs.Common.{map, refl, ◌∙◌}
-use Rattle.dv_syntax.specs.Trees.{model_of}
+use Rattle.dv_tree.specs.Reached.{borrowed_models}
 use Rattle.dv_check.specs.Ports.{shown_inputs}
-use Rattle.dv_tree.proofs.Below.{scope_read}
+use Rattle.dv_tree.proofs.Below.{scope_lent}
 use Rattle.dv_tree.proofs.Gathered.{gathered_more}
 use Rattle.dv_tree.proofs.tables.inputs.Goals as goal
 
 pub inputs_of-requires : goal.inputs_of-requires
 inputs_of-requires c =
-    scope_read c.args.models.now c.args.scopes.now c.loop-place.place c.index-models-place.result c.index-scopes-place.result c.requires
+    scope_lent c.args.models.now c.args.scopes.now c.loop-place.place c.index-models-place.result c.index-scopes-place.result c.requires
     c.loop-place-test.true c.index-models-place.is c.index-scopes-place.is
 
 pub loop-place-preserved : goal.loop-place-preserved
 loop-place-preserved c =
-    gathered_more (λ models. map shown_inputs (map model_of models)) _ _ _ _ _ _ _ _ c.loop-place-test.true c.index-models-place.is
+    gathered_more (λ models. map shown_inputs (borrowed_models models)) _ _ _ _ _ _ _ _ c.loop-place-test.true c.index-models-place.is
     (c.in_ok-of.ensures ∙ c.in_ok-names.ensures) c.in_ok-push.ensures.items c.loop-place.invariant (λ rest. refl)

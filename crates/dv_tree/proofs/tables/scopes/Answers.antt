@@ -1,10 +1,10 @@
 use Rattle.std.proofs.Common.{map, refl}
-use Rattle.dv_syntax.specs.Trees.{model_of}
+use Rattle.dv_tree.specs.Reached.{borrowed_models}
 use Rattle.dv_tree.specs.Tables.{scope_of_model}
 use Rattle.dv_tree.proofs.Gathered.{gathered_more}
 use Rattle.dv_tree.proofs.tables.scopes.Goals as goal
 
 pub loop-model-preserved : goal.loop-model-preserved
 loop-model-preserved c =
-    gathered_more (λ models. map scope_of_model (map model_of models)) _ _ _ _ _ _ _ _ c.loop-model-test.true
+    gathered_more (λ models. map scope_of_model (borrowed_models models)) _ _ _ _ _ _ _ _ c.loop-model-test.true
     c.model-item.is c.in_ok-scope_of.ensures c.in_ok-push.ensures.items c.loop-model.invariant (λ rest. refl)

@@ -14,7 +14,8 @@ count c =
       arith,
       c.len.ensures,
       c.self.inside.components.ok.0,
-      length-named (tree_named c.self.inside.checked.now c.args.self.now c.self.inside.components.items c.self.view_is c.self.invariant.3),
+      length-named (tree_named c.self.inside.checked.now c.self.inside.reached.models.items c.args.self.now c.self.view_is
+          c.self.invariant.6 c.self.inside.components.items c.self.invariant.3),
     )
 
 pub returns-clause-value : goal.returns-clause-value

@@ -17,19 +17,21 @@ pub returns-clause-received : goal.returns-clause-received
 returns-clause-received c =
     let Received : List (List Counts) → Type 0 = λ bags. IfOk c.route.result (λ routed. routed.received.items ≡ bags) in
     subst Received
-    (arrives_made c.self.inside.checked.now c.args.self.now c.deref-2.result.now _ c.args.sent.now c.self.view_is
-    (c.deref-2.ensures.value ∙ c.self.invariant.0)
+    (arrives_made c.self.inside.checked.now c.self.inside.reached.models.items c.args.self.now c.self.view_is c.self.invariant.6
+    c.deref-2.result.now _ (c.deref-2.ensures.value ∙ c.self.invariant.0)
     (c.root_level.ensures
-    ∙ (ap (λ ls. root_level ls c.self.inside.root) c.deref.ensures.value ∙ c.self.invariant.1)) c.args.input.now) c.route.ensures.received
+    ∙ (ap (λ ls. root_level ls c.self.inside.root) c.deref.ensures.value ∙ c.self.invariant.1)) c.args.sent.now c.args.input.now)
+    c.route.ensures.received
 
 left : (c : goal.After-route) → IfOk c.route.result (λ routed. routed.leaving ≡ leaves (file_of c.args.self.now.file) c.args.sent.now)
 left c =
     let Left : List Counts → Type 0 = λ bags. IfOk c.route.result (λ routed. routed.leaving ≡ bags) in
     subst Left
-    (leaves_made c.self.inside.checked.now c.args.self.now c.deref-2.result.now _ c.args.sent.now c.self.view_is
-    (c.deref-2.ensures.value ∙ c.self.invariant.0)
+    (leaves_made c.self.inside.checked.now c.self.inside.reached.models.items c.args.self.now c.self.view_is c.self.invariant.6
+    c.deref-2.result.now _ (c.deref-2.ensures.value ∙ c.self.invariant.0)
     (c.root_level.ensures
-    ∙ (ap (λ ls. root_level ls c.self.inside.root) c.deref.ensures.value ∙ c.self.invariant.1))) c.route.ensures.leaving
+    ∙ (ap (λ ls. root_level ls c.self.inside.root) c.deref.ensures.value ∙ c.self.invariant.1)) c.args.sent.now)
+    c.route.ensures.leaving
 
 pub returns-clause-leaving : goal.returns-clause-leaving
 returns-clause-leaving c = left c

@@ -2,7 +2,7 @@ use Rattle.std.proofs.Common.{◌∙◌}
 use Rattle.std.proofs.lemmas.Result.{on_ok_weaker}
 use Rattle.dv_syntax.specs.Trees.{atomic_of}
 use Rattle.dv_listing.proofs.Models.{model_pushed}
-use Rattle.dv_listing.proofs.lines.push_model.Goals as goal
+use Rattle.dv_listing.proofs.lines.push_model_in.Goals as goal
 
 pub returns : goal.returns
 returns c =

@@ -1,0 +1,98 @@
+//! What names stand for, in a table by their numbers.
+
+ghost use Rattle.std.specs.Prelude.{◌≡◌, ℕ, ◌<◌, ◌==◌, if◌then◌else◌, is_none, length, Some, IfOk, OnOk};
+ghost use Rattle.std.specs.Option.{option_copied};
+ghost use Rattle.dv_check.specs.Tables.{no_value, table_value, value_at, with_first};
+
+use std::alloc::{AllocError, Global};
+use std::collections::HashMap;
+
+/// How many places the list of a table may have for each value that it is made for.
+const PLACES_FOR_EACH: usize = 4;
+
+/// For each number the value that was added for it first. The names of a text have the numbers from 0 on, so a list of
+/// many names has many small numbers: their values lie in a list by number, and only those of the others in a map.
+#[derive(Drop)]
+pub struct Table<V: Drop> {
+    /// The number at which the map begins.
+    limit: usize,
+    low: Vec<Option<V>>,
+    high: HashMap<u32, V>,
+}
+
+impl<V: Drop> Table<V> {
+    /// No values, and made for so many. A number past the places of the list is looked up in the map, so that few names
+    /// with great numbers make no long list.
+    #[tactic(auto, using(crate::proofs::Tables::table_none))]
+    pub fn with_room(alloc: Global, count: usize) -> Self
+        ensures { table_value result ≡ no_value }
+    {
+        Table {
+            limit: count.saturating_mul(PLACES_FOR_EACH),
+            low: Vec::new(alloc),
+            high: HashMap::new(alloc),
+        }
+    }
+
+    /// Adds a value, unless there is one for the number, and answers whether there was none.
+    pub fn add(&mut self, number: u32, value: V) -> Result<bool, AllocError>
+        ensures new { IfOk result (λ is_new. is_new ≡ is_none (table_value self.old number)) }
+        ensures added { OnOk result
+            (table_value self.new ≡ with_first (table_value self.old) number value) }
+    {
+        let is_new = self.get(number).is_none();
+        if is_new {
+            if (number as usize) < self.limit {
+                put_at(&mut self.low, number as usize, value)?;
+            } else {
+                self.high.insert(number, value)?;
+            }
+        }
+        Ok(is_new)
+    }
+
+    /// The value of a number.
+    #[tactic(auto, unfolding(crate::specs::Tables::table_value))]
+    pub fn get(&self, number: u32) -> Option<&V>
+        ensures { option_copied result ≡ table_value self.now number }
+    {
+        if (number as usize) < self.limit {
+            value_at(&self.low, number as usize)
+        } else {
+            self.high.get(&number)
+        }
+    }
+}
+
+// The value at an index of a list that has empty places.
+#[tactic(auto, unfolding(crate::specs::Tables::value_at))]
+fn value_at<V>(places: &[Option<V>], index: usize) -> Option<&V>
+    ensures { option_copied result ≡ value_at places.now index }
+{
+    match places.get(index) {
+        Some(place) => place.as_ref(),
+        None => None,
+    }
+}
+
+// Puts a value at an index, with empty places before it where the list is too short.
+fn put_at<V: Drop>(places: &mut Vec<Option<V>>, index: usize, value: V) -> Result<(), AllocError>
+    ensures { OnOk result ((q : ℕ) → value_at places.new.items q
+        ≡ (if index == q then Some value else value_at places.old.items q)) }
+{
+    lengthen(places, index)?;
+    places[index] = Some(value);
+    Ok(())
+}
+
+// Adds empty places to a list until it has an index.
+#[tactic(auto, using(crate::proofs::Tables::value_past))]
+fn lengthen<V: Drop>(places: &mut Vec<Option<V>>, index: usize) -> Result<(), AllocError>
+    ensures values { (q : ℕ) → value_at places.new.items q ≡ value_at places.old.items q }
+    ensures reaches { OnOk result (index < length places.new.items) }
+{
+    while places.len() <= index {
+        places.push(None)?;
+    }
+    Ok(())
+}
