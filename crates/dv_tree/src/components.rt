@@ -9,8 +9,8 @@ use dv_lex::Names;
 use std::alloc::{AllocError, Global};
 use std::marker::Model;
 
-/// A component: the names of the parts that lead to it, as their numbers, and the place of its model in the file. So it
-/// takes the same memory however long the names are.
+/// A component: the names of the parts that lead to it, as their numbers, and the place of its model among those of which
+/// there are tables. So it takes the same memory however long the names are.
 #[derive(Drop)]
 pub(crate) struct Component {
     pub(crate) path: Vec<u32>,

@@ -8,7 +8,7 @@ use crate::places::Places;
 use dv_syntax::{Name, Part};
 use std::alloc::{AllocError, Global};
 
-/// A part: its name, and the place of its model in the file.
+/// A part: its name, and the place of its model among those of which there are tables.
 #[derive(Clone, Copy, Debug, PartialEq, Eq)]
 pub struct PlacedPart {
     pub name: Name,

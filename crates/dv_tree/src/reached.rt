@@ -12,7 +12,7 @@ use dv_check::GREATEST_DEPTH;
 use dv_syntax::{File, Model, Part};
 use std::alloc::{AllocError, Global};
 
-/// Models of a text, in its order, with their places among all of its models.
+/// Models of a text in its order, with their places among all of its models.
 #[derive(Drop)]
 pub(crate) struct Reached<'c> {
     pub(crate) models: Vec<&'c Model>,
@@ -65,8 +65,8 @@ impl<'c> Reached<'c> {
     }
 }
 
-// Marks for the models that the root leads to, by way of few levels. That these are all of them is asked of what is found,
-// and so nothing rests on how they are found but memory.
+// Marks for the models that the root leads to within so many levels as a tree may have. That these are all of them is
+// tested afterwards, so nothing rests on how they are found but memory.
 fn marks_from(
     alloc: Global,
     models: &[Model],

@@ -64,28 +64,27 @@ pub fn write_vcd<W: Write>(
     write_header(tree, &shown.components, shown.behind, &mut text, writer)?;
     let mut changes = Changes::new(alloc, tree, text, shown.components, shown.behind);
     changes.start()?;
-    write_changes(alloc, tree, trace, &mut changes, writer)?;
-    hand_over(writer, changes.text.as_bytes())?;
-    Ok(())
+    write_changes(alloc, tree, trace, changes, writer)
 }
 
-// Writes what the lines of a trace change.
+// Writes what the lines of a trace change, behind what everything shows at the start.
 fn write_changes<'a, W: Write>(
     alloc: Global,
     tree: &'a Tree<'a>,
     trace: &'a [u8],
-    changes: &mut Changes<'a>,
+    mut changes: Changes<'a>,
     writer: &mut W,
 ) -> Result<(), VcdError> {
     let mut reader = TraceReader::new(alloc, tree)?;
     let mut clock = u64::MAX;
     for line in trace.split(|byte| *byte == b'\n') {
         match reader.read_line(line) {
-            Ok(line) => follow(changes, line, &mut clock)?,
+            Ok(line) => follow(&mut changes, line, &mut clock)?,
             Err(error) => return Err(VcdError::from(error)),
         }
         hand_over_if_long(&mut changes.text, writer)?;
     }
+    hand_over(writer, changes.text.as_bytes())?;
     Ok(())
 }
 
