@@ -40,7 +40,8 @@ loop-held-preserved c =
           one_more limit now (length c.args.leaving.now) c.loop-held.held-index c.held-held-items.result.now h before
           c.push_outer.new.self.outer _ c.held-held-items.ensures.within c.loop-held-test.true c.held-item.is
           (pushed
-          ∙ ap (λ (t : Time). before ++ line_at t h.port c.in_ok-clone.field-0 ∷ []) (sym (time_of-rank limit time c.args.instant.now.of_run))
+          ∙ ap (λ (t : Time). before ++ line_at t h.port c.in_ok-clone.field-0 ∷ [])
+          (sym (time_of-rank limit time c.args.instant.now.of_run))
           ∙ ap (λ (v : Counts). before ++ line_at (time_of limit now) h.port v ∷ []) c.in_ok-clone.ensures.cases)
           c.loop-held.invariant.lines;
       grown = grown_more c.args.committed.now.outer before c.push_outer.new.self.outer line c.loop-held.invariant.grown pushed;

@@ -38,7 +38,8 @@ returns-in-Ok-clause-ok c =
     let at = subst (StandsAt port c.in-Ok.place) c.as_slice.ensures c.in-Ok.ensures.found in
     on_ok_weaker c.insert_copies.result
     (λ more.
-    changed inside.ports port hs c.self.invariant.0 c.self.invariant.1 lt c.in-Ok.place xs old c.deref_mut.ensures.value at c.insert_copies.new.self
+    changed inside.ports port hs c.self.invariant.0 c.self.invariant.1 lt c.in-Ok.place xs old c.deref_mut.ensures.value at
+    c.insert_copies.new.self
     ∙ ap (set (by_port inside.ports hs) port)
     (more ∙ ap (with_copies c.args.value c.args.copies)
     (old_bag inside.ports port hs c.self.invariant.0 c.self.invariant.1 lt c.in-Ok.place xs old c.deref_mut.ensures.value at))

@@ -49,7 +49,9 @@ invariant_of-self-in-Err c =
     let at = subst (GoesInAt port c.in-Err.place) c.as_slice.ensures c.in-Err.ensures.absent in
     added_well inside.ports port hs c.self.invariant.0 c.self.invariant.1 (omega (arith, c.requires, ports, long))
     c.in-Err.place c.insert.new.self.items c.union-in-Err.new.self at c.in_ok-insert-in-Err.ensures.ok
-    (subst (λ b. 0 < total b) (sym c.in_ok-union-in-Err.ensures.ok) (some_other _ c.args.values.now (some_values c.args.values.now c.is_empty.result c.is_empty.ensures.size c.if-is_empty.false)))
+    (subst (λ b. 0 < total b) (sym c.in_ok-union-in-Err.ensures.ok)
+    (some_other _ c.args.values.now
+    (some_values c.args.values.now c.is_empty.result c.is_empty.ensures.size c.if-is_empty.false)))
 
 pub returns-in_ok-insert-in-Err-clause-ok : goal.returns-in_ok-insert-in-Err-clause-ok
 returns-in_ok-insert-in-Err-clause-ok c =
