@@ -4,7 +4,7 @@ use Rattle.dv_bag.specs.declared.fault.Fault.{Fault}
 use Rattle.dv_bag.specs.declared.fault.RuleError.{RuleError}
 use Rattle.dv_bag.specs.declared.fault.RuleError.TheVariants as error
 
--- what is meant is this fault; of want of memory nothing is said
+-- what is meant is this fault; where memory runs out nothing is said
 abbrev pub Fails : {X : Type 0} → RuleError → Result X Fault → Type 0
 Fails (error.Fault f) meant = meant ≡ Err f
 Fails error.Memory meant = Unit {0}

@@ -46,7 +46,7 @@ impl fmt::Display for Fault {
     }
 }
 
-/// Why a rule has no effect: a fault of the model, or want of memory.
+/// Why a rule has no effect: a fault of the model, or out of memory.
 #[derive(Clone, Copy, Debug, PartialEq, Eq)]
 pub enum RuleError {
     Fault(Fault),

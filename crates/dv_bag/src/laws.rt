@@ -2,5 +2,5 @@
 
 /// Bags are maps from values to counts, and a commutative monoid.
 pub mod bags;
-/// A time parts a part.
+/// A time cuts a part in two.
 pub mod parts;

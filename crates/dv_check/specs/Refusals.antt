@@ -56,7 +56,7 @@ limit_refusals f = root_limit_refusals f.models (model_named f.root.number f.mod
 abbrev pub refusal_of : FileTree → Option Refusal
 refusal_of f = option_or (first_refusal (refusals f)) (first_refusal (limit_refusals f))
 
--- an error that is the file's refusal; of want of memory nothing is said
+-- an error that is the file's refusal; where memory runs out nothing is said
 abbrev pub IsAnswerTo : FileTree → LoadError → Type 0
 IsAnswerTo f (Refused r) = refusal_of f ≡ Some r
 IsAnswerTo f Memory = Unit {0}

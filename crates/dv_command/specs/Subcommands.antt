@@ -23,7 +23,7 @@ run_takes_value name =
     || bytes_eq name (codes "--partition") || bytes_eq name (codes "--processes")
     || bytes_eq name (codes "--rounds") || bytes_eq name (codes "--workers")
 
--- the options by which a model is parted
+-- the options by which a model is divided
 abbrev pub plan_takes_value : List ℕ → Bool
 plan_takes_value name = bytes_eq name (codes "--partition") || bytes_eq name (codes "--processes")
 

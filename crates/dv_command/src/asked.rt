@@ -50,7 +50,7 @@ fn model_in(alloc: Global, parts: &[Part<'_>]) -> Result<Option<ModelFile>, Allo
     Ok(Some(ModelFile { model, explained }))
 }
 
-/// How the components are parted, where that is given.
+/// How the components are divided, where that is given.
 fn partition_in(
     alloc: Global,
     parts: &[Part<'_>],

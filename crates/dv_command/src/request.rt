@@ -17,7 +17,7 @@ pub enum Request {
     Run(Run),
     /// Print the programs of a model.
     Code(ModelFile),
-    /// Print how a model is parted.
+    /// Print how a model is divided.
     Plan(Plan),
     /// Print a model as a graph in the DOT language.
     Graph(Plan),
@@ -59,21 +59,21 @@ pub struct Stats {
     pub csv: bool,
 }
 
-/// How the components of a model are parted into processes.
+/// How the components of a model are divided into processes.
 #[derive(Debug, Drop)]
 pub enum PartitionChoice {
     /// As the text of a file says.
     File(String),
-    /// Into so many processes. Whether a model can be parted so is not asked here.
+    /// Into so many processes. Whether a model can be divided so is not asked here.
     Count(u32),
 }
 
-/// A model with how it is parted into processes.
+/// A model with how it is divided into processes.
 #[derive(Debug, Drop)]
 pub struct Plan {
     /// The file of the model.
     pub model: String,
-    /// How it is parted, where that was given; else there is one process.
+    /// How it is divided, where that was given; else there is one process.
     pub partition: Option<PartitionChoice>,
     /// Whether a refusal is explained.
     pub explained: bool,
@@ -84,7 +84,7 @@ pub struct Plan {
 pub struct Run {
     /// The file of the model.
     pub model: String,
-    /// How it is parted, where that was given; else there is one process.
+    /// How it is divided, where that was given; else there is one process.
     pub partition: Option<PartitionChoice>,
     /// The file of the inputs, where one was given.
     pub inputs: Option<String>,

@@ -1,4 +1,4 @@
--- Bags that deliveries make: the order of deliveries does not matter, and links may be parted.
+-- Bags that deliveries make: the order of deliveries does not matter, and links may be divided.
 use Rattle.std.proofs.Common.{◌≡◌, ◌⊎◌, inl, inr, ℕ, ◌+◌, Bool, true, false, ◌&&◌, ◌||◌, cond, nat_eq, List, [], ◌∷◌, ◌++◌}
 use Rattle.std.proofs.Common.{IsTrue, refl, sym, ap, ◌∙◌}
 use Rattle.std.specs.List.{filter}

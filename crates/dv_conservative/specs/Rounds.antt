@@ -22,7 +22,7 @@ abbrev pub Progressed : Job → Step → Reply → World → World → Type 0
 Progressed job (Turn p) Done w v = Progresses (share_of job p) (received_in w) (position_in w p) (position_in v p)
 Progressed job s reply w v = Unit {0}
 
--- a reply that is not for want of memory
+-- a reply that does not say that memory ran out
 abbrev pub HadMemory : Reply → Type 0
 HadMemory Memory = ⊥
 HadMemory reply = Unit {0}

@@ -203,7 +203,7 @@ Does job (Put l) w v = IsMove l (after_put (w.link l)) w v
 Does job (Take l) w v = IsMove l (after_take (w.link l)) w v
 Does job (Stop p) w v = IsStop p w v
 
--- The reply to a step, and the world after it, where nothing refuses it: only for want of memory it is not done. A stop takes
+-- The reply to a step, and the world after it, where nothing refuses it: only where memory runs out it is not done. A stop takes
 -- none.
 abbrev pub Answers : Job → Step → Reply → World → World → Type 0
 Answers job s Done w v = Does job s w v

@@ -486,7 +486,7 @@ module _ {J P : Type 0} {IsValid : P → Type 0} {means : J → Job} {state : P 
       (stop_stops job k stands.kept p flag there))
       tt (stop_stands job k stands.kept p flag there)
 
--- only want of memory is left where no test fails
+-- only out of memory is left where no test fails
 pub only_memory : (r : RefusedOfCode) → meant_refusal r ≡ None → (r ≡ why.NoMemory → ⊥) → ⊥
 only_memory why.NoSuchLink e h = absurd (cc)
 only_memory why.OtherWindow e h = absurd (cc)

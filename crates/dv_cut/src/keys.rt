@@ -5,7 +5,7 @@ ghost use Rattle.dv_partition.specs.Groups.{owner_of};
 ghost use Rattle.dv_cut.specs.Keys.{lists_by, pair_key, receiver_key, sender_key};
 
 use dv_partition::Groups;
-use dv_partition::parted::parted;
+use dv_partition::by_key::by_key;
 use dv_share::Link;
 use std::alloc::{AllocError, Global};
 
@@ -24,7 +24,7 @@ pub(crate) fn by_pair(
 {
     let processes = groups.processes();
     let keys = pair_keys(alloc, groups, links)?;
-    parted(alloc, processes * processes, &keys, links.to_vec(alloc)?)
+    by_key(alloc, processes * processes, &keys, links.to_vec(alloc)?)
 }
 
 /// The links by the process from which they lead.
@@ -41,7 +41,7 @@ pub(crate) fn by_sender(
         ≡ lists_by (sender_key groups.now) groups.now.processes links.now) }
 {
     let keys = senders(alloc, groups, links)?;
-    parted(alloc, groups.processes(), &keys, links.to_vec(alloc)?)
+    by_key(alloc, groups.processes(), &keys, links.to_vec(alloc)?)
 }
 
 /// The links by the process to which they lead.
@@ -58,7 +58,7 @@ pub(crate) fn by_receiver(
         ≡ lists_by (receiver_key groups.now) groups.now.processes links.now) }
 {
     let keys = receivers(alloc, groups, links)?;
-    parted(alloc, groups.processes(), &keys, links.to_vec(alloc)?)
+    by_key(alloc, groups.processes(), &keys, links.to_vec(alloc)?)
 }
 
 // The two processes of each link as one number.

@@ -25,7 +25,7 @@ link_refusal f = if nat_lt greatest_links (link_count f) then Some (record { num
 abbrev pub file_refusal : FileTree → Option Refusal
 file_refusal f = option_or (refusal_of f) (link_refusal f)
 
--- an error that is the refusal for too many links; of want of memory nothing is said
+-- an error that is the refusal for too many links; where memory runs out nothing is said
 abbrev pub IsLinkAnswer : FileTree → LoadError → Type 0
 IsLinkAnswer f (Refused r) = link_refusal f ≡ Some r
 IsLinkAnswer f Memory = Unit {0}

@@ -73,7 +73,7 @@ crowded (Refused r) text names f c refused =
     }))
 crowded Memory text names f c refused = tt
 
--- the error of a text that is not loaded is its answer, or want of memory
+-- the error of a text that is not loaded is its answer, or out of memory
 pub answered : (e : LoadError) (text : List ℕ) → IsUnloaded e text → AnswersWith text (job_error_of_load text e)
 answered (Refused r) text refused = record { refusal = r; refused = refused; answer = refl }
 answered Memory text refused = tt

@@ -50,7 +50,7 @@ pub record IsAnswerToInputs (model inputs : List ℕ) (r : InputRefusal) : Type 
   pub refused : reading_of inputs (input_ports names file) ≡ Err r
 
 -- What an error leaves: at a refusal nothing was written, and the answer is that of the model's text, or where the model is accepted
--- that of its inputs'; at a failed write a beginning that is not all; at want of memory nothing or such a beginning.
+-- that of its inputs'; at a failed write a beginning that is not all; where memory ran out nothing or such a beginning.
 abbrev pub LeftBy : JobError → (model inputs : List ℕ) → (horizon limit : ℕ) → Option (List ℕ) → Option (List ℕ) → Type 0
 LeftBy (error.Text e) model inputs horizon limit old new = IsAnswer model e × Keeps old new
 LeftBy (error.Partition r) model inputs horizon limit old new = ⊥
@@ -65,7 +65,7 @@ pub record HasComponents (text : List ℕ) (count : ℕ) : Type 0 where
   pub model : IsModelOf text names file
   pub counted : count ≡ length (instances file)
 
--- the error is the answer to a text, or want of memory
+-- the error is the answer to a text, or out of memory
 abbrev pub AnswersWith : List ℕ → JobError → Type 0
 AnswersWith text (error.Text e) = IsAnswer text e
 AnswersWith text (error.Partition r) = ⊥

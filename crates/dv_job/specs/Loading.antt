@@ -6,7 +6,7 @@ use Rattle.dv_syntax.specs.Trees.{file_of}
 use Rattle.dv_tree.specs.Tables.{Source}
 use Rattle.dv_job.specs.Job.{IsRefusedText, input_ports}
 
--- only want of memory, or a refusal of the text
+-- only out of memory, or a refusal of the text
 abbrev pub IsUnloaded : LoadError → List ℕ → Type 0
 IsUnloaded (load.Refused r) text = IsRefusedText text r
 IsUnloaded load.Memory text = Unit {0}

@@ -18,7 +18,7 @@ pub record HasPlan (model : List ℕ) (partition : Partition) : Type 0 where
   pub accepted : IsModelOf model names file
   pub parted : partition_answer (paths_of names file) partition ≡ Ok groups
 
--- the error is the answer to the model's text, or to the partition, or want of memory
+-- the error is the answer to the model's text, or to the partition, or out of memory
 abbrev pub AnswersPlan : List ℕ → Partition → JobError → Type 0
 AnswersPlan model partition (error.Text e) = IsAnswer model e
 AnswersPlan model partition (error.Partition r) = IsAnswerToPartition model partition r

@@ -22,7 +22,7 @@ pub record HasSteppedText (model inputs : List ℕ) (partition : Partition) (o :
   pub planned : IsPlanned model inputs partition names file groups played
   pub stepped : IsStepped file played groups o.horizon o.limit o.capacity steps s
 
--- the error is the answer to the model's text, to the partition or to the inputs' text, or want of memory
+-- the error is the answer to the model's text, to the partition or to the inputs' text, or out of memory
 abbrev pub AnswersSteps : (model inputs : List ℕ) → Partition → JobError → Type 0
 AnswersSteps model inputs partition (error.Text e) = IsAnswer model e
 AnswersSteps model inputs partition (error.Partition r) = IsAnswerToPartition model partition r

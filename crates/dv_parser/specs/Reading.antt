@@ -712,7 +712,7 @@ abbrev pub answer_of : ParseError → ℕ → LoadError
 answer_of parse_error.Memory end = error.Memory
 answer_of (parse_error.Stopped o) end = error.Refused (refusal_of (obstacle_of o) end)
 
--- the error is the answer to the tokens, or want of memory
+-- the error is the answer to the tokens, or out of memory
 abbrev pub IsRefused : LoadError → List Token → ℕ → Type 0
 IsRefused error.Memory ts end = Unit {0}
 IsRefused (error.Refused r) ts end = refusal_of_tokens ts end ≡ Some r

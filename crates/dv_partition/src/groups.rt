@@ -5,7 +5,7 @@ ghost use Rattle.std.specs.List.{AllByRecursion, range_with_len};
 ghost use Rattle.dv_partition.specs.Groups.{members_of, owner_of};
 ghost use Rattle.dv_partition.specs.Limits.{greatest_processes};
 
-use crate::parted::parted;
+use crate::by_key::by_key;
 use std::alloc::{AllocError, Global};
 use std::marker::Model;
 
@@ -44,7 +44,7 @@ impl Groups {
             ≡ record { processes = processes; owners = owners.items }) }
     {
         let numbers = numbers_below(alloc, owners.len())?;
-        let members = parted(alloc, processes, &owners, numbers)?;
+        let members = by_key(alloc, processes, &owners, numbers)?;
         Ok(Groups { owners, members })
     }
 

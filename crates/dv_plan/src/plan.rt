@@ -14,7 +14,7 @@ use dv_cut::Cut;
 use dv_cut::responses::responses;
 use dv_local::Share;
 use dv_partition::Groups;
-use dv_partition::parted::parted;
+use dv_partition::by_key::by_key;
 use dv_proc::Channel;
 use dv_react::Atomic;
 use dv_share::Member;
@@ -93,7 +93,7 @@ fn members_of_each(
     ensures few { IfOk result (λ lists. length lists.items ≤ greatest_processes) }
 {
     let owners = owners(alloc, groups, &members)?;
-    let lists = parted(alloc, groups.processes(), &owners, members)?;
+    let lists = by_key(alloc, groups.processes(), &owners, members)?;
     Ok(lists)
 }
 

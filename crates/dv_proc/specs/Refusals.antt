@@ -4,7 +4,7 @@ use Rattle.dv_conservative.specs.Process.{P1, P2, P3, P4, Refused as RefusedAsMe
 use Rattle.dv_proc.specs.declared.incoming.Refused.{Refused}
 use Rattle.dv_proc.specs.declared.incoming.Refused.TheVariants.{NoSuchLink, OtherWindow, NoWindow, OtherEvent, NoMemory}
 
--- the refusal that is meant; want of memory is none
+-- the refusal that is meant; out of memory is none
 abbrev pub meant_refusal : Refused → Option RefusedAsMeant
 meant_refusal NoSuchLink = Some P1
 meant_refusal OtherWindow = Some P2

@@ -1,11 +1,11 @@
-//! Faults, parted from want of memory.
+//! Faults, separated from errors of memory.
 
 ghost use Rattle.std.specs.Prelude.{◌≡◌, MatchResult};
 
 use dv_bag::{Fault, RuleError};
 use std::alloc::AllocError;
 
-/// The fault that an error of a rule is. No fault is taken for want of memory, and want of memory for no fault.
+/// The fault that an error of a rule is. No fault is taken for an error of memory, and no error of memory for a fault.
 ///
 /// # Errors
 ///

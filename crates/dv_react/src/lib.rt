@@ -5,7 +5,7 @@
 /// Code that gives the behaviour of an atomic model.
 pub mod atomic;
 
-/// Faults, parted from want of memory.
+/// Faults, separated from errors of memory.
 mod fault;
 
 /// An instant of a run.

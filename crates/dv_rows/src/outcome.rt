@@ -60,14 +60,14 @@ pub fn other_outcome<R: AllocGlobal + Threads + Wait + Sync>(
     }
     let count = check_bytes(rt.alloc(), texts.model).unwrap_or(1);
     let count = count.min(MOST_PROCESSES);
-    let parted = format!(in rt.alloc(); "{command} --processes {count}")?;
-    let in_rounds = format!(in rt.alloc(); "{parted} --capacity 1")?;
+    let in_processes = format!(in rt.alloc(); "{command} --processes {count}")?;
+    let in_rounds = format!(in rt.alloc(); "{in_processes} --capacity 1")?;
     let outcome = outcome_of(rt, in_rounds.as_str(), texts)?;
     if outcome.as_str() != wanted {
         return Ok(Some(outcome));
     }
     for workers in WORKERS {
-        let worked = format!(in rt.alloc(); "{parted} --workers {workers}")?;
+        let worked = format!(in rt.alloc(); "{in_processes} --workers {workers}")?;
         if let Some(outcome) = outcome_by_workers(rt, worked.as_str(), texts, wanted)? {
             return Ok(Some(outcome));
         }
@@ -150,7 +150,7 @@ fn planned(alloc: Global, command: &str, texts: Texts<'_>) -> Result<String, All
     }
 }
 
-/// How a command parts a model: as the partition says, or into so many processes, or into one.
+/// How a command divides a model: as the partition says, or into so many processes, or into one.
 fn partition_of<'a>(command: &str, partition: &'a [u8]) -> Partition<'a> {
     if command.contains("--partition") {
         return Partition::Json(partition);

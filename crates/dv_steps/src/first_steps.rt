@@ -1,6 +1,6 @@
 //! The first steps of the serial driver, after which every process stops.
 
-use crate::parted::{Owners, Parted};
+use crate::division::{Division, Owners};
 use crate::random::LINKS;
 use dv_check::Checked;
 use dv_core::{Reply, Step};
@@ -14,7 +14,7 @@ const CAPACITY: u32 = 1;
 /// A model with a process for each component, and a round of the serial driver over it.
 #[derive(Drop)]
 pub struct Driven<'t> {
-    parted: Parted<'t>,
+    division: Division<'t>,
     round: Vec<Step>,
 }
 
@@ -30,10 +30,10 @@ impl<'t> Driven<'t> {
     fn of_checked(alloc: Global, text: &'t str, checked: &Checked) -> Result<Self, AllocError> {
         let tree = Tree::of(alloc, checked)?;
         let owners = Owners::one_each(alloc, tree.component_count())?;
-        let parted = Parted::new(alloc, text, &tree, owners)?;
-        let links = link_count(alloc, &parted)?;
-        let round = round(alloc, parted.processes(), links)?;
-        Ok(Driven { parted, round })
+        let division = Division::new(alloc, text, &tree, owners)?;
+        let links = link_count(alloc, &division)?;
+        let round = round(alloc, division.processes(), links)?;
+        Ok(Driven { division, round })
     }
 
     /// Whether each process has committed its part of the plain run after so many of the driver's first steps, and nothing
@@ -41,9 +41,9 @@ impl<'t> Driven<'t> {
     pub fn agrees(&self, alloc: Global, count: usize) -> Result<bool, AllocError> {
         let steps = self.steps(alloc, count)?;
         let replies = self.last_replies(alloc)?;
-        match self.parted.stepped(alloc, &steps, CAPACITY) {
+        match self.division.stepped(alloc, &steps, CAPACITY) {
             Some(stepped) => {
-                Ok(stepped.replies.ends_with(&replies) && self.parted.agrees(&stepped))
+                Ok(stepped.replies.ends_with(&replies) && self.division.agrees(&stepped))
             }
             None => Ok(false),
         }
@@ -53,7 +53,7 @@ impl<'t> Driven<'t> {
     fn steps(&self, alloc: Global, count: usize) -> Result<Vec<Step>, AllocError> {
         let mut steps = Vec::new(alloc);
         push_first(&mut steps, &self.round, count)?;
-        for process in 0..self.parted.processes() {
+        for process in 0..self.division.processes() {
             steps.push(Step::Stop(process))?;
         }
         steps.extend_from_slice(&self.round)?;
@@ -63,7 +63,7 @@ impl<'t> Driven<'t> {
     /// The replies to the stops, and to the round that follows them.
     fn last_replies(&self, alloc: Global) -> Result<Vec<Reply>, AllocError> {
         let mut replies = Vec::new(alloc);
-        for _process in 0..self.parted.processes() {
+        for _process in 0..self.division.processes() {
             replies.push(Reply::Done)?;
         }
         push_stopped(&mut replies, self.round.len())?;
@@ -93,12 +93,12 @@ fn push_first(steps: &mut Vec<Step>, round: &[Step], count: usize) -> Result<(),
 }
 
 /// How many links a model has in its processes: a link that is not there is refused.
-fn link_count(alloc: Global, parted: &Parted<'_>) -> Result<u32, AllocError> {
+fn link_count(alloc: Global, division: &Division<'_>) -> Result<u32, AllocError> {
     let mut puts = Vec::new(alloc);
     for link in 0..LINKS {
         puts.push(Step::Put(link))?;
     }
-    match parted.stepped(alloc, &puts, CAPACITY) {
+    match division.stepped(alloc, &puts, CAPACITY) {
         Some(stepped) => Ok(count_there(&stepped.replies)),
         None => Ok(0),
     }

@@ -9,7 +9,7 @@ mod first_steps;
 /// Random models, as text.
 mod models;
 /// A model in processes, beside its plain run.
-mod parted;
+mod division;
 /// Random partitions and random lists of steps.
 mod random;
 /// What random steps in a random partition commit, beside the plain run.

@@ -1,6 +1,6 @@
 //! Random partitions and random lists of steps.
 
-use crate::parted::Owners;
+use crate::division::Owners;
 use dv_core::Step;
 use std::alloc::{AllocError, Global};
 

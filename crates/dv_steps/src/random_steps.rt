@@ -1,6 +1,6 @@
 //! What random steps in a random partition commit, beside the plain run.
 
-use crate::parted::Parted;
+use crate::division::Division;
 use crate::random::{Source, owners, steps};
 use dv_check::Checked;
 use dv_samples::checked;
@@ -23,11 +23,11 @@ fn checked_agrees(
 ) -> Result<bool, AllocError> {
     let tree = Tree::of(alloc, checked)?;
     let owners = owners(alloc, source, tree.component_count())?;
-    let parted = Parted::new(alloc, text, &tree, owners)?;
-    let steps = steps(alloc, source, parted.processes())?;
+    let division = Division::new(alloc, text, &tree, owners)?;
+    let steps = steps(alloc, source, division.processes())?;
     let capacity = source.below(3).saturating_add(1);
-    match parted.stepped(alloc, &steps, capacity) {
-        Some(stepped) => Ok(parted.agrees(&stepped)),
+    match division.stepped(alloc, &steps, capacity) {
+        Some(stepped) => Ok(division.agrees(&stepped)),
         None => Ok(false),
     }
 }

@@ -1,4 +1,4 @@
-//! The views of a folder: of the model (`model.pd`) its graph (`graph.dot`) and its graph in two processes (`parted.dot`), and
+//! The views of a folder: of the model (`model.pd`) its graph (`graph.dot`) and its graph in two processes (`two_processes.dot`), and
 //! of its trace (`trace.txt`) the value change dump (`trace.vcd`) and the numbers (`stats.txt` and `stats.csv`).
 
 use dv_partition::Partition;
@@ -18,7 +18,7 @@ struct Texts {
 #[derive(Clone, Copy)]
 enum View {
     Graph,
-    Parted,
+    TwoProcesses,
     Dump,
     Columns,
     Csv,
@@ -27,7 +27,7 @@ enum View {
 impl View {
     const ALL: [View; 5] = [
         View::Graph,
-        View::Parted,
+        View::TwoProcesses,
         View::Dump,
         View::Columns,
         View::Csv,
@@ -36,7 +36,7 @@ impl View {
     fn file(self) -> &'static str {
         match self {
             View::Graph => "graph.dot",
-            View::Parted => "parted.dot",
+            View::TwoProcesses => "two_processes.dot",
             View::Dump => "trace.vcd",
             View::Columns => "stats.txt",
             View::Csv => "stats.csv",
@@ -93,7 +93,7 @@ fn write_view(
     let trace = texts.trace.as_slice();
     match view {
         View::Graph => graph_bytes(alloc, model, None, written),
-        View::Parted => graph_bytes(alloc, model, Some(Partition::Count(2)), written),
+        View::TwoProcesses => graph_bytes(alloc, model, Some(Partition::Count(2)), written),
         View::Dump => vcd_bytes(alloc, model, trace, written),
         View::Columns => stats_bytes(alloc, model, trace, Form::Columns, written),
         View::Csv => stats_bytes(alloc, model, trace, Form::Csv, written),

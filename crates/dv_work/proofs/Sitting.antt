@@ -140,7 +140,7 @@ module _ {N P : Type 0} (job : Job) (state : P → ProcessState) (IsValid : P �
       };
     }
 
-    -- a turn, or none for want of memory
+    -- a turn, or none since memory ran out
     pub after_turn : {E : Type 0} (r : Result TurnedOfCode E) → IfOk r (λ a. IsTurned (meant_turned a) x (state process))
         → OnErr r (state process ≡ x)
         → Sits job state IsValid links (let t : Seat P = record { number = s.number; process = process; outs = s.outs; ins = s.ins } in t)

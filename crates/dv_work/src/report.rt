@@ -100,7 +100,7 @@ fn last_worked<N: OfJob, P: LogicalProcess, C: Drop>(
     all.pop()
 }
 
-// Keeps why a worker ended: want of memory, or the cause of the last one that has one.
+// Keeps why a worker ended: out of memory, or the cause of the last one that has one.
 fn keep_halt<C: Drop>(halt: Option<Halt<C>>, memory: &mut bool, cause: &mut Option<C>) {
     match halt {
         Some(Halt::Memory) => *memory = true,
@@ -117,7 +117,7 @@ fn all_are(clocks: &[Time], end: Time) -> bool
     clocks.iter().all(|clock| *clock == end)
 }
 
-// Whole where it is, else for want of memory where a worker met it, else stopped by the gate for a cause, or by the caller.
+// Whole where it is, else out of memory where a worker was, else stopped by the gate for a cause, or by the caller.
 fn how_ended<C: Drop>(is_whole: bool, memory: bool, cause: Option<C>) -> Ended<C>
     ensures { (result ≡ Whole) ↔ IsTrue is_whole }
 {

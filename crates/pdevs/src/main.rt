@@ -40,7 +40,7 @@ const REFUSED: u8 = 1;
 /// Words that are no command.
 const USAGE: u8 = 2;
 
-/// How a model is parted: by the text of a file, or into so many processes.
+/// How a model is divided: by the text of a file, or into so many processes.
 #[derive(Drop)]
 enum Parting {
     Text(Vec<u8>),

@@ -24,7 +24,7 @@ fn command_line(alloc: Global, words: &[&str]) -> Result<Vec<String>, AllocError
     Ok(all)
 }
 
-// How a model is parted.
+// How a model is divided.
 fn push_partition(
     text: &mut String,
     partition: Option<&PartitionChoice>,

@@ -5,7 +5,7 @@ ghost use Rattle.dv_time.specs.Time.{is_before};
 ghost use Rattle.dv_time.specs.declared.time.Time.{Time};
 ghost use Rattle.dv_bag.specs.Part.{IsByTime, PartOf, before, joined, nothing, since};
 
-/// A time parts a part: what is before it and what is since then are the whole, and have nothing in common.
+/// A time cuts a part in two: what is before it and what is since then are the whole, and have nothing in common.
 pub fn a_time_parts_a_part()
     ensures together { (c : Time) (p : PartOf) → IsByTime p → joined (before c p) (since c p) ≡ p }
     ensures none_since { (c : Time) (p : PartOf) → since c (before c p) ≡ nothing }

@@ -8,8 +8,8 @@ use Rattle.dv_partition.specs.Limits.{greatest_processes}
 use Rattle.dv_partition.proofs.Numbers.{members_by_owner, same_map}
 use Rattle.dv_partition.proofs.groups.Groups.new.Goals as goal
 
-pub parted-requires : goal.parted-requires
-parted-requires c =
+pub by_key-requires : goal.by_key-requires
+by_key-requires c =
     let owners = c.args.owners.items in
     let numbers = c.in_ok-numbers.ensures
     ∙ ap (range_with_len 0) (c.len.ensures ∙ sym c.deref.ensures.len ∙ ap length c.deref.ensures.value) in

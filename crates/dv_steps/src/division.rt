@@ -43,14 +43,14 @@ impl Owners {
 
 /// A model whose components have processes, and what its plain run commits.
 #[derive(Drop)]
-pub struct Parted<'t> {
+pub struct Division<'t> {
     text: &'t str,
     owners: Owners,
     groups: String,
     plain: Part,
 }
 
-impl<'t> Parted<'t> {
+impl<'t> Division<'t> {
     /// The model of a text, which has this tree.
     pub fn new(
         alloc: Global,
@@ -60,7 +60,7 @@ impl<'t> Parted<'t> {
     ) -> Result<Self, AllocError> {
         let groups = groups_text(alloc, tree, &owners)?;
         let plain = resultant_run(alloc, tree, &Inputs::new(alloc), HORIZON, LIMIT)?;
-        Ok(Parted {
+        Ok(Division {
             text,
             owners,
             groups,

@@ -1,7 +1,7 @@
 use Rattle.std.proofs.Common.{◌≡◌, ℕ, ◌+◌, ◌<◌, ◌++◌, [], drop, get_or, map, length}
 use Rattle.std.specs.Vec.Iter.{into_iter_items, into_iter_len}
 use Rattle.dv_partition.specs.Steps.{with_key}
-use Rattle.dv_partition.proofs.parted.parted.Given as goal
+use Rattle.dv_partition.proofs.by_key.by_key.Given as goal
 
 -- each list has, with what is still to come, all items of its key
 abbrev pub invariant-loop-key : goal.invariant-loop-key

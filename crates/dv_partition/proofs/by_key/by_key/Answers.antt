@@ -5,8 +5,8 @@ use Rattle.std.proofs.lemmas.List.{at_drop_all, at_drop_more, length-set}
 use Rattle.std.proofs.lemmas.List.FromFn.{get_or-map-range_with_len, length-map-range_with_len}
 use Rattle.dv_partition.specs.Steps.{with_key}
 use Rattle.dv_partition.proofs.Parting.{one_item}
-use Rattle.dv_partition.proofs.parted.parted.Goals as goal
-use Rattle.dv_partition.proofs.parted.parted.Goals.{in-Some+in_ok-add_item, in_default}
+use Rattle.dv_partition.proofs.by_key.by_key.Goals as goal
+use Rattle.dv_partition.proofs.by_key.by_key.Goals.{in-Some+in_ok-add_item, in_default}
 
 pub loop-key-preserved : goal.loop-key-preserved
 loop-key-preserved g c =

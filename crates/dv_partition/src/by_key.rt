@@ -12,7 +12,7 @@ use std::alloc::{AllocError, Global};
 /// # Errors
 ///
 /// No memory for the lists. The items are dropped.
-pub fn parted<T: Drop>(
+pub fn by_key<T: Drop>(
     alloc: Global,
     count: usize,
     keys: &[u32],
