@@ -25,7 +25,8 @@ impl<'a> Model for Arrivals<'a> {
 
     ghost Value = { Meant };
 
-    ghost view = { λ a. record { received = unwrap_or (option_copied a.received) []; elapsed = a.elapsed } };
+    ghost view = { λ a. record
+        { received = unwrap_or (option_copied a.received) []; elapsed = a.elapsed } };
 
     ghost invariant = { λ a. AreFew (unwrap_or (option_copied a.received) []) };
 }

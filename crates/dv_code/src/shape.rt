@@ -47,7 +47,8 @@ impl Model for Tables {
 
     ghost Value = { Meant };
 
-    ghost view = { λ t. record { slots = t.slots.items; inputs = t.inputs; outputs = t.outputs; phases = t.phases } };
+    ghost view = { λ t. record
+        { slots = t.slots.items; inputs = t.inputs; outputs = t.outputs; phases = t.phases } };
 
     ghost invariant = { λ t. AreSmall t.slots.items };
 }

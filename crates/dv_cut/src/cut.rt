@@ -42,7 +42,8 @@ impl<'g> Model for Cut<'g> {
       exits = links_of c.links.exits.items;
     } };
 
-    ghost invariant = { λ c. IsCut c.groups.now c.links.direct.items c.links.entrances.items c.links.exits.items
+    ghost invariant = { λ c. IsCut c.groups.now
+        c.links.direct.items c.links.entrances.items c.links.exits.items
         (map (λ list. list.items) c.pairs.items) (map (λ list. list.items) c.entrances.items)
         (map (λ list. list.items) c.exits.items) };
 }
@@ -87,7 +88,8 @@ impl<'g> Cut<'g> {
     /// No memory for the list.
     pub fn channels(&self, alloc: Global) -> Result<Vec<Channel>, AllocError>
         ensures { IfOk result (λ found. map meant_channel found.items
-            ≡ all_channels (owner_of self.now.grouping) self.now.direct self.now.grouping.processes) }
+            ≡ all_channels (owner_of self.now.grouping) self.now.direct
+            self.now.grouping.processes) }
     {
         channels(alloc, self.groups.processes() as u32, &self.pairs)
     }

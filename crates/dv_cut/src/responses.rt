@@ -47,7 +47,8 @@ fn no_responses(alloc: Global, count: usize) -> Result<Vec<Response>, AllocError
 fn lower(process: u32, response: Response, responses: &mut Vec<Response>)
     ensures { map ticks_of responses.new.items
         ≡ slice_set (map ticks_of responses.old.items) process
-        (earlier (slice_index_or (map ticks_of responses.old.items) process None) (ticks_of response)) }
+        (earlier (slice_index_or (map ticks_of responses.old.items) process None)
+        (ticks_of response)) }
 {
     let place = process as usize;
     if place < responses.len() {

@@ -155,7 +155,8 @@ fn run_loop(
     mut effect: Effect,
 ) -> Result<Effect, RuleError>
     ensures { Gives result (repetition
-        (λ n. run scope.now (in_loop (variable, n) (context_of context.now)) (statements_of block.now))
+        (λ n. run scope.now (in_loop (variable, n) (context_of context.now))
+        (statements_of block.now))
         (values_of pairs.now) effect) }
 {
     for pair in pairs {
@@ -179,7 +180,8 @@ fn run_copies(
     mut effect: Effect,
 ) -> Result<Effect, RuleError>
     ensures { Gives result
-        (repeated (run scope.now (context_of context.now) (statements_of block.now)) copies effect) }
+        (repeated (run scope.now (context_of context.now) (statements_of block.now))
+        copies effect) }
 {
     for _ in 0..copies {
         effect = run(block, context, scope, effect)?;

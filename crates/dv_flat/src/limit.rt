@@ -34,7 +34,8 @@ impl Model for Ways {
 
     ghost Value = { WayCounts };
 
-    ghost view = { λ w. record { inputs = w.inputs.items; outputs = w.outputs.items; inside = w.inside } };
+    ghost view = { λ w. record
+        { inputs = w.inputs.items; outputs = w.outputs.items; inside = w.inside } };
 }
 
 impl Ways {

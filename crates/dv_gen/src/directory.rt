@@ -58,7 +58,8 @@ impl<'a> Directory<'a> {
     fn add_rules(&mut self, rules: &'a [Rule]) -> Result<(), AllocError>
         ensures rules { OnOk result ((sort : DeclaredSort) (phase : ℕ)
             → rule_found self.new sort phase
-            ≡ option_or (rule_found self.old sort phase) (rule_of sort phase (map tree_of rules.now))) }
+            ≡ option_or (rule_found self.old sort phase)
+            (rule_of sort phase (map tree_of rules.now))) }
         ensures holds { self.new.holds ≡ self.old.holds }
     {
         add_first_rules(&mut self.output, RuleSort::Output, rules)?;

@@ -79,7 +79,8 @@ pub fn load_groups(
     ensures { MatchResult result
         (λ parted. partition_answer (paths_of tree.now.names (file_of tree.now.file)) groups.entry
         ≡ Ok parted)
-        (IsErrorOf (partition_answer (paths_of tree.now.names (file_of tree.now.file)) groups.entry)) }
+        (IsErrorOf
+        (partition_answer (paths_of tree.now.names (file_of tree.now.file)) groups.entry)) }
 {
     // A checked file has few components.
     checked_files();

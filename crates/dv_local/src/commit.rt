@@ -99,7 +99,8 @@ fn commit_one<A: Atomic>(
     requires agenda { agenda.old ≡ waits_of components.old.running.items }
     requires within { AreWithin (length components.old.running.items) before.old.items }
     ensures reacted { OnOk result (HasReacted A.behaviour A.fits moment.now.tables.now
-        (rank_of moment.now.instant.now) moment.now.emitted.now arrival.now components.old.running.items
+        (rank_of moment.now.instant.now) moment.now.emitted.now arrival.now
+        components.old.running.items
         components.new.running.items committed.old.entries committed.new.entries) }
     ensures components { AreComponents A.fits moment.now.tables.now components.new.running.items }
     ensures agenda { agenda.new ≡ waits_of components.new.running.items }
@@ -175,7 +176,8 @@ fn entry_at<A>(moment: &Moment<'_, A>, place: u32, what: What) -> Result<Entry, 
     requires place { place < length moment.now.tables.now.members.items }
     requires rise { AreRising (places_of moment.now.emitted.now) }
     ensures { IfOk result (λ entry. entry ∷ [] ≡ entry_of moment.now.instant.now.limit
-        (rank_of moment.now.instant.now) (number_of (slice_get moment.now.tables.now.members.items place))
+        (rank_of moment.now.instant.now)
+        (number_of (slice_get moment.now.tables.now.members.items place))
         (Some (what, sent_of (given_at place moment.now.emitted.now)))) }
 {
     Ok(Entry {

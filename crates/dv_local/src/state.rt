@@ -193,13 +193,15 @@ impl<A: Atomic> LocalState<A> {
             < end_rank (view_by A.behaviour self.old).share }
         ensures kept { IsKept A.behaviour A.fits A.comes self.new }
         ensures sent { OnOk result (sent_of self.new
-            ≡ sent_at (view_by A.behaviour self.old) (rank (view_by A.behaviour self.old).share.limit now)) }
+            ≡ sent_at (view_by A.behaviour self.old)
+            (rank (view_by A.behaviour self.old).share.limit now)) }
         ensures found { IsAfterEmission (rank (view_by A.behaviour self.old).share.limit now)
             (view_by A.behaviour self.old) (view_by A.behaviour self.new) }
         ensures settled { settled_by A.behaviour self.new ≡ settled_by A.behaviour self.old }
         ensures at_rest { IsAtRest self.old → IsAtRest self.new }
         ensures emitted { OnOk result (AreEmitted A.behaviour self.new.share.tables
-            (rank self.new.share.tables.limit now) self.new.components.running.items self.new.emitted.items) }
+            (rank self.new.share.tables.limit now) self.new.components.running.items
+            self.new.emitted.items) }
     {
         if is_taken(self.emitted_at, now) {
             return Ok(());
@@ -304,7 +306,8 @@ impl<A: Atomic> LocalState<A> {
         ensures { OnOk result ((out : Outgoing)
             → slice_get (view_by A.behaviour self.now).share.outgoing place ≡ Some out
             → meant_events into.new.items ≡ meant_events into.old.items
-            ++ map (event_of now) (carried_away (view_by A.behaviour self.now) out.links (sent_of self.now))) }
+            ++ map (event_of now)
+            (carried_away (view_by A.behaviour self.now) out.links (sent_of self.now))) }
     {
         let ways = self.share.ways.as_slice();
         if place >= ways.len() {

@@ -24,7 +24,8 @@ pub(crate) fn first_held(inbox: &Inbox, taken: Option<Time>, from: Time) -> Opti
         → t.micro ≤ greatest_limit }
     ensures there { MatchOption result
         ((t : TimeOfCode) → is_before t from ≡ false → arrivals_but taken t inbox.now ≡ [])
-        (λ first. (is_before first from ≡ false) × (0 < length (arrivals_but taken first inbox.now))) }
+        (λ first. (is_before first from ≡ false)
+        × (0 < length (arrivals_but taken first inbox.now))) }
     ensures least { IfSome result (λ first. (t : TimeOfCode) → is_before t from ≡ false
         → is_before t first ≡ true → arrivals_but taken t inbox.now ≡ []) }
 {

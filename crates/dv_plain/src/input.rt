@@ -44,7 +44,8 @@ pub fn input_at(
     ensures bags { IfOk result (λ r.
         r.0 ≡ inputs_at instant.now.limit ports inputs.now (rank_of instant.now)) }
     ensures after { IfOk result (λ r.
-        r.1 ≡ inputs_before instant.now.limit inputs.now (succ instant.now.limit instant.now.time)) }
+        r.1 ≡ inputs_before instant.now.limit inputs.now
+        (succ instant.now.limit instant.now.time)) }
 {
     let bags = inputs.bags_at(alloc, ports, instant.time, place)?;
     let next = instant.time.succ(instant.limit);

@@ -63,7 +63,8 @@ fn led_ports(
 fn mark(port: u32, led: &mut Vec<bool>)
     ensures long { length led.new.items ≡ length led.old.items }
     ensures marked { (p : ℕ) → slice_index_or led.new.items p false
-        ≡ ((nat_eq port p && nat_lt p (length led.old.items)) || slice_index_or led.old.items p false) }
+        ≡ ((nat_eq port p && nat_lt p (length led.old.items))
+        || slice_index_or led.old.items p false) }
 {
     let place = port as usize;
     if place < led.len() {

@@ -89,7 +89,8 @@ fn members_of_each(
     members: Vec<Member>,
 ) -> Result<Vec<Vec<Member>>, AllocError>
     ensures each { IfOk result (λ lists. map (λ list. list.items) lists.items
-        ≡ map (λ p. members_of groups.now p members.items) (range_with_len 0 groups.now.processes)) }
+        ≡ map (λ p. members_of groups.now p members.items)
+        (range_with_len 0 groups.now.processes)) }
     ensures few { IfOk result (λ lists. length lists.items ≤ greatest_processes) }
 {
     let owners = owners(alloc, groups, &members)?;

@@ -37,7 +37,8 @@ pub fn least_responses(
     requires accepted { refusal_of (file_of tree.now.file) ≡ None }
     ensures { IfOk result (λ least. map ticks_of least.items
         ≡ map (λ p. least_response (owner_of groups.now) p 0
-        (responses_of (instances (file_of tree.now.file)))) (range_with_len 0 groups.now.processes)) }
+        (responses_of (instances (file_of tree.now.file))))
+        (range_with_len 0 groups.now.processes)) }
 {
     // An accepted text has few components, and its atomic models have programs.
     checked_files();

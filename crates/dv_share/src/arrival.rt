@@ -36,7 +36,8 @@ pub fn arrivals<A: Atomic>(
     requires tables { AreTables A.fits tables.now }
     requires emitted { StandByPlace (length tables.now.members.items) emitted.now }
     ensures received { OnOk result (AreReceived tables.now.members.items
-        (coming tables.now emitted.now outside.now (deliveries_of deliveries.now)) received.new.items) }
+        (coming tables.now emitted.now outside.now (deliveries_of deliveries.now))
+        received.new.items) }
     ensures emitted { OnOk result (AreAmong (places_of emitted.now)
         (places_of received.new.items)) }
 {

@@ -31,7 +31,8 @@ pub fn carry_emitted(
     requires numbers { AreRising (numbers_of members.now) }
     requires emitted { StandByPlace (length members.now) emitted.now }
     ensures { IfOk result (λ _. deliveries_of deliveries.new.items
-        ≡ deliveries_of deliveries.old.items ++ carried links.now (sent_in members.now emitted.now)) }
+        ≡ deliveries_of deliveries.old.items
+        ++ carried links.now (sent_in members.now emitted.now)) }
 {
     links.are_in_order();
     carry_rows(deliveries, members, links, emitted)
@@ -81,7 +82,8 @@ fn carry_port(
     sendings: &[Sending],
 ) -> Result<(), AllocError>
     ensures { IfOk result (λ _. deliveries_of deliveries.new.items
-        ≡ deliveries_of deliveries.old.items ++ carried_each (links_of links.now) (pairs_of sendings.now)) }
+        ≡ deliveries_of deliveries.old.items
+        ++ carried_each (links_of links.now) (pairs_of sendings.now)) }
 {
     for link in links {
         carry_sendings(deliveries, link, sendings)?;
@@ -96,7 +98,8 @@ fn carry_sendings(
     sendings: &[Sending],
 ) -> Result<(), AllocError>
     ensures { IfOk result (λ _. deliveries_of deliveries.new.items
-        ≡ deliveries_of deliveries.old.items ++ carried_by (link_of link.now) (pairs_of sendings.now)) }
+        ≡ deliveries_of deliveries.old.items
+        ++ carried_by (link_of link.now) (pairs_of sendings.now)) }
 {
     for sending in sendings {
         deliveries.push(link.delivery(sending.value, sending.copies))?;

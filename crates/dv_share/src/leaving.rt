@@ -35,7 +35,8 @@ pub fn outer<A>(
     requires emitted { StandByPlace (length tables.now.members.items) emitted.now }
     ensures outer { OnOk result (committed.new.outer ≡ committed.old.outer
         ++ outer_from instant.now.limit (rank_of instant.now) 0
-        (inbox 0 (carried tables.now.exits (sent_in tables.now.members.items emitted.now)) 0 tables.now.outputs)) }
+        (inbox 0 (carried tables.now.exits (sent_in tables.now.members.items emitted.now)) 0
+        tables.now.outputs)) }
     ensures grown { HasGrown committed.old.outer committed.new.outer }
     ensures entries { committed.new.entries ≡ committed.old.entries }
 {

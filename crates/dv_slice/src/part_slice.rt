@@ -23,7 +23,8 @@ impl<'p> Model for PartSlice<'p> {
 
     ghost Value = { PartOf };
 
-    ghost view = { λ s. record { entries = s.together.now ++ map (λ e. e.now) s.apart.now; outer = s.outer.now } };
+    ghost view = { λ s. record
+        { entries = s.together.now ++ map (λ e. e.now) s.apart.now; outer = s.outer.now } };
 
     ghost invariant = { λ s. length s.together.now + length s.apart.now < 2 ^ 64 };
 }

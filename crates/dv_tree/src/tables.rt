@@ -57,7 +57,8 @@ pub(crate) fn numbers_of_models(alloc: Global, models: &[&Model]) -> Result<Vec<
 
 /// What each of these models declares, in their order.
 pub(crate) fn scopes(alloc: Global, models: &[&Model]) -> Result<Vec<Scope>, AllocError>
-    ensures { IfOk result (λ scopes. scopes.items ≡ map scope_of_model (borrowed_models models.now)) }
+    ensures { IfOk result
+        (λ scopes. scopes.items ≡ map scope_of_model (borrowed_models models.now)) }
 {
     let mut scopes = Vec::with_capacity(alloc, models.len())?;
     for model in models {
@@ -126,7 +127,8 @@ pub(crate) fn outputs(
     scopes: &[Scope],
 ) -> Result<Vec<Places>, AllocError>
     requires { scopes.now ≡ map scope_of_model (borrowed_models models.now) }
-    ensures { IfOk result (λ outputs. outputs.items ≡ map shown_outputs (borrowed_models models.now)) }
+    ensures { IfOk result
+        (λ outputs. outputs.items ≡ map shown_outputs (borrowed_models models.now)) }
 {
     let mut outputs = Vec::with_capacity(alloc, models.len())?;
     for (place, model) in models.iter().enumerate() {

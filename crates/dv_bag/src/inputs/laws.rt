@@ -41,10 +41,12 @@ pub fn places_follow_times()
     ensures not_before { (limit n : ℕ) (inputs : List Input)
         → IfSome (next_from limit inputs (time_of limit n)) (λ t. n ≤ rank limit t) }
     ensures rises { (limit n m : ℕ) (inputs : List Input) → n ≤ m
-        → inputs_before limit inputs (time_of limit n) ≤ inputs_before limit inputs (time_of limit m) }
+        → inputs_before limit inputs (time_of limit n)
+        ≤ inputs_before limit inputs (time_of limit m) }
     ensures same { (limit n m : ℕ) (inputs : List Input) → n ≤ m
         → IfSome (next_from limit inputs (time_of limit n)) (λ t. m ≤ rank limit t)
-        → inputs_before limit inputs (time_of limit m) ≡ inputs_before limit inputs (time_of limit n) }
+        → inputs_before limit inputs (time_of limit m)
+        ≡ inputs_before limit inputs (time_of limit n) }
 {}
 
 /// From a rank on nothing comes in before that of the next input to which a run comes.
