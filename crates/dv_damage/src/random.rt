@@ -7,6 +7,7 @@ pub struct Source {
 }
 
 impl Source {
+    /// The numbers of a seed.
     pub fn new(seed: u64) -> Self {
         Source { state: seed }
     }

@@ -85,7 +85,7 @@ fn datum_of_name<'a>(name: u32, state: &'a State, scope: &Scope) -> Option<Datum
     state.variables.get(place)
 }
 
-// The bag that a name stands for, if it stands for one.
+/// The bag that a name stands for, if it stands for one.
 pub(crate) fn bag_of_name<'a>(name: u32, moment: &'a Moment, scope: &Scope) -> Option<&'a Bag>
     ensures bag { unwrap_or (option_copied result) []
         ≡ bag_of_name scope.now (moment_of moment.now) name }
@@ -183,7 +183,7 @@ fn operator_result(operator: Operator, left: Value, right: Value) -> Result<Valu
     }
 }
 
-// A value as a number.
+/// A value as a number.
 pub(crate) fn number_of(value: Value) -> i64
     ensures { result ≡ number_of value }
 {
@@ -193,7 +193,7 @@ pub(crate) fn number_of(value: Value) -> i64
     }
 }
 
-// A value as a truth value.
+/// A value as a truth value.
 pub(crate) fn truth_of(value: Value) -> bool
     ensures { result ≡ truth_of value }
 {

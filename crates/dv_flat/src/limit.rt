@@ -88,7 +88,7 @@ fn sum_of(ways: &[u64]) -> u64
     sum
 }
 
-// The ways of a port; past the last port there are none.
+/// The ways of a port; past the last port there are none.
 pub(crate) fn at_port(ways: &[u64], port: usize) -> u64
     ensures { result ≡ at_port ways.now port }
 {
@@ -117,6 +117,7 @@ fn inputs_of<'w>(below: &'w [Ways], part: &PlacedPart) -> &'w [u64]
     }
 }
 
+/// The ways from the outputs of a part's model.
 pub(crate) fn outputs_of<'w>(below: &'w [Ways], part: &PlacedPart) -> &'w [u64]
     ensures { result.now ≡ (slice_index_or below.now part.now.model no_ways).outputs }
 {
@@ -135,7 +136,7 @@ fn inside_of(below: &[Ways], part: &PlacedPart) -> u64
     }
 }
 
-// The ways that lead on inside from the target of a coupling.
+/// The ways that lead on inside from the target of a coupling.
 pub(crate) fn ways_from(target: Target, parts: &[PlacedPart], below: &[Ways]) -> u64
     ensures { result ≡ ways_from (part_ways below.now parts.now) target }
 {

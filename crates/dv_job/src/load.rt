@@ -70,6 +70,10 @@ pub fn accept<'c>(alloc: Global, text: &[u8], checked: &'c Checked) -> Result<Tr
 }
 
 /// The groups of the components of an accepted text. Only a text of paths wants the paths of the components.
+///
+/// # Errors
+///
+/// The refusal of the partition, or no memory.
 pub fn load_groups(
     alloc: Global,
     tree: &Tree,
@@ -77,8 +81,8 @@ pub fn load_groups(
 ) -> Result<Groups, PartitionError>
     requires checked { refusal_of (file_of tree.now.file) ≡ None }
     ensures { MatchResult result
-        (λ parted. partition_answer (paths_of tree.now.names (file_of tree.now.file)) groups.entry
-        ≡ Ok parted)
+        (λ found. partition_answer (paths_of tree.now.names (file_of tree.now.file)) groups.entry
+        ≡ Ok found)
         (IsErrorOf
         (partition_answer (paths_of tree.now.names (file_of tree.now.file)) groups.entry)) }
 {
@@ -96,6 +100,10 @@ pub fn load_groups(
 }
 
 /// The inputs that a text says to the root of a tree.
+///
+/// # Errors
+///
+/// The refusal of the text, or no memory.
 pub fn load_inputs(alloc: Global, text: &[u8], tree: &Tree) -> Result<Inputs, InputsError>
     ensures inputs { IfOk result (λ inputs.
         reading_of text.now (tree_inputs tree.now) ≡ Ok inputs) }

@@ -55,7 +55,11 @@ impl Names {
         }
     }
 
-    /// The number of a name, which is added if it is new. An `Err` leaves the table as it was.
+    /// The number of a name, which is added if it is new.
+    ///
+    /// # Errors
+    ///
+    /// No memory for the text of a new name. The table stays as it was.
     pub fn number(&mut self, alloc: Global, text: &str) -> Result<u32, AllocError>
         requires { length self.old < 2 ^ 32 }
         ensures number { IfOk result (λ n. n ≡ number_of self.new text.now) }

@@ -88,9 +88,12 @@ fn load_error(error: ParseError, end: u32) -> LoadError
 
 /// The file that the tokens spell. `end` is the place of the end of the text.
 ///
-/// `Err(LoadError::Refused(..))` names E4 or E5: the tokens are those of no file. The place is that of the first
-/// token with which the tokens no longer begin a file within the limits on depth: E5 where they still begin one
-/// without these limits, else E4. Where they end too early it is E4 at the end of the text.
+/// # Errors
+///
+/// - `Refused` with E4 or E5: the tokens are those of no file. The place is that of the first token with which the
+///   tokens no longer begin a file within the limits on depth: E5 where they still begin one without these limits,
+///   else E4. Where they end too early it is E4 at the end of the text.
+/// - `Memory`: no memory for the trees.
 pub fn parse(alloc: Global, tokens: &[Token], end: u32) -> Result<File, LoadError>
     ensures tree { IfOk result (λ file. IsFileOf tokens.now (file_of file)) }
     ensures refused { IfErr result (λ e. IsRefused e tokens.now end) }

@@ -26,18 +26,21 @@ pub fn begins_with(tokens: &[Token], kind: TokenKind) -> bool
     }
 }
 
+/// Whether the first token is this symbol.
 pub fn begins_with_symbol(tokens: &[Token], symbol: Symbol) -> bool
     ensures { result ≡ begins (TokenKind.Symbol symbol) tokens.now }
 {
     begins_with(tokens, TokenKind::Symbol(symbol))
 }
 
+/// Whether the first token is this keyword.
 pub fn begins_with_keyword(tokens: &[Token], keyword: Keyword) -> bool
     ensures { result ≡ begins (TokenKind.Keyword keyword) tokens.now }
 {
     begins_with(tokens, TokenKind::Keyword(keyword))
 }
 
+/// Whether the first token is a name.
 pub fn begins_with_name(tokens: &[Token]) -> bool
     ensures { result ≡ begins_name tokens.now }
 {
@@ -139,12 +142,14 @@ pub fn after_kind(tokens: &[Token], kind: TokenKind) -> Result<&[Token], Obstacl
     Ok(&tokens[1..])
 }
 
+/// The tokens after this symbol.
 pub fn after_symbol(tokens: &[Token], symbol: Symbol) -> Result<&[Token], Obstacle>
     ensures { Reads (λ rest. rest.now) result (after (TokenKind.Symbol symbol) tokens.now) }
 {
     after_kind(tokens, TokenKind::Symbol(symbol))
 }
 
+/// The tokens after this keyword.
 pub fn after_keyword(tokens: &[Token], keyword: Keyword) -> Result<&[Token], Obstacle>
     ensures { Reads (λ rest. rest.now) result (after (TokenKind.Keyword keyword) tokens.now) }
 {

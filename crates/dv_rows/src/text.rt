@@ -14,6 +14,7 @@ pub struct Text {
 }
 
 impl Text {
+    /// An empty text.
     pub fn new(alloc: Global) -> Self {
         Text {
             bytes: Vec::new(alloc),

@@ -18,6 +18,10 @@ use dv_syntax::{Atomic, Expr, Model, RuleSort, Stmt, Ticks};
 use std::alloc::{AllocError, Global};
 
 /// The checked file of a text.
+///
+/// # Errors
+///
+/// The refusal of the text, or no memory.
 pub fn checked(alloc: Global, text: &str) -> Result<Checked, LoadError>
     ensures { IfOk result
         (λ c. All (λ (m : ModelTree). IsCompilableModel m) (file_of c.file).models) }
@@ -63,6 +67,10 @@ pub fn atomic_at(checked: &Checked, place: usize) -> Option<&Atomic>
 }
 
 /// A model with its programs.
+///
+/// # Errors
+///
+/// No memory for the programs.
 pub fn compile(alloc: Global, model: &Atomic) -> Result<Compiled<'_>, AllocError>
     requires { IsCompilable (atomic_of model.now) }
 {
@@ -92,6 +100,10 @@ fn start_and_code(
 
 impl<'a> Compiled<'a> {
     /// Each program of the model, phase by phase.
+    ///
+    /// # Errors
+    ///
+    /// No memory for the list.
     pub fn pairs<'b>(&'b self, alloc: Global) -> Result<Vec<Pair<'b>>, AllocError> {
         let mut pairs = Vec::new(alloc);
         for (name, programs) in self.scope.phases().iter().zip(&self.code.phases) {

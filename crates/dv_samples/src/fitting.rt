@@ -54,6 +54,10 @@ pub enum Level {
 }
 
 /// A state whose slots are at a level.
+///
+/// # Errors
+///
+/// No memory for the state.
 pub fn state_at(alloc: Global, slots: &[Slot], level: Level) -> Result<State, AllocError> {
     let mut variables = Variables::new(alloc);
     for slot in slots {
@@ -102,6 +106,10 @@ fn bag_at(alloc: Global, capacity: u64, level: Level) -> Result<Bag, AllocError>
 }
 
 /// Nothing, one value, and some of which one comes three times, at each of so many ports.
+///
+/// # Errors
+///
+/// No memory for the bags.
 pub fn deliveries(alloc: Global, ports: usize) -> Result<[Bags; 3], AllocError> {
     Ok([
         Bags::empty(alloc, ports),

@@ -12,7 +12,7 @@ use dv_bag::{Entry, Outer, Part};
 use dv_time::Time;
 use std::alloc::{AllocError, Global};
 
-// How many entries are before a time.
+/// How many entries are before a time.
 pub(crate) fn entries_before(entries: &[Entry], time: Time) -> usize
     requires { AllPairs (λ (a b : Entry). is_before b.time a.time ≡ false) entries.now }
     ensures count { result ≤ length entries.now }
@@ -24,7 +24,7 @@ pub(crate) fn entries_before(entries: &[Entry], time: Time) -> usize
     entries.partition_point(|entry| entry.time.is_before(time))
 }
 
-// How many lines are before a time.
+/// How many lines are before a time.
 pub(crate) fn lines_before(lines: &[Outer], time: Time) -> usize
     requires { AllPairs (λ (a b : Outer). is_before b.time a.time ≡ false) lines.now }
     ensures count { result ≤ length lines.now }

@@ -68,6 +68,7 @@ impl<'t> Division<'t> {
         })
     }
 
+    /// The number of processes.
     pub fn processes(&self) -> u32 {
         self.owners.processes
     }

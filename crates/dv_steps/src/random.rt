@@ -17,6 +17,7 @@ pub struct Source {
 }
 
 impl Source {
+    /// The numbers of a seed.
     pub fn new(seed: u64) -> Self {
         Source {
             state: seed.wrapping_mul(0x9E37_79B9_7F4A_7C15) | 1,

@@ -8,6 +8,7 @@ pub struct Tally {
 }
 
 impl Tally {
+    /// Nothing counted yet.
     pub fn new() -> Self {
         Tally {
             agreeing: 0,
@@ -24,6 +25,7 @@ impl Tally {
         }
     }
 
+    /// Whether all that was counted agrees.
     pub fn do_all_agree(&self) -> bool {
         self.differing == 0
     }

@@ -14,6 +14,7 @@ use dv_time::Time;
 use itoa::Buffer;
 use std::alloc::AllocError;
 
+/// Whether two times are the same.
 pub fn is_same(first: Time, second: Time) -> bool
     ensures same { IsTrue result ↔ (first ≡ second) }
     ensures cmp { result ≡ is_eq (time_cmp first second) }
@@ -47,7 +48,7 @@ pub fn push_value(line: &mut String, is_first: bool, value: i64) -> Result<(), A
     push_number(line, value)
 }
 
-// Copies of a value, with a comma before each but the first of all.
+/// Copies of a value, with a comma before each but the first of all.
 pub fn push_copies(
     line: &mut String,
     is_first: bool,
@@ -65,6 +66,7 @@ pub fn push_copies(
     Ok(())
 }
 
+/// The values of a bag in ascending order, with commas between them, each as often as it has copies.
 pub fn push_values(line: &mut String, values: &Bag) -> Result<(), AllocError>
     ensures { OnOk result (string_bytes line.new ≡
         string_bytes line.old ++ values_text values.now) }
@@ -77,6 +79,7 @@ pub fn push_values(line: &mut String, values: &Bag) -> Result<(), AllocError>
     Ok(())
 }
 
+/// What a state variable holds: a number, a truth value, or a bag in brackets.
 pub fn push_datum(line: &mut String, datum: DatumView) -> Result<(), AllocError>
     ensures { OnOk result (string_bytes line.new ≡
         string_bytes line.old ++ datum_text (datum_of datum.entry)) }
@@ -124,6 +127,7 @@ pub fn push_out(line: &mut String, time: Time) -> Result<(), AllocError>
     line.push_str(" out")
 }
 
+/// How a trace ends.
 pub fn push_end(line: &mut String, ending: &Ending) -> Result<(), AllocError>
     ensures { OnOk result (string_bytes line.new ≡
         string_bytes line.old ++ ending_text ending.now) }

@@ -22,14 +22,17 @@ impl<'t> Directory<'t> {
         })
     }
 
+    /// The component of a path.
     pub(crate) fn component(&self, path: &str) -> Option<u32> {
         self.components.get(path).copied()
     }
 
+    /// The number of a name.
     pub(crate) fn name(&self, text: &str) -> Option<u32> {
         self.names.get(text.as_bytes()).copied()
     }
 
+    /// The place of an output port of the root.
     pub(crate) fn output(&self, name: &str) -> Option<usize> {
         self.outputs.get(name.as_bytes()).copied()
     }

@@ -67,7 +67,7 @@ impl From<StatsError> for ViewError {
     }
 }
 
-// The error of a model that was not loaded.
+/// The error of a model that was not loaded.
 pub(crate) fn unloaded(text: &[u8], error: LoadError) -> ViewError {
     ViewError::Job(match error {
         LoadError::Refused(refusal) => JobError::Text(dv_lex::answer(text, refusal)),
