@@ -1,5 +1,5 @@
 -- A bag as its ascending pairs: where a value stands, and what an edit there does.
-use Rattle.std.proofs.Common.{length-set, append-nil, drop, ◌≡◌, ◌⊎◌, inl, inr, Bool, true, false, ℕ, suc, zero, ◌+◌, ◌-◌, ◌^◌}
+use Rattle.std.proofs.Common.{length-set, append-nil, ◌≡◌, ◌⊎◌, inl, inr, Bool, true, false, ℕ, suc, zero, ◌+◌, ◌-◌, ◌^◌}
 use Rattle.std.proofs.Common.{◌<◌, ◌≤◌, List, [], ◌∷◌, length, get_or, set, ℤ, pos, ◌<ℤ◌, Result, Ok, Err, Some, IfOk, IfErr}
 use Rattle.std.proofs.Common.{refl, sym, ap, ◌∙◌, subst, arith, cond, nat_eq}
 use Rattle.std.specs.List.{insert, remove, refill}
@@ -11,9 +11,9 @@ use Rattle.std.proofs.lemmas.Cmp.{int_ranked, by_ranked}
 use Rattle.std.proofs.lemmas.Int.{ints}
 use Rattle.std.proofs.lemmas.Bool.{cases_lt}
 use Rattle.std.proofs.lemmas.Bool.Decides.{nat_tests}
-use Rattle.std.proofs.lemmas.List.{at_drop_more, drop_all, take_all}
+use Rattle.std.proofs.lemmas.List.{drop_all, take_all}
 use Rattle.std.proofs.lemmas.List.Sorted.{IsNonDecreasingBy-from_default}
-use Rattle.dv_bag.specs.Bag.{Counts, IsAbove, IsBag, capped, count_of, most, place_of, union, with_copies, with_some, without_one}
+use Rattle.dv_bag.specs.Bag.{Counts, IsAbove, IsBag, capped, count_of, most, place_of, with_copies, with_some, without_one}
 
 -- the place of a value that a bag has, or of the gap for it
 abbrev pub IsPresent : ℤ → Counts → ℕ → Type 0
@@ -326,31 +326,6 @@ module _ (v w : ℤ) (b items slice read : Counts) (place : ℕ) (number : w ≡
       let more : nat_eq (count_of v b) 1 ≡ false = grind (arith, nat_tests) in
       let plain = rw more at meant in
       cc
-
--- at most one pair more
-pub with_some_length : (v : ℤ) (n : ℕ) (b : Counts) → length (with_some v n b) ≤ length b + 1
-with_some_length v n [] = omega arith
-with_some_length v n (p ∷ ps) = step (int_cmp v p.0) (with_some_length v n ps)
-  where
-    step : (o : Ordering) → length (with_some v n ps) ≤ length ps + 1 → length (more_by o v n p ps)
-        ≤ length (p ∷ ps) + 1
-    step Less rest = omega arith
-    step Equal rest = omega arith
-    step Greater rest = omega arith
-
-pub with_copies_length : (v : ℤ) (n : ℕ) (b : Counts) → length (with_copies v n b) ≤ length b + 1
-with_copies_length v n b = by_copies (λ new. length new ≤ length b + 1) v n b (λ e. omega arith) (λ more. with_some_length v n b)
-
--- a step of a union: the next pair goes in, and takes the place of at most one
-module _ (a new b : Counts) (i : ℕ) (within : i < length b) (added : new ≡ with_copies (value_at b i) (copies_at b i) a) where
-  pub union_step : union new (drop (i + 1) b) ≡ union a (drop i b)
-  union_step = ap (λ (x : Counts). union x (drop (i + 1) b)) added ∙ sym (at_drop_more (union a) b i (pos 0, 0) within)
-
-  pub room_after : (room : ℕ) → length a + (length b - i) ≤ room → length new + (length b - (i + 1)) ≤ room
-  room_after room enough =
-      let longer = with_copies_length (value_at b i) (copies_at b i) a in
-      let same = ap length added in
-      omega arith
 
 -- every count of a bag is above 0
 pub copies_above_0 : (b : Counts) → IsBag b → (i : ℕ) → i < length b → 0 < copies_at b i

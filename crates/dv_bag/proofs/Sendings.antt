@@ -172,6 +172,15 @@ total_set [] i b n lt e = absurd (omega arith)
 total_set (x ∷ xs) zero b n lt e = omega arith
 total_set (x ∷ xs) (suc i) b n lt e = let rest = total_set xs i b n (omega arith) e in omega arith
 
+-- one copy more at a port is one more in all
+pub one_more : (port : ℕ) (v : ℤ) (old new : List Counts) (n : ℕ) → port < length old →
+    new ≡ set old port (with_copies v 1 (bag_at old port)) → n ≡ size_of_all old → capped (n + 1) ≡ size_of_all new
+one_more port v old new n lt is all =
+    let added = total_with v 1 (bag_at old port) in
+    let whole = total_set old port (with_copies v 1 (bag_at old port)) 1 lt added.0 in
+    let same = ap size_of_all is in
+    omega (arith, same, whole, all)
+
 total_none : (a n : ℕ) → total_of_all (from_port a n []) ≡ 0
 total_none a zero = refl
 total_none a (suc n) = let rest = total_none (a + 1) n in omega arith

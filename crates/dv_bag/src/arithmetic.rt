@@ -20,7 +20,7 @@ pub fn sum(a: i64, b: i64) -> Result<Value, Fault>
     }
 }
 
-/// What the second of two numbers leaves of the first.
+/// The difference of two numbers: the first minus the second.
 ///
 /// # Errors
 ///
@@ -79,7 +79,7 @@ pub fn quotient(a: i64, b: i64) -> Result<Value, Fault>
     }
 }
 
-/// What the quotient of two numbers leaves of the first, with the first one's sign.
+/// The remainder of the division of the first number by the second, with the sign of the first.
 ///
 /// # Errors
 ///

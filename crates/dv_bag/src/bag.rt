@@ -4,7 +4,6 @@ ghost use Rattle.std.specs.Cmp.{decided, partial_equiv_from_equiv};
 ghost use Rattle.std.specs.Prelude.{◌≡◌, ◌<◌, ◌≤◌, ◌*◌, ◌^◌, ◌*ℤ◌, ◌≤ℤ◌, neg_ℤ, pos, ◌↔◌, [], length, nat_eq};
 ghost use Rattle.std.specs.Prelude.{unwrap_or, IfOk, IfErr, IfSome, OnOk, OnErr, IsOk, IsTrue};
 ghost use Rattle.std.specs.Option.{option_copied};
-ghost use Rattle.smallvec.specs.SmallVec.{HasRoomFor};
 ghost use Rattle.dv_bag.specs.Bag.{IsBag, count_of, least, most, place_of, size, sum_or_overflow, total};
 ghost use Rattle.dv_bag.specs.Bag.{union, with_copies, without_one};
 ghost use Rattle.dv_bag.specs.Same.{same_bag, same_bag-decides};
@@ -12,6 +11,7 @@ ghost use Rattle.dv_bag.specs.Numbers.{IsBagOfNumbers};
 ghost use Rattle.dv_bag.specs.Limits.{greatest_count};
 
 use crate::fault::Fault;
+use crate::merge::merged;
 use smallvec::SmallVec;
 use std::alloc::{AllocError, Global};
 use std::default::MadeWith;
@@ -72,20 +72,17 @@ impl Bag {
         add_copies(&mut self.pairs, value, copies)
     }
 
-    /// The values of another bag beside those that are here.
+    /// The values of another bag beside those that are here. Work is in the values of both.
     ///
     /// # Errors
     ///
-    /// No memory for as many more values as the other bag has. The bag is as before.
+    /// No memory for the values of both. The bag is as before.
     pub fn union(&mut self, other: &Bag) -> Result<(), AllocError>
         ensures ok { OnOk result (self.new ≡ union self.old other.now) }
         ensures err { OnErr result (self.new ≡ self.old) }
     {
-        // With room for every pair, nothing after this fails.
-        self.pairs.reserve(other.pairs.len())?;
-        for pair in other.pairs.as_slice() {
-            add_copies(&mut self.pairs, pair.0, pair.1)?;
-        }
+        let alloc = *self.pairs.allocator();
+        self.pairs = merged(alloc, self.pairs.as_slice(), other.pairs.as_slice())?;
         Ok(())
     }
 
@@ -221,8 +218,6 @@ fn add_copies(
     ensures err { OnErr result (pairs.new ≡ pairs.old) }
     ensures bag { IsBag pairs.new.items }
     ensures present { 0 < count_of value pairs.old.items → IsOk result }
-    ensures succeeds { HasRoomFor pairs.old 1 → IsOk result }
-    ensures had_room { HasRoomFor pairs.old 1 → pairs.new.capacity ≡ pairs.old.capacity }
 {
     match search(pairs.as_slice(), value) {
         Ok(place) => {

@@ -1,6 +1,6 @@
 //! Inputs from outside.
 
-ghost use Rattle.std.specs.Prelude.{◌≡◌, ℕ, ◌≤◌, [], ◌∷◌, ◌++◌, drop, false, IsTrue, ◌↔◌, length, slice_get, IfOk, OnOk, OnErr};
+ghost use Rattle.std.specs.Prelude.{◌≡◌, ℕ, ◌≤◌, [], ◌∷◌, ◌++◌, drop, false, IsTrue, ◌↔◌, length, IfOk, OnOk, OnErr};
 ghost use Rattle.std.specs.List.{take_while};
 ghost use Rattle.dv_time.specs.Time.{IsOfRun, is_before};
 ghost use Rattle.dv_time.specs.declared.time.Time.{Time as TimeOfCode};
@@ -80,13 +80,6 @@ impl Inputs {
         self.inputs.is_empty()
     }
 
-    /// The input at a place, if there is one.
-    pub fn get(&self, place: usize) -> Option<Input>
-        ensures { result ≡ slice_get self.now place }
-    {
-        self.inputs.get(place).copied()
-    }
-
     /// All inputs.
     pub fn as_slice(&self) -> &[Input]
         ensures inputs { result.now ≡ self.now }
@@ -125,7 +118,7 @@ impl Inputs {
     }
 
     /// What comes in at a time, a bag for each of so many ports. The place that is given is that of the first input that a
-    /// run comes to at the time or after it. Work and memory are in what comes in, and in the ports.
+    /// run comes to at the time or after it. Work and memory are in what comes in.
     ///
     /// # Errors
     ///

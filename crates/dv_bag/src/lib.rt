@@ -19,6 +19,8 @@ pub mod inputs;
 pub mod laws;
 /// Tests of limits.
 pub mod limits;
+/// Two bags merged.
+mod merge;
 /// Parts of a trace.
 pub mod part;
 /// How soon a hold can end that begins where an external rule goes to a phase.

@@ -36,7 +36,8 @@ pub fn test_room(bag: &Bag, capacity: u64) -> Result<(), Fault>
     ensures few { OnOk result (total bag.now < greatest_count) }
     ensures full { IfErr result (λ f. (f ≡ fault.Full) × (is_full capacity bag.now ≡ true)) }
 {
-    if capacity <= bag.size() || GREATEST_COUNT <= bag.size() {
+    let size = bag.size();
+    if capacity <= size || GREATEST_COUNT <= size {
         Err(Fault::Full)
     } else {
         Ok(())

@@ -3,7 +3,7 @@
 ghost use Rattle.std.specs.Iterator.Adapters.{IterYieldsInOrder};
 ghost use Rattle.std.specs.Prelude.{◌≡◌, ◌<◌, ◌^◌, [], ◌∷◌, ◌++◌, length, take, OnOk, OnErr};
 ghost use Rattle.std.specs.Slice.Iter.{iter_rest};
-ghost use Rattle.dv_bag.specs.Part.{before, joined, nothing, since};
+ghost use Rattle.dv_bag.specs.Part.{joined, nothing, since};
 ghost use Rattle.dv_bag.specs.declared.entry.Entry.{Entry};
 ghost use Rattle.dv_bag.specs.declared.entry.Outer.{Outer};
 
@@ -72,14 +72,6 @@ impl Part {
         Part { entries, outer }
     }
 
-    /// The entries, and the lines of what was sent outside.
-    pub fn into_lists(self) -> (Vec<Entry>, Vec<Outer>)
-        ensures entries { result.0.items ≡ self.entries }
-        ensures outer { result.1.items ≡ self.outer }
-    {
-        (self.entries, self.outer)
-    }
-
     /// How many entries there are.
     pub fn entry_count(&self) -> usize
         ensures { result ≡ length self.now.entries }
@@ -120,28 +112,12 @@ impl Part {
         self.outer.truncate(outer);
     }
 
-    /// What is before a time stays.
-    pub fn keep_before(&mut self, time: Time)
-        ensures { self.new ≡ before time self.old }
-    {
-        self.entries.retain(|entry| entry.time.is_before(time));
-        self.outer.retain(|line| line.time.is_before(time));
-    }
-
     /// What is before a time goes, and the rest stays.
     pub fn keep_since(&mut self, time: Time)
         ensures { self.new ≡ since time self.old }
     {
         self.entries.retain(|entry| !entry.time.is_before(time));
         self.outer.retain(|line| !line.time.is_before(time));
-    }
-
-    /// What is before a time. The rest is gone.
-    pub fn before(mut self, time: Time) -> Self
-        ensures { result ≡ before time self }
-    {
-        self.keep_before(time);
-        self
     }
 
     /// What is not before a time. The rest is gone.

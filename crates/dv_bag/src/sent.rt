@@ -47,18 +47,21 @@ impl MadeWith<Global> for Sending {
 pub struct Sent {
     ports: usize,
     sendings: SmallVec<Sending, 1>,
+    // The number of values, each copy counted, which is asked for before each value that is sent.
+    total: u64,
 }
 
 impl Model for Sent {
-    ghost use Rattle.std.specs.Prelude.{List};
-    ghost use Rattle.dv_bag.specs.Bag.{Counts};
+    ghost use Rattle.std.specs.Prelude.{◌≡◌, List};
+    ghost use Rattle.dv_bag.specs.Bag.{Counts, size_of_all};
     ghost use Rattle.dv_bag.specs.Sent.{AreInOrder, AreWithin, by_port};
 
     ghost Value = { List Counts };
 
     ghost view = { λ s. by_port s.ports s.sendings.items };
 
-    ghost invariant = { λ s. AreWithin s.ports s.sendings.items × AreInOrder s.sendings.items };
+    ghost invariant = { λ s. AreWithin s.ports s.sendings.items × AreInOrder s.sendings.items
+        × (s.total ≡ size_of_all (by_port s.ports s.sendings.items)) };
 }
 
 impl Sent {
@@ -69,6 +72,7 @@ impl Sent {
         Sent {
             ports,
             sendings: SmallVec::new(alloc),
+            total: 0,
         }
     }
 
@@ -90,11 +94,7 @@ impl Sent {
     pub fn total(&self) -> u64
         ensures { result ≡ size_of_all self.now }
     {
-        let mut total: u64 = 0;
-        for sending in self.sendings.as_slice() {
-            total = total.saturating_add(sending.copies);
-        }
-        total
+        self.total
     }
 
     /// What was sent, as it lies: by port and then by value, at least one copy of each. Those of a port are its bag.
@@ -127,6 +127,7 @@ impl Sent {
                     value,
                     copies,
                 };
+                self.total = self.total.saturating_add(1);
                 Ok(())
             }
             Err(place) => {
@@ -135,7 +136,9 @@ impl Sent {
                     value,
                     copies: 1,
                 };
-                Ok(self.sendings.insert(place, sending)?)
+                self.sendings.insert(place, sending)?;
+                self.total = self.total.saturating_add(1);
+                Ok(())
             }
         }
     }
@@ -188,6 +191,7 @@ impl Clone for Sent {
         Ok(Sent {
             ports: self.ports,
             sendings: self.sendings.clone()?,
+            total: self.total,
         })
     }
 }

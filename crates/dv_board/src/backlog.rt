@@ -99,7 +99,7 @@ fn pieces_between<'h>(
     Ok(pieces)
 }
 
-// What is before a time goes, of each process of which that is no less than what stays.
+// Removes what is before a time, but only from a process of which that is at least as much as what stays.
 fn let_go_all(held: &mut Vec<Held>, time: Time)
     requires { All (λ h. IsByTime h.part) held.old.items }
     ensures { held.new.items ≡ map (rest_of time) held.old.items }
@@ -170,7 +170,7 @@ impl<N: OfJob> Backlog<N> {
         Ok(())
     }
 
-    /// Joins pieces, one after the other, as far as there is memory. Of a process of which one is lost, those that come after it
+    /// Joins pieces one after the other, as far as memory allows. Once a piece of a process is lost, its later pieces
     /// are lost too.
     pub fn extend_all(&mut self, pieces: Vec<Piece>)
         requires { All (IsPiece N.job) pieces.items }
@@ -181,8 +181,8 @@ impl<N: OfJob> Backlog<N> {
         }
     }
 
-    /// What each process has committed from the mark on and before the least clock, where it lies, and that clock: put together it
-    /// is the trace in between. `None` where the mark is not at that time.
+    /// What each process has committed from the mark on and before the least clock, as slices of what is kept, and that
+    /// clock. Put together, the slices are the trace in between. `None` if the mark is not at `from`.
     ///
     /// # Errors
     ///

@@ -11,8 +11,9 @@ use dv_time::Time;
 use std::alloc::{AllocError, Global};
 use std::sync::{Mutex, Wait};
 
-/// A board that threads share by reference; a function generic over the job asks `N: Send` for that. What is on the board at
-/// a call, no clause can say; that it is of the job, its type does. Under its lock nothing is copied and nothing put together.
+/// A board that threads share by reference; a function that is generic over the job needs `N: Send` for that. No clause
+/// can say what is on the board at a call, but its type says that it is of the job. Under its lock nothing is copied
+/// and nothing is put together.
 #[derive(Drop)]
 pub struct Board<N: OfJob> {
     posts: Mutex<Posts<N>>,
@@ -32,8 +33,8 @@ impl<N: OfJob> Board<N> {
         })
     }
 
-    /// Up to when a process was posted. A piece that begins there leaves no gap, where only one thread posts a process; and what
-    /// once found no memory comes with the next piece.
+    /// The time up to which a process was posted. A piece that begins there leaves no gap if only one thread posts the
+    /// process; what once found no memory comes with the next piece.
     pub fn clock<R: Wait>(&self, rt: &R, process: u32) -> Time
         requires { process < N.job.processes }
         ensures { IsOfRun N.job.limit result }

@@ -37,8 +37,8 @@ impl Held {
         Ok(())
     }
 
-    /// What is before a time goes, once it is no less than what stays. So a process that is far ahead of the others costs no more
-    /// moves than it has entries.
+    /// Removes what is before a time, once that is at least as much as what stays. So a process that is far ahead of
+    /// the others costs no more moves than it has entries.
     pub fn let_go(&mut self, time: Time)
         requires { IsByTime self.old.part }
         ensures { self.new ≡ rest_of time self.old }

@@ -145,7 +145,7 @@ fn wrong_tick(alloc: Global, fields: &[Field<'_>]) -> Result<Flaw, AllocError> {
     })
 }
 
-/// Too few fields are wrong behind the last of them, and too many at the fourth.
+/// The flaw of a wrong number of fields: too few are marked behind the last field, too many at the fourth.
 fn wrong_count(alloc: Global, fields: &[Field<'_>]) -> Result<Flaw, AllocError> {
     if let Some(fourth) = fields.get(3) {
         let sentence = "The line has more than the three fields `TICK PORT VALUE`.\n";

@@ -7,6 +7,7 @@ use dv_lex::{LoadError, Names, tokens};
 use dv_parser::parse;
 use dv_syntax::{Atomic, Declaration, File, Model, Name};
 use std::alloc::{AllocError, Global};
+use std::collections::HashSet;
 
 /// A text that has a tree, and the texts of its names.
 #[derive(Drop)]
@@ -57,8 +58,8 @@ fn name_of(model: &Model) -> Name {
     }
 }
 
-/// Sentences on which items an atomic model lacks, whose name is at a place, or that a word at the place stands there twice; each
-/// with a line feed.
+/// Sentences, each with a line feed: which items the atomic model lacks whose name is at a place, or that the word at
+/// the place stands there twice.
 ///
 /// # Errors
 ///
@@ -82,25 +83,31 @@ fn missing(alloc: Global, names: &Names, atomic: &Atomic) -> Result<String, Allo
     if atomic.starts.is_empty() {
         sentences.push_str("It has no `start`.\n")?;
     }
+    let held = held_phases(alloc, atomic)?;
     for phases in &atomic.phases {
-        tell_unheld(&mut sentences, names, atomic, &phases.names)?;
+        tell_unheld(&mut sentences, names, &held, &phases.names)?;
     }
     Ok(sentences)
+}
+
+/// The numbers of the names of the phases that have a hold.
+fn held_phases(alloc: Global, atomic: &Atomic) -> Result<HashSet<u32>, AllocError> {
+    let mut held = HashSet::new(alloc);
+    for hold in &atomic.holds {
+        held.insert(hold.phase.number)?;
+    }
+    Ok(held)
 }
 
 /// Tells each of these phases that has no hold.
 fn tell_unheld(
     sentences: &mut String,
     names: &Names,
-    atomic: &Atomic,
+    held: &HashSet<u32>,
     phases: &[Name],
 ) -> Result<(), AllocError> {
     for phase in phases {
-        if !atomic
-            .holds
-            .iter()
-            .any(|hold| hold.phase.number == phase.number)
-        {
+        if !held.contains(&phase.number) {
             let name = names.text(phase.number).unwrap_or("");
             write!(sentences, "The phase `{name}` has no `hold`.\n")?;
         }

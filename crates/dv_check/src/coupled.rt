@@ -23,7 +23,7 @@ use dv_lex::RefusalNumber;
 use dv_syntax::{Coupled, Link, Name, Part};
 use std::alloc::{AllocError, Global};
 
-/// Tests a coupled model of a text whose models' names stand for this.
+/// Tests a coupled model. `faces` says what the names of the text's models stand for.
 pub fn check_coupled(
     alloc: Global,
     faces: &Directory<Directory<NameSort>>,

@@ -181,7 +181,7 @@ fn deny_in_output(environment: &Environment, place: u32, found: &mut Findings)
     }
 }
 
-// And `send` none outside of one.
+// `send` has no place outside of an output rule.
 fn deny_outside_output(environment: &Environment, place: u32, found: &mut Findings)
     ensures { found.new ≡ with_refusals found.old
         (refusal_if (not (is_output_rule (known_at environment.now).rule)) E9 place) }

@@ -89,25 +89,22 @@ pub enum Instruction {
     Apply(Unary),
     /// A value in place of two.
     Combine(Binary),
-    /// The value on top goes, and something is done with it.
+    /// Pops the value on top and performs an action with it.
     Perform(Action),
     /// The phase to which the rule goes, until another is named.
     Go(u32),
-    /// On at a place.
+    /// Continues at a place.
     Jump(u32),
-    /// The truth value on top goes; where it is false, on at a place.
+    /// Pops the truth value on top; if it is false, continues at a place.
     JumpFalse(u32),
-    /// Where the truth value on top is false, it stays, and it goes on at a place; else the value
-    /// goes.
+    /// If the truth value on top is false, keeps it and continues at a place; otherwise pops it.
     FalseKeep(u32),
-    /// Where the truth value on top is true, it stays, and it goes on at a place; else the value
-    /// goes.
+    /// If the truth value on top is true, keeps it and continues at a place; otherwise pops it.
     TrueKeep(u32),
-    /// A loop over the values of a bag as it stands now; where it has none, on past the loop, at a
-    /// place.
+    /// Loops over the values of a bag as it is now; if it has none, continues past the loop, at a place.
     Loop(Source, u32),
-    /// The innermost loop's next value, on at the first place of its body; where there is none the
-    /// loop ends.
+    /// Moves the innermost loop to its next value and continues at the first place of its body; ends the loop if there
+    /// is none.
     Next(u32),
     /// The program ends.
     End,

@@ -10,7 +10,7 @@ use crate::stack::Stack;
 use dv_bag::Arrivals;
 
 impl Stack<OpenLoop> {
-    /// The innermost loop goes on to its next value, if there is one, and else it is over.
+    /// Moves the innermost loop to its next value if there is one, and ends it otherwise.
     pub(crate) fn advance(&mut self, arrivals: &Arrivals) -> bool
         requires { 0 < length self.old }
         ensures { AdvanceInnermost (turns_of arrivals.now self.old) result

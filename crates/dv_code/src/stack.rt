@@ -5,7 +5,7 @@ ghost use Rattle.std.specs.Prelude.{◌≡◌, ◌<◌, [], ◌∷◌, length, O
 use std::alloc::{AllocError, Global};
 use std::marker::Model;
 
-/// What lies one upon another: the last to come is the first to go.
+/// A stack: what was pushed last is popped first.
 #[derive(Drop)]
 pub(crate) struct Stack<T> {
     /// The lowest first.

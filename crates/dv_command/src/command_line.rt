@@ -230,7 +230,7 @@ fn run_command<'a>(alloc: Global) -> Result<Command<'a>, AllocError> {
         .arg(explain_argument(alloc))
 }
 
-/// Why words ask for nothing that are a command line, of what is not for `clap` to say.
+/// Why words ask for nothing though `clap` takes them for a command line: the reasons that `clap` does not give.
 fn reason(matches: &ArgMatches) -> &'static str {
     let has_rounds = matches.get_str("rounds").is_some();
     let has_workers = matches.get_str("workers").is_some();

@@ -108,7 +108,8 @@ fn number_of(least: u64, greatest: u64, text: Option<&str>) -> Option<Option<u64
     }
 }
 
-/// The number of an option that need not stand; nothing where it stands more than once, or its value is no number of this range.
+/// The number of an option that may be left out; `None` if the option is given more than once, or if its value is not a
+/// number in this range.
 pub(crate) fn count_in(
     alloc: Global,
     least: u64,

@@ -255,7 +255,7 @@ impl<J: PlannedJob, P: LogicalProcess> WorldState<J, P> {
         true
     }
 
-    /// A turn for each process in order; whether none wanted memory.
+    /// Makes one turn of each process in order. Returns whether memory sufficed for all of them.
     fn turns(&mut self, work: &mut P::Work) -> bool
         requires { Stands J.means P.state P.valid self.old }
         ensures done { result ≡ true → Continues (J.means self.old.job)
@@ -276,7 +276,7 @@ impl<J: PlannedJob, P: LogicalProcess> WorldState<J, P> {
         true
     }
 
-    /// A put and a take for each link in order; whether none wanted memory.
+    /// Makes one put and one take for each link in order. Returns whether memory sufficed for all of them.
     fn moves(&mut self) -> bool
         requires { Stands J.means P.state P.valid self.old }
         ensures done { result ≡ true → IsDriven (J.means self.old.job)

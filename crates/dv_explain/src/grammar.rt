@@ -1,7 +1,7 @@
 //! The grammar of a model text, as what is still owed at a place of it.
 //!
-//! What is owed is a row of parts. A token is the beginning of the first of them that is not passed over, and in the place of
-//! that part stands what is owed behind the token.
+//! What is owed is a list of parts. A token begins the first of them that is not passed over, and that part is replaced
+//! by what is owed behind the token.
 
 use dv_lex::{Keyword, Symbol, TokenKind};
 use std::fmt;
@@ -99,7 +99,7 @@ impl Part {
         )
     }
 
-    /// Whether a token of this kind is behind the part, which is nothing.
+    /// Whether the part is empty before a token of this kind, so that the token comes behind it.
     pub fn is_passed_by(&self, kind: &TokenKind) -> bool {
         self.is_optional() && self.behind(kind).is_none()
     }
@@ -147,7 +147,7 @@ impl Part {
     }
 }
 
-/// Nothing is owed, where that is so.
+/// An empty list of what is owed, if `is_so`.
 fn nothing_if(is_so: bool) -> Option<&'static [Part]> {
     if is_so { Some(&[]) } else { None }
 }

@@ -1,7 +1,7 @@
 //! What is nested too deeply.
 
-/// A sentence on which limit a token passes that is nested too deeply, with a line feed. `place` is the number of bytes before the
-/// token.
+/// A sentence, with a line feed, that says which limit a token passes that is nested too deeply. `place` is the number
+/// of bytes before the token.
 pub fn nesting_at(text: &[u8], place: usize) -> &'static str {
     let (_, token) = text.split_at(place.min(text.len()));
     if begins_with_word(token, b"if") {

@@ -36,7 +36,7 @@ fn first_character(bytes: &[u8]) -> Option<char> {
     None
 }
 
-/// What a character is called that can't be seen; none of one that can be seen.
+/// The name of a character that can't be seen; `None` for one that can be seen.
 pub fn unseen_name(character: char) -> Option<&'static str> {
     match character {
         '\u{0}' => Some("a null character"),

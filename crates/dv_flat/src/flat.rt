@@ -48,8 +48,8 @@ pub fn flatten(alloc: Global, tree: &Tree) -> Result<LinkLists, AllocError>
     counted_links(alloc, tree, &below, count)
 }
 
-// All links, which are so many, each counted as often as it has copies. Those outputs send that seem to lead on: where
-// they have that many links, no other output has one. Else all send.
+// All links; `count` is how many there are, each counted as often as it has copies. First only the outputs send that
+// seem to lead on: if they have that many links, no other output has one. Otherwise all outputs send.
 fn counted_links(
     alloc: Global,
     tree: &Tree,

@@ -20,7 +20,7 @@ use std::alloc::AllocError;
 /// What stands between the code of two operands, or behind both.
 #[derive(Clone, Copy)]
 pub enum Joint {
-    /// The second operand has its say where the first is true.
+    /// The second operand counts only if the first is true.
     IfTrue,
     /// The second operand has its say where the first is false.
     IfFalse,

@@ -47,7 +47,7 @@ pub(crate) fn write_parts<W: Write>(
     Ok(())
 }
 
-// How far to the right lines stand above which there may be so many levels.
+// How many tabs indent the lines of a level at which there may be so many levels below.
 fn tabs_at(depth: usize) -> usize {
     GREATEST_DEPTH.saturating_sub(depth).saturating_add(1)
 }
@@ -76,7 +76,7 @@ fn push_part(text: &mut String, tree: &Tree, part: &PlacedPart) -> Result<(), Al
 }
 
 fn model_name<'t>(tree: &'t Tree<'_>, place: usize) -> &'t str {
-    match tree.file().models.get(place) {
+    match tree.reached().get(place) {
         Some(Model::Atomic(model)) => tree.name(model.name.number),
         Some(Model::Coupled(model)) => tree.name(model.name.number),
         None => "",

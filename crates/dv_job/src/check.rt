@@ -12,7 +12,8 @@ use std::alloc::Global;
 ///
 /// # Errors
 ///
-/// `Text` is the text's answer. It is never `Inputs` or `Write`.
+/// `Text` is the text's answer, and `Memory` says that there is no memory for it. It is never `Partition`, `Inputs` or
+/// `Write`.
 pub fn check_bytes(alloc: Global, model: &[u8]) -> Result<u32, JobError>
     ensures accepted { IfOk result (HasComponents model.now) }
     ensures error { IfErr result (AnswersWith model.now) }

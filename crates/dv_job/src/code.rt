@@ -18,7 +18,7 @@ use std::io::Write;
 /// # Errors
 ///
 /// `Text` is the text's answer; nothing was written then. For `Write` and `Memory` the writer holds a beginning of the
-/// listing that is not all of it; for `Memory` perhaps nothing. It is never `Inputs`.
+/// listing that is not all of it; for `Memory` perhaps nothing. It is never `Partition` or `Inputs`.
 pub fn list_code<W: Write>(alloc: Global, model: &[u8], writer: &mut W) -> Result<(), JobError>
     ensures listed { OnOk result (ListsCode model.now (W.contents writer.old)
         (W.contents writer.new)) }

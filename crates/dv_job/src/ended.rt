@@ -47,7 +47,8 @@ pub enum JobError {
     Memory,
 }
 
-/// The status with which the program ends: 0 whole, 1 refused, 3 whole with a faulted component, 4 partial.
+/// The status with which the program ends: 0 whole, 1 refused, not written to the end or out of memory, 3 whole with a
+/// faulted component, 4 partial.
 pub fn status(outcome: &Result<JobEnded, JobError>) -> u8
     ensures { result ≡ status_of outcome.now }
 {

@@ -20,9 +20,9 @@ pub enum RefusalNumber {
     E4,
     /// An expression, a block or a loop that is nested too deeply.
     E5,
-    /// A name that is declared twice.
+    /// A name that is declared twice, or a second rule of one sort for one phase.
     E6,
-    /// An unknown model, part, port, variable or phase.
+    /// An unknown model, part, port, variable, flag, bag or phase.
     E7,
     /// A wrong type, or a name of another sort than its place wants.
     E8,

@@ -32,8 +32,8 @@ pub(crate) struct Moment<'a, A> {
     pub alloc: Global,
 }
 
-/// The components that emitted or receive something react, one after the other. What happens is committed; a component that
-/// changes is put in its place, and the one that stood there behind those that stood before.
+/// Lets the components that emitted or receive something react, one after the other. What happens is committed; a
+/// component that changes is put in its place, and the one that stood there is appended to `before`.
 ///
 /// # Errors
 ///

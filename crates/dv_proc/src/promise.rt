@@ -57,8 +57,8 @@ fn is_now(limit: u32, now: Time, next: Option<Time>) -> bool
     }
 }
 
-/// Until when what is sent is known of a process that stands at a time: after its next time, where that is now; else
-/// until its next time or an answer to what may come from `known` on, whichever is sooner.
+/// Until when it is known what a process sends that stands at `now`: until after its next time, if that is `now`;
+/// otherwise until its next time or an answer to what may come from `known` on, whichever is sooner.
 pub fn foreseen(
     limit: u32,
     now: Time,

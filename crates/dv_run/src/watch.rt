@@ -4,8 +4,8 @@ use dv_core::LogicalProcess;
 use dv_time::Time;
 use dv_work::Gate;
 
-/// Is asked before each turn and told after it, by the worker that makes it and with no lock held. It may hold that worker up or
-/// stop the run, and it changes nothing else.
+/// Is called before and after each turn, by the worker that makes the turn and with no lock held. It may delay that
+/// worker or stop the run, and it changes nothing else.
 pub trait Watch: Sync {
     /// A worker is about to make a turn of this process, which stands at this clock. Tells whether the run goes on; else that turn
     /// is not made, and each worker ends before its next one.

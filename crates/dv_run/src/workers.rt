@@ -40,10 +40,11 @@ use std::io::Write;
 use std::sync::Wait;
 use std::thread::Threads;
 
-/// Runs the compiled model of a text by its programs and its links, with inputs, in processes on so many threads, to a horizon in
-/// ticks, and writes the lines of the trace before the least clock while it runs, whatever the timing of the threads. Process p is
-/// run by worker p mod `workers`. A link holds so many packets at most. Somebody may watch each turn, and stop the run. Where it is
-/// stopped, or memory is refused to a worker, or a thread, that is what was known then.
+/// Runs the compiled model of a text by its programs and its links, with inputs, in processes on `workers` threads, to
+/// a horizon in ticks, and writes the lines of the trace before the least clock while it runs, whatever the timing of
+/// the threads. Process p is run by worker p mod `workers`. A link holds at most `capacity` packets. `watch` may watch
+/// each turn and stop the run. If it is stopped, or memory is refused to a worker, or a thread is refused, the lines
+/// are those of what was known then.
 ///
 /// # Errors
 ///

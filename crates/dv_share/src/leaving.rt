@@ -42,6 +42,7 @@ pub fn outer<A>(
 {
     leaving.clear();
     carry_emitted(leaving, &tables.members, &tables.exits, emitted)?;
+    leaving.sort_unstable();
     let bags = bags_of(alloc, 0, tables.outputs, leaving)?;
     commit_outer(instant, &bags, committed)
 }

@@ -13,7 +13,7 @@ pub struct ByComponent;
 /// By the number of a port.
 pub struct ByPort;
 
-/// What is of a number, by one of those that it has.
+/// An item with a number: of the numbers that it has, the one that `By` names.
 pub trait Numbered<By> {
     /// The number.
     ghost number: { Self → ℕ };

@@ -72,7 +72,8 @@ struct Counts {
 ///
 /// # Errors
 ///
-/// `Refused` where the trace is malformed, or is none of this model.
+/// - `Refused`: the trace is malformed, or is none of this model; nothing was written.
+/// - `Write`: a write failed. `Memory`: there is no memory. The writer holds a beginning of the text, perhaps nothing.
 pub fn write_stats<W: Write>(
     alloc: Global,
     tree: &Tree<'_>,

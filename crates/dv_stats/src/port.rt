@@ -19,8 +19,7 @@ impl PortCount {
         values: 0,
     };
 
-    /// So many values are sent at one more instant. A count that has reached 2^64 - 1 stays there; a trace would need as many
-    /// lines.
+    /// So many values are sent at one more instant. A count that has reached 2^64 - 1 stays there.
     pub(crate) fn send(&mut self, values: u64)
         ensures instants { self.new.instants ≡ one_more self.old.instants }
         ensures values { self.new.values ≡ more values self.old.values }

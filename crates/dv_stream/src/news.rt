@@ -19,8 +19,8 @@ use std::io::Write;
 use std::sync::Wait;
 use std::thread::yield_now;
 
-// So often the loop looks whether the run has begun, and yields the processor each time. A thread that was made comes up within a
-// thousandth of that.
+// How often the loop checks at most whether the run has begun; it yields the processor each time. A thread that was
+// made starts within a thousandth of that.
 const LOOKS_FOR_A_BEGINNING: u32 = 1_000_000;
 
 /// What the loop beside the workers and the workers themselves look at.

@@ -74,8 +74,8 @@ pub fn write_rest<J: PlannedJob, W: Write>(
     write_merged(alloc, job, &pieces, before, least, lines, writer)
 }
 
-/// The clocks to which a run came, of which the trace was written to a mark: where a clock is told that is before the mark, each
-/// process is at the mark. Workers post nothing past their clocks, so they tell none.
+/// The clocks that a run reached whose trace was written up to a mark. If a reported clock is before the mark, each
+/// clock is the mark. Workers post nothing past their clocks, so they report no such clock.
 pub fn clocks_from(clocks: Vec<Time>, mark: Time) -> Vec<Time>
     requires { 0 < length clocks.items }
     ensures { result.items ≡ (if is_before (least_time clocks.items) mark

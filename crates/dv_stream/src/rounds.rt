@@ -30,8 +30,8 @@ use dv_text::{TraceWriter, WriteError};
 use std::alloc::Global;
 use std::io::Write;
 
-// Between so many rounds the trace is written. A piece costs an access to each process and a write, which are then little beside
-// the rounds; and a reader waits for no more than the rounds take.
+// The trace is written after each batch of this many rounds. A piece costs an access to each process and a write, which
+// is little compared with the rounds; and a reader waits no longer than the rounds take.
 const ROUNDS_BETWEEN: u64 = 64;
 
 /// What ran, and up to when its trace was written.

@@ -30,7 +30,8 @@ use std::marker::{Brand, PhantomData};
 use std::sync::Wait;
 use std::thread::{Threads, join_mut};
 
-/// How a run by workers ended, whose trace was written to the least of these clocks, which are by the numbers of the processes.
+/// How a run by workers ended. Its trace was written up to the least of the clocks, which are in the order of the
+/// processes' numbers.
 #[derive(Drop)]
 pub struct Worked<C> {
     pub clocks: Vec<Time>,
@@ -38,7 +39,7 @@ pub struct Worked<C> {
     pub written: Written,
 }
 
-/// What a run is made of: new processes with the links between them, and for each worker what its turns work with.
+/// What a run is made of: new processes, and for each worker what its turns work with.
 #[derive(Drop)]
 pub struct Crew<P, K> {
     pub processes: Vec<P>,
@@ -195,7 +196,7 @@ where
     (written, report)
 }
 
-// Runs a crew, and writes its trace while it runs. It names the job in no type, so that a caller can pick it.
+// Runs a crew and writes its trace while it runs. No parameter has the job in its type, so a caller can choose the job.
 fn stream_crew<
     N: OfJob + Send + Sync,
     J: PlannedJob,

@@ -119,8 +119,8 @@ fn push_sent(line: &mut String, words: &Words, sent: &Sent) -> Result<(), AllocE
     Ok(())
 }
 
-// A port with its values, if it has some, and the ` >` before it if it is the first of those. Whether the next one may
-// still be the first is answered.
+// A port with its values, if it has any, and the ` >` before it if it is the first such port. Returns whether the next
+// one may still be the first.
 fn push_next_port(
     line: &mut String,
     is_first: bool,

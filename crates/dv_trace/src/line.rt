@@ -65,7 +65,7 @@ pub enum TraceLine<'a> {
     Outside(Outside<'a>),
     /// The end of a whole trace, with its horizon.
     Whole(u64),
-    /// How far a process of a run came that is not whole.
+    /// The clock that a process reached in a run that is not whole.
     Clock(Time),
     /// The end of a trace that is not whole.
     Partial,

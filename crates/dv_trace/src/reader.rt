@@ -21,8 +21,8 @@ enum Last {
     End,
 }
 
-/// What reads the lines of a trace of a model, each after the one before it. Besides the names of the model it keeps
-/// nothing of the lines that were read but where the last one stood.
+/// Reads the lines of a trace of a model, one after the other. Besides the names of the model it keeps of the lines
+/// that were read only where the last one stood.
 #[derive(Drop)]
 pub struct TraceReader<'t> {
     alloc: Global,

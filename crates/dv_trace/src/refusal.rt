@@ -18,7 +18,7 @@ pub enum TraceReason {
     Phase,
     /// The variables are not those of the component, in their order.
     Variable,
-    /// A value is not one that its variable or its port can have.
+    /// A value is not written as one of its variable or its port. Ranges and capacities are not tested.
     Value,
     /// No output port has this name, or ports are not in their order.
     Port,

@@ -193,7 +193,7 @@ fn fault_phase<'a>(fault: Fault) -> &'a str {
     }
 }
 
-// Another phase, where it is another.
+// Writes the phase if it is another one.
 fn push_phase<'a>(
     text: &mut String,
     shown: &mut Shown<'a>,
@@ -206,7 +206,7 @@ fn push_phase<'a>(
     push_string(text, phase, shown.first)
 }
 
-// What the variables hold that hold something else now.
+// Writes the variables whose values have changed.
 fn push_state(text: &mut String, shown: &Shown<'_>, state: &[Datum<'_>]) -> Result<(), AllocError> {
     for (place, datum) in state.iter().enumerate() {
         match shown.state.get(place) {

@@ -51,7 +51,8 @@ impl From<AllocError> for VcdError {
 ///
 /// # Errors
 ///
-/// `Refused` where the trace is malformed, or is none of this model; the whole of it is read before anything is written.
+/// - `Refused`: the trace is malformed, or is none of this model. The whole of it is read before anything is written.
+/// - `Write`: a write failed. `Memory`: there is no memory. The writer holds a beginning of the dump, perhaps nothing.
 pub fn write_vcd<W: Write>(
     alloc: Global,
     tree: &Tree<'_>,

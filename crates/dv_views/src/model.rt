@@ -27,6 +27,8 @@ pub(crate) fn load(alloc: Global, text: &[u8]) -> Result<Checked, ViewError> {
 fn read(alloc: Global, text: &[u8]) -> Result<Checked, LoadError> {
     let lexed = tokens(alloc, text)?;
     let file = parse(alloc, &lexed.tokens, text.len() as u32)?;
+    // A text may have millions of tokens, and what follows needs none.
+    drop(lexed.tokens);
     check(alloc, file, lexed.names)
 }
 

@@ -4,13 +4,13 @@ use crossbeam_utils::Backoff;
 use std::sync::atomic::{AtomicBool, Ordering};
 use std::sync::{Condvar, Mutex, Wait};
 
-// So often who waits looks at most before it sleeps: first after some spins, then each time after others had the processor. That
-// takes about as long as to fall asleep and be woken.
+// The most looks that a waiting thread takes before it sleeps: the first ones after some spins, each later one after
+// other threads had the processor. Together they take about as long as falling asleep and being woken.
 const LOOKS_BEFORE_SLEEP: u32 = 16;
 
-/// Where a thread waits for work. It counts its rings, so that one that comes between a look and the wait is not lost: whoever
-/// waits reads the count, looks, and waits only past the count that it read; whoever has something for it does that and rings
-/// after it.
+/// A place where a thread waits for work. It counts its rings, so that a ring between a look and the wait is not lost:
+/// the waiting thread reads the count, looks for work, and waits only while the count is still the one that it read.
+/// Whoever has work for it provides the work first and rings afterwards.
 #[derive(Drop)]
 pub struct Bell {
     rings: Mutex<u64>,
@@ -38,7 +38,7 @@ impl Bell {
         *self.rings.lock(rt)
     }
 
-    /// Looks for a moment, without sleep, whether the count is no longer this, and tells whether it is another.
+    /// Checks for a moment, without sleeping, whether the count differs from `seen`, and returns whether it does.
     pub fn rings_soon<R: Wait>(&self, rt: &R, seen: u64) -> bool {
         let backoff = Backoff::new();
         for _ in 0..LOOKS_BEFORE_SLEEP {
@@ -50,7 +50,7 @@ impl Bell {
         false
     }
 
-    /// Sleeps until the count is no longer this; where it is another already, not at all.
+    /// Sleeps until the count differs from `seen`; returns at once if it differs already.
     pub fn wait_past<R: Wait>(&self, rt: &R, seen: u64) {
         let _rings = self
             .rung

@@ -12,8 +12,8 @@ use dv_slice::piece_since;
 use std::alloc::Global;
 use std::sync::Wait;
 
-/// So many rounds a worker makes at most from one post to the next: a look at the board, a copy and a ring cost more than a
-/// turn, and next to nothing beside so many.
+/// The most rounds that a worker makes between two posts. A look at the board, a copy and a ring together cost more
+/// than one turn, but almost nothing compared with this many rounds.
 pub const ROUNDS_TO_A_POST: u64 = 64;
 
 /// Where workers post what their processes committed.

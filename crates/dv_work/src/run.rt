@@ -42,8 +42,8 @@ impl<N: OfJob, P: LogicalProcess, C> Promise<Worked<P, C>> for Kept<N, P> {
 
 type Handle<N, P, C> = PromisedHandle<Worked<P, C>, Kept<N, P>>;
 
-// Starts a thread for a worker. Where none can be made, it raises the flag, at which the worker ends, and counts that as want
-// of memory.
+// Starts a thread for a worker. If no thread can be made, it raises the flag, at which the worker ends, and counts this
+// as out of memory.
 fn start<
     's,
     E,
@@ -363,7 +363,7 @@ where
 /// piece of each that begins where its last one ended: now and then while it goes on, before it sleeps, and before it ends. It rings
 /// `news` after that. A piece for which there is no memory is let go, and comes with the next one of its process; what no piece
 /// brought is in the report. Once the caller has raised `stop`, each worker ends before its next turn, and a run that is not
-/// whole, and was not out of memory, is reported cancelled.
+/// whole, was not out of memory and was not stopped by the gate is reported cancelled.
 ///
 /// # Errors
 ///

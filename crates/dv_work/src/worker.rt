@@ -192,8 +192,8 @@ fn of_both(one: Turned, other: Turned) -> Turned
     }
 }
 
-// Whether a worker tells others in a round how far its processes are: now and then, and more often at first, so that a reader sees
-// the first lines soon.
+// Whether a worker tells the others in this round how far its processes have come. It does so now and then, and more
+// often at first, so that a reader sees the first lines soon.
 fn tells_in(round: u64) -> bool {
     round.is_power_of_two() || round % ROUNDS_TO_A_POST == 0
 }
@@ -206,8 +206,8 @@ fn posts_after<C>(tells: bool, ended: &Result<Turned, Halt<C>>) -> bool {
     }
 }
 
-// Waits until a worker's bell has rung past a count, with all told that its processes prepared. Where the ring does not come soon,
-// the worker posts before it sleeps.
+// Waits until the worker's bell has rung past a count. Its processes have told all that they prepared. If no ring comes
+// soon, the worker posts before it sleeps.
 fn wait_for_work<N: OfJob, P: LogicalProcess, R: Wait>(
     rt: &R,
     floor: &Floor<'_, N>,
@@ -259,9 +259,9 @@ fn rounds<N: OfJob, P: LogicalProcess, G: Gate<P>, R: Wait>(
     unreachable!()
 }
 
-/// Works until all its processes are done, or it has to end. Then it raises the flag, unless it ended for the flag. What its
-/// processes committed is posted before it sleeps, and before it ends. Where it ends because they are done, all packets that they
-/// prepared were put.
+/// Works until all its processes are done, or it has to end early. If it ends early, it raises the flag, unless the
+/// flag was the reason. What its processes committed is posted before it sleeps and before it ends. If it ends because
+/// they are done, all packets that they prepared were put.
 pub fn work_at<N: OfJob, P: LogicalProcess, G: Gate<P>, R: Wait>(
     rt: &R,
     floor: &Floor<'_, N>,

@@ -167,8 +167,8 @@ fn tell_noted<R: Eprint, W>(rt: &R, writer: &Noted<W>, is_explained: bool) {
     }
 }
 
-/// The bytes of a file. Where it cannot be read, that is told, and why if that is to be explained; an error is no memory for
-/// them.
+/// The bytes of a file. If it cannot be read, that is reported, with the reason if it is to be explained; an error
+/// means that there is no memory for them.
 fn bytes_of<R: AllocGlobal + Files + Eprint>(
     rt: &R,
     name: &str,

@@ -1,4 +1,4 @@
-use Rattle.std.proofs.Common.{◌≡◌, ◌∙◌, ◌<◌, ◌^◌, ◌++◌, List, length, ap, arith, rules}
+use Rattle.std.proofs.Common.{◌≡◌, ◌∙◌, ◌<◌, ◌^◌, ◌++◌, List, IsPermutation, length, ap, subst, sym, arith, rules}
 use Rattle.std.proofs.lemmas.Result.{on_ok_weaker}
 use Rattle.dv_bag.specs.Bag.{Counts}
 use Rattle.dv_devs.specs.Network.{outer_from}
@@ -8,7 +8,8 @@ use Rattle.dv_share.specs.Links.{deliveries_of}
 use Rattle.dv_share.specs.Share.{sent_in}
 use Rattle.dv_share.specs.declared.link.Delivery.{Delivery}
 use Rattle.dv_share.specs.declared.tables.Member.{Member}
-use Rattle.dv_share.proofs.Inboxes.{inbox_length}
+use Rattle.dv_share.proofs.Inboxes.{inbox_length, inbox_same}
+use Rattle.dv_share.proofs.Sums.{moved_delivers}
 use Rattle.dv_share.proofs.leaving.outer.Goals as goal
 
 pub commit_outer-requires : goal.commit_outer-requires
@@ -27,14 +28,17 @@ returns-clause-outer g c =
     let es = c.args.emitted.now in
     let limit = c.args.instant.now.limit in
     let now = rank_of c.args.instant.now in
-    let led : deliveries_of c.carry_emitted.new.deliveries.items ≡ carried t.exits (sent_in t.members.items es) =
+    let all = c.carry_emitted.new.deliveries.items in
+    let sorted = c.deref-2.result.now in
+    let led : deliveries_of all ≡ carried t.exits (sent_in t.members.items es) =
     c.in_ok-carry_emitted.ensures
     ∙ ap (λ (ds : List Delivery). deliveries_of ds ++ carried t.exits (sent_in c.deref.result.now es))
     c.clear.ensures.items
     ∙ ap (λ (ms : List Member). carried t.exits (sent_in ms es)) c.deref.ensures.value in
+    let moved : IsPermutation all sorted = subst (IsPermutation all) (sym c.deref-2.ensures.value) c.sort_unstable.ensures.permutation in
     let bags =
     c.in_ok-bags.ensures
-    ∙ ap (λ (ds : List Delivery). inbox 0 (deliveries_of ds) 0 t.outputs) c.deref-2.ensures.value
+    ∙ inbox_same 0 (deliveries_of sorted) (deliveries_of all) 0 t.outputs (moved_delivers sorted all moved 0)
     ∙ ap (λ (ds : List Meant). inbox 0 ds 0 t.outputs) led in
     on_ok_weaker c.commit_outer.result
     (λ h. h ∙ ap (λ (xs : List Counts). c.args.committed.now.outer ++ outer_from limit now 0 xs) bags) c.commit_outer.ensures.outer
