@@ -1,6 +1,6 @@
 -- Two bags in the order of their values: what the first pair of their union is, and what is left of them behind it.
-use Rattle.std.proofs.Common.{◌≡◌, ℕ, suc, ◌+◌, ◌-◌, ◌<◌, ◌≤◌, ◌^◌, [], ◌∷◌, length, take, drop, slice_index_or, ℤ, pos, ◌<ℤ◌}
-use Rattle.std.proofs.Common.{refl, sym, ap, ap₂, ◌∙◌, subst, arith}
+use Rattle.std.proofs.Common.{◌≡◌, ℕ, suc, ◌+◌, ◌-◌, ◌<◌, ◌≤◌, ◌^◌, [], ◌∷◌, length, take, drop}
+use Rattle.std.proofs.Common.{slice_index_or, ℤ, pos, ◌<ℤ◌, refl, sym, ap, ap₂, ◌∙◌, subst, arith}
 use Rattle.std.specs.Ordering.{int_cmp}
 use Rattle.std.specs.declared.cmp.Ordering.TheVariants.{Less, Equal, Greater}
 use Rattle.std.proofs.lemmas.List.{take_all}
@@ -13,7 +13,8 @@ pub stays_first : (p : ℤ × ℕ) (a b : Counts) → IsAbove p.0 b → union (p
 stays_first p a [] h = refl
 stays_first p a (q ∷ b) h =
     ap (λ (c : Counts). union c b)
-    (some_copies q.0 q.1 (p ∷ a) h.1 ∙ rw (cmp_greater q.0 p.0 h.0) refl ∙ sym (ap (λ (c : Counts). p ∷ c) (some_copies q.0 q.1 a h.1)))
+    (some_copies q.0 q.1 (p ∷ a) h.1 ∙ rw (cmp_greater q.0 p.0 h.0) refl
+    ∙ sym (ap (λ (c : Counts). p ∷ c) (some_copies q.0 q.1 a h.1)))
     ∙ stays_first p (with_copies q.0 q.1 a) b (above_lower q.0 p.0 b h.0 h.3)
 
 -- a count that is kept is none above the greatest
@@ -26,7 +27,8 @@ first_alone q b h =
     (some_copies q.0 q.1 [] h.0 ∙ ap (λ (n : ℕ). (q.0, n) ∷ []) (kept q.1 h.1))
     ∙ stays_first q [] b h.2
 
-pub first_less : (p q : ℤ × ℕ) (a b : Counts) → p.0 <ℤ q.0 → IsBag (q ∷ b) → union (p ∷ a) (q ∷ b) ≡ p ∷ union a (q ∷ b)
+pub first_less : (p q : ℤ × ℕ) (a b : Counts) → p.0 <ℤ q.0 → IsBag (q ∷ b) →
+    union (p ∷ a) (q ∷ b) ≡ p ∷ union a (q ∷ b)
 first_less p q a b lt h = stays_first p a (q ∷ b) (lt, h.0, h.1, h.2)
 
 pub first_equal : (p q : ℤ × ℕ) (a b : Counts) → p.0 ≡ q.0 → IsBag (q ∷ b) →
@@ -35,7 +37,8 @@ first_equal p q a b e h =
     ap (λ (c : Counts). union c b) (some_copies q.0 q.1 (p ∷ a) h.0 ∙ rw (cmp_equal q.0 p.0 (sym e)) refl)
     ∙ stays_first (p.0, capped (p.1 + q.1)) a b (subst (λ (v : ℤ). IsAbove v b) (sym e) h.2)
 
-pub first_greater : (p q : ℤ × ℕ) (a b : Counts) → q.0 <ℤ p.0 → IsBag (q ∷ b) → union (p ∷ a) (q ∷ b) ≡ q ∷ union (p ∷ a) b
+pub first_greater : (p q : ℤ × ℕ) (a b : Counts) → q.0 <ℤ p.0 → IsBag (q ∷ b) →
+    union (p ∷ a) (q ∷ b) ≡ q ∷ union (p ∷ a) b
 first_greater p q a b lt h =
     ap (λ (c : Counts). union c b)
     (some_copies q.0 q.1 (p ∷ a) h.0 ∙ rw (cmp_less q.0 p.0 lt) (ap (λ (n : ℕ). (q.0, n) ∷ p ∷ a) (kept q.1 h.1)))
@@ -54,32 +57,33 @@ rest_of b = take (length b - 1) (drop 1 b)
 rest_is : (p : ℤ × ℕ) (a : Counts) → rest_of (p ∷ a) ≡ a
 rest_is p a = take_all (suc (length a) - 1) a (omega arith)
 
-less_than : (v w : ℤ) → int_cmp v w ≡ Less → v <ℤ w
-less_than v w h = by_order v w (λ lt. lt) (λ e. absurd (not_equal (sym h ∙ cmp_equal v w e))) (λ gt. absurd (not_greater (sym h ∙ cmp_greater v w gt)))
-  where
-    not_equal : Less ≡ Equal → ⊥
-    not_equal h = cc
+-- the answers of a comparison differ
+less_equal : Less ≡ Equal → ⊥
+less_equal h = cc
 
-    not_greater : Less ≡ Greater → ⊥
-    not_greater h = cc
+less_greater : Less ≡ Greater → ⊥
+less_greater h = cc
+
+equal_greater : Equal ≡ Greater → ⊥
+equal_greater h = cc
+
+less_than : (v w : ℤ) → int_cmp v w ≡ Less → v <ℤ w
+less_than v w h = by_order v w
+    (λ lt. lt)
+    (λ e. absurd (less_equal (sym h ∙ cmp_equal v w e)))
+    (λ gt. absurd (less_greater (sym h ∙ cmp_greater v w gt)))
 
 same_as : (v w : ℤ) → int_cmp v w ≡ Equal → v ≡ w
-same_as v w h = by_order v w (λ lt. absurd (not_less (sym h ∙ cmp_less v w lt))) (λ e. e) (λ gt. absurd (not_greater (sym h ∙ cmp_greater v w gt)))
-  where
-    not_less : Equal ≡ Less → ⊥
-    not_less h = cc
-
-    not_greater : Equal ≡ Greater → ⊥
-    not_greater h = cc
+same_as v w h = by_order v w
+    (λ lt. absurd (less_equal (sym (cmp_less v w lt) ∙ h)))
+    (λ e. e)
+    (λ gt. absurd (equal_greater (sym h ∙ cmp_greater v w gt)))
 
 more_than : (v w : ℤ) → int_cmp v w ≡ Greater → w <ℤ v
-more_than v w h = by_order v w (λ lt. absurd (not_less (sym h ∙ cmp_less v w lt))) (λ e. absurd (not_equal (sym h ∙ cmp_equal v w e))) (λ gt. gt)
-  where
-    not_less : Greater ≡ Less → ⊥
-    not_less h = cc
-
-    not_equal : Greater ≡ Equal → ⊥
-    not_equal h = cc
+more_than v w h = by_order v w
+    (λ lt. absurd (less_greater (sym (cmp_less v w lt) ∙ h)))
+    (λ e. absurd (equal_greater (sym (cmp_equal v w e) ∙ h)))
+    (λ gt. gt)
 
 pub alone_at : (a b : Counts) → length a ≡ 0 → 1 ≤ length b → IsBag b → union a b ≡ first_of b ∷ union a (rest_of b)
 alone_at a [] empty some h = absurd (omega (arith, some))

@@ -12,10 +12,12 @@ returns-in-empty-len1-up-clause-next c = alone_at c.args.first.now c.args.second
 pub returns-after-cmp-clause-next : goal.returns-after-cmp-clause-next
 returns-after-cmp-clause-next c =
     elim c.match-cmp.branch [
-      | in-Less w ↦ rw w.result-is (less_at c.args.first.now c.args.second.now (search rules) (search rules) c.requires.second (search rules))
+      | in-Less w ↦ rw w.result-is
+          (less_at c.args.first.now c.args.second.now (search rules) (search rules) c.requires.second (search rules))
       | in-Equal w ↦ rw w.result-is
           (let fits : SFits w64 (get_or c.args.first.now 0 (pos 0, 0)).0 = search rules in
           equal_at c.args.first.now c.args.second.now _ _ (search rules) (search rules) c.requires.second (search rules)
           (to_z-of_z _ _ fits) w.saturating_add.ensures)
-      | in-Greater w ↦ rw w.result-is (greater_at c.args.first.now c.args.second.now (search rules) (search rules) c.requires.second (search rules))
+      | in-Greater w ↦ rw w.result-is
+          (greater_at c.args.first.now c.args.second.now (search rules) (search rules) c.requires.second (search rules))
     ]
