@@ -1,8 +1,10 @@
 -- The words of a trace.
-use Rattle.std.specs.Prelude.{ℕ, List, codes}
+use Rattle.std.specs.Prelude.{ℕ, List, Result, Ok, Err, ◌≡◌, ◌≢◌, codes}
 use Rattle.dv_bag.specs.declared.entry.Kind.{Kind}
+use Rattle.dv_bag.specs.declared.entry.NoKind.{NoKind}
 use Rattle.dv_bag.specs.declared.entry.Kind.TheVariants.{Internal, External, Confluent}
 use Rattle.dv_bag.specs.declared.fault.Fault.{Fault}
+use Rattle.dv_bag.specs.declared.fault.NoFault.{NoFault}
 use Rattle.dv_bag.specs.declared.fault.Fault.TheVariants.{Overflow, Divide, Range, Empty, Full, Negative, Microsteps, Flood}
 
 abbrev pub kind_word : Kind → List ℕ
@@ -19,3 +21,13 @@ fault_word Full = codes "full"
 fault_word Negative = codes "negative"
 fault_word Microsteps = codes "microsteps"
 fault_word Flood = codes "flood"
+
+-- a word is read as the kind that it stands for, and as none where it stands for no kind
+abbrev pub ReadsKind : List ℕ → Result Kind NoKind → Type 0
+ReadsKind word (Ok kind) = word ≡ kind_word kind
+ReadsKind word (Err none) = (kind : Kind) → word ≢ kind_word kind
+
+-- and the same of a fault
+abbrev pub ReadsFault : List ℕ → Result Fault NoFault → Type 0
+ReadsFault word (Ok fault) = word ≡ fault_word fault
+ReadsFault word (Err none) = (fault : Fault) → word ≢ fault_word fault

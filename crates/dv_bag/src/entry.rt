@@ -1,6 +1,7 @@
 //! The entries of a trace.
 
 ghost use Rattle.std.specs.Prelude.{◌≡◌};
+ghost use Rattle.dv_bag.specs.Words.{kind_word};
 
 use crate::bag::Bag;
 use crate::fault::Fault;
@@ -9,6 +10,7 @@ use crate::state::State;
 use dv_time::Time;
 use std::alloc::AllocError;
 use std::fmt;
+use std::str::FromStr;
 
 /// Which transition took place.
 #[derive(Clone, Copy, Debug, PartialEq, Eq)]
@@ -18,18 +20,50 @@ pub enum Kind {
     Confluent,
 }
 
+/// The kinds there are.
+const KINDS: [Kind; 3] = [Kind::Internal, Kind::External, Kind::Confluent];
+
+impl Kind {
+    /// The word that a trace has for it.
+    pub fn word(self) -> &'static str
+        ensures { result.now ≡ kind_word self }
+    {
+        match self {
+            Kind::Internal => "i",
+            Kind::External => "e",
+            Kind::Confluent => "c",
+        }
+    }
+}
+
 impl fmt::Display for Kind {
     ghost use Rattle.std.specs.Prelude.{Some};
-    ghost use Rattle.dv_bag.specs.Words.{kind_word};
 
     ghost output = { λ k. Some (kind_word k) };
 
     fn fmt<W: fmt::Write>(&self, f: &mut fmt::Formatter<W>) -> fmt::Result {
-        f.write_str(match self {
-            Kind::Internal => "i",
-            Kind::External => "e",
-            Kind::Confluent => "c",
-        })
+        f.write_str(self.word())
+    }
+}
+
+/// A word that stands for no kind of transition.
+#[derive(Clone, Copy, Debug, PartialEq, Eq)]
+pub struct NoKind;
+
+impl FromStr for Kind {
+    type Err = NoKind;
+
+    ghost use Rattle.dv_bag.specs.Words.{ReadsKind};
+
+    ghost from_str_gives = { ReadsKind };
+
+    fn from_str(word: &str) -> Result<Kind, NoKind> {
+        for kind in KINDS {
+            if kind.word() == word {
+                return Ok(kind);
+            }
+        }
+        Err(NoKind)
     }
 }
 

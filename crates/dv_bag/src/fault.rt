@@ -1,9 +1,11 @@
 //! Faults. A fault belongs to one component, which is quiet from that instant on.
 
 ghost use Rattle.std.specs.Prelude.{◌≡◌};
+ghost use Rattle.dv_bag.specs.Words.{fault_word};
 
 use std::alloc::{AllocError, AllocFailed};
 use std::fmt;
+use std::str::FromStr;
 
 /// Why a component is quiet.
 #[derive(Clone, Copy, Debug, PartialEq, Eq)]
@@ -26,14 +28,24 @@ pub enum Fault {
     Flood,
 }
 
-impl fmt::Display for Fault {
-    ghost use Rattle.std.specs.Prelude.{Some};
-    ghost use Rattle.dv_bag.specs.Words.{fault_word};
+/// The faults there are.
+const FAULTS: [Fault; 8] = [
+    Fault::Overflow,
+    Fault::Divide,
+    Fault::Range,
+    Fault::Empty,
+    Fault::Full,
+    Fault::Negative,
+    Fault::Microsteps,
+    Fault::Flood,
+];
 
-    ghost output = { λ f. Some (fault_word f) };
-
-    fn fmt<W: fmt::Write>(&self, f: &mut fmt::Formatter<W>) -> fmt::Result {
-        f.write_str(match self {
+impl Fault {
+    /// The word that a trace has for it.
+    pub fn word(self) -> &'static str
+        ensures { result.now ≡ fault_word self }
+    {
+        match self {
             Fault::Overflow => "overflow",
             Fault::Divide => "divide",
             Fault::Range => "range",
@@ -42,7 +54,38 @@ impl fmt::Display for Fault {
             Fault::Negative => "negative",
             Fault::Microsteps => "microsteps",
             Fault::Flood => "flood",
-        })
+        }
+    }
+}
+
+impl fmt::Display for Fault {
+    ghost use Rattle.std.specs.Prelude.{Some};
+
+    ghost output = { λ f. Some (fault_word f) };
+
+    fn fmt<W: fmt::Write>(&self, f: &mut fmt::Formatter<W>) -> fmt::Result {
+        f.write_str(self.word())
+    }
+}
+
+/// A word that stands for no fault.
+#[derive(Clone, Copy, Debug, PartialEq, Eq)]
+pub struct NoFault;
+
+impl FromStr for Fault {
+    type Err = NoFault;
+
+    ghost use Rattle.dv_bag.specs.Words.{ReadsFault};
+
+    ghost from_str_gives = { ReadsFault };
+
+    fn from_str(word: &str) -> Result<Fault, NoFault> {
+        for fault in FAULTS {
+            if fault.word() == word {
+                return Ok(fault);
+            }
+        }
+        Err(NoFault)
     }
 }
 

@@ -33,6 +33,8 @@ mod stack;
 mod stacks;
 /// A count of steps.
 pub mod steps;
+/// The types of what leaves, operators and actions take and give.
+pub mod types;
 /// Valid programs.
 pub mod valid;
 /// The bags that loops walk.

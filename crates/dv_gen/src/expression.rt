@@ -1,7 +1,7 @@
 //! The code of expressions.
 
 ghost use Rattle.std.specs.Prelude.{◌≡◌, ◌≤◌, List, length, IfOk, OnOk};
-ghost use Rattle.dv_code.specs.Known.{leaf_type, result_type, unary_type};
+ghost use Rattle.dv_code.specs.Known.{leaf_type, unary_type};
 ghost use Rattle.dv_code.specs.declared.instruction.Instruction.{Instruction};
 ghost use Rattle.dv_syntax.specs.Trees.{expression_of};
 ghost use Rattle.dv_gen.specs.Emission.{junction, loops_of, unary_of, with_expression};
@@ -13,6 +13,7 @@ use crate::draft::Draft;
 use crate::loops::Loops;
 use crate::names::Names;
 use dv_bag::ValueType;
+use dv_code::types::{leaf_type, result_type, unary_type};
 use dv_code::{Binary, Instruction, Leaf, Source, Unary};
 use dv_syntax::{BagCall, Expr, Operator, Prefix};
 use std::alloc::AllocError;
@@ -194,34 +195,5 @@ fn call_leaf(call: BagCall, source: Source) -> Leaf
         BagCall::Sum => Leaf::Sum(source),
         BagCall::Least => Leaf::Least(source),
         BagCall::Most => Leaf::Most(source),
-    }
-}
-
-// The type of a leaf's value.
-fn leaf_type(leaf: Leaf) -> ValueType
-    ensures { result ≡ leaf_type leaf }
-{
-    match leaf {
-        Leaf::Truth(_) | Leaf::Flag(_) => ValueType::Truth,
-        _ => ValueType::Number,
-    }
-}
-
-fn unary_type(unary: Unary) -> ValueType
-    ensures { result ≡ unary_type unary }
-{
-    match unary {
-        Unary::Not => ValueType::Truth,
-        Unary::Negate | Unary::Times(_) => ValueType::Number,
-    }
-}
-
-fn result_type(operation: Binary) -> ValueType
-    ensures { result ≡ result_type operation }
-{
-    match operation {
-        Binary::Add | Binary::Subtract | Binary::Multiply | Binary::Divide | Binary::Remainder =>
-            ValueType::Number,
-        _ => ValueType::Truth,
     }
 }

@@ -3,14 +3,13 @@
 ghost use Rattle.std.specs.Prelude.{◌≡◌, ◌++◌, ◌∷◌, [], OnOk, string_bytes, ℕ, List, IfOk};
 ghost use Rattle.dv_time.specs.Time.{time_text};
 ghost use Rattle.dv_bag.specs.Bag.{bag_at};
-ghost use Rattle.dv_bag.specs.Words.{kind_word};
 ghost use Rattle.dv_tree.specs.Paths.{name_at};
 ghost use Rattle.dv_text.specs.Names.{names_found, tree_names, tree_ports};
 ghost use Rattle.dv_text.specs.Texts.{entry_text, names_at, port_text, ports_text, sent_text, variables_text, what_text};
 ghost use Rattle.dv_text.specs.Writing.{sent_from};
 
 use crate::pieces::{push_datum, push_port, push_time};
-use dv_bag::{Entry, Kind, Sent, Variables, What};
+use dv_bag::{Entry, Sent, Variables, What};
 use dv_time::Time;
 use dv_tree::Tree;
 use std::alloc::AllocError;
@@ -144,23 +143,13 @@ fn push_next_port(
     Ok(false)
 }
 
-fn kind_word(kind: Kind) -> &'static str
-    ensures { result.now ≡ kind_word kind }
-{
-    match kind {
-        Kind::Internal => "i",
-        Kind::External => "e",
-        Kind::Confluent => "c",
-    }
-}
-
 fn push_what(line: &mut String, words: &Words, what: &What) -> Result<(), AllocError>
     ensures { OnOk result (string_bytes line.new ≡
         string_bytes line.old ++ what_text (names_found words.now) what.now) }
 {
     match what {
         What::Transition { kind, state } => {
-            line.push_str(kind_word(*kind))?;
+            line.push_str(kind.word())?;
             line.push(' ')?;
             line.push_str(phase_name(words, state.phase))?;
             push_variables(line, words, &state.variables)

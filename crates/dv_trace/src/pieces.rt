@@ -4,7 +4,6 @@ use crate::line::{Datum, Sending};
 use crate::names::Directory;
 use crate::refusal::{LineError, TraceReason};
 use crate::values::{datum_in, values_in};
-use dv_bag::{Fault, Kind};
 use dv_eval::{Domain, Scope};
 use dv_tree::Tree;
 use std::alloc::Global;
@@ -12,31 +11,6 @@ use std::alloc::Global;
 /// The word in front of the first space, and what is behind that.
 pub(crate) fn split_word(text: &str) -> (&str, &str) {
     text.split_once(' ').unwrap_or((text, ""))
-}
-
-/// The transition that a letter stands for.
-pub(crate) fn kind_of(word: &str) -> Option<Kind> {
-    match word {
-        "i" => Some(Kind::Internal),
-        "e" => Some(Kind::External),
-        "c" => Some(Kind::Confluent),
-        _ => None,
-    }
-}
-
-/// The fault of a name.
-pub(crate) fn fault_of(word: &str) -> Option<Fault> {
-    match word {
-        "overflow" => Some(Fault::Overflow),
-        "divide" => Some(Fault::Divide),
-        "range" => Some(Fault::Range),
-        "empty" => Some(Fault::Empty),
-        "full" => Some(Fault::Full),
-        "negative" => Some(Fault::Negative),
-        "microsteps" => Some(Fault::Microsteps),
-        "flood" => Some(Fault::Flood),
-        _ => None,
-    }
 }
 
 /// What `name=value` says of the variable that has this name.

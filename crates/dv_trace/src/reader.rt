@@ -3,9 +3,9 @@
 use crate::line::{Entry, Happening, Outside, TraceLine};
 use crate::names::Directory;
 use crate::numbers::{number_in, tick_in, time_in};
-use crate::pieces::{Sender, fault_of, kind_of, sendings_in, sent_behind, split_state, split_word};
+use crate::pieces::{Sender, sendings_in, sent_behind, split_state, split_word};
 use crate::refusal::{LineError, TraceError, TraceReason, TraceRefusal};
-use dv_bag::Kind;
+use dv_bag::{Fault, Kind};
 use dv_eval::Scope;
 use dv_time::{GREATEST_TICK, Time};
 use dv_tree::Tree;
@@ -178,10 +178,10 @@ impl<'t> TraceReader<'t> {
         }
         self.last = Last::Entry(time, component);
         let (word, rest) = split_word(rest);
-        match kind_of(word) {
-            Some(kind) => self.transition(time, component, kind, rest),
-            None if word == "fault" => self.fault(time, component, rest),
-            None => Err(LineError::Refused(TraceReason::Form)),
+        match word.parse::<Kind>() {
+            Ok(kind) => self.transition(time, component, kind, rest),
+            Err(_) if word == "fault" => self.fault(time, component, rest),
+            Err(_) => Err(LineError::Refused(TraceReason::Form)),
         }
     }
 
@@ -214,9 +214,9 @@ impl<'t> TraceReader<'t> {
     ) -> Result<TraceLine<'a>, LineError> {
         let scope = self.scope(component)?;
         let (word, rest) = split_word(rest);
-        match fault_of(word) {
-            Some(fault) => self.with_sent(time, component, scope, Happening::Fault(fault), rest),
-            None => Err(LineError::Refused(TraceReason::Fault)),
+        match word.parse::<Fault>() {
+            Ok(fault) => self.with_sent(time, component, scope, Happening::Fault(fault), rest),
+            Err(_) => Err(LineError::Refused(TraceReason::Fault)),
         }
     }
 

@@ -14,8 +14,8 @@ use crate::known::{is_bag, knows_action, knows_leaf, knows_phase, knows_unary};
 use crate::marks::{Mark, Marks, without_top};
 use crate::nest::{Body, Nest};
 use crate::stacks::TypeStacks;
-use crate::types::{action_type, leaf_type, operand_type, result_type, unary_type};
 use dv_bag::value::ValueType;
+use dv_code::types::{action_type, leaf_type, operand_type, result_type, unary_type};
 use dv_code::{Action, Binary, Instruction, Leaf, ProgramSort, Shape, Source, Unary};
 
 impl Marks {

@@ -11,8 +11,6 @@ mod marks;
 mod nest;
 /// Stacks of types by number.
 mod stacks;
-/// The types of leaves, operators and actions.
-mod types;
 /// The validator.
 pub mod validator;
 

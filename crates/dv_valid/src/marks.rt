@@ -16,8 +16,8 @@ ghost use Rattle.dv_code.specs.Limits.{deepest_loops};
 
 use crate::nest::{Body, Nest};
 use crate::stacks::TypeStacks;
-use crate::types::{action_type, leaf_type, operand_type, result_type};
 use dv_bag::value::ValueType;
+use dv_code::types::{action_type, leaf_type, operand_type, result_type};
 use dv_code::{Binary, Instruction, ProgramSort};
 use std::alloc::{AllocError, Global};
 

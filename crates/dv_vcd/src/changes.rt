@@ -1,8 +1,7 @@
 //! The changes of values, line after line of a trace.
 
-use crate::shown::Shown;
-use crate::values::{push_datum, push_string};
-use dv_bag::Fault;
+use crate::shown::{Shown, Standing};
+use crate::values::{push_datum, push_standing, push_string};
 use dv_trace::{Datum, Entry, Happening, Outside, Sending};
 use dv_tree::Tree;
 use indexmap::IndexMap;
@@ -106,11 +105,11 @@ impl<'a> Changes<'a> {
         match happening {
             Happening::Transition { phase, state, .. } => {
                 let phase = phase_name(self.tree, component, phase);
-                push_phase(&mut self.text, shown, phase)?;
+                move_to(&mut self.text, shown, Standing::Phase(phase))?;
                 push_state(&mut self.text, shown, &state)?;
                 shown.state = state;
             }
-            Happening::Fault(fault) => push_phase(&mut self.text, shown, fault_phase(fault))?,
+            Happening::Fault(fault) => move_to(&mut self.text, shown, Standing::Fault(fault))?,
         }
         let first = shown.port(0);
         self.sent(first, &sent)
@@ -159,7 +158,7 @@ fn output_count(tree: &Tree, component: usize) -> usize {
 
 // What a component shows at the start.
 fn push_start(text: &mut String, shown: &Shown<'_>, ports: usize) -> Result<(), AllocError> {
-    push_string(text, shown.phase, shown.first)?;
+    push_standing(text, shown.standing, shown.first)?;
     for (place, datum) in shown.state.iter().enumerate() {
         push_datum(text, *datum, shown.variable(place))?;
     }
@@ -179,31 +178,17 @@ fn phase_name<'t>(tree: &'t Tree<'t>, component: usize, phase: u32) -> &'t str {
     }
 }
 
-// A colon stands in no name of a phase.
-fn fault_phase<'a>(fault: Fault) -> &'a str {
-    match fault {
-        Fault::Overflow => "fault:overflow",
-        Fault::Divide => "fault:divide",
-        Fault::Range => "fault:range",
-        Fault::Empty => "fault:empty",
-        Fault::Full => "fault:full",
-        Fault::Negative => "fault:negative",
-        Fault::Microsteps => "fault:microsteps",
-        Fault::Flood => "fault:flood",
-    }
-}
-
-// Writes the phase if it is another one.
-fn push_phase<'a>(
+// Writes where a component stands now, if it stood elsewhere.
+fn move_to<'a>(
     text: &mut String,
     shown: &mut Shown<'a>,
-    phase: &'a str,
+    standing: Standing<'a>,
 ) -> Result<(), AllocError> {
-    if shown.phase == phase {
+    if shown.standing == standing {
         return Ok(());
     }
-    shown.phase = phase;
-    push_string(text, phase, shown.first)
+    shown.standing = standing;
+    push_standing(text, standing, shown.first)
 }
 
 // Writes the variables whose values have changed.

@@ -1,17 +1,24 @@
 //! What is shown of each component, and under which codes.
 
+use dv_bag::Fault;
 use dv_eval::Domain;
 use dv_trace::{Datum, Values};
 use dv_tree::Tree;
 use std::alloc::{AllocError, Global};
+
+/// Where a component stands: in a phase, of which this is the name, or behind a fault.
+#[derive(Clone, Copy, PartialEq, Eq)]
+pub(crate) enum Standing<'a> {
+    Phase(&'a str),
+    Fault(Fault),
+}
 
 /// What a component shows now. Its codes follow each other: its phase, its variables, flags and bags, and its output ports.
 #[derive(Drop)]
 pub(crate) struct Shown<'a> {
     /// The code of the phase.
     pub(crate) first: u64,
-    /// The name of the phase, or `fault:` and the name of a fault.
-    pub(crate) phase: &'a str,
+    pub(crate) standing: Standing<'a>,
     pub(crate) state: Vec<Datum<'a>>,
 }
 
@@ -42,7 +49,7 @@ pub(crate) fn all_shown<'a>(alloc: Global, tree: &'a Tree<'a>) -> Result<AllShow
         let scope = tree.scope(component);
         let shown = Shown {
             first: behind,
-            phase: start_phase(tree, component),
+            standing: Standing::Phase(start_phase(tree, component)),
             state: start_state(alloc, scope.domains())?,
         };
         behind = shown.port(scope.output_count());

@@ -1,5 +1,6 @@
 //! The codes of variables and the forms of values.
 
+use crate::shown::Standing;
 use dv_trace::Datum;
 use std::alloc::AllocError;
 
@@ -35,6 +36,18 @@ pub(crate) fn push_flag(text: &mut String, flag: bool, code: u64) -> Result<(), 
 /// A string, which holds no blank.
 pub(crate) fn push_string(text: &mut String, string: &str, code: u64) -> Result<(), AllocError> {
     writeln_string(text, "", string, "", code)
+}
+
+/// Where a component stands. A colon stands in no name of a phase.
+pub(crate) fn push_standing(
+    text: &mut String,
+    standing: Standing<'_>,
+    code: u64,
+) -> Result<(), AllocError> {
+    match standing {
+        Standing::Phase(name) => push_string(text, name, code),
+        Standing::Fault(fault) => writeln_string(text, "fault:", fault.word(), "", code),
+    }
 }
 
 /// What a variable, a flag or a bag holds.

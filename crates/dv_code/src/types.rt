@@ -3,8 +3,8 @@
 ghost use Rattle.std.specs.Prelude.{◌≡◌};
 ghost use Rattle.dv_code.specs.Known.{action_type, leaf_type, operand_type, result_type, unary_type};
 
+use crate::instruction::{Action, Binary, Leaf, Unary};
 use dv_bag::value::ValueType;
-use dv_code::{Action, Binary, Leaf, Unary};
 
 /// The type of a leaf's value.
 pub fn leaf_type(leaf: Leaf) -> ValueType
@@ -12,7 +12,14 @@ pub fn leaf_type(leaf: Leaf) -> ValueType
 {
     match leaf {
         Leaf::Truth(_) | Leaf::Flag(_) => ValueType::Truth,
-        _ => ValueType::Number,
+        Leaf::Number(_)
+        | Leaf::Variable(_)
+        | Leaf::Item(_)
+        | Leaf::Elapsed
+        | Leaf::Size(_)
+        | Leaf::Sum(_)
+        | Leaf::Least(_)
+        | Leaf::Most(_) => ValueType::Number,
     }
 }
 
@@ -32,7 +39,17 @@ pub fn operand_type(binary: Binary) -> ValueType
 {
     match binary {
         Binary::Same | Binary::Different => ValueType::Truth,
-        _ => ValueType::Number,
+        Binary::Add
+        | Binary::Subtract
+        | Binary::Multiply
+        | Binary::Divide
+        | Binary::Remainder
+        | Binary::Equal
+        | Binary::Unequal
+        | Binary::Less
+        | Binary::AtMost
+        | Binary::Greater
+        | Binary::AtLeast => ValueType::Number,
     }
 }
 
@@ -43,7 +60,14 @@ pub fn result_type(binary: Binary) -> ValueType
     match binary {
         Binary::Add | Binary::Subtract | Binary::Multiply | Binary::Divide | Binary::Remainder =>
             ValueType::Number,
-        _ => ValueType::Truth,
+        Binary::Equal
+        | Binary::Unequal
+        | Binary::Less
+        | Binary::AtMost
+        | Binary::Greater
+        | Binary::AtLeast
+        | Binary::Same
+        | Binary::Different => ValueType::Truth,
     }
 }
 
@@ -53,6 +77,7 @@ pub fn action_type(action: Action) -> ValueType
 {
     match action {
         Action::SetFlag(_) => ValueType::Truth,
-        _ => ValueType::Number,
+        Action::SetVariable(_) | Action::AddTo(_) | Action::DropFrom(_) | Action::Send(_) =>
+            ValueType::Number,
     }
 }
