@@ -2,12 +2,10 @@
 
 use crate::compare::same;
 use dv_bag::{
-    Bag, Bags, Datum, DatumView, Entry, Fault, HeldBag, Kind, Outer, Part, Sent, State, Variables,
-    What,
+    Bag, Bags, Datum, DatumView, Entry, HeldBag, Kind, Outer, Part, Sent, State, Variables, What,
 };
 use dv_time::Time;
 use std::process::Abort;
-use std::test::Fail;
 
 fn bag_of<R: Abort + AllocGlobal>(rt: &R, values: &[i64]) -> Bag {
     let mut bag = Bag::new(rt.alloc());
@@ -15,28 +13,6 @@ fn bag_of<R: Abort + AllocGlobal>(rt: &R, values: &[i64]) -> Bag {
         bag.insert(*value).expect(rt, "memory");
     }
     bag
-}
-
-// The sum, which is asked of a bag of few values alone.
-fn sum_of(rt: &impl Abort, bag: &Bag) -> Result<i64, Fault> {
-    assert!(rt; bag.size() <= 4_096);
-    bag.sum()
-}
-
-#[test]
-fn a_bag_counts_its_values(rt: HostRuntime) {
-    let mut bag = bag_of(&rt, &[30, -1, 30, 7]);
-    same!(rt; bag.pairs(), [(-1, 1), (7, 1), (30, 2)].as_slice());
-    same!(rt; bag.size(), 4);
-    same!(rt; bag.least(), Some(-1));
-    same!(rt; bag.most(), Some(30));
-    same!(rt; bag.times(30), 2);
-    same!(rt; bag.times(5), 0);
-    bag.drop_one(30);
-    bag.drop_one(7);
-    bag.drop_one(8);
-    same!(rt; bag.pairs(), [(-1, 1), (30, 1)].as_slice());
-    same!(rt; bag.is_empty(), false);
 }
 
 #[test]
@@ -51,29 +27,13 @@ fn a_count_stands_at_its_greatest(rt: HostRuntime) {
 }
 
 #[test]
-fn only_the_exact_sum_overflows(rt: HostRuntime) {
-    let greatest = 9_223_372_036_854_775_807;
-    let mut bag = bag_of(&rt, &[greatest, greatest, -greatest]);
-    same!(rt; bag.size(), 3);
-    same!(rt; sum_of(&rt, &bag), Ok(greatest));
-    bag.drop_one(-greatest);
-    same!(rt; bag.size(), 2);
-    same!(rt; sum_of(&rt, &bag), Err(Fault::Overflow));
-}
-
-#[test]
-fn bags_unite(rt: HostRuntime) {
+fn bags_unite_and_are_copied(rt: HostRuntime) {
     let mut bag = bag_of(&rt, &[1, 2]);
-    bag.union(&bag_of(&rt, &[3, 2, 0])).expect(&rt, "memory");
-    same!(rt; bag.pairs(), [(0, 1), (1, 1), (2, 2), (3, 1)].as_slice());
-}
-
-#[test]
-fn a_copy_of_a_bag_is_the_same(rt: HostRuntime) {
-    let bag = bag_of(&rt, &[1, 2]);
     let copy = bag.clone().expect(&rt, "memory");
     same!(rt; copy == bag, true);
     same!(rt; copy == bag_of(&rt, &[1, 3]), false);
+    bag.union(&bag_of(&rt, &[3, 2, 0])).expect(&rt, "memory");
+    same!(rt; bag.pairs(), [(0, 1), (1, 1), (2, 2), (3, 1)].as_slice());
 }
 
 // Adds a value at a port that is there.
@@ -92,6 +52,18 @@ fn same_in_port(rt: &impl Abort, bag: Option<&Bag>, wanted: Option<&[(i64, u64)]
     assert_eq!(rt; bag.map(|bag| bag.pairs()), wanted);
 }
 
+// What stands in bags at three ports, with values at the first and the last.
+fn same_in_bags(rt: &impl Abort, bags: &Bags) {
+    same!(*rt; bags.is_empty(), false);
+    same!(*rt; bags.are_few(), true);
+    same!(*rt; bags.len(), 3);
+    same_in_port(rt, bags.get(0), Some(&[(1, 1)]));
+    same_in_port(rt, bags.get(1), None);
+    same_in_port(rt, bags.get(2), Some(&[(4, 1), (5, 2)]));
+    same_in_port(rt, bags.get(3), None);
+    same!(*rt; bags.held().len(), 2);
+}
+
 #[test]
 fn bags_stand_by_port(rt: HostRuntime) {
     let mut bags = Bags::empty(rt.alloc(), 3);
@@ -99,17 +71,9 @@ fn bags_stand_by_port(rt: HostRuntime) {
     put(&rt, &mut bags, 2, 5);
     unite(&rt, &mut bags, 2, &bag_of(&rt, &[5, 4]));
     put(&rt, &mut bags, 0, 1);
+    same_in_bags(&rt, &bags);
     let copy = bags.clone().expect(&rt, "memory");
-    for bags in [bags, copy] {
-        same!(rt; bags.is_empty(), false);
-        same!(rt; bags.are_few(), true);
-        same!(rt; bags.len(), 3);
-        same_in_port(&rt, bags.get(0), Some(&[(1, 1)]));
-        same_in_port(&rt, bags.get(1), None);
-        same_in_port(&rt, bags.get(2), Some(&[(4, 1), (5, 2)]));
-        same_in_port(&rt, bags.get(3), None);
-        same!(rt; bags.held().len(), 2);
-    }
+    same_in_bags(&rt, &copy);
 }
 
 // What is sent by these values, each at a port that is there.
@@ -170,50 +134,46 @@ fn variables_stand_in_order(rt: HostRuntime) {
     same!(rt; state.variables.len(), 3);
 }
 
-#[test]
-fn a_part_keeps_its_order(rt: HostRuntime) -> Result<(), Fail> {
+// A part of transitions of three components, and of one value that leaves by port 4.
+fn part_of_three<R: Abort + AllocGlobal>(rt: &R) -> Part {
     let mut part = Part::new(rt.alloc());
     for component in 0..3 {
+        let what = What::Transition {
+            kind: Kind::External,
+            state: state_of(rt, 1),
+        };
         part.push_entry(Entry {
             time: Time::ZERO,
             component,
-            what: What::Transition {
-                kind: Kind::External,
-                state: state_of(&rt, 1),
-            },
+            what,
             sent: Sent::empty(rt.alloc(), 1),
-        })?;
+        })
+        .expect(rt, "memory");
     }
     part.push_outer(Outer {
         time: Time::ZERO,
         port: 4,
-        values: bag_of(&rt, &[2]),
-    })?;
-    let copy = part.clone()?;
-    let components: Vec<u32> = copy
-        .entries()
-        .map(|entry| entry.component)
-        .collect(rt.alloc())?;
-    same!(rt; components.as_slice(), [0, 1, 2].as_slice());
-    let ports: Vec<u32> = copy.outer().map(|outer| outer.port).collect(rt.alloc())?;
-    same!(rt; ports.as_slice(), [4].as_slice());
-    Ok(())
+        values: bag_of(rt, &[2]),
+    })
+    .expect(rt, "memory");
+    part
+}
+
+// The components and the ports of a part.
+fn order_of<R: Abort + AllocGlobal>(rt: &R, part: &Part) -> String {
+    let mut order = String::new(rt.alloc());
+    for entry in part.entries() {
+        write!(order, "{} ", entry.component).expect(rt, "memory");
+    }
+    for outer in part.outer() {
+        write!(order, "out {} ", outer.port).expect(rt, "memory");
+    }
+    order
 }
 
 #[test]
-fn faults_have_names(rt: HostRuntime) {
-    let mut names = String::new(rt.alloc());
-    for fault in [
-        Fault::Overflow,
-        Fault::Divide,
-        Fault::Range,
-        Fault::Empty,
-        Fault::Full,
-        Fault::Negative,
-        Fault::Microsteps,
-        Fault::Flood,
-    ] {
-        write!(names, "{fault} ").expect(&rt, "memory");
-    }
-    same!(rt; names.as_str(), "overflow divide range empty full negative microsteps flood ");
+fn a_part_keeps_its_order(rt: HostRuntime) {
+    let copy = part_of_three(&rt).clone().expect(&rt, "memory");
+    let order = order_of(&rt, &copy);
+    same!(rt; order.as_str(), "0 1 2 out 4 ");
 }

@@ -2,41 +2,31 @@
 
 use crate::compare::{expect_same, same};
 use dv_cycles::{Graph, strong_components};
-use std::alloc::{AllocError, Global};
 use std::process::Abort;
-use std::test::Fail;
 
 /// A graph by the edges of each node.
-fn graph_of(alloc: Global, lists: &[&[usize]]) -> Result<Graph, AllocError> {
-    let mut graph = Graph::new(alloc);
+fn graph_of<R: Abort + AllocGlobal>(rt: &R, lists: &[&[usize]]) -> Graph {
+    let mut graph = Graph::new(rt.alloc());
     for targets in lists {
-        graph.push_node(targets)?;
+        graph.push_node(targets).expect(rt, "memory");
     }
-    Ok(graph)
+    graph
 }
 
-/// A row of so many nodes, closed to a cycle or not.
-fn chain(alloc: Global, nodes: usize, is_cycle: bool) -> Result<Graph, AllocError> {
-    let mut graph = Graph::new(alloc);
+/// A row of so many nodes, and the edges of the last one.
+fn chain<R: Abort + AllocGlobal>(rt: &R, nodes: usize, last: &[usize]) -> Graph {
+    let mut graph = Graph::new(rt.alloc());
     for node in 1..nodes {
-        graph.push_node(&[node])?;
+        graph.push_node(&[node]).expect(rt, "memory");
     }
-    if is_cycle {
-        graph.push_node(&[0])?;
-    } else {
-        graph.push_node(&[])?;
-    }
-    Ok(graph)
+    graph.push_node(last).expect(rt, "memory");
+    graph
 }
 
 /// The components of a graph, and the test fails where an edge leads out of it.
-fn components_of<R: Abort + AllocGlobal>(
-    rt: &R,
-    name: &str,
-    graph: &Graph,
-) -> Result<Vec<usize>, AllocError> {
+fn components_of<R: Abort + AllocGlobal>(rt: &R, name: &str, graph: &Graph) -> Vec<usize> {
     assert!(rt; graph.is_closed(), "{name}");
-    strong_components(rt.alloc(), graph)
+    strong_components(rt.alloc(), graph).expect(rt, "memory")
 }
 
 /// Graphs by the edges of each node, and the number of each node's component.
@@ -73,45 +63,37 @@ fn same_components<R: Abort + AllocGlobal>(
     name: &str,
     lists: &[&[usize]],
     numbers: &[usize],
-) -> Result<(), AllocError> {
-    let graph = graph_of(rt.alloc(), lists)?;
-    let found = components_of(rt, name, &graph)?;
+) {
+    let graph = graph_of(rt, lists);
+    let found = components_of(rt, name, &graph);
     expect_same(rt, name, found.as_slice(), numbers);
-    Ok(())
 }
 
 #[test]
-fn components_are_numbered_as_they_are_done(rt: HostRuntime) -> Result<(), Fail> {
+fn components_are_numbered_as_they_are_done(rt: HostRuntime) {
     for (name, lists, numbers) in GRAPHS {
-        same_components(&rt, name, lists, numbers)?;
+        same_components(&rt, name, lists, numbers);
     }
-    Ok(())
 }
 
 #[test]
-fn an_edge_may_lead_out_of_the_graph(rt: HostRuntime) -> Result<(), Fail> {
-    let mut graph = Graph::new(rt.alloc());
-    graph.push_node(&[1])?;
-    same!(rt; graph.is_closed(), false);
-    graph.push_node(&[])?;
-    same!(rt; graph.is_closed(), true);
-    Ok(())
+fn an_edge_may_lead_out_of_the_graph(rt: HostRuntime) {
+    same!(rt; graph_of(&rt, &[&[1]]).is_closed(), false);
+    same!(rt; graph_of(&rt, &[&[1], &[]]).is_closed(), true);
 }
 
 #[test]
-fn a_long_path_is_found_without_recursion(rt: HostRuntime) -> Result<(), Fail> {
-    let graph = chain(rt.alloc(), 700_000, false)?;
-    let numbers = components_of(&rt, "a long path", &graph)?;
+fn a_long_path_is_found_without_recursion(rt: HostRuntime) {
+    let graph = chain(&rt, 700_000, &[]);
+    let numbers = components_of(&rt, "a long path", &graph);
     same!(rt; numbers.first(), Some(&699_999));
     same!(rt; numbers.last(), Some(&0));
-    Ok(())
 }
 
 #[test]
-fn a_long_cycle_is_one_component(rt: HostRuntime) -> Result<(), Fail> {
-    let graph = chain(rt.alloc(), 100_000, true)?;
-    let numbers = components_of(&rt, "a long cycle", &graph)?;
-    let zeros = vec![in rt.alloc(); 0; 100_000]?;
+fn a_long_cycle_is_one_component(rt: HostRuntime) {
+    let graph = chain(&rt, 100_000, &[0]);
+    let numbers = components_of(&rt, "a long cycle", &graph);
+    let zeros = vec![in rt.alloc(); 0; 100_000].expect(&rt, "memory");
     same!(rt; numbers.as_slice() == zeros.as_slice(), true);
-    Ok(())
 }

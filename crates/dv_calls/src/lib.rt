@@ -1,34 +1,32 @@
-//! The calls of the lower crates with ample memory, one crate a module: that they succeed, and that the definitions say
-//! what is meant. They stand here, since a crate with tests is proved a second time with them.
+//! The calls of the lower crates with ample memory, one crate a module, as far as no row of a text can show them: that they
+//! succeed, and that the definitions say what is meant. They stand here, since a crate with tests is proved a second time with
+//! them.
 #![tactic(auto)]
 
+/// What a process waits for, and what came.
+#[cfg(test)]
+mod agendas;
 /// Bags, what is sent, states and parts of a trace.
 #[cfg(test)]
 mod bags;
-/// Texts that break no rule, and texts that break one.
-#[cfg(test)]
-mod checks;
 /// Compares what calls give with what is wanted.
 #[cfg(test)]
 mod compare;
+/// Links between processes.
+#[cfg(test)]
+mod cuts;
 /// Graphs and their components.
 #[cfg(test)]
 mod graphs;
-/// Texts of inputs.
+/// Inputs by time.
 #[cfg(test)]
 mod inputs;
-/// What expressions, rules and holds do.
-#[cfg(test)]
-mod meanings;
-/// Models and their responses.
+/// Models and their responses, and holds.
 #[cfg(test)]
 mod responses;
 /// Times and their order.
 #[cfg(test)]
 mod times;
-/// From texts to tokens.
+/// Tokens, names and lines.
 #[cfg(test)]
 mod tokens;
-/// From tokens to trees.
-#[cfg(test)]
-mod trees;

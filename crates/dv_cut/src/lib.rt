@@ -15,8 +15,6 @@ pub mod links;
 pub mod models;
 /// The responses of processes.
 pub mod responses;
-#[cfg(test)]
-mod tests;
 /// The text of a plan.
 pub mod text;
 

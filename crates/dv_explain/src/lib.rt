@@ -15,6 +15,8 @@ pub mod nesting;
 pub mod pointing;
 /// Slips of those who write other languages too.
 pub mod slips;
+/// The text of an explanation.
+pub mod text;
 /// Tokens that can't stand where they stand.
 pub mod unexpected;
 /// Characters that can't be seen, and their names.
@@ -26,6 +28,7 @@ pub use explanation::{Example, Explanation, explanation_in_any_case, explanation
 pub use nesting::nesting_at;
 pub use pointing::excerpt;
 pub use slips::slip_at;
+pub use text::explanation_text;
 pub use unexpected::unexpected_at;
 pub use unseen::{unseen_at, unseen_name};
 pub use words::{faults, input_refusals, partition_refusals, refusals};

@@ -11,11 +11,7 @@ mod outcome;
 /// A file of rows.
 mod row;
 /// Lines of a file of rows, as the text that they stand for.
-#[cfg(test)]
-mod ranges;
 mod text;
-#[cfg(test)]
-mod writers;
 
 use std::io;
 use std::process::ExitCode;

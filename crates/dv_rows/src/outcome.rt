@@ -1,6 +1,7 @@
 //! What comes of a text by a command.
 
 use dv_cause::{Source, explained};
+use dv_explain::{explanation_of, explanation_text};
 use dv_job::{
     JobError, Options, check_bytes, list_code, plan_bytes, run_by_workers, run_bytes, status,
 };
@@ -43,6 +44,7 @@ pub fn outcome_of<R: AllocGlobal + Threads + Wait + Sync>(
         Some("code") => listed(alloc, command, texts),
         Some("plan") => planned(alloc, command, texts),
         Some("run") => ran(rt, command, texts),
+        Some("explain") => text_of_code(alloc, command),
         Some(_) | None => String::from_str(alloc, "no command"),
     }
 }
@@ -156,7 +158,7 @@ fn partition_of<'a>(command: &str, partition: &'a [u8]) -> Partition<'a> {
         return Partition::Json(partition);
     }
     let count = number_behind(command, "--processes").unwrap_or(1);
-    Partition::Count(count.min(u64::from(u32::MAX)) as u32)
+    Partition::Count(in_32_bits(count))
 }
 
 fn ran<R: AllocGlobal + Threads + Wait + Sync>(
@@ -198,16 +200,33 @@ fn ran<R: AllocGlobal + Threads + Wait + Sync>(
     told(alloc, &printed, ending.as_str())
 }
 
-/// The options that a command names.
+/// The options that a command names; none where one is out of its range, or where they do not stand beside each other.
 fn options_of(command: &str) -> Option<Options> {
     let horizon = number_behind(command, "--horizon").unwrap_or(0);
     let limit = number_behind(command, "--microsteps").unwrap_or(USUAL_LIMIT);
-    let limit = limit.min(1_000) as u32;
-    let workers = number_behind(command, "--workers").map(|workers| workers.min(65) as u32);
+    let limit = in_32_bits(limit);
+    let workers = number_behind(command, "--workers").map(in_32_bits);
     let rounds = number_behind(command, "--rounds");
     let capacity = number_behind(command, "--capacity").unwrap_or(LINK_CAPACITY);
-    let capacity = capacity.min(1_024) as u32;
+    let capacity = in_32_bits(capacity);
     Options::new(horizon, limit, workers, rounds, capacity)
+}
+
+/// A number where 32 bits are wanted. One that is greater is out of every range, as the greatest of 32 bits is.
+fn in_32_bits(number: u64) -> u32 {
+    number.min(u64::from(u32::MAX)) as u32
+}
+
+/// What is printed of the code behind `explain`.
+fn text_of_code(alloc: Global, command: &str) -> Result<String, AllocError> {
+    let code = command.strip_prefix("explain ").unwrap_or("");
+    match explanation_of(code) {
+        Some(explanation) => {
+            let text = explanation_text(alloc, explanation)?;
+            format!(in alloc; "{text}status 0")
+        }
+        None => String::from_str(alloc, "no code"),
+    }
 }
 
 /// What was printed, and then how it ended.

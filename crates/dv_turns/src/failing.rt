@@ -1,54 +1,90 @@
-//! Writes that fail: at each call in turn the run ends, and the bytes of the calls before it stand.
+//! Writes that fail: at each call in turn what prints ends, and the bytes of the calls before it stand.
 
-use crate::runs::{Model, run_by, run_in_rounds};
+use crate::runs::{Model, run_by, run_in_rounds, run_plainly};
 use crate::tell;
-use crate::writers::Reluctant;
-use dv_job::{JobEnded, JobError};
+use crate::writers::{Full, Reluctant};
+use dv_job::{JobEnded, JobError, list_code};
 use dv_run::Unwatched;
 use std::io;
+use std::io::Write;
 use std::sync::Wait;
 use std::thread::Threads;
 
-/// By so many workers, or in rounds where there are none.
-fn run_with<R: AllocGlobal + Threads + Wait + Sync>(
+/// What prints to a writer.
+#[derive(Clone, Copy)]
+pub enum Printer<'m> {
+    /// The listing of a model.
+    Listing(&'m [u8]),
+    /// The plain run of a model with inputs.
+    Plain { model: &'m [u8], inputs: &'m [u8] },
+    /// A run in rounds.
+    Rounds(&'m Model<'m>),
+    /// A run by so many workers.
+    Workers(&'m Model<'m>, u32),
+}
+
+/// Prints to a writer. Where all of a listing is printed, that is whole too.
+fn print<R: AllocGlobal + Threads + Wait + Sync, W: Write>(
     rt: &R,
-    model: &Model<'_>,
-    workers: u32,
-    writer: &mut Reluctant,
+    printer: Printer<'_>,
+    writer: &mut W,
 ) -> Result<JobEnded, JobError> {
-    if workers == 0 {
-        run_in_rounds(rt.alloc(), model, writer)
-    } else {
-        run_by(rt, model, workers, &Unwatched, writer)
+    match printer {
+        Printer::Listing(model) => {
+            list_code(rt.alloc(), model, writer)?;
+            Ok(JobEnded::Whole)
+        }
+        Printer::Plain { model, inputs } => run_plainly(rt.alloc(), model, inputs, writer),
+        Printer::Rounds(model) => run_in_rounds(rt.alloc(), model, writer),
+        Printer::Workers(model, workers) => run_by(rt, model, workers, &Unwatched, writer),
     }
 }
 
-/// Whether a run with a writer that fails at a call ends for that, and what was written before is the beginning of the trace.
+/// Whether a writer that never fails, and takes one byte a call, gets all that is wanted.
+fn goes_out<R: AllocGlobal + Threads + Wait + Sync>(
+    rt: &R,
+    printer: Printer<'_>,
+    wanted: &[u8],
+) -> bool {
+    let mut writer = Reluctant::new(rt.alloc(), 0);
+    let ended = print(rt, printer, &mut writer);
+    matches!(ended, Ok(JobEnded::Whole)) && writer.bytes.as_slice() == wanted
+}
+
+/// Whether a writer that takes nothing ends what prints.
+fn ends_at_once<R: AllocGlobal + Threads + Wait + Sync>(rt: &R, printer: Printer<'_>) -> bool {
+    let ended = print(rt, printer, &mut Full);
+    matches!(ended, Err(JobError::Write))
+}
+
+/// Whether a writer that fails at a call ends what prints: the call is the last one, and what was written before is the beginning
+/// of what is wanted.
 fn ends_at<R: AllocGlobal + Threads + Wait + Sync>(
     rt: &R,
-    model: &Model<'_>,
-    workers: u32,
+    printer: Printer<'_>,
+    wanted: &[u8],
     call: usize,
 ) -> bool {
     let mut writer = Reluctant::new(rt.alloc(), call);
-    let ended = run_with(rt, model, workers, &mut writer);
-    let beginning = model.trace.as_slice().get(..call.saturating_sub(1));
-    matches!(ended, Err(JobError::Write)) && Some(writer.bytes.as_slice()) == beginning
+    let ended = print(rt, printer, &mut writer);
+    let beginning = wanted.get(..call.saturating_sub(1));
+    matches!(ended, Err(JobError::Write))
+        && writer.calls == call
+        && Some(writer.bytes.as_slice()) == beginning
 }
 
-/// Whether that is so at each call, one for each byte of the trace, and a writer that never fails gets all of it.
-fn do_end<R: AllocGlobal + Threads + Wait + Sync>(rt: &R, model: &Model<'_>, workers: u32) -> bool {
-    let mut writer = Reluctant::new(rt.alloc(), 0);
-    let ended = run_with(rt, model, workers, &mut writer);
-    if !model.is_trace(&ended, &writer.bytes) {
-        return false;
-    }
-    for call in 1..=model.trace.len() {
-        if !ends_at(rt, model, workers, call) {
-            return false;
-        }
-    }
-    true
+/// Whether each failing write ends what prints, at one call for each byte that is wanted; that is told.
+pub fn does_end<R: AllocGlobal + Print + Threads + Wait + Sync>(
+    rt: &R,
+    printer: Printer<'_>,
+    wanted: &[u8],
+    fact: &str,
+) -> io::Result<bool> {
+    let does_end = goes_out(rt, printer, wanted)
+        && ends_at_once(rt, printer)
+        && (1..=wanted.len()).all(|call| ends_at(rt, printer, wanted, call));
+    tell(rt, does_end, fact)?;
+    Ok(does_end)
 }
 
 /// Whether that is so in rounds and by one, two and three workers; each is told.
@@ -56,17 +92,28 @@ pub fn do_all_end<R: AllocGlobal + Print + Threads + Wait + Sync>(
     rt: &R,
     model: &Model<'_>,
 ) -> io::Result<bool> {
-    let in_rounds = do_end(rt, model, 0);
-    tell(rt, in_rounds, "by rounds: each failing write ends the run")?;
-    let by_one = do_end(rt, model, 1);
-    tell(rt, by_one, "by 1 worker: each failing write ends the run")?;
-    let by_two = do_end(rt, model, 2);
-    tell(rt, by_two, "by 2 workers: each failing write ends the run")?;
-    let by_three = do_end(rt, model, 3);
-    tell(
-        rt,
-        by_three,
-        "by 3 workers: each failing write ends the run",
-    )?;
-    Ok(in_rounds && by_one && by_two && by_three)
+    let printers = [
+        (
+            Printer::Rounds(model),
+            "by rounds: each failing write ends the run",
+        ),
+        (
+            Printer::Workers(model, 1),
+            "by 1 worker: each failing write ends the run",
+        ),
+        (
+            Printer::Workers(model, 2),
+            "by 2 workers: each failing write ends the run",
+        ),
+        (
+            Printer::Workers(model, 3),
+            "by 3 workers: each failing write ends the run",
+        ),
+    ];
+    let mut do_all = true;
+    for (printer, fact) in printers {
+        let does = does_end(rt, printer, model.trace.as_slice(), fact)?;
+        do_all = do_all && does;
+    }
+    Ok(do_all)
 }

@@ -1,35 +1,43 @@
-//! Runs a model by workers whose turns are watched, and with writers that fail, and compares with the plain run.
+//! Runs a model by workers whose turns are watched, and compares with the plain run; runs and lists models with writers that fail;
+//! and looks how endings are told.
 //!
-//! The word names the model, which has three components.
+//! The words name files: a model of three components, which is run by workers; a model, its inputs and its trace to the tick 3; and
+//! a model and its listing.
 #![tactic(auto)]
 
 /// Workers that make their first turns at once.
 mod at_once;
+/// How endings are told.
+mod endings;
 /// Writes that fail.
 mod failing;
 /// A line that is written while the run goes on.
 mod first_line;
-/// The runs of the model.
+/// The runs of the models.
 mod runs;
 /// Runs that are stopped before a turn.
 mod stops;
 /// Writers.
 mod writers;
 
+use crate::failing::Printer;
 use crate::runs::Model;
-use std::io;
 use std::process::ExitCode;
 use std::rt::Files;
 use std::sync::Wait;
 use std::thread::Threads;
+use std::{fs, io};
 
 fn main(rt: HostRuntime) -> io::Result<ExitCode> {
     let words: Vec<String> = std::env::args(&rt)?.skip(1).collect(rt.alloc())?;
-    let mut do_all_hold = true;
-    for word in &words {
-        do_all_hold = do_all_hold && holds(&rt, word.as_str())?;
-    }
-    Ok(if do_all_hold {
+    let [turned, run, inputs, trace, listed, listing] = words.as_slice() else {
+        return Ok(ExitCode::FAILURE);
+    };
+    let does_turn = holds(&rt, turned.as_str())?;
+    let does_run = does_run(&rt, run.as_str(), inputs.as_str(), trace.as_str())?;
+    let does_list = does_list(&rt, listed.as_str(), listing.as_str())?;
+    let are_told = endings::are_told(&rt)?;
+    Ok(if does_turn && does_run && does_list && are_told {
         ExitCode::SUCCESS
     } else {
         ExitCode::FAILURE
@@ -41,7 +49,7 @@ fn holds<R: AllocGlobal + Files + Print + Threads + Wait + Sync>(
     rt: &R,
     name: &str,
 ) -> io::Result<bool> {
-    let text = std::fs::read(rt, name)?;
+    let text = fs::read(rt, name)?;
     let Some(model) = Model::of(rt.alloc(), &text) else {
         println!(rt; "{name}: is not run")?;
         return Ok(false);
@@ -66,6 +74,44 @@ fn holds<R: AllocGlobal + Files + Print + Threads + Wait + Sync>(
     )?;
     let do_fail = failing::do_all_end(rt, &model)?;
     Ok(is_early && are_beside && do_stop && do_fail)
+}
+
+/// Tells whether the plain run of a model with inputs prints its trace, and each failing write ends it.
+fn does_run<R: AllocGlobal + Files + Print + Threads + Wait + Sync>(
+    rt: &R,
+    model: &str,
+    inputs: &str,
+    trace: &str,
+) -> io::Result<bool> {
+    let model = fs::read(rt, model)?;
+    let inputs = fs::read(rt, inputs)?;
+    let trace = fs::read(rt, trace)?;
+    let printer = Printer::Plain {
+        model: &model,
+        inputs: &inputs,
+    };
+    failing::does_end(
+        rt,
+        printer,
+        &trace,
+        "by the plain run: each failing write ends the run",
+    )
+}
+
+/// Tells whether the listing of a model is printed, and each failing write ends it.
+fn does_list<R: AllocGlobal + Files + Print + Threads + Wait + Sync>(
+    rt: &R,
+    model: &str,
+    listing: &str,
+) -> io::Result<bool> {
+    let model = fs::read(rt, model)?;
+    let listing = fs::read(rt, listing)?;
+    failing::does_end(
+        rt,
+        Printer::Listing(&model),
+        &listing,
+        "each failing write ends the listing",
+    )
 }
 
 /// Tells a fact, or that it does not hold.

@@ -1,4 +1,4 @@
-//! The runs of the model.
+//! The runs of the models.
 
 use dv_job::{JobEnded, JobError, Options, run_bytes, run_plain, run_watched};
 use dv_partition::Partition;
@@ -8,8 +8,11 @@ use std::io::Write;
 use std::sync::Wait;
 use std::thread::Threads;
 
-/// The last tick.
+/// The last tick of the run that has a trace from the plain run.
 const HORIZON: u64 = 10;
+
+/// The last tick of the run that has a trace of its own.
+const PLAIN_HORIZON: u64 = 3;
 
 /// So many processes a run has.
 pub const PROCESSES: u32 = 3;
@@ -24,7 +27,7 @@ pub struct Model<'t> {
 impl<'t> Model<'t> {
     /// A model with its trace; `None` where the plain run does not end whole.
     pub fn of(alloc: Global, text: &'t [u8]) -> Option<Self> {
-        let options = options()?;
+        let options = options_to(HORIZON)?;
         let mut trace = Vec::new(alloc);
         match run_plain(alloc, text, b"", &options, &mut trace) {
             Ok(JobEnded::Whole) => Some(Model { text, trace }),
@@ -38,8 +41,8 @@ impl<'t> Model<'t> {
     }
 }
 
-fn options() -> Option<Options> {
-    Options::new(HORIZON, 20, None, None, 16)
+fn options_to(horizon: u64) -> Option<Options> {
+    Options::new(horizon, 20, None, None, 16)
 }
 
 /// Runs the model in three processes by so many workers, whose turns are watched.
@@ -50,7 +53,7 @@ pub fn run_by<R: AllocGlobal + Threads + Wait + Sync, G: Watch, W: Write>(
     watch: &G,
     writer: &mut W,
 ) -> Result<JobEnded, JobError> {
-    let Some(options) = options() else {
+    let Some(options) = options_to(HORIZON) else {
         return Err(JobError::Memory);
     };
     if workers == 0 {
@@ -75,7 +78,7 @@ pub fn run_in_rounds<W: Write>(
     model: &Model<'_>,
     writer: &mut W,
 ) -> Result<JobEnded, JobError> {
-    let Some(options) = options() else {
+    let Some(options) = options_to(HORIZON) else {
         return Err(JobError::Memory);
     };
     run_bytes(
@@ -86,4 +89,17 @@ pub fn run_in_rounds<W: Write>(
         &options,
         writer,
     )
+}
+
+/// The plain run of a model with inputs.
+pub fn run_plainly<W: Write>(
+    alloc: Global,
+    model: &[u8],
+    inputs: &[u8],
+    writer: &mut W,
+) -> Result<JobEnded, JobError> {
+    let Some(options) = options_to(PLAIN_HORIZON) else {
+        return Err(JobError::Memory);
+    };
+    run_plain(alloc, model, inputs, &options, writer)
 }

@@ -30,7 +30,7 @@ impl<'f> Write for Telling<'f> {
 #[derive(Drop)]
 pub struct Reluctant {
     pub bytes: Vec<u8>,
-    calls: usize,
+    pub calls: usize,
     fails_at: usize,
 }
 
@@ -58,6 +58,20 @@ impl Write for Reluctant {
             }
             [] => Ok(0),
         }
+    }
+
+    fn flush(&mut self) -> io::Result<()> {
+        Ok(())
+    }
+}
+
+/// A writer that takes nothing.
+#[derive(Drop)]
+pub struct Full;
+
+impl Write for Full {
+    fn write(&mut self, _buf: &[u8]) -> io::Result<usize> {
+        Ok(0)
     }
 
     fn flush(&mut self) -> io::Result<()> {

@@ -1,6 +1,7 @@
-//! Each public call once, against values that were worked out by hand.
+//! Agendas and inboxes: what a process waits for, and what came.
 
-use crate::{Agenda, Arrival, Coming, Inbox};
+use crate::compare::same;
+use dv_agenda::{Agenda, Arrival, Coming, Inbox};
 use dv_time::Time;
 use std::alloc::AllocError;
 use std::test::Fail;
@@ -24,50 +25,48 @@ fn coming(tick: u64, value: i64) -> Coming {
 #[test]
 fn an_agenda_knows_who_is_first(rt: HostRuntime) -> Result<(), Fail> {
     let mut agenda = Agenda::new(rt.alloc(), 5)?;
-    assert_eq!(rt; agenda.first(), None);
-    assert_eq!(rt; agenda.places(), 5);
+    same!(rt; agenda.first(), None);
+    same!(rt; agenda.places(), 5);
     agenda.set(4, Some(at(3, 1)));
     agenda.set(1, Some(at(3, 0)));
     agenda.set(0, Some(at(3, 1)));
-    assert_eq!(rt; agenda.first(), Some(at(3, 0)));
+    same!(rt; agenda.first(), Some(at(3, 0)));
     agenda.set(1, None);
-    assert_eq!(rt; agenda.first(), Some(at(3, 1)));
+    same!(rt; agenda.first(), Some(at(3, 1)));
     let mut due = Vec::new(rt.alloc());
     agenda.due(at(3, 1), &mut due)?;
-    assert_eq!(rt; due.as_slice(), [0u32, 4].as_slice());
-    assert_eq!(rt; agenda.wait_of(4), Some(at(3, 1)));
-    assert_eq!(rt; agenda.wait_of(3), None);
+    same!(rt; due.as_slice(), [0u32, 4].as_slice());
+    same!(rt; agenda.wait_of(4), Some(at(3, 1)));
+    same!(rt; agenda.wait_of(3), None);
     Ok(())
 }
 
 #[test]
 fn an_agenda_of_one_place_or_none(rt: HostRuntime) -> Result<(), Fail> {
     let none = Agenda::new(rt.alloc(), 0)?;
-    assert_eq!(rt; none.first(), None);
+    same!(rt; none.first(), None);
     let mut one = Agenda::new(rt.alloc(), 1)?;
     one.set(0, Some(at(7, 0)));
-    assert_eq!(rt; one.first(), Some(at(7, 0)));
+    same!(rt; one.first(), Some(at(7, 0)));
     let mut due = Vec::new(rt.alloc());
     one.due(at(7, 0), &mut due)?;
-    assert_eq!(rt; due.as_slice(), [0u32].as_slice());
+    same!(rt; due.as_slice(), [0u32].as_slice());
     Ok(())
 }
 
 #[test]
 fn an_inbox_keeps_what_comes_by_time(rt: HostRuntime) -> Result<(), Fail> {
     let mut inbox = Inbox::new(rt.alloc());
-    assert_eq!(rt; inbox.first(), None);
+    same!(rt; inbox.first(), None);
     inbox.add_all(&[coming(5, 50), coming(9, 90)])?;
     inbox.add_all(&[coming(4, 40), coming(5, 51)])?;
-    assert_eq!(rt; inbox.first(), Some(at(4, 0)));
+    same!(rt; inbox.first(), Some(at(4, 0)));
     inbox.remove(at(4, 0));
-    assert_eq!(rt; inbox.first(), Some(at(5, 0)));
-    assert_eq!(rt; inbox.at(at(5, 0)).len(), 2);
-    assert_eq!(rt;
-        inbox.at(at(5, 0)).get(1).map(|arrival| arrival.value),
-        Some(51)
-    );
-    assert_eq!(rt; inbox.at(at(6, 0)).len(), 0);
+    same!(rt; inbox.first(), Some(at(5, 0)));
+    same!(rt; inbox.at(at(5, 0)).len(), 2);
+    let second = inbox.at(at(5, 0)).get(1).map(|arrival| arrival.value);
+    same!(rt; second, Some(51));
+    same!(rt; inbox.at(at(6, 0)).len(), 0);
     Ok(())
 }
 
@@ -83,12 +82,12 @@ fn a_packet_that_finds_no_memory_changes_nothing(rt: HostRuntime) -> Result<(), 
         coming(6, 60),
     ]);
     if outcome.is_err() {
-        assert_eq!(rt; inbox.first(), Some(at(5, 0)));
-        assert_eq!(rt; inbox.at(at(4, 0)).len(), 0);
-        assert_eq!(rt; inbox.at(at(5, 0)).len(), 1);
-        assert_eq!(rt; inbox.at(at(6, 0)).len(), 0);
+        same!(rt; inbox.first(), Some(at(5, 0)));
+        same!(rt; inbox.at(at(4, 0)).len(), 0);
+        same!(rt; inbox.at(at(5, 0)).len(), 1);
+        same!(rt; inbox.at(at(6, 0)).len(), 0);
     } else {
-        assert_eq!(rt; inbox.at(at(5, 0)).len(), 2);
+        same!(rt; inbox.at(at(5, 0)).len(), 2);
     }
     Ok(())
 }
