@@ -4,6 +4,7 @@ ghost use Rattle.std.specs.Prelude.{IfErr, IfOk, map, string_bytes};
 ghost use Rattle.dv_command.specs.Asked.{AnswersNothing, Asks};
 
 use crate::asked::{MOST_WORKERS, VERSION, asked};
+use crate::help::{Form, SubcommandHelp, WordHelp, subcommands};
 use crate::number::number_in;
 use crate::request::{Request, RequestError, Usage};
 use clap::error::ErrorKind;
@@ -46,188 +47,41 @@ pub fn request_of(alloc: Global, words: &[String]) -> Result<Request, RequestErr
 
 /// The command line, as its help shows it.
 fn command<'a>(alloc: Global) -> Result<Command<'a>, AllocError> {
-    let program = Command::new(alloc, "pdevs")
+    let mut program = Command::new(alloc, "pdevs")
         .bin_name("pdevs")?
         .version(VERSION)
         .about("Checks and runs Parallel DEVS models")
         .after_help(AFTER_HELP)
         .subcommand_required(true);
-    let checks = with_subcommand(program, check_command(alloc))?;
-    let runs = with_subcommand(checks, run_command(alloc))?;
-    let plans = with_subcommand(runs, plan_command(alloc))?;
-    let graphs = with_subcommand(plans, graph_command(alloc))?;
-    let lists = with_subcommand(graphs, code_command(alloc))?;
-    let dumps = with_subcommand(lists, vcd_command(alloc))?;
-    let counts = with_subcommand(dumps, stats_command(alloc))?;
-    with_subcommand(counts, explain_command(alloc))
+    for help in subcommands() {
+        let one = subcommand(alloc, help)?;
+        program = program.subcommand(one)?;
+    }
+    Ok(program)
 }
 
-/// With one more subcommand, where there was memory for it.
-fn with_subcommand<'a>(
-    program: Command<'a>,
-    subcommand: Result<Command<'a>, AllocError>,
-) -> Result<Command<'a>, AllocError> {
-    program.subcommand(subcommand?)
+/// A subcommand, as its help shows it.
+fn subcommand<'a>(alloc: Global, help: &SubcommandHelp) -> Result<Command<'a>, AllocError> {
+    let mut command = Command::new(alloc, help.name).about(help.about);
+    for word in help.words {
+        command = command.arg(argument(alloc, word))?;
+    }
+    Ok(command)
 }
 
-fn model_argument<'a>(alloc: Global) -> Arg<'a> {
-    Arg::new(alloc, "model")
-        .value_name("MODEL")
-        .required(true)
-        .help("the file of the model")
-}
-
-fn explain_argument<'a>(alloc: Global) -> Arg<'a> {
-    Arg::new(alloc, "explain")
-        .long("explain")
-        .action(ArgAction::SetTrue)
-        .help("shows the line of a refusal, and what it means")
-}
-
-fn check_command<'a>(alloc: Global) -> Result<Command<'a>, AllocError> {
-    Command::new(alloc, "check")
-        .about("Checks a model and prints the number of its components")
-        .arg(model_argument(alloc))?
-        .arg(explain_argument(alloc))
-}
-
-fn code_command<'a>(alloc: Global) -> Result<Command<'a>, AllocError> {
-    Command::new(alloc, "code")
-        .about("Prints the programs of a model, instruction by instruction")
-        .arg(model_argument(alloc))?
-        .arg(explain_argument(alloc))
-}
-
-fn explain_command<'a>(alloc: Global) -> Result<Command<'a>, AllocError> {
-    let code = Arg::new(alloc, "code")
-        .value_name("CODE")
-        .required(true)
-        .help("the number of a refusal, as E7, I2 or Q3, or the name of a fault, as overflow");
-    Command::new(alloc, "explain")
-        .about("Prints what a refusal or a fault means")
-        .arg(code)
-}
-
-fn horizon_argument<'a>(alloc: Global) -> Arg<'a> {
-    Arg::new(alloc, "horizon")
-        .long("horizon")
-        .value_name("H")
-        .required(true)
-        .action(ArgAction::Set)
-        .help("the last tick of the run, 0 to 10^12")
-}
-
-fn microsteps_argument<'a>(alloc: Global) -> Arg<'a> {
-    Arg::new(alloc, "microsteps")
-        .long("microsteps")
-        .value_name("L")
-        .action(ArgAction::Set)
-        .help("the greatest microstep of a tick, 1 to 1000 (20)")
-}
-
-fn inputs_argument<'a>(alloc: Global) -> Arg<'a> {
-    Arg::new(alloc, "inputs")
-        .long("inputs")
-        .value_name("F")
-        .action(ArgAction::Set)
-        .help("the file of the inputs, with a line TICK PORT VALUE for each")
-}
-
-fn partition_argument<'a>(alloc: Global) -> Arg<'a> {
-    Arg::new(alloc, "partition")
-        .long("partition")
-        .value_name("F")
-        .action(ArgAction::Set)
-        .help("the file that says which components each process has")
-}
-
-fn processes_argument<'a>(alloc: Global) -> Arg<'a> {
-    Arg::new(alloc, "processes")
-        .long("processes")
-        .value_name("N")
-        .action(ArgAction::Set)
-        .help("the number of processes, 1 to 64, and no more than the components (1)")
-}
-
-fn rounds_argument<'a>(alloc: Global) -> Arg<'a> {
-    Arg::new(alloc, "rounds")
-        .long("rounds")
-        .value_name("N")
-        .action(ArgAction::Set)
-        .help("the most rounds of turns and packets (as many as it takes)")
-}
-
-fn workers_argument<'a>(alloc: Global) -> Arg<'a> {
-    Arg::new(alloc, "workers")
-        .long("workers")
-        .value_name("N")
-        .action(ArgAction::Set)
-        .help(
-            "the threads that run the processes, 1 to 64; not with --rounds (none but the program's own)",
-        )
-}
-
-fn trace_argument<'a>(alloc: Global) -> Arg<'a> {
-    Arg::new(alloc, "trace")
-        .value_name("TRACE")
-        .required(true)
-        .help("the file of the trace, as run printed it")
-}
-
-fn csv_argument<'a>(alloc: Global) -> Arg<'a> {
-    Arg::new(alloc, "csv")
-        .long("csv")
-        .action(ArgAction::SetTrue)
-        .help("prints comma-separated values")
-}
-
-fn plan_command<'a>(alloc: Global) -> Result<Command<'a>, AllocError> {
-    Command::new(alloc, "plan")
-        .about("Prints the processes of a model and the links between them")
-        .arg(model_argument(alloc))?
-        .arg(partition_argument(alloc))?
-        .arg(processes_argument(alloc))?
-        .arg(explain_argument(alloc))
-}
-
-fn graph_command<'a>(alloc: Global) -> Result<Command<'a>, AllocError> {
-    Command::new(alloc, "graph")
-        .about("Prints a model as a graph in the DOT language")
-        .arg(model_argument(alloc))?
-        .arg(partition_argument(alloc))?
-        .arg(processes_argument(alloc))?
-        .arg(explain_argument(alloc))
-}
-
-fn vcd_command<'a>(alloc: Global) -> Result<Command<'a>, AllocError> {
-    Command::new(alloc, "vcd")
-        .about("Prints a trace as a value change dump, for wave viewers")
-        .arg(model_argument(alloc))?
-        .arg(trace_argument(alloc))?
-        .arg(explain_argument(alloc))
-}
-
-fn stats_command<'a>(alloc: Global) -> Result<Command<'a>, AllocError> {
-    Command::new(alloc, "stats")
-        .about("Prints what a trace says of each component, in numbers")
-        .arg(model_argument(alloc))?
-        .arg(trace_argument(alloc))?
-        .arg(csv_argument(alloc))?
-        .arg(explain_argument(alloc))
-}
-
-fn run_command<'a>(alloc: Global) -> Result<Command<'a>, AllocError> {
-    Command::new(alloc, "run")
-        .about("Runs a model and prints its trace")
-        .arg(model_argument(alloc))?
-        .arg(horizon_argument(alloc))?
-        .arg(partition_argument(alloc))?
-        .arg(processes_argument(alloc))?
-        .arg(inputs_argument(alloc))?
-        .arg(microsteps_argument(alloc))?
-        .arg(rounds_argument(alloc))?
-        .arg(workers_argument(alloc))?
-        .arg(explain_argument(alloc))
+/// A word of a subcommand, for `clap`.
+fn argument<'a>(alloc: Global, word: &WordHelp) -> Arg<'a> {
+    let argument = Arg::new(alloc, word.name)
+        .required(word.is_required)
+        .help(word.help);
+    match word.form {
+        Form::Plain(value) => argument.value_name(value),
+        Form::Option(value) => argument
+            .long(word.name)
+            .value_name(value)
+            .action(ArgAction::Set),
+        Form::Flag => argument.long(word.name).action(ArgAction::SetTrue),
+    }
 }
 
 /// Why words ask for nothing though `clap` takes them for a command line: the reasons that `clap` does not give.

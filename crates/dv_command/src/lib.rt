@@ -7,6 +7,8 @@ mod asked;
 mod command_line;
 /// What parts say for an option.
 mod given;
+/// What the help says of subcommands and words.
+mod help;
 /// Numbers as words write them.
 mod number;
 /// What words say, one after the other.

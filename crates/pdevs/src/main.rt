@@ -3,14 +3,13 @@
 #![tactic(auto)]
 
 mod noted;
-mod report;
-#[cfg(test)]
-mod tests;
+mod origin;
 
 use dv_cause::{Source, explained};
 use dv_command::{
     ModelFile, PartitionChoice, Plan, Request, RequestError, Run, Stats, TraceFiles, request_of,
 };
+use dv_explain::explanation_text;
 use dv_job::{
     JobEnded, JobError, Options, check_bytes, list_code, plan_bytes, run_by_workers, run_bytes,
     status,
@@ -18,7 +17,7 @@ use dv_job::{
 use dv_partition::Partition;
 use dv_views::{Form, ViewError, graph_bytes, stats_bytes, vcd_bytes};
 use noted::Noted;
-use report::explanation_text;
+use origin::origin;
 use std::alloc::AllocError;
 use std::fmt::Display;
 use std::io::{ErrorKind, Write};
@@ -106,7 +105,7 @@ fn do_request<R: AllocGlobal + Files + Print + Eprint + Threads + Wait + Sync>(
             Ok(ACCEPTED)
         }
         Request::Version(text) => {
-            print!(rt; "{text}")?;
+            println!(rt; "{text}{}", origin(rt)?)?;
             Ok(ACCEPTED)
         }
     }
