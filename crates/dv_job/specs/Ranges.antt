@@ -4,12 +4,12 @@ use Rattle.std.specs.Option.{ForSome}
 use Rattle.dv_time.specs.Limits.{greatest_tick, greatest_limit}
 use Rattle.dv_job.specs.Limits.{most_workers, greatest_capacity}
 
--- ---- The threads that are to run processes; no run reads workers, rounds or capacity yet
+-- ---- The threads that are to run processes
 
 abbrev pub AreWorkers : Option ℕ → Type 0
 AreWorkers workers = ForSome workers (λ n. (1 ≤ n) × (n ≤ most_workers))
 
--- rounds are to be for a run without workers
+-- rounds are for a run without workers
 abbrev pub NotBoth : Option ℕ → Option ℕ → Type 0
 NotBoth workers rounds = IsSome workers → ¬ IsSome rounds
 

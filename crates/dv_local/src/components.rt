@@ -1,4 +1,4 @@
-//! The components of a process, each access to which is counted.
+//! The components of a process, with a count of visits: the code adds to it where it looks at one, and no type forces it to.
 
 ghost use Rattle.std.specs.Prelude.{◌≡◌, ◌<◌, ◌≤◌, ◌+◌, ◌-◌, ◌^◌, length, min, slice_index_or, slice_set};
 ghost use Rattle.dv_react.specs.declared.running.Running.{Running as RunningOfCode};
@@ -6,7 +6,7 @@ ghost use Rattle.dv_react.specs.declared.running.Running.{Running as RunningOfCo
 use dv_react::Running;
 use std::mem;
 
-/// The components by place, and how often one was looked at or changed.
+/// The components by place, and how many visits of them were counted.
 #[derive(Drop)]
 pub struct Components {
     pub running: Vec<Running>,

@@ -6,7 +6,7 @@
 pub mod beginning;
 mod commit;
 
-/// The components, each access to which is counted.
+/// The components, with a count of visits.
 pub mod components;
 mod events;
 

@@ -1,4 +1,4 @@
--- How often a process looks at its components: once when a component emits, and once when it is committed.
+-- Visits of components, as the code counts them where it looks at one: as it emits, and as it is committed. No type forces it to.
 use Rattle.std.specs.Prelude.{◌≡◌, ℕ, ◌+◌, ◌-◌, ◌*◌, ◌^◌, ◌<◌, ◌≤◌, not, if◌then◌else◌, nat_lt, List, length, count_by}
 use Rattle.dv_bag.specs.Bag.{Counts}
 use Rattle.dv_devs.specs.Behaviour.{all_empty, is_imminent}
@@ -16,8 +16,8 @@ abbrev pub receiving_at : View → ℕ → ℕ
 receiving_at v n =
     count_by (λ (bags : List Counts). not (all_empty bags)) ((network v.share.flat).arrives (sent_at v n) (input_at v n))
 
--- How often components are looked at in the instant at a rank, at most: those that are imminent as they emit, and they and
--- those that receive a value as they are committed.
+-- How many visits the instant at a rank counts, at most: of those that are imminent as they emit, and of them and those that
+-- receive a value as they are committed.
 abbrev pub accesses_at : View → ℕ → ℕ
 accesses_at v n = 2 * imminent_at v n + receiving_at v n
 

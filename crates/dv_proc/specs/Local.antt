@@ -1,5 +1,5 @@
--- What a local run stands at: the components of a share, what was committed, what came and is not committed, and how often
--- components were looked at.
+-- What a local run stands at: the components of a share, what was committed, what came and is not committed, and how many
+-- visits of components were counted.
 use Rattle.std.specs.Prelude.{◌≡◌, ℕ, ◌<◌, ◌≤◌, Bool, true, false, not, List, ◌++◌, Option, Some, None}
 use Rattle.dv_time.specs.Time.{IsOfRun, rank}
 use Rattle.dv_time.specs.declared.time.Time.{Time}
@@ -15,7 +15,7 @@ use Rattle.dv_conservative.specs.Process.{Share, all_events, components_by, is_p
 use Rattle.std.specs.List.{list_all}
 
 -- the share, its components, what they committed, at each rank what came for them and is not committed, in any order, and how
--- often a component was looked at
+-- many visits of them were counted
 pub record View : Type 0 where
   pub share : Share
   pub components : List Component

@@ -50,8 +50,8 @@ pub record IsAccepted (s : Share) (incoming : List Incoming) (p : Packet) (place
   pub of_run : IsOfRun s.limit p.upto
   pub ports : are_for_ports s p.events ≡ true
 
--- A local run as it begins: the components start, nothing is committed or held, no component is imminent at 0.0, and none was
--- looked at.
+-- A local run as it begins: the components start, nothing is committed or held, no component is imminent at 0.0, and no visit
+-- was counted.
 pub record IsBegun (v : View) : Type 0 where
   pub components : v.components ≡ (network v.share.flat).start
   pub committed : v.committed ≡ nothing

@@ -70,8 +70,8 @@ pub trait Local {
         requires { IsOfRun (view self.now).share.limit from }
         ensures { IsFirstInput (view self.now) (rank (view self.now).share.limit from) result };
 
-    /// The instant at a time. Each component that is due is looked at as it emits, unless what it emits was found, and each
-    /// to which something happens once more.
+    /// The instant at a time. A visit is counted of each component that is due, as it emits, unless what it emits was found,
+    /// and one more of each to which something happens.
     ///
     /// # Errors
     ///
@@ -87,7 +87,7 @@ pub trait Local {
             (rank (view self.old).share.limit now) (view self.old) (view self.new)) }
         ensures settled { settled self.new ≡ settled self.old };
 
-    /// Finds what they send at a time, from their states alone. Each that is due is looked at once at most.
+    /// Finds what they send at a time, from their states alone. Of each that is due a visit is counted, once at most.
     ///
     /// # Errors
     ///
@@ -113,7 +113,7 @@ pub trait Local {
             → meant_events into.new.items ≡ meant_events into.old.items
             ++ map (event_of now) (carried_away (view self.now) out.links (sent self.now))) };
 
-    /// How often a component was looked at. The count stays at 2^64 - 1 once there.
+    /// How many visits of components the code has counted. The count stays at 2^64 - 1 once there.
     fn visits(&self) -> u64
         ensures { result ≡ (view self.now).visits };
 

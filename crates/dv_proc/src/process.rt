@@ -141,9 +141,9 @@ impl<L: Local> Process<L> {
         received_on(self.incoming.as_slice(), link)
     }
 
-    /// The number of components looked at so far, 0 in a new process; it stays at 2^64-1 once there, and the bounds hold of
-    /// each turn that leaves it below that. A refused turn takes back what it added. A turn raises it by at least the number
-    /// of entries that it commits, and by at most twice the number of imminent components, plus the number of components
+    /// How many visits of components the code has counted, 0 in a new process; it stays at 2^64-1 once there, and the bounds
+    /// hold of each turn that leaves it below that. A refused turn takes back what it added. A turn raises it by at least the
+    /// number of entries that it commits, and by at most twice the number of imminent components, plus the number of components
     /// that receive a value, counted over the instants that it emits or commits. A turn at which nothing is due leaves it as
     /// it was.
     pub fn visits(&self) -> u64

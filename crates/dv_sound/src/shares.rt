@@ -20,7 +20,7 @@ use dv_conservative::shares::processes_start_sound;
 use dv_devs::laws::runs::holds_end_later;
 
 /// A process of a text is sound: its components keep to the states that fit them and hold numbers, and numbers come from
-/// outside. Where its components start, nothing is committed, nothing came and none was looked at, it has begun, since no
+/// outside. Where its components start, nothing is committed, nothing came and no visit was counted, it has begun, since no
 /// hold of a start state ends at 0.0. No link that leads to a process has the number of another, and none that leads away.
 pub fn processes_of_texts_start_sound()
     ensures sound { (names : List (List ℕ)) (f : FileTree) (inputs : List Input)

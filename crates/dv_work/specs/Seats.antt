@@ -34,8 +34,8 @@ pub record IsFedTruly (job : Job) (p : ℕ) (x : ProcessState) : Type 0 where
 abbrev pub prepared : ProcessState → Out → List Packet
 prepared x o = given o ++ packets_in (x.position.standing o.number)
 
--- the packet that an end gets next is a null message that no full link has refused yet: it has no events, and tells only that none
--- come before its end
+-- the packet that an end gets next is a null message, and none is held: it has no events, and tells only that none come before its
+-- end
 pub record HasNull (x : ProcessState) (o : Out) : Type 0 where
   pub free : o.held ≡ None
   pub packet : Packet
@@ -50,7 +50,7 @@ pub record Gives (job : Job) (p : ℕ) (x : ProcessState) (o : Out) : Type 0 whe
   pub truth : AreTrue job o.number channel first_time (prepared x o)
   pub promised : x.position.promised o.number ≡ clock_after first_time (prepared x o)
 
--- all that a process prepared for an end was put, unless the end holds a packet that found its link full
+-- all that a process prepared for an end was put, unless the end holds a packet
 abbrev pub HasTold : ProcessState → Out → Type 0
 HasTold x o = o.held ≡ None → x.position.standing o.number ≡ None
 

@@ -9,11 +9,11 @@
 //! ring has raised the count or will: the count is read and changed under the bell's lock alone, and the wait begins under it.
 //!
 //! If all workers waited with work left, every queue that a visit found empty is empty still, and every one that it found full is
-//! full still. A full queue's receiver takes from it at each visit, so none is full. A worker waits only where all that its
-//! processes prepared, null messages too, was put or found its queue full: so much is proved. So all that was prepared was put, and
-//! all that was put was taken. Of the processes that are not at the end, take one with the least clock. Its channel clocks are past
-//! it, since each sender's clock is not before it and a turn promises past the clock that it leaves; so its next turn moves it, and
-//! its worker does not wait.
+//! full still. A full queue's receiver takes from it at each visit, so none is full. A worker waits only where on each link that
+//! leads away all that was prepared, null messages too, was put, or a packet is held: so much is proved. A visit tries to put what
+//! is held, so it found its queue full. So all that was prepared was put, and all that was put was taken. Of the processes that
+//! are not at the end, take one with the least clock. Its channel clocks are past it, since each sender's clock is not before it
+//! and a turn promises past the clock that it leaves; so its next turn moves it, and its worker does not wait.
 //!
 //! The caller of a streamed run may stop it by a flag of its own, which rings no worker's bell. Each worker looks at it before each
 //! turn. Until the run is at its end not all wait, so one sees it, ends, and raises the workers' flag, at which the others wake.

@@ -173,7 +173,7 @@ impl<P: LogicalProcess> Seat<P> {
         end.held = Some(self.process.sent(end.number));
     }
 
-    /// Whether the packet that the link at a place gets next is a null message, and found no full link yet.
+    /// Whether the packet that the link at a place gets next is a null message that is not held.
     pub fn has_null(&self, place: usize) -> bool
         requires { place < length self.now.outs.items }
         ensures { (end : Out) → slice_get self.now.outs.items place ≡ Some end
@@ -190,7 +190,7 @@ impl<P: LogicalProcess> Seat<P> {
     }
 
     /// Puts the packet that stands on the link at a place, or that is held there, where the link has room. Tells whether it was
-    /// put. Where it was not, the process has told there all that it prepared, or the link is full.
+    /// put. Where it was not, all that the process prepared there was put, or a packet is held there.
     pub fn put<N: OfJob, R: Wait>(&mut self, rt: &R, floor: &Floor<'_, N>, place: usize) -> bool
         requires sits { Sits N.job P.state P.valid floor.now.links.now self.old }
         requires place { place < length self.old.outs.items }
@@ -208,7 +208,7 @@ impl<P: LogicalProcess> Seat<P> {
         true
     }
 
-    /// Whether a packet is held for a link that was full.
+    /// Whether a packet is held at a link that leads away.
     pub fn holds_packets(&self) -> bool
         ensures { result ≡ list_any holds_packet self.now.outs.items }
     {
