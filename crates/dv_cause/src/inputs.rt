@@ -82,6 +82,10 @@ fn flaw_in(alloc: Global, line: &[u8], number: InputRefusalNumber) -> Result<Fla
             place: place_of_field(&fields, 2),
             sentences: nothing,
         },
+        InputRefusalNumber::I5 => Flaw {
+            place: place_of_field(&fields, 0),
+            sentences: nothing,
+        },
     })
 }
 
@@ -110,7 +114,7 @@ fn is_blank(byte: u8) -> bool {
     matches!(byte, b' ' | b'\t')
 }
 
-/// What is wrong in a line that is no `TICK PORT VALUE`.
+/// What is wrong in a line that is no `TICK PORT VALUE` and no `TICK.MICRO PORT VALUE`.
 fn malformed(alloc: Global, line: &[u8], fields: &[Field<'_>]) -> Result<Flaw, AllocError> {
     if let Err(error) = str::from_utf8(line) {
         let sentence = "The line is not UTF-8: a byte belongs to no whole character.\n";
@@ -120,7 +124,7 @@ fn malformed(alloc: Global, line: &[u8], fields: &[Field<'_>]) -> Result<Flaw, A
         });
     }
     let mut flaw = if fields.len() == 3 {
-        wrong_tick(alloc, fields)?
+        wrong_time(alloc, fields)?
     } else {
         wrong_count(alloc, fields)?
     };
@@ -132,15 +136,15 @@ fn malformed(alloc: Global, line: &[u8], fields: &[Field<'_>]) -> Result<Flaw, A
     Ok(flaw)
 }
 
-fn wrong_tick(alloc: Global, fields: &[Field<'_>]) -> Result<Flaw, AllocError> {
-    let tick = match fields.first() {
+fn wrong_time(alloc: Global, fields: &[Field<'_>]) -> Result<Flaw, AllocError> {
+    let time = match fields.first() {
         Some(field) => str::from_utf8(field.bytes).unwrap_or(""),
         None => "",
     };
     Ok(Flaw {
         place: place_of_field(fields, 0),
         sentences: format!(in alloc;
-            "The tick `{tick}` is no number from 0 to 10^12 in decimal digits.\n"
+            "The time `{time}` is no `TICK` or `TICK.MICRO` in decimal digits, with a tick up to 10^15 and a microstep up to 1,000.\n"
         )?,
     })
 }

@@ -32,7 +32,7 @@ usual_limit = 20
 
 -- the most workers that a run may have
 abbrev pub most_workers : ℕ
-most_workers = 64
+most_workers = 256
 
 -- whether a flag stands, once at most; nothing where it stands more often
 abbrev pub flag_in : List ℕ → List Said → Option Bool

@@ -23,7 +23,7 @@ use std::alloc::{AllocError, Global};
 pub(crate) const VERSION: &str = "0.1.0";
 
 /// The most workers that a run may have.
-pub(crate) const MOST_WORKERS: u64 = 64;
+pub(crate) const MOST_WORKERS: u64 = 256;
 
 /// The only value by itself.
 fn only_value(alloc: Global, parts: &[Part<'_>]) -> Result<Option<String>, AllocError>

@@ -22,10 +22,11 @@ Exit status:
   3  a whole trace with a fault of a component
   4  a partial trace: the rounds were used up, or memory ran out
 
-A file of inputs has a line TICK PORT VALUE for each value that comes to an
-input port of the root; '#' begins a comment line. docs/TUTORIAL.md teaches the
-language of models, docs/REFERENCE.md has all of it with the inputs and the
-trace, and docs/ERRORS.md the refusals and faults, as 'pdevs explain CODE'.";
+A file of inputs has a line TICK PORT VALUE, or TICK.MICRO PORT VALUE, for each
+value that comes to an input port of the root; '#' begins a comment line.
+docs/TUTORIAL.md teaches the language of models, docs/REFERENCE.md has all of it
+with the inputs and the trace, and docs/ERRORS.md the refusals and faults, as
+'pdevs explain CODE'.";
 
 /// What the words ask for; the first word is the program's name. Help, and why words ask for nothing, is for `clap` to say.
 ///
@@ -93,13 +94,13 @@ fn reason(matches: &ArgMatches) -> &'static str {
     } else if is_out_of_range(matches, "processes", 0, u64::from(u32::MAX)) {
         "the number of processes is one from 0 to 4294967295"
     } else if is_out_of_range(matches, "horizon", 0, GREATEST_TICK) {
-        "the horizon is a number from 0 to 1000000000000"
+        "the horizon is a number from 0 to 1000000000000000"
     } else if is_out_of_range(matches, "microsteps", 1, u64::from(GREATEST_LIMIT)) {
         "the microstep limit is a number from 1 to 1000"
     } else if is_out_of_range(matches, "rounds", 0, u64::MAX) {
         "the number of rounds is one from 0 to 18446744073709551615"
     } else if is_out_of_range(matches, "workers", 1, MOST_WORKERS) {
-        "the number of workers is one from 1 to 64"
+        "the number of workers is one from 1 to 256"
     } else if has_rounds && has_workers {
         "rounds are not counted where there are workers"
     } else {

@@ -66,7 +66,7 @@ const HORIZON: WordHelp = WordHelp {
     name: "horizon",
     form: Form::Option("H"),
     is_required: true,
-    help: "the last tick of the run, 0 to 10^12",
+    help: "the last tick of the run, 0 to 10^15",
 };
 
 const MICROSTEPS: WordHelp = WordHelp {
@@ -80,7 +80,7 @@ const INPUTS: WordHelp = WordHelp {
     name: "inputs",
     form: Form::Option("F"),
     is_required: false,
-    help: "the file of the inputs, with a line TICK PORT VALUE for each",
+    help: "the file of the inputs, with a line TICK PORT VALUE or TICK.MICRO PORT VALUE for each",
 };
 
 const PARTITION: WordHelp = WordHelp {
@@ -94,7 +94,7 @@ const PROCESSES: WordHelp = WordHelp {
     name: "processes",
     form: Form::Option("N"),
     is_required: false,
-    help: "the number of processes, 1 to 64, and no more than the components (1)",
+    help: "the number of processes, 1 to 256, and no more than the components (1)",
 };
 
 const ROUNDS: WordHelp = WordHelp {
@@ -108,7 +108,7 @@ const WORKERS: WordHelp = WordHelp {
     name: "workers",
     form: Form::Option("N"),
     is_required: false,
-    help: "the threads that run the processes, 1 to 64; not with --rounds (none but the program's own)",
+    help: "the threads that run the processes, 1 to 256; not with --rounds (none but the program's own)",
 };
 
 /// The subcommands, in the order of the help.

@@ -88,7 +88,7 @@ pub struct Run {
     pub partition: Option<PartitionChoice>,
     /// The file of the inputs, where one was given.
     pub inputs: Option<String>,
-    /// The last tick of the run, 0 to 10^12.
+    /// The last tick of the run, 0 to 10^15.
     pub horizon: u64,
     /// The greatest microstep of a tick, 1 to 1,000; 20 where none was given.
     pub microsteps: u32,

@@ -2,6 +2,7 @@
 
 ghost use Rattle.std.specs.Prelude.{◌≡◌, ◌*◌, ◌<◌, ◌≤◌, ◌^◌, ◌++◌, length, map, IfOk, OnOk};
 ghost use Rattle.dv_conservative.specs.World.{Job, incoming_from, outgoing_from};
+ghost use Rattle.dv_partition.specs.Limits.{greatest_processes};
 ghost use Rattle.dv_cut.specs.Channels.{away_of};
 ghost use Rattle.dv_proc.specs.Channels.{meant_channel};
 ghost use Rattle.dv_cut.specs.Keys.{all_sent, sends, sent_by};
@@ -68,7 +69,7 @@ pub(crate) fn channels(
     processes: u32,
     pairs: &[Vec<Link>],
 ) -> Result<Vec<Channel>, AllocError>
-    requires few { processes ≤ 64 }
+    requires few { processes ≤ greatest_processes }
     requires long { length pairs.now ≡ processes * processes }
     ensures { IfOk result (λ found. map meant_channel found.items
         ≡ all_sent (sends processes (map (λ list. list.items) pairs.now)) processes 0 processes) }
@@ -87,7 +88,7 @@ fn add_channels(
     pairs: &[Vec<Link>],
     found: &mut Vec<Channel>,
 ) -> Result<(), AllocError>
-    requires few { processes ≤ 64 }
+    requires few { processes ≤ greatest_processes }
     requires there { source < processes }
     requires long { length pairs.now ≡ processes * processes }
     ensures { OnOk result (map meant_channel found.new.items
@@ -104,7 +105,7 @@ fn add_channels(
 
 // Does a process send to another one.
 fn sends_to(source: u32, target: u32, processes: u32, pairs: &[Vec<Link>]) -> bool
-    requires few { processes ≤ 64 }
+    requires few { processes ≤ greatest_processes }
     requires source { source < processes }
     requires target { target < processes }
     requires long { length pairs.now ≡ processes * processes }

@@ -23,7 +23,7 @@ pub fn listed(alloc: Global, model: &str) -> Result<String, AllocError> {
 
 /// What `plan` prints of a model in so many processes.
 pub fn planned(alloc: Global, model: &str, processes: u64) -> Result<String, AllocError> {
-    let groups = Partition::Count(processes.min(64) as u32);
+    let groups = Partition::Count(in_32_bits(processes));
     match plan_bytes(alloc, model.as_bytes(), groups) {
         Ok(plan) => format!(in alloc; "{plan}\n"),
         Err(error) => refused(alloc, &error),
@@ -43,7 +43,7 @@ pub fn in_processes(
     let Some(options) = Options::new(horizon, limit, None, rounds, 16) else {
         return String::from_str(alloc, "no options\n");
     };
-    let groups = Partition::Count(processes.min(64) as u32);
+    let groups = Partition::Count(in_32_bits(processes));
     let mut trace = Vec::new(alloc);
     match run_bytes(
         alloc,
@@ -80,6 +80,11 @@ pub fn printed(
         Ok(_) => String::from_str(alloc, str::from_utf8(&trace).unwrap_or("not text\n")),
         Err(error) => refused(alloc, &error),
     }
+}
+
+/// A number where 32 bits are wanted. One that is greater is out of every range, as the greatest of 32 bits is.
+fn in_32_bits(number: u64) -> u32 {
+    number.min(u64::from(u32::MAX)) as u32
 }
 
 /// The line of an error.

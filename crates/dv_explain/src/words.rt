@@ -217,7 +217,7 @@ const REFUSALS: &[Explanation] = &[
 const INPUT_REFUSALS: &[Explanation] = &[
     Explanation {
         code: "I1",
-        words: "The line of an input has not three fields, or its tick is no number from 0 to 10^12 in decimal digits, or it is not UTF-8. Write `TICK PORT VALUE`, with blanks or tabs between them; a comment begins with `#` at the start of its line.",
+        words: "The line of an input has not three fields, or its time is no `TICK` or `TICK.MICRO` in decimal digits, with a tick up to 10^15 and a microstep up to 1,000, or it is not UTF-8. Write `TICK PORT VALUE` or `TICK.MICRO PORT VALUE`, with blanks or tabs between them; a comment begins with `#` at the start of its line.",
         example: Some(Example {
             model: RELAY,
             inputs: "5 x\n",
@@ -239,7 +239,7 @@ const INPUT_REFUSALS: &[Explanation] = &[
     },
     Explanation {
         code: "I3",
-        words: "The tick is below that of the input before. Put the lines in the order of their ticks; inputs of one tick come together, in any order.",
+        words: "The time is before that of the input before. Put the lines in the order of their times, where a tick without a microstep is its start; inputs of one time come together, in any order.",
         example: Some(Example {
             model: RELAY,
             inputs: "5 x 1\n4 x 1\n",
@@ -257,6 +257,17 @@ const INPUT_REFUSALS: &[Explanation] = &[
             horizon: 9,
             limit: 20,
             answer: "I4 line 1",
+        }),
+    },
+    Explanation {
+        code: "I5",
+        words: "The microstep of the input is above the limit of the run. A time is no decimal fraction: `5.21` is microstep 21 of tick 5. Raise the limit by `--microsteps`, or take a lower microstep or a later tick.",
+        example: Some(Example {
+            model: RELAY,
+            inputs: "5.21 x 1\n",
+            horizon: 9,
+            limit: 20,
+            answer: "I5 line 1",
         }),
     },
 ];
@@ -280,7 +291,7 @@ const PARTITION_REFUSALS: &[Explanation] = &[
     },
     Explanation {
         code: "Q4",
-        words: "There is no process, there are more than 64, one of them has no component, or there are more processes than components. Ask for fewer processes, or give each one a component.",
+        words: "There is no process, there are more than 256, one of them has no component, or there are more processes than components. Ask for fewer processes, or give each one a component.",
         example: None,
     },
 ];

@@ -1,6 +1,6 @@
 -- How digits read as a number.
-use Rattle.std.proofs.Common.{◌≡◌, inl, inr, ℕ, ◌<◌, ◌≤◌, ◌^◌, true, false, List, [], ◌∷◌, length, nat_lt, Some, None, Result}
-use Rattle.std.proofs.Common.{Err, OkIff, IsAscii, IsUtf8, refl, ap, subst, arith, rules, lit<}
+use Rattle.std.proofs.Common.{◌≡◌, inl, inr, ℕ, ◌<◌, ◌≤◌, ◌^◌, Bool, true, false, ◌&&◌, cond, List, [], ◌∷◌, length, nat_lt, Some, None}
+use Rattle.std.proofs.Common.{Result, Err, OkIff, IsAscii, IsUtf8, refl, ap, subst, arith, rules, lit<}
 use Rattle.std.specs.Char.{is_ascii_digit}
 use Rattle.std.specs.List.{list_all}
 use Rattle.std.specs.Str.{is_utf8}
@@ -56,6 +56,18 @@ parsed bytes r h n =
 
 pub numeral_some : (bytes : List ℕ) → is_numeral bytes ≡ true → 0 < length bytes
 numeral_some bytes h = let t = (and_parts (nat_lt 0 (length bytes)) (list_all is_ascii_digit bytes) h).0 in grind (arith, nat_tests)
+
+-- a number that is found is one of digits, and below the bound
+pub number_found : (bound : ℕ) (bytes : List ℕ) (n : ℕ) → number_below bound bytes ≡ Some n → (is_numeral bytes ≡ true) × (n < bound)
+number_found bound bytes n e = step (is_numeral bytes && nat_lt (digits_value 10 bytes) bound) refl e
+  where
+    step : (t : Bool) → (is_numeral bytes && nat_lt (digits_value 10 bytes) bound) ≡ t → cond t (Some (digits_value 10 bytes)) None ≡ Some n
+        → (is_numeral bytes ≡ true) × (n < bound)
+    step true test e =
+        let parts = and_parts (is_numeral bytes) (nat_lt (digits_value 10 bytes) bound) test in
+        let same : digits_value 10 bytes ≡ n = cc in
+        (parts.0, subst (λ (k : ℕ). k < bound) same (ltb-true (digits_value 10 bytes) bound parts.1))
+    step false test e = cc
 
 module _ (bound : ℕ) (bytes : List ℕ) (h : is_numeral bytes ≡ true) where
   pub is_below : (n : ℕ) → n ≡ digits_value 10 bytes → n < bound → Some n ≡ number_below bound bytes

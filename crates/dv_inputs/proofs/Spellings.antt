@@ -1,6 +1,6 @@
 -- What lines, fields and numbers say that are written out.
 use Rattle.std.proofs.Common.{◌≡◌, ◌≢◌, ℕ, suc, ◌+◌, ◌<◌, ◌≤◌, ◌^◌, true, IsTrue, List, [], ◌∷◌, ◌++◌, length, get_or, filter}
-use Rattle.std.proofs.Common.{append-nil, nat_lt, ℤ, pos, negsuc, neg_ℤ, Some, refl, sym, ap, ◌∙◌, arith}
+use Rattle.std.proofs.Common.{append-nil, nat_lt, ℤ, pos, negsuc, neg_ℤ, Some, None, refl, sym, ap, ◌∙◌, arith}
 use Rattle.std.specs.Prelude.{option_map}
 use Rattle.std.specs.Char.{is_ascii_digit}
 use Rattle.std.specs.Fmt.{decimal, signed_decimal}
@@ -9,13 +9,13 @@ use Rattle.std.proofs.lemmas.Bool.{and_from, lt-ltb, ltb-true, ne_eqb}
 use Rattle.std.proofs.lemmas.Fmt.{decimal_nonempty, digits_decimal, digits_value-decimal}
 use Rattle.std.proofs.lemmas.List.Splits.{slice_split_at, slice_split_none}
 use Rattle.std.proofs.lemmas.Str.Parse.{not_in_digits}
-use Rattle.dv_time.specs.Limits.{greatest_tick}
+use Rattle.dv_time.specs.Limits.{greatest_limit, greatest_tick}
 use Rattle.dv_bag.specs.Bag.{is_number}
 use Rattle.dv_inputs.specs.Lines.{fields_of, is_blank, lines_of, without_return}
-use Rattle.dv_inputs.specs.Numbers.{is_numeral, number_below, tick_in, value_in}
+use Rattle.dv_inputs.specs.Numbers.{is_numeral, micro_in, number_below, tick_in, value_in}
 use Rattle.dv_inputs.specs.Spelled.{EndsField, HasNoFeed, IsBlank, IsField}
 use Rattle.dv_inputs.proofs.Cuts.{fields_behind, has_bytes}
-use Rattle.dv_inputs.proofs.Digits.{is_below, numerals}
+use Rattle.dv_inputs.proofs.Digits.{is_above, is_below, numerals}
 
 -- a line before a line feed, and a last one
 pub line_then : (line rest : List ℕ) → HasNoFeed line → lines_of (line ++ 10 ∷ rest) ≡ line ∷ lines_of rest
@@ -63,8 +63,15 @@ below_decimal : (bound n : ℕ) → n < 2 ^ 64 → n < bound → number_below bo
 below_decimal bound n small lt = sym (is_below bound (decimal n) (numeral_decimal n small) n
     (sym (digits_value-decimal numerals n small)) lt)
 
+pub above_decimal : (bound n : ℕ) → n < 2 ^ 64 → bound ≤ n → number_below bound (decimal n) ≡ None
+above_decimal bound n small le = sym (is_above bound (decimal n) (numeral_decimal n small) n
+    (sym (digits_value-decimal numerals n small)) le)
+
 pub tick_printed : (n : ℕ) → n ≤ greatest_tick → tick_in (decimal n) ≡ Some n
 tick_printed n le = below_decimal (greatest_tick + 1) n (omega arith) (omega arith)
+
+pub micro_printed : (n : ℕ) → n ≤ greatest_limit → micro_in (decimal n) ≡ Some n
+micro_printed n le = below_decimal (greatest_limit + 1) n (omega arith) (omega arith)
 
 no_minus : (bytes : List ℕ) → 0 < length bytes → get_or bytes 0 0 ≢ 45 → value_in bytes ≡ option_map pos (number_below (2 ^ 63) bytes)
 no_minus [] some h = absurd (omega arith)

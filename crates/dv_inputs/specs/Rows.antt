@@ -9,6 +9,10 @@ use Rattle.dv_inputs.specs.declared.error.InputRefusal.{InputRefusal}
 abbrev pub input : ℕ → ℕ → ℤ → Input
 input tick port value = record { time = start_of tick; port = port; value = value }
 
+-- an input at a time
+abbrev pub input_at : ℕ → ℕ → ℕ → ℤ → Input
+input_at tick micro port value = record { time = record { tick = tick; micro = micro }; port = port; value = value }
+
 -- a refusal on a line
 abbrev pub refusal : InputRefusalNumber → ℕ → InputRefusal
 refusal number line = record { number = number; line = line }

@@ -1,6 +1,10 @@
 -- What the laws speak of: the bytes of lines and of fields, and inputs written as a text.
-use Rattle.std.specs.Prelude.{◌≡◌, ◌≢◌, ℕ, ◌<◌, true, false, All, IsTrue, IsUtf8, List, [], ◌∷◌, ◌++◌, length, slice_index_or, Some}
+use Rattle.std.specs.Prelude.{◌≡◌, ◌≢◌, ℕ, ◌<◌, ◌≤◌, ◌==◌, true, false, if◌then◌else◌, All, IsTrue, IsUtf8, List, [], ◌∷◌, ◌++◌}
+use Rattle.std.specs.Prelude.{length, slice_index_or, Some}
 use Rattle.std.specs.Fmt.{decimal, signed_decimal}
+use Rattle.dv_time.specs.Limits.{greatest_limit}
+use Rattle.dv_time.specs.Time.{IsOfRun, time_text}
+use Rattle.dv_time.specs.declared.time.Time.{Time}
 use Rattle.dv_bag.specs.Bag.{is_number}
 use Rattle.dv_bag.specs.declared.inputs.Input.{Input}
 use Rattle.dv_inputs.specs.Lines.{is_blank}
@@ -33,17 +37,22 @@ pub record IsPortName (name : List ℕ) : Type 0 where
 abbrev pub name_of : List (List ℕ) → ℕ → List ℕ
 name_of ports port = slice_index_or ports port []
 
--- an input that a line can say: it is at the start of its tick, its port is found by its name, which can be a field, and its value
--- is a number
-pub record CanBeSaid (ports : List (List ℕ)) (i : Input) : Type 0 where
-  pub start : i.time.micro ≡ 0
+-- an input that a line can say to a run with this limit: its microstep is within the limit, and within the greatest that there is;
+-- its port is found by its name, which can be a field, and its value is a number
+pub record CanBeSaid (ports : List (List ℕ)) (limit : ℕ) (i : Input) : Type 0 where
+  pub within : IsOfRun limit i.time
+  pub few : i.time.micro ≤ greatest_limit
   pub port : port_in ports (name_of ports i.port) ≡ Some i.port
   pub name : IsPortName (name_of ports i.port)
   pub value : IsTrue (is_number i.value)
 
--- the line of an input: its tick, the name of its port, and its value
+-- a time as it stands in a line: `T` at the start of a tick, else `T.K`
+abbrev pub written_time : Time → List ℕ
+written_time t = if t.micro == 0 then decimal t.tick else time_text t
+
+-- the line of an input: its time, the name of its port, and its value
 abbrev pub line_of : List (List ℕ) → Input → List ℕ
-line_of ports i = decimal i.time.tick ++ (32 ∷ (name_of ports i.port ++ (32 ∷ signed_decimal i.value)))
+line_of ports i = written_time i.time ++ (32 ∷ (name_of ports i.port ++ (32 ∷ signed_decimal i.value)))
 
 -- the lines of inputs, each with its line feed
 abbrev pub text_of : List (List ℕ) → List Input → List ℕ

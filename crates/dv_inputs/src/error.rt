@@ -8,14 +8,17 @@ use std::fmt;
 /// The number of a refusal. Of those that a line has, the least is answered.
 #[derive(Clone, Copy, Debug, PartialEq, Eq)]
 pub enum InputRefusalNumber {
-    /// The line is not UTF-8, or has not three fields, or its tick is not decimal digits up to the greatest tick.
+    /// The line is not UTF-8, or has not three fields, or its time is not decimal digits up to the greatest tick, with a
+    /// dot and decimal digits up to the greatest microstep limit behind them or not.
     I1,
     /// The root has no input port of this name.
     I2,
-    /// The tick is below that of the input before.
+    /// The time is before that of the input before.
     I3,
     /// The value is not decimal digits, with `-` before them or not, from -2^63 to 2^63 - 1.
     I4,
+    /// The microstep is above the limit of the run.
+    I5,
 }
 
 impl fmt::Display for InputRefusalNumber {
@@ -30,6 +33,7 @@ impl fmt::Display for InputRefusalNumber {
             InputRefusalNumber::I2 => "I2",
             InputRefusalNumber::I3 => "I3",
             InputRefusalNumber::I4 => "I4",
+            InputRefusalNumber::I5 => "I5",
         })
     }
 }

@@ -1,7 +1,7 @@
-//! The text of inputs: a line an input, `TICK PORT VALUE`.
+//! The text of inputs: a line an input, `TICK PORT VALUE` or `TICK.MICRO PORT VALUE`.
 //!
-//! A text is read from its bytes in one pass. Its inputs come at the starts of ticks and keep their order, in which ticks
-//! never fall.
+//! A text is read from its bytes in one pass. Its inputs come at the times of their lines, a tick alone at its start, and
+//! keep their order, in which times never fall.
 #![tactic(auto)]
 
 /// Refusals of a text.

@@ -1,11 +1,12 @@
 //! The numbers of a line.
 
-ghost use Rattle.std.specs.Prelude.{◌≡◌, ◌+◌, ◌^◌, ◌≤◌, option_map, pos, neg_ℤ};
+ghost use Rattle.std.specs.Prelude.{◌≡◌, ◌+◌, ◌^◌, ◌≤◌, option_map, pos, neg_ℤ, position};
 ghost use Rattle.std.specs.Char.{is_ascii_digit};
 ghost use Rattle.std.specs.List.{list_all};
-ghost use Rattle.dv_inputs.specs.Numbers.{is_numeral, number_below, tick_in, value_in};
+ghost use Rattle.dv_inputs.specs.Numbers.{is_dot, is_numeral, micro_in, number_below, tick_in, time_in, value_in};
 
-use dv_time::GREATEST_TICK;
+use crate::lines::bytes_from;
+use dv_time::{GREATEST_LIMIT, GREATEST_TICK, Time};
 
 // Whether every byte is a decimal digit.
 fn all_digits(bytes: &[u8]) -> bool
@@ -53,11 +54,43 @@ fn positive(bytes: &[u8]) -> Option<i64>
     Some(number as i64)
 }
 
-/// The tick that a field says.
-pub(crate) fn tick_in(field: &[u8]) -> Option<u64>
-    ensures { result ≡ tick_in field.now }
+// The tick that decimal digits write.
+fn tick_in(digits: &[u8]) -> Option<u64>
+    ensures { result ≡ tick_in digits.now }
 {
-    number_below(GREATEST_TICK + 1, field)
+    number_below(GREATEST_TICK + 1, digits)
+}
+
+// The microstep that decimal digits write.
+fn micro_in(digits: &[u8]) -> Option<u32>
+    ensures { result ≡ micro_in digits.now }
+{
+    let micro = number_below(u64::from(GREATEST_LIMIT) + 1, digits)?;
+    Some(micro as u32)
+}
+
+// The place of the first dot, if there is one.
+fn dot_place(field: &[u8]) -> Option<usize>
+    ensures { result ≡ position is_dot field.now }
+{
+    field.iter().position(|byte| *byte == b'.')
+}
+
+/// The time that a field says.
+pub(crate) fn time_in(field: &[u8]) -> Option<Time>
+    ensures { result ≡ time_in field.now }
+{
+    match dot_place(field) {
+        None => {
+            let tick = tick_in(field)?;
+            Some(Time { tick, micro: 0 })
+        }
+        Some(dot) => {
+            let tick = tick_in(&field[..dot])?;
+            let micro = micro_in(bytes_from(field, dot + 1))?;
+            Some(Time { tick, micro })
+        }
+    }
 }
 
 /// The value that a field says.

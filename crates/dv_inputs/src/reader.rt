@@ -8,45 +8,53 @@ ghost use Rattle.dv_inputs.specs.Steps.{number_in};
 use crate::error::{InputRefusal, InputRefusalNumber, InputsError};
 use crate::fields::three_fields;
 use crate::lines::{is_passed_over, split_line, without_return};
-use crate::numbers::{tick_in, value_in};
+use crate::numbers::{time_in, value_in};
 use crate::ports::{PortNumbers, number_of, port_numbers};
 use dv_bag::{Input, Inputs};
 use dv_time::Time;
 use std::alloc::Global;
 
-// The input that a line says, at the start of its tick, after one at the last time.
-fn input_of(numbers: &PortNumbers<'_>, last: Time, line: &[u8]) -> Result<Input, InputRefusalNumber>
-    ensures { result ≡ input_of (number_in numbers.now) last line.now }
+// The input that a line says to a run with this limit, after one at the last time.
+fn input_of(
+    numbers: &PortNumbers<'_>,
+    limit: u32,
+    last: Time,
+    line: &[u8],
+) -> Result<Input, InputRefusalNumber>
+    ensures { result ≡ input_of (number_in numbers.now) limit last line.now }
 {
-    let Some((tick, port, value)) = three_fields(line) else {
+    let Some((time, port, value)) = three_fields(line) else {
         return Err(InputRefusalNumber::I1);
     };
-    let Some(tick) = tick_in(tick) else {
+    let Some(time) = time_in(time) else {
         return Err(InputRefusalNumber::I1);
     };
     let Some(port) = number_of(numbers, port) else {
         return Err(InputRefusalNumber::I2);
     };
-    let time = Time { tick, micro: 0 };
     if time.is_before(last) {
         return Err(InputRefusalNumber::I3);
     }
     let Some(value) = value_in(value) else {
         return Err(InputRefusalNumber::I4);
     };
+    if limit < time.micro {
+        return Err(InputRefusalNumber::I5);
+    }
     Ok(Input { time, port, value })
 }
 
 // The input that a line says, where it is UTF-8.
 fn tested_line(
     numbers: &PortNumbers<'_>,
+    limit: u32,
     last: Time,
     line: &[u8],
 ) -> Result<Input, InputRefusalNumber>
-    ensures { result ≡ tested_line (number_in numbers.now) last line.now }
+    ensures { result ≡ tested_line (number_in numbers.now) limit last line.now }
 {
     match str::from_utf8(line) {
-        Ok(_) => input_of(numbers, last, line),
+        Ok(_) => input_of(numbers, limit, last, line),
         Err(_) => Err(InputRefusalNumber::I1),
     }
 }
@@ -54,20 +62,21 @@ fn tested_line(
 // The input of a line with this number, after those before it, where the line is not passed over.
 fn read_line(
     numbers: &PortNumbers<'_>,
+    limit: u32,
     inputs: &mut Inputs,
     bytes: &[u8],
     line: u64,
 ) -> Result<(), InputsError>
     ensures ok { OnOk result
-        (with_line (number_in numbers.now) inputs.old bytes.now ≡ Ok inputs.new) }
+        (with_line (number_in numbers.now) limit inputs.old bytes.now ≡ Ok inputs.new) }
     ensures refused { (r : InputRefusal) → result ≡ Err (InputsError.Refused r)
         → (r.line ≡ line)
-        × (with_line (number_in numbers.now) inputs.old bytes.now ≡ Err r.number) }
+        × (with_line (number_in numbers.now) limit inputs.old bytes.now ≡ Err r.number) }
 {
     if is_passed_over(bytes) {
         return Ok(());
     }
-    match tested_line(numbers, inputs.last_time(), bytes) {
+    match tested_line(numbers, limit, inputs.last_time(), bytes) {
         Ok(input) => Ok(inputs.push(input)?),
         Err(number) => Err(InputsError::Refused(InputRefusal { number, line })),
     }
@@ -76,20 +85,22 @@ fn read_line(
 // The inputs of all lines of a text, after those before them.
 fn read_lines(
     numbers: &PortNumbers<'_>,
+    limit: u32,
     inputs: &mut Inputs,
     text: &[u8],
 ) -> Result<(), InputsError>
     ensures ok { OnOk result
-        (reading_after (number_in numbers.now) inputs.old 1 (lines_of text.now) ≡ Ok inputs.new) }
+        (reading_after (number_in numbers.now) limit inputs.old 1 (lines_of text.now)
+        ≡ Ok inputs.new) }
     ensures refused { (r : InputRefusal) → result ≡ Err (InputsError.Refused r)
-        → reading_after (number_in numbers.now) inputs.old 1 (lines_of text.now) ≡ Err r }
+        → reading_after (number_in numbers.now) limit inputs.old 1 (lines_of text.now) ≡ Err r }
 {
     let mut rest = text;
     let mut line: u64 = 0;
     while !rest.is_empty() {
         let (bytes, after) = split_line(rest);
         line += 1;
-        if let Err(error) = read_line(numbers, inputs, without_return(bytes), line) {
+        if let Err(error) = read_line(numbers, limit, inputs, without_return(bytes), line) {
             return Err(error);
         }
         rest = after;
@@ -97,23 +108,29 @@ fn read_lines(
     Ok(())
 }
 
-/// The inputs of a text, where the root's input ports have these names, by number.
+/// The inputs that a text says to a run with this microstep limit, where the root's input ports have these names, by number.
 ///
 /// # Errors
 ///
 /// `Refused` with the first refused line, counted from 1, and the least number that it has: `I1` where the line is not
-/// UTF-8, has not three fields, or its tick is not decimal digits up to the greatest tick; `I2` where no port has its
-/// name; `I3` where its tick is below that of the input before; `I4` where its value is no number from -2^63 to
-/// 2^63 - 1. `Memory` where an allocation was refused.
-pub fn read_inputs(alloc: Global, text: &[u8], ports: &[String]) -> Result<Inputs, InputsError>
+/// UTF-8, has not three fields, or its time is not decimal digits up to the greatest tick, with a dot and decimal digits up
+/// to the greatest microstep limit behind them or not; `I2` where no port has its name; `I3` where its time is before that
+/// of the input before; `I4` where its value is no number from -2^63 to 2^63 - 1; `I5` where its microstep is above the
+/// limit. `Memory` where an allocation was refused.
+pub fn read_inputs(
+    alloc: Global,
+    text: &[u8],
+    ports: &[String],
+    limit: u32,
+) -> Result<Inputs, InputsError>
     requires { length ports.now ≤ 2 ^ 32 }
     ensures inputs { IfOk result
-        (λ inputs. reading_of text.now (map string_bytes ports.now) ≡ Ok inputs) }
+        (λ inputs. reading_of text.now (map string_bytes ports.now) limit ≡ Ok inputs) }
     ensures refused { (r : InputRefusal) → result ≡ Err (InputsError.Refused r)
-        → reading_of text.now (map string_bytes ports.now) ≡ Err r }
+        → reading_of text.now (map string_bytes ports.now) limit ≡ Err r }
 {
     let numbers = port_numbers(alloc, ports)?;
     let mut inputs = Inputs::new(alloc);
-    read_lines(&numbers, &mut inputs, text)?;
+    read_lines(&numbers, limit, &mut inputs, text)?;
     Ok(inputs)
 }

@@ -44,9 +44,9 @@ pub trace_by_time : (f : FileTree) (played : List Input) (h l : ℕ) (trace : Pa
 trace_by_time f played h l trace are is = subst IsByTime (sym is) (are l (network_of l f) (outside f l played) (end_of l h))
 
 -- a model and its inputs, both read
-pub job_of_tree : (text inputs : List ℕ) (tree : Source) (played : List Input) → IsModelOf text tree.names (file_of tree.file)
-    → reading_of inputs (tree_inputs tree) ≡ Ok played → IsJob text inputs tree.names (file_of tree.file) played
-job_of_tree text inputs tree played m read = record { accepted = m; read = read }
+pub job_of_tree : (text inputs : List ℕ) (limit : ℕ) (tree : Source) (played : List Input) → IsModelOf text tree.names (file_of tree.file)
+    → reading_of inputs (tree_inputs tree) limit ≡ Ok played → IsJob text inputs limit tree.names (file_of tree.file) played
+job_of_tree text inputs limit tree played m read = record { accepted = m; read = read }
 
 -- what is written of a trace is the text of the run
 text_of_run : (tree : Source) (played : List Input) (h l : ℕ) (trace : PartOf) → AreInstants
@@ -61,7 +61,7 @@ text_of_run tree played h l trace are is_trace =
 -- a trace that was written whole
 pub prints :
     (text inputs : List ℕ) (h l : ℕ) (old new : Option (List ℕ)) (tree : Source) (played : List Input) (trace : PartOf) (ended : JobEnded)
-    → AreInstants → IsJob text inputs tree.names (file_of tree.file) played → trace ≡ trace_of (file_of tree.file) played h l
+    → AreInstants → IsJob text inputs l tree.names (file_of tree.file) played → trace ≡ trace_of (file_of tree.file) played h l
     → ended ≡ ending_of trace → Appends old new (part_text (tree_names tree) (tree_ports tree) trace ++ ending_text (text_end.Whole h))
     → PrintsTrace text inputs h l old new ended
 prints text inputs h l old new tree played trace ended are job is_trace ending written = record {
@@ -76,7 +76,7 @@ prints text inputs h l old new tree played trace ended are job is_trace ending w
 -- a trace of which a beginning was written
 pub prints_beginning :
     (text inputs : List ℕ) (h l : ℕ) (old new : Option (List ℕ)) (tree : Source) (played : List Input) (trace : PartOf)
-    → AreInstants → IsJob text inputs tree.names (file_of tree.file) played → trace ≡ trace_of (file_of tree.file) played h l
+    → AreInstants → IsJob text inputs l tree.names (file_of tree.file) played → trace ≡ trace_of (file_of tree.file) played h l
     → StopsShort old new (part_text (tree_names tree) (tree_ports tree) trace ++ ending_text (text_end.Whole h))
     → PrintsBeginning text inputs h l old new
 prints_beginning text inputs h l old new tree played trace are job is_trace written = record {
@@ -108,7 +108,7 @@ kept (Some bytes) = refl
 pub left_by_inputs : (e : InputsError) (text inputs : List ℕ) (h l : ℕ) (old : Option (List ℕ)) (tree : Source)
     → IsModelOf text tree.names (file_of tree.file)
     → ((r : InputRefusal) → ◌≡◌ {A = Result (List Input) InputsError} (Err e) (Err (input.Refused r))
-    → reading_of inputs (tree_inputs tree) ≡ Err r) → LeftBy (job_error_of_inputs e) text inputs h l old old
+    → reading_of inputs (tree_inputs tree) l ≡ Err r) → LeftBy (job_error_of_inputs e) text inputs h l old old
 left_by_inputs (input.Refused r) text inputs h l old tree m refused = (
   record {
     names = tree.names;

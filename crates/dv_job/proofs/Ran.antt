@@ -76,7 +76,7 @@ abbrev pub RanSo : List (List ℕ) → FileTree → List Input → Grouping → 
 RanSo names f played groups o old new r = IsRunOf names f played groups o.horizon o.limit o.capacity (granted o) old new r
 
 module _ (names : List (List ℕ)) (f : FileTree) (played : List Input) (groups : Grouping) (o : Options)
-    (model inputs : List ℕ) (partition : Partition) (planned : IsPlanned model inputs partition names f groups played) where
+    (model inputs : List ℕ) (partition : Partition) (planned : IsPlanned model inputs partition o.limit names f groups played) where
   -- a text that was not written to its end
   stops : {old new : Option (List ℕ)} (text : List ℕ) → IsTextOf names f played o.horizon o.limit text → StopsShort old new text
       → PrintsSome model inputs partition o old new
@@ -247,12 +247,12 @@ module _ (names : List (List ℕ)) (f : FileTree) (played : List Input) (groups 
     if_workers_ended (Err e) ending written = tt
 
 -- a model, its inputs and its groups, all read
-pub planned_tree : (model inputs : List ℕ) (partition : Partition) (tree : Source) (groups : Grouping) (played : List Input)
+pub planned_tree : (model inputs : List ℕ) (partition : Partition) (limit : ℕ) (tree : Source) (groups : Grouping) (played : List Input)
     → IsModelOf model tree.names (file_of tree.file) → partition_answer (paths_of tree.names (file_of tree.file)) partition ≡ Ok groups
-    → reading_of inputs (tree_inputs tree) ≡ Ok played
-    → IsPlanned model inputs partition tree.names (file_of tree.file) groups played
-planned_tree model inputs partition tree groups played m cut read = record {
-  job = job_of_tree model inputs tree played m read;
+    → reading_of inputs (tree_inputs tree) limit ≡ Ok played
+    → IsPlanned model inputs partition limit tree.names (file_of tree.file) groups played
+planned_tree model inputs partition limit tree groups played m cut read = record {
+  job = job_of_tree model inputs limit tree played m read;
   parted = cut;
 }
 
@@ -279,7 +279,7 @@ pub left_by_last : (e : InputsError) (model inputs : List ℕ) (partition : Part
     (groups : Grouping) → IsModelOf model tree.names (file_of tree.file)
     → partition_answer (paths_of tree.names (file_of tree.file)) partition ≡ Ok groups
     → ((r : InputRefusal) → ◌≡◌ {A = Result (List Input) InputsError} (Err e) (Err (input.Refused r))
-    → reading_of inputs (tree_inputs tree) ≡ Err r)
+    → reading_of inputs (tree_inputs tree) o.limit ≡ Err r)
     → LeftByRun (job_error_of_inputs e) model inputs partition o old old
 left_by_last (input.Refused r) model inputs partition o old tree groups m cut refused = (
   record {
@@ -297,22 +297,22 @@ left_by_last input.Memory model inputs partition o old tree groups m cut refused
 -- ---- Steps
 
 -- no steps of a partition that is refused
-pub unstepped_groups : (e : PartitionError) (model inputs : List ℕ) (partition : Partition) (tree : Source)
+pub unstepped_groups : (e : PartitionError) (model inputs : List ℕ) (partition : Partition) (limit : ℕ) (tree : Source)
     → IsModelOf model tree.names (file_of tree.file)
     → IsErrorOf (partition_answer (paths_of tree.names (file_of tree.file)) partition) e
-    → AnswersSteps model inputs partition (job_error_of_partition e)
-unstepped_groups (parting.Refused r) model inputs partition tree m refused =
+    → AnswersSteps model inputs partition limit (job_error_of_partition e)
+unstepped_groups (parting.Refused r) model inputs partition limit tree m refused =
     record { names = tree.names; file = file_of tree.file; accepted = m; refused = refused }
-unstepped_groups parting.Memory model inputs partition tree m refused = tt
+unstepped_groups parting.Memory model inputs partition limit tree m refused = tt
 
 -- nor where the inputs were not read
-pub unstepped_inputs : (e : InputsError) (model inputs : List ℕ) (partition : Partition) (tree : Source) (groups : Grouping)
+pub unstepped_inputs : (e : InputsError) (model inputs : List ℕ) (partition : Partition) (limit : ℕ) (tree : Source) (groups : Grouping)
     → IsModelOf model tree.names (file_of tree.file)
     → partition_answer (paths_of tree.names (file_of tree.file)) partition ≡ Ok groups
     → ((r : InputRefusal) → ◌≡◌ {A = Result (List Input) InputsError} (Err e) (Err (input.Refused r))
-    → reading_of inputs (tree_inputs tree) ≡ Err r)
-    → AnswersSteps model inputs partition (job_error_of_inputs e)
-unstepped_inputs (input.Refused r) model inputs partition tree groups m cut refused = record {
+    → reading_of inputs (tree_inputs tree) limit ≡ Err r)
+    → AnswersSteps model inputs partition limit (job_error_of_inputs e)
+unstepped_inputs (input.Refused r) model inputs partition limit tree groups m cut refused = record {
   names = tree.names;
   file = file_of tree.file;
   groups = groups;
@@ -320,4 +320,4 @@ unstepped_inputs (input.Refused r) model inputs partition tree groups m cut refu
   parted = cut;
   refused = refused r refl;
 }
-unstepped_inputs input.Memory model inputs partition tree groups m cut refused = tt
+unstepped_inputs input.Memory model inputs partition limit tree groups m cut refused = tt

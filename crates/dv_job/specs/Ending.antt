@@ -19,10 +19,10 @@ use Rattle.dv_job.specs.declared.ended.JobError.TheVariants as error
 abbrev pub ending_of : PartOf → JobEnded
 ending_of p = if has_fault p then Faulted else Whole
 
--- A model text with the text of its inputs: the one is accepted, and the other says these inputs.
-pub record IsJob (model inputs : List ℕ) (names : List (List ℕ)) (f : FileTree) (played : List Input) : Type 0 where
+-- A model text with the text of its inputs: the one is accepted, and the other says these inputs to a run with this limit.
+pub record IsJob (model inputs : List ℕ) (limit : ℕ) (names : List (List ℕ)) (f : FileTree) (played : List Input) : Type 0 where
   pub accepted : IsModelOf model names f
-  pub read : reading_of inputs (input_ports names f) ≡ Ok played
+  pub read : reading_of inputs (input_ports names f) limit ≡ Ok played
 
 -- Both texts are accepted, the writer's bytes grew by the whole text of the trace, and the answer says whether that holds a
 -- fault.
@@ -30,7 +30,7 @@ pub record PrintsTrace (model inputs : List ℕ) (horizon limit : ℕ) (old new 
   pub names : List (List ℕ)
   pub file : FileTree
   pub played : List Input
-  pub job : IsJob model inputs names file played
+  pub job : IsJob model inputs limit names file played
   pub ending : ended ≡ ending_of (trace_of file played horizon limit)
   pub written : Appends old new (run_text names file played horizon limit)
 
@@ -39,22 +39,22 @@ pub record PrintsBeginning (model inputs : List ℕ) (horizon limit : ℕ) (old 
   pub names : List (List ℕ)
   pub file : FileTree
   pub played : List Input
-  pub job : IsJob model inputs names file played
+  pub job : IsJob model inputs limit names file played
   pub written : StopsShort old new (run_text names file played horizon limit)
 
 -- the model is accepted, and this is the answer to the text of its inputs
-pub record IsAnswerToInputs (model inputs : List ℕ) (r : InputRefusal) : Type 0 where
+pub record IsAnswerToInputs (model inputs : List ℕ) (limit : ℕ) (r : InputRefusal) : Type 0 where
   pub names : List (List ℕ)
   pub file : FileTree
   pub accepted : IsModelOf model names file
-  pub refused : reading_of inputs (input_ports names file) ≡ Err r
+  pub refused : reading_of inputs (input_ports names file) limit ≡ Err r
 
 -- What an error leaves: at a refusal nothing was written, and the answer is that of the model's text, or where the model is accepted
 -- that of its inputs'; at a failed write a beginning that is not all; where memory ran out nothing or such a beginning.
 abbrev pub LeftBy : JobError → (model inputs : List ℕ) → (horizon limit : ℕ) → Option (List ℕ) → Option (List ℕ) → Type 0
 LeftBy (error.Text e) model inputs horizon limit old new = IsAnswer model e × Keeps old new
 LeftBy (error.Partition r) model inputs horizon limit old new = ⊥
-LeftBy (error.Inputs r) model inputs horizon limit old new = IsAnswerToInputs model inputs r × Keeps old new
+LeftBy (error.Inputs r) model inputs horizon limit old new = IsAnswerToInputs model inputs limit r × Keeps old new
 LeftBy error.Write model inputs horizon limit old new = PrintsBeginning model inputs horizon limit old new
 LeftBy error.Memory model inputs horizon limit old new = Keeps old new ⊎ PrintsBeginning model inputs horizon limit old new
 

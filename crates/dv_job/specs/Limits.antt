@@ -3,7 +3,7 @@ use Rattle.std.specs.Prelude.{ℕ}
 
 -- the most workers of a run
 abbrev pub most_workers : ℕ
-most_workers = 64
+most_workers = 256
 
 -- the most packets that a link between two processes holds
 abbrev pub greatest_capacity : ℕ

@@ -30,10 +30,10 @@ use Rattle.dv_job.specs.declared.ended.JobError.{JobError}
 use Rattle.dv_job.specs.declared.ended.JobError.TheVariants as error
 
 -- A model text, the text of its inputs and a partition: the model is accepted, its components are in these groups, and the
--- inputs are these.
-pub record IsPlanned (model inputs : List ℕ) (partition : Partition) (names : List (List ℕ)) (f : FileTree) (groups : Grouping)
-    (played : List Input) : Type 0 where
-  pub job : IsJob model inputs names f played
+-- inputs are these, in a run with this limit.
+pub record IsPlanned (model inputs : List ℕ) (partition : Partition) (limit : ℕ) (names : List (List ℕ)) (f : FileTree)
+    (groups : Grouping) (played : List Input) : Type 0 where
+  pub job : IsJob model inputs limit names f played
   pub parted : partition_answer (paths_of names f) partition ≡ Ok groups
 
 -- the text of the trace of a file's resultant, cut at these clocks
@@ -58,7 +58,7 @@ pub record PrintsWhole (model inputs : List ℕ) (partition : Partition) (o : Op
   pub file : FileTree
   pub groups : Grouping
   pub played : List Input
-  pub planned : IsPlanned model inputs partition names file groups played
+  pub planned : IsPlanned model inputs partition o.limit names file groups played
   pub ending : e ≡ ending_of (trace_of file played o.horizon o.limit)
   pub written : Appends old new (run_text names file played o.horizon o.limit)
 
@@ -73,7 +73,7 @@ pub record PrintsCutAt (model inputs : List ℕ) (partition : Partition) (o : Op
   pub file : FileTree
   pub groups : Grouping
   pub played : List Input
-  pub planned : IsPlanned model inputs partition names file groups played
+  pub planned : IsPlanned model inputs partition o.limit names file groups played
   pub clocks : List Time
   pub some : 0 < length clocks
   pub written : Appends old new (cut_text names file played o.limit clocks)
@@ -92,7 +92,7 @@ pub record PrintsSome (model inputs : List ℕ) (partition : Partition) (o : Opt
   pub file : FileTree
   pub groups : Grouping
   pub played : List Input
-  pub planned : IsPlanned model inputs partition names file groups played
+  pub planned : IsPlanned model inputs partition o.limit names file groups played
   pub text : List ℕ
   pub is_text : IsTextOf names file played o.horizon o.limit text
   pub written : StopsShort old new text
@@ -118,13 +118,13 @@ pub record IsAnswerToPartition (model : List ℕ) (partition : Partition) (r : P
   pub refused : partition_answer (paths_of names file) partition ≡ Err r
 
 -- the model and the partition are accepted, and this is the answer to the text of the inputs
-pub record IsLastAnswer (model inputs : List ℕ) (partition : Partition) (r : InputRefusal) : Type 0 where
+pub record IsLastAnswer (model inputs : List ℕ) (partition : Partition) (limit : ℕ) (r : InputRefusal) : Type 0 where
   pub names : List (List ℕ)
   pub file : FileTree
   pub groups : Grouping
   pub accepted : IsModelOf model names file
   pub parted : partition_answer (paths_of names file) partition ≡ Ok groups
-  pub refused : reading_of inputs (input_ports names file) ≡ Err r
+  pub refused : reading_of inputs (input_ports names file) limit ≡ Err r
 
 -- What an error leaves: at a refusal nothing was written, and the answer is that of the model's text, or where that is accepted
 -- that of the partition, or else that of the inputs' text; at a failed write a beginning of a text that is not all of it; at want
@@ -133,7 +133,7 @@ abbrev pub LeftByRun : JobError → (model inputs : List ℕ) → Partition → 
 LeftByRun (error.Text e) model inputs partition o old new = IsAnswer model e × Keeps old new
 LeftByRun (error.Partition r) model inputs partition o old new =
     IsAnswerToPartition model partition r × Keeps old new
-LeftByRun (error.Inputs r) model inputs partition o old new = IsLastAnswer model inputs partition r × Keeps old new
+LeftByRun (error.Inputs r) model inputs partition o old new = IsLastAnswer model inputs partition o.limit r × Keeps old new
 LeftByRun error.Write model inputs partition o old new = PrintsSome model inputs partition o old new
 LeftByRun error.Memory model inputs partition o old new =
     Keeps old new ⊎ PrintsSome model inputs partition o old new

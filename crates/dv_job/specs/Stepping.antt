@@ -19,13 +19,13 @@ pub record HasSteppedText (model inputs : List ℕ) (partition : Partition) (o :
   pub file : FileTree
   pub groups : Grouping
   pub played : List Input
-  pub planned : IsPlanned model inputs partition names file groups played
+  pub planned : IsPlanned model inputs partition o.limit names file groups played
   pub stepped : IsStepped file played groups o.horizon o.limit o.capacity steps s
 
 -- the error is the answer to the model's text, to the partition or to the inputs' text, or out of memory
-abbrev pub AnswersSteps : (model inputs : List ℕ) → Partition → JobError → Type 0
-AnswersSteps model inputs partition (error.Text e) = IsAnswer model e
-AnswersSteps model inputs partition (error.Partition r) = IsAnswerToPartition model partition r
-AnswersSteps model inputs partition (error.Inputs r) = IsLastAnswer model inputs partition r
-AnswersSteps model inputs partition error.Write = ⊥
-AnswersSteps model inputs partition error.Memory = Unit {0}
+abbrev pub AnswersSteps : (model inputs : List ℕ) → Partition → (limit : ℕ) → JobError → Type 0
+AnswersSteps model inputs partition limit (error.Text e) = IsAnswer model e
+AnswersSteps model inputs partition limit (error.Partition r) = IsAnswerToPartition model partition r
+AnswersSteps model inputs partition limit (error.Inputs r) = IsLastAnswer model inputs partition limit r
+AnswersSteps model inputs partition limit error.Write = ⊥
+AnswersSteps model inputs partition limit error.Memory = Unit {0}

@@ -99,19 +99,24 @@ pub fn load_groups(
     }
 }
 
-/// The inputs that a text says to the root of a tree.
+/// The inputs that a text says to the root of a tree, in a run with this microstep limit.
 ///
 /// # Errors
 ///
 /// The refusal of the text, or no memory.
-pub fn load_inputs(alloc: Global, text: &[u8], tree: &Tree) -> Result<Inputs, InputsError>
+pub fn load_inputs(
+    alloc: Global,
+    text: &[u8],
+    tree: &Tree,
+    limit: u32,
+) -> Result<Inputs, InputsError>
     ensures inputs { IfOk result (λ inputs.
-        reading_of text.now (tree_inputs tree.now) ≡ Ok inputs) }
+        reading_of text.now (tree_inputs tree.now) limit ≡ Ok inputs) }
     ensures refused { (r : InputRefusal) → result ≡ Err (InputsError.Refused r)
-        → reading_of text.now (tree_inputs tree.now) ≡ Err r }
+        → reading_of text.now (tree_inputs tree.now) limit ≡ Err r }
 {
     let names = tree.input_names(alloc)?;
-    read_inputs(alloc, text, &names)
+    read_inputs(alloc, text, &names, limit)
 }
 
 // The error of a text that was not loaded.

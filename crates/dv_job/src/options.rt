@@ -6,7 +6,7 @@ ghost use Rattle.dv_job.specs.Ranges.{AreInRange, AreWorkers, NotBoth};
 use dv_time::{GREATEST_LIMIT, GREATEST_TICK};
 
 /// The most workers that run processes.
-pub const MOST_WORKERS: u32 = 64;
+pub const MOST_WORKERS: u32 = 256;
 
 /// The most packets that may be on their way on a link between processes.
 pub const GREATEST_CAPACITY: u32 = 1_024;
@@ -14,11 +14,11 @@ pub const GREATEST_CAPACITY: u32 = 1_024;
 /// How far to run, and how. Its values are within their ranges: its type keeps that.
 #[derive(Clone, Copy, Debug)]
 pub struct Options {
-    /// The last tick of the run, 0 to 10^12.
+    /// The last tick of the run, 0 to 10^15.
     pub horizon: u64,
     /// The greatest microstep of a tick, 1 to 1,000.
     pub limit: u32,
-    /// The threads that run processes, 1 to 64; without them one driver runs all.
+    /// The threads that run processes, 1 to 256; without them one driver runs all.
     pub workers: Option<u32>,
     /// The greatest number of rounds of the one driver, which is not given beside workers; without it there are enough.
     pub rounds: Option<u64>,

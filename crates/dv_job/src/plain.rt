@@ -60,7 +60,7 @@ fn run_tree<W: Write>(
     // A trace stands by time, and its text is that of its instants, one after the other.
     parts_are_by_time::<Bags>();
     a_trace_is_its_instants::<Bags>();
-    let played = load_inputs(alloc, inputs, tree)?;
+    let played = load_inputs(alloc, inputs, tree, options.limit)?;
     let trace = resultant_run(alloc, tree, &played, options.horizon, options.limit)?;
     write_trace(alloc, &trace, tree, &Ending::Whole(options.horizon), writer)?;
     Ok(ending_of(&trace))

@@ -70,7 +70,7 @@ fn run_tree<W: Write>(
     inputs_are_of_numbers();
     let links = flatten(alloc, tree)?;
     let groups = load_groups(alloc, tree, groups)?;
-    let played = load_inputs(alloc, inputs, tree)?;
+    let played = load_inputs(alloc, inputs, tree, options.limit)?;
     let job = TextJob {
         tree,
         inputs: &played,

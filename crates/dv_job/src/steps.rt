@@ -37,7 +37,8 @@ pub fn run_steps(
 ) -> Result<Stepped, JobError>
     ensures stepped { IfOk result (HasSteppedText model.now inputs.now groups.entry options.now
         steps.now) }
-    ensures error { IfErr result (AnswersSteps model.now inputs.now groups.entry) }
+    ensures error { IfErr result (AnswersSteps model.now inputs.now groups.entry
+        options.now.limit) }
 {
     let checked = load(alloc, model)?;
     let tree = accept(alloc, model, &checked)?;
@@ -57,13 +58,14 @@ fn step_tree(
     requires accepted { IsModelOf model.now tree.now.names (file_of tree.now.file) }
     ensures stepped { IfOk result (HasSteppedText model.now inputs.now groups.entry options.now
         steps.now) }
-    ensures error { IfErr result (AnswersSteps model.now inputs.now groups.entry) }
+    ensures error { IfErr result (AnswersSteps model.now inputs.now groups.entry
+        options.now.limit) }
 {
     // The values of inputs that were read are numbers of the language.
     inputs_are_of_numbers();
     let links = flatten(alloc, tree)?;
     let groups = load_groups(alloc, tree, groups)?;
-    let played = load_inputs(alloc, inputs, tree)?;
+    let played = load_inputs(alloc, inputs, tree, options.limit)?;
     let job = TextJob {
         tree,
         inputs: &played,

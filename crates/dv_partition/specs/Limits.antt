@@ -3,4 +3,4 @@ use Rattle.std.specs.Prelude.{ℕ}
 
 -- the most processes of a partition
 abbrev pub greatest_processes : ℕ
-greatest_processes = 64
+greatest_processes = 256

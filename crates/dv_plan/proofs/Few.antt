@@ -4,6 +4,7 @@ use Rattle.std.proofs.Math.Nat.{mul-le-mul_left}
 use Rattle.dv_conservative.specs.Channels.{all_channels, channels_from, channels_of, crosses}
 use Rattle.dv_conservative.specs.Links.{Link}
 use Rattle.dv_conservative.specs.World.{Channel}
+use Rattle.dv_partition.specs.Limits.{greatest_processes}
 
 one_or_none : (t : Bool) (c : Channel) (cs : List Channel) (n : ℕ) → length cs ≤ n → length (cond t (c ∷ cs) cs) ≤ suc n
 one_or_none true c cs n h = omega (arith, h)
@@ -23,7 +24,8 @@ of_all owner links count p (suc n) =
     let long = length-append (channels_of owner links p 0 count) (channels_from owner links count (suc p) n) in
     omega (arith, here, rest, long)
 
-pub few_channels : (owner : ℕ → ℕ) (links : List Link) (count : ℕ) → count ≤ 64 → length (all_channels owner links count) ≤ 4096
+pub few_channels : (owner : ℕ → ℕ) (links : List Link) (count : ℕ) → count ≤ greatest_processes
+    → length (all_channels owner links count) ≤ 65536
 few_channels owner links count few =
     let pairs = of_all owner links count 0 count in
     let square = mul-le-mul_left count few in

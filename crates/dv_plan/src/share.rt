@@ -8,6 +8,7 @@ ghost use Rattle.dv_share.specs.Share.{numbers_of};
 ghost use Rattle.dv_share.specs.declared.tables.Member.{Member as MemberOfCode};
 ghost use Rattle.dv_local.specs.Shares.{outgoing_of};
 ghost use Rattle.dv_cut.specs.Cuts.{between};
+ghost use Rattle.dv_partition.specs.Limits.{greatest_processes};
 ghost use Rattle.dv_plan.specs.Steps.{AreMade, IsMadeOf, Rises, way_of};
 
 use crate::led::led_inputs;
@@ -46,7 +47,7 @@ pub(crate) fn shares<A: Copy>(
 ) -> Result<Vec<Share<A>>, AllocError>
     requires count { length members.items ≤ length common.now.responses.now }
     requires there { length members.items ≤ common.now.cut.now.grouping.processes }
-    requires processes { length members.items ≤ 64 }
+    requires processes { length members.items ≤ greatest_processes }
     requires few { length common.now.links.now ≤ 2 ^ 32 }
     requires rises { Rises common.now.cut.now }
     requires rise { AllByRecursion (λ (ms : List MemberOfCode). AreRising (numbers_of ms))

@@ -16,7 +16,7 @@ const USUAL_LIMIT: u64 = 20;
 /// How many packets may be on their way on a link between processes, where a command names no number.
 const LINK_CAPACITY: u64 = 16;
 
-/// The most processes that a partition has.
+/// The most processes in which a run of one process is tried again.
 const MOST_PROCESSES: u32 = 64;
 
 /// The numbers of workers and of packets on a link with which each run has to print the same.

@@ -46,16 +46,16 @@ value_number (b ∷ bytes) v e = by_sign (b == 45) e
         mapped pos (2 ^ 63) (number_below (2 ^ 63) (b ∷ bytes)) v (below_bound (2 ^ 63) (b ∷ bytes))
         (λ n lt. lt-ltb n (2 ^ 63) lt) e
 
-number_said : (find : List ℕ → Option ℕ) (i : Input) → Said find i → is_number i.value ≡ true
-number_said find i said = value_number said.text i.value said.value
+number_said : (find : List ℕ → Option ℕ) (limit : ℕ) (i : Input) → Said find limit i → is_number i.value ≡ true
+number_said find limit i said = value_number said.text i.value said.value
 
 all_numbers : (inputs : List Input) → All (λ (i : Input). is_number i.value ≡ true) inputs → AllInputNumbers inputs
 all_numbers [] h = tt
 all_numbers (i ∷ inputs) h = (h 0 i (omega arith), all_numbers inputs (λ k d lt. h (suc k) d (omega (arith, lt))))
 
-pub read_numbers : (text : List ℕ) (ports : List (List ℕ)) (inputs : List Input) → reading_of text ports ≡ Ok inputs →
+pub read_numbers : (text : List ℕ) (ports : List (List ℕ)) (limit : ℕ) (inputs : List Input) → reading_of text ports limit ≡ Ok inputs →
     AllInputNumbers inputs
-read_numbers text ports inputs e =
+read_numbers text ports limit inputs e =
     all_numbers inputs
-    (lines_inputs (port_in ports) (λ (i : Input). is_number i.value ≡ true) (number_said (port_in ports))
+    (lines_inputs (port_in ports) limit (λ (i : Input). is_number i.value ≡ true) (number_said (port_in ports) limit)
     (lines_of text) [] 1 inputs (λ k d lt. absurd (omega (arith, lt))) e)

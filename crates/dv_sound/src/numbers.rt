@@ -41,6 +41,6 @@ pub fn files_are_of_numbers()
 
 /// The values of inputs that were read are numbers of the language.
 pub fn inputs_are_of_numbers()
-    ensures { (text : List ℕ) (ports : List (List ℕ)) (inputs : List Input)
-        → reading_of text ports ≡ Ok inputs → AllInputNumbers inputs }
+    ensures { (text : List ℕ) (ports : List (List ℕ)) (limit : ℕ) (inputs : List Input)
+        → reading_of text ports limit ≡ Ok inputs → AllInputNumbers inputs }
 {}

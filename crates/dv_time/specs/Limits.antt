@@ -3,7 +3,7 @@ use Rattle.std.specs.Prelude.{ℕ}
 
 -- the greatest tick of a horizon or of an input
 abbrev pub greatest_tick : ℕ
-greatest_tick = 1000000000000
+greatest_tick = 1000000000000000
 
 -- the greatest microstep limit of a run
 abbrev pub greatest_limit : ℕ

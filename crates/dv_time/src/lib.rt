@@ -12,7 +12,7 @@ pub mod time;
 pub use time::{Microsteps, Next, Time};
 
 /// The greatest tick of a horizon or of an input.
-pub const GREATEST_TICK: u64 = 1_000_000_000_000;
+pub const GREATEST_TICK: u64 = 1_000_000_000_000_000;
 
 /// The greatest microstep limit of a run.
 pub const GREATEST_LIMIT: u32 = 1_000;

@@ -10,6 +10,22 @@ returns-clause-unknown_port c = rw (ascii_utf8 (codes "5 z 10") refl) refl
 pub returns-clause-falling_tick : goal.returns-clause-falling_tick
 returns-clause-falling_tick c = rw (ascii_utf8 (codes "5 x 1") refl, ascii_utf8 (codes "4 x 1") refl) refl
 
+pub returns-clause-falling_tick_of_a_later_microstep : goal.returns-clause-falling_tick_of_a_later_microstep
+returns-clause-falling_tick_of_a_later_microstep c = rw (ascii_utf8 (codes "5 x 1") refl, ascii_utf8 (codes "4.7 x 1") refl) refl
+
+pub returns-clause-falling_microstep : goal.returns-clause-falling_microstep
+returns-clause-falling_microstep c = rw (ascii_utf8 (codes "5.2 x 1") refl, ascii_utf8 (codes "5.1 x 1") refl) refl
+
+pub returns-clause-back_to_the_start : goal.returns-clause-back_to_the_start
+returns-clause-back_to_the_start c = rw (ascii_utf8 (codes "5.1 x 1") refl, ascii_utf8 (codes "5 x 1") refl) refl
+
+pub returns-clause-past_the_limit : goal.returns-clause-past_the_limit
+returns-clause-past_the_limit c =
+    rw (ascii_utf8 (codes "1 x 7") refl, ascii_utf8 (codes "1.1 x 5") refl, ascii_utf8 (codes "1.2 x 1") refl) refl
+
+pub returns-clause-last_number : goal.returns-clause-last_number
+returns-clause-last_number c = rw (ascii_utf8 (codes "5.2 x q") refl) refl
+
 pub returns-clause-plus : goal.returns-clause-plus
 returns-clause-plus c = rw (ascii_utf8 (codes "5 x +1") refl) refl
 

@@ -6,7 +6,7 @@ use Rattle.dv_job.proofs.plain.run_tree.Goals as goal
 pub returns-clause-printed : goal.returns-clause-printed
 returns-clause-printed g c =
     prints _ _ _ _ _ _ c.args.tree.now _ _ _ c.a_trace_is_its_instants.ensures.whole
-    (job_of_tree _ _ c.args.tree.now _ c.requires.accepted c.in_ok-played.ensures.inputs)
+    (job_of_tree _ _ _ c.args.tree.now _ c.requires.accepted c.in_ok-played.ensures.inputs)
     c.in_ok-trace.ensures c.ending_of.ensures
     (c.in_ok-write_trace.ensures.ok
     (trace_by_time (file_of c.args.tree.now.file) c.in_ok-played.played c.args.options.now.horizon c.args.options.now.limit _
@@ -17,7 +17,7 @@ returns-in_err-write_trace-clause-error g c =
     let p = err_from_is_err_and c.from_residual-in_err-write_trace.result c.from_residual-in_err-write_trace.ensures.1 in
     let beginning =
     prints_beginning _ _ _ _ _ _ c.args.tree.now _ _ c.a_trace_is_its_instants.ensures.whole
-    (job_of_tree _ _ c.args.tree.now _ c.requires.accepted c.in_ok-played.ensures.inputs)
+    (job_of_tree _ _ _ c.args.tree.now _ c.requires.accepted c.in_ok-played.ensures.inputs)
     c.in_ok-trace.ensures
     (c.in_err-write_trace.ensures.err
     (trace_by_time (file_of c.args.tree.now.file) c.in_ok-played.played c.args.options.now.horizon c.args.options.now.limit _

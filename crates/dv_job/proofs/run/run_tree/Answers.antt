@@ -23,7 +23,7 @@ returns-in_err-ran-clause-error g c =
     let p = err_from_is_err_and c.from_residual-in_err-ran.result c.from_residual-in_err-ran.ensures.1 in
     rw (p.1, p.2)
     (left_by_cut _ _ _ _ _ _ _ _
-    (planned_tree _ _ _ c.args.tree.now _ _ c.requires.accepted c.in_ok-groups.ensures c.in_ok-played.ensures.inputs)
+    (planned_tree _ _ _ _ c.args.tree.now _ _ c.requires.accepted c.in_ok-groups.ensures c.in_ok-played.ensures.inputs)
     c.in_err-ran.field-0.0 c.a_trace_is_its_pieces.ensures.lines c.in_err-ran.ensures.err)
 
 pub returns-clause-ended : goal.returns-clause-ended
@@ -31,7 +31,7 @@ returns-clause-ended g c =
     let o = c.args.options.now in
     let tree = c.args.tree.now in
     if_it_ended _ _ _ _ o _ _ _
-    (planned_tree _ _ _ tree _ _ c.requires.accepted c.in_ok-groups.ensures c.in_ok-played.ensures.inputs)
+    (planned_tree _ _ _ _ tree _ _ c.requires.accepted c.in_ok-groups.ensures c.in_ok-played.ensures.inputs)
     c.in_ok-ran.ran (g.W.Write.contents c.args.writer.now) (g.W.Write.contents c.compiled_run.new.writer)
     (g.W.Write.contents c.write_end.new.writer)
     (subst (λ (n : ℕ). IsRunOf tree.names (file_of tree.file) c.in_ok-played.played c.in_ok-groups.groups o.horizon o.limit o.capacity n
@@ -42,7 +42,7 @@ returns-clause-ended g c =
 pub returns-clause-error : goal.returns-clause-error
 returns-clause-error g c =
     if_it_was_left _ _ _ _ c.args.options.now _ _ _
-    (planned_tree _ _ _ c.args.tree.now _ _ c.requires.accepted c.in_ok-groups.ensures c.in_ok-played.ensures.inputs)
+    (planned_tree _ _ _ _ c.args.tree.now _ _ c.requires.accepted c.in_ok-groups.ensures c.in_ok-played.ensures.inputs)
     c.in_ok-ran.ran (g.W.Write.contents c.args.writer.now) (g.W.Write.contents c.compiled_run.new.writer)
     (g.W.Write.contents c.write_end.new.writer) c.in_ok-ran.ensures.run.printed c.write_end.result c.write_end.ensures.error
 

@@ -10,6 +10,7 @@ use Rattle.dv_share.specs.Share.{numbers_of}
 use Rattle.dv_share.specs.declared.tables.Member.{Member}
 use Rattle.dv_proc.specs.Foreseeing.{ticks_of}
 use Rattle.dv_partition.specs.Groups.{owner_of}
+use Rattle.dv_partition.specs.Limits.{greatest_processes}
 use Rattle.dv_proc.specs.Channels.{meant_channel}
 use Rattle.dv_cut.specs.Cuts.{CutOf, owned_by}
 use Rattle.dv_proc.specs.declared.channel.Channel.{Channel}
@@ -51,7 +52,7 @@ shares-requires-clause-few g c =
     let count = sym (length-map members (λ l. l.items)) ∙ ap length c.in_ok-members.ensures.each
     ∙ length-map-range_with_len (λ p. members_of groups p c.args.whole.members.items) 0 groups.processes in
     let all = ap (λ (k : CutOf). k.grouping.processes) c.in_ok-cut.ensures in
-    let few : cut.grouping.processes ≤ 64 = omega (arith, count, all, c.in_ok-members.ensures.few) in
+    let few : cut.grouping.processes ≤ greatest_processes = omega (arith, count, all, c.in_ok-members.ensures.few) in
     let small = few_channels (owner_of cut.grouping) cut.direct cut.grouping.processes few in
     let long = sym (length-map channels meant_channel) ∙ ap length c.in_ok-channels.ensures in
     omega (arith, small, long, ap length c.deref-2.ensures.value)
