@@ -1,11 +1,13 @@
 -- The readers of models and files complete them, and go further with greater limits on depth; so tokens that end too early
 -- begin a file.
-use Rattle.std.proofs.Common.{◌≡◌, List, [], ◌∷◌, ◌++◌, Some, None, Ok, Err, refl, sym, ◌∙◌, inr}
+use Rattle.std.proofs.Common.{◌≡◌, List, [], ◌∷◌, ◌++◌, Option, Some, None, Ok, Err, refl, sym, ◌∙◌, inr}
 use Rattle.dv_lex.specs.declared.token.Token.{Token}
 use Rattle.dv_lex.specs.declared.token.TokenKind.TheVariants as kind
 use Rattle.dv_lex.specs.declared.token.Keyword.{Keyword}
 use Rattle.dv_lex.specs.declared.token.Keyword.TheVariants as keyword
 use Rattle.dv_lex.specs.declared.token.Symbol.TheVariants as symbol
+use Rattle.dv_syntax.specs.declared.tree.Version.{Version}
+use Rattle.dv_syntax.specs.declared.tree.Version.TheVariants as version
 use Rattle.dv_syntax.specs.declared.tree.Declaration.TheVariants as declaration
 use Rattle.dv_syntax.specs.declared.tree.RuleSort.{RuleSort}
 use Rattle.dv_syntax.specs.declared.tree.RuleSort.TheVariants as sort
@@ -15,16 +17,16 @@ use Rattle.dv_syntax.specs.Grammar.{Limits, sort_word}
 use Rattle.dv_parser.specs.Reading.{Obstacle, Unexpected, Read, read_then, choose, after, name_at, obstacle_at, operator_of}
 use Rattle.dv_parser.specs.Reading.{many_at, Reader, bound_at, variable_at, flag_at, bag_at, further_name_at, phases_at}
 use Rattle.dv_parser.specs.Reading.{start_at, ticks_at, hold_at, rule_at, any_rule_at, port_at, item_at, atomic_at, end_at}
-use Rattle.dv_parser.specs.Reading.{part_at, link_at, coupled_item_at, coupled_at, model_at, is_end, file_at}
+use Rattle.dv_parser.specs.Reading.{part_at, link_at, coupled_item_at, coupled_at, model_at, version_at, header_at, is_end, file_at}
 use Rattle.dv_parser.proofs.Tokens.{then_is, then_err}
-use Rattle.dv_parser.proofs.Models.{item_shortens, further_name_shortens, coupled_item_shortens, model_shortens, file_sound}
+use Rattle.dv_parser.proofs.Models.{item_shortens, further_name_shortens, coupled_item_shortens, model_shortens, NoHeader, file_sound}
 use Rattle.dv_parser.proofs.Sorting.{same_chosen, err_kept}
 use Rattle.dv_parser.proofs.Expressions.{IsClosed}
 use Rattle.dv_parser.proofs.Readers.{Always, later}
 use Rattle.dv_dead_ends.specs.Refusals.{BeginsFileWithin}
 use Rattle.dv_dead_ends.proofs.Depths.{HaveRoom, AreWidened, above, widened}
 use Rattle.dv_dead_ends.proofs.Steady.{IsSteady, StopsThere}
-use Rattle.dv_dead_ends.proofs.Completions.{a_number, a_name, a_sign, a_word, empty_braces, Unfinished, Completes, each}
+use Rattle.dv_dead_ends.proofs.Completions.{of_kind, a_number, a_name, a_sign, a_word, empty_braces, Unfinished, Completes, each}
 use Rattle.dv_dead_ends.proofs.Completions.{some_by_first}
 use Rattle.dv_dead_ends.proofs.Widening.{Widens, Refuse, by_first, leaves_at, leaves_widens, then_widens, choose_widens}
 use Rattle.dv_dead_ends.proofs.Widening.{after_widens, name_widens, number_widens, truth_widens, many_widens, braces_widens}
@@ -234,6 +236,20 @@ model_widens n w g =
     (then_widens _ _ coupled_widens (λ rest h. tt) (λ _ m. leaves_widens (WrittenCoupled m.0 m.1) Always)) (λ rest h. refl)
     (then_widens _ _ (atomic_widens n w g) (λ rest h. tt) (λ _ m. leaves_widens (WrittenAtomic m.0 m.1) Always))
 
+version_widens : Widens version_at version_at Always (of_kind (kind.Number 1) ∷ [])
+unfolding version_at
+version_widens = after_widens (kind.Number 1) _ _ (λ _. leaves_widens version.First Always)
+
+header_widens : Widens header_at header_at NoHeader []
+unfolding header_at
+header_widens =
+    choose_widens (kind.Keyword keyword.Version)
+    (after_widens (kind.Keyword keyword.Version) _ _ (λ _.
+    then_widens _ _ version_widens (λ rest h. tt) (λ _ v.
+    after_widens (kind.Symbol symbol.Semicolon) _ _ (λ _. leaves_widens (Some v) NoHeader))))
+    (λ rest h. h)
+    (leaves_widens None NoHeader)
+
 -- nothing follows
 abbrev Nothing : List Token → Type 0
 Nothing rest = rest ≡ []
@@ -257,30 +273,43 @@ last_widens f = record {
   each = by_first (last_at f) (last_at f) (leaves_at _ _ [] f refl refl) (λ t. Refuse t.place (λ ts. refl) (λ ts. refl));
 }
 
-root_at : List WrittenModel → Reader WrittenFile
-root_at models ts = read_then (after (kind.Keyword keyword.Root) ts)
+root_at : Option Version → List WrittenModel → Reader WrittenFile
+root_at header models ts = read_then (after (kind.Keyword keyword.Root) ts)
     (λ behind. read_then (name_at behind)
-    (λ n. read_then (after (kind.Symbol symbol.Semicolon) n.1) (λ rest. last_at (record { models = models; root = n.0 }) rest)))
+    (λ n. read_then (after (kind.Symbol symbol.Semicolon) n.1)
+    (λ rest. last_at (record { header = header; models = models; root = n.0 }) rest)))
 
 abbrev a_root : List Token
 a_root = a_word keyword.Root ∷ a_name ∷ a_sign symbol.Semicolon ∷ []
 
-root_widens : (models : List WrittenModel) → Widens (root_at models) (root_at models) Nothing a_root
+root_widens : (header : Option Version) (models : List WrittenModel)
+    → Widens (root_at header models) (root_at header models) Nothing a_root
 unfolding root_at
-root_widens models =
+root_widens header models =
     after_widens (kind.Keyword keyword.Root) _ _ (λ _.
     then_widens _ _ name_widens (λ rest h. tt) (λ _ name.
-    after_widens (kind.Symbol symbol.Semicolon) _ _ (λ _. last_widens (record { models = models; root = name }))))
+    after_widens (kind.Symbol symbol.Semicolon) _ _ (λ _. last_widens (record { header = header; models = models; root = name }))))
+
+-- what follows a header
+behind_at : Limits → Option Version → Reader WrittenFile
+behind_at limits header ts = read_then (many_at (model_at limits) (kind.Keyword keyword.Root) ts) (λ x. root_at header x.0 x.1)
+
+behind_widens : (n w : Limits) → AreWidened n w → (header : Option Version)
+    → Widens (behind_at n header) (behind_at w header) Nothing a_root
+unfolding behind_at
+behind_widens n w g header =
+    then_widens (λ _ models. root_at header models) (λ _ models. root_at header models)
+    (many_widens (kind.Keyword keyword.Root) (model_shortens n) (model_shortens w) (model_widens n w g) (λ rest h. tt)) (λ rest h. refl)
+    (λ _ models. root_widens header models)
 
 pub whole_at : Limits → Reader WrittenFile
-whole_at limits ts = read_then (many_at (model_at limits) (kind.Keyword keyword.Root) ts) (λ x. root_at x.0 x.1)
+whole_at limits ts = read_then (header_at ts) (λ x. behind_at limits x.0 x.1)
 
 pub whole_widens : (n w : Limits) → AreWidened n w → Widens (whole_at n) (whole_at w) Nothing a_root
 unfolding whole_at
 whole_widens n w g =
-    then_widens (λ _ models. root_at models) (λ _ models. root_at models)
-    (many_widens (kind.Keyword keyword.Root) (model_shortens n) (model_shortens w) (model_widens n w g) (λ rest h. tt)) (λ rest h. refl)
-    (λ _ models. root_widens models)
+    then_widens (λ _ header. behind_at n header) (λ _ header. behind_at w header) header_widens (λ rest h. refl)
+    (λ _ header. behind_widens n w g header)
 
 whole_completes : (limits : Limits) → HaveRoom limits → Completes (whole_at limits) Nothing a_root
 whole_completes limits room = (whole_widens limits (above limits) (widened limits room)).narrow_completes
@@ -294,13 +323,14 @@ abbrev as_file : WrittenFile × List Token → Read WrittenFile
 as_file x = Ok x.0
 
 file_whole : (limits : Limits) (ts : List Token) → file_at limits ts ≡ read_then (whole_at limits ts) as_file
-unfolding file_at whole_at root_at last_at read_then
+unfolding file_at whole_at behind_at root_at last_at read_then
 file_whole limits ts =
-    later (many_at (model_at limits) (kind.Keyword keyword.Root) ts) _ _ as_file (λ models.
+    later (header_at ts) _ _ as_file (λ header.
+    later (many_at (model_at limits) (kind.Keyword keyword.Root) header.1) _ _ as_file (λ models.
     later (after (kind.Keyword keyword.Root) models.1) _ _ as_file (λ behind.
     later (name_at behind) _ _ as_file (λ n.
     later (after (kind.Symbol symbol.Semicolon) n.1) _ _ as_file (λ rest.
-    same_chosen (is_end rest) _ _ as_file _ _ refl refl))))
+    same_chosen (is_end rest) _ _ as_file _ _ refl refl)))))
 
 pub whole_err : (limits : Limits) (ts : List Token) (o : Obstacle) → file_at limits ts ≡ Err o → whole_at limits ts ≡ Err o
 whole_err limits ts o e = err_kept (whole_at limits ts) (λ x. x.0) o (sym (file_whole limits ts) ∙ e)

@@ -15,6 +15,10 @@ pub enum Part {
     Word(Keyword, &'static str),
     Name,
     Number,
+    /// A header, or none.
+    Header,
+    /// The number of the version.
+    Version,
     /// Models, or none.
     Models,
     /// Items of an atomic model, or none.
@@ -81,14 +85,22 @@ const TO: Part = Part::Word(Keyword::To, "to");
 const FROM: Part = Part::Word(Keyword::From, "from");
 
 /// What a text owes at its beginning.
-pub const FILE: &[Part] = &[Part::Models, ROOT, Part::Name, SEMICOLON, Part::End];
+pub const FILE: &[Part] = &[
+    Part::Header,
+    Part::Models,
+    ROOT,
+    Part::Name,
+    SEMICOLON,
+    Part::End,
+];
 
 impl Part {
     /// Whether the part may be nothing.
     pub fn is_optional(&self) -> bool {
         matches!(
             self,
-            Part::Models
+            Part::Header
+                | Part::Models
                 | Part::Items
                 | Part::CoupledItems
                 | Part::Statements
@@ -111,6 +123,8 @@ impl Part {
             Part::Word(word, _) => nothing_if(*kind == TokenKind::Keyword(*word)),
             Part::Name => nothing_if(matches!(kind, TokenKind::Name(_))),
             Part::Number => nothing_if(matches!(kind, TokenKind::Number(_))),
+            Part::Header => header_behind(kind),
+            Part::Version => nothing_if(is_version(*kind)),
             Part::Models => model_behind(kind),
             Part::Items => item_behind(kind),
             Part::CoupledItems => coupled_item_behind(kind),
@@ -150,6 +164,21 @@ impl Part {
 /// An empty list of what is owed, if `is_so`.
 fn nothing_if(is_so: bool) -> Option<&'static [Part]> {
     if is_so { Some(&[]) } else { None }
+}
+
+fn header_behind(kind: &TokenKind) -> Option<&'static [Part]> {
+    match kind {
+        TokenKind::Keyword(Keyword::Version) => Some(&[Part::Version, SEMICOLON]),
+        _ => None,
+    }
+}
+
+/// Whether a token is the number of the version.
+fn is_version(kind: TokenKind) -> bool {
+    let TokenKind::Number(number) = kind else {
+        return false;
+    };
+    number.value() == 1
 }
 
 fn model_behind(kind: &TokenKind) -> Option<&'static [Part]> {
@@ -357,6 +386,8 @@ fn words_of(part: &Part) -> &'static str {
         Part::Sign(..) | Part::Word(..) => "",
         Part::Name => "a name",
         Part::Number | Part::Bound => "a number",
+        Part::Header => "a header (`version 1;`)",
+        Part::Version => "the number 1",
         Part::Models => "a model (`atomic`, `coupled`)",
         Part::Items => {
             "an item of an atomic model (`in`, `out`, `var`, `flag`, `bag`, `phases`, `start`, `hold`, `output`, `internal`, `external`, `confluent`)"

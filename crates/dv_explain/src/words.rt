@@ -54,7 +54,7 @@ const REFUSALS: &[Explanation] = &[
     },
     Explanation {
         code: "E4",
-        words: "This token can't stand here. It is the first one with which no text goes on; where a text ends too early, its end is named. Look just before it, too: a missing `;`, `:` or `}` is found at the token after it. A reserved word can't be a name. `--explain` says what may stand there, and the grammar is in `docs/REFERENCE.md`.",
+        words: "This token can't stand here. It is the first one with which no text goes on; where a text ends too early, its end is named. Look just before it, too: a missing `;`, `:` or `}` is found at the token after it. A reserved word can't be a name. A text may begin with `version 1;`, and no other version is known. `--explain` says what may stand there, and the grammar is in `docs/REFERENCE.md`.",
         example: Some(Example {
             model: "coupled T { part a A; }\nroot T;\n",
             inputs: "",

@@ -10,8 +10,9 @@ use Rattle.dv_syntax.specs.declared.tree.Name.{Name}
 use Rattle.dv_syntax.specs.declared.tree.Operator.{Operator}
 use Rattle.dv_syntax.specs.declared.tree.Operator.TheVariants as operator
 use Rattle.dv_syntax.specs.declared.tree.Prefix.TheVariants as prefix
-use Rattle.dv_syntax.specs.Grammar.{Anywhere, IsFileOf, Spelled, braces, expression_spelling, file_spelling, hold_spelling}
-use Rattle.dv_syntax.specs.Grammar.{item_spelling, model_spelling, name, operator_kind, rule_spelling, sign, statements_spelling, word}
+use Rattle.dv_syntax.specs.Grammar.{Anywhere, IsFileOf, Spelled, braces, expression_spelling, file_spelling, header_spelling}
+use Rattle.dv_syntax.specs.Grammar.{hold_spelling, item_spelling, model_spelling, name, operator_kind, rule_spelling, sign}
+use Rattle.dv_syntax.specs.Grammar.{statements_spelling, word}
 use Rattle.dv_syntax.specs.Trees.{AtomicTree, FileTree, HoldTree, ModelTree, RuleTree, Expression as NamedExpression, Literal, TruthValue}
 use Rattle.dv_syntax.specs.Trees.{Named, Parens, Prefixed, Binary, Call, Elapsed, Times, Statements as NamedStatements, Done as Ended}
 use Rattle.dv_syntax.specs.Trees.{Assign, Goto as GoTo, Send, If as IfOnly, IfElse, For as Each, Add as AddTo, Drop}
@@ -226,11 +227,13 @@ pub text_within : (n : ℕ) (tokens : List Token) (f : FileTree) → length toke
 text_within n tokens f few parsed =
     let written = parsed.written in
     let spelled = flat_map model_spelling written.models in
+    let behind : List Spelled = word keyword.Root ∷ name written.root ∷ sign symbol.Semicolon ∷ [] in
     let own : length spelled ≤ n = omega (
       arith,
       few,
       Spells-length (file_spelling written) tokens [] parsed.read.spelled,
-      length-append spelled (word keyword.Root ∷ name written.root ∷ sign symbol.Semicolon ∷ []),
+      length-append (header_spelling written.header) (spelled ++ behind),
+      length-append spelled behind,
     ) in
     All-from_recursion (λ (m : ModelTree). HasProgramsWithin n m) f.models
     (subst (λ models. AllByRecursion (HasProgramsWithin n) models) (sym (ap (λ (g : FileTree). g.models) parsed.tree))

@@ -1,17 +1,18 @@
 -- What can be decided of bytes: which keyword or symbol they are, which symbol begins them, and how far they are UTF-8.
 use Rattle.std.proofs.Common.{◌≡◌, ◌≢◌, ℕ, ◌≤◌, ◌⊎◌, inl, inr, zero, suc, List, [], ◌∷◌, ◌++◌, length, take, drop, Option, None}
 use Rattle.std.proofs.Common.{Some, find, bytes_eq, IsUtf8, ap, refl, sym, ◌∙◌, arith}
-use Rattle.std.specs.Prelude.{IfSome}
+use Rattle.std.specs.Prelude.{Bool, IfSome, IsTrue, false, true}
 use Rattle.std.specs.Str.{IsValidUpTo, is_utf8}
-use Rattle.std.proofs.lemmas.Bool.{cases_Bool, cases_eq, cases_lt, cond_both, both_ways}
+use Rattle.std.proofs.lemmas.Bool.{cases_Bool, cases_eq, cases_lt, cond_both, both_ways, false≢true}
 use Rattle.std.proofs.lemmas.List.{take_at, take_all, take-append-drop, length-take, length-append}
 use Rattle.std.proofs.lemmas.Slice.Eq.{bytes_eq-Decides}
 use Rattle.std.proofs.lemmas.Str.{IsUtf8-nil, IsUtf8-from_is_utf8, is_utf8-from_IsUtf8}
 use Rattle.dv_lex.specs.declared.token.Symbol.{Symbol}
 use Rattle.dv_lex.specs.declared.token.Symbol.TheVariants as symbol
-use Rattle.dv_lex.specs.Lexemes.{keyword_text, symbol_text}
+use Rattle.dv_lex.specs.declared.token.Keyword.{Keyword}
+use Rattle.dv_lex.specs.Lexemes.{is_reserved, keyword_text, symbol_text}
 use Rattle.dv_lex.specs.Steps.{IsLongestSymbol}
-use Rattle.dv_lex.proofs.Spellings.{keywords, symbols, keyword_at, symbol_at}
+use Rattle.dv_lex.proofs.Spellings.{keywords, symbols, keyword_at, same_keyword, symbol_at}
 
 -- a text is that of something among all of a kind, or of none
 abbrev pub IsTextOfOne : {X : Type 0} → (X → List ℕ) → List ℕ → Type 0
@@ -41,6 +42,25 @@ text_of_one text_of all text each =
 
 pub keyword_or_none : (text : List ℕ) → IsTextOfOne keyword_text text
 keyword_or_none text = text_of_one keyword_text keywords text keyword_at
+
+-- a text is that of a reserved word, or of none
+abbrev pub IsReservedOrNone : List ℕ → Type 0
+IsReservedOrNone text =
+    ((word : Keyword) × (text ≡ keyword_text word) × IsTrue (is_reserved word))
+    ⊎ ((word : Keyword) → IsTrue (is_reserved word) → text ≢ keyword_text word)
+
+found_or_none : (text : List ℕ) (word : Keyword) → text ≡ keyword_text word → (b : Bool) → is_reserved word ≡ b → IsReservedOrNone text
+found_or_none text word e true is = inl (word, e, is)
+found_or_none text word e false is =
+    inr (λ other reserved same.
+    let one = same_keyword word other (sym e ∙ same) in absurd (false≢true (sym is ∙ ap is_reserved one ∙ reserved)))
+
+pub reserved_or_none : (text : List ℕ) → IsReservedOrNone text
+reserved_or_none text =
+    elim (keyword_or_none text) [
+      | inl found ↦ found_or_none text found.0 found.1 (is_reserved found.0) refl
+      | inr none ↦ inr (λ word reserved. none word)
+    ]
 
 symbol_or_none : (text : List ℕ) → IsTextOfOne symbol_text text
 symbol_or_none text = text_of_one symbol_text symbols text symbol_at

@@ -12,6 +12,7 @@ use Rattle.dv_lex.specs.Lexemes.{Lexeme, Blank, Comment, Identifier, Numeral, Re
 use Rattle.dv_lex.specs.Lexemes.{starts_name, continues_name, symbol_text}
 use Rattle.dv_lex.specs.Reading.{Placed, Reads, IsFirst, IsInRange, NoneBegins, LargeNumberBegins}
 use Rattle.dv_lex.specs.Numbering.{names_of, tokens_of}
+use Rattle.dv_lex.specs.Versions.{versioned}
 use Rattle.dv_lex.specs.Steps.{BeginsWith, SplitsRun, SplitsCharacters}
 use Rattle.dv_lex.specs.Texts.{IsReadable, IsTokensOf, IsRefused, ReadsUpTo, greatest_length}
 use Rattle.dv_lex.proofs.Runs.{SplitsRun-cut}
@@ -20,7 +21,7 @@ use Rattle.dv_lex.proofs.Spellings.{is_blank-ascii, word_class}
 use Rattle.dv_lex.proofs.Firsts.{IsFirst-blank, IsFirst-comment, IsFirst-word, IsFirst-numeral, IsFirst-sign, IsWord-split}
 use Rattle.dv_lex.proofs.Firsts.{digits-split, NoneBegins-first, word_in_range, IsUtf8-behind_first}
 use Rattle.dv_lex.proofs.Readings.{Reads-end, some_byte}
-use Rattle.dv_lex.proofs.Decisions.{keyword_or_none, symbol_in_front, utf8_or_not}
+use Rattle.dv_lex.proofs.Decisions.{reserved_or_none, symbol_in_front, utf8_or_not}
 
 -- where reading stops: at the end, where no lexeme begins, or at a number that is out of range
 data Stop (bytes : List ℕ) : Type 0 where
@@ -49,7 +50,8 @@ comment_front text run rest s = begun (35 ∷ text) Comment (35 ∷ run) rest (I
 
 -- a word: a keyword, or a name
 word_lexeme : (run : List ℕ) → IsWord run → (x : Lexeme) × Spells x run
-word_lexeme run w = elim (keyword_or_none run) [ inl found ↦ (Reserved found.0, found.1) | inr none ↦ (Identifier run, (refl, w, none)) ]
+word_lexeme run w =
+    elim (reserved_or_none run) [ inl found ↦ (Reserved found.0, (found.1, found.2)) | inr none ↦ (Identifier run, (refl, w, none)) ]
 
 word_front : (c : ℕ) (text run rest : List ℕ) → BeginsWith c text → starts_name c ≡ true → SplitsCharacters continues_name text run rest →
     Front text
@@ -160,7 +162,7 @@ read_whole text readable r e =
     let names : List (List ℕ) = names_of r.lexemes in
     inl (
       names,
-      tokens_of names r.lexemes,
+      versioned names (tokens_of names r.lexemes),
       record {
         readable = readable;
         lexemes = r.lexemes;

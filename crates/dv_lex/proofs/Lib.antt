@@ -10,3 +10,4 @@ pub mod NumberingLemmas
 pub mod Progress
 pub mod Decisions
 pub mod Existence
+pub mod Headers

@@ -223,11 +223,11 @@ numbered_kind names (Reserved word) kind h e = subst (IsNumbered names) (same_So
 numbered_kind names (Sign sign) kind h e = subst (IsNumbered names) (same_Some _ _ e) tt
 numbered_kind names _ kind h e = cc
 
-pub IsNumbered-tokens_of : (xs : List Placed) → All (λ (token : Token). IsNumbered (names_of xs) token.kind) (tokens_of (names_of xs) xs)
-IsNumbered-tokens_of xs =
-    All-from_recursion (λ (token : Token). IsNumbered (names_of xs) token.kind) (tokens_of (names_of xs) xs)
-    (tokens_of-each (λ (x : Placed). IsNamed (names_of xs) x.lexeme) (λ (token : Token). IsNumbered (names_of xs) token.kind) (names_of xs)
-    (λ x kind h e. numbered_kind (names_of xs) x.lexeme kind h e) xs (AreNamed-names_of xs))
+pub each_numbered : (xs : List Placed)
+    → AllByRecursion (λ (token : Token). IsNumbered (names_of xs) token.kind) (tokens_of (names_of xs) xs)
+each_numbered xs =
+    tokens_of-each (λ (x : Placed). IsNamed (names_of xs) x.lexeme) (λ (token : Token). IsNumbered (names_of xs) token.kind) (names_of xs)
+    (λ x kind h e. numbered_kind (names_of xs) x.lexeme kind h e) xs (AreNamed-names_of xs)
 
 pub all_tokens_of : (P : ℕ → Type 0) (names : List (List ℕ)) (xs : List Placed) → AllByRecursion (λ (x : Placed). P x.place) xs →
     AllByRecursion (λ (token : Token). P token.place) (tokens_of names xs)

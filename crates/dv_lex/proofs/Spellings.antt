@@ -163,7 +163,7 @@ lexeme_class (Sign _) = 4
 -- the words among the spellings
 pub IsWord-spelled : (x : Lexeme) (bytes : List ℕ) → lexeme_class x ≡ 2 → Spells x bytes → IsWord bytes
 IsWord-spelled (Identifier text) bytes k h = subst IsWord (sym h.0) h.1
-IsWord-spelled (Reserved word) bytes k h = subst IsWord (sym h) (IsWord-letters (keyword_text word) (keyword_text-letters word))
+IsWord-spelled (Reserved word) bytes k h = subst IsWord (sym h.0) (IsWord-letters (keyword_text word) (keyword_text-letters word))
 IsWord-spelled _ bytes k h = absurd (omega arith)
 
 -- the bytes begin with a character of the class
@@ -227,7 +227,7 @@ keywords =
     ∷ keyword.Confluent ∷ keyword.Part ∷ keyword.Link ∷ keyword.Itself ∷ keyword.If ∷ keyword.Else ∷ keyword.For ∷ keyword.Add
     ∷ keyword.To ∷ keyword.Drop ∷ keyword.From ∷ keyword.Send ∷ keyword.Goto ∷ keyword.True ∷ keyword.False ∷ keyword.Not
     ∷ keyword.And ∷ keyword.Or ∷ keyword.Elapsed ∷ keyword.Size ∷ keyword.Sum ∷ keyword.Least ∷ keyword.Most ∷ keyword.Times
-    ∷ []
+    ∷ keyword.Version ∷ []
 
 abbrev pub symbols : List Symbol
 symbols =
@@ -244,7 +244,7 @@ pub symbol_at : (s : Symbol) → find (λ other. bytes_eq (symbol_text other) (s
 symbol_at symbol.Assign = refl
 symbol_at _ = refl
 
-same_keyword : (k other : Keyword) → keyword_text k ≡ keyword_text other → k ≡ other
+pub same_keyword : (k other : Keyword) → keyword_text k ≡ keyword_text other → k ≡ other
 same_keyword k other e =
     same_Some k other (sym (keyword_at k) ∙ (ap (λ text. find (λ each. bytes_eq (keyword_text each) text) keywords) e ∙ keyword_at other))
 
@@ -257,9 +257,9 @@ pub same_lexeme : (x y : Lexeme) (bytes : List ℕ) → lexeme_class x ≡ lexem
 same_lexeme Blank Blank bytes k h t = refl
 same_lexeme Comment Comment bytes k h t = refl
 same_lexeme (Identifier text) (Identifier other) bytes k h t = ap Identifier (sym h.0 ∙ t.0)
-same_lexeme (Identifier text) (Reserved word) bytes k h t = absurd (h.2 word (sym h.0 ∙ t))
-same_lexeme (Reserved word) (Identifier text) bytes k h t = absurd (t.2 word (sym t.0 ∙ h))
-same_lexeme (Reserved word) (Reserved other) bytes k h t = ap Reserved (same_keyword word other (sym h ∙ t))
+same_lexeme (Identifier text) (Reserved word) bytes k h t = absurd (h.2 word t.1 (sym h.0 ∙ t.0))
+same_lexeme (Reserved word) (Identifier text) bytes k h t = absurd (t.2 word h.1 (sym t.0 ∙ h.0))
+same_lexeme (Reserved word) (Reserved other) bytes k h t = ap Reserved (same_keyword word other (sym h.0 ∙ t.0))
 same_lexeme (Numeral value) (Numeral other) bytes k h t = ap Numeral (h.2 ∙ sym t.2)
 same_lexeme (Sign sign) (Sign other) bytes k h t = ap Sign (same_symbol sign other (sym h ∙ t))
 same_lexeme _ _ bytes k h t = absurd (omega arith)

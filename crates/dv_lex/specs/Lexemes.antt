@@ -1,5 +1,6 @@
 -- What a model text is cut into, and how each piece of it is spelled.
-use Rattle.std.specs.Prelude.{◌≡◌, ◌≢◌, ℕ, ◌<◌, ◌==◌, Bool, not, ◌||◌, IsTrue, List, [], ◌∷◌, length, codes, count_by, encode_utf8_all}
+use Rattle.std.specs.Prelude.{◌≡◌, ◌≢◌, ℕ, ◌<◌, ◌==◌, Bool, true, false, not, ◌||◌, IsTrue, List, [], ◌∷◌, length, codes, count_by}
+use Rattle.std.specs.Prelude.{encode_utf8_all}
 use Rattle.std.specs.Char.{is_ascii_digit}
 use Rattle.std.specs.List.{list_all}
 use Rattle.std.specs.Str.Parse.{digits_value}
@@ -84,6 +85,12 @@ keyword_text keyword.Sum = codes "sum"
 keyword_text keyword.Least = codes "least"
 keyword_text keyword.Most = codes "most"
 keyword_text keyword.Times = codes "times"
+keyword_text keyword.Version = codes "version"
+
+-- is the word never a name
+abbrev pub is_reserved : Keyword → Bool
+is_reserved keyword.Version = false
+is_reserved word = true
 
 -- how a symbol is written
 abbrev pub symbol_text : Symbol → List ℕ
@@ -114,7 +121,7 @@ symbol_text symbol.Percent = codes "%"
 abbrev pub Spells : Lexeme → List ℕ → Type 0
 Spells Blank bytes = (b : ℕ) × (bytes ≡ b ∷ []) × IsTrue (is_blank b)
 Spells Comment bytes = IsComment bytes
-Spells (Identifier text) bytes = (bytes ≡ text) × IsWord text × ((word : Keyword) → text ≢ keyword_text word)
+Spells (Identifier text) bytes = (bytes ≡ text) × IsWord text × ((word : Keyword) → IsTrue (is_reserved word) → text ≢ keyword_text word)
 Spells (Numeral value) bytes = (0 < length bytes) × IsTrue (list_all is_ascii_digit bytes) × (value ≡ digits_value 10 bytes)
-Spells (Reserved word) bytes = bytes ≡ keyword_text word
+Spells (Reserved word) bytes = (bytes ≡ keyword_text word) × IsTrue (is_reserved word)
 Spells (Sign sign) bytes = bytes ≡ symbol_text sign

@@ -3,6 +3,7 @@ pub mod Lexemes
 pub mod Reading
 pub mod Table
 pub mod Numbering
+pub mod Versions
 pub mod Texts
 pub mod Order
 pub mod Words

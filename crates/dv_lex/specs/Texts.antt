@@ -12,6 +12,7 @@ use Rattle.dv_lex.specs.declared.error.RefusalNumber.TheVariants.{E1, E2, E3, E1
 use Rattle.dv_lex.specs.Lexemes.{line_feeds}
 use Rattle.dv_lex.specs.Reading.{Placed, Reads, NoneBegins, LargeNumberBegins}
 use Rattle.dv_lex.specs.Numbering.{names_of, tokens_of}
+use Rattle.dv_lex.specs.Versions.{versioned}
 
 -- the greatest length of a model text, in bytes
 abbrev pub greatest_length : ℕ
@@ -32,7 +33,7 @@ pub record IsTokensOf (text : List ℕ) (names : List (List ℕ)) (tokens : List
   pub lexemes : List Placed
   pub reads : Reads 0 text lexemes (length text) []
   pub table : names ≡ names_of lexemes
-  pub numbered : tokens ≡ tokens_of names lexemes
+  pub numbered : tokens ≡ versioned names (tokens_of names lexemes)
 
 -- the text reads as lexemes up to a rest that begins at this place
 pub record ReadsUpTo (text : List ℕ) (place : ℕ) (rest : List ℕ) : Type 0 where

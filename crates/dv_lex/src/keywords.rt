@@ -1,14 +1,15 @@
 //! Keywords.
 
-ghost use Rattle.std.specs.Prelude.{◌≡◌, ◌≢◌, MatchOption};
-ghost use Rattle.dv_lex.specs.Lexemes.{keyword_text};
+ghost use Rattle.std.specs.Prelude.{◌≡◌, ◌≢◌, IsTrue, MatchOption};
+ghost use Rattle.dv_lex.specs.Lexemes.{is_reserved, keyword_text};
 
 use crate::token::Keyword;
 
-/// The keyword that the word is, if it is one.
+/// The reserved word that the word is, if it is one.
 pub fn keyword(word: &str) -> Option<Keyword>
-    ensures { MatchOption result ((k : Keyword) → word.now ≢ keyword_text k)
-        (λ k. word.now ≡ keyword_text k) }
+    ensures { MatchOption result
+        ((k : Keyword) → IsTrue (is_reserved k) → word.now ≢ keyword_text k)
+        (λ k. (word.now ≡ keyword_text k) × IsTrue (is_reserved k)) }
 {
     match word {
         "atomic" => Some(Keyword::Atomic),

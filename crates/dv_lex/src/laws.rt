@@ -1,12 +1,14 @@
 //! Laws of the definitions: what holds of every text.
 
-ghost use Rattle.std.specs.Prelude.{◌≡◌, ◌≤◌, ◌<◌, ◌⊎◌, ℕ, List, ◌++◌, All, bytes_eq, length};
+ghost use Rattle.std.specs.Prelude.{◌≡◌, ◌≤◌, ◌<◌, ◌⊎◌, ℕ, List, ◌∷◌, ◌++◌, All, bytes_eq, length};
 ghost use Rattle.std.specs.List.{IsDistinct};
+ghost use Rattle.dv_lex.specs.Numbering.{tokens_of};
 ghost use Rattle.dv_lex.specs.Reading.{Placed, Reads};
 ghost use Rattle.dv_lex.specs.Texts.{IsTokensOf, IsRefused, IsNumbered, IsPlace, IsAscending};
+ghost use Rattle.dv_lex.specs.Versions.{IsHeaded};
 
 use crate::error::Refusal;
-use crate::token::Token;
+use crate::token::{Keyword, Token, TokenKind};
 
 /// A text has at most one table of names and one list of tokens.
 pub fn tokens_are_unique()
@@ -65,6 +67,21 @@ pub fn tokens_have_places()
 pub fn tokens_are_no_more_than_bytes()
     ensures { (text : List ℕ) (names : List (List ℕ)) (tokens : List Token) →
         IsTokensOf text names tokens → length tokens ≤ length text }
+{}
+
+/// A text that does not begin with the name `version` has the tokens of its lexemes.
+pub fn other_texts_keep_their_tokens()
+    ensures { (text : List ℕ) (names : List (List ℕ)) (tokens : List Token)
+        (t : IsTokensOf text names tokens) → ¬ IsHeaded names (tokens_of names t.lexemes)
+        → tokens ≡ tokens_of names t.lexemes }
+{}
+
+/// Where a text begins with the name `version` that is a keyword, at its place; the other tokens are those of its lexemes.
+pub fn a_header_changes_the_first_token_alone()
+    ensures { (text : List ℕ) (names : List (List ℕ)) (tokens : List Token)
+        (t : IsTokensOf text names tokens) (first : Token) (others : List Token) →
+        tokens_of names t.lexemes ≡ first ∷ others → IsHeaded names (first ∷ others) → tokens
+        ≡ record { kind = TokenKind.Keyword Keyword.Version; place = first.place } ∷ others }
 {}
 
 /// A text is refused at one of its places, or at its end.

@@ -16,6 +16,7 @@ use crate::names::Names;
 use crate::numeral::Numeral;
 use crate::symbols::{double, single};
 use crate::token::{Symbol, Token, TokenKind, Tokens};
+use crate::versions::make_words;
 use std::alloc::{AllocError, Global};
 use unicode_ident::{is_xid_continue, is_xid_start};
 
@@ -239,6 +240,7 @@ fn read(alloc: Global, text: &str) -> Result<Tokens, LoadError>
             rest = after;
         }
     }
+    make_words(&names, &mut tokens);
     Ok(Tokens { names, tokens })
 }
 

@@ -20,6 +20,8 @@ pub mod numeral;
 mod symbols;
 /// The tokens.
 pub mod token;
+/// The header of a text.
+mod versions;
 
 pub use error::{LoadError, Refusal, RefusalNumber, TextError, answer};
 pub use lexer::{GREATEST_LENGTH, tokens};

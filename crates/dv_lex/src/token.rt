@@ -3,7 +3,7 @@
 use crate::names::Names;
 use crate::numeral::Numeral;
 
-/// A word that is never a name.
+/// A word of the language. `Version` is one where a text begins with it, and a name elsewhere; the others are never names.
 #[derive(Clone, Copy, Debug, PartialEq, Eq)]
 pub enum Keyword {
     Atomic,
@@ -45,6 +45,7 @@ pub enum Keyword {
     Least,
     Most,
     Times,
+    Version,
 }
 
 /// A sign of one or two characters.

@@ -8,6 +8,8 @@ use Rattle.dv_lex.specs.declared.token.Keyword.{Keyword}
 use Rattle.dv_lex.specs.declared.token.Keyword.TheVariants as keyword
 use Rattle.dv_lex.specs.declared.token.Symbol.{Symbol}
 use Rattle.dv_lex.specs.declared.token.Symbol.TheVariants as symbol
+use Rattle.dv_syntax.specs.declared.tree.Version.{Version}
+use Rattle.dv_syntax.specs.declared.tree.Version.TheVariants as version
 use Rattle.dv_syntax.specs.declared.tree.Prefix.TheVariants as prefix
 use Rattle.dv_syntax.specs.declared.tree.Name.{Name}
 use Rattle.dv_syntax.specs.declared.tree.Number.{Number}
@@ -30,12 +32,12 @@ use Rattle.dv_syntax.specs.Grammar.{Spelled, Anywhere, Limits, the_limits, name,
 use Rattle.dv_syntax.specs.Grammar.{expression_spelling, minus_spelling, bound_spelling, variable_spelling, flag_spelling}
 use Rattle.dv_syntax.specs.Grammar.{bag_spelling, ticks_spelling, phases_spelling, rule_spelling, item_spelling, AreTicks}
 use Rattle.dv_syntax.specs.Grammar.{IsItem, part_name_spelling, end_spelling, coupled_item_spelling, model_spelling, IsModel}
-use Rattle.dv_syntax.specs.Grammar.{file_spelling, IsWritten, IsFileWithin, IsFileOf}
+use Rattle.dv_syntax.specs.Grammar.{file_spelling, header_spelling, version_number, IsWritten, IsFileWithin, IsFileOf}
 use Rattle.dv_parser.specs.Reading.{Obstacle, Read, read_then, choose, begins, operator_of, many_at, braces_at, bound_at}
 use Rattle.dv_parser.specs.Reading.{variable_at, flag_at, bag_at, further_name_at, phases_at, start_at, ticks_at, hold_at}
 use Rattle.dv_parser.specs.Reading.{rule_at, any_rule_at, port_at, item_at, atomic_at, end_at, part_at, link_at}
-use Rattle.dv_parser.specs.Reading.{coupled_item_at, coupled_at, model_at, is_end, file_at}
-use Rattle.dv_parser.proofs.Tokens.{then_ok, here, past, chosen, ok_is, err_ok, Spans, nothing, span_end, then_spans, split}
+use Rattle.dv_parser.specs.Reading.{coupled_item_at, coupled_at, model_at, is_end, header_at, version_at, file_at}
+use Rattle.dv_parser.proofs.Tokens.{FirstRead, then_ok, here, past, chosen, ok_is, err_ok, Spans, nothing, span_end, then_spans, split}
 use Rattle.dv_parser.proofs.Tokens.{first, first_name, first_number, first_truth, unplaced, after_spans, after_spans_at}
 use Rattle.dv_parser.proofs.Tokens.{name_spans, number_spans, truth_spans}
 use Rattle.dv_parser.proofs.Readers.{IsReader, IsListed, many_reader, braces_reader, shortens, Shortens, Always, all_any}
@@ -720,18 +722,71 @@ end_of : (ts : List Token) → is_end ts ≡ true → ts ≡ []
 end_of [] e = refl
 end_of (t ∷ ts) e = absurd cc
 
+-- ---- Headers
+
+version_spans : {ss : List Spelled} {ts rest : List Token} {x : Version × List Token} → version_at ts ≡ Ok x → Spans ss x.1 rest
+    → Spans (Anywhere (kind.Number (version_number x.0)) ∷ ss) ts rest
+unfolding version_at
+version_spans {ss = ss} {ts = ts} {rest = rest} {x = x} e =
+    let a = then_ok _ _ _ e in
+    subst (λ (y : Version × List Token). Spans ss y.1 rest → Spans (Anywhere (kind.Number (version_number y.0)) ∷ ss) ts rest)
+    (ok_is _ _ a.2) (λ h. after_spans a.1 h)
+
+header_sound : (ts : List Token) (x : Option Version × List Token) → header_at ts ≡ Ok x → Spans (header_spelling x.0) ts x.1
+unfolding header_at
+header_sound ts x e =
+    elim (chosen _ _ _ _ e) [
+      | inl p ↦
+          let a = then_ok _ _ _ p.1 in
+          let b = then_ok _ _ _ a.2 in
+          let c = then_ok _ _ _ b.2 in
+          let last : Spans [] c.0 c.0 = record { spells = refl } in
+          subst (λ (y : Option Version × List Token). Spans (header_spelling y.0) ts y.1) (ok_is _ _ c.2)
+          (after_spans a.1 (version_spans b.1 (after_spans c.1 last)))
+      | inr p ↦
+          let none : Spans [] ts ts = record { spells = refl } in
+          subst (λ (y : Option Version × List Token). Spans (header_spelling y.0) ts y.1) (ok_is _ _ p.1) none
+    ]
+
+first_version : (v : Version) {ss : List Spelled} {ts rest : List Token} → Spans (Anywhere (kind.Number (version_number v)) ∷ ss) ts rest
+    → FirstRead version_at v ss ts rest
+unfolding version_at read_then
+first_version version.First h = let f = first h in record { behind = f.behind; read = rw f.after refl; spelled = f.spelled }
+
+-- no header follows
+abbrev pub NoHeader : List Token → Type 0
+NoHeader rest = begins (kind.Keyword keyword.Version) rest ≡ false
+
+header_complete : (h : Option Version) (ts rest : List Token) → Spans (header_spelling h) ts rest → NoHeader rest
+    → header_at ts ≡ Ok (h, rest)
+unfolding header_at choose read_then
+header_complete None ts rest s ends = rw (subst NoHeader (sym s.spells) ends, s.spells) refl
+header_complete (Some v) ts rest s ends =
+    let a = first s in
+    let b = first_version v a.spelled in
+    let c = first b.spelled in
+    rw (a.begins (kind.Keyword keyword.Version), a.after, b.read, c.after, c.spelled.spells) refl
+
+-- what follows a header is none
+no_header : (ms : List WrittenModel) (ss : List Spelled) {ts rest : List Token}
+    → Spans (flat_map model_spelling ms ++ word keyword.Root ∷ ss) ts rest → NoHeader ts
+no_header [] ss h = (first h).begins _
+no_header (WrittenAtomic n items ∷ ms) ss h = (first h).begins _
+no_header (WrittenCoupled n items ∷ ms) ss h = (first h).begins _
+
 pub file_sound : (limits : Limits) (ts : List Token) (f : WrittenFile) → file_at limits ts ≡ Ok f → IsWritten limits ts f
 unfolding file_at
 file_sound limits ts f e =
-    let a = then_ok _ _ _ e in
+    let z = then_ok _ _ _ e in
+    let a = then_ok _ _ _ z.2 in
     let b = then_ok _ _ _ a.2 in
     let c = then_ok _ _ _ b.2 in
     let d = then_ok _ _ _ c.2 in
     elim (chosen _ _ _ _ d.2) [
       | inl p ↦
-          let s = (models_reader limits).sound ts a.0 a.1 in
+          let s = (models_reader limits).sound z.0.1 a.0 a.1 in
           let last : Spans [] d.0 [] = record { spells = end_of d.0 p.0 } in
-          let h = then_spans s.0 (after_spans b.1 (name_spans c.1 (after_spans d.1 last))) in
+          let h = then_spans (header_sound ts z.0 z.1) (then_spans s.0 (after_spans b.1 (name_spans c.1 (after_spans d.1 last)))) in
           subst (IsWritten limits ts) (ok_is _ _ p.1) (record { spelled = h.spells; models = s.1 })
       | inr p ↦ absurd (err_ok _ _ p.1)
     ]
@@ -740,12 +795,14 @@ pub file_complete : (limits : Limits) (ts : List Token) (f : WrittenFile) → Is
 unfolding file_at choose read_then
 file_complete limits ts f is =
     let h : Spans (file_spelling f) ts [] = record { spells = is.spelled } in
-    let s = split (flat_map model_spelling f.models) (word keyword.Root ∷ name f.root ∷ semicolon) h in
+    let z = split (header_spelling f.header) (flat_map model_spelling f.models ++ word keyword.Root ∷ name f.root ∷ semicolon) h in
+    let s = split (flat_map model_spelling f.models) (word keyword.Root ∷ name f.root ∷ semicolon) z.2 in
     let a = first s.2 in
     let b = first_name f.root a.spelled in
     let c = first b.spelled in
-    let m = (models_reader limits).complete f.models ts s.0 is.models s.1 (a.begins (kind.Keyword keyword.Root)) in
-    rw (m, a.after, b.read, c.after, span_end c.spelled) refl
+    let o = header_complete f.header ts z.0 z.1 (no_header f.models (name f.root ∷ semicolon) z.2) in
+    let m = (models_reader limits).complete f.models z.0 s.0 is.models s.1 (a.begins (kind.Keyword keyword.Root)) in
+    rw (o, m, a.after, b.read, c.after, span_end c.spelled) refl
 
 pub file_unique : (ts : List Token) (f g : FileTree) → IsFileOf ts f → IsFileOf ts g → f ≡ g
 file_unique ts f g p q =

@@ -18,7 +18,7 @@ use Rattle.dv_syntax.specs.Grammar.{the_limits, IsFileOf}
 use Rattle.dv_parser.specs.Reading.{Obstacle, Read, read_then, choose, begins, after, name_at, is_end, many, many_at, becoming}
 use Rattle.dv_parser.specs.Reading.{Reader, braces_at, item_at, coupled_item_at, atomic_at, coupled_at, model_at, file_at}
 use Rattle.dv_parser.specs.Reading.{with_items, with_item, with_coupled_items, with_coupled_item, empty_atomic, empty_coupled}
-use Rattle.dv_parser.specs.Reading.{atomic_tree_at, coupled_tree_at, tree_at, file_tree_at, refusal_in, obstacle_of, answer_of}
+use Rattle.dv_parser.specs.Reading.{atomic_tree_at, coupled_tree_at, tree_at, header_at, file_tree_at, refusal_in, obstacle_of, answer_of}
 use Rattle.dv_parser.specs.Reading.{Fails, IsRefused}
 use Rattle.dv_parser.proofs.Tokens.{then_ok, ok_is, err_is}
 use Rattle.dv_parser.proofs.Readers.{Shortens, later}
@@ -184,12 +184,13 @@ then_read e f = ap (λ r. read_then r f) e
 file_trees : (ts : List Token) → file_tree_at ts ≡ read_then (file_at the_limits ts) as_file
 unfolding file_tree_at file_at many_at read_then
 file_trees ts =
-    then_read (many_trees (suc (length ts)) ts) _ ∙ later_list (many_at (model_at the_limits) (kind.Keyword keyword.Root) ts)
-    (map sorted_model) _ _ as_file (λ models.
+    later (header_at ts) _ _ as_file (λ header.
+    then_read (many_trees (suc (length header.1)) header.1) _
+    ∙ later_list (many_at (model_at the_limits) (kind.Keyword keyword.Root) header.1) (map sorted_model) _ _ as_file (λ models.
     later (after (kind.Keyword keyword.Root) models.1) _ _ as_file (λ behind.
     later (name_at behind) _ _ as_file (λ n.
     later (after (kind.Symbol symbol.Semicolon) n.1) _ _ as_file (λ rest.
-    same_chosen (is_end rest) _ _ as_file _ _ refl refl))))
+    same_chosen (is_end rest) _ _ as_file _ _ refl refl)))))
 
 pub file_tree_sound : (ts : List Token) (f : FileTree) → file_tree_at ts ≡ Ok f → IsFileOf ts f
 file_tree_sound ts f e =

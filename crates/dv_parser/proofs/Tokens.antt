@@ -113,7 +113,7 @@ keywords =
     ∷ keyword.Confluent ∷ keyword.Part ∷ keyword.Link ∷ keyword.Itself ∷ keyword.If ∷ keyword.Else ∷ keyword.For ∷ keyword.Add
     ∷ keyword.To ∷ keyword.Drop ∷ keyword.From ∷ keyword.Send ∷ keyword.Goto ∷ keyword.True ∷ keyword.False ∷ keyword.Not
     ∷ keyword.And ∷ keyword.Or ∷ keyword.Elapsed ∷ keyword.Size ∷ keyword.Sum ∷ keyword.Least ∷ keyword.Most ∷ keyword.Times
-    ∷ []
+    ∷ keyword.Version ∷ []
 
 symbols : List Symbol
 symbols =
@@ -163,6 +163,7 @@ keyword_again keyword.Sum = refl
 keyword_again keyword.Least = refl
 keyword_again keyword.Most = refl
 keyword_again keyword.Times = refl
+keyword_again keyword.Version = refl
 
 symbol_again : (s : Symbol) → get_or symbols (symbol_number s) symbol.Assign ≡ s
 unfolding symbols

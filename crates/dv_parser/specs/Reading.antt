@@ -9,6 +9,8 @@ use Rattle.dv_lex.specs.declared.token.Keyword.{Keyword}
 use Rattle.dv_lex.specs.declared.token.Keyword.TheVariants as keyword
 use Rattle.dv_lex.specs.declared.token.Symbol.{Symbol}
 use Rattle.dv_lex.specs.declared.token.Symbol.TheVariants as symbol
+use Rattle.dv_syntax.specs.declared.tree.Version.{Version}
+use Rattle.dv_syntax.specs.declared.tree.Version.TheVariants as version
 use Rattle.dv_syntax.specs.declared.tree.Name.{Name}
 use Rattle.dv_syntax.specs.declared.tree.Number.{Number}
 use Rattle.dv_syntax.specs.declared.tree.Prefix.{Prefix}
@@ -143,6 +145,7 @@ keyword_number keyword.Sum = 35
 keyword_number keyword.Least = 36
 keyword_number keyword.Most = 37
 keyword_number keyword.Times = 38
+keyword_number keyword.Version = 39
 
 abbrev pub symbol_number : Symbol → ℕ
 symbol_number symbol.Assign = 0
@@ -684,14 +687,28 @@ abbrev pub is_end : List Token → Bool
 is_end [] = true
 is_end (t ∷ ts) = false
 
+-- the number of a version
+unfoldable pub version_at : Reader Version
+version_at ts = after (kind.Number 1) ts >>= λ rest. Ok (version.First, rest)
+
+-- a header, if there is one
+unfoldable pub header_at : Reader (Option Version)
+header_at ts = choose (begins (kind.Keyword keyword.Version) ts)
+    (after (kind.Keyword keyword.Version) ts >>= λ behind.
+    version_at behind >>= λ v.
+    after (kind.Symbol symbol.Semicolon) v.1 >>= λ rest.
+    Ok (Some v.0, rest))
+    (Ok (None, ts))
+
 -- a file, of all the tokens
 unfoldable pub file_at : Limits → List Token → Read WrittenFile
 file_at limits ts = do
-  models ← many_at (model_at limits) (kind.Keyword keyword.Root) ts
+  header ← header_at ts
+  models ← many_at (model_at limits) (kind.Keyword keyword.Root) header.1
   behind ← after (kind.Keyword keyword.Root) models.1
   n ← name_at behind
   rest ← after (kind.Symbol symbol.Semicolon) n.1
-  choose (is_end rest) (Ok (record { models = models.0; root = n.0 })) (Err (obstacle_at rest))
+  choose (is_end rest) (Ok (record { header = header.0; models = models.0; root = n.0 })) (Err (obstacle_at rest))
 
 -- what stops a reader is answered by this refusal; `end` is the place of the end of the text
 abbrev pub refusal_of : Obstacle → ℕ → Refusal
@@ -789,7 +806,8 @@ tree_at ts = choose (begins (kind.Keyword keyword.Coupled) ts)
 
 unfoldable pub file_tree_at : List Token → Read FileTree
 file_tree_at ts = do
-  models ← many_at tree_at (kind.Keyword keyword.Root) ts
+  header ← header_at ts
+  models ← many_at tree_at (kind.Keyword keyword.Root) header.1
   behind ← after (kind.Keyword keyword.Root) models.1
   n ← name_at behind
   rest ← after (kind.Symbol symbol.Semicolon) n.1

@@ -1,17 +1,17 @@
-//! Files: models one after the other, and the name of the root.
+//! Files: perhaps a header, models one after the other, and the name of the root.
 
 ghost use Rattle.std.specs.Prelude.{◌≡◌, IfOk, IfErr, map};
 ghost use Rattle.dv_syntax.specs.Trees.{model_of, file_of};
 ghost use Rattle.dv_syntax.specs.Grammar.{IsFileOf};
 ghost use Rattle.dv_parser.specs.Reading.{Gives, IsRefused, many_at, tree_at, file_tree_at, obstacle_of};
-ghost use Rattle.dv_parser.specs.Reading.{refusal_of, answer_of};
+ghost use Rattle.dv_parser.specs.Reading.{Reads, header_at, version_at, refusal_of, answer_of};
 
 use crate::atomic::atomic;
 use crate::coupled::coupled;
 use crate::parse_error::{Obstacle, ParseError};
-use crate::token::{after_keyword, after_symbol, begins_with_keyword, name, test_end};
+use crate::token::{after_keyword, after_number, after_symbol, begins_with_keyword, name, test_end};
 use dv_lex::{Keyword, LoadError, Refusal, RefusalNumber, Symbol, Token, TokenKind};
-use dv_syntax::{File, Model};
+use dv_syntax::{File, Model, Version};
 use std::alloc::Global;
 
 /// A model at the front.
@@ -43,12 +43,37 @@ fn models(alloc: Global, tokens: &[Token]) -> Result<(Vec<Model>, &[Token]), Par
     Ok((models, rest))
 }
 
+/// The number of a version at the front, and what follows it.
+#[tactic(auto, unfolding(crate::specs::Reading::version_at, crate::specs::Reading::read_then))]
+fn version(tokens: &[Token]) -> Result<(Version, &[Token]), Obstacle>
+    ensures { Reads (λ x. (x.0, x.1.now)) result (version_at tokens.now) }
+{
+    let rest = after_number(tokens, 1)?;
+    Ok((Version::First, rest))
+}
+
+/// The header at the front, if there is one, and what follows it.
+#[tactic(auto, unfolding(crate::specs::Reading::header_at, crate::specs::Reading::read_then, crate::specs::Reading::choose))]
+fn header(tokens: &[Token]) -> Result<(Option<Version>, &[Token]), Obstacle>
+    ensures { Reads (λ x. (x.0, x.1.now)) result (header_at tokens.now) }
+{
+    if begins_with_keyword(tokens, Keyword::Version) {
+        let rest = after_keyword(tokens, Keyword::Version)?;
+        let (version, rest) = version(rest)?;
+        let rest = after_symbol(rest, Symbol::Semicolon)?;
+        Ok((Some(version), rest))
+    } else {
+        Ok((None, tokens))
+    }
+}
+
 /// All the tokens as a file.
 #[tactic(auto, unfolding(crate::specs::Reading::file_tree_at, crate::specs::Reading::obstacle_at, crate::specs::Reading::read_then, crate::specs::Reading::choose))]
 fn file(alloc: Global, tokens: &[Token]) -> Result<File, ParseError>
     ensures { Gives file_of result (file_tree_at tokens.now) }
 {
-    let (models, rest) = models(alloc, tokens)?;
+    let (_, rest) = header(tokens)?;
+    let (models, rest) = models(alloc, rest)?;
     let rest = after_keyword(rest, Keyword::Root)?;
     let (root, rest) = name(rest)?;
     let rest = after_symbol(rest, Symbol::Semicolon)?;

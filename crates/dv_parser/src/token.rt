@@ -7,7 +7,7 @@ ghost use Rattle.dv_parser.specs.Reading.{begins_word_of, begins_call, after, pl
 ghost use Rattle.dv_parser.specs.Reading.{call_word_at, is_end};
 
 use crate::parse_error::Obstacle;
-use dv_lex::{Keyword, Symbol, Token, TokenKind};
+use dv_lex::{Keyword, Numeral, Symbol, Token, TokenKind};
 use dv_syntax::{BagCall, Name, Number};
 
 fn is_same(first: TokenKind, second: TokenKind) -> bool
@@ -140,6 +140,23 @@ pub fn after_kind(tokens: &[Token], kind: TokenKind) -> Result<&[Token], Obstacl
         return Err(unexpected(tokens));
     }
     Ok(&tokens[1..])
+}
+
+/// The kind of a number that is small.
+fn small(number: u32) -> TokenKind
+    ensures { result ≡ TokenKind.Number number }
+{
+    match Numeral::new(u64::from(number)) {
+        Some(value) => TokenKind::Number(value),
+        None => unreachable!(),
+    }
+}
+
+/// The tokens after this number.
+pub fn after_number(tokens: &[Token], number: u32) -> Result<&[Token], Obstacle>
+    ensures { Reads (λ rest. rest.now) result (after (TokenKind.Number number) tokens.now) }
+{
+    after_kind(tokens, small(number))
 }
 
 /// The tokens after this symbol.

@@ -7,13 +7,15 @@ use Rattle.dv_lex.specs.Lexemes.{Lexeme, Blank, Comment, Identifier, Numeral, Re
 use Rattle.dv_lex.specs.Numbering.{token_of, tokens_of}
 use Rattle.dv_lex.specs.Reading.{IsInRange, Placed, Reads}
 use Rattle.dv_lex.specs.Texts.{IsTokensOf}
+use Rattle.dv_lex.specs.Versions.{header_words, kind_or_word, text_in, versioned, word_written}
+use Rattle.dv_lex.specs.declared.token.Keyword.{Keyword}
 use Rattle.dv_lex.specs.declared.token.Symbol.TheVariants as symbol
 use Rattle.dv_lex.specs.declared.token.Token.{Token}
 use Rattle.dv_lex.specs.declared.token.TokenKind.{TokenKind}
 use Rattle.dv_lex.specs.declared.token.TokenKind.TheVariants as kind
 use Rattle.dv_syntax.specs.Grammar.{Anywhere, At, IsFileOf, IsSpelled, Spelled, Spells, bound_spelling, braces}
-use Rattle.dv_syntax.specs.Grammar.{declaration_spelling, expression_spelling, file_spelling, item_spelling, minus_spelling}
-use Rattle.dv_syntax.specs.Grammar.{model_spelling, name, number, sign, statements_spelling, word}
+use Rattle.dv_syntax.specs.Grammar.{declaration_spelling, expression_spelling, file_spelling, header_spelling, item_spelling}
+use Rattle.dv_syntax.specs.Grammar.{minus_spelling, model_spelling, name, number, sign, statements_spelling, word}
 use Rattle.dv_syntax.specs.Trees.{Expression, Literal, TruthValue, Named, Parens, Prefixed, Binary, Call, Elapsed, Times, FileTree}
 use Rattle.dv_syntax.specs.Trees.{Statements, Done, Assign, Goto, Send, If, IfElse, For, Add, Drop}
 use Rattle.dv_syntax.specs.Written.{AtomicItem, Declares, Lists, Starts, Holds, Rules, WrittenAtomic, WrittenCoupled}
@@ -70,6 +72,15 @@ tokens_small names place bytes (x ∷ xs) end rest h =
     let front : List ℕ = h.2.0 in
     small_then names x.lexeme x.place (tokens_of names xs) h.1
     (tokens_small names (place + length front) h.2.1 xs end rest h.2.3)
+
+-- the same where the first is the word of a header
+small_or : (k : TokenKind) (word : Option Keyword) → IsSmall k → IsSmall (kind_or_word k word)
+small_or k None h = h
+small_or k (Some word) h = tt
+
+versioned_small : (names : List (List ℕ)) (ts : List Token) → AreSmall ts → AreSmall (versioned names ts)
+versioned_small names [] h = tt
+versioned_small names (t ∷ ts) h = (small_or t.kind (word_written header_words (text_in names t.kind)) h.0, h.1)
 
 -- what they spell
 spelled_small : (ss : List Spelled) (ts rest : List Token) → Spells ss ts rest → AreSmall ts → AskSmall ss
@@ -241,8 +252,8 @@ pub file_of_numbers : (text : List ℕ) (names : List (List ℕ)) (tokens : List
 file_of_numbers text names tokens f lexed parsed =
     let written = parsed.written in
     let small : AreSmall tokens = subst AreSmall (sym lexed.numbered)
-    (tokens_small names 0 text lexed.lexemes (length text) [] lexed.reads) in
-    let both = parted (flat_map model_spelling written.models) _
-    (spelled_small (file_spelling written) tokens [] parsed.read.spelled small) in
+    (versioned_small names (tokens_of names lexed.lexemes) (tokens_small names 0 text lexed.lexemes (length text) [] lexed.reads)) in
+    let behind = parted (header_spelling written.header) _ (spelled_small (file_spelling written) tokens [] parsed.read.spelled small) in
+    let both = parted (flat_map model_spelling written.models) _ behind.1 in
     subst (λ (t : FileTree). AllByRecursion IsModelOfNumbers t.models) (sym parsed.tree)
     (models_of_numbers written.models both.0)

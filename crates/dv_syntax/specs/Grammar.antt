@@ -8,6 +8,8 @@ use Rattle.dv_lex.specs.declared.token.Keyword.{Keyword}
 use Rattle.dv_lex.specs.declared.token.Keyword.TheVariants as keyword
 use Rattle.dv_lex.specs.declared.token.Symbol.{Symbol}
 use Rattle.dv_lex.specs.declared.token.Symbol.TheVariants as symbol
+use Rattle.dv_syntax.specs.declared.tree.Version.{Version}
+use Rattle.dv_syntax.specs.declared.tree.Version.TheVariants as version
 use Rattle.dv_syntax.specs.declared.tree.Name.{Name}
 use Rattle.dv_syntax.specs.declared.tree.Number.{Number}
 use Rattle.dv_syntax.specs.declared.tree.Prefix.{Prefix}
@@ -377,8 +379,17 @@ abbrev pub IsModel : Limits → WrittenModel → Type 0
 IsModel limits (WrittenAtomic n items) = AllByRecursion (IsItem limits) items
 IsModel limits (WrittenCoupled n items) = Unit {0}
 
+-- the number by which a header says the version
+abbrev pub version_number : Version → ℕ
+version_number version.First = 1
+
+abbrev pub header_spelling : Option Version → List Spelled
+header_spelling None = []
+header_spelling (Some v) = word keyword.Version ∷ Anywhere (kind.Number (version_number v)) ∷ sign symbol.Semicolon ∷ []
+
 abbrev pub file_spelling : WrittenFile → List Spelled
-file_spelling f = flat_map model_spelling f.models ++ word keyword.Root ∷ name f.root ∷ sign symbol.Semicolon ∷ []
+file_spelling f =
+    header_spelling f.header ++ (flat_map model_spelling f.models ++ word keyword.Root ∷ name f.root ∷ sign symbol.Semicolon ∷ [])
 
 -- the tokens are those of the file as it is written, to the last one, and the file is one of the grammar within limits on depth
 pub record IsWritten (limits : Limits) (ts : List Token) (f : WrittenFile) : Type 0 where

@@ -1,10 +1,11 @@
 -- Files as they are written, with their items in the order of the text, and how those are sorted.
-use Rattle.std.specs.Prelude.{List, [], ◌∷◌, map}
+use Rattle.std.specs.Prelude.{List, [], ◌∷◌, Option, map}
 use Rattle.dv_syntax.specs.declared.tree.Name.{Name}
 use Rattle.dv_syntax.specs.declared.tree.Declaration.{Declaration}
 use Rattle.dv_syntax.specs.declared.tree.Start.{Start}
 use Rattle.dv_syntax.specs.declared.tree.Part.{Part}
 use Rattle.dv_syntax.specs.declared.tree.Link.{Link}
+use Rattle.dv_syntax.specs.declared.tree.Version.{Version}
 use Rattle.dv_syntax.specs.Trees.{PhasesTree, HoldTree, RuleTree, AtomicTree, CoupledTree, ModelTree, AtomicModel, CoupledModel, FileTree}
 
 -- an item of an atomic model
@@ -27,6 +28,7 @@ pub data WrittenModel : Type 0 where
   WrittenCoupled : (name : Name) → (items : List CoupledItem) → WrittenModel
 
 pub record WrittenFile : Type 0 where
+  pub header : Option Version
   pub models : List WrittenModel
   pub root : Name
 

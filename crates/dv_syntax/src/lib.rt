@@ -9,5 +9,5 @@ pub mod tree;
 pub use tree::{
     Atomic, BagCall, Block, Bound, Coupled, Declaration, End, Expr, File, Flag, Hold, Link, Model,
     Name, Number, Operator, Part, Phases, Prefix, Rule, RuleSort, Start, StateBag, Stmt, Ticks,
-    Variable,
+    Variable, Version,
 };

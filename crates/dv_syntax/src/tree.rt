@@ -3,6 +3,12 @@
 
 use dv_lex::Numeral;
 
+/// The version of the language that a header says.
+#[derive(Clone, Copy, Debug, PartialEq, Eq)]
+pub enum Version {
+    First,
+}
+
 /// A name where it stands: its number in the table of names, and its place.
 #[derive(Clone, Copy, Debug, PartialEq, Eq)]
 pub struct Name {

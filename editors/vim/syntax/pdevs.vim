@@ -10,6 +10,8 @@ syntax keyword pdevsStatement if else for add to drop from send goto
 syntax keyword pdevsOperator not and or
 syntax keyword pdevsFunction size sum least most times
 syntax keyword pdevsConstant forever true false elapsed self
+" The word of a header is a name elsewhere: here it begins a line, before a number.
+syntax match pdevsStructure "^\s*\zsversion\ze\s\+\d"
 syntax match pdevsNumber "\<\d\+\>"
 syntax match pdevsComment "#.*$" contains=@Spell
 
