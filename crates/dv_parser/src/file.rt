@@ -9,7 +9,9 @@ ghost use Rattle.dv_parser.specs.Reading.{Reads, header_at, version_at, refusal_
 use crate::atomic::atomic;
 use crate::coupled::coupled;
 use crate::parse_error::{Obstacle, ParseError};
-use crate::token::{after_keyword, after_number, after_symbol, begins_with_keyword, name, test_end};
+use crate::token::{
+    after_keyword, after_number, after_symbol, begins_with_keyword, name, test_end,
+};
 use dv_lex::{Keyword, LoadError, Refusal, RefusalNumber, Symbol, Token, TokenKind};
 use dv_syntax::{File, Model, Version};
 use std::alloc::Global;
