@@ -1,10 +1,13 @@
 -- From a state that fits a model, its rules lead to states that fit.
 use Rattle.std.proofs.Common.{◌≡◌, ℕ, ℤ, zero, suc, ◌<◌, Bool, true, false, nat_lt, if◌then◌else◌, List, [], ◌∷◌, length}
-use Rattle.std.proofs.Common.{replicate, refl, sym, ap, ◌∙◌, Option, Some, None, Ok, Err, IfOk}
+use Rattle.std.proofs.Common.{replicate, refl, sym, ap, ◌∙◌, Option, Some, None, Result, Ok, Err, IfOk}
 use Rattle.std.specs.Prelude.{slice_get, slice_set}
 use Rattle.std.proofs.lemmas.Bool.{lt-ltb}
 use Rattle.dv_syntax.specs.Trees.{Statements}
-use Rattle.dv_bag.specs.Bag.{Counts, with_copies, without_one}
+use Rattle.dv_bag.specs.Collections.{changed, popped}
+use Rattle.dv_bag.specs.declared.collection.Collection.{Collection}
+use Rattle.dv_bag.specs.declared.discipline.Change.{Change}
+use Rattle.dv_bag.specs.declared.fault.Fault.{Fault}
 use Rattle.dv_bag.specs.declared.fault.Fault.TheVariants as fault
 use Rattle.dv_bag.specs.declared.state.Datum.{Datum}
 use Rattle.dv_bag.specs.declared.state.Datum.TheVariants as datum
@@ -15,14 +18,13 @@ use Rattle.dv_eval.specs.declared.scope.Domain.{Domain}
 use Rattle.dv_eval.specs.declared.scope.Domain.TheVariants as domain
 use Rattle.dv_eval.specs.Scope.{Scope, names_of, place_of}
 use Rattle.dv_bag.specs.Arrivals.{Arrivals}
-use Rattle.dv_bag.specs.Effects.{is_full, is_within, with_bag, with_datum, with_state}
-use Rattle.dv_eval.specs.Meaning.{Context, addition_at, addition_to, assignment_at, assignment_in_domain, assignment_to}
-use Rattle.dv_eval.specs.Meaning.{capacity_of, effect_of, number_of, outermost, removal_at, removal_from, run, truth_of, with_goto}
-use Rattle.dv_eval.specs.Meaning.{with_value_at}
+use Rattle.dv_bag.specs.Effects.{is_within, with_datum, with_state}
+use Rattle.dv_eval.specs.Meaning.{Context, assignment_at, assignment_in_domain, assignment_to, capacity_in, capacity_of, changing_at}
+use Rattle.dv_eval.specs.Meaning.{effect_of, number_of, outermost, popping_at, run, truth_of, with_goto, with_made, with_value_at}
 use Rattle.dv_accepted.specs.Fitting.{data_fit, datum_fits, fits_in, in_phase, LeadsToPhase}
 use Rattle.dv_accepted.proofs.Fitting.{and_true, both_true, found_within}
-use Rattle.dv_accepted.proofs.Bags.{less_fits, more_fits}
-use Rattle.dv_accepted.proofs.Keeping.{StatementsKeep, run_keeps}
+use Rattle.dv_accepted.proofs.Collections.{MadeFits, changed_fits, popped_fits}
+use Rattle.dv_accepted.proofs.Keeping.{StatementsKeep, changing_at_keeps, made_keeps, popping_at_keeps, run_keeps}
 
 pub record Fits (scope : Scope) (e : Effect) : Type 0 where
   pub state : fits_in scope e.state ≡ true
@@ -40,7 +42,7 @@ set_fits (x ∷ vs) (d ∷ ds) (suc place) v new e there fit =
     let both = both_true (datum_fits x.1 d) (data_fit vs ds) e in
     and_true (datum_fits x.1 d) _ both.0 (set_fits vs ds place v new both.1 there fit)
 
--- the variable, flag or bag whose datum stands at a place
+-- the state variable whose datum stands at a place
 record HasVariable (vs : List (ℕ × Domain)) (place : ℕ) (d : Datum) : Type 0 where
   variable : ℕ × Domain
   there : slice_get vs place ≡ Some variable
@@ -79,7 +81,7 @@ module _ (scope : Scope) where
       number_put_fits (is_within r.low r.high (number_of x)) place (name, domain.Number r) (number_of x) e there refl fit
   assignment_in_domain_fits (domain.Flag start) name place x e there fit =
       datum_put_fits place (name, domain.Flag start) (datum.Flag (truth_of x)) e there refl fit
-  assignment_in_domain_fits (domain.Bag capacity) name place x e there fit = fit
+  assignment_in_domain_fits (domain.Held d capacity) name place x e there fit = fit
 
   assignment_to_fits : (o : Option (ℕ × Domain)) (place : ℕ) (x : Value) (e : Effect) → slice_get scope.variables place ≡ o
       → Fits scope e → IfOk (assignment_to o place x e) (Fits scope)
@@ -90,57 +92,31 @@ module _ (scope : Scope) where
   assignment_at_fits None x e fit = fit
   assignment_at_fits (Some place) x e fit = assignment_to_fits (slice_get scope.variables place) place x e refl fit
 
-  -- ---- Bags
+  -- ---- Collections
 
-  more_put_fits : (b : Bool) (capacity name place : ℕ) (n : ℤ) (c : Counts) (e : Effect) → is_full capacity c ≡ b
-      → slice_get scope.variables place ≡ Some (name, domain.Bag capacity) → datum_fits (domain.Bag capacity) (datum.Bag c) ≡ true
-      → Fits scope e → IfOk (if b then Err fault.Full else Ok (with_bag e place (with_copies n 1 c))) (Fits scope)
-  more_put_fits true capacity name place n c e full there held fit = tt
-  more_put_fits false capacity name place n c e not_full there held fit =
-      let more = datum.Bag (with_copies n 1 c) in
-      datum_put_fits place (name, domain.Bag capacity) more e there (more_fits capacity n c held not_full) fit
-
-  held : (e : Effect) (place : ℕ) (d : Datum) → Fits scope e → slice_get e.state.variables place ≡ Some d
+  variable_at : (e : Effect) (place : ℕ) (d : Datum) → Fits scope e → slice_get e.state.variables place ≡ Some d
       → HasVariable scope.variables place d
-  held e place d fit there =
+  variable_at e place d fit there =
       has_variable scope.variables e.state.variables place d (both_true (nat_lt e.state.phase (length scope.phases)) _ fit.state).1 there
 
-  addition_in_bag_fits : (o : Option Datum) (capacity name place : ℕ) (n : ℤ) (e : Effect) → slice_get e.state.variables place ≡ o
-      → slice_get scope.variables place ≡ Some (name, domain.Bag capacity) → Fits scope e
-      → IfOk (addition_to (Some capacity) o place n e) (Fits scope)
-  addition_in_bag_fits None capacity name place n e content there fit = fit
-  addition_in_bag_fits (Some (datum.Number x)) capacity name place n e content there fit = fit
-  addition_in_bag_fits (Some (datum.Flag x)) capacity name place n e content there fit = fit
-  addition_in_bag_fits (Some (datum.Bag c)) capacity name place n e content there fit =
-      let h = held e place (datum.Bag c) fit content in
-      let same : h.variable ≡ (name, domain.Bag capacity) = let found = h.there in cc in
-      let fitting = ap (λ (v : ℕ × Domain). datum_fits v.1 (datum.Bag c)) (sym same) ∙ h.fitting in
-      more_put_fits (is_full capacity c) capacity name place n c e refl there fitting fit
+  made_put_fits : (place : ℕ) (v : ℕ × Domain) (made : Option (Result Collection Fault)) (e : Effect)
+      → slice_get scope.variables place ≡ Some v → MadeFits v.1 made → Fits scope e → IfOk (with_made place e made) (Fits scope)
+  made_put_fits place v made e there new fit =
+      made_keeps (Fits scope) e fit (λ (c : Collection). datum_fits v.1 (datum.Held c) ≡ true) place made new
+      (λ c fitting. datum_put_fits place v (datum.Held c) e there fitting fit)
 
-  addition_to_fits : (o : Option (ℕ × Domain)) (place : ℕ) (n : ℤ) (e : Effect) → slice_get scope.variables place ≡ o → Fits scope e
-      → IfOk (addition_to (capacity_of o) (slice_get e.state.variables place) place n e) (Fits scope)
-  addition_to_fits None place n e there fit = fit
-  addition_to_fits (Some (name, domain.Number range)) place n e there fit = fit
-  addition_to_fits (Some (name, domain.Flag start)) place n e there fit = fit
-  addition_to_fits (Some (name, domain.Bag capacity)) place n e there fit =
-      addition_in_bag_fits (slice_get e.state.variables place) capacity name place n e refl there fit
+  changing_at_fits : (c : Change) (o : Option ℕ) (n : ℤ) (e : Effect) → Fits scope e → IfOk (changing_at scope c o n e) (Fits scope)
+  changing_at_fits c o n e fit =
+      changing_at_keeps (Fits scope) e fit scope c o n (λ place most held room content.
+      let h = variable_at e place (datum.Held held) fit content in
+      let capacity : capacity_in h.variable.1 ≡ Some most = sym (ap capacity_of h.there) ∙ room in
+      made_put_fits place h.variable (changed c most n held) e h.there (changed_fits h.variable.1 c most n held capacity h.fitting) fit)
 
-  addition_at_fits : (o : Option ℕ) (n : ℤ) (e : Effect) → Fits scope e → IfOk (addition_at scope o n e) (Fits scope)
-  addition_at_fits None n e fit = fit
-  addition_at_fits (Some place) n e fit = addition_to_fits (slice_get scope.variables place) place n e refl fit
-
-  removal_from_fits : (o : Option Datum) (place : ℕ) (n : ℤ) (e : Effect) → slice_get e.state.variables place ≡ o → Fits scope e
-      → Fits scope (removal_from o place n e)
-  removal_from_fits None place n e content fit = fit
-  removal_from_fits (Some (datum.Number x)) place n e content fit = fit
-  removal_from_fits (Some (datum.Flag x)) place n e content fit = fit
-  removal_from_fits (Some (datum.Bag c)) place n e content fit =
-      let h = held e place (datum.Bag c) fit content in
-      datum_put_fits place h.variable (datum.Bag (without_one n c)) e h.there (less_fits h.variable.1 n c h.fitting) fit
-
-  removal_at_fits : (o : Option ℕ) (n : ℤ) (e : Effect) → Fits scope e → Fits scope (removal_at o n e)
-  removal_at_fits None n e fit = fit
-  removal_at_fits (Some place) n e fit = removal_from_fits (slice_get e.state.variables place) place n e refl fit
+  popping_at_fits : (o : Option ℕ) (e : Effect) → Fits scope e → IfOk (popping_at o e) (Fits scope)
+  popping_at_fits o e fit =
+      popping_at_keeps (Fits scope) e fit o (λ place held content.
+      let h = variable_at e place (datum.Held held) fit content in
+      made_put_fits place h.variable (popped held) e h.there (popped_fits h.variable.1 held h.fitting) fit)
 
   -- ---- What is sent, and gotos
 
@@ -159,8 +135,8 @@ module _ (scope : Scope) where
     assigned = λ name v e fit. assignment_at_fits (place_of name (names_of scope.variables)) v e fit;
     gone = λ phase e anywhere fit. goto_fits (place_of phase scope.phases) phase e refl fit;
     sent = λ port n e fit. with_value_fits (place_of port scope.outputs) n e fit;
-    added = λ name n e fit. addition_at_fits (place_of name (names_of scope.variables)) n e fit;
-    removed = λ name n e fit. removal_at_fits (place_of name (names_of scope.variables)) n e fit;
+    changes = λ c name n e fit. changing_at_fits c (place_of name (names_of scope.variables)) n e fit;
+    pops = λ name e fit. popping_at_fits (place_of name (names_of scope.variables)) e fit;
   }
 
   pub run_fits : (context : Context) (body : Statements) (e : Effect) → Fits scope e → IfOk (run scope context body e) (Fits scope)

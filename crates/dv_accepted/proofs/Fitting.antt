@@ -6,10 +6,13 @@ use Rattle.std.proofs.lemmas.Bool.{lt-ltb}
 use Rattle.std.proofs.lemmas.Bool.Decides.{nat_tests}
 use Rattle.dv_syntax.specs.declared.tree.Name.{Name}
 use Rattle.dv_syntax.specs.declared.tree.Declaration.{Declaration}
-use Rattle.dv_syntax.specs.declared.tree.Declaration.TheVariants.{In, Out, Var, Flag, Bag}
+use Rattle.dv_syntax.specs.declared.tree.Declaration.TheVariants.{In, Out, Var, Flag, Held}
 use Rattle.dv_syntax.specs.declared.tree.Start.{Start}
 use Rattle.dv_syntax.specs.Trees.{AtomicTree}
+use Rattle.dv_bag.specs.Collections.{empty_of}
 use Rattle.dv_bag.specs.Limits.{greatest_count}
+use Rattle.dv_bag.specs.declared.discipline.Discipline.{Discipline}
+use Rattle.dv_bag.specs.declared.discipline.Discipline.TheVariants as discipline
 use Rattle.dv_bag.specs.declared.state.Datum.TheVariants as datum
 use Rattle.dv_eval.specs.declared.scope.VariableRange.{VariableRange}
 use Rattle.dv_eval.specs.declared.scope.Domain.{Domain}
@@ -18,8 +21,8 @@ use Rattle.dv_eval.specs.Scope.{is_declared, names_of, phases_in, place_from, pl
 use Rattle.dv_eval.specs.Scope.{start_datum, start_phase, start_state, state_variables_in, with_names, with_variable}
 use Rattle.dv_eval.specs.Scope.{with_variables}
 use Rattle.dv_check.specs.Names.{among}
-use Rattle.dv_check.specs.Rules.{atomic_refusals, bag_refusals, declaration_refusals, hold_refusals, is_capacity, is_out_of_range}
-use Rattle.dv_check.specs.Rules.{items_refusals, known_in, names_refusals, once_refusals, phase_refusals, rule_refusals}
+use Rattle.dv_check.specs.Rules.{atomic_refusals, collection_refusals, declaration_refusals, hold_refusals, is_capacity}
+use Rattle.dv_check.specs.Rules.{is_out_of_range, items_refusals, known_in, names_refusals, once_refusals, phase_refusals, rule_refusals}
 use Rattle.dv_check.specs.Rules.{standing_refusals, start_hold_refusals, start_places, start_refusals, variable_refusals}
 use Rattle.dv_check.specs.Rules.{holds_once_refusals, phases_places}
 use Rattle.dv_accepted.specs.Fitting.{data_fit, datum_fits, fits}
@@ -32,6 +35,10 @@ both_true false b e = absurd (cc)
 
 pub and_true : (a b : Bool) → a ≡ true → b ≡ true → (a && b) ≡ true
 and_true a b ha hb = rw ha hb
+
+pub or_second : (a b : Bool) → b ≡ true → (a || b) ≡ true
+or_second true b e = refl
+or_second false b e = e
 
 -- ---- Places of declared names
 
@@ -99,9 +106,14 @@ in_range true below above e = absurd (cc)
 start_fits : (r : VariableRange) → is_out_of_range r ≡ false → datum_fits (domain.Number r) (datum.Number r.start) ≡ true
 start_fits r e = in_range (int_lt r.high r.low) (int_lt r.start r.low) (int_lt r.high r.start) e
 
-empty_bag_fits : (capacity : ℕ) → is_capacity capacity ≡ true → datum_fits (domain.Bag capacity) (datum.Bag []) ≡ true
-empty_bag_fits capacity e =
+none_within : (capacity : ℕ) → is_capacity capacity ≡ true → (nat_le 0 capacity && nat_le capacity greatest_count) ≡ true
+none_within capacity e =
     and_true (nat_le 0 capacity) (nat_le capacity greatest_count) (grind (arith, nat_tests)) (both_true (nat_le 1 capacity) _ e).1
+
+empty_fits : (d : Discipline) (capacity : ℕ) → is_capacity capacity ≡ true
+    → datum_fits (domain.Held d capacity) (datum.Held (empty_of d)) ≡ true
+empty_fits discipline.Bag capacity e = none_within capacity e
+empty_fits discipline.Queue capacity e = none_within capacity e
 
 starts_fit : (ds : List Declaration) (entries : List (ℕ × Domain)) → flat_map declaration_refusals ds ≡ []
     → data_fit entries (start_data entries) ≡ true
@@ -119,12 +131,12 @@ starts_fit (Flag f ∷ ds) entries none e =
     let d = domain.Flag f.start in
     starts_fit ds (with_variable entries (f.name, d)) none
     (with_variable_fits_if (is_declared f.name.number (names_of entries)) entries (f.name.number, d) e refl)
-starts_fit (Bag b ∷ ds) entries none e =
-    let both = both_nil (bag_refusals b) (flat_map declaration_refusals ds) none in
-    let d = domain.Bag b.capacity.value in
-    let fits = empty_bag_fits b.capacity.value (not_false _ (not_refused _ _ _ both.0)) in
-    starts_fit ds (with_variable entries (b.name, d)) both.1
-    (with_variable_fits_if (is_declared b.name.number (names_of entries)) entries (b.name.number, d) e fits)
+starts_fit (Held c ∷ ds) entries none e =
+    let both = both_nil (collection_refusals c) (flat_map declaration_refusals ds) none in
+    let d = domain.Held c.discipline c.capacity.value in
+    let fits = empty_fits c.discipline c.capacity.value (not_false _ (not_refused _ _ _ both.0)) in
+    starts_fit ds (with_variable entries (c.name, d)) both.1
+    (with_variable_fits_if (is_declared c.name.number (names_of entries)) entries (c.name.number, d) e fits)
 
 -- a phase that is among those of the items is declared
 among_if : (b : Bool) (q : ℕ) (n : Name) (ns : List Name) (names : List ℕ) → (n.number == q) ≡ b

@@ -1,4 +1,4 @@
--- The name of an input port is that of no variable, flag or bag: it stands for what has arrived at the port.
+-- The name of an input port is that of no state variable: it stands for the bag that has arrived at the port.
 use Rattle.std.proofs.Common.{◌≡◌, ℕ, ◌+◌, ◌==◌, Bool, true, false, ◌||◌, if◌then◌else◌, List, [], ◌∷◌, ◌++◌, map, refl, sym, ap}
 use Rattle.std.proofs.Common.{◌∙◌, Option, Some, None, is_some, arith}
 use Rattle.std.specs.List.{list_any}
@@ -6,20 +6,21 @@ use Rattle.std.proofs.lemmas.List.Folds.{list_any-append}
 use Rattle.dv_lex.specs.declared.error.RefusalNumber.TheVariants.{E6}
 use Rattle.dv_syntax.specs.declared.tree.Name.{Name}
 use Rattle.dv_syntax.specs.declared.tree.Declaration.{Declaration}
-use Rattle.dv_syntax.specs.declared.tree.Declaration.TheVariants.{In, Out, Var, Flag, Bag}
+use Rattle.dv_syntax.specs.declared.tree.Declaration.TheVariants.{In, Out, Var, Flag, Held}
 use Rattle.dv_syntax.specs.Trees.{AtomicTree}
+use Rattle.dv_bag.specs.declared.collection.Collection.TheVariants as collection
 use Rattle.dv_eval.specs.declared.scope.Domain.{Domain}
 use Rattle.dv_eval.specs.declared.scope.Domain.TheVariants as domain
 use Rattle.dv_eval.specs.Scope.{inputs_in, is_declared, names_of, place_from, place_of, range_of, scope_of, state_variables_in}
 use Rattle.dv_eval.specs.Scope.{with_name, with_names}
-use Rattle.dv_eval.specs.Meaning.{bag_between, bag_received}
+use Rattle.dv_eval.specs.Meaning.{bag_received, collection_between}
 use Rattle.dv_check.specs.Names.{first_of, refusal_if, repeats, repeats_after, with_number}
 use Rattle.dv_check.specs.Rules.{atomic_refusals, items_refusals, known_in, name_of_declaration, names_refusals}
 use Rattle.dv_check.specs.Rules.{number_of_declaration, standing_refusals, start_hold_refusals}
 use Rattle.dv_accepted.specs.Fitting.{ReadsPort}
 use Rattle.dv_check.proofs.CheckedFiles.{both_nil, not_refused}
-use Rattle.dv_accepted.proofs.Fitting.{place_of_declared}
-use Rattle.dv_accepted.proofs.Known.{declared_entry, declared_in, entry_in, or_second, with_variables_entry}
+use Rattle.dv_accepted.proofs.Entries.{declared_entry, declared_in, entry_in, with_variables_entry}
+use Rattle.dv_accepted.proofs.Fitting.{or_second, place_of_declared}
 
 -- ---- Names that were seen before
 
@@ -71,7 +72,7 @@ behind_false : (a b : Bool) → (a || b) ≡ false → (a ≡ false) × (b ≡ f
 behind_false false b e = (refl, e)
 behind_false true b e = absurd (cc)
 
--- what is not declared is no variable, flag or bag
+-- what is not declared is no state variable
 not_stored : (q : ℕ) (ds : List Declaration) → declares q ds ≡ false → declared_in (state_variables_in ds) q ≡ None
 unfolding first_of
 not_stored q [] e = refl
@@ -83,8 +84,8 @@ not_stored q (Var v ∷ ds) e =
 not_stored q (Flag f ∷ ds) e =
     let both = behind_false (f.name.number == q) (declares q ds) e in
     rw both.0 (not_stored q ds both.1)
-not_stored q (Bag b ∷ ds) e =
-    let both = behind_false (b.name.number == q) (declares q ds) e in
+not_stored q (Held c ∷ ds) e =
+    let both = behind_false (c.name.number == q) (declares q ds) e in
     rw both.0 (not_stored q ds both.1)
 
 -- nor an input port
@@ -96,9 +97,9 @@ not_input q (In port ∷ ds) e =
 not_input q (Out port ∷ ds) e = not_input q ds (behind_false (port.number == q) (declares q ds) e).1
 not_input q (Var v ∷ ds) e = not_input q ds (behind_false (v.name.number == q) (declares q ds) e).1
 not_input q (Flag f ∷ ds) e = not_input q ds (behind_false (f.name.number == q) (declares q ds) e).1
-not_input q (Bag b ∷ ds) e = not_input q ds (behind_false (b.name.number == q) (declares q ds) e).1
+not_input q (Held c ∷ ds) e = not_input q ds (behind_false (c.name.number == q) (declares q ds) e).1
 
--- ---- An input port is no variable, flag or bag
+-- ---- An input port is no state variable
 
 stored_if : (b : Bool) (seen : ℕ → Bool) (n q : ℕ) (d : Domain) (ds : List Declaration) → (n == q) ≡ b → stand_once (with_number seen n) ds
     → declares_input q ds ≡ true → declared_in (state_variables_in ds) q ≡ None
@@ -138,10 +139,10 @@ apart q seen (Flag f ∷ ds) once is =
     let behind = once_behind seen (Flag f) ds once in
     let later = apart q (with_number seen f.name.number) ds behind is in
     stored_if (f.name.number == q) seen f.name.number q (domain.Flag f.start) ds refl behind is later
-apart q seen (Bag b ∷ ds) once is =
-    let behind = once_behind seen (Bag b) ds once in
-    let later = apart q (with_number seen b.name.number) ds behind is in
-    stored_if (b.name.number == q) seen b.name.number q (domain.Bag b.capacity.value) ds refl behind is later
+apart q seen (Held c ∷ ds) once is =
+    let behind = once_behind seen (Held c) ds once in
+    let later = apart q (with_number seen c.name.number) ds behind is in
+    stored_if (c.name.number == q) seen c.name.number q (domain.Held c.discipline c.capacity.value) ds refl behind is later
 
 -- ---- Names of a scope
 
@@ -190,7 +191,7 @@ not_entered : (m : AtomicTree) (q : ℕ) → declared_in (state_variables_in m.d
 unfolding first_of
 not_entered m q none = with_variables_entry q (state_variables_in m.declarations) [] ∙ none
 
--- the name of an input port has no place among the variables, flags and bags
+-- the name of an input port has no place among the state variables
 pub port_placeless : (m : AtomicTree) (q : ℕ) → atomic_refusals m ≡ [] → is_declared q (scope_of m).inputs ≡ true
     → place_of q (names_of (scope_of m).variables) ≡ None
 port_placeless m q none declared =
@@ -209,5 +210,6 @@ port_read m q none declared =
       found = h.found;
       within = h.within;
       read = λ moment.
-          ap (λ o. bag_between moment o (place_of q (scope_of m).inputs)) placeless ∙ ap (bag_received moment.context.arrivals) h.found;
+          ap (λ o. collection_between moment o (place_of q (scope_of m).inputs)) placeless
+          ∙ ap (λ o. collection.Bag (bag_received moment.context.arrivals o)) h.found;
     }

@@ -1,13 +1,20 @@
 -- What the step of each statement keeps, statements keep: what holds of the effect from which they start holds of the one that they
 -- leave.
-use Rattle.std.proofs.Common.{ℕ, ℤ, nat_le, if◌then◌else◌, List, [], ◌∷◌, ◌++◌, Option, Some, None, Result, Ok, Err, IfOk}
+use Rattle.std.proofs.Common.{◌≡◌, ℕ, ℤ, nat_le, if◌then◌else◌, List, [], ◌∷◌, ◌++◌, refl, Option, Some, None, Result, Ok, Err}
+use Rattle.std.proofs.Common.{IfOk, IfSome}
 use Rattle.std.specs.Prelude.{slice_get}
 use Rattle.std.specs.List.{AllByRecursion}
-use Rattle.dv_syntax.specs.Trees.{Statements, Done, Assign, Goto, Send, If, IfElse, For, Add, Drop}
-use Rattle.dv_bag.specs.Bag.{total_of_all, values_of, with_copies, without_one}
-use Rattle.dv_bag.specs.Effects.{is_full, is_within, with_bag, with_datum, with_state}
+use Rattle.dv_syntax.specs.Trees.{Statements, Done, Assign, Does, Send, If, IfElse, For, Changes}
+use Rattle.dv_syntax.specs.declared.tree.Command.{Command}
+use Rattle.dv_syntax.specs.declared.tree.Command.TheVariants as command
+use Rattle.dv_syntax.specs.declared.tree.Name.{Name}
+use Rattle.dv_bag.specs.Bag.{total_of_all}
+use Rattle.dv_bag.specs.Collections.{changed, popped, values_in}
+use Rattle.dv_bag.specs.Effects.{is_within, with_collection, with_datum, with_state}
 use Rattle.dv_bag.specs.Outcome.{◌>>=◌}
 use Rattle.dv_bag.specs.Limits.{greatest_count}
+use Rattle.dv_bag.specs.declared.collection.Collection.{Collection}
+use Rattle.dv_bag.specs.declared.discipline.Change.{Change}
 use Rattle.dv_bag.specs.declared.fault.Fault.{Fault}
 use Rattle.dv_bag.specs.declared.fault.Fault.TheVariants as fault
 use Rattle.dv_bag.specs.declared.state.Datum.{Datum}
@@ -18,10 +25,11 @@ use Rattle.dv_bag.specs.declared.value.Value.{Value}
 use Rattle.dv_eval.specs.declared.scope.Domain.{Domain}
 use Rattle.dv_eval.specs.declared.scope.Domain.TheVariants as domain
 use Rattle.dv_eval.specs.Scope.{Scope, names_of, place_of}
-use Rattle.dv_eval.specs.Meaning.{Context, addition, addition_at, addition_to, assignment, assignment_at, assignment_in_domain}
-use Rattle.dv_eval.specs.Meaning.{assignment_to, bag_of_name, capacity_of, in_loop, moment_in, number_of, removal, removal_at}
-use Rattle.dv_eval.specs.Meaning.{removal_from, repetition, run, sending, truth_of, value_within, with_goto, with_value_at}
-use Rattle.dv_accepted.specs.Gotos.{gotos_in}
+use Rattle.dv_eval.specs.Meaning.{Context, assignment, assignment_at, assignment_in_domain, assignment_to, capacity_of, changing}
+use Rattle.dv_eval.specs.Meaning.{changing_at, changing_to, collection_of_name, command_effect, in_loop, moment_in, number_of}
+use Rattle.dv_eval.specs.Meaning.{popping, popping_at, popping_from, repetition, run, sending, truth_of, value_within, with_goto}
+use Rattle.dv_eval.specs.Meaning.{with_made, with_value_at}
+use Rattle.dv_accepted.specs.Gotos.{goto_of, gotos_in}
 use Rattle.dv_accepted.proofs.Outcomes.{if_ok_after, if_ok_branch, if_ok_then}
 
 -- what holds of each element of two lists, one behind the other
@@ -38,12 +46,57 @@ pub record StatementsKeep (scope : Scope) (Q : ℕ → Type 0) (P : Effect → T
   pub assigned : (name : ℕ) (v : Value) (e : Effect) → P e → IfOk (assignment scope name v e) P
   pub gone : (phase : ℕ) (e : Effect) → Q phase → P e → P (with_goto (place_of phase scope.phases) e)
   pub sent : (port : ℕ) (n : ℤ) (e : Effect) → P e → P (with_value_at (place_of port scope.outputs) n e)
-  pub added : (name : ℕ) (n : ℤ) (e : Effect) → P e → IfOk (addition scope name n e) P
-  pub removed : (name : ℕ) (n : ℤ) (e : Effect) → P e → P (removal scope name n e)
+  pub changes : (c : Change) (name : ℕ) (n : ℤ) (e : Effect) → P e → IfOk (changing scope c name n e) P
+  pub pops : (name : ℕ) (e : Effect) → P e → IfOk (popping scope name e) P
+
+-- ---- Collections
+
+module _ (P : Effect → Type 0) (e : Effect) (here : P e) where
+  -- what is made of a collection is put in its place
+  pub made_keeps : (Q : Collection → Type 0) (place : ℕ) (made : Option (Result Collection Fault))
+      → IfSome made (λ (r : Result Collection Fault). IfOk r Q) → ((c : Collection) → Q c → P (with_collection e place c))
+      → IfOk (with_made place e made) P
+  made_keeps Q place None of_made put = here
+  made_keeps Q place (Some (Err f)) of_made put = tt
+  made_keeps Q place (Some (Ok c)) of_made put = put c of_made
+
+  changing_to_keeps : (c : Change) (capacity : Option ℕ) (content : Option Datum) (place : ℕ) (n : ℤ)
+      → ((most : ℕ) (held : Collection) → capacity ≡ Some most → content ≡ Some (datum.Held held)
+      → IfOk (with_made place e (changed c most n held)) P)
+      → IfOk (changing_to c capacity content place n e) P
+  changing_to_keeps c None content place n step = here
+  changing_to_keeps c (Some most) None place n step = here
+  changing_to_keeps c (Some most) (Some (datum.Number x)) place n step = here
+  changing_to_keeps c (Some most) (Some (datum.Flag x)) place n step = here
+  changing_to_keeps c (Some most) (Some (datum.Held held)) place n step = step most held refl refl
+
+  -- a change is asked where there is a collection with a capacity
+  pub changing_at_keeps : (scope : Scope) (c : Change) (o : Option ℕ) (n : ℤ)
+      → ((place most : ℕ) (held : Collection) → capacity_of (slice_get scope.variables place) ≡ Some most
+      → slice_get e.state.variables place ≡ Some (datum.Held held) → IfOk (with_made place e (changed c most n held)) P)
+      → IfOk (changing_at scope c o n e) P
+  changing_at_keeps scope c None n step = here
+  changing_at_keeps scope c (Some place) n step =
+      changing_to_keeps c (capacity_of (slice_get scope.variables place)) (slice_get e.state.variables place) place n (step place)
+
+  popping_from_keeps : (content : Option Datum) (place : ℕ)
+      → ((held : Collection) → content ≡ Some (datum.Held held) → IfOk (with_made place e (popped held)) P)
+      → IfOk (popping_from content place e) P
+  popping_from_keeps None place step = here
+  popping_from_keeps (Some (datum.Number x)) place step = here
+  popping_from_keeps (Some (datum.Flag x)) place step = here
+  popping_from_keeps (Some (datum.Held held)) place step = step held refl
+
+  pub popping_at_keeps : (o : Option ℕ)
+      → ((place : ℕ) (held : Collection) → slice_get e.state.variables place ≡ Some (datum.Held held)
+      → IfOk (with_made place e (popped held)) P)
+      → IfOk (popping_at o e) P
+  popping_at_keeps None step = here
+  popping_at_keeps (Some place) step = popping_from_keeps (slice_get e.state.variables place) place (step place)
 
 -- ---- What holds whatever the state is
 
--- assignments, additions and removals change the state alone
+-- assignments and changes of collections change the state alone
 module _ (scope : Scope) (P : Effect → Type 0) (in_any_state : (e : Effect) (s : State) → P e → P (with_state e s)) where
   put_keeps : (place : ℕ) (d : Datum) (e : Effect) → P e → P (with_state e (with_datum e.state place d))
   put_keeps place d e here = in_any_state e (with_datum e.state place d) here
@@ -54,7 +107,7 @@ module _ (scope : Scope) (P : Effect → Type 0) (in_any_state : (e : Effect) (s
       if_ok_branch (is_within r.low r.high (number_of v)) (Ok put) (Err fault.Range) P
       (put_keeps place (datum.Number (number_of v)) e here) tt
   assignment_in_domain_keeps (domain.Flag start) place v e here = put_keeps place (datum.Flag (truth_of v)) e here
-  assignment_in_domain_keeps (domain.Bag capacity) place v e here = here
+  assignment_in_domain_keeps (domain.Held d capacity) place v e here = here
 
   assignment_to_keeps : (o : Option (ℕ × Domain)) (place : ℕ) (v : Value) (e : Effect) → P e → IfOk (assignment_to o place v e) P
   assignment_to_keeps None place v e here = here
@@ -64,30 +117,10 @@ module _ (scope : Scope) (P : Effect → Type 0) (in_any_state : (e : Effect) (s
   assignment_at_keeps None v e here = here
   assignment_at_keeps (Some place) v e here = assignment_to_keeps (slice_get scope.variables place) place v e here
 
-  addition_to_keeps : (o : Option ℕ) (content : Option Datum) (place : ℕ) (n : ℤ) (e : Effect) → P e
-      → IfOk (addition_to o content place n e) P
-  addition_to_keeps None content place n e here = here
-  addition_to_keeps (Some capacity) None place n e here = here
-  addition_to_keeps (Some capacity) (Some (datum.Number x)) place n e here = here
-  addition_to_keeps (Some capacity) (Some (datum.Flag x)) place n e here = here
-  addition_to_keeps (Some capacity) (Some (datum.Bag b)) place n e here =
-      let more = with_copies n 1 b in
-      if_ok_branch (is_full capacity b) (Err fault.Full) (Ok (with_bag e place more)) P tt (put_keeps place (datum.Bag more) e here)
-
-  addition_at_keeps : (o : Option ℕ) (n : ℤ) (e : Effect) → P e → IfOk (addition_at scope o n e) P
-  addition_at_keeps None n e here = here
-  addition_at_keeps (Some place) n e here =
-      addition_to_keeps (capacity_of (slice_get scope.variables place)) (slice_get e.state.variables place) place n e here
-
-  removal_from_keeps : (content : Option Datum) (place : ℕ) (n : ℤ) (e : Effect) → P e → P (removal_from content place n e)
-  removal_from_keeps None place n e here = here
-  removal_from_keeps (Some (datum.Number x)) place n e here = here
-  removal_from_keeps (Some (datum.Flag x)) place n e here = here
-  removal_from_keeps (Some (datum.Bag b)) place n e here = put_keeps place (datum.Bag (without_one n b)) e here
-
-  removal_at_keeps : (o : Option ℕ) (n : ℤ) (e : Effect) → P e → P (removal_at o n e)
-  removal_at_keeps None n e here = here
-  removal_at_keeps (Some place) n e here = removal_from_keeps (slice_get e.state.variables place) place n e here
+  any_made_keeps : (place : ℕ) (made : Option (Result Collection Fault)) (e : Effect) → P e → IfOk (with_made place e made) P
+  any_made_keeps place None e here = here
+  any_made_keeps place (Some (Err f)) e here = tt
+  any_made_keeps place (Some (Ok c)) e here = put_keeps place (datum.Held c) e here
 
   -- so what gotos and sendings keep too, each statement keeps
   pub keeps_in_any_state : (Q : ℕ → Type 0) → ((phase : ℕ) (e : Effect) → Q phase → P e → P (with_goto (place_of phase scope.phases) e))
@@ -96,8 +129,12 @@ module _ (scope : Scope) (P : Effect → Type 0) (in_any_state : (e : Effect) (s
     assigned = λ name v e here. assignment_at_keeps (place_of name (names_of scope.variables)) v e here;
     gone = gone;
     sent = sent;
-    added = λ name n e here. addition_at_keeps (place_of name (names_of scope.variables)) n e here;
-    removed = λ name n e here. removal_at_keeps (place_of name (names_of scope.variables)) n e here;
+    changes = λ c name n e here.
+        changing_at_keeps P e here scope c (place_of name (names_of scope.variables)) n
+        (λ place most held room content. any_made_keeps place (changed c most n held) e here);
+    pops = λ name e here.
+        popping_at_keeps P e here (place_of name (names_of scope.variables))
+        (λ place held content. any_made_keeps place (popped held) e here);
   }
 
 -- ---- Statements
@@ -121,6 +158,11 @@ module _ (scope : Scope) (Q : ℕ → Type 0) (P : Effect → Type 0) (keeps : S
   after_step x step rest first later =
       if_ok_after x (λ v. step v >>= rest) P (λ v. if_ok_then (step v) rest P P (first v) later)
 
+  pub command_keeps : (c : Command) (name : Name) (e : Effect) → AllByRecursion Q (goto_of c name) → P e
+      → IfOk (command_effect scope c name.number e) P
+  command_keeps command.Goto name e all here = keeps.gone name.number e all.0 here
+  command_keeps command.Pop name e all here = keeps.pops name.number e here
+
   -- where Q holds of each phase to which they go
   pub run_keeps_to : (context : Context) (body : Statements) (e : Effect) → AllByRecursion Q (gotos_in body) → P e
       → IfOk (run scope context body e) P
@@ -128,8 +170,10 @@ module _ (scope : Scope) (Q : ℕ → Type 0) (P : Effect → Type 0) (keeps : S
   run_keeps_to context (Assign variable value rest) e all here =
       after_step (value_within scope context e value) (λ v. assignment scope variable.number v e) (run scope context rest)
       (λ v. keeps.assigned variable.number v e here) (λ now. run_keeps_to context rest now all)
-  run_keeps_to context (Goto place phase rest) e all here =
-      run_keeps_to context rest (with_goto (place_of phase.number scope.phases) e) all.1 (keeps.gone phase.number e all.0 here)
+  run_keeps_to context (Does c place name rest) e all here =
+      let parts = all_parts Q (goto_of c name) (gotos_in rest) all in
+      if_ok_then (command_effect scope c name.number e) (run scope context rest) P P (command_keeps c name e parts.0 here)
+      (λ now. run_keeps_to context rest now parts.1)
   run_keeps_to context (Send place port value rest) e all here =
       after_step (value_within scope context e value) (λ v. sending scope port.number v e) (run scope context rest)
       (λ v. sending_keeps port.number v e here) (λ now. run_keeps_to context rest now all)
@@ -151,16 +195,13 @@ module _ (scope : Scope) (Q : ℕ → Type 0) (P : Effect → Type 0) (keeps : S
   run_keeps_to context (For place v b block rest) e all here =
       let parts = all_parts Q (gotos_in block) (gotos_in rest) all in
       let step = λ (n : ℤ). run scope (in_loop (v.number, n) context) block in
-      let values = values_of (bag_of_name scope (moment_in context e.state) b.number) in
+      let values = values_in (collection_of_name scope (moment_in context e.state) b.number) in
       let each = λ (n : ℤ) (now : Effect). run_keeps_to (in_loop (v.number, n) context) block now parts.0 in
       if_ok_then (repetition step values e) (run scope context rest) P P (repetition_keeps P step values e each here)
       (λ now. run_keeps_to context rest now parts.1)
-  run_keeps_to context (Add place value b rest) e all here =
-      after_step (value_within scope context e value) (λ v. addition scope b.number (number_of v) e) (run scope context rest)
-      (λ v. keeps.added b.number (number_of v) e here) (λ now. run_keeps_to context rest now all)
-  run_keeps_to context (Drop place value b rest) e all here =
-      after_step (value_within scope context e value) (λ v. Ok (removal scope b.number (number_of v) e)) (run scope context rest)
-      (λ v. keeps.removed b.number (number_of v) e here) (λ now. run_keeps_to context rest now all)
+  run_keeps_to context (Changes c place value x rest) e all here =
+      after_step (value_within scope context e value) (λ v. changing scope c x.number (number_of v) e) (run scope context rest)
+      (λ v. keeps.changes c x.number (number_of v) e here) (λ now. run_keeps_to context rest now all)
 
 -- whatever the phases are to which they go
 pub run_keeps : (scope : Scope) (P : Effect → Type 0) → StatementsKeep scope (λ phase. Unit {0}) P → (context : Context) (body : Statements)

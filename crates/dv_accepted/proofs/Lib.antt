@@ -1,10 +1,12 @@
 pub mod Fitting
-pub mod Bags
+pub mod Collections
 pub mod Computing
 pub mod Outcomes
 pub mod Keeping
 pub mod Effects
+pub mod Entries
 pub mod Known
+pub mod NamesKnown
 pub mod Inputs
 pub mod Typed
 pub mod Sendings

@@ -10,11 +10,12 @@ use Rattle.dv_syntax.specs.declared.tree.Operator.TheVariants.{Or, And, Add, Sub
 use Rattle.dv_syntax.specs.declared.tree.Operator.TheVariants.{Unequal, Less, AtMost, Greater, AtLeast}
 use Rattle.dv_syntax.specs.declared.tree.Name.{Name}
 use Rattle.dv_syntax.specs.declared.tree.BagCall.{BagCall}
-use Rattle.dv_syntax.specs.declared.tree.BagCall.TheVariants.{Size, Sum, Least, Most}
+use Rattle.dv_syntax.specs.declared.tree.BagCall.TheVariants.{Size, Sum, Least, Most, Front}
 use Rattle.dv_syntax.specs.declared.tree.RuleSort.{RuleSort}
 use Rattle.dv_syntax.specs.Trees.{AtomicTree, Expression, Literal, TruthValue, Named, Parens, Prefixed, Binary, Call, Elapsed, Times}
-use Rattle.dv_bag.specs.Bag.{Counts, least, most, sum_or_overflow}
+use Rattle.dv_bag.specs.Bag.{least, most, sum_or_overflow}
 use Rattle.dv_bag.specs.Outcome.{◌>>=◌}
+use Rattle.dv_bag.specs.declared.collection.Collection.{Collection}
 use Rattle.dv_bag.specs.declared.fault.Fault.{Fault}
 use Rattle.dv_bag.specs.declared.fault.Fault.TheVariants as fault
 use Rattle.dv_bag.specs.declared.value.Value.{Value}
@@ -27,25 +28,26 @@ use Rattle.dv_eval.specs.declared.scope.Domain.TheVariants as domain
 use Rattle.dv_eval.specs.Scope.{Scope, scope_of}
 use Rattle.dv_bag.specs.Arithmetic.{is_kept, number_or_empty, number_or_overflow, quotient, remainder}
 use Rattle.dv_bag.specs.Arrivals.{Arrivals}
-use Rattle.dv_eval.specs.Meaning.{bag_of_name, call_result, datum_at, datum_of_name, is_decided, loop_value, meaning, moment_in}
-use Rattle.dv_eval.specs.Meaning.{number_of, operator_result, prefix_result, truth_of, value_in_loop, value_of_datum}
-use Rattle.dv_eval.specs.Meaning.{value_of_name}
+use Rattle.dv_eval.specs.Meaning.{bag_or_none, call_result, collection_of_name, datum_at, datum_of_name, first, is_decided, loop_value}
+use Rattle.dv_eval.specs.Meaning.{meaning, moment_in, number_of, operator_result, prefix_result, queue_or_none, truth_of}
+use Rattle.dv_eval.specs.Meaning.{value_in_loop, value_of_datum, value_of_name}
 use Rattle.dv_check.specs.declared.declarations.NameSort.{NameSort}
-use Rattle.dv_check.specs.declared.declarations.NameSort.TheVariants.{Variable as ForVariable, Flag as ForFlag, Bag as ForBag}
+use Rattle.dv_check.specs.declared.declarations.NameSort.TheVariants.{Variable as ForVariable, Flag as ForFlag, Held as ForHeld}
 use Rattle.dv_check.specs.declared.declarations.NameSort.TheVariants.{Input as ForInput, Output as ForOutput}
 use Rattle.dv_check.specs.declared.declarations.NameSort.TheVariants.{LoopVariable as ForLoopVariable}
 use Rattle.dv_bag.specs.declared.value.ValueType.{ValueType}
 use Rattle.dv_bag.specs.declared.value.ValueType.TheVariants.{Number, Truth}
 use Rattle.dv_check.specs.Names.{refusal_if}
-use Rattle.dv_check.specs.Types.{Known, alike, bag_name_refusals, both_of, differ, expression_refusals, first_place, is_bag}
-use Rattle.dv_check.specs.Types.{is_of, knows_elapsed, operand_refusals, operands_wanted, place_refusals, same_type, type_if}
-use Rattle.dv_check.specs.Types.{type_of, type_of_name, type_of_operator, type_of_prefix, type_refusals, value_name_refusals}
+use Rattle.dv_check.specs.declared.wanted.Wanted.TheVariants as wanted
+use Rattle.dv_check.specs.Types.{Known, alike, both_of, differ, expression_refusals, first_place, held_name_refusals, is_of}
+use Rattle.dv_check.specs.Types.{is_readable, knows_elapsed, operand_refusals, operands_wanted, place_refusals, same_type, type_if}
+use Rattle.dv_check.specs.Types.{type_of, type_of_name, type_of_operator, type_of_prefix, type_refusals, value_name_refusals, wanted_by}
 use Rattle.dv_check.specs.Rules.{known_in, known_in_rule, sort_in}
 use Rattle.dv_accepted.specs.Fitting.{context_within, datum_fits, fits_in, HoldsDatum, is_of_type, known_within, values_within}
 use Rattle.dv_check.proofs.CheckedFiles.{both_nil, not_false, not_refused}
 use Rattle.dv_accepted.proofs.Fitting.{and_true}
 use Rattle.dv_accepted.proofs.Outcomes.{if_ok_after, if_ok_branch}
-use Rattle.dv_accepted.proofs.Known.{bag_name_known, datum_held, is_of_loop, is_stored, of_no_loop, sort_named, sort_of_domain}
+use Rattle.dv_accepted.proofs.Known.{datum_held, held_name_known, is_of_loop, is_stored, of_no_loop, sort_named, sort_of_domain}
 
 -- ---- An expression without refusals has a type
 
@@ -100,7 +102,7 @@ value_name_typed : (o : Option NameSort) (place : ℕ) → value_name_refusals o
 value_name_typed None place e = absurd (cc)
 value_name_typed (Some ForVariable) place e = (Number, refl)
 value_name_typed (Some ForFlag) place e = (Truth, refl)
-value_name_typed (Some ForBag) place e = absurd (cc)
+value_name_typed (Some (ForHeld d)) place e = absurd (cc)
 value_name_typed (Some ForInput) place e = absurd (cc)
 value_name_typed (Some ForOutput) place e = absurd (cc)
 value_name_typed (Some ForLoopVariable) place e = (Number, refl)
@@ -136,17 +138,20 @@ module _ (known : Known) where
       let right = both_nil (expression_refusals known b) operands left.1 in
       operands_typed o (type_of known a) (type_of known b) (first_place a) (first_place b) (expression_typed a left.0)
       (expression_typed b right.0) right.1
-  expression_typed (Call c place bag) none =
-      some_if (is_bag known.rule (known.sort bag.number)) Number (bag_name_known known.rule (known.sort bag.number) bag.place none)
+  expression_typed (Call c place x) none =
+      let w = wanted_by c in
+      some_if (is_readable w known.rule (known.sort x.number)) Number (held_name_known w known.rule (known.sort x.number) x.place none)
   expression_typed (Elapsed place) none = some_if (knows_elapsed known.rule) Number (not_false _ (not_refused _ _ _ none))
   expression_typed (Times place e bag) none =
-      let wanted = type_refusals Number (type_of known e) (first_place e) in
-      let left = both_nil (expression_refusals known e) (wanted ++ bag_name_refusals known.rule (known.sort bag.number) bag.place) none in
-      let right = both_nil wanted (bag_name_refusals known.rule (known.sort bag.number) bag.place) left.1 in
+      let typed = type_refusals Number (type_of known e) (first_place e) in
+      let named = held_name_refusals wanted.Bag known.rule (known.sort bag.number) bag.place in
+      let left = both_nil (expression_refusals known e) (typed ++ named) none in
+      let right = both_nil typed named left.1 in
       let of_wanted = type_wanted Number (type_of known e) (first_place e) (expression_typed e left.0) right.0 in
-      let readable = bag_name_known known.rule (known.sort bag.number) bag.place right.1 in
+      let readable = held_name_known wanted.Bag known.rule (known.sort bag.number) bag.place right.1 in
       let is_number = ap (is_of Number) of_wanted in
-      some_if _ Number (and_true (is_of Number (type_of known e)) (is_bag known.rule (known.sort bag.number)) is_number readable)
+      some_if _ Number
+      (and_true (is_of Number (type_of known e)) (is_readable wanted.Bag known.rule (known.sort bag.number)) is_number readable)
 
   pub place_typed : (wanted : ValueType) (e : Expression) → place_refusals wanted known e ≡ [] → type_of known e ≡ Some wanted
   place_typed wanted e none =
@@ -222,15 +227,16 @@ asked_typed true o a b t x right decided typed = decided_typed o a b t x decided
 asked_typed false o a b t x right asked typed =
     if_ok_after right (operator_result o x) (OfType t) (λ y. result_typed o a b t x y typed)
 
-bag_end_typed : (o : Option ℤ) → IfOk (number_or_empty o) (OfType Number)
-bag_end_typed None = tt
-bag_end_typed (Some n) = refl
+end_typed : (o : Option ℤ) → IfOk (number_or_empty o) (OfType Number)
+end_typed None = tt
+end_typed (Some n) = refl
 
-call_typed : (c : BagCall) (b : Counts) → IfOk (call_result c b) (OfType Number)
-call_typed Size b = refl
-call_typed Sum b = if_ok_after (sum_or_overflow b) (λ n. Ok (value.Number n)) (OfType Number) (λ n. refl)
-call_typed Least b = bag_end_typed (least b)
-call_typed Most b = bag_end_typed (most b)
+call_typed : (c : BagCall) (x : Collection) → IfOk (call_result c x) (OfType Number)
+call_typed Size x = refl
+call_typed Sum x = if_ok_after (sum_or_overflow (bag_or_none x)) (λ n. Ok (value.Number n)) (OfType Number) (λ n. refl)
+call_typed Least x = end_typed (least (bag_or_none x))
+call_typed Most x = end_typed (most (bag_or_none x))
+call_typed Front x = end_typed (first (queue_or_none x))
 
 prefix_typed : (o : Prefix) (b : Bool) (t : ValueType) (x : Value) → type_if b (type_of_prefix o) ≡ Some t
     → IfOk (prefix_result o x) (OfType t)
@@ -241,7 +247,7 @@ name_stored : (o : Option NameSort) (t : ValueType) → is_of_loop o ≡ false �
 name_stored None t outside e = absurd (cc)
 name_stored (Some ForVariable) t outside e = refl
 name_stored (Some ForFlag) t outside e = refl
-name_stored (Some ForBag) t outside e = refl
+name_stored (Some (ForHeld d)) t outside e = refl
 name_stored (Some ForInput) t outside e = absurd (cc)
 name_stored (Some ForOutput) t outside e = absurd (cc)
 name_stored (Some ForLoopVariable) t outside e = absurd (cc)
@@ -251,11 +257,11 @@ datum_typed : (o : Domain) (d : Datum) (t : ValueType) → datum_fits o d ≡ tr
     → is_of_type t (value_of_datum (Some d)) ≡ true
 datum_typed (domain.Number range) (datum.Number n) t fit typed = let same : Number ≡ t = cc in rw (← same) refl
 datum_typed (domain.Number range) (datum.Flag b) t fit typed = absurd (cc)
-datum_typed (domain.Number range) (datum.Bag b) t fit typed = absurd (cc)
+datum_typed (domain.Number range) (datum.Held c) t fit typed = absurd (cc)
 datum_typed (domain.Flag start) (datum.Number n) t fit typed = absurd (cc)
 datum_typed (domain.Flag start) (datum.Flag b) t fit typed = let same : Truth ≡ t = cc in rw (← same) refl
-datum_typed (domain.Flag start) (datum.Bag b) t fit typed = absurd (cc)
-datum_typed (domain.Bag capacity) d t fit typed = absurd (cc)
+datum_typed (domain.Flag start) (datum.Held c) t fit typed = absurd (cc)
+datum_typed (domain.Held discipline capacity) d t fit typed = absurd (cc)
 
 value_held : (scope : Scope) (s : State) (q : ℕ) (d : Domain) (h : HoldsDatum scope s q d)
     → value_of_datum (datum_of_name scope s q) ≡ value_of_datum (Some h.datum)
@@ -308,7 +314,7 @@ module _ (m : AtomicTree) (rule : Option RuleSort) (arrivals : Arrivals) (bound 
       if_ok_after (given a) _ (OfType t) (λ x.
       asked_typed (is_decided o x) o (type_of known a) (type_of known b) t x (given b) refl typed)
   value_typed (Call c place b) t typed =
-      let asked = bag_of_name (scope_of m) (moment_in (context_within arrivals bound) s) b.number in
+      let asked = collection_of_name (scope_of m) (moment_in (context_within arrivals bound) s) b.number in
       of_type_if _ Number t (call_result c asked) typed (call_typed c asked)
   value_typed (Elapsed place) t typed =
       of_type_if _ Number t (number_or_overflow (pos arrivals.elapsed)) typed (kept_number (pos arrivals.elapsed))

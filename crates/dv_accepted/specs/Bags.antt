@@ -2,11 +2,13 @@
 use Rattle.std.specs.Prelude.{ℕ, ◌+◌, [], ◌∷◌, false, Some}
 use Rattle.dv_syntax.specs.declared.tree.BagCall.TheVariants.{Size}
 use Rattle.dv_syntax.specs.declared.tree.Variable.{Variable}
-use Rattle.dv_syntax.specs.declared.tree.Declaration.TheVariants.{Out, Var, Flag, Bag}
+use Rattle.dv_syntax.specs.declared.tree.Declaration.TheVariants.{Out, Var, Flag, Held}
 use Rattle.dv_syntax.specs.declared.tree.Operator.TheVariants.{Subtract, Equal}
 use Rattle.dv_syntax.specs.declared.tree.RuleSort.TheVariants as rule
-use Rattle.dv_syntax.specs.Trees.{Expression, Named, Binary, Call, Times, Statements, Done, Assign, Send, If, For, Add, Drop}
+use Rattle.dv_syntax.specs.Trees.{Expression, Named, Binary, Call, Times, Statements, Done, Assign, Send, If, For, Changes}
 use Rattle.dv_syntax.specs.Trees.{AtomicTree, AtomicModel, CoupledTree, CoupledModel, FileTree}
+use Rattle.dv_bag.specs.declared.discipline.Change.TheVariants as change
+use Rattle.dv_bag.specs.declared.discipline.Discipline.TheVariants as discipline
 use Rattle.dv_accepted.specs.Clock.{bound, literal, named}
 
 -- the names: 0 Heap, 1 y, 2 n, 3 b, 4 on, 5 z, 6 v, 7 Top, 8 a, 9 nosuch
@@ -22,9 +24,9 @@ sending_all = For 140 (named 6 144) (named 3 149) (Send 153 (named 1 158) (Named
 abbrev pub changing : Expression → Statements
 changing value =
     Assign (named 2 200) value
-    (Add 300 (Named (named 2 304)) (named 3 309)
+    (Changes change.Add 300 (Named (named 2 304)) (named 3 309)
     (If 312 (Binary Equal (Times 315 (Named (named 2 321)) (named 3 324)) (literal 2 329))
-    (Drop 333 (Named (named 2 338)) (named 3 345) Done) Done))
+    (Changes change.Drop 333 (Named (named 2 338)) (named 3 345) Done) Done))
 
 -- out y; var n: 0..9 = 0; bag b CAPACITY; flag on = false; phases z; start z; hold z: TICKS; output z { .. } internal z { .. }
 abbrev pub heap : ℕ → Expression → Expression → AtomicTree
@@ -33,7 +35,7 @@ heap capacity ticks value = record {
   declarations =
       Out (named 1 18)
       ∷ (Var digit
-      ∷ (Bag (record { name = named 3 41; capacity = record { value = capacity; place = 43 } })
+      ∷ (Held (record { discipline = discipline.Bag; name = named 3 41; capacity = record { value = capacity; place = 43 } })
       ∷ (Flag (record { name = named 4 53; start = false })
       ∷ [])));
   phases = record { place = 65; names = named 5 72 ∷ [] } ∷ [];

@@ -2,12 +2,13 @@
 use Rattle.std.specs.Prelude.{ℕ, ◌+◌, List, [], ◌∷◌, Some, None}
 use Rattle.dv_syntax.specs.declared.tree.Name.{Name}
 use Rattle.dv_syntax.specs.declared.tree.Bound.{Bound}
+use Rattle.dv_syntax.specs.declared.tree.Command.TheVariants as command
 use Rattle.dv_syntax.specs.declared.tree.Variable.{Variable}
 use Rattle.dv_syntax.specs.declared.tree.Declaration.TheVariants.{Out, Var}
 use Rattle.dv_syntax.specs.declared.tree.Link.{Link}
 use Rattle.dv_syntax.specs.declared.tree.Operator.TheVariants as operator
 use Rattle.dv_syntax.specs.declared.tree.RuleSort.TheVariants as rule
-use Rattle.dv_syntax.specs.Trees.{Expression, Literal, Named, Binary, Statements, Done, Assign, Goto, Send, IfElse, AtomicTree}
+use Rattle.dv_syntax.specs.Trees.{Expression, Literal, Named, Binary, Statements, Done, Assign, Does, Send, IfElse, AtomicTree}
 use Rattle.dv_syntax.specs.Trees.{AtomicModel, CoupledModel, CoupledTree, FileTree}
 
 -- a name, a bound and a number at a place
@@ -28,7 +29,7 @@ count = record { name = named 2 30; low = bound 0 33; high = bound 3 36; start =
 -- if n = 3 { goto stop; } else { n := n + 1; }
 abbrev pub counting : Statements
 counting =
-    IfElse 200 (Binary operator.Equal (Named (named 2 203)) (literal 3 207)) (Goto 211 (named 4 216) Done)
+    IfElse 200 (Binary operator.Equal (Named (named 2 203)) (literal 3 207)) (Does command.Goto 211 (named 4 216) Done)
     (Assign (named 2 231) (Binary operator.Add (Named (named 2 236)) (literal 1 240)) Done) Done
 
 abbrev pub tick : AtomicTree

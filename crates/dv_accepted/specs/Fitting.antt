@@ -4,10 +4,16 @@ use Rattle.std.specs.Prelude.{◌≡◌, ℕ, ℤ, ◌<◌, Bool, true, false, n
 use Rattle.std.specs.Prelude.{length, option_map, Option, Some, None}
 use Rattle.dv_syntax.specs.declared.tree.Name.{Name}
 use Rattle.dv_syntax.specs.Trees.{AtomicTree, Expression, Literal, TruthValue, Named, Parens, Prefixed, Binary, Call, Elapsed}
-use Rattle.dv_syntax.specs.Trees.{Times, Statements, Done, Assign, Goto, Send, If, IfElse, For, Add, Drop}
+use Rattle.dv_syntax.specs.Trees.{Times, Statements, Done, Assign, Does, Send, If, IfElse, For, Changes}
+use Rattle.dv_syntax.specs.declared.tree.Command.{Command}
+use Rattle.dv_syntax.specs.declared.tree.Command.TheVariants as command
 use Rattle.dv_syntax.specs.declared.tree.RuleSort.{RuleSort}
-use Rattle.dv_bag.specs.Bag.{bag_at, total}
+use Rattle.dv_bag.specs.Bag.{bag_at}
+use Rattle.dv_bag.specs.Collections.{count_in, discipline_of, discipline_of_change, same_discipline}
 use Rattle.dv_bag.specs.Limits.{greatest_count}
+use Rattle.dv_bag.specs.declared.collection.Collection.TheVariants as collection
+use Rattle.dv_bag.specs.declared.discipline.Discipline.{Discipline}
+use Rattle.dv_bag.specs.declared.discipline.Discipline.TheVariants as discipline
 use Rattle.dv_bag.specs.declared.value.Value.{Value}
 use Rattle.dv_bag.specs.declared.value.Value.TheVariants as value
 use Rattle.dv_bag.specs.declared.state.Datum.{Datum}
@@ -18,34 +24,37 @@ use Rattle.dv_eval.specs.declared.scope.Domain.TheVariants as domain
 use Rattle.dv_eval.specs.Scope.{Scope, is_declared, names_of, place_of, scope_of}
 use Rattle.dv_bag.specs.Arrivals.{Arrivals}
 use Rattle.dv_bag.specs.Effects.{is_within}
-use Rattle.dv_eval.specs.Meaning.{Context, Moment, bag_of_name}
+use Rattle.dv_eval.specs.Meaning.{Context, Moment, collection_of_name}
 use Rattle.dv_bag.specs.declared.value.ValueType.{ValueType}
 use Rattle.dv_bag.specs.declared.value.ValueType.TheVariants.{Number, Truth}
-use Rattle.dv_check.specs.Types.{Known, knows_elapsed, sees_inputs}
+use Rattle.dv_check.specs.declared.wanted.Wanted.{Wanted}
+use Rattle.dv_check.specs.declared.wanted.Wanted.TheVariants as wanted
+use Rattle.dv_check.specs.Types.{Known, knows_elapsed, sees_inputs, suits, suits_port, wanted_by}
 use Rattle.dv_check.specs.Rules.{known_in_loop}
 
--- a number within the range of its variable, a truth value for a flag, and for a bag no more values than its capacity, which is no
--- greater than the greatest
+-- a number within the range of its variable, a truth value for a flag, and for a bag a bag, for a queue a queue with no more values
+-- than its capacity, which is no greater than the greatest
 abbrev pub datum_fits : Domain → Datum → Bool
 datum_fits (domain.Number range) (datum.Number n) = is_within range.low range.high n
 datum_fits (domain.Number range) (datum.Flag b) = false
-datum_fits (domain.Number range) (datum.Bag b) = false
+datum_fits (domain.Number range) (datum.Held c) = false
 datum_fits (domain.Flag start) (datum.Number n) = false
 datum_fits (domain.Flag start) (datum.Flag b) = true
-datum_fits (domain.Flag start) (datum.Bag b) = false
-datum_fits (domain.Bag capacity) (datum.Number n) = false
-datum_fits (domain.Bag capacity) (datum.Flag b) = false
-datum_fits (domain.Bag capacity) (datum.Bag b) = nat_le (total b) capacity && nat_le capacity greatest_count
+datum_fits (domain.Flag start) (datum.Held c) = false
+datum_fits (domain.Held d capacity) (datum.Number n) = false
+datum_fits (domain.Held d capacity) (datum.Flag b) = false
+datum_fits (domain.Held d capacity) (datum.Held c) =
+    same_discipline d (discipline_of c) && (nat_le (count_in c) capacity && nat_le capacity greatest_count)
 
--- one datum for each variable, flag and bag
+-- one datum for each variable, flag, bag and queue
 abbrev pub data_fit : List (ℕ × Domain) → List Datum → Bool
 data_fit [] [] = true
 data_fit (v ∷ variables) (d ∷ ds) = datum_fits v.1 d && data_fit variables ds
 data_fit [] (d ∷ ds) = false
 data_fit (v ∷ variables) [] = false
 
--- a phase of the model, and for each variable a number within its range, for each flag a truth value, for each bag one within its
--- capacity
+-- a phase of the model, and for each variable a number within its range, for each flag a truth value, for each bag or queue one
+-- within its capacity
 abbrev pub fits_in : Scope → State → Bool
 fits_in scope s = nat_lt s.phase (length scope.phases) && data_fit scope.variables s.variables
 
@@ -61,7 +70,7 @@ abbrev pub LeadsToPhase : Scope → Option ℕ → Type 0
 LeadsToPhase scope None = Unit {0}
 LeadsToPhase scope (Some place) = place < length scope.phases
 
--- what the variable, flag or bag of a name may hold
+-- what the variable, flag, bag or queue of a name may hold
 abbrev pub domain_at : List (ℕ × Domain) → Option ℕ → Option Domain
 domain_at variables None = None
 domain_at variables (Some place) = option_map (λ v. v.1) (slice_get variables place)
@@ -73,25 +82,36 @@ abbrev pub has_value : Option Domain → Bool
 has_value None = false
 has_value (Some (domain.Number range)) = true
 has_value (Some (domain.Flag start)) = true
-has_value (Some (domain.Bag capacity)) = false
+has_value (Some (domain.Held d capacity)) = false
 
-abbrev pub has_values : Option Domain → Bool
-has_values None = false
-has_values (Some (domain.Number range)) = false
-has_values (Some (domain.Flag start)) = false
-has_values (Some (domain.Bag capacity)) = true
+-- a bag or a queue of which this is wanted
+abbrev pub holds : Wanted → Option Domain → Bool
+holds w None = false
+holds w (Some (domain.Number range)) = false
+holds w (Some (domain.Flag start)) = false
+holds w (Some (domain.Held d capacity)) = suits w d
 
 -- a variable or a flag
 abbrev pub is_variable : Scope → ℕ → Bool
 is_variable scope name = has_value (domain_named scope name)
 
--- a state bag
-abbrev pub is_bag : Scope → ℕ → Bool
-is_bag scope name = has_values (domain_named scope name)
+-- a bag or a queue of the state of which this is wanted
+abbrev pub is_held : Wanted → Scope → ℕ → Bool
+is_held w scope name = holds w (domain_named scope name)
 
--- a bag that can be read: a state bag, and in external and confluent rules an input port
-abbrev pub is_readable : Scope → Option RuleSort → ℕ → Bool
-is_readable scope rule name = is_bag scope name || (sees_inputs rule && is_declared name scope.inputs)
+-- the same where it is read: in external and confluent rules an input port is a bag, too
+abbrev pub is_readable : Wanted → Scope → Option RuleSort → ℕ → Bool
+is_readable w scope rule name = is_held w scope name || (suits_port w && (sees_inputs rule && is_declared name scope.inputs))
+
+-- what is wanted where a collection of this discipline is changed
+abbrev pub wanted_of : Discipline → Wanted
+wanted_of discipline.Bag = wanted.Bag
+wanted_of discipline.Queue = wanted.Queue
+
+-- the name of a command: a phase for `goto`, a queue for `pop`
+abbrev pub is_command_known : Scope → Command → ℕ → Bool
+is_command_known scope command.Goto name = is_declared name scope.phases
+is_command_known scope command.Pop name = is_held wanted.Queue scope name
 
 -- a loop around that has this variable, or else a variable or a flag of the model
 abbrev pub is_value : Scope → List ℕ → ℕ → Bool
@@ -102,7 +122,7 @@ abbrev pub is_assignable : Scope → List ℕ → ℕ → Bool
 is_assignable scope loops name = is_variable scope name && not (is_declared name loops)
 
 -- all names of an expression in a rule of a sort, or outside of all rules, are known: where a value is wanted of values, and else of
--- bags that can be read; `elapsed` is known in external rules alone
+-- bags or queues that can be read, as the call wants; `elapsed` is known in external rules alone
 abbrev pub are_terms_known : Scope → Option RuleSort → List ℕ → Expression → Bool
 are_terms_known scope rule loops (Literal n) = true
 are_terms_known scope rule loops (TruthValue place value) = true
@@ -110,22 +130,22 @@ are_terms_known scope rule loops (Named name) = is_value scope loops name.number
 are_terms_known scope rule loops (Parens place e) = are_terms_known scope rule loops e
 are_terms_known scope rule loops (Prefixed operator place e) = are_terms_known scope rule loops e
 are_terms_known scope rule loops (Binary operator a b) = are_terms_known scope rule loops a && are_terms_known scope rule loops b
-are_terms_known scope rule loops (Call call place b) = is_readable scope rule b.number
+are_terms_known scope rule loops (Call call place b) = is_readable (wanted_by call) scope rule b.number
 are_terms_known scope rule loops (Elapsed place) = knows_elapsed rule
-are_terms_known scope rule loops (Times place e b) = are_terms_known scope rule loops e && is_readable scope rule b.number
+are_terms_known scope rule loops (Times place e b) = are_terms_known scope rule loops e && is_readable wanted.Bag scope rule b.number
 
 -- those of a hold, which stands in no rule
 abbrev pub are_ticks_known : Scope → Option Expression → Bool
 are_ticks_known scope None = true
 are_ticks_known scope (Some e) = are_terms_known scope None [] e
 
--- all names of statements in loops of these variables are known: variables and flags, bags, phases and ports; no loop variable is
--- assigned, and no input port is changed
+-- all names of statements in loops of these variables are known: variables and flags, bags, queues, phases and ports; no loop
+-- variable is assigned, and no input port is changed
 abbrev pub are_names_known : Scope → Option RuleSort → List ℕ → Statements → Bool
 are_names_known scope rule loops Done = true
 are_names_known scope rule loops (Assign variable e rest) =
     is_assignable scope loops variable.number && (are_terms_known scope rule loops e && are_names_known scope rule loops rest)
-are_names_known scope rule loops (Goto place phase rest) = is_declared phase.number scope.phases && are_names_known scope rule loops rest
+are_names_known scope rule loops (Does c place name rest) = is_command_known scope c name.number && are_names_known scope rule loops rest
 are_names_known scope rule loops (Send place port e rest) =
     is_declared port.number scope.outputs && (are_terms_known scope rule loops e && are_names_known scope rule loops rest)
 are_names_known scope rule loops (If place e block rest) =
@@ -134,11 +154,11 @@ are_names_known scope rule loops (IfElse place e block other rest) =
     are_terms_known scope rule loops e
     && (are_names_known scope rule loops block && (are_names_known scope rule loops other && are_names_known scope rule loops rest))
 are_names_known scope rule loops (For place v b block rest) =
-    is_readable scope rule b.number && (are_names_known scope rule (v.number ∷ loops) block && are_names_known scope rule loops rest)
-are_names_known scope rule loops (Add place e b rest) =
-    are_terms_known scope rule loops e && (is_bag scope b.number && are_names_known scope rule loops rest)
-are_names_known scope rule loops (Drop place e b rest) =
-    are_terms_known scope rule loops e && (is_bag scope b.number && are_names_known scope rule loops rest)
+    is_readable wanted.Values scope rule b.number
+    && (are_names_known scope rule (v.number ∷ loops) block && are_names_known scope rule loops rest)
+are_names_known scope rule loops (Changes c place e x rest) =
+    are_terms_known scope rule loops e
+    && (is_held (wanted_of (discipline_of_change c)) scope x.number && are_names_known scope rule loops rest)
 
 -- a value of a type
 abbrev pub is_of_type : ValueType → Value → Bool
@@ -174,4 +194,4 @@ pub record ReadsPort (scope : Scope) (name : ℕ) : Type 0 where
   pub port : ℕ
   pub found : place_of name scope.inputs ≡ Some port
   pub within : port < length scope.inputs
-  pub read : (m : Moment) → bag_of_name scope m name ≡ bag_at m.context.arrivals.received port
+  pub read : (m : Moment) → collection_of_name scope m name ≡ collection.Bag (bag_at m.context.arrivals.received port)

@@ -6,3 +6,4 @@ pub mod Clock
 pub mod Broken
 pub mod Flags
 pub mod Bags
+pub mod Queues

@@ -21,7 +21,8 @@ ghost use Rattle.dv_accepted.specs.Fitting.{are_names_known, are_ticks_known, co
 ghost use Rattle.dv_accepted.specs.Fitting.{in_phase, is_of_type, known_within, LeadsToPhase, ReadsPort};
 
 /// The start state of an accepted model fits the model: its phase is one of the model's, each variable has a number
-/// within its range, each flag a truth value, and each bag no more values than its capacity, which is at most 4,096.
+/// within its range, each flag a truth value, and each bag and each queue no more values than its capacity, which is at
+/// most 4,096.
 pub fn start_states_fit()
     ensures { (m : AtomicTree) → atomic_refusals m ≡ [] → fits m (start_state m) ≡ true }
 {}
@@ -46,11 +47,11 @@ pub fn rules_send_bags()
 {}
 
 /// The rules and the holds of an accepted model name only what the model declares and the variables of the loops
-/// around, which are never assigned; where a bag is wanted that is read the name is that of a state bag, or in an external or
-/// a confluent rule that of an input port, and where one is changed it is that of a state bag. `elapsed` stands in
-/// external rules alone. In a state that fits, a variable has a number within its range, a flag a truth value, and a bag
-/// no more values than its capacity; and the name of an input port stands for what has arrived there: no name is ever
-/// unknown.
+/// around, which are never assigned. Where a bag or a queue is read, the name is that of one which the state holds; where
+/// a bag can be read, in an external or a confluent rule also that of an input port. Where one is changed, the name is that
+/// of one which the state holds, a bag or a queue as the change wants. `elapsed` stands in external rules alone. In a state
+/// that fits, a variable has a number within its range, a flag a truth value, and a bag or a queue no more values than its
+/// capacity; and the name of an input port stands for what has arrived there: no name is ever unknown.
 pub fn accepted_names_are_known()
     ensures rules { (m : AtomicTree) → atomic_refusals m ≡ [] →
         All (λ (r : RuleTree). are_names_known (scope_of m) (Some r.sort) [] r.body ≡ true)

@@ -3,8 +3,10 @@
 ghost use Rattle.std.specs.Prelude.{◌≡◌, true, Some, None, [], ◌∷◌};
 ghost use Rattle.dv_lex.specs.declared.error.RefusalNumber.TheVariants as number;
 ghost use Rattle.dv_syntax.specs.Trees.{Binary, Named, Prefixed, Times, TruthValue};
+ghost use Rattle.dv_syntax.specs.declared.tree.BagCall.TheVariants.{Front, Size, Sum};
 ghost use Rattle.dv_syntax.specs.declared.tree.Operator.TheVariants as operator;
 ghost use Rattle.dv_syntax.specs.declared.tree.Prefix.TheVariants as prefix;
+ghost use Rattle.dv_bag.specs.declared.discipline.Change.TheVariants.{Add, Push};
 ghost use Rattle.dv_check.specs.Names.{refusal};
 ghost use Rattle.dv_check.specs.Refusals.{refusal_of};
 ghost use Rattle.dv_check.specs.Rules.{atomic_refusals};
@@ -12,6 +14,7 @@ ghost use Rattle.dv_accepted.specs.Bags.{assigning, below_nothing, heap, size_at
 ghost use Rattle.dv_accepted.specs.Broken.{of_an_unknown_part, on_one_line};
 ghost use Rattle.dv_accepted.specs.Clock.{clock, link_at, literal, named};
 ghost use Rattle.dv_accepted.specs.Flags.{with_flag};
+ghost use Rattle.dv_accepted.specs.Queues.{asking, changing_one, popping_from};
 
 /// A clock, alone in a coupled model with an output, is accepted.
 pub fn a_clock_is_accepted()
@@ -62,6 +65,20 @@ pub fn bags_are_asked_by_calls()
         (named 3 215))) ≡ Some (refusal number.E8 211) }
     ensures negated { refusal_of (assigning (Prefixed prefix.Not 205 (size_at 209 3)))
         ≡ Some (refusal number.E8 209) }
+{}
+
+/// A queue is asked for its size and its first value, and is pushed to and popped. What asks or changes bags is refused
+/// at the name of a queue, and what asks or changes queues at that of a bag.
+pub fn queues_and_bags_have_words_of_their_own()
+    ensures size { refusal_of (asking Size 3) ≡ None }
+    ensures front { refusal_of (asking Front 3) ≡ None }
+    ensures push { refusal_of (changing_one Push 3) ≡ None }
+    ensures pop { refusal_of (popping_from 3) ≡ None }
+    ensures sum_of_queue { refusal_of (asking Sum 3) ≡ Some (refusal number.E8 116) }
+    ensures front_of_bag { refusal_of (asking Front 4) ≡ Some (refusal number.E8 116) }
+    ensures add_to_queue { refusal_of (changing_one Add 3) ≡ Some (refusal number.E8 115) }
+    ensures push_to_bag { refusal_of (changing_one Push 4) ≡ Some (refusal number.E8 115) }
+    ensures pop_of_bag { refusal_of (popping_from 4) ≡ Some (refusal number.E8 109) }
 {}
 
 /// A hold that faults at the start is refused at the phase after `start`, but not where it names a bag whose capacity

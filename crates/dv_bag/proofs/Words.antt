@@ -1,5 +1,6 @@
 -- Looking for a word among those that some things have.
-use Rattle.std.proofs.Common.{ℕ, ◌+◌, ◌<◌, ◌≤◌, List, [], length, take, get_or, ◌≡◌, ◌≢◌, true, false, sym, subst, ap, ◌∙◌, add-one, rules}
+use Rattle.std.proofs.Common.{ℕ, ◌+◌, ◌<◌, ◌≤◌, List, [], length, take, get_or, ◌≡◌, ◌≢◌, true, false}
+use Rattle.std.proofs.Common.{sym, subst, ap, ◌∙◌, add-one, rules}
 use Rattle.std.specs.List.{All}
 use Rattle.std.specs.Str.{bytes_eq}
 use Rattle.std.proofs.Math.Seq.{take-suc}
@@ -24,8 +25,9 @@ pub one_more_differs : {X : Type 0} (word_of : X → List ℕ) (word : List ℕ)
     → i < length xs → AreOthers word_of word (take i xs) → false ≡ bytes_eq (word_of (get_or xs i x)) word
     → AreOthers word_of word (take (i + 1) xs)
 one_more_differs word_of word xs i x within before unequal =
+    let last = All-cons (λ y. word ≢ word_of y) (get_or xs i x) [] (words_differ _ word unequal) (none_differs word_of word) in
     subst (AreOthers word_of word) (sym (ap (λ n. take n xs) (add-one i) ∙ take-suc xs i x within))
-    (All-append (λ y. word ≢ word_of y) _ _ before (All-cons (λ y. word ≢ word_of y) _ [] (words_differ _ word unequal) (none_differs word_of word)))
+    (All-append (λ y. word ≢ word_of y) _ _ before last)
 
 pub all_differ : {X : Type 0} (word_of : X → List ℕ) (word : List ℕ) (xs : List X) (i : ℕ)
     → length xs ≤ i → AreOthers word_of word (take i xs) → AreOthers word_of word xs

@@ -1,6 +1,7 @@
 -- What a reader believes: values, bags, inputs, what a rule does, and the entries of a trace.
 pub mod Limits
 pub mod Bag
+pub mod Collections
 pub mod BagLists
 pub mod Arithmetic
 pub mod Arrivals

@@ -1,7 +1,9 @@
 -- What is read of a state.
 use Rattle.std.specs.Prelude.{◌≡◌, ℕ, ◌≤◌, List, [], Option, Some, None, slice_get}
-use Rattle.dv_bag.specs.Bag.{Counts, total}
+use Rattle.dv_bag.specs.Collections.{count_in}
 use Rattle.dv_bag.specs.Limits.{greatest_count}
+use Rattle.dv_bag.specs.declared.collection.Collection.{Collection}
+use Rattle.dv_bag.specs.declared.collection.Collection.TheVariants as collection
 use Rattle.dv_bag.specs.declared.state.Datum.{Datum}
 use Rattle.dv_bag.specs.declared.state.Datum.TheVariants as datum
 use Rattle.dv_bag.specs.declared.state.DatumView.{DatumView}
@@ -11,25 +13,25 @@ use Rattle.dv_bag.specs.declared.state.DatumView.TheVariants as view
 abbrev pub datum_of : DatumView → Datum
 datum_of (view.Number n) = datum.Number n
 datum_of (view.Flag b) = datum.Flag b
-datum_of (view.Bag b) = datum.Bag b.now
+datum_of (view.Held c) = datum.Held c.now
 
--- a bag that is read has at most so many values
+-- a collection that is read has at most so many values
 abbrev pub HoldsFew : DatumView → Type 0
 HoldsFew (view.Number n) = Unit {0}
 HoldsFew (view.Flag b) = Unit {0}
-HoldsFew (view.Bag b) = total b.now ≤ greatest_count
+HoldsFew (view.Held c) = count_in c.now ≤ greatest_count
 
--- the bag that a datum is; where it is none, the empty bag
-abbrev pub bag_of_datum : Option Datum → Counts
-bag_of_datum None = []
-bag_of_datum (Some (datum.Number n)) = []
-bag_of_datum (Some (datum.Flag b)) = []
-bag_of_datum (Some (datum.Bag b)) = b
+-- the collection that a datum is; where it is none, the empty bag
+abbrev pub held_of_datum : Option Datum → Collection
+held_of_datum None = collection.Bag []
+held_of_datum (Some (datum.Number n)) = collection.Bag []
+held_of_datum (Some (datum.Flag b)) = collection.Bag []
+held_of_datum (Some (datum.Held c)) = c
 
--- the bag at a place
-abbrev pub bag_held_at : List Datum → ℕ → Counts
-bag_held_at contents place = bag_of_datum (slice_get contents place)
+-- the collection at a place
+abbrev pub held_at : List Datum → ℕ → Collection
+held_at contents place = held_of_datum (slice_get contents place)
 
--- there is a bag at a place
-abbrev pub HasBagAt : ℕ → List Datum → Type 0
-HasBagAt place contents = slice_get contents place ≡ Some (datum.Bag (bag_held_at contents place))
+-- there is a collection at a place
+abbrev pub HasHeldAt : ℕ → List Datum → Type 0
+HasHeldAt place contents = slice_get contents place ≡ Some (datum.Held (held_at contents place))

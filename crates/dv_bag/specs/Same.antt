@@ -1,4 +1,4 @@
--- Equality of bags and of variables, as tests.
+-- Equality of bags, collections and variables, as tests.
 use Rattle.std.specs.Prelude.{◌≡◌, ℕ, Bool, true, false, ◌&&◌, List, [], ℤ, pos, nat_eq, refl}
 use Rattle.std.specs.Bool.{Decides}
 use Rattle.std.specs.Ordering.{int_eq}
@@ -7,6 +7,8 @@ use Rattle.std.proofs.Common.{ap, sym, ◌∙◌}
 use Rattle.std.proofs.lemmas.Bool.{false≢true}
 use Rattle.std.proofs.lemmas.Bool.Decides.{Decides-and, Decides-eqb, Decides-int_eq, Decides-like}
 use Rattle.dv_bag.specs.Bag.{Counts}
+use Rattle.dv_bag.specs.declared.collection.Collection.{Collection}
+use Rattle.dv_bag.specs.declared.collection.Collection.TheVariants as collection
 use Rattle.dv_bag.specs.declared.state.Datum.{Datum}
 use Rattle.dv_bag.specs.declared.state.Datum.TheVariants as datum
 use mathlib.Core.Bool.{beq}
@@ -22,17 +24,28 @@ same_bag = pointwise same_pair
 abbrev pub same_bags : List Counts → List Counts → Bool
 same_bags = pointwise same_bag
 
--- are two the same number, the same flag or the same bag
+-- have two queues the same values in the same order
+abbrev pub same_values : List ℤ → List ℤ → Bool
+same_values = pointwise int_eq
+
+-- are two collections of one discipline, with the same values
+abbrev pub same_collection : Collection → Collection → Bool
+same_collection (collection.Bag a) (collection.Bag b) = same_bag a b
+same_collection (collection.Bag a) (collection.Queue b) = false
+same_collection (collection.Queue a) (collection.Bag b) = false
+same_collection (collection.Queue a) (collection.Queue b) = same_values a b
+
+-- are two the same number, the same flag or the same collection
 abbrev pub same_datum : Datum → Datum → Bool
 same_datum (datum.Number a) (datum.Number b) = int_eq a b
 same_datum (datum.Number a) (datum.Flag b) = false
-same_datum (datum.Number a) (datum.Bag b) = false
+same_datum (datum.Number a) (datum.Held b) = false
 same_datum (datum.Flag a) (datum.Number b) = false
 same_datum (datum.Flag a) (datum.Flag b) = beq a b
-same_datum (datum.Flag a) (datum.Bag b) = false
-same_datum (datum.Bag a) (datum.Number b) = false
-same_datum (datum.Bag a) (datum.Flag b) = false
-same_datum (datum.Bag a) (datum.Bag b) = same_bag a b
+same_datum (datum.Flag a) (datum.Held b) = false
+same_datum (datum.Held a) (datum.Number b) = false
+same_datum (datum.Held a) (datum.Flag b) = false
+same_datum (datum.Held a) (datum.Held b) = same_collection a b
 
 abbrev pub same_variables : List Datum → List Datum → Bool
 same_variables = pointwise same_datum
@@ -53,27 +66,39 @@ same_bags-decides = pointwise_decides same_bag-decides
 number_in : Datum → ℤ
 number_in (datum.Number n) = n
 number_in (datum.Flag b) = pos 0
-number_in (datum.Bag b) = pos 0
+number_in (datum.Held b) = pos 0
 
 flag_in : Datum → Bool
 flag_in (datum.Number n) = false
 flag_in (datum.Flag b) = b
-flag_in (datum.Bag b) = false
+flag_in (datum.Held b) = false
 
-bag_in : Datum → Counts
-bag_in (datum.Number n) = []
-bag_in (datum.Flag b) = []
-bag_in (datum.Bag b) = b
+held_in : Datum → Collection
+held_in (datum.Number n) = collection.Bag []
+held_in (datum.Flag b) = collection.Bag []
+held_in (datum.Held c) = c
+
+bag_in : Collection → Counts
+bag_in (collection.Bag b) = b
+bag_in (collection.Queue q) = []
+
+queue_in : Collection → List ℤ
+queue_in (collection.Bag b) = []
+queue_in (collection.Queue q) = q
+
+is_bag : Collection → Bool
+is_bag (collection.Bag b) = true
+is_bag (collection.Queue q) = false
 
 is_number : Datum → Bool
 is_number (datum.Number n) = true
 is_number (datum.Flag b) = false
-is_number (datum.Bag b) = false
+is_number (datum.Held b) = false
 
 is_flag : Datum → Bool
 is_flag (datum.Number n) = false
 is_flag (datum.Flag b) = true
-is_flag (datum.Bag b) = false
+is_flag (datum.Held b) = false
 
 same_flag-decides : (a b : Bool) → Decides (beq a b) (a ≡ b)
 same_flag-decides true true = (λ e. refl, λ same. refl)
@@ -84,17 +109,32 @@ same_flag-decides false false = (λ e. refl, λ same. refl)
 differs : (d e : Datum) (is : Datum → Bool) → is d ≡ false → is e ≡ true → Decides false (d ≡ e)
 differs d e is here there = (λ x. absurd (false≢true x), λ same. absurd (false≢true (sym here ∙ ap is same ∙ there)))
 
+pub same_values-decides : (q r : List ℤ) → Decides (same_values q r) (q ≡ r)
+same_values-decides = pointwise_decides Decides-int_eq
+
+pub same_collection-decides : (c d : Collection) → Decides (same_collection c d) (c ≡ d)
+unfolding bag_in queue_in is_bag
+same_collection-decides (collection.Bag a) (collection.Bag b) =
+    Decides-like (same_bag a b) (ap collection.Bag) (ap bag_in) (same_bag-decides a b)
+same_collection-decides (collection.Bag a) (collection.Queue b) =
+    (λ x. absurd (false≢true x), λ same. absurd (false≢true (ap is_bag (sym same))))
+same_collection-decides (collection.Queue a) (collection.Bag b) =
+    (λ x. absurd (false≢true x), λ same. absurd (false≢true (ap is_bag same)))
+same_collection-decides (collection.Queue a) (collection.Queue b) =
+    Decides-like (same_values a b) (ap collection.Queue) (ap queue_in) (same_values-decides a b)
+
 pub same_datum-decides : (d e : Datum) → Decides (same_datum d e) (d ≡ e)
-unfolding number_in flag_in bag_in is_number is_flag
+unfolding number_in flag_in held_in is_number is_flag
 same_datum-decides (datum.Number a) (datum.Number b) = Decides-like (int_eq a b) (ap datum.Number) (ap number_in) (Decides-int_eq a b)
 same_datum-decides (datum.Number a) (datum.Flag b) = differs (datum.Number a) (datum.Flag b) is_flag refl refl
-same_datum-decides (datum.Number a) (datum.Bag b) = (λ x. absurd (false≢true x), λ same. absurd (false≢true (ap is_number (sym same))))
+same_datum-decides (datum.Number a) (datum.Held b) = (λ x. absurd (false≢true x), λ same. absurd (false≢true (ap is_number (sym same))))
 same_datum-decides (datum.Flag a) (datum.Number b) = differs (datum.Flag a) (datum.Number b) is_number refl refl
 same_datum-decides (datum.Flag a) (datum.Flag b) = Decides-like (beq a b) (ap datum.Flag) (ap flag_in) (same_flag-decides a b)
-same_datum-decides (datum.Flag a) (datum.Bag b) = (λ x. absurd (false≢true x), λ same. absurd (false≢true (ap is_flag (sym same))))
-same_datum-decides (datum.Bag a) (datum.Number b) = differs (datum.Bag a) (datum.Number b) is_number refl refl
-same_datum-decides (datum.Bag a) (datum.Flag b) = differs (datum.Bag a) (datum.Flag b) is_flag refl refl
-same_datum-decides (datum.Bag a) (datum.Bag b) = Decides-like (same_bag a b) (ap datum.Bag) (ap bag_in) (same_bag-decides a b)
+same_datum-decides (datum.Flag a) (datum.Held b) = (λ x. absurd (false≢true x), λ same. absurd (false≢true (ap is_flag (sym same))))
+same_datum-decides (datum.Held a) (datum.Number b) = differs (datum.Held a) (datum.Number b) is_number refl refl
+same_datum-decides (datum.Held a) (datum.Flag b) = differs (datum.Held a) (datum.Flag b) is_flag refl refl
+same_datum-decides (datum.Held a) (datum.Held b) =
+    Decides-like (same_collection a b) (ap datum.Held) (ap held_in) (same_collection-decides a b)
 
 pub same_variables-decides : (v w : List Datum) → Decides (same_variables v w) (v ≡ w)
 same_variables-decides = pointwise_decides same_datum-decides

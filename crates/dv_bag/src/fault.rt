@@ -16,9 +16,9 @@ pub enum Fault {
     Divide,
     /// A value outside the range of its variable.
     Range,
-    /// The least or greatest value of an empty bag.
+    /// The least or greatest value of an empty bag, or the first value of an empty queue.
     Empty,
-    /// One value more than a bag's capacity.
+    /// One value more than the capacity of a bag or a queue.
     Full,
     /// A hold below 0.
     Negative,

@@ -9,6 +9,10 @@ pub mod arrivals;
 pub mod bag;
 /// Bags by port.
 pub mod bags;
+/// Bags and queues that states hold.
+pub mod collection;
+/// How collections keep their values, and what changes them.
+pub mod discipline;
 /// The entries of a trace.
 pub mod entry;
 /// Faults.
@@ -23,6 +27,8 @@ pub mod limits;
 mod merge;
 /// Parts of a trace.
 pub mod part;
+/// Queues of values.
+pub mod queue;
 /// How soon a hold can end that begins where an external rule goes to a phase.
 pub mod response;
 /// What a component sends.
@@ -35,14 +41,17 @@ pub mod value;
 pub use arrivals::Arrivals;
 pub use bag::Bag;
 pub use bags::{Bags, PortBag};
+pub use collection::{Collection, Held};
+pub use discipline::{Change, Discipline};
 pub use entry::{Entry, Kind, NoKind, Outer, What};
 pub use fault::{Fault, NoFault, RuleError};
 pub use inputs::{Input, Inputs};
 pub use part::{Part, Trace};
+pub use queue::Queue;
 pub use response::Response;
 pub use sent::Sent;
-pub use state::{Datum, DatumView, Effect, HeldBag, State, Variables};
+pub use state::{Datum, DatumView, Effect, State, Variables};
 pub use value::{Value, ValueType};
 
-/// The most values that are sent in one output, come to one port at one instant, or lie in a bag of a state.
+/// The most values that are sent in one output, come to one port at one instant, or lie in a collection of a state.
 pub const GREATEST_COUNT: u64 = 4096;

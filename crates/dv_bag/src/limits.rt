@@ -1,13 +1,12 @@
 //! Tests of limits. Each takes no memory, and its answer is exact.
 
 ghost use Rattle.std.specs.Prelude.{◌≡◌, ◌<◌, ◌≤◌, false, true, IfErr, OnOk};
-ghost use Rattle.dv_bag.specs.Bag.{total};
-ghost use Rattle.dv_bag.specs.Effects.{is_full, is_within};
+ghost use Rattle.dv_bag.specs.Collections.{is_full};
+ghost use Rattle.dv_bag.specs.Effects.{is_within};
 ghost use Rattle.dv_bag.specs.Limits.{greatest_count};
 ghost use Rattle.dv_bag.specs.declared.fault.Fault.TheVariants as fault;
 
 use crate::GREATEST_COUNT;
-use crate::bag::Bag;
 use crate::fault::Fault;
 
 /// Whether a number is within a range.
@@ -26,18 +25,17 @@ pub fn test_range(number: i64, low: i64, high: i64) -> Result<(), Fault>
     }
 }
 
-/// Whether a bag of this capacity has room for one more value.
+/// Whether a collection of this capacity has room for one more value beside so many.
 ///
 /// # Errors
 ///
 /// `Full` where it holds as many values as its capacity says, or `GREATEST_COUNT`.
-pub fn test_room(bag: &Bag, capacity: u64) -> Result<(), Fault>
-    ensures free { OnOk result (is_full capacity bag.now ≡ false) }
-    ensures few { OnOk result (total bag.now < greatest_count) }
-    ensures full { IfErr result (λ f. (f ≡ fault.Full) × (is_full capacity bag.now ≡ true)) }
+pub fn test_room(count: u64, capacity: u64) -> Result<(), Fault>
+    ensures free { OnOk result (is_full capacity count ≡ false) }
+    ensures few { OnOk result (count < greatest_count) }
+    ensures full { IfErr result (λ f. (f ≡ fault.Full) × (is_full capacity count ≡ true)) }
 {
-    let size = bag.size();
-    if capacity <= size || GREATEST_COUNT <= size {
+    if capacity <= count || GREATEST_COUNT <= count {
         Err(Fault::Full)
     } else {
         Ok(())

@@ -2,118 +2,36 @@
 
 ghost use Rattle.std.specs.Cmp.{decided, partial_equiv_from_equiv};
 ghost use Rattle.std.specs.Option.{option_map};
-ghost use Rattle.std.specs.Prelude.{◌≡◌, ◌==◌, ◌<◌, ◌≤◌, [], ◌∷◌, ◌++◌, length, slice_get, slice_set, IfOk, IfSome, OnOk, OnErr};
-ghost use Rattle.dv_bag.specs.Bag.{total, with_copies, without_one};
+ghost use Rattle.std.specs.Prelude.{◌≡◌, ◌==◌, ◌<◌, true, [], ◌∷◌, ◌++◌, length, slice_get, slice_set, IfSome, OnOk, OnErr};
+ghost use Rattle.dv_bag.specs.Collections.{count_in, edited, makes_more, without_first};
 ghost use Rattle.dv_bag.specs.Numbers.{HoldsNumbers, IsOfNumbers};
-ghost use Rattle.dv_bag.specs.Reading.{HasBagAt, HoldsFew, bag_held_at, datum_of};
-ghost use Rattle.dv_bag.specs.Same.{same_bag, same_bag-decides, same_datum, same_datum-decides, same_variables, same_variables-decides};
+ghost use Rattle.dv_bag.specs.Reading.{HasHeldAt, HoldsFew, datum_of, held_at};
+ghost use Rattle.dv_bag.specs.Same.{same_datum, same_datum-decides, same_variables, same_variables-decides};
 ghost use Rattle.dv_bag.specs.declared.state.Datum.TheVariants as datum;
 ghost use Rattle.dv_bag.specs.Limits.{greatest_count};
 
-use crate::bag::Bag;
+use crate::collection::{Collection, Held};
+use crate::discipline::Change;
 use crate::sent::Sent;
 use smallvec::SmallVec;
 use std::alloc::{AllocError, Global};
 use std::default::MadeWith;
 use std::marker::Model;
 
-/// A bag that a state holds, in memory of its own: it has at most `GREATEST_COUNT` values, each copy counted. Two with
-/// the same values are equal, wherever they lie.
-#[derive(Debug, Drop)]
-pub struct HeldBag {
-    bag: Box<Bag>,
-}
-
-impl Model for HeldBag {
-    ghost use Rattle.std.specs.Prelude.{◌≤◌};
-    ghost use Rattle.dv_bag.specs.Bag.{Counts, total};
-    ghost use Rattle.dv_bag.specs.Limits.{greatest_count};
-
-    ghost Value = { Counts };
-
-    ghost view = { λ b. b.bag.value };
-
-    ghost invariant = { λ b. total b.bag.value ≤ greatest_count };
-}
-
-impl HeldBag {
-    /// A bag, moved to memory of its own.
-    ///
-    /// # Errors
-    ///
-    /// No memory for it. The bag is dropped.
-    pub fn new(alloc: Global, bag: Bag) -> Result<Self, AllocError>
-        requires { total bag ≤ greatest_count }
-        ensures { IfOk result (λ held. held ≡ bag) }
-    {
-        Ok(HeldBag {
-            bag: Box::new(alloc, bag)?,
-        })
-    }
-
-    /// The bag.
-    pub fn as_bag(&self) -> &Bag
-        ensures bag { result.now ≡ self.now }
-        ensures few { total result.now ≤ greatest_count }
-    {
-        self.bag.as_ref()
-    }
-
-    // One more copy of a value. Where there is no memory for it, the bag is as before.
-    fn insert(&mut self, value: i64) -> Result<(), AllocError>
-        requires { total self.old < greatest_count }
-        ensures ok { OnOk result (self.new ≡ with_copies value 1 self.old) }
-        ensures err { OnErr result (self.new ≡ self.old) }
-    {
-        self.bag.insert(value)
-    }
-
-    // One copy of a value less, where there is one.
-    fn drop_one(&mut self, value: i64)
-        ensures { self.new ≡ without_one value self.old }
-    {
-        self.bag.drop_one(value);
-    }
-}
-
-impl Clone for HeldBag {
-    ghost is_clone = { λ b c. c ≡ b };
-
-    fn clone(&self) -> Result<Self, AllocError> {
-        Ok(HeldBag {
-            bag: self.bag.clone()?,
-        })
-    }
-}
-
-impl PartialEq for HeldBag {
-    ghost eq = { same_bag };
-
-    ghost laws = { partial_equiv_from_equiv (decided same_bag same_bag-decides) };
-
-    fn eq(&self, other: &Self) -> bool {
-        self.bag == other.bag
-    }
-}
-
-impl Eq for HeldBag {
-    ghost laws = { decided same_bag same_bag-decides };
-}
-
-/// What a variable, a flag or a bag of a state holds. A number takes no memory beside it.
+/// What a variable, a flag, a bag or a queue of a state holds. A number takes no memory beside it.
 #[derive(Debug, Drop)]
 pub enum Datum {
     Number(i64),
     Flag(bool),
-    Bag(HeldBag),
+    Held(Held),
 }
 
-/// A datum as it is read: numbers and flags by value, a bag where it lies.
+/// A datum as it is read: numbers and flags by value, a collection where it lies.
 #[derive(Clone, Copy, Debug, PartialEq, Eq)]
 pub enum DatumView<'a> {
     Number(i64),
     Flag(bool),
-    Bag(&'a Bag),
+    Held(&'a Collection),
 }
 
 impl Datum {
@@ -126,7 +44,7 @@ impl Datum {
                 let _number = *number;
             }
             Datum::Flag(_) => {}
-            Datum::Bag(bag) => bag.as_bag().holds_numbers(),
+            Datum::Held(held) => held.as_collection().holds_numbers(),
         }
     }
 }
@@ -144,7 +62,7 @@ impl Clone for Datum {
         match self {
             Datum::Number(number) => Ok(Datum::Number(*number)),
             Datum::Flag(flag) => Ok(Datum::Flag(*flag)),
-            Datum::Bag(bag) => Ok(Datum::Bag(bag.clone()?)),
+            Datum::Held(held) => Ok(Datum::Held(held.clone()?)),
         }
     }
 }
@@ -158,7 +76,7 @@ impl PartialEq for Datum {
         match (self, other) {
             (Datum::Number(one), Datum::Number(two)) => one == two,
             (Datum::Flag(one), Datum::Flag(two)) => one == two,
-            (Datum::Bag(one), Datum::Bag(two)) => one == two,
+            (Datum::Held(one), Datum::Held(two)) => one == two,
             _ => false,
         }
     }
@@ -168,7 +86,7 @@ impl Eq for Datum {
     ghost laws = { decided same_datum same_datum-decides };
 }
 
-/// The variables, flags and bags of a state, in the order of their declaration. Two lie inline.
+/// The variables, flags, bags and queues of a state, in the order of their declaration. Two lie inline.
 #[derive(Debug, Drop)]
 pub struct Variables {
     data: SmallVec<Datum, 2>,
@@ -193,7 +111,7 @@ impl Variables {
         }
     }
 
-    /// One more variable, flag or bag, after those that are there.
+    /// One more variable, flag, bag or queue, after those that are there.
     ///
     /// # Errors
     ///
@@ -205,21 +123,21 @@ impl Variables {
         Ok(self.data.push(datum)?)
     }
 
-    /// The number of variables, flags and bags.
+    /// The number of variables, flags, bags and queues.
     pub fn len(&self) -> usize
         ensures { result ≡ length self.now }
     {
         self.data.len()
     }
 
-    /// Whether there are no variables, flags and bags.
+    /// Whether there are no variables, flags, bags and queues.
     pub fn is_empty(&self) -> bool
         ensures { result ≡ (length self.now == 0) }
     {
         self.data.is_empty()
     }
 
-    /// The variable, flag or bag at a place, if there is one. A bag has at most `GREATEST_COUNT` values.
+    /// The variable, flag, bag or queue at a place, if there is one. A collection has at most `GREATEST_COUNT` values.
     pub fn get(&self, place: usize) -> Option<DatumView<'_>>
         ensures datum { option_map datum_of result ≡ slice_get self.now place }
         ensures few { IfSome result (λ view. HoldsFew view) }
@@ -228,7 +146,7 @@ impl Variables {
             None => None,
             Some(Datum::Number(number)) => Some(DatumView::Number(*number)),
             Some(Datum::Flag(flag)) => Some(DatumView::Flag(*flag)),
-            Some(Datum::Bag(bag)) => Some(DatumView::Bag(bag.as_bag())),
+            Some(Datum::Held(held)) => Some(DatumView::Held(held.as_collection())),
         }
     }
 
@@ -248,36 +166,37 @@ impl Variables {
         self.data[place] = Datum::Flag(value);
     }
 
-    /// One more copy of a value in the bag at this place.
+    /// What a change makes of the collection at this place with a value.
     ///
     /// # Errors
     ///
-    /// No memory for a value that the bag lacks. The variables are as before.
-    pub fn insert(&mut self, place: usize, value: i64) -> Result<(), AllocError>
-        requires bag { HasBagAt place self.old }
-        requires room { total (bag_held_at self.old place) < greatest_count }
+    /// No memory for the value. The variables are as before.
+    pub fn edit(&mut self, change: Change, place: usize, value: i64) -> Result<(), AllocError>
+        requires there { HasHeldAt place self.old }
+        requires room { makes_more change ≡ true
+            → count_in (held_at self.old place) < greatest_count }
         ensures ok { OnOk result (self.new ≡ slice_set self.old place
-            (datum.Bag (with_copies value 1 (bag_held_at self.old place)))) }
+            (datum.Held (edited change value (held_at self.old place)))) }
         ensures err { OnErr result (self.new ≡ self.old) }
     {
         match &mut self.data[place] {
-            Datum::Bag(bag) => bag.insert(value),
+            Datum::Held(held) => held.edit(change, value),
             _ => Ok(()),
         }
     }
 
-    /// One copy of a value less in the bag at this place, where there is one.
-    pub fn drop_one(&mut self, place: usize, value: i64)
-        requires { HasBagAt place self.old }
+    /// The queue at this place without its first value, where there is one.
+    pub fn pop(&mut self, place: usize)
+        requires { HasHeldAt place self.old }
         ensures { self.new ≡ slice_set self.old place
-            (datum.Bag (without_one value (bag_held_at self.old place))) }
+            (datum.Held (without_first (held_at self.old place))) }
     {
-        if let Datum::Bag(bag) = &mut self.data[place] {
-            bag.drop_one(value);
+        if let Datum::Held(held) = &mut self.data[place] {
+            held.pop();
         }
     }
 
-    /// Each number of the variables and bags is one of the language. It does nothing.
+    /// Each number of the variables, bags and queues is one of the language. It does nothing.
     pub fn holds_numbers(&self)
         ensures { HoldsNumbers self.now }
     {

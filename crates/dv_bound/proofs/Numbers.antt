@@ -18,6 +18,8 @@ use Rattle.dv_bag.specs.Arithmetic.{is_kept, number_or_empty, number_or_overflow
 use Rattle.dv_bag.specs.Arrivals.{nothing_arrived}
 use Rattle.dv_bag.specs.Outcome.{◌>>=◌}
 use Rattle.dv_bag.specs.Bag.{Counts, is_number, least, most, sum_of}
+use Rattle.dv_bag.specs.declared.collection.Collection.{Collection}
+use Rattle.dv_bag.specs.declared.collection.Collection.TheVariants as collection
 use Rattle.dv_bag.specs.declared.fault.Fault.{Fault}
 use Rattle.dv_bag.specs.declared.fault.Fault.TheVariants as fault
 use Rattle.dv_bag.specs.declared.state.Datum.{Datum}
@@ -25,11 +27,11 @@ use Rattle.dv_bag.specs.declared.state.Datum.TheVariants as datum
 use Rattle.dv_bag.specs.declared.state.State.{State}
 use Rattle.dv_bag.specs.declared.value.Value.{Value}
 use Rattle.dv_bag.specs.declared.value.Value.TheVariants.{Number, Truth}
-use Rattle.dv_bag.specs.Reading.{bag_of_datum}
+use Rattle.dv_bag.specs.Reading.{held_of_datum}
 use Rattle.dv_eval.specs.Scope.{Scope, names_of, place_of}
-use Rattle.dv_eval.specs.Meaning.{bag_between, call_result, datum_at, is_decided, meaning, moment_in, number_of, operator_result}
-use Rattle.dv_eval.specs.Meaning.{outermost, prefix_result, value_of_datum}
-use Rattle.dv_bag.specs.Numbers.{HoldsNumbers, IsBagOfNumbers, IsOfNumbers}
+use Rattle.dv_eval.specs.Meaning.{bag_or_none, call_result, collection_between, datum_at, first, is_decided, meaning, moment_in}
+use Rattle.dv_eval.specs.Meaning.{number_of, operator_result, outermost, prefix_result, queue_or_none, value_of_datum}
+use Rattle.dv_bag.specs.Numbers.{HasNumbers, HoldsNumbers, IsBagOfNumbers, IsOfNumbers}
 use Rattle.dv_bound.specs.Response.{least_number}
 use Rattle.dv_accepted.proofs.Outcomes.{if_ok_after, if_ok_then}
 
@@ -103,7 +105,18 @@ decided_not_under : (b t : Bool) (r : Result Value Fault) → GivesNotUnder r �
 decided_not_under true t r not_under = truth_not_under t
 decided_not_under false t r not_under = not_under
 
--- ---- Bags
+-- ---- Collections
+
+no_numbers : HasNumbers (collection.Bag [])
+no_numbers = All-nil (λ (p : ℤ × ℕ). IsTrue (is_number p.0))
+
+bag_numbers : (c : Collection) → HasNumbers c → IsBagOfNumbers (bag_or_none c)
+bag_numbers (collection.Bag b) numbers = numbers
+bag_numbers (collection.Queue q) numbers = no_numbers
+
+queue_numbers : (c : Collection) → HasNumbers c → All (λ v. IsTrue (is_number v)) (queue_or_none c)
+queue_numbers (collection.Bag b) numbers = All-nil (λ (v : ℤ). IsTrue (is_number v))
+queue_numbers (collection.Queue q) numbers = numbers
 
 least_not_under : (b : Counts) → IsBagOfNumbers b → GivesNotUnder (number_or_empty (least b))
 least_not_under [] numbers = tt
@@ -114,16 +127,21 @@ most_not_under [] numbers = tt
 most_not_under (p ∷ []) numbers = number_not_under p.0 (numbers 0 p (omega arith))
 most_not_under (p ∷ q ∷ ps) numbers = most_not_under (q ∷ ps) (λ k d within. numbers (suc k) d (omega arith))
 
-call_not_under : (c : BagCall) (b : Counts) → IsBagOfNumbers b → GivesNotUnder (call_result c b)
-call_not_under call.Size b numbers = natural_not_under _
-call_not_under call.Sum b numbers = by (is_number (sum_of b)) refl
+first_not_under : (q : List ℤ) → All (λ v. IsTrue (is_number v)) q → GivesNotUnder (number_or_empty (first q))
+first_not_under [] numbers = tt
+first_not_under (n ∷ q) numbers = number_not_under n (numbers 0 n (omega arith))
+
+call_not_under : (k : BagCall) (c : Collection) → HasNumbers c → GivesNotUnder (call_result k c)
+call_not_under call.Size c numbers = natural_not_under _
+call_not_under call.Sum c numbers = by (is_number (sum_of (bag_or_none c))) refl
   where
-    by : (t : Bool) → is_number (sum_of b) ≡ t
-        → GivesNotUnder ((if t then Ok (sum_of b) else Err fault.Overflow) >>= λ n. Ok (Number n))
-    by true number = number_not_under (sum_of b) number
+    by : (t : Bool) → is_number (sum_of (bag_or_none c)) ≡ t
+        → GivesNotUnder ((if t then Ok (sum_of (bag_or_none c)) else Err fault.Overflow) >>= λ n. Ok (Number n))
+    by true number = number_not_under (sum_of (bag_or_none c)) number
     by false over = tt
-call_not_under call.Least b numbers = least_not_under b numbers
-call_not_under call.Most b numbers = most_not_under b numbers
+call_not_under call.Least c numbers = least_not_under (bag_or_none c) (bag_numbers c numbers)
+call_not_under call.Most c numbers = most_not_under (bag_or_none c) (bag_numbers c numbers)
+call_not_under call.Front c numbers = first_not_under (queue_or_none c) (queue_numbers c numbers)
 
 -- ---- States
 
@@ -136,13 +154,13 @@ datum_not_under : (o : Option Datum) → IfSome o IsOfNumbers → IsNotUnder (nu
 datum_not_under None numbers = natural_not_under 0
 datum_not_under (Some (datum.Number n)) numbers = number_not_under n numbers
 datum_not_under (Some (datum.Flag b)) numbers = truth_not_under b
-datum_not_under (Some (datum.Bag b)) numbers = natural_not_under 0
+datum_not_under (Some (datum.Held c)) numbers = natural_not_under 0
 
-bag_of_numbers : (o : Option Datum) → IfSome o IsOfNumbers → IsBagOfNumbers (bag_of_datum o)
-bag_of_numbers None numbers = All-nil _
-bag_of_numbers (Some (datum.Number n)) numbers = All-nil _
-bag_of_numbers (Some (datum.Flag b)) numbers = All-nil _
-bag_of_numbers (Some (datum.Bag b)) numbers = numbers
+held_numbers : (o : Option Datum) → IfSome o IsOfNumbers → HasNumbers (held_of_datum o)
+held_numbers None numbers = no_numbers
+held_numbers (Some (datum.Number n)) numbers = no_numbers
+held_numbers (Some (datum.Flag b)) numbers = no_numbers
+held_numbers (Some (datum.Held c)) numbers = numbers
 
 module _ (scope : Scope) (s : State) (numbers : HoldsNumbers s.variables) where
   abbrev given : Expression → Result Value Fault
@@ -155,10 +173,10 @@ module _ (scope : Scope) (s : State) (numbers : HoldsNumbers s.variables) where
   name_not_under None = natural_not_under 0
   name_not_under (Some place) = datum_not_under (slice_get s.variables place) (at_place place)
 
-  bag_between_numbers : (place port : Option ℕ) → IsBagOfNumbers (bag_between (moment_in (outermost nothing_arrived) s) place port)
-  bag_between_numbers (Some place) port = bag_of_numbers (slice_get s.variables place) (at_place place)
-  bag_between_numbers None None = All-nil _
-  bag_between_numbers None (Some port) = All-nil _
+  between_numbers : (place port : Option ℕ) → HasNumbers (collection_between (moment_in (outermost nothing_arrived) s) place port)
+  between_numbers (Some place) port = held_numbers (slice_get s.variables place) (at_place place)
+  between_numbers None None = no_numbers
+  between_numbers None (Some port) = no_numbers
 
   pub value_not_under : (e : Expression) → GivesNotUnder (given e)
   value_not_under (Literal n) = natural_not_under n.value
@@ -171,7 +189,7 @@ module _ (scope : Scope) (s : State) (numbers : HoldsNumbers s.variables) where
       if_ok_then (given a) _ (λ v. IsNotUnder (number_of v)) _ (value_not_under a) (λ x first.
       decided_not_under (is_decided o x) _ _ (if_ok_after (given b) (operator_result o x) _ (λ y. operator_not_under o x y first)))
   value_not_under (Call c place b) =
-      call_not_under c _ (bag_between_numbers (place_of b.number (names_of scope.variables)) (place_of b.number scope.inputs))
+      call_not_under c _ (between_numbers (place_of b.number (names_of scope.variables)) (place_of b.number scope.inputs))
   value_not_under (Elapsed place) = overflow_not_under (pos nothing_arrived.elapsed)
   value_not_under (Times place e b) =
       if_ok_after (given e) _ _ (λ x. natural_not_under _)

@@ -1,9 +1,8 @@
 -- The response of a model is as short as those of its holds.
-use Rattle.std.proofs.Common.{◌≡◌, ℕ, zero, suc, ◌<◌, ◌^◌, Bool, true, false, if◌then◌else◌, ◌==◌, List, [], ◌∷◌, fold, map}
-use Rattle.std.proofs.Common.{min, Option, Some, None, refl, arith}
-use Rattle.std.specs.Prelude.{slice_get}
+use Rattle.std.proofs.Common.{◌≡◌, ℕ, suc, Bool, true, false, if◌then◌else◌, ◌==◌, List, [], ◌∷◌, fold, map}
+use Rattle.std.proofs.Common.{Option, Some, None, refl, arith}
 use Rattle.dv_syntax.specs.declared.tree.Hold.{Hold}
-use Rattle.dv_syntax.specs.Trees.{AtomicTree, Expression, HoldTree, hold_of}
+use Rattle.dv_syntax.specs.Trees.{AtomicTree, Expression, hold_of}
 use Rattle.dv_eval.specs.Scope.{Scope, hold_ticks, scope_of}
 use Rattle.dv_bound.specs.Response.{external_gotos, hold_response, phase_response, response_of, sooner}
 use Rattle.dv_bound.specs.Short.{AreShort, IsShort}

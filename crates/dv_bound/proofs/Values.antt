@@ -31,7 +31,7 @@ use Rattle.dv_accepted.proofs.Outcomes.{if_ok_after, if_ok_then}
 datum_at_least : (r : VariableRange) (d : Datum) → datum_fits (domain.Number r) d ≡ true → r.low ≤ℤ number_of (value_of_datum (Some d))
 datum_at_least r (datum.Number n) fit = not_less n r.low (not (int_lt r.high n)) fit
 datum_at_least r (datum.Flag b) fit = absurd (cc)
-datum_at_least r (datum.Bag b) fit = absurd (cc)
+datum_at_least r (datum.Held c) fit = absurd (cc)
 
 value_held : (scope : Scope) (s : State) (q : ℕ) (d : Domain) (h : HoldsDatum scope s q d)
     → value_of_datum (datum_of_name scope s q) ≡ value_of_datum (Some h.datum)
@@ -76,7 +76,7 @@ module _ (scope : Scope) (s : State)
       let h = held q (domain.Number r) is in
       subst (λ (v : Value). r.low ≤ℤ number_of v) (sym (value_held scope s q (domain.Number r) h)) (datum_at_least r h.datum h.fitting)
   name_at_least q (Some (domain.Flag start)) is = name_not_under scope s numbers (place_of q (names_of scope.variables))
-  name_at_least q (Some (domain.Bag capacity)) is = name_not_under scope s numbers (place_of q (names_of scope.variables))
+  name_at_least q (Some (domain.Held d capacity)) is = name_not_under scope s numbers (place_of q (names_of scope.variables))
 
   value_at_least : (e : Expression) → IfOk (given e) (λ v. low scope e ≤ℤ number_of v)
   value_at_least (Literal n) = omega (arith, ints)

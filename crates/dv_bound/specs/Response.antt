@@ -31,7 +31,7 @@ abbrev pub low_end : Option Domain → ℤ
 low_end None = least_number
 low_end (Some (domain.Number range)) = range.low
 low_end (Some (domain.Flag start)) = least_number
-low_end (Some (domain.Bag capacity)) = least_number
+low_end (Some (domain.Held d capacity)) = least_number
 
 -- a number that a hold's expression is not below, in any state of the model
 abbrev pub low : Scope → Expression → ℤ

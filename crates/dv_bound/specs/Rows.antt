@@ -3,16 +3,18 @@ use Rattle.std.specs.Prelude.{ℕ, ℤ, [], ◌∷◌, false, Option, Some, None
 use Rattle.dv_syntax.specs.declared.tree.Bound.{Bound}
 use Rattle.dv_syntax.specs.declared.tree.Variable.{Variable}
 use Rattle.dv_syntax.specs.declared.tree.Declaration.TheVariants as declaration
-use Rattle.dv_syntax.specs.declared.tree.BagCall.TheVariants.{Least, Size}
+use Rattle.dv_syntax.specs.declared.tree.BagCall.TheVariants.{Front, Least, Size}
+use Rattle.dv_syntax.specs.declared.tree.Command.TheVariants as command
 use Rattle.dv_syntax.specs.declared.tree.Operator.TheVariants as operator
 use Rattle.dv_syntax.specs.declared.tree.RuleSort.TheVariants.{Internal, External}
-use Rattle.dv_syntax.specs.Trees.{AtomicTree, Expression, HoldTree, Binary, Call, Named, Statements, Done, Goto, IfElse, For}
+use Rattle.dv_syntax.specs.Trees.{AtomicTree, Expression, HoldTree, Binary, Call, Named, Statements, Done, Does, IfElse, For}
+use Rattle.dv_bag.specs.declared.discipline.Discipline.TheVariants as discipline
 use Rattle.dv_eval.specs.Edges.{number}
 use Rattle.dv_eval.specs.Scope.{scope_of}
 use Rattle.dv_eval.specs.Rows.{named}
 use Rattle.dv_bound.specs.Response.{low, response_of}
 
--- the names: 0 Server, 1 arrived, 2 load, 3 drift, 4 on, 5 jobs, 6 idle, 7 busy, 8 late, 9 v
+-- the names: 0 Server, 1 arrived, 2 load, 3 drift, 4 on, 5 jobs, 6 idle, 7 busy, 8 late, 9 v, 10 line
 -- a bound of a range, not below 0
 abbrev pub above : ℕ → Bound
 above n = record { minus = None; magnitude = record { value = n; place = 1 } }
@@ -35,10 +37,10 @@ hold phase ticks = record { place = 1; phase = named phase; ticks = ticks }
 
 -- goto PHASE;
 abbrev pub goto : ℕ → Statements → Statements
-goto phase rest = Goto 1 (named phase) rest
+goto phase rest = Does command.Goto 1 (named phase) rest
 
--- in arrived; var load ..; var drift ..; flag on = false; bag jobs 8; phases idle, busy, late; start idle; hold idle: 1;
--- hold busy: TICKS; hold late: 7; external idle { .. } internal busy { goto idle; }
+-- in arrived; var load ..; var drift ..; flag on = false; bag jobs 8; queue line 8; phases idle, busy, late; start idle;
+-- hold idle: 1; hold busy: TICKS; hold late: 7; external idle { .. } internal busy { goto idle; }
 abbrev pub server : Option Expression → Statements → AtomicTree
 server ticks body = record {
   name = named 0;
@@ -47,7 +49,8 @@ server ticks body = record {
       ∷ declaration.Var load
       ∷ declaration.Var drift
       ∷ declaration.Flag (record { name = named 4; start = false })
-      ∷ declaration.Bag (record { name = named 5; capacity = record { value = 8; place = 1 } })
+      ∷ declaration.Held (record { discipline = discipline.Bag; name = named 5; capacity = record { value = 8; place = 1 } })
+      ∷ declaration.Held (record { discipline = discipline.Queue; name = named 10; capacity = record { value = 8; place = 1 } })
       ∷ [];
   phases = record { place = 1; names = named 6 ∷ named 7 ∷ named 8 ∷ [] } ∷ [];
   starts = record { place = 1; phase = named 6 } ∷ [];
@@ -85,6 +88,13 @@ jobs_waiting = Call Size 1 (named 5)
 -- least(jobs)
 abbrev pub least_job : Expression
 least_job = Call Least 1 (named 5)
+
+-- size(line), and front(line)
+abbrev pub line_waiting : Expression
+line_waiting = Call Size 1 (named 10)
+
+abbrev pub first_in_line : Expression
+first_in_line = Call Front 1 (named 10)
 
 -- a sum, and a difference
 abbrev pub plus : Expression → Expression → Expression

@@ -17,7 +17,7 @@ use dv_accepted::laws::{accepted_names_are_known, rules_keep_to_the_ranges};
 
 /// Where an external rule goes to a phase, from any state that fits and whatever has arrived, the hold that begins
 /// there, if it ends, is not below the model's response. The state in which it begins holds numbers of the language
-/// alone, in variables and in bags, as each state of the code does by its type: see `State::holds_numbers`.
+/// alone, in variables, bags and queues, as each state of the code does by its type: see `State::holds_numbers`.
 pub fn holds_are_not_below_the_response()
     ensures { (m : AtomicTree) (phase place ticks : ℕ) (arrivals : Arrivals) (s : State)
         (e : Effect) → fits m s ≡ true →

@@ -14,7 +14,7 @@ use crate::low::low;
 use dv_bag::Response;
 use dv_eval::Scope;
 use dv_syntax::laws::trees_keep_blocks;
-use dv_syntax::{Atomic, Hold, Rule, RuleSort, Stmt, Ticks};
+use dv_syntax::{Atomic, Command, Hold, Rule, RuleSort, Stmt, Ticks};
 use indexmap::IndexMap;
 use std::alloc::{AllocError, Global};
 
@@ -133,7 +133,11 @@ fn soonest_of_statement(responses: &PhaseResponses, statement: &Stmt, so_far: Re
 {
     trees_keep_blocks();
     match statement {
-        Stmt::Goto { phase, .. } => sooner(so_far, response_of_phase(responses, phase.number)),
+        Stmt::Command {
+            command: Command::Goto,
+            name,
+            ..
+        } => sooner(so_far, response_of_phase(responses, name.number)),
         Stmt::If { then_block, .. } => {
             soonest_of_statements(responses, &then_block.statements, so_far)
         }
@@ -146,7 +150,13 @@ fn soonest_of_statement(responses: &PhaseResponses, statement: &Stmt, so_far: Re
             soonest_of_statements(responses, &else_block.statements, so_far)
         }
         Stmt::For { block, .. } => soonest_of_statements(responses, &block.statements, so_far),
-        Stmt::Assign { .. } | Stmt::Send { .. } | Stmt::Add { .. } | Stmt::Drop { .. } => so_far,
+        Stmt::Command {
+            command: Command::Pop,
+            ..
+        }
+        | Stmt::Assign { .. }
+        | Stmt::Send { .. }
+        | Stmt::Change { .. } => so_far,
     }
 }
 

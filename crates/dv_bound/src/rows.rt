@@ -5,16 +5,17 @@ ghost use Rattle.dv_syntax.specs.Trees.{Done, Parens};
 ghost use Rattle.dv_eval.specs.Edges.{greatest, number};
 ghost use Rattle.dv_bound.specs.Response.{least_number};
 ghost use Rattle.dv_bound.specs.Rows.{low_in_server, the_drift, either, for_each, goto, minus, plus, response_by, response_to};
-ghost use Rattle.dv_bound.specs.Rows.{the_load, jobs_waiting, least_job};
+ghost use Rattle.dv_bound.specs.Rows.{the_load, first_in_line, jobs_waiting, least_job, line_waiting};
 
 /// A hold counts with the least ticks that it can have, as far as the text shows them: those of a number, a
-/// variable, the size of a bag, and of their sums. All else counts as the least number, in sums too; and where the
-/// whole is below 0, as 0. A hold that is forever never ends.
+/// variable, the size of a bag or a queue, and of their sums. All else counts as the least number, in sums too; and
+/// where the whole is below 0, as 0. A hold that is forever never ends.
 pub fn holds_count_with_their_least_ticks()
     ensures number { response_to (Some (number 5)) ≡ Some 5 }
     ensures variable { response_to (Some the_load) ≡ Some 2 }
     ensures sum { response_to (Some (plus the_load (number 3))) ≡ Some 5 }
     ensures size { response_to (Some (plus jobs_waiting (number 1))) ≡ Some 1 }
+    ensures size_of_queue { response_to (Some (plus line_waiting (number 1))) ≡ Some 1 }
     ensures in_parentheses { response_to (Some (Parens 1 (number 4))) ≡ Some 4 }
     ensures difference { response_to (Some (minus the_load (number 1))) ≡ Some 0 }
     ensures below_nothing { response_to (Some (minus (number 0) (number 1))) ≡ Some 0 }
@@ -32,6 +33,7 @@ pub fn holds_count_with_their_least_ticks()
 pub fn unknown_values_count_as_the_least_number()
     ensures difference { low_in_server (minus the_load (number 1)) ≡ least_number }
     ensures least_value { low_in_server least_job ≡ least_number }
+    ensures first_value { low_in_server first_in_line ≡ least_number }
     ensures sum { low_in_server (plus least_job (number 50)) ≡ least_number +ℤ pos 50 }
     ensures sum_of_both { low_in_server (plus least_job least_job) ≡ least_number }
 {}

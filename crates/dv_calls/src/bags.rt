@@ -2,7 +2,8 @@
 
 use crate::compare::same;
 use dv_bag::{
-    Bag, Bags, Datum, DatumView, Entry, HeldBag, Kind, Outer, Part, Sent, State, Variables, What,
+    Bag, Bags, Collection, Datum, DatumView, Entry, Held, Kind, Outer, Part, Sent, State,
+    Variables, What,
 };
 use dv_time::Time;
 use std::process::Abort;
@@ -106,11 +107,12 @@ fn what_is_sent_has_a_bag_a_port(rt: HostRuntime) {
 
 // A state of a flag, a number and an empty bag.
 fn state_of<R: Abort + AllocGlobal>(rt: &R, number: i64) -> State {
-    let bag = HeldBag::new(rt.alloc(), Bag::new(rt.alloc())).expect(rt, "memory");
+    let bag = Collection::Bag(Bag::new(rt.alloc()));
+    let bag = Held::new(rt.alloc(), bag).expect(rt, "memory");
     let mut variables = Variables::new(rt.alloc());
     variables.push(Datum::Flag(true)).expect(rt, "memory");
     variables.push(Datum::Number(number)).expect(rt, "memory");
-    variables.push(Datum::Bag(bag)).expect(rt, "memory");
+    variables.push(Datum::Held(bag)).expect(rt, "memory");
     State {
         phase: 1,
         variables,
@@ -129,7 +131,7 @@ fn variables_stand_in_order(rt: HostRuntime) {
     same!(rt; before == state, false);
     same!(rt; state.variables.get(0), Some(DatumView::Flag(false)));
     same!(rt; state.variables.get(1), Some(DatumView::Number(8)));
-    same!(rt; matches!(state.variables.get(2), Some(DatumView::Bag(_))), true);
+    same!(rt; matches!(state.variables.get(2), Some(DatumView::Held(Collection::Bag(_)))), true);
     same!(rt; state.variables.get(3), None);
     same!(rt; state.variables.len(), 3);
 }

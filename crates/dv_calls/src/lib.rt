@@ -21,6 +21,9 @@ mod graphs;
 /// Inputs by time.
 #[cfg(test)]
 mod inputs;
+/// Queues, and those that states hold.
+#[cfg(test)]
+mod queues;
 /// Models and their responses, and holds.
 #[cfg(test)]
 mod responses;

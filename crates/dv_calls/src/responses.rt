@@ -5,7 +5,9 @@ use dv_bag::{Response, State, Variables};
 use dv_bound::response;
 use dv_eval::{Scope, hold};
 use dv_lex::Numeral;
-use dv_syntax::{Atomic, Block, Expr, Hold, Name, Number, Phases, Rule, RuleSort, Stmt, Ticks};
+use dv_syntax::{
+    Atomic, Block, Command, Expr, Hold, Name, Number, Phases, Rule, RuleSort, Stmt, Ticks,
+};
 use std::process::Abort;
 
 /// How many phases the model has.
@@ -41,9 +43,10 @@ fn push_phases(
             })
             .expect(rt, "memory");
         gotos
-            .push(Stmt::Goto {
+            .push(Stmt::Command {
+                command: Command::Goto,
                 place: 0,
-                phase: phase_name,
+                name: phase_name,
             })
             .expect(rt, "memory");
     }

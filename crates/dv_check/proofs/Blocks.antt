@@ -9,7 +9,8 @@ use Rattle.dv_check.specs.declared.environment.Environment.{Environment, Loop, t
 use Rattle.dv_check.specs.declared.findings.Findings.{Findings}
 use Rattle.dv_bag.specs.declared.value.ValueType.TheVariants.{Truth}
 use Rattle.dv_check.specs.Findings.{with_refusal, with_refusals}
-use Rattle.dv_check.specs.Types.{Known, bag_name_refusals, place_refusals}
+use Rattle.dv_check.specs.declared.wanted.Wanted.TheVariants as wanted
+use Rattle.dv_check.specs.Types.{Known, held_name_refusals, place_refusals}
 use Rattle.dv_check.specs.Rules.{known_at, known_in_loop, loop_variable_refusals, statements_refusals}
 
 -- one list of refusals behind another
@@ -59,11 +60,11 @@ module _ (known : Known) (found found1 found2 found3 : Findings) (s : Stmt) (pla
     (block rest : Statements) where
   pub with_refusals-For : statement_before s rest ≡ For place variable bag block rest
       → found1 ≡ with_refusals found (loop_variable_refusals (known.place variable.number) variable.place)
-      → found2 ≡ with_refusals found1 (bag_name_refusals known.rule (known.sort bag.number) bag.place)
+      → found2 ≡ with_refusals found1 (held_name_refusals wanted.Values known.rule (known.sort bag.number) bag.place)
       → found3 ≡ with_refusals found2 (statements_refusals (known_in_loop variable known) block)
       → with_refusals found3 (statements_refusals known rest) ≡ with_refusals found (statements_refusals known (statement_before s rest))
   with_refusals-For tree first second third =
       with_refusals_thrice found found1 found2 found3 (loop_variable_refusals (known.place variable.number) variable.place)
-      (bag_name_refusals known.rule (known.sort bag.number) bag.place)
+      (held_name_refusals wanted.Values known.rule (known.sort bag.number) bag.place)
       (statements_refusals (known_in_loop variable known) block) (statements_refusals known rest) first second third
       ∙ ap (λ x. with_refusals found (statements_refusals known x)) (sym tree)

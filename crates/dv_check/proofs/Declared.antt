@@ -3,10 +3,10 @@ use Rattle.std.proofs.Common.{◌≡◌, ℕ, ◌==◌, Bool, true, false, arith
 use Rattle.std.proofs.lemmas.List.Folds.{list_any-append}
 use Rattle.dv_syntax.specs.declared.tree.Name.{Name}
 use Rattle.dv_syntax.specs.declared.tree.Declaration.{Declaration}
-use Rattle.dv_syntax.specs.declared.tree.Declaration.TheVariants.{In, Out, Var, Flag, Bag}
+use Rattle.dv_syntax.specs.declared.tree.Declaration.TheVariants.{In, Out, Var, Flag, Held}
 use Rattle.dv_eval.specs.Scope.{inputs_in, is_declared, outputs_in, with_name, with_names}
 use Rattle.dv_check.specs.declared.declarations.NameSort.{NameSort}
-use Rattle.dv_check.specs.declared.declarations.NameSort.TheVariants.{Variable as ForVariable, Flag as ForFlag, Bag as ForBag}
+use Rattle.dv_check.specs.declared.declarations.NameSort.TheVariants.{Variable as ForVariable, Flag as ForFlag, Held as ForHeld}
 use Rattle.dv_check.specs.declared.declarations.NameSort.TheVariants.{Input as ForInput, Output as ForOutput}
 use Rattle.dv_check.specs.Couplings.{is_input, is_output}
 use Rattle.dv_check.specs.Rules.{sort_in}
@@ -76,7 +76,7 @@ module _ (q : ℕ) where
       (output_declared ds (with_name names port))
   output_declared (Var v ∷ ds) names e = output_declared ds names (not_output v.name ForVariable ds refl e)
   output_declared (Flag f ∷ ds) names e = output_declared ds names (not_output f.name ForFlag ds refl e)
-  output_declared (Bag b ∷ ds) names e = output_declared ds names (not_output b.name ForBag ds refl e)
+  output_declared (Held c ∷ ds) names e = output_declared ds names (not_output c.name (ForHeld c.discipline) ds refl e)
 
   not_input : (n : Name) (sort : NameSort) (ds : List Declaration) → is_input (Some sort) ≡ false
       → is_input (if n.number == q then Some sort else sort_in ds q) ≡ true → is_input (sort_in ds q) ≡ true
@@ -92,4 +92,4 @@ module _ (q : ℕ) where
   input_declared (Out port ∷ ds) names e = input_declared ds names (not_input port ForOutput ds refl e)
   input_declared (Var v ∷ ds) names e = input_declared ds names (not_input v.name ForVariable ds refl e)
   input_declared (Flag f ∷ ds) names e = input_declared ds names (not_input f.name ForFlag ds refl e)
-  input_declared (Bag b ∷ ds) names e = input_declared ds names (not_input b.name ForBag ds refl e)
+  input_declared (Held c ∷ ds) names e = input_declared ds names (not_input c.name (ForHeld c.discipline) ds refl e)

@@ -8,7 +8,7 @@ use Rattle.dv_syntax.specs.declared.tree.Name.{Name}
 use Rattle.dv_syntax.specs.declared.tree.Part.{Part}
 use Rattle.dv_syntax.specs.declared.tree.Link.{Link}
 use Rattle.dv_check.specs.declared.declarations.NameSort.{NameSort}
-use Rattle.dv_check.specs.declared.declarations.NameSort.TheVariants.{Variable, Flag, Bag, Input, Output, LoopVariable}
+use Rattle.dv_check.specs.declared.declarations.NameSort.TheVariants.{Variable, Flag, Held, Input, Output, LoopVariable}
 use Rattle.dv_check.specs.declared.parts.Interior as tables
 use Rattle.dv_check.specs.Names.{refusal, refusal_if, repeats, excess, part_named}
 use Rattle.dv_check.specs.Tables.{value_for}
@@ -55,7 +55,7 @@ is_input (Some Input) = true
 is_input (Some Output) = false
 is_input (Some Variable) = false
 is_input (Some Flag) = false
-is_input (Some Bag) = false
+is_input (Some (Held d)) = false
 is_input (Some LoopVariable) = false
 is_input None = false
 
@@ -64,7 +64,7 @@ is_output (Some Input) = false
 is_output (Some Output) = true
 is_output (Some Variable) = false
 is_output (Some Flag) = false
-is_output (Some Bag) = false
+is_output (Some (Held d)) = false
 is_output (Some LoopVariable) = false
 is_output None = false
 

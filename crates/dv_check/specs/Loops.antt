@@ -1,22 +1,32 @@
 -- A model with one rule, by what it declares and by what the rule says.
-use Rattle.std.specs.Prelude.{ℕ, ◌+◌, List, [], ◌∷◌, false, None}
+use Rattle.std.specs.Prelude.{ℕ, ◌+◌, List, [], ◌∷◌, false, Option, Some, None}
 use Rattle.dv_lex.specs.declared.error.Refusal.{Refusal}
 use Rattle.dv_syntax.specs.declared.tree.Name.{Name}
 use Rattle.dv_syntax.specs.declared.tree.Declaration.{Declaration}
-use Rattle.dv_syntax.specs.declared.tree.Declaration.TheVariants.{In, Flag, Bag}
+use Rattle.dv_syntax.specs.declared.tree.Declaration.TheVariants.{In, Flag, Held}
 use Rattle.dv_syntax.specs.declared.tree.RuleSort.{RuleSort}
 use Rattle.dv_syntax.specs.declared.tree.RuleSort.TheVariants as rule
-use Rattle.dv_syntax.specs.Trees.{Expression, Literal, Statements, For, AtomicTree}
+use Rattle.dv_syntax.specs.Trees.{Expression, Literal, Statements, Done, For, AtomicTree}
+use Rattle.dv_bag.specs.declared.discipline.Discipline.{Discipline}
+use Rattle.dv_bag.specs.declared.discipline.Discipline.TheVariants as discipline
 use Rattle.dv_check.specs.Rules.{atomic_refusals}
 
--- the names: 0 Heap, 1 v, 2 b, 3 z
+-- the names: 0 Heap, 1 v, 2 b, 3 z, 4 w
 abbrev pub name_at : ℕ → ℕ → Name
 name_at number place = record { number = number; place = place }
 
--- bag NAME CAPACITY; and flag NAME = false;
-abbrev pub bag_at : ℕ → ℕ → ℕ → Declaration
-bag_at number place capacity = Bag (record { name = name_at number place; capacity = record { value = capacity; place = place + 2 } })
+-- bag NAME CAPACITY; and queue NAME CAPACITY;
+abbrev pub collection_at : Discipline → ℕ → ℕ → ℕ → Declaration
+collection_at d number place capacity =
+    Held (record { discipline = d; name = name_at number place; capacity = record { value = capacity; place = place + 2 } })
 
+abbrev pub bag_at : ℕ → ℕ → ℕ → Declaration
+bag_at = collection_at discipline.Bag
+
+abbrev pub queue_at : ℕ → ℕ → ℕ → Declaration
+queue_at = collection_at discipline.Queue
+
+-- flag NAME = false;
 abbrev pub flag_at : ℕ → ℕ → Declaration
 flag_at number place = Flag (record { name = name_at number place; start = false })
 
@@ -31,16 +41,20 @@ one_at place = Literal (record { value = 1; place = place })
 abbrev pub loop_at : ℕ → ℕ → ℕ → Statements → Statements → Statements
 loop_at place variable bag block rest = For place (name_at variable (place + 4)) (name_at bag (place + 9)) block rest
 
--- atomic Heap { phases z; start z; hold z: forever; SORT z { .. } } and the declarations
-abbrev pub heap : List Declaration → RuleSort → Statements → AtomicTree
-heap declarations sort body = record {
+-- atomic Heap { phases z; start z; hold z: TICKS; SORT z { .. } } and the declarations
+abbrev pub heap_held : Option Expression → List Declaration → RuleSort → Statements → AtomicTree
+heap_held ticks declarations sort body = record {
   name = name_at 0 7;
   declarations = declarations;
   phases = record { place = 40; names = name_at 3 47 ∷ [] } ∷ [];
   starts = record { place = 50; phase = name_at 3 56 } ∷ [];
-  holds = record { place = 60; phase = name_at 3 65; ticks = None } ∷ [];
+  holds = record { place = 60; phase = name_at 3 65; ticks = ticks } ∷ [];
   rules = record { sort = sort; phase = name_at 3 89; body = body } ∷ [];
 }
+
+-- the same with hold z: forever;
+abbrev pub heap : List Declaration → RuleSort → Statements → AtomicTree
+heap declarations sort body = heap_held None declarations sort body
 
 -- what is wrong where bag b 8; stands in front, with these declarations and this rule
 abbrev pub wrong_under : RuleSort → List Declaration → Statements → List Refusal
@@ -52,3 +66,11 @@ wrong_inside declarations body = wrong_under rule.Internal declarations body
 
 abbrev pub wrong_outside : List Declaration → Statements → List Refusal
 wrong_outside declarations body = wrong_under rule.Output declarations body
+
+-- with an internal rule, where queue v 8; stands behind it
+abbrev pub wrong_queued : Statements → List Refusal
+wrong_queued body = wrong_inside (queue_at 1 30 8 ∷ []) body
+
+-- with an empty rule, and such a hold
+abbrev pub wrong_held : List Declaration → Expression → List Refusal
+wrong_held declarations ticks = atomic_refusals (heap_held (Some ticks) declarations rule.Internal Done)

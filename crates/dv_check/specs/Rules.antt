@@ -5,17 +5,23 @@ use Rattle.std.specs.List.{flat_map, list_any}
 use Rattle.dv_lex.specs.declared.error.Refusal.{Refusal}
 use Rattle.dv_lex.specs.declared.error.RefusalNumber.TheVariants.{E6, E7, E8, E9, E10, E11, E17}
 use Rattle.dv_syntax.specs.Trees.{Expression, Literal, TruthValue, Named, Parens, Prefixed, Binary, Call, Elapsed, Times}
-use Rattle.dv_syntax.specs.Trees.{Statements, Done, Assign, Goto, Send, If, IfElse, For, Add, Drop, PhasesTree, HoldTree}
+use Rattle.dv_syntax.specs.Trees.{Statements, Done, Assign, Does, Send, If, IfElse, For, Changes, PhasesTree, HoldTree}
 use Rattle.dv_syntax.specs.Trees.{RuleTree, AtomicTree}
 use Rattle.dv_syntax.specs.declared.tree.Name.{Name}
 use Rattle.dv_syntax.specs.declared.tree.Variable.{Variable}
-use Rattle.dv_syntax.specs.declared.tree.StateBag.{StateBag}
+use Rattle.dv_syntax.specs.declared.tree.Command.{Command}
+use Rattle.dv_syntax.specs.declared.tree.Command.TheVariants as command
+use Rattle.dv_syntax.specs.declared.tree.StateCollection.{StateCollection}
 use Rattle.dv_syntax.specs.declared.tree.Declaration.{Declaration}
-use Rattle.dv_syntax.specs.declared.tree.Declaration.TheVariants.{In, Out, Var, Flag, Bag}
+use Rattle.dv_syntax.specs.declared.tree.Declaration.TheVariants.{In, Out, Var, Flag, Held}
 use Rattle.dv_syntax.specs.declared.tree.Start.{Start}
 use Rattle.dv_syntax.specs.declared.tree.RuleSort.{RuleSort}
 use Rattle.dv_syntax.specs.declared.tree.RuleSort.TheVariants as rule
+use Rattle.dv_bag.specs.Collections.{discipline_of_change, same_discipline}
 use Rattle.dv_bag.specs.Limits.{greatest_count}
+use Rattle.dv_bag.specs.declared.discipline.Change.{Change}
+use Rattle.dv_bag.specs.declared.discipline.Discipline.{Discipline}
+use Rattle.dv_bag.specs.declared.discipline.Discipline.TheVariants as discipline
 use Rattle.dv_eval.specs.declared.scope.VariableRange.{VariableRange}
 use Rattle.dv_eval.specs.declared.scope.Domain.{Domain}
 use Rattle.dv_eval.specs.declared.scope.Domain.TheVariants as domain
@@ -23,7 +29,7 @@ use Rattle.dv_eval.specs.Scope.{scope_of, range_of, same_sort, start_state, hold
 use Rattle.dv_eval.specs.Meaning.{hold_of}
 use Rattle.dv_check.specs.Limits.{greatest_names}
 use Rattle.dv_check.specs.declared.declarations.NameSort.{NameSort}
-use Rattle.dv_check.specs.declared.declarations.NameSort.TheVariants.{Variable as ForVariable, Flag as ForFlag, Bag as ForBag}
+use Rattle.dv_check.specs.declared.declarations.NameSort.TheVariants.{Variable as ForVariable, Flag as ForFlag, Held as ForHeld}
 use Rattle.dv_check.specs.declared.declarations.NameSort.TheVariants.{Input as ForInput, Output as ForOutput}
 use Rattle.dv_check.specs.declared.declarations.NameSort.TheVariants.{LoopVariable as ForLoopVariable}
 use Rattle.dv_bag.specs.declared.value.ValueType.TheVariants.{Number, Truth}
@@ -31,9 +37,10 @@ use Rattle.dv_check.specs.declared.declarations.Declarations.{Declarations}
 use Rattle.dv_check.specs.declared.environment.Environment.{Environment, fold-Environment}
 use Rattle.dv_check.specs.declared.environment.Environment.TheOpen.{Environment-F}
 use Rattle.dv_check.specs.declared.starts.Starts.{Starts}
+use Rattle.dv_check.specs.declared.wanted.Wanted.TheVariants as wanted
 use Rattle.dv_check.specs.Names.{refusal, refusal_if, among, within_limit, repeats, excess, first_of}
 use Rattle.dv_check.specs.Tables.{value_for, has}
-use Rattle.dv_check.specs.Types.{Known, type_of_name, bag_name_refusals, place_refusals, value_refusals}
+use Rattle.dv_check.specs.Types.{Known, type_of_name, held_name_refusals, place_refusals, value_refusals}
 
 -- ---- Names
 
@@ -42,7 +49,7 @@ name_of_declaration (In port) = port
 name_of_declaration (Out port) = port
 name_of_declaration (Var v) = v.name
 name_of_declaration (Flag f) = f.name
-name_of_declaration (Bag b) = b.name
+name_of_declaration (Held c) = c.name
 
 abbrev pub number_of_declaration : Declaration → ℕ
 number_of_declaration d = (name_of_declaration d).number
@@ -55,9 +62,9 @@ sort_of (In port) = ForInput
 sort_of (Out port) = ForOutput
 sort_of (Var v) = ForVariable
 sort_of (Flag f) = ForFlag
-sort_of (Bag b) = ForBag
+sort_of (Held c) = ForHeld c.discipline
 
--- what a name of a port, variable, flag or bag stands for: of a name that is declared twice the first declaration counts
+-- what a name of a port, variable, flag, bag or queue stands for: of a name that is declared twice the first declaration counts
 abbrev pub sort_in : List Declaration → ℕ → Option NameSort
 sort_in declarations = first_of number_of_declaration sort_of declarations
 
@@ -120,7 +127,7 @@ port_of (In port) = Some port
 port_of (Out port) = Some port
 port_of (Var v) = None
 port_of (Flag f) = None
-port_of (Bag b) = None
+port_of (Held c) = None
 
 -- input and output ports together
 abbrev pub ports_in : List Declaration → List Name
@@ -194,7 +201,7 @@ assignment_refusals rule (Some ForInput) place = refusal E8 place ∷ []
 assignment_refusals rule (Some ForOutput) place = refusal E8 place ∷ []
 assignment_refusals rule (Some ForVariable) place = refusal_if (is_output_rule rule) E9 place
 assignment_refusals rule (Some ForFlag) place = refusal_if (is_output_rule rule) E9 place
-assignment_refusals rule (Some ForBag) place = refusal E8 place ∷ []
+assignment_refusals rule (Some (ForHeld d)) place = refusal E8 place ∷ []
 assignment_refusals rule (Some ForLoopVariable) place = refusal E9 place ∷ []
 
 -- the port of a send: known, and an output
@@ -202,20 +209,20 @@ abbrev pub sent_port_refusals : Option NameSort → ℕ → List Refusal
 sent_port_refusals None place = refusal E7 place ∷ []
 sent_port_refusals (Some ForVariable) place = refusal E8 place ∷ []
 sent_port_refusals (Some ForFlag) place = refusal E8 place ∷ []
-sent_port_refusals (Some ForBag) place = refusal E8 place ∷ []
+sent_port_refusals (Some (ForHeld d)) place = refusal E8 place ∷ []
 sent_port_refusals (Some ForInput) place = refusal E8 place ∷ []
 sent_port_refusals (Some ForOutput) place = []
 sent_port_refusals (Some ForLoopVariable) place = refusal E8 place ∷ []
 
--- the bag that is changed: known, and a state bag
-abbrev pub changed_bag_refusals : Option NameSort → ℕ → List Refusal
-changed_bag_refusals None place = refusal E7 place ∷ []
-changed_bag_refusals (Some ForVariable) place = refusal E8 place ∷ []
-changed_bag_refusals (Some ForFlag) place = refusal E8 place ∷ []
-changed_bag_refusals (Some ForBag) place = []
-changed_bag_refusals (Some ForInput) place = refusal E8 place ∷ []
-changed_bag_refusals (Some ForOutput) place = refusal E8 place ∷ []
-changed_bag_refusals (Some ForLoopVariable) place = refusal E8 place ∷ []
+-- the collection that is changed: known, and one of the state of this discipline
+abbrev pub changed_refusals : Discipline → Option NameSort → ℕ → List Refusal
+changed_refusals d None place = refusal E7 place ∷ []
+changed_refusals d (Some ForVariable) place = refusal E8 place ∷ []
+changed_refusals d (Some ForFlag) place = refusal E8 place ∷ []
+changed_refusals d (Some (ForHeld other)) place = refusal_if (not (same_discipline other d)) E8 place
+changed_refusals d (Some ForInput) place = refusal E8 place ∷ []
+changed_refusals d (Some ForOutput) place = refusal E8 place ∷ []
+changed_refusals d (Some ForLoopVariable) place = refusal E8 place ∷ []
 
 abbrev pub phase_refusals : Known → Name → List Refusal
 phase_refusals known phase = refusal_if (not (known.has_phase phase.number)) E7 phase.place
@@ -225,19 +232,25 @@ abbrev pub loop_variable_refusals : Option ℕ → ℕ → List Refusal
 loop_variable_refusals None place = []
 loop_variable_refusals (Some declared) place = refusal E6 (max declared place) ∷ []
 
--- one more or one less of a value in a bag: not in an output rule
-abbrev pub change_refusals : Known → ℕ → Expression → Name → List Refusal
-change_refusals known place value bag =
+-- the name of a command: a phase to go to, or a queue that loses its first value
+abbrev pub command_name_refusals : Known → Command → Name → List Refusal
+command_name_refusals known command.Goto name = phase_refusals known name
+command_name_refusals known command.Pop name = changed_refusals discipline.Queue (known.sort name.number) name.place
+
+-- a collection is changed with a value: not in an output rule
+abbrev pub change_refusals : Known → Change → ℕ → Expression → Name → List Refusal
+change_refusals known c place value collection =
     refusal_if (is_output_rule known.rule) E9 place
-    ++ (place_refusals Number known value ++ changed_bag_refusals (known.sort bag.number) bag.place)
+    ++ (place_refusals Number known value
+    ++ changed_refusals (discipline_of_change c) (known.sort collection.number) collection.place)
 
 abbrev pub statements_refusals : Known → Statements → List Refusal
 statements_refusals known Done = []
 statements_refusals known (Assign variable value rest) =
     assignment_refusals known.rule (known.sort variable.number) variable.place
     ++ (value_refusals (type_of_name (known.sort variable.number)) known value ++ statements_refusals known rest)
-statements_refusals known (Goto place phase rest) =
-    refusal_if (is_output_rule known.rule) E9 place ++ (phase_refusals known phase ++ statements_refusals known rest)
+statements_refusals known (Does c place name rest) =
+    refusal_if (is_output_rule known.rule) E9 place ++ (command_name_refusals known c name ++ statements_refusals known rest)
 statements_refusals known (Send place port value rest) =
     refusal_if (not (is_output_rule known.rule)) E9 place
     ++ (sent_port_refusals (known.sort port.number) port.place
@@ -249,10 +262,10 @@ statements_refusals known (IfElse place condition block other rest) =
     ++ (statements_refusals known block ++ (statements_refusals known other ++ statements_refusals known rest))
 statements_refusals known (For place variable bag block rest) =
     loop_variable_refusals (known.place variable.number) variable.place
-    ++ (bag_name_refusals known.rule (known.sort bag.number) bag.place
+    ++ (held_name_refusals wanted.Values known.rule (known.sort bag.number) bag.place
     ++ (statements_refusals (known_in_loop variable known) block ++ statements_refusals known rest))
-statements_refusals known (Add place value bag rest) = change_refusals known place value bag ++ statements_refusals known rest
-statements_refusals known (Drop place value bag rest) = change_refusals known place value bag ++ statements_refusals known rest
+statements_refusals known (Changes c place value collection rest) =
+    change_refusals known c place value collection ++ statements_refusals known rest
 
 -- an empty range, or a start value outside of it
 abbrev pub is_out_of_range : VariableRange → Bool
@@ -261,12 +274,12 @@ is_out_of_range r = int_lt r.high r.low || (int_lt r.start r.low || int_lt r.hig
 abbrev pub variable_refusals : Variable → List Refusal
 variable_refusals v = refusal_if (is_out_of_range (range_of v)) E11 v.name.place
 
--- what a bag may be declared to hold at most: at least one value
+-- what a bag or a queue may be declared to hold at most: at least one value
 abbrev pub is_capacity : ℕ → Bool
 is_capacity n = nat_le 1 n && nat_le n greatest_count
 
-abbrev pub bag_refusals : StateBag → List Refusal
-bag_refusals b = refusal_if (not (is_capacity b.capacity.value)) E17 b.capacity.place
+abbrev pub collection_refusals : StateCollection → List Refusal
+collection_refusals c = refusal_if (not (is_capacity c.capacity.value)) E17 c.capacity.place
 
 -- what a declaration says wrong of its name
 abbrev pub declaration_refusals : Declaration → List Refusal
@@ -274,7 +287,7 @@ declaration_refusals (In port) = []
 declaration_refusals (Out port) = []
 declaration_refusals (Var v) = variable_refusals v
 declaration_refusals (Flag f) = []
-declaration_refusals (Bag b) = bag_refusals b
+declaration_refusals (Held c) = collection_refusals c
 
 abbrev pub start_refusals : Known → Start → List Refusal
 start_refusals known s = phase_refusals known s.phase
@@ -313,7 +326,7 @@ abbrev pub is_in_range : Option Domain → Bool
 is_in_range None = false
 is_in_range (Some (domain.Number range)) = not (is_out_of_range range)
 is_in_range (Some (domain.Flag start)) = true
-is_in_range (Some (domain.Bag capacity)) = is_capacity capacity
+is_in_range (Some (domain.Held d capacity)) = is_capacity capacity
 
 abbrev pub number_of_state_variable : Name × Domain → ℕ
 number_of_state_variable v = v.0.number
@@ -321,7 +334,7 @@ number_of_state_variable v = v.0.number
 abbrev pub domain_of_state_variable : Name × Domain → Domain
 domain_of_state_variable v = v.1
 
--- a variable, flag or bag whose first declaration is not refused: it is within the limit, and in range
+-- a variable, flag, bag or queue whose first declaration is not refused: it is within the limit, and in range
 unfoldable pub is_start_known : List (Name × Domain) → ℕ → Bool
 is_start_known variables name =
     is_in_range (first_of number_of_state_variable domain_of_state_variable (within_limit greatest_names variables) name)
@@ -350,7 +363,7 @@ ticks_names_only known (Some e) = names_only known e
 abbrev pub is_hold_fine : Known → Name → Option Expression → Bool
 is_hold_fine known phase ticks = is_none_left (phase_refusals known phase ++ ticks_refusals known ticks)
 
--- a hold that can be asked: nothing is wrong with it, nor with the first declarations of the variables, flags and bags that it names
+-- a hold that can be asked: nothing is wrong with it, nor with the first declarations of the names in it
 abbrev pub can_ask_hold : Known → List (Name × Domain) → Name → Option Expression → Bool
 can_ask_hold known variables phase ticks = is_hold_fine known phase ticks && ticks_names_only (is_start_known variables) ticks
 

@@ -1,23 +1,30 @@
 -- The types of expressions, and what is wrong with an expression.
-use Rattle.std.specs.Prelude.{ℕ, Bool, true, false, not, ◌&&◌, List, [], ◌∷◌, ◌++◌, Option, Some, None}
+use Rattle.std.specs.Prelude.{ℕ, Bool, true, false, not, ◌&&◌, if◌then◌else◌, List, [], ◌∷◌, ◌++◌, Option, Some, None}
 use Rattle.dv_lex.specs.declared.error.Refusal.{Refusal}
 use Rattle.dv_lex.specs.declared.error.RefusalNumber.TheVariants.{E7, E8, E9}
 use Rattle.dv_syntax.specs.Trees.{Expression, Literal, TruthValue, Named, Parens, Prefixed, Binary, Call, Elapsed, Times}
 use Rattle.dv_syntax.specs.declared.tree.Prefix.{Prefix}
 use Rattle.dv_syntax.specs.declared.tree.Prefix.TheVariants.{Minus, Not}
+use Rattle.dv_syntax.specs.declared.tree.BagCall.{BagCall}
+use Rattle.dv_syntax.specs.declared.tree.BagCall.TheVariants as call
 use Rattle.dv_syntax.specs.declared.tree.Operator.{Operator}
 use Rattle.dv_syntax.specs.declared.tree.Operator.TheVariants.{Or, And, Add, Subtract, Multiply, Divide, Remainder, Equal}
 use Rattle.dv_syntax.specs.declared.tree.Operator.TheVariants.{Unequal, Less, AtMost, Greater, AtLeast}
 use Rattle.dv_syntax.specs.declared.tree.RuleSort.{RuleSort}
 use Rattle.dv_syntax.specs.declared.tree.RuleSort.TheVariants as rule
 use Rattle.dv_check.specs.declared.declarations.NameSort.{NameSort}
-use Rattle.dv_check.specs.declared.declarations.NameSort.TheVariants.{Variable, Flag, Bag, Input, Output, LoopVariable}
+use Rattle.dv_check.specs.declared.declarations.NameSort.TheVariants.{Variable, Flag, Held, Input, Output, LoopVariable}
+use Rattle.dv_check.specs.declared.wanted.Wanted.{Wanted}
+use Rattle.dv_check.specs.declared.wanted.Wanted.TheVariants as wanted
+use Rattle.dv_bag.specs.Collections.{same_discipline}
+use Rattle.dv_bag.specs.declared.discipline.Discipline.{Discipline}
+use Rattle.dv_bag.specs.declared.discipline.Discipline.TheVariants as discipline
 use Rattle.dv_bag.specs.declared.value.ValueType.{ValueType}
 use Rattle.dv_bag.specs.declared.value.ValueType.TheVariants.{Number, Truth}
 use Rattle.dv_check.specs.Names.{refusal, refusal_if}
 
--- what is known at a place of an atomic model: what ports, variables, flags, bags and loop variables stand for, where they are
--- declared, the phases, and the sort of the rule around; a hold stands in no rule
+-- what is known at a place of an atomic model: what ports, variables, flags, bags, queues and loop variables stand for, where they
+-- are declared, the phases, and the sort of the rule around; a hold stands in no rule
 pub record Known : Type 0 where
   pub sort : ℕ → Option NameSort
   pub place : ℕ → Option ℕ
@@ -54,7 +61,7 @@ first_place (Named name) = name.place
 first_place (Parens place e) = place
 first_place (Prefixed operator place e) = place
 first_place (Binary operator a b) = first_place a
-first_place (Call call place bag) = place
+first_place (Call c place bag) = place
 first_place (Elapsed place) = place
 first_place (Times place e bag) = place
 
@@ -62,20 +69,38 @@ abbrev pub type_of_name : Option NameSort → Option ValueType
 type_of_name None = None
 type_of_name (Some Variable) = Some Number
 type_of_name (Some Flag) = Some Truth
-type_of_name (Some Bag) = None
+type_of_name (Some (Held d)) = None
 type_of_name (Some Input) = None
 type_of_name (Some Output) = None
 type_of_name (Some LoopVariable) = Some Number
 
--- a name of a bag that can be read: a state bag, and where inputs are seen an input port
-abbrev pub is_bag : Option RuleSort → Option NameSort → Bool
-is_bag rule None = false
-is_bag rule (Some Variable) = false
-is_bag rule (Some Flag) = false
-is_bag rule (Some Bag) = true
-is_bag rule (Some Input) = sees_inputs rule
-is_bag rule (Some Output) = false
-is_bag rule (Some LoopVariable) = false
+-- what a call reads: a bag, a queue, or the values of either
+abbrev pub wanted_by : BagCall → Wanted
+wanted_by call.Size = wanted.Values
+wanted_by call.Sum = wanted.Bag
+wanted_by call.Least = wanted.Bag
+wanted_by call.Most = wanted.Bag
+wanted_by call.Front = wanted.Queue
+
+-- a collection of a discipline where this is wanted
+abbrev pub suits : Wanted → Discipline → Bool
+suits wanted.Values d = true
+suits wanted.Bag d = same_discipline d discipline.Bag
+suits wanted.Queue d = same_discipline d discipline.Queue
+
+-- an input port is a bag
+abbrev pub suits_port : Wanted → Bool
+suits_port w = suits w discipline.Bag
+
+-- a name of what is wanted, which can be read: a collection of the state, and where inputs are seen an input port
+abbrev pub is_readable : Wanted → Option RuleSort → Option NameSort → Bool
+is_readable w rule None = false
+is_readable w rule (Some Variable) = false
+is_readable w rule (Some Flag) = false
+is_readable w rule (Some (Held d)) = suits w d
+is_readable w rule (Some Input) = suits_port w && sees_inputs rule
+is_readable w rule (Some Output) = false
+is_readable w rule (Some LoopVariable) = false
 
 -- a known type, and this one
 abbrev pub is_of : ValueType → Option ValueType → Bool
@@ -124,9 +149,10 @@ type_of known (Named name) = type_of_name (known.sort name.number)
 type_of known (Parens place e) = type_of known e
 type_of known (Prefixed operator place e) = type_if (is_of (type_of_prefix operator) (type_of known e)) (type_of_prefix operator)
 type_of known (Binary operator a b) = type_of_operator operator (type_of known a) (type_of known b)
-type_of known (Call call place bag) = type_if (is_bag known.rule (known.sort bag.number)) Number
+type_of known (Call c place bag) = type_if (is_readable (wanted_by c) known.rule (known.sort bag.number)) Number
 type_of known (Elapsed place) = type_if (knows_elapsed known.rule) Number
-type_of known (Times place e bag) = type_if (is_of Number (type_of known e) && is_bag known.rule (known.sort bag.number)) Number
+type_of known (Times place e bag) =
+    type_if (is_of Number (type_of known e) && is_readable wanted.Bag known.rule (known.sort bag.number)) Number
 
 -- an expression of another type than its place wants
 abbrev pub type_refusals : ValueType → Option ValueType → ℕ → List Refusal
@@ -163,20 +189,24 @@ abbrev pub value_name_refusals : Option NameSort → ℕ → List Refusal
 value_name_refusals None place = refusal E7 place ∷ []
 value_name_refusals (Some Variable) place = []
 value_name_refusals (Some Flag) place = []
-value_name_refusals (Some Bag) place = refusal E8 place ∷ []
+value_name_refusals (Some (Held d)) place = refusal E8 place ∷ []
 value_name_refusals (Some Input) place = refusal E8 place ∷ []
 value_name_refusals (Some Output) place = refusal E8 place ∷ []
 value_name_refusals (Some LoopVariable) place = []
 
--- a name where a bag is wanted that can be read: an input port is one in external and confluent rules alone
-abbrev pub bag_name_refusals : Option RuleSort → Option NameSort → ℕ → List Refusal
-bag_name_refusals rule None place = refusal E7 place ∷ []
-bag_name_refusals rule (Some Variable) place = refusal E8 place ∷ []
-bag_name_refusals rule (Some Flag) place = refusal E8 place ∷ []
-bag_name_refusals rule (Some Bag) place = []
-bag_name_refusals rule (Some Input) place = refusal_if (not (sees_inputs rule)) E9 place
-bag_name_refusals rule (Some Output) place = refusal E8 place ∷ []
-bag_name_refusals rule (Some LoopVariable) place = refusal E8 place ∷ []
+-- an input port where this is wanted: it is a bag, which can be read in external and confluent rules alone
+abbrev pub port_refusals : Wanted → Option RuleSort → ℕ → List Refusal
+port_refusals w rule place = if suits_port w then refusal_if (not (sees_inputs rule)) E9 place else refusal E8 place ∷ []
+
+-- a name where this is wanted, to be read
+abbrev pub held_name_refusals : Wanted → Option RuleSort → Option NameSort → ℕ → List Refusal
+held_name_refusals w rule None place = refusal E7 place ∷ []
+held_name_refusals w rule (Some Variable) place = refusal E8 place ∷ []
+held_name_refusals w rule (Some Flag) place = refusal E8 place ∷ []
+held_name_refusals w rule (Some (Held d)) place = refusal_if (not (suits w d)) E8 place
+held_name_refusals w rule (Some Input) place = port_refusals w rule place
+held_name_refusals w rule (Some Output) place = refusal E8 place ∷ []
+held_name_refusals w rule (Some LoopVariable) place = refusal E8 place ∷ []
 
 abbrev pub expression_refusals : Known → Expression → List Refusal
 expression_refusals known (Literal n) = []
@@ -189,12 +219,12 @@ expression_refusals known (Binary operator a b) =
     expression_refusals known a
     ++ (expression_refusals known b
     ++ operand_refusals operator (type_of known a) (first_place a) (type_of known b) (first_place b))
-expression_refusals known (Call call place bag) = bag_name_refusals known.rule (known.sort bag.number) bag.place
+expression_refusals known (Call c place bag) = held_name_refusals (wanted_by c) known.rule (known.sort bag.number) bag.place
 expression_refusals known (Elapsed place) = refusal_if (not (knows_elapsed known.rule)) E9 place
 expression_refusals known (Times place e bag) =
     expression_refusals known e
     ++ (type_refusals Number (type_of known e) (first_place e)
-    ++ bag_name_refusals known.rule (known.sort bag.number) bag.place)
+    ++ held_name_refusals wanted.Bag known.rule (known.sort bag.number) bag.place)
 
 -- an expression in a place that wants a type
 abbrev pub place_refusals : ValueType → Known → Expression → List Refusal

@@ -5,7 +5,7 @@ ghost use Rattle.std.specs.List.{flat_map};
 ghost use Rattle.dv_syntax.specs.Trees.{atomic_of, hold_of, rule_of, ticks_of};
 ghost use Rattle.dv_check.specs.Findings.{with_refusals};
 ghost use Rattle.dv_check.specs.Tables.{value_for};
-ghost use Rattle.dv_check.specs.Rules.{bag_refusals, declaration_refusals, hold_refusals, is_capacity, is_out_of_range};
+ghost use Rattle.dv_check.specs.Rules.{collection_refusals, declaration_refusals, hold_refusals, is_capacity, is_out_of_range};
 ghost use Rattle.dv_check.specs.Rules.{items_refusals, known_by, known_in, phase_refusals, place_in, rule_refusals, sort_in};
 ghost use Rattle.dv_check.specs.Rules.{sort_of, start_refusals, ticks_refusals, variable_refusals};
 
@@ -16,10 +16,10 @@ use crate::findings::Findings;
 use crate::names;
 use crate::number_set::NumberSet;
 use crate::statements::check_statements;
-use dv_bag::{GREATEST_COUNT, ValueType};
+use dv_bag::{Discipline, GREATEST_COUNT, ValueType};
 use dv_eval::VariableRange;
 use dv_lex::RefusalNumber;
-use dv_syntax::{Atomic, Declaration, Hold, Name, Rule, Start, StateBag, Ticks, Variable};
+use dv_syntax::{Atomic, Declaration, Hold, Name, Rule, Start, StateCollection, Ticks, Variable};
 use std::alloc::{AllocError, Global};
 
 /// What a name stands for at a place of an atomic model.
@@ -27,7 +27,8 @@ use std::alloc::{AllocError, Global};
 pub enum NameSort {
     Variable,
     Flag,
-    Bag,
+    /// A bag or a queue of the state.
+    Held(Discipline),
     Input,
     Output,
     LoopVariable,
@@ -37,7 +38,7 @@ pub enum NameSort {
 #[derive(Drop)]
 pub struct Declarations {
     pub sorts: Directory<NameSort>,
-    /// Where the first declaration of each name of a port, variable, flag or bag stands.
+    /// Where the first declaration of each name of a port, variable, flag, bag or queue stands.
     pub places: Directory<u32>,
     pub phases: NumberSet,
 }
@@ -50,11 +51,11 @@ fn sort_of(declaration: &Declaration) -> NameSort
         Declaration::Out(_) => NameSort::Output,
         Declaration::Var(_) => NameSort::Variable,
         Declaration::Flag(_) => NameSort::Flag,
-        Declaration::Bag(_) => NameSort::Bag,
+        Declaration::Held(collection) => NameSort::Held(collection.discipline),
     }
 }
 
-/// What the names of ports, variables, flags and bags stand for.
+/// What the names of ports, variables, flags, bags and queues stand for.
 #[tactic(auto, using(crate::proofs::Firsts::first_of_none))]
 pub fn sorts_of(
     alloc: Global,
@@ -70,7 +71,7 @@ pub fn sorts_of(
     Ok(sorts)
 }
 
-// Where the names of ports, variables, flags and bags are declared first.
+// Where the names of ports, variables, flags, bags and queues are declared first.
 #[tactic(auto, using(crate::proofs::Firsts::first_of_none))]
 fn places_of(alloc: Global, declarations: &[Declaration]) -> Result<Directory<u32>, AllocError>
     ensures { IfOk result (λ places. value_for places ≡ place_in declarations.now) }
@@ -176,7 +177,7 @@ pub fn is_out_of_range(range: VariableRange) -> bool
     high < low || start < low || high < start
 }
 
-/// Whether a bag may be declared to hold at most so many values.
+/// Whether a bag or a queue may be declared to hold at most so many values.
 pub fn is_capacity(values: u64) -> bool
     ensures { result ≡ is_capacity values }
 {
@@ -198,7 +199,7 @@ fn check_declaration(declaration: &Declaration, found: &mut Findings)
     match declaration {
         Declaration::In(_) | Declaration::Out(_) | Declaration::Flag(_) => {}
         Declaration::Var(variable) => check_variable(variable, found),
-        Declaration::Bag(bag) => check_capacity(bag, found),
+        Declaration::Held(collection) => check_capacity(collection, found),
     }
 }
 
@@ -210,11 +211,11 @@ fn check_variable(variable: &Variable, found: &mut Findings)
     }
 }
 
-fn check_capacity(bag: &StateBag, found: &mut Findings)
-    ensures { found.new ≡ with_refusals found.old (bag_refusals bag.now) }
+fn check_capacity(collection: &StateCollection, found: &mut Findings)
+    ensures { found.new ≡ with_refusals found.old (collection_refusals collection.now) }
 {
-    let capacity = bag.capacity.value.value() as u64;
+    let capacity = collection.capacity.value.value() as u64;
     if !is_capacity(capacity) {
-        found.note(RefusalNumber::E17, bag.capacity.place);
+        found.note(RefusalNumber::E17, collection.capacity.place);
     }
 }

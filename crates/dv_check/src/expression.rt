@@ -1,19 +1,20 @@
 //! The types of expressions.
 
-ghost use Rattle.std.specs.Prelude.{◌≡◌, not};
+ghost use Rattle.std.specs.Prelude.{◌≡◌, ◌&&◌, not};
 ghost use Rattle.dv_lex.specs.declared.error.RefusalNumber.TheVariants.{E9};
 ghost use Rattle.dv_syntax.specs.Trees.{expression_of};
 ghost use Rattle.dv_check.specs.Findings.{with_refusals};
 ghost use Rattle.dv_check.specs.Rules.{known_at};
 ghost use Rattle.dv_check.specs.Names.{refusal_if};
-ghost use Rattle.dv_check.specs.Types.{alike, bag_name_refusals, both_of, differ, is_bag, is_of, knows_elapsed, operands_wanted};
-ghost use Rattle.dv_check.specs.Types.{sees_inputs, type_if, expression_refusals, first_place, operand_refusals, place_refusals};
-ghost use Rattle.dv_check.specs.Types.{type_of, type_of_operator, type_of_name, type_of_prefix, value_name_refusals};
-ghost use Rattle.dv_check.specs.Types.{type_refusals, value_refusals};
+ghost use Rattle.dv_check.specs.Types.{alike, both_of, differ, held_name_refusals, is_of, is_readable, knows_elapsed, operands_wanted};
+ghost use Rattle.dv_check.specs.Types.{port_refusals, sees_inputs, suits_port, type_if, expression_refusals, first_place};
+ghost use Rattle.dv_check.specs.Types.{operand_refusals, place_refusals, type_of, type_of_operator, type_of_name, type_of_prefix};
+ghost use Rattle.dv_check.specs.Types.{type_refusals, value_name_refusals, value_refusals};
 
 use crate::declarations::NameSort;
 use crate::environment::Environment;
 use crate::findings::Findings;
+use crate::wanted::Wanted;
 use dv_bag::ValueType;
 use dv_lex::RefusalNumber;
 use dv_syntax::{Expr, Name, Operator, Prefix, RuleSort};
@@ -109,10 +110,13 @@ fn check_expression(environment: &Environment, expression: &Expr, found: &mut Fi
                 place: a.place,
             }
         }
-        Expr::Call { place, bag, .. } => Typed {
-            value_type: type_if(check_bag(environment, bag, found), ValueType::Number),
-            place: *place,
-        },
+        Expr::Call { call, place, bag } => {
+            let is_readable = check_held(Wanted::by(*call), environment, bag, found);
+            Typed {
+                value_type: type_if(is_readable, ValueType::Number),
+                place: *place,
+            }
+        }
         Expr::Elapsed { place } => Typed {
             value_type: type_if(check_elapsed(environment, *place, found), ValueType::Number),
             place: *place,
@@ -120,7 +124,7 @@ fn check_expression(environment: &Environment, expression: &Expr, found: &mut Fi
         Expr::Times { place, value, bag } => {
             let given = check_expression(environment, value, found);
             want(ValueType::Number, given, found);
-            let is_bag = check_bag(environment, bag, found);
+            let is_bag = check_held(Wanted::Bag, environment, bag, found);
             let is_number = is_of(ValueType::Number, given.value_type);
             Typed {
                 value_type: type_if(is_number && is_bag, ValueType::Number),
@@ -137,7 +141,7 @@ pub fn type_of_name(sort: Option<NameSort>) -> Option<ValueType>
     match sort {
         Some(NameSort::Variable | NameSort::LoopVariable) => Some(ValueType::Number),
         Some(NameSort::Flag) => Some(ValueType::Truth),
-        Some(NameSort::Bag | NameSort::Input | NameSort::Output) | None => None,
+        Some(NameSort::Held(_) | NameSort::Input | NameSort::Output) | None => None,
     }
 }
 
@@ -164,7 +168,7 @@ fn check_value_name(
     let sort = environment.sort(name.number);
     match sort {
         Some(NameSort::Variable | NameSort::Flag | NameSort::LoopVariable) => {}
-        Some(NameSort::Bag | NameSort::Input | NameSort::Output) => {
+        Some(NameSort::Held(_) | NameSort::Input | NameSort::Output) => {
             found.note(RefusalNumber::E8, name.place);
         }
         None => found.note(RefusalNumber::E7, name.place),
@@ -209,12 +213,31 @@ fn sees_inputs(rule: Option<RuleSort>) -> bool
     }
 }
 
-/// Tests a name where a bag is wanted that can be read, and answers whether it is that of one.
-pub fn check_bag(environment: &Environment, name: &Name, found: &mut Findings) -> bool
-    ensures is_bag { result ≡ is_bag (known_at environment.now).rule
+// Tests an input port where this is wanted, and answers whether it can be read.
+fn check_port(wanted: Wanted, environment: &Environment, port: &Name, found: &mut Findings) -> bool
+    ensures readable { result ≡ (suits_port wanted && sees_inputs (known_at environment.now).rule) }
+    ensures found { found.new ≡ with_refusals found.old
+        (port_refusals wanted (known_at environment.now).rule port.now.place) }
+{
+    if wanted.suits_port() {
+        check_input(environment, port, found)
+    } else {
+        found.note(RefusalNumber::E8, port.place);
+        false
+    }
+}
+
+/// Tests a name where this is wanted, to be read, and answers whether it can be.
+pub fn check_held(
+    wanted: Wanted,
+    environment: &Environment,
+    name: &Name,
+    found: &mut Findings,
+) -> bool
+    ensures readable { result ≡ is_readable wanted (known_at environment.now).rule
         ((known_at environment.now).sort name.now.number) }
     ensures found { found.new ≡ with_refusals found.old
-        (bag_name_refusals (known_at environment.now).rule
+        (held_name_refusals wanted (known_at environment.now).rule
         ((known_at environment.now).sort name.now.number) name.now.place) }
 {
     match environment.sort(name.number) {
@@ -222,8 +245,14 @@ pub fn check_bag(environment: &Environment, name: &Name, found: &mut Findings) -
             found.note(RefusalNumber::E7, name.place);
             false
         }
-        Some(NameSort::Bag) => true,
-        Some(NameSort::Input) => check_input(environment, name, found),
+        Some(NameSort::Held(discipline)) => {
+            let suits = wanted.suits(discipline);
+            if !suits {
+                found.note(RefusalNumber::E8, name.place);
+            }
+            suits
+        }
+        Some(NameSort::Input) => check_port(wanted, environment, name, found),
         Some(NameSort::Variable | NameSort::Flag | NameSort::Output | NameSort::LoopVariable) => {
             found.note(RefusalNumber::E8, name.place);
             false

@@ -5,14 +5,17 @@ ghost use Rattle.std.specs.List.{All};
 ghost use Rattle.dv_lex.specs.Order.{first_refusal, precedes};
 ghost use Rattle.dv_lex.specs.declared.error.Refusal.{Refusal};
 ghost use Rattle.dv_lex.specs.declared.error.RefusalNumber.TheVariants as number;
-ghost use Rattle.dv_syntax.specs.Trees.{Add, Assign, Binary, Call, CoupledModel, CoupledTree, Done, Drop, Elapsed, FileTree, If};
-ghost use Rattle.dv_syntax.specs.Trees.{Named, TruthValue};
-ghost use Rattle.dv_syntax.specs.declared.tree.BagCall.TheVariants.{Size};
+ghost use Rattle.dv_bag.specs.declared.discipline.Change.TheVariants.{Add, Drop, Push};
+ghost use Rattle.dv_syntax.specs.Trees.{Assign, Binary, Call, Changes, CoupledModel, CoupledTree, Does, Done, Elapsed, FileTree, If};
+ghost use Rattle.dv_syntax.specs.Trees.{Named, Times, TruthValue};
+ghost use Rattle.dv_syntax.specs.declared.tree.BagCall.TheVariants.{Front, Size, Sum};
+ghost use Rattle.dv_syntax.specs.declared.tree.Command.TheVariants.{Pop};
 ghost use Rattle.dv_syntax.specs.declared.tree.Operator.TheVariants.{And};
 ghost use Rattle.dv_syntax.specs.declared.tree.RuleSort.TheVariants as rule;
 ghost use Rattle.dv_syntax.specs.declared.tree.Link.{Link};
 ghost use Rattle.dv_check.specs.CheckedFiles.{IsCheckedFile, IsThrough};
-ghost use Rattle.dv_check.specs.Loops.{bag_at, flag_at, input_at, loop_at, name_at, one_at, wrong_inside, wrong_outside, wrong_under};
+ghost use Rattle.dv_check.specs.Loops.{bag_at, flag_at, input_at, loop_at, name_at, one_at, queue_at, wrong_held, wrong_inside};
+ghost use Rattle.dv_check.specs.Loops.{wrong_outside, wrong_queued, wrong_under};
 ghost use Rattle.dv_check.specs.Cycles.{cycle_refusals};
 ghost use Rattle.dv_check.specs.Names.{model_named, refusal};
 ghost use Rattle.dv_check.specs.Nests.{around, part_at, rooted, tower};
@@ -79,41 +82,82 @@ pub fn loop_variables_are_known_in_their_blocks()
         ≡ refusal number.E7 109 ∷ [] }
     ensures bag_of_the_name { wrong_inside (bag_at 1 30 8 ∷ []) (loop_at 100 1 1 Done Done)
         ≡ refusal number.E6 104 ∷ [] }
-    ensures added { wrong_inside [] (loop_at 100 1 2 (Add 113 (Named (name_at 1 117))
+    ensures added { wrong_inside [] (loop_at 100 1 2 (Changes Add 113 (Named (name_at 1 117))
         (name_at 2 122) Done) Done) ≡ [] }
-    ensures not_behind { wrong_inside [] (loop_at 100 1 2 Done (Add 113 (Named (name_at 1 117))
-        (name_at 2 122) Done)) ≡ refusal number.E7 117 ∷ [] }
+    ensures not_behind { wrong_inside [] (loop_at 100 1 2 Done (Changes Add 113
+        (Named (name_at 1 117)) (name_at 2 122) Done)) ≡ refusal number.E7 117 ∷ [] }
     ensures assigned { wrong_inside [] (loop_at 100 1 2 (Assign (name_at 1 113) (one_at 118) Done)
         Done) ≡ refusal number.E9 113 ∷ [] }
     ensures assigned_outside { wrong_outside [] (loop_at 100 1 2 (Assign (name_at 1 113)
         (one_at 118) Done) Done) ≡ refusal number.E9 113 ∷ [] }
 {}
 
-/// An output rule changes no bag: `add` and `drop` are refused there at their first word.
-pub fn output_rules_change_no_bag()
-    ensures added { wrong_inside [] (Add 100 (one_at 104) (name_at 2 109) Done) ≡ [] }
-    ensures added_outside { wrong_outside [] (Add 100 (one_at 104) (name_at 2 109) Done)
+/// An output rule changes no bag and no queue: `add`, `drop`, `push` and `pop` are refused there at their first word, which
+/// comes before what else is wrong.
+pub fn output_rules_change_no_collection()
+    ensures added { wrong_inside [] (Changes Add 100 (one_at 104) (name_at 2 109) Done) ≡ [] }
+    ensures added_outside { wrong_outside [] (Changes Add 100 (one_at 104) (name_at 2 109) Done)
         ≡ refusal number.E9 100 ∷ [] }
-    ensures dropped_outside { wrong_outside [] (Drop 100 (one_at 105) (name_at 2 112) Done)
+    ensures dropped_outside { wrong_outside [] (Changes Drop 100 (one_at 105) (name_at 2 112) Done)
         ≡ refusal number.E9 100 ∷ [] }
+    ensures popped_outside { wrong_outside (queue_at 1 30 8 ∷ []) (Does Pop 100 (name_at 1 104)
+        Done) ≡ refusal number.E9 100 ∷ [] }
+    ensures pushed_outside { wrong_outside (flag_at 1 30 ∷ []) (Changes Push 100
+        (Named (name_at 1 105)) (name_at 2 110) Done) ≡ refusal number.E9 100
+        ∷ (refusal number.E8 105 ∷ (refusal number.E8 110 ∷ [])) }
 {}
 
-/// A bag holds at least one value and at most 4,096: any other capacity is refused at its number.
+/// What wants a bag takes no queue, and what wants a queue no bag, no input port and nothing else. `size` and a loop take
+/// either.
+pub fn queues_are_no_bags()
+    ensures pushed { wrong_queued (Changes Push 100 (Call Front 105 (name_at 1 111)) (name_at 1 117)
+        (Does Pop 119 (name_at 1 123) Done)) ≡ [] }
+    ensures sized { wrong_queued (Changes Add 100 (Call Size 104 (name_at 1 109)) (name_at 2 115)
+        Done) ≡ [] }
+    ensures walked { wrong_queued (loop_at 100 4 1 Done Done) ≡ [] }
+    ensures added { wrong_queued (Changes Add 100 (one_at 104) (name_at 1 109) Done)
+        ≡ refusal number.E8 109 ∷ [] }
+    ensures summed { wrong_queued (Changes Add 100 (Call Sum 104 (name_at 1 108)) (name_at 2 114)
+        Done) ≡ refusal number.E8 108 ∷ [] }
+    ensures counted { wrong_queued (Changes Add 100 (Times 104 (one_at 110) (name_at 1 113))
+        (name_at 2 119) Done) ≡ refusal number.E8 113 ∷ [] }
+    ensures pushed_to_a_bag { wrong_queued (Changes Push 100 (one_at 105) (name_at 2 110) Done)
+        ≡ refusal number.E8 110 ∷ [] }
+    ensures popped_from_a_bag { wrong_queued (Does Pop 100 (name_at 2 104) Done)
+        ≡ refusal number.E8 104 ∷ [] }
+    ensures front_of_a_bag { wrong_queued (Changes Push 100 (Call Front 105 (name_at 2 111))
+        (name_at 1 117) Done) ≡ refusal number.E8 111 ∷ [] }
+    ensures front_of_a_port { wrong_under rule.Output (input_at 1 30 ∷ []) (If 100 (Call Front 103
+        (name_at 1 109)) Done Done) ≡ refusal number.E8 109 ∷ [] }
+    ensures unknown { wrong_queued (Does Pop 100 (name_at 4 104) Done)
+        ≡ refusal number.E7 104 ∷ [] }
+{}
+
+/// A bag or a queue holds at least one value and at most 4,096: any other capacity is refused at its number.
 pub fn capacities_have_bounds()
     ensures nothing { wrong_inside (bag_at 1 30 0 ∷ []) Done ≡ refusal number.E17 32 ∷ [] }
     ensures one { wrong_inside (bag_at 1 30 1 ∷ []) Done ≡ [] }
     ensures greatest { wrong_inside (bag_at 1 30 4096 ∷ []) Done ≡ [] }
     ensures too_great { wrong_inside (bag_at 1 30 4097 ∷ []) Done ≡ refusal number.E17 32 ∷ [] }
+    ensures queue_too_great { wrong_inside (queue_at 1 30 4097 ∷ []) Done
+        ≡ refusal number.E17 32 ∷ [] }
+{}
+
+/// A queue is empty at the start: the hold of the start's phase has a fault there if it asks for the first value.
+pub fn queues_are_empty_at_the_start()
+    ensures sized { wrong_held (queue_at 1 30 8 ∷ []) (Call Size 68 (name_at 1 73)) ≡ [] }
+    ensures front { wrong_held (queue_at 1 30 8 ∷ []) (Call Front 68 (name_at 1 74))
+        ≡ refusal number.E11 56 ∷ [] }
 {}
 
 /// `elapsed` is known in external rules alone, and so is a number there; elsewhere it is refused and has no type.
 pub fn elapsed_is_known_in_external_rules()
-    ensures external { wrong_under rule.External [] (Add 100 (Elapsed 104) (name_at 2 115) Done)
-        ≡ [] }
-    ensures internal { wrong_under rule.Internal [] (Add 100 (Elapsed 104) (name_at 2 115) Done)
-        ≡ refusal number.E9 104 ∷ [] }
-    ensures confluent { wrong_under rule.Confluent [] (Add 100 (Elapsed 104) (name_at 2 115) Done)
-        ≡ refusal number.E9 104 ∷ [] }
+    ensures external { wrong_under rule.External [] (Changes Add 100 (Elapsed 104) (name_at 2 115)
+        Done) ≡ [] }
+    ensures internal { wrong_under rule.Internal [] (Changes Add 100 (Elapsed 104) (name_at 2 115)
+        Done) ≡ refusal number.E9 104 ∷ [] }
+    ensures confluent { wrong_under rule.Confluent [] (Changes Add 100 (Elapsed 104) (name_at 2 115)
+        Done) ≡ refusal number.E9 104 ∷ [] }
     ensures number { wrong_under rule.External [] (If 100 (Binary And (Elapsed 103)
         (TruthValue 115 true)) Done Done) ≡ refusal number.E8 103 ∷ [] }
     ensures no_type { wrong_under rule.Internal [] (If 100 (Binary And (Elapsed 103)
@@ -122,13 +166,13 @@ pub fn elapsed_is_known_in_external_rules()
 
 /// What came to an input port can be read in external and confluent rules, and is changed by none.
 pub fn inputs_are_read_where_they_come()
-    ensures external { wrong_under rule.External (input_at 1 30 ∷ []) (Add 100
+    ensures external { wrong_under rule.External (input_at 1 30 ∷ []) (Changes Add 100
         (Call Size 104 (name_at 1 109)) (name_at 2 115) Done) ≡ [] }
-    ensures confluent { wrong_under rule.Confluent (input_at 1 30 ∷ []) (Add 100
+    ensures confluent { wrong_under rule.Confluent (input_at 1 30 ∷ []) (Changes Add 100
         (Call Size 104 (name_at 1 109)) (name_at 2 115) Done) ≡ [] }
-    ensures internal { wrong_under rule.Internal (input_at 1 30 ∷ []) (Add 100
+    ensures internal { wrong_under rule.Internal (input_at 1 30 ∷ []) (Changes Add 100
         (Call Size 104 (name_at 1 109)) (name_at 2 115) Done) ≡ refusal number.E9 109 ∷ [] }
-    ensures changed { wrong_under rule.External (input_at 1 30 ∷ []) (Add 100 (one_at 104)
+    ensures changed { wrong_under rule.External (input_at 1 30 ∷ []) (Changes Add 100 (one_at 104)
         (name_at 1 109) Done) ≡ refusal number.E8 109 ∷ [] }
 {}
 

@@ -69,7 +69,7 @@ mod repeats;
 /// The size of the whole tree, counted without building it.
 mod sizes;
 
-/// The variables, flags and bags of an atomic model that are known at the start.
+/// The variables, flags, bags and queues of an atomic model that are known at the start.
 mod starts;
 
 /// The statements of rules.
@@ -77,6 +77,9 @@ mod statements;
 
 /// What names stand for, in a table by their numbers.
 mod table;
+
+/// What is read of a collection.
+mod wanted;
 
 pub use checked::Checked;
 pub use checker::check;

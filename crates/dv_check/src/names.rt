@@ -10,7 +10,7 @@ use dv_eval::{Domain, state_variable_of};
 use dv_syntax::{Declaration, Hold, Name, Phases, Rule, RuleSort};
 use std::alloc::{AllocError, Global};
 
-/// The name of a port, variable, flag or bag.
+/// The name of a port, variable, flag, bag or queue.
 pub fn name_of_declaration(declaration: &Declaration) -> Name
     ensures { result ≡ name_of_declaration declaration.now }
 {
@@ -18,11 +18,11 @@ pub fn name_of_declaration(declaration: &Declaration) -> Name
         Declaration::In(port) | Declaration::Out(port) => *port,
         Declaration::Var(variable) => variable.name,
         Declaration::Flag(flag) => flag.name,
-        Declaration::Bag(bag) => bag.name,
+        Declaration::Held(collection) => collection.name,
     }
 }
 
-/// The names of ports, variables, flags and bags.
+/// The names of ports, variables, flags, bags and queues.
 pub fn declared(alloc: Global, declarations: &[Declaration]) -> Result<Vec<Name>, AllocError>
     ensures { IfOk result (λ names. names.items ≡ map name_of_declaration declarations.now) }
 {
@@ -37,7 +37,7 @@ fn port_of(declaration: &Declaration) -> Option<Name>
 {
     match declaration {
         Declaration::In(port) | Declaration::Out(port) => Some(*port),
-        Declaration::Var(_) | Declaration::Flag(_) | Declaration::Bag(_) => None,
+        Declaration::Var(_) | Declaration::Flag(_) | Declaration::Held(_) => None,
     }
 }
 
@@ -51,7 +51,7 @@ pub fn ports(alloc: Global, declarations: &[Declaration]) -> Result<Vec<Name>, A
         .collect(alloc)
 }
 
-/// The variables, flags and bags: the name of each, and what it may hold.
+/// The variables, flags, bags and queues: the name of each, and what it may hold.
 pub fn state_variables(
     alloc: Global,
     declarations: &[Declaration],
@@ -64,7 +64,7 @@ pub fn state_variables(
         .collect(alloc)
 }
 
-/// The names of variables, flags and bags.
+/// The names of variables, flags, bags and queues.
 pub fn names_of_state_variables(
     alloc: Global,
     variables: &[(Name, Domain)],

@@ -1,4 +1,4 @@
-//! The variables, flags and bags of an atomic model that are known at the start.
+//! The variables, flags, bags and queues of an atomic model that are known at the start.
 
 ghost use Rattle.std.specs.Prelude.{◌≡◌, IfOk};
 ghost use Rattle.std.specs.Option.{option_copied};
@@ -18,14 +18,14 @@ use dv_eval::Domain;
 use dv_syntax::{Declaration, Expr, Name, Ticks};
 use std::alloc::{AllocError, Global};
 
-/// What the first declarations of the variables, flags and bags of an atomic model say that they may hold, within
-/// the limit.
+/// What the first declarations of the variables, flags, bags and queues of an atomic model say that they may hold,
+/// within the limit.
 #[derive(Drop)]
 pub struct Starts {
     pub domains: Directory<Domain>,
 }
 
-// What the first declaration of each variable, flag and bag says that it may hold.
+// What the first declaration of each variable, flag, bag and queue says that it may hold.
 #[tactic(auto, using(crate::proofs::Firsts::first_of_none))]
 fn directory_of(
     alloc: Global,
@@ -42,7 +42,7 @@ fn directory_of(
 }
 
 impl Starts {
-    /// The variables, flags and bags that these items declare.
+    /// The variables, flags, bags and queues that these items declare.
     #[tactic(auto, unfolding(crate::specs::Rules::is_start_known, crate::specs::Rules::is_start_known_by))]
     pub fn of(alloc: Global, declarations: &[Declaration]) -> Result<Self, AllocError>
         ensures { IfOk result (λ starts. is_start_known_by starts
@@ -54,7 +54,7 @@ impl Starts {
         })
     }
 
-    /// Whether all variables, flags and bags that a hold names are known.
+    /// Whether all variables, flags, bags and queues that a hold names are known.
     pub fn know_ticks(&self, ticks: &Ticks) -> bool
         ensures { result ≡ ticks_names_only (is_start_known_by self.now) (ticks_of ticks.now) }
     {
@@ -92,7 +92,7 @@ fn is_in_range(domain: Option<&Domain>) -> bool
     match domain {
         Some(Domain::Number(range)) => !is_out_of_range(*range),
         Some(Domain::Flag { .. }) => true,
-        Some(Domain::Bag { capacity }) => is_capacity(*capacity),
+        Some(Domain::Held { capacity, .. }) => is_capacity(*capacity),
         None => false,
     }
 }

@@ -5,17 +5,18 @@ ghost use Rattle.dv_syntax.specs.Trees.{expression_of, statement_before, Stateme
 ghost use Rattle.dv_lex.specs.declared.error.RefusalNumber.TheVariants.{E9};
 ghost use Rattle.dv_check.specs.Findings.{with_refusals};
 ghost use Rattle.dv_check.specs.Names.{refusal_if};
-ghost use Rattle.dv_check.specs.Rules.{assignment_refusals, change_refusals, changed_bag_refusals, is_output_rule, known_at};
-ghost use Rattle.dv_check.specs.Rules.{loop_variable_refusals, phase_refusals, sent_port_refusals, statements_refusals};
+ghost use Rattle.dv_check.specs.Rules.{assignment_refusals, change_refusals, changed_refusals, command_name_refusals, is_output_rule};
+ghost use Rattle.dv_check.specs.Rules.{known_at, loop_variable_refusals, phase_refusals, sent_port_refusals, statements_refusals};
 
 use crate::declarations::NameSort;
 use crate::environment::Environment;
-use crate::expression::{check_bag, check_place, check_value, type_of_name};
+use crate::expression::{check_held, check_place, check_value, type_of_name};
 use crate::findings::Findings;
-use dv_bag::ValueType;
+use crate::wanted::Wanted;
+use dv_bag::{Change, Discipline, ValueType};
 use dv_lex::RefusalNumber;
 use dv_syntax::laws::trees_keep_blocks;
-use dv_syntax::{Expr, Name, RuleSort, Stmt};
+use dv_syntax::{Command, Expr, Name, RuleSort, Stmt};
 
 /// Tests the statements of a block.
 #[cycle(statements)]
@@ -46,9 +47,13 @@ fn check_statement<'a>(environment: &'a Environment<'a>, statement: &'a Stmt, fo
             let wanted = type_of_name(environment.sort(variable.number));
             check_value(wanted, environment, value, found);
         }
-        Stmt::Goto { place, phase } => {
+        Stmt::Command {
+            command,
+            place,
+            name,
+        } => {
             deny_in_output(environment, *place, found);
-            check_goto_phase(environment, phase, found);
+            check_command_name(*command, environment, name, found);
         }
         Stmt::Send { place, port, value } => {
             deny_outside_output(environment, *place, found);
@@ -80,19 +85,19 @@ fn check_statement<'a>(environment: &'a Environment<'a>, statement: &'a Stmt, fo
             ..
         } => {
             check_loop_variable(environment, variable, found);
-            check_bag(environment, bag, found);
+            check_held(Wanted::Values, environment, bag, found);
             let inner = Environment::Loop {
                 variable: *variable,
                 outer: environment,
             };
             check_statements(&inner, &block.statements, found);
         }
-        Stmt::Add { place, value, bag } => {
-            check_change(environment, *place, value, bag, found);
-        }
-        Stmt::Drop { place, value, bag } => {
-            check_change(environment, *place, value, bag, found);
-        }
+        Stmt::Change {
+            change,
+            place,
+            value,
+            collection,
+        } => check_change(*change, environment, *place, value, collection, found),
     }
 }
 
@@ -103,13 +108,29 @@ fn check_assigned(environment: &Environment, variable: &Name, found: &mut Findin
 {
     match environment.sort(variable.number) {
         None => found.note(RefusalNumber::E7, variable.place),
-        Some(NameSort::Bag | NameSort::Input | NameSort::Output) => {
+        Some(NameSort::Held(_) | NameSort::Input | NameSort::Output) => {
             found.note(RefusalNumber::E8, variable.place);
         }
         Some(NameSort::Variable | NameSort::Flag) => {
             deny_in_output(environment, variable.place, found);
         }
         Some(NameSort::LoopVariable) => found.note(RefusalNumber::E9, variable.place),
+    }
+}
+
+// The name of a command: a phase to go to, or a queue that loses its first value.
+fn check_command_name(
+    command: Command,
+    environment: &Environment,
+    name: &Name,
+    found: &mut Findings,
+)
+    ensures { found.new ≡ with_refusals found.old
+        (command_name_refusals (known_at environment.now) command name.now) }
+{
+    match command {
+        Command::Goto => check_goto_phase(environment, name, found),
+        Command::Pop => check_changed(Discipline::Queue, environment, name, found),
     }
 }
 
@@ -143,31 +164,41 @@ fn check_loop_variable(environment: &Environment, variable: &Name, found: &mut F
     }
 }
 
-// One more or one less of a value in a bag.
+// A collection is changed with a value.
 fn check_change(
+    change: Change,
     environment: &Environment,
     place: u32,
     value: &Expr,
-    bag: &Name,
+    collection: &Name,
     found: &mut Findings,
 )
     ensures { found.new ≡ with_refusals found.old (change_refusals (known_at environment.now)
-        place (expression_of value.now) bag.now) }
+        change place (expression_of value.now) collection.now) }
 {
     deny_in_output(environment, place, found);
     check_place(ValueType::Number, environment, value, found);
-    check_changed_bag(environment, bag, found);
+    check_changed(change.discipline(), environment, collection, found);
 }
 
-// The bag that a statement changes.
-fn check_changed_bag(environment: &Environment, bag: &Name, found: &mut Findings)
-    ensures { found.new ≡ with_refusals found.old (changed_bag_refusals
-        ((known_at environment.now).sort bag.now.number) bag.now.place) }
+// The collection that a statement changes.
+fn check_changed(
+    discipline: Discipline,
+    environment: &Environment,
+    name: &Name,
+    found: &mut Findings,
+)
+    ensures { found.new ≡ with_refusals found.old (changed_refusals discipline
+        ((known_at environment.now).sort name.now.number) name.now.place) }
 {
-    match environment.sort(bag.number) {
-        None => found.note(RefusalNumber::E7, bag.place),
-        Some(NameSort::Bag) => {}
-        Some(_) => found.note(RefusalNumber::E8, bag.place),
+    match environment.sort(name.number) {
+        None => found.note(RefusalNumber::E7, name.place),
+        Some(NameSort::Held(other)) => {
+            if other != discipline {
+                found.note(RefusalNumber::E8, name.place);
+            }
+        }
+        Some(_) => found.note(RefusalNumber::E8, name.place),
     }
 }
 

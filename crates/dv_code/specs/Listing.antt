@@ -1,6 +1,8 @@
 -- Instructions as an assembler's listing has them.
 use Rattle.std.specs.Prelude.{ℕ, Bool, true, false, List, ◌++◌, codes}
 use Rattle.std.specs.Fmt.{decimal, signed_decimal}
+use Rattle.dv_bag.specs.declared.discipline.Change.TheVariants as change
+use Rattle.dv_bag.specs.declared.discipline.Discipline.TheVariants as discipline
 use Rattle.dv_code.specs.declared.instruction.Source.{Source}
 use Rattle.dv_code.specs.declared.instruction.Source.TheVariants.{Own, Port}
 use Rattle.dv_code.specs.declared.instruction.Leaf.{Leaf}
@@ -11,13 +13,16 @@ use Rattle.dv_code.specs.declared.instruction.Binary.{Binary}
 use Rattle.dv_code.specs.declared.instruction.Binary.TheVariants.{Add, Subtract, Multiply, Divide, Remainder, Equal, Unequal}
 use Rattle.dv_code.specs.declared.instruction.Binary.TheVariants.{Less, AtMost, Greater, AtLeast, Same, Different}
 use Rattle.dv_code.specs.declared.instruction.Action.{Action}
-use Rattle.dv_code.specs.declared.instruction.Action.TheVariants.{SetVariable, SetFlag, AddTo, DropFrom, Send}
+use Rattle.dv_code.specs.declared.instruction.Action.TheVariants as action
+use Rattle.dv_code.specs.declared.instruction.Deed.{Deed}
+use Rattle.dv_code.specs.declared.instruction.Deed.TheVariants.{Go, Pop}
 use Rattle.dv_code.specs.declared.instruction.Instruction.{Instruction}
-use Rattle.dv_code.specs.declared.instruction.Instruction.TheVariants.{Push, Apply, Combine, Perform, Go, Jump, JumpFalse}
+use Rattle.dv_code.specs.declared.instruction.Instruction.TheVariants.{Push, Apply, Combine, Perform, Do, Jump, JumpFalse}
 use Rattle.dv_code.specs.declared.instruction.Instruction.TheVariants.{FalseKeep, TrueKeep, Loop, Next, End}
 
 abbrev pub source_words : Source → List ℕ
-source_words (Own place) = codes "bag " ++ decimal place
+source_words (Own discipline.Bag place) = codes "bag " ++ decimal place
+source_words (Own discipline.Queue place) = codes "queue " ++ decimal place
 source_words (Port port) = codes "port " ++ decimal port
 
 abbrev pub truth_words : Bool → List ℕ
@@ -35,6 +40,7 @@ leaf_words (leaf.Size s) = codes "size of " ++ source_words s
 leaf_words (leaf.Sum s) = codes "sum of " ++ source_words s
 leaf_words (leaf.Least s) = codes "least of " ++ source_words s
 leaf_words (leaf.Most s) = codes "most of " ++ source_words s
+leaf_words (leaf.Front place) = codes "front of queue " ++ decimal place
 
 abbrev pub unary_words : Unary → List ℕ
 unary_words Negate = codes "negate"
@@ -57,19 +63,24 @@ binary_words Same = codes "same"
 binary_words Different = codes "different"
 
 abbrev pub action_words : Action → List ℕ
-action_words (SetVariable place) = codes "set variable " ++ decimal place
-action_words (SetFlag place) = codes "set flag " ++ decimal place
-action_words (AddTo place) = codes "add to bag " ++ decimal place
-action_words (DropFrom place) = codes "drop from bag " ++ decimal place
-action_words (Send port) = codes "send by port " ++ decimal port
+action_words (action.SetVariable place) = codes "set variable " ++ decimal place
+action_words (action.SetFlag place) = codes "set flag " ++ decimal place
+action_words (action.Change change.Add place) = codes "add to bag " ++ decimal place
+action_words (action.Change change.Drop place) = codes "drop from bag " ++ decimal place
+action_words (action.Change change.Push place) = codes "push to queue " ++ decimal place
+action_words (action.Send port) = codes "send by port " ++ decimal port
 
--- a jump names where it leads; a loop, its bag and the place past it
+abbrev pub deed_words : Deed → List ℕ
+deed_words (Go phase) = codes "go to phase " ++ decimal phase
+deed_words (Pop place) = codes "pop from queue " ++ decimal place
+
+-- a jump names where it leads; a loop, its collection and the place past it
 abbrev pub instruction_words : Instruction → List ℕ
 instruction_words (Push l) = codes "push " ++ leaf_words l
 instruction_words (Apply u) = unary_words u
 instruction_words (Combine o) = binary_words o
 instruction_words (Perform a) = action_words a
-instruction_words (Go phase) = codes "go to phase " ++ decimal phase
+instruction_words (Do d) = deed_words d
 instruction_words (Jump to) = codes "jump to " ++ decimal to
 instruction_words (JumpFalse to) = codes "if false jump to " ++ decimal to
 instruction_words (FalseKeep to) = codes "if false keep and jump to " ++ decimal to

@@ -1,21 +1,21 @@
-//! What actions do with values.
+//! What actions do with values, and what deeds do.
 
 ghost use Rattle.std.specs.Prelude.{◌≢◌, None, true, slice_get};
-ghost use Rattle.dv_code.specs.Operations.{action_effect, add_to, bag_in, send, set_variable};
+ghost use Rattle.dv_code.specs.Operations.{action_effect, change_in, deed_effect, held_in, pop_in, send, set_variable};
 ghost use Rattle.dv_code.specs.Performing.{Becomes};
 
 use crate::draft::Draft;
-use crate::instruction::Action;
+use crate::instruction::{Action, Deed};
 use crate::shape::{Shape, Slot};
 use dv_bag::limits::{test_flood, test_range, test_room};
-use dv_bag::{DatumView, RuleError, Value};
+use dv_bag::{Change, Collection, DatumView, Fault, RuleError, Value};
 
 /// Does with a value what an action says.
 ///
 /// # Errors
 ///
-/// `Range` of a number outside the range of its variable, `Full` of a bag that takes one more value
-/// than it may hold, `Flood` of the 4,097th value that is sent. Or no memory.
+/// `Range` of a number outside the range of its variable, `Full` of a collection that takes one more
+/// value than it may hold, `Flood` of the 4,097th value that is sent. Or no memory.
 pub(crate) fn act(
     action: Action,
     value: Value,
@@ -33,14 +33,29 @@ pub(crate) fn act(
         (Action::SetFlag(slot), Value::Truth(truth)) => {
             Ok(draft.set_flag(usize::from(slot), truth)?)
         }
-        (Action::AddTo(slot), Value::Number(number)) => {
-            add_to(usize::from(slot), number, slots, draft)
-        }
-        (Action::DropFrom(slot), Value::Number(number)) => {
-            Ok(draft.drop_one(usize::from(slot), number)?)
+        (Action::Change(change, slot), Value::Number(number)) => {
+            edit(change, usize::from(slot), number, slots, draft)
         }
         (Action::Send(port), Value::Number(number)) => send(usize::from(port), number, draft),
         _ => unreachable!(),
+    }
+}
+
+/// Does what a deed says.
+///
+/// # Errors
+///
+/// `Empty` of a queue without values that is to lose its first one. Or no memory.
+pub(crate) fn obey(deed: Deed, draft: &mut Draft) -> Result<(), RuleError>
+    requires { deed_effect deed draft.old ≢ None }
+    ensures { Becomes result draft.new (deed_effect deed draft.old) }
+{
+    match deed {
+        Deed::Go(phase) => {
+            draft.go(phase);
+            Ok(())
+        }
+        Deed::Pop(slot) => pop(usize::from(slot), draft),
     }
 }
 
@@ -63,21 +78,45 @@ fn set_variable(
     Ok(())
 }
 
-// A number more in the bag of a slot.
-fn add_to(slot: usize, number: i64, slots: &[Slot], draft: &mut Draft) -> Result<(), RuleError>
-    requires { add_to (slice_get slots.now slot)
-        (bag_in (slice_get draft.old.state.variables slot)) slot number draft.old ≢ None }
-    ensures { Becomes result draft.new (add_to (slice_get slots.now slot)
-        (bag_in (slice_get draft.old.state.variables slot)) slot number draft.old) }
+// A number that changes the collection of a slot.
+fn edit(
+    change: Change,
+    slot: usize,
+    number: i64,
+    slots: &[Slot],
+    draft: &mut Draft,
+) -> Result<(), RuleError>
+    requires { change_in change (slice_get slots.now slot)
+        (held_in (slice_get draft.old.state.variables slot)) slot number draft.old ≢ None }
+    ensures { Becomes result draft.new (change_in change (slice_get slots.now slot)
+        (held_in (slice_get draft.old.state.variables slot)) slot number draft.old) }
 {
-    let Some(Slot::Holding { capacity }) = slots.get(slot) else {
+    let Some(Slot::Holding { capacity, .. }) = slots.get(slot) else {
         unreachable!()
     };
-    let Some(DatumView::Bag(bag)) = draft.state().variables.get(slot) else {
+    let Some(DatumView::Held(held)) = draft.state().variables.get(slot) else {
         unreachable!()
     };
-    test_room(bag, *capacity)?;
-    draft.insert(slot, number)?;
+    if change.makes_more() {
+        test_room(held.count(), *capacity)?;
+    }
+    draft.edit(change, slot, number)?;
+    Ok(())
+}
+
+// The queue of a slot without its first value.
+fn pop(slot: usize, draft: &mut Draft) -> Result<(), RuleError>
+    requires { pop_in (held_in (slice_get draft.old.state.variables slot)) slot draft.old ≢ None }
+    ensures { Becomes result draft.new
+        (pop_in (held_in (slice_get draft.old.state.variables slot)) slot draft.old) }
+{
+    let Some(DatumView::Held(Collection::Queue(queue))) = draft.state().variables.get(slot) else {
+        unreachable!()
+    };
+    if queue.len() == 0 {
+        return Err(RuleError::Fault(Fault::Empty));
+    }
+    draft.pop(slot)?;
     Ok(())
 }
 

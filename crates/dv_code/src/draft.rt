@@ -1,17 +1,18 @@
 //! What a run has done so far.
 
-ghost use Rattle.std.specs.Prelude.{◌≡◌, ◌<◌, IfOk, OnOk};
+ghost use Rattle.std.specs.Prelude.{◌≡◌, ◌<◌, true, IfOk, OnOk};
 ghost use Rattle.std.specs.Cow.{IsOwned, cow_value};
-ghost use Rattle.dv_bag.specs.Bag.{size_of_all, total, with_copies, without_one};
-ghost use Rattle.dv_bag.specs.Effects.{with_bag};
-ghost use Rattle.dv_bag.specs.Reading.{HasBagAt, bag_held_at};
+ghost use Rattle.dv_bag.specs.Bag.{size_of_all};
+ghost use Rattle.dv_bag.specs.Collections.{count_in, edited, makes_more, without_first};
+ghost use Rattle.dv_bag.specs.Effects.{with_collection};
+ghost use Rattle.dv_bag.specs.Reading.{HasHeldAt, held_at};
 ghost use Rattle.dv_bag.specs.declared.state.Datum.TheVariants as datum;
 ghost use Rattle.dv_code.specs.Machine.{first_effect};
 ghost use Rattle.dv_code.specs.Operations.{going, storing, with_sent};
 ghost use Rattle.dv_bag.specs.Limits.{greatest_count};
 
 use crate::shape::Shape;
-use dv_bag::{Effect, Sent, State};
+use dv_bag::{Change, Effect, Sent, State};
 use std::alloc::{AllocError, Global};
 use std::borrow::Cow;
 use std::marker::Model;
@@ -94,37 +95,43 @@ impl<'a> Draft<'a> {
         Ok(())
     }
 
-    /// One more copy of a number in the bag of a slot.
+    /// What a change makes of the collection of a slot with a number.
     ///
     /// # Errors
     ///
-    /// No memory for it, or for a state of its own.
-    pub(crate) fn insert(&mut self, slot: usize, number: i64) -> Result<(), AllocError>
-        requires bag { HasBagAt slot self.old.state.variables }
-        requires room { total (bag_held_at self.old.state.variables slot) < greatest_count }
-        ensures { OnOk result (self.new ≡ with_bag self.old slot
-            (with_copies number 1 (bag_held_at self.old.state.variables slot))) }
+    /// No memory for the number, or for a state of its own.
+    pub(crate) fn edit(
+        &mut self,
+        change: Change,
+        slot: usize,
+        number: i64,
+    ) -> Result<(), AllocError>
+        requires there { HasHeldAt slot self.old.state.variables }
+        requires room { makes_more change ≡ true
+            → count_in (held_at self.old.state.variables slot) < greatest_count }
+        ensures { OnOk result (self.new ≡ with_collection self.old slot
+            (edited change number (held_at self.old.state.variables slot))) }
     {
         own(&mut self.state)?;
         if let Cow::Owned(state) = &mut self.state {
-            state.variables.insert(slot, number)?;
+            state.variables.edit(change, slot, number)?;
         }
         Ok(())
     }
 
-    /// One copy of a number less in the bag of a slot, where there is one.
+    /// The queue of a slot without its first value, where there is one.
     ///
     /// # Errors
     ///
     /// No memory for a state of its own.
-    pub(crate) fn drop_one(&mut self, slot: usize, number: i64) -> Result<(), AllocError>
-        requires { HasBagAt slot self.old.state.variables }
-        ensures { OnOk result (self.new ≡ with_bag self.old slot
-            (without_one number (bag_held_at self.old.state.variables slot))) }
+    pub(crate) fn pop(&mut self, slot: usize) -> Result<(), AllocError>
+        requires { HasHeldAt slot self.old.state.variables }
+        ensures { OnOk result (self.new ≡ with_collection self.old slot
+            (without_first (held_at self.old.state.variables slot))) }
     {
         own(&mut self.state)?;
         if let Cow::Owned(state) = &mut self.state {
-            state.variables.drop_one(slot, number);
+            state.variables.pop(slot);
         }
         Ok(())
     }

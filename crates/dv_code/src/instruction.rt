@@ -1,9 +1,12 @@
-//! The instructions of the stack machine.
+//! The instructions of the stack machine. What changes a bag or a queue of the state with a value is one action, `Change`, and
+//! what is done without a value is one instruction, `Do`; a source names the discipline of the slot that it reads.
 
-/// Where a bag is read: one of the state, by its slot, or what has arrived at an input port.
+use dv_bag::{Change, Discipline};
+
+/// Where a collection is read: one of the state, of this discipline, by its slot, or the bag that has arrived at an input port.
 #[derive(Clone, Copy, Debug, PartialEq, Eq)]
 pub enum Source {
-    Own(u16),
+    Own(Discipline, u16),
     Port(u16),
 }
 
@@ -22,7 +25,7 @@ pub enum Leaf {
     Item(u16),
     /// The ticks since the last transition.
     Elapsed,
-    /// The number of values of a bag.
+    /// The number of values of a collection.
     Size(Source),
     /// The sum of the values of a bag.
     Sum(Source),
@@ -30,6 +33,8 @@ pub enum Leaf {
     Least(Source),
     /// The greatest value of a bag.
     Most(Source),
+    /// The first value of the queue in a slot of the state.
+    Front(u16),
 }
 
 /// What makes a value of a value.
@@ -72,12 +77,19 @@ pub enum Action {
     SetVariable(u16),
     /// The truth value goes into the flag of a slot.
     SetFlag(u16),
-    /// The bag of a slot gets one more copy of the number.
-    AddTo(u16),
-    /// The bag of a slot loses one copy of the number, where it has one.
-    DropFrom(u16),
+    /// The collection of a slot is changed with the number.
+    Change(Change, u16),
     /// The number is sent by an output port.
     Send(u16),
+}
+
+/// What is done without a value.
+#[derive(Clone, Copy, Debug, PartialEq, Eq)]
+pub enum Deed {
+    /// The phase to which the rule goes, until another is named.
+    Go(u32),
+    /// The queue of a slot loses its first value.
+    Pop(u16),
 }
 
 /// One instruction. A jump names the place to which it leads, from 0.
@@ -91,8 +103,8 @@ pub enum Instruction {
     Combine(Binary),
     /// Pops the value on top and performs an action with it.
     Perform(Action),
-    /// The phase to which the rule goes, until another is named.
-    Go(u32),
+    /// What is done without a value.
+    Do(Deed),
     /// Continues at a place.
     Jump(u32),
     /// Pops the truth value on top; if it is false, continues at a place.
@@ -101,7 +113,7 @@ pub enum Instruction {
     FalseKeep(u32),
     /// If the truth value on top is true, keeps it and continues at a place; otherwise pops it.
     TrueKeep(u32),
-    /// Loops over the values of a bag as it is now; if it has none, continues past the loop, at a place.
+    /// Loops over the values of a collection as it is now; if it has none, continues past the loop, at a place.
     Loop(Source, u32),
     /// Moves the innermost loop to its next value and continues at the first place of its body; ends the loop if there
     /// is none.

@@ -26,8 +26,8 @@ pub fn valid_programs_are_never_stuck()
 {}
 
 /// A valid program ends, or has a fault, within its length times `GREATEST_COUNT` to the depth of
-/// its loops, where no bag holds more values than that. The state that it leaves fits, and on the
-/// stack stand values of the types that it is to leave.
+/// its loops, where no collection holds more values than that. The state that it leaves fits, and
+/// on the stack stand values of the types that it is to leave.
 pub fn valid_programs_end()
     ensures { (p : Program) (left : List ValueType) (depth : ℕ)
         → IsValid p.shape left depth p.code → AreSmall p.shape.slots
@@ -44,8 +44,8 @@ pub fn runs_end_in_one_way()
 {}
 
 /// What a program gives is how its run ends: wherever a run has ended, after however many steps, its
-/// outcome is the one that is given, and from a state that fits, where no bag holds too many values,
-/// a program's run has ended so.
+/// outcome is the one that is given, and from a state that fits, where no collection holds too many
+/// values, a program's run has ended so.
 pub fn programs_give_how_their_runs_end()
     ensures ended { (p : Program) → IsSafe p → (arrivals : Arrivals) → AreFew arrivals.received
         → (s : State) → Fits p.shape.slots s.variables

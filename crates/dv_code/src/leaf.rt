@@ -1,28 +1,28 @@
 //! What leaves give.
 
-ghost use Rattle.std.specs.Prelude.{◌≡◌, ◌≢◌, ◌≤◌, [], None, Ok, Some, IfSome, pos, slice_get, unwrap_or};
+ghost use Rattle.std.specs.Prelude.{◌≡◌, ◌≢◌, ◌≤◌, [], None, Ok, Some, IfSome, slice_get, unwrap_or};
 ghost use Rattle.std.specs.Option.{option_copied};
 ghost use Rattle.dv_bag.specs.Arithmetic.{number_or_empty};
 ghost use Rattle.dv_bag.specs.Bag.{least, most, total};
 ghost use Rattle.dv_bag.specs.declared.value.Value.TheVariants.{Number, Truth};
 ghost use Rattle.dv_code.specs.Machine.{items_of};
-ghost use Rattle.dv_code.specs.Operations.{flag_in, leaf_value, number_in, sum_in};
+ghost use Rattle.dv_code.specs.Operations.{collection_of, flag_in, front_in, held_in, leaf_value, number_in, size_in, sum_in};
 ghost use Rattle.dv_code.specs.Turns.{turns_of};
 ghost use Rattle.dv_bag.specs.Limits.{greatest_count};
 
-use crate::instruction::Leaf;
+use crate::instruction::{Leaf, Source};
 use crate::open_loop::OpenLoop;
-use crate::source::bag_of;
+use crate::source::{bag_of, held_at};
 use crate::stack::Stack;
 use dv_bag::arithmetic::{number_or_empty, ticks_or_overflow};
-use dv_bag::{Arrivals, Bag, DatumView, Fault, State, Value};
+use dv_bag::{Arrivals, Bag, Collection, DatumView, Fault, State, Value};
 
 /// The value of a leaf, with the open loops.
 ///
 /// # Errors
 ///
 /// `Overflow` of a sum or of the elapsed ticks, and `Empty` of the least or the greatest value of a
-/// bag that has none.
+/// bag that has none, and of the first value of a queue that has none.
 pub(crate) fn leaf_value(
     leaf: Leaf,
     loops: &Stack<OpenLoop>,
@@ -41,10 +41,11 @@ pub(crate) fn leaf_value(
         Leaf::Flag(slot) => Ok(Value::Truth(flag_at(usize::from(slot), state))),
         Leaf::Item(number) => Ok(Value::Number(loops.item(usize::from(number)))),
         Leaf::Elapsed => ticks_or_overflow(arrivals.elapsed()),
-        Leaf::Size(source) => Ok(Value::Number(size_of(bag_of(source, state, arrivals)))),
+        Leaf::Size(source) => Ok(Value::Number(size_of(source, state, arrivals))),
         Leaf::Sum(source) => sum_of(bag_of(source, state, arrivals)),
         Leaf::Least(source) => least_of(bag_of(source, state, arrivals)),
         Leaf::Most(source) => most_of(bag_of(source, state, arrivals)),
+        Leaf::Front(slot) => front_at(usize::from(slot), state),
     }
 }
 
@@ -70,14 +71,28 @@ fn flag_at(slot: usize, state: &State) -> bool
     }
 }
 
-// The number of values of a bag.
-fn size_of(bag: Option<&Bag>) -> i64
-    requires { IfSome bag (λ bag. total bag.now ≤ greatest_count) }
-    ensures { result ≡ pos (total (unwrap_or (option_copied bag.entry) [])) }
+// The first value of the queue in a slot.
+fn front_at(slot: usize, state: &State) -> Result<Value, Fault>
+    requires { front_in (held_in (slice_get state.now.variables slot)) ≢ None }
+    ensures { front_in (held_in (slice_get state.now.variables slot)) ≡ Some result }
 {
-    match bag {
-        Some(bag) => bag.size() as i64,
-        None => 0,
+    match state.variables.get(slot) {
+        Some(DatumView::Held(Collection::Queue(queue))) => number_or_empty(queue.get(0)),
+        _ => unreachable!(),
+    }
+}
+
+// The number of values of a collection.
+fn size_of(source: Source, state: &State, arrivals: &Arrivals) -> i64
+    requires { size_in (collection_of arrivals.now state.now source) ≢ None }
+    ensures { size_in (collection_of arrivals.now state.now source) ≡ Some (Ok (Number result)) }
+{
+    match source {
+        Source::Own(_, slot) => held_at(usize::from(slot), state).count() as i64,
+        Source::Port(port) => match arrivals.bag(usize::from(port)) {
+            Some(bag) => bag.size() as i64,
+            None => 0,
+        },
     }
 }
 

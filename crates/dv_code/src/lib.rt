@@ -25,7 +25,7 @@ mod operators;
 pub mod rows;
 /// What a program may speak of.
 pub mod shape;
-/// The bags that a program reads.
+/// The collections that a program reads.
 mod source;
 /// Stacks.
 mod stack;
@@ -37,10 +37,10 @@ pub mod steps;
 pub mod types;
 /// Valid programs.
 pub mod valid;
-/// The bags that loops walk.
+/// The collections that loops walk.
 mod walk;
 
-pub use instruction::{Action, Binary, Instruction, Leaf, Source, Unary};
+pub use instruction::{Action, Binary, Deed, Instruction, Leaf, Source, Unary};
 pub use machine::Machine;
 pub use shape::{ProgramSort, Shape, Slot, Tables};
 pub use steps::Steps;

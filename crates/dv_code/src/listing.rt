@@ -1,6 +1,7 @@
 //! Instructions as an assembler's listing has them.
 
-use crate::instruction::{Action, Binary, Instruction, Leaf, Source, Unary};
+use crate::instruction::{Action, Binary, Deed, Instruction, Leaf, Source, Unary};
+use dv_bag::{Change, Discipline};
 use std::fmt;
 
 impl fmt::Display for Source {
@@ -11,7 +12,8 @@ impl fmt::Display for Source {
 
     fn fmt<W: fmt::Write>(&self, f: &mut fmt::Formatter<W>) -> fmt::Result {
         match self {
-            Source::Own(place) => write!(f, "bag {place}"),
+            Source::Own(Discipline::Bag, place) => write!(f, "bag {place}"),
+            Source::Own(Discipline::Queue, place) => write!(f, "queue {place}"),
             Source::Port(port) => write!(f, "port {port}"),
         }
     }
@@ -36,6 +38,7 @@ impl fmt::Display for Leaf {
             Leaf::Sum(source) => write!(f, "sum of {source}"),
             Leaf::Least(source) => write!(f, "least of {source}"),
             Leaf::Most(source) => write!(f, "most of {source}"),
+            Leaf::Front(place) => write!(f, "front of queue {place}"),
         }
     }
 }
@@ -90,9 +93,24 @@ impl fmt::Display for Action {
         match self {
             Action::SetVariable(place) => write!(f, "set variable {place}"),
             Action::SetFlag(place) => write!(f, "set flag {place}"),
-            Action::AddTo(place) => write!(f, "add to bag {place}"),
-            Action::DropFrom(place) => write!(f, "drop from bag {place}"),
+            Action::Change(Change::Add, place) => write!(f, "add to bag {place}"),
+            Action::Change(Change::Drop, place) => write!(f, "drop from bag {place}"),
+            Action::Change(Change::Push, place) => write!(f, "push to queue {place}"),
             Action::Send(port) => write!(f, "send by port {port}"),
+        }
+    }
+}
+
+impl fmt::Display for Deed {
+    ghost use Rattle.std.specs.Prelude.{Some};
+    ghost use Rattle.dv_code.specs.Listing.{deed_words};
+
+    ghost output = { λ d. Some (deed_words d) };
+
+    fn fmt<W: fmt::Write>(&self, f: &mut fmt::Formatter<W>) -> fmt::Result {
+        match self {
+            Deed::Go(phase) => write!(f, "go to phase {phase}"),
+            Deed::Pop(place) => write!(f, "pop from queue {place}"),
         }
     }
 }
@@ -109,7 +127,7 @@ impl fmt::Display for Instruction {
             Instruction::Apply(unary) => write!(f, "{unary}"),
             Instruction::Combine(binary) => write!(f, "{binary}"),
             Instruction::Perform(action) => write!(f, "{action}"),
-            Instruction::Go(phase) => write!(f, "go to phase {phase}"),
+            Instruction::Do(deed) => write!(f, "{deed}"),
             Instruction::Jump(to) => write!(f, "jump to {to}"),
             Instruction::JumpFalse(to) => write!(f, "if false jump to {to}"),
             Instruction::FalseKeep(to) => write!(f, "if false keep and jump to {to}"),

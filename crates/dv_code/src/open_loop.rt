@@ -8,11 +8,11 @@ ghost use Rattle.dv_code.specs.Turns.{Advances, Opens, turn_of, walked_bag};
 use crate::walk::Walk;
 use dv_bag::Arrivals;
 
-/// A loop at one of the values of a bag. It takes no memory for a value's copies.
+/// A loop at one of the values of a collection. It takes no memory for a value's copies.
 #[derive(Drop)]
 pub(crate) struct OpenLoop {
     walk: Walk,
-    // The number of values of the bag that were begun.
+    // The number of values of the collection that were begun.
     begun: usize,
     item: i64,
     // The copies of the current value that are still to come.
@@ -20,7 +20,7 @@ pub(crate) struct OpenLoop {
 }
 
 impl OpenLoop {
-    /// A loop at the least value of a bag, if it has one.
+    /// A loop at the first value of a collection, if it has one.
     pub(crate) fn open(walk: Walk, arrivals: &Arrivals) -> Option<Self>
         ensures { Opens (values_of (walked_bag arrivals.now walk))
             (option_map (turn_of arrivals.now) result) }

@@ -1,11 +1,14 @@
 //! Worked rows, computed in the definitions alone.
 
-ghost use Rattle.std.specs.Prelude.{◌≡◌, [], ◌∷◌};
+ghost use Rattle.std.specs.Prelude.{◌≡◌, [], ◌∷◌, pos};
 ghost use Rattle.dv_bag.specs.Arrivals.{nothing_arrived};
-ghost use Rattle.dv_code.specs.Machine.{Finished};
+ghost use Rattle.dv_bag.specs.declared.fault.Fault.TheVariants as fault;
+ghost use Rattle.dv_code.specs.Machine.{Faulted, Finished};
 ghost use Rattle.dv_code.specs.Runs.{Ends};
-ghost use Rattle.dv_code.specs.Rows.{IsRefused, each_sent, each_sent_marks, jump_into_body, jump_to_itself, number_for_truth};
-ghost use Rattle.dv_code.specs.Rows.{stored, three_sent, three_values, two_ends, value_left_at_end, value_left_in_body};
+ghost use Rattle.dv_code.specs.Rows.{IsRefused, each_pushed, each_sent, each_sent_marks, eight_values, front_of_bag};
+ghost use Rattle.dv_code.specs.Rows.{front_pushed, jump_into_body, jump_to_itself, number_for_truth, one_popped, pop_in_output};
+ghost use Rattle.dv_code.specs.Rows.{queue_left, queued, stored, three_sent, three_values, two_ends, value_left_at_end};
+ghost use Rattle.dv_code.specs.Rows.{value_left_in_body};
 ghost use Rattle.dv_code.specs.Valid.{IsProgram};
 
 /// A program that sends each value of a bag is valid, under these marks.
@@ -18,6 +21,21 @@ pub fn a_run_of_eleven_steps()
     ensures { Ends each_sent nothing_arrived (stored three_values) 11 (Finished [] three_sent) }
 {}
 
+/// A loop walks a queue as it stood when the loop began, from its first value on. What is pushed comes last, and what is popped
+/// is the first value.
+pub fn a_run_over_a_queue()
+    ensures { Ends each_pushed nothing_arrived (queued (pos 7 ∷ pos 3 ∷ [])) 9
+        (Finished [] (queue_left (pos 3 ∷ pos 7 ∷ pos 3 ∷ []))) }
+{}
+
+/// A queue without values has no first one to take or to read, and one with as many values as it may hold takes no more.
+pub fn faults_of_queues()
+    ensures pop { Ends one_popped nothing_arrived (queued []) 1 (Faulted fault.Empty) }
+    ensures front { Ends front_pushed nothing_arrived (queued []) 1 (Faulted fault.Empty) }
+    ensures push { Ends front_pushed nothing_arrived (queued eight_values) 2
+        (Faulted fault.Full) }
+{}
+
 /// Programs that no marks make valid.
 pub fn refused_programs()
     ensures value_left_in_body { IsRefused value_left_in_body }
@@ -27,4 +45,6 @@ pub fn refused_programs()
     ensures value_left_at_end { IsRefused value_left_at_end }
     ensures empty { IsRefused [] }
     ensures two_ends { IsRefused two_ends }
+    ensures front_of_bag { IsRefused front_of_bag }
+    ensures pop_in_output { IsRefused pop_in_output }
 {}

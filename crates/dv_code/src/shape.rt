@@ -3,6 +3,7 @@
 ghost use Rattle.std.specs.Prelude.{◌≡◌};
 ghost use Rattle.dv_code.specs.Shape.{AreSmall, shape_of};
 
+use dv_bag::Discipline;
 use std::marker::Model;
 use std::sync::Arc;
 
@@ -10,11 +11,17 @@ use std::sync::Arc;
 #[derive(Clone, Copy, Debug, PartialEq, Eq)]
 pub enum Slot {
     /// A number of a range.
-    Ranged { low: i64, high: i64 },
+    Ranged {
+        low: i64,
+        high: i64,
+    },
     /// A truth value.
     Flagged,
-    /// A bag of at most so many values, each copy counted.
-    Holding { capacity: u64 },
+    /// A collection of this discipline, of at most so many values, each copy counted.
+    Holding {
+        discipline: Discipline,
+        capacity: u64,
+    },
 }
 
 /// What a program is for.
@@ -33,7 +40,7 @@ pub enum ProgramSort {
 }
 
 /// What the programs of an atomic model may speak of: the slots of its states, and how many input
-/// ports, output ports and phases it has. The capacity of a bag is from 1 to `GREATEST_COUNT`.
+/// ports, output ports and phases it has. The capacity of a collection is from 1 to `GREATEST_COUNT`.
 #[derive(Drop)]
 pub struct Tables {
     slots: Vec<Slot>,

@@ -19,7 +19,8 @@ pub fn leaf_type(leaf: Leaf) -> ValueType
         | Leaf::Size(_)
         | Leaf::Sum(_)
         | Leaf::Least(_)
-        | Leaf::Most(_) => ValueType::Number,
+        | Leaf::Most(_)
+        | Leaf::Front(_) => ValueType::Number,
     }
 }
 
@@ -77,7 +78,6 @@ pub fn action_type(action: Action) -> ValueType
 {
     match action {
         Action::SetFlag(_) => ValueType::Truth,
-        Action::SetVariable(_) | Action::AddTo(_) | Action::DropFrom(_) | Action::Send(_) =>
-            ValueType::Number,
+        Action::SetVariable(_) | Action::Change(_, _) | Action::Send(_) => ValueType::Number,
     }
 }

@@ -1,20 +1,23 @@
-//! The bags that loops walk.
+//! The collections that loops walk.
 
 ghost use Rattle.std.specs.Prelude.{◌≡◌, ◌+◌, ◌<◌, ◌^◌, IfSome, slice_get};
+ghost use Rattle.dv_bag.specs.Collections.{singles};
 ghost use Rattle.dv_code.specs.Turns.{walked_bag};
 
-use dv_bag::{Arrivals, Bag};
+use dv_bag::{Arrivals, Bag, Queue};
 
-/// The bag that a loop walks: one that has arrived at an input port, where it lies, or a copy of one
-/// of the state, as it was.
+/// The collection that a loop walks: a bag that has arrived at an input port, where it lies, or a
+/// copy of a bag or a queue of the state, as it was.
 #[derive(Drop)]
 pub(crate) enum Walk {
     Port(usize),
     Copy(Bag),
+    Line(Queue),
 }
 
 impl Walk {
-    /// A value of the bag with its copies, by its number among the values, if there is one.
+    /// A value of the collection with its copies, by its number among the values, if there is one. In
+    /// a queue each value has one copy.
     pub(crate) fn pair(&self, number: usize, arrivals: &Arrivals) -> Option<(i64, u64)>
         ensures pair { result ≡ slice_get (walked_bag arrivals.now self.now) number }
         ensures some { IfSome result (λ pair. (0 < pair.1) × (number + 1 < 2 ^ 64)) }
@@ -22,6 +25,7 @@ impl Walk {
         match self {
             Walk::Port(port) => pair_of(arrivals.bag(*port)?, number),
             Walk::Copy(bag) => pair_of(bag, number),
+            Walk::Line(queue) => single_of(queue, number),
         }
     }
 }
@@ -34,6 +38,18 @@ fn pair_of(bag: &Bag, number: usize) -> Option<(i64, u64)>
     let pairs = bag.pairs();
     if number < pairs.len() {
         Some(pairs[number])
+    } else {
+        None
+    }
+}
+
+// A value of a queue, as one copy.
+fn single_of(queue: &Queue, number: usize) -> Option<(i64, u64)>
+    ensures pair { result ≡ slice_get (singles queue.now) number }
+    ensures some { IfSome result (λ pair. (0 < pair.1) × (number + 1 < 2 ^ 64)) }
+{
+    if number < queue.len() {
+        Some((queue.get(number)?, 1))
     } else {
         None
     }

@@ -2,7 +2,7 @@
 use Rattle.std.proofs.Common.{◌<◌, suc, ◌+◌, List, [], ◌∷◌, Option, Some, None, arith}
 use Rattle.std.specs.List.{AllByRecursion}
 use Rattle.dv_lex.specs.declared.token.Token.{Token}
-use Rattle.dv_syntax.specs.Trees.{Expression, Statements, Done, Assign, Goto, Send, If, IfElse, For, Add, Drop, FileTree}
+use Rattle.dv_syntax.specs.Trees.{Expression, Statements, Done, Assign, Does, Send, If, IfElse, For, Changes, FileTree}
 use Rattle.dv_syntax.specs.Written.{AtomicItem, Declares, Lists, Starts, Holds, Rules, WrittenModel, WrittenAtomic}
 use Rattle.dv_syntax.specs.Written.{WrittenCoupled}
 use Rattle.dv_syntax.specs.Grammar.{Limits, the_limits, IsExpression, AreStatements, AreTicks, IsItem, IsModel, IsFileWithin}
@@ -55,7 +55,7 @@ expression_within n w g e is = record { formed = is.formed; within = omega (arit
 statements_within : (n w : Limits) → AreGreater n w → (s : Statements) → AreStatements n s → AreStatements w s
 statements_within n w g Done are = tt
 statements_within n w g (Assign v e rest) are = (expression_within n w g e are.0, statements_within n w g rest are.1)
-statements_within n w g (Goto place p rest) are = statements_within n w g rest are
+statements_within n w g (Does c place name rest) are = statements_within n w g rest are
 statements_within n w g (Send place p e rest) are = (expression_within n w g e are.0, statements_within n w g rest are.1)
 statements_within n w g (If place e block rest) are =
     (expression_within n w g e are.0, statements_within n w g block are.1, statements_within n w g rest are.2)
@@ -66,8 +66,7 @@ statements_within n w g (IfElse place e block other rest) are = (
   statements_within n w g rest are.3,
 )
 statements_within n w g (For place v b block rest) are = (statements_within n w g block are.0, statements_within n w g rest are.1)
-statements_within n w g (Add place e b rest) are = (expression_within n w g e are.0, statements_within n w g rest are.1)
-statements_within n w g (Drop place e b rest) are = (expression_within n w g e are.0, statements_within n w g rest are.1)
+statements_within n w g (Changes c place e x rest) are = (expression_within n w g e are.0, statements_within n w g rest are.1)
 
 ticks_within : (n w : Limits) → AreGreater n w → (ticks : Option Expression) → AreTicks n ticks → AreTicks w ticks
 ticks_within n w g None are = tt

@@ -28,7 +28,7 @@ use Rattle.dv_dead_ends.proofs.Widening.{deep_each, name_widens, number_widens, 
 
 -- ---- Operands that no operator joins
 
-call_widens : Widens call_at call_at IsClosed (a_word keyword.Most ∷ a_sign symbol.OpenParen ∷ a_name ∷ a_sign symbol.CloseParen ∷ [])
+call_widens : Widens call_at call_at IsClosed (a_word keyword.Front ∷ a_sign symbol.OpenParen ∷ a_name ∷ a_sign symbol.CloseParen ∷ [])
 unfolding call_at
 call_widens =
     then_widens _ _ call_word_widens (λ rest h. tt) (λ place c.

@@ -1,6 +1,8 @@
 -- The readers of models and files complete them, and go further with greater limits on depth; so tokens that end too early
 -- begin a file.
 use Rattle.std.proofs.Common.{◌≡◌, List, [], ◌∷◌, ◌++◌, Option, Some, None, Ok, Err, refl, sym, ◌∙◌, inr}
+use Rattle.dv_bag.specs.declared.discipline.Discipline.{Discipline}
+use Rattle.dv_bag.specs.declared.discipline.Discipline.TheVariants as discipline
 use Rattle.dv_lex.specs.declared.token.Token.{Token}
 use Rattle.dv_lex.specs.declared.token.TokenKind.TheVariants as kind
 use Rattle.dv_lex.specs.declared.token.Keyword.{Keyword}
@@ -13,9 +15,9 @@ use Rattle.dv_syntax.specs.declared.tree.RuleSort.{RuleSort}
 use Rattle.dv_syntax.specs.declared.tree.RuleSort.TheVariants as sort
 use Rattle.dv_syntax.specs.Written.{Declares, Lists, Starts, Holds, Rules, Inputs, Outputs, Contains, Couples, WrittenModel}
 use Rattle.dv_syntax.specs.Written.{WrittenAtomic, WrittenCoupled, WrittenFile, sorted}
-use Rattle.dv_syntax.specs.Grammar.{Limits, sort_word}
+use Rattle.dv_syntax.specs.Grammar.{Limits, discipline_word, sort_word}
 use Rattle.dv_parser.specs.Reading.{Obstacle, Unexpected, Read, read_then, choose, after, name_at, obstacle_at, operator_of}
-use Rattle.dv_parser.specs.Reading.{many_at, Reader, bound_at, variable_at, flag_at, bag_at, further_name_at, phases_at}
+use Rattle.dv_parser.specs.Reading.{many_at, Reader, bound_at, variable_at, flag_at, collection_at, further_name_at, phases_at}
 use Rattle.dv_parser.specs.Reading.{start_at, ticks_at, hold_at, rule_at, any_rule_at, port_at, item_at, atomic_at, end_at}
 use Rattle.dv_parser.specs.Reading.{part_at, link_at, coupled_item_at, coupled_at, model_at, version_at, header_at, is_end, file_at}
 use Rattle.dv_parser.proofs.Tokens.{then_is, then_err}
@@ -70,13 +72,15 @@ flag_widens =
     then_widens _ _ truth_widens (λ rest h. tt) (λ _ start.
     after_widens (kind.Symbol symbol.Semicolon) _ _ (λ _. leaves_widens (record { name = f; start = start }) Always)))))
 
-bag_widens : Widens bag_at bag_at Always (a_word keyword.Bag ∷ a_name ∷ a_number ∷ a_sign symbol.Semicolon ∷ [])
-unfolding bag_at
-bag_widens =
-    after_widens (kind.Keyword keyword.Bag) _ _ (λ _.
-    then_widens _ _ name_widens (λ rest h. tt) (λ _ b.
+collection_widens : (d : Discipline) → Widens (collection_at d) (collection_at d) Always
+    (a_word (discipline_word d) ∷ a_name ∷ a_number ∷ a_sign symbol.Semicolon ∷ [])
+unfolding collection_at
+collection_widens d =
+    after_widens (kind.Keyword (discipline_word d)) _ _ (λ _.
+    then_widens _ _ name_widens (λ rest h. tt) (λ _ c.
     then_widens _ _ number_widens (λ rest h. tt) (λ _ capacity.
-    after_widens (kind.Symbol symbol.Semicolon) _ _ (λ _. leaves_widens (record { name = b; capacity = capacity }) Always))))
+    after_widens (kind.Symbol symbol.Semicolon) _ _ (λ _.
+    leaves_widens (record { discipline = d; name = c; capacity = capacity }) Always))))
 
 further_name_widens : Widens further_name_at further_name_at Always (a_sign symbol.Comma ∷ a_name ∷ [])
 unfolding further_name_at
@@ -155,10 +159,14 @@ item_widens n w g =
     (choose_widens (kind.Keyword keyword.Flag)
     (then_widens _ _ flag_widens (λ rest h. tt) (λ _ f. leaves_widens (Declares (declaration.Flag f)) Always)) (λ rest h. refl)
     (choose_widens (kind.Keyword keyword.Bag)
-    (then_widens _ _ bag_widens (λ rest h. tt) (λ _ b. leaves_widens (Declares (declaration.Bag b)) Always)) (λ rest h. refl)
+    (then_widens _ _ (collection_widens discipline.Bag) (λ rest h. tt) (λ _ c. leaves_widens (Declares (declaration.Held c)) Always))
+    (λ rest h. refl)
+    (choose_widens (kind.Keyword keyword.Queue)
+    (then_widens _ _ (collection_widens discipline.Queue) (λ rest h. tt) (λ _ c. leaves_widens (Declares (declaration.Held c)) Always))
+    (λ rest h. refl)
     (choose_widens (kind.Keyword keyword.Phases) phases_widen (λ rest h. refl)
     (choose_widens (kind.Keyword keyword.Start) start_widens (λ rest h. refl)
-    (choose_widens (kind.Keyword keyword.Hold) (hold_widens n w g) (λ rest h. refl) (any_rule_widens n w g))))))))
+    (choose_widens (kind.Keyword keyword.Hold) (hold_widens n w g) (λ rest h. refl) (any_rule_widens n w g)))))))))
 
 atomic_widens : (n w : Limits) → AreWidened n w
     → Widens (atomic_at n) (atomic_at w) Always (a_word keyword.Atomic ∷ a_name ∷ empty_braces)
@@ -236,9 +244,11 @@ model_widens n w g =
     (then_widens _ _ coupled_widens (λ rest h. tt) (λ _ m. leaves_widens (WrittenCoupled m.0 m.1) Always)) (λ rest h. refl)
     (then_widens _ _ (atomic_widens n w g) (λ rest h. tt) (λ _ m. leaves_widens (WrittenAtomic m.0 m.1) Always))
 
-version_widens : Widens version_at version_at Always (of_kind (kind.Number 1) ∷ [])
+version_widens : Widens version_at version_at Always (of_kind (kind.Number 2) ∷ [])
 unfolding version_at
-version_widens = after_widens (kind.Number 1) _ _ (λ _. leaves_widens version.First Always)
+version_widens =
+    choose_widens (kind.Number 1) (after_widens (kind.Number 1) _ _ (λ _. leaves_widens version.First Always)) (λ rest h. refl)
+    (after_widens (kind.Number 2) _ _ (λ _. leaves_widens version.Second Always))
 
 header_widens : Widens header_at header_at NoHeader []
 unfolding header_at

@@ -1,18 +1,18 @@
 -- The readers of statements complete them, and go further with greater limits on depth.
-use Rattle.std.proofs.Common.{◌≡◌, ℕ, zero, suc, ◌-◌, ◌<◌, List, [], ◌∷◌, None, Err, refl, arith}
+use Rattle.std.proofs.Common.{◌≡◌, ℕ, zero, suc, ◌-◌, ◌<◌, List, [], ◌∷◌, Err, refl, arith}
+use Rattle.dv_bag.specs.declared.discipline.Change.{Change}
+use Rattle.dv_bag.specs.declared.discipline.Change.TheVariants as change
 use Rattle.dv_lex.specs.declared.token.Token.{Token}
 use Rattle.dv_lex.specs.declared.token.TokenKind.TheVariants as kind
-use Rattle.dv_lex.specs.declared.token.Keyword.{Keyword}
 use Rattle.dv_lex.specs.declared.token.Keyword.TheVariants as keyword
 use Rattle.dv_lex.specs.declared.token.Symbol.TheVariants as symbol
-use Rattle.dv_syntax.specs.declared.tree.Name.{Name}
-use Rattle.dv_syntax.specs.Trees.{Expression}
-use Rattle.dv_syntax.specs.Grammar.{Limits}
-use Rattle.dv_parser.specs.Reading.{keyword_operator, Single, SingleAssign, SingleGoto, SingleSend, SingleIf, SingleIfElse}
-use Rattle.dv_parser.specs.Reading.{SingleFor, SingleAdd, SingleDrop, joined, TooShort, read_then, within, choose, after}
-use Rattle.dv_parser.specs.Reading.{name_at, place_at, operator_of, assign_at, goto_at, send_at, add_at, drop_at, else_at}
-use Rattle.dv_parser.specs.Reading.{if_at, for_at, statement_at, block_at}
-use Rattle.dv_parser.proofs.Statements.{bag_statement_at, NoElse, statement_shortens, brace_no_else}
+use Rattle.dv_syntax.specs.declared.tree.Command.{Command}
+use Rattle.dv_syntax.specs.declared.tree.Command.TheVariants as command
+use Rattle.dv_syntax.specs.Grammar.{Limits, command_word, change_word, change_preposition}
+use Rattle.dv_parser.specs.Reading.{SingleAssign, SingleCommand, SingleSend, SingleIf, SingleIfElse, SingleFor, SingleChange}
+use Rattle.dv_parser.specs.Reading.{joined, TooShort, read_then, within, choose, after, name_at, place_at, operator_of}
+use Rattle.dv_parser.specs.Reading.{assign_at, command_at, send_at, change_at, else_at, if_at, for_at, statement_at, block_at}
+use Rattle.dv_parser.proofs.Statements.{NoElse, no_operator, statement_shortens, brace_no_else}
 use Rattle.dv_parser.proofs.Readers.{Always}
 use Rattle.dv_dead_ends.proofs.Depths.{HaveRoom, AreWidened, wide_room, above, widened}
 use Rattle.dv_dead_ends.proofs.Steady.{begins_of_first}
@@ -34,12 +34,13 @@ assign_widens n w g =
     then_widens _ _ (expression_widens n w g) (λ rest h. refl) (λ _ e.
     after_widens (kind.Symbol symbol.Semicolon) _ _ (λ _. leaves_widens (SingleAssign v e) NoElse))))
 
-goto_widens : Widens goto_at goto_at NoElse (a_word keyword.Goto ∷ a_name ∷ a_sign symbol.Semicolon ∷ [])
-unfolding goto_at
-goto_widens =
-    after_widens (kind.Keyword keyword.Goto) _ _ (λ place.
-    then_widens _ _ name_widens (λ rest h. tt) (λ _ p.
-    after_widens (kind.Symbol symbol.Semicolon) _ _ (λ _. leaves_widens (SingleGoto place p) NoElse)))
+command_widens : (c : Command)
+    → Widens (command_at c) (command_at c) NoElse (a_word (command_word c) ∷ a_name ∷ a_sign symbol.Semicolon ∷ [])
+unfolding command_at
+command_widens c =
+    after_widens (kind.Keyword (command_word c)) _ _ (λ place.
+    then_widens _ _ name_widens (λ rest h. tt) (λ _ n.
+    after_widens (kind.Symbol symbol.Semicolon) _ _ (λ _. leaves_widens (SingleCommand c place n) NoElse)))
 
 send_widens : (n w : Limits) → AreWidened n w
     → Widens (send_at n) (send_at w) NoElse (a_word keyword.Send ∷ a_name ∷ a_number ∷ a_sign symbol.Semicolon ∷ [])
@@ -50,26 +51,15 @@ send_widens n w g =
     then_widens _ _ (expression_widens n w g) (λ rest h. refl) (λ _ e.
     after_widens (kind.Symbol symbol.Semicolon) _ _ (λ _. leaves_widens (SingleSend place p e) NoElse))))
 
-bag_statement_widens : (k j : Keyword) (make : ℕ → Expression → Name → Single) → keyword_operator j ≡ None → (n w : Limits)
-    → AreWidened n w → Widens (bag_statement_at k j make n) (bag_statement_at k j make w) NoElse
-    (a_word k ∷ a_number ∷ a_word j ∷ a_name ∷ a_sign symbol.Semicolon ∷ [])
-unfolding operator_of
-bag_statement_widens k j make none n w g =
-    after_widens (kind.Keyword k) _ _ (λ place.
-    then_widens _ _ (expression_widens n w g) (λ rest h. none) (λ _ e.
-    after_widens (kind.Keyword j) _ _ (λ _.
-    then_widens _ _ name_widens (λ rest h. tt) (λ _ b.
-    after_widens (kind.Symbol symbol.Semicolon) _ _ (λ _. leaves_widens (make place e b) NoElse)))))
-
-add_widens : (n w : Limits) → AreWidened n w
-    → Widens (add_at n) (add_at w) NoElse (a_word keyword.Add ∷ a_number ∷ a_word keyword.To ∷ a_name ∷ a_sign symbol.Semicolon ∷ [])
-unfolding add_at
-add_widens n w g = bag_statement_widens keyword.Add keyword.To SingleAdd refl n w g
-
-drop_widens : (n w : Limits) → AreWidened n w
-    → Widens (drop_at n) (drop_at w) NoElse (a_word keyword.Drop ∷ a_number ∷ a_word keyword.From ∷ a_name ∷ a_sign symbol.Semicolon ∷ [])
-unfolding drop_at
-drop_widens n w g = bag_statement_widens keyword.Drop keyword.From SingleDrop refl n w g
+change_widens : (n w : Limits) → AreWidened n w → (c : Change) → Widens (change_at n c) (change_at w c) NoElse
+    (a_word (change_word c) ∷ a_number ∷ a_word (change_preposition c) ∷ a_name ∷ a_sign symbol.Semicolon ∷ [])
+unfolding change_at operator_of
+change_widens n w g c =
+    after_widens (kind.Keyword (change_word c)) _ _ (λ place.
+    then_widens _ _ (expression_widens n w g) (λ rest h. no_operator c) (λ _ e.
+    after_widens (kind.Keyword (change_preposition c)) _ _ (λ _.
+    then_widens _ _ name_widens (λ rest h. tt) (λ _ x.
+    after_widens (kind.Symbol symbol.Semicolon) _ _ (λ _. leaves_widens (SingleChange c place e x) NoElse)))))
 
 -- ---- Completions of blocks
 
@@ -111,13 +101,15 @@ unfolding statement_at
 statement_completes limits room limit loops c =
     let wide : Limits = above limits in
     let g = widened limits room in
-    choose_completes (kind.Keyword keyword.Goto) goto_widens.narrow_completes.some (λ rest h. refl)
+    choose_completes (kind.Keyword keyword.Goto) (command_widens command.Goto).narrow_completes.some (λ rest h. refl)
+    (choose_completes (kind.Keyword keyword.Pop) (command_widens command.Pop).narrow_completes.some (λ rest h. refl)
     (choose_completes (kind.Keyword keyword.Send) (send_widens limits wide g).narrow_completes.some (λ rest h. refl)
     (choose_completes (kind.Keyword keyword.If) (if_completes limits room limit loops (c loops)) (λ rest h. refl)
     (choose_completes (kind.Keyword keyword.For) (for_completes limits limit loops c) (λ rest h. refl)
-    (choose_completes (kind.Keyword keyword.Add) (add_widens limits wide g).narrow_completes.some (λ rest h. refl)
-    (choose_completes (kind.Keyword keyword.Drop) (drop_widens limits wide g).narrow_completes.some (λ rest h. refl)
-    (assign_widens limits wide g).narrow_completes)))))
+    (choose_completes (kind.Keyword keyword.Add) (change_widens limits wide g change.Add).narrow_completes.some (λ rest h. refl)
+    (choose_completes (kind.Keyword keyword.Drop) (change_widens limits wide g change.Drop).narrow_completes.some (λ rest h. refl)
+    (choose_completes (kind.Keyword keyword.Push) (change_widens limits wide g change.Push).narrow_completes.some (λ rest h. refl)
+    (assign_widens limits wide g).narrow_completes)))))))
 
 blocks_complete : (limits : Limits) → HaveRoom limits → (limit loops : ℕ) → BlocksWhereRoom limits limit loops
 unfolding block_at
@@ -190,15 +182,17 @@ statement_widens n w g narrow wide fewer more lt loops c =
       narrow_completes = statement_completes n g.room narrow fewer (blocks_complete n g.room narrow);
       wide_completes = statement_completes w room wide more (blocks_complete w room wide);
       each = λ ts.
-          choose_at _ _ _ _ _ ts (begins_of_first (kind.Keyword keyword.Goto)) (goto_widens.each ts)
+          choose_at _ _ _ _ _ ts (begins_of_first (kind.Keyword keyword.Goto)) ((command_widens command.Goto).each ts)
+          (choose_at _ _ _ _ _ ts (begins_of_first (kind.Keyword keyword.Pop)) ((command_widens command.Pop).each ts)
           (choose_at _ _ _ _ _ ts (begins_of_first (kind.Keyword keyword.Send)) ((send_widens n w g).each ts)
           (choose_at _ _ _ _ _ ts (begins_of_first (kind.Keyword keyword.If))
           (if_widens n w g narrow wide fewer more lt (c fewer more loops) ts)
           (choose_at _ _ _ _ _ ts (begins_of_first (kind.Keyword keyword.For))
           (for_widens n w narrow wide fewer more lt loops c ts)
-          (choose_at _ _ _ _ _ ts (begins_of_first (kind.Keyword keyword.Add)) ((add_widens n w g).each ts)
-          (choose_at _ _ _ _ _ ts (begins_of_first (kind.Keyword keyword.Drop)) ((drop_widens n w g).each ts)
-          ((assign_widens n w g).each ts))))));
+          (choose_at _ _ _ _ _ ts (begins_of_first (kind.Keyword keyword.Add)) ((change_widens n w g change.Add).each ts)
+          (choose_at _ _ _ _ _ ts (begins_of_first (kind.Keyword keyword.Drop)) ((change_widens n w g change.Drop).each ts)
+          (choose_at _ _ _ _ _ ts (begins_of_first (kind.Keyword keyword.Push)) ((change_widens n w g change.Push).each ts)
+          ((assign_widens n w g).each ts))))))));
     }
 
 blocks_widen : (n w : Limits) → AreWidened n w → (narrow wide : ℕ) → narrow < wide → AllBlocksWiden n w narrow wide

@@ -293,12 +293,13 @@ word_of_widens : (c : BagCall) → Widens (word_of_at c) (word_of_at c) Always (
 unfolding word_of_at
 word_of_widens c = after_widens (kind.Keyword (call_word c)) _ _ (λ _. leaves_widens c Always)
 
-pub call_word_widens : Widens call_word_at call_word_at Always (a_word keyword.Most ∷ [])
+pub call_word_widens : Widens call_word_at call_word_at Always (a_word keyword.Front ∷ [])
 unfolding call_word_at
 call_word_widens =
     choose_widens (kind.Keyword keyword.Size) (word_of_widens call.Size) (λ rest h. refl)
     (choose_widens (kind.Keyword keyword.Sum) (word_of_widens call.Sum) (λ rest h. refl)
-    (choose_widens (kind.Keyword keyword.Least) (word_of_widens call.Least) (λ rest h. refl) (word_of_widens call.Most)))
+    (choose_widens (kind.Keyword keyword.Least) (word_of_widens call.Least) (λ rest h. refl)
+    (choose_widens (kind.Keyword keyword.Most) (word_of_widens call.Most) (λ rest h. refl) (word_of_widens call.Front))))
 
 -- ---- Lists
 

@@ -9,9 +9,12 @@ use Rattle.dv_syntax.specs.declared.tree.Stmt.{items_hidden-the_row-Stmt-0}
 use Rattle.dv_syntax.specs.declared.tree.Stmt as stmt
 use Rattle.dv_syntax.specs.Trees.{Expression, Statements, Done, For, If, IfElse, expression_of, statement_before, row_statements}
 use Rattle.dv_syntax.specs.Trees.{statements_of}
+use Rattle.dv_syntax.specs.declared.tree.Command.{Command}
 use Rattle.dv_bag.specs.Outcome.{◌>>=◌}
 use Rattle.dv_bag.specs.Bag.{Counts, total_of_all, bag_at, values_of, with_copies}
+use Rattle.dv_bag.specs.Collections.{values_in}
 use Rattle.dv_bag.specs.Outcome.{Fails}
+use Rattle.dv_bag.specs.declared.discipline.Change.{Change}
 use Rattle.dv_bag.specs.declared.fault.Fault.{Fault}
 use Rattle.dv_bag.specs.declared.fault.Fault.TheVariants.{Flood}
 use Rattle.dv_bag.specs.declared.fault.RuleError.{RuleError}
@@ -21,8 +24,8 @@ use Rattle.dv_bag.specs.declared.value.Value.{Value}
 use Rattle.std.proofs.lemmas.Bool.{lt-leb}
 use Rattle.dv_eval.specs.Scope.{Scope, place_of}
 use Rattle.dv_eval.specs.Steps.{repeated, with_value}
-use Rattle.dv_eval.specs.Meaning.{Context, addition, assignment, bag_of_name, in_loop, moment_in, number_of, removal, repetition}
-use Rattle.dv_eval.specs.Meaning.{run, sending, truth_of, value_within, with_value_at}
+use Rattle.dv_eval.specs.Meaning.{Context, assignment, changing, collection_of_name, command_effect, in_loop, moment_in, number_of}
+use Rattle.dv_eval.specs.Meaning.{repetition, run, sending, truth_of, value_within, with_value_at}
 
 -- to go on with a value is to keep it and then go on
 bind_kept : {A B : Type 0} (m : Result A Fault) (k : A → Result B Fault) → (m >>= k) ≡ ((m >>= λ x. Ok x) >>= k)
@@ -34,11 +37,6 @@ bind_twice :
     → (m >>= λ v. f v >>= k) ≡ ((m >>= λ v. f v >>= λ x. Ok x) >>= k)
 bind_twice (Ok v) f k = bind_kept (f v) k
 bind_twice (Err e) f k = refl
-
-bind_mapped :
-    {A B C : Type 0} (m : Result A Fault) (f : A → B) (k : B → Result C Fault) → (m >>= λ v. k (f v)) ≡ ((m >>= λ v. Ok (f v)) >>= k)
-bind_mapped (Ok v) f k = refl
-bind_mapped (Err e) f k = refl
 
 bind_bind :
     {A B C : Type 0} (m : Result A Fault) (f : A → Result B Fault) (k : B → Result C Fault) → (m >>= λ v. f v >>= k) ≡ ((m >>= f) >>= k)
@@ -64,7 +62,8 @@ bind_fails m k whole error.Memory known step = tt
 -- what a loop does, as its statement says it
 abbrev walk : Scope → Context → Name → Name → Statements → Effect → Result Effect Fault
 walk scope context v b block e =
-    repetition (λ n. run scope (in_loop (v.number, n) context) block) (values_of (bag_of_name scope (moment_in context e.state) b.number)) e
+    repetition
+    (λ n. run scope (in_loop (v.number, n) context) block) (values_in (collection_of_name scope (moment_in context e.state) b.number)) e
 
 module _ (scope : Scope) (context : Context) where
   abbrev value_of : Effect → Expr → Result Value Fault
@@ -85,7 +84,8 @@ module _ (scope : Scope) (context : Context) where
       → run scope context (statement_before s rest) e ≡ (one s e >>= run scope context rest)
   run-statement_before (stmt.Assign name value) rest e =
       bind_twice (value_of e value) (λ v. assignment scope name.number v e) (run scope context rest)
-  run-statement_before (stmt.Goto place phase) rest e = refl
+  run-statement_before (stmt.Command c place name) rest e =
+      bind_kept (command_effect scope c name.number e) (run scope context rest)
   run-statement_before (stmt.Send place port value) rest e =
       bind_twice (value_of e value) (λ v. sending scope port.number v e) (run scope context rest)
   run-statement_before (stmt.If' place c shape block) rest e =
@@ -94,10 +94,8 @@ module _ (scope : Scope) (context : Context) where
       bind_twice (value_of e c) (λ v. if truth_of v then block_of block e else block_of other e) (run scope context rest)
   run-statement_before (stmt.For' place v b shape block) rest e =
       bind_kept (walk scope context v b (row_statements block) e) (run scope context rest)
-  run-statement_before (stmt.Add place value b) rest e =
-      bind_twice (value_of e value) (λ v. addition scope b.number (number_of v) e) (run scope context rest)
-  run-statement_before (stmt.Drop place value b) rest e =
-      bind_mapped (value_of e value) (λ v. removal scope b.number (number_of v) e) (run scope context rest)
+  run-statement_before (stmt.Change c place value x) rest e =
+      bind_twice (value_of e value) (λ v. changing scope c x.number (number_of v) e) (run scope context rest)
 
   -- the statements from a place on: the one there, and then those behind it
   run-drop :
@@ -247,10 +245,16 @@ module _ (scope : Scope) (context : Context) (s : Stmt) (place : ℕ) (e : Effec
       ap (λ x. run scope context (statement_before x Done) e) is
       ∙ bind_each_ok (value_within scope context e (expression_of value)) (λ v. sending scope port.number v e)
 
-  pub run-Add :
-      (value : Expr) (b : Name) → s ≡ stmt.Add place value b
+  pub run-Command :
+      (c : Command) (name : Name) → s ≡ stmt.Command c place name
+      → run scope context (statement_before s Done) e ≡ command_effect scope c name.number e
+  run-Command c name is =
+      ap (λ x. run scope context (statement_before x Done) e) is ∙ bind_ok (command_effect scope c name.number e)
+
+  pub run-Change :
+      (c : Change) (value : Expr) (collection : Name) → s ≡ stmt.Change c place value collection
       → run scope context (statement_before s Done) e
-      ≡ with_value scope context (expression_of value) (λ v. addition scope b.number (number_of v)) e
-  run-Add value b is =
+      ≡ with_value scope context (expression_of value) (λ v. changing scope c collection.number (number_of v)) e
+  run-Change c value collection is =
       ap (λ x. run scope context (statement_before x Done) e) is
-      ∙ bind_each_ok (value_within scope context e (expression_of value)) (λ v. addition scope b.number (number_of v) e)
+      ∙ bind_each_ok (value_within scope context e (expression_of value)) (λ v. changing scope c collection.number (number_of v) e)

@@ -1,4 +1,9 @@
--- What stands around a statement, and the moment, that values of the code stand for.
+-- What stands around a statement, the moment, and the collection, that values of the code stand for.
+use Rattle.std.specs.Prelude.{[]}
+use Rattle.dv_bag.specs.declared.collection.Collection.{Collection}
+use Rattle.dv_bag.specs.declared.collection.Collection.TheVariants as collection
+use Rattle.dv_eval.specs.declared.collection.CollectionView.{CollectionView}
+use Rattle.dv_eval.specs.declared.collection.CollectionView.TheVariants as view
 use Rattle.dv_eval.specs.declared.moment.Context.{Context as DeclaredContext}
 use Rattle.dv_eval.specs.declared.moment.Moment as declared
 use Rattle.dv_eval.specs.Meaning.{Context, Moment, in_loop, moment_in, outermost}
@@ -11,3 +16,8 @@ context_of (at.Within' variable value p outer) = in_loop (variable, value) (cont
 
 abbrev pub moment_of : declared.Moment → Moment
 moment_of m = moment_in (context_of m.context.now) m.state.now
+
+abbrev pub collection_seen : CollectionView → Collection
+collection_seen (view.Bag b) = collection.Bag b.now
+collection_seen (view.Queue q) = collection.Queue q.now
+collection_seen view.Nothing = collection.Bag []

@@ -1,31 +1,35 @@
 -- The meaning of expressions, rules and holds, by recursion on the tree: a value or an effect, or the first fault from the left.
 -- A checked model knows its names and gives every operator what it wants; for all others a name that is not known counts
--- as 0 or as an empty bag, and a truth value as 0 or 1.
+-- as 0 or as an empty bag, a bag as an empty queue and a queue as an empty bag, and a truth value as 0 or 1.
 use Rattle.std.specs.Prelude.{ℕ, ℤ, pos, negsuc, neg_ℤ, ◌+ℤ◌, ◌-ℤ◌, ◌*ℤ◌, Bool, true, false, not, ◌&&◌, ◌||◌, if◌then◌else◌, ◌==◌}
 use Rattle.std.specs.Prelude.{nat_le, int_lt, List, [], ◌∷◌, length, replicate, slice_get, slice_set, Option, Some, None, Result}
 use Rattle.std.specs.Prelude.{Ok, Err}
 use Rattle.std.specs.Ordering.{int_eq}
 use Rattle.dv_syntax.specs.Trees.{Expression, Literal, TruthValue, Named, Parens, Prefixed, Binary, Call, Elapsed, Times}
-use Rattle.dv_syntax.specs.Trees.{Statements, Done, Assign, Goto, Send, If, IfElse, For, Drop}
-use Rattle.dv_syntax.specs.Trees.{Add as AddTo}
+use Rattle.dv_syntax.specs.Trees.{Statements, Done, Assign, Does, Send, If, IfElse, For, Changes}
+use Rattle.dv_syntax.specs.declared.tree.Command.{Command}
+use Rattle.dv_syntax.specs.declared.tree.Command.TheVariants as command
 use Rattle.dv_syntax.specs.declared.tree.Prefix.{Prefix}
 use Rattle.dv_syntax.specs.declared.tree.Prefix.TheVariants.{Minus, Not}
 use Rattle.dv_syntax.specs.declared.tree.Operator.{Operator}
 use Rattle.dv_syntax.specs.declared.tree.Operator.TheVariants.{Or, And, Add, Subtract, Multiply, Divide as DivideBy, Remainder}
 use Rattle.dv_syntax.specs.declared.tree.Operator.TheVariants.{Equal, Unequal, Less, AtMost, Greater, AtLeast}
 use Rattle.dv_syntax.specs.declared.tree.BagCall.{BagCall}
-use Rattle.dv_syntax.specs.declared.tree.BagCall.TheVariants.{Size, Sum, Least, Most}
+use Rattle.dv_syntax.specs.declared.tree.BagCall.TheVariants.{Size, Sum, Least, Most, Front}
 use Rattle.dv_bag.specs.Arithmetic.{number_or_empty, number_or_overflow, quotient, remainder}
 use Rattle.dv_bag.specs.Arrivals.{Arrivals, nothing_arrived}
-use Rattle.dv_bag.specs.Bag.{Counts, bag_at, count_of, least, most, sum_or_overflow, total, total_of_all, values_of, with_copies}
-use Rattle.dv_bag.specs.Bag.{without_one}
-use Rattle.dv_bag.specs.Reading.{bag_held_at}
-use Rattle.dv_bag.specs.Effects.{is_full, is_within, with_bag, with_datum, with_state}
+use Rattle.dv_bag.specs.Bag.{Counts, bag_at, count_of, least, most, sum_or_overflow, total_of_all, with_copies}
+use Rattle.dv_bag.specs.Collections.{changed, count_in, popped, values_in}
+use Rattle.dv_bag.specs.Reading.{held_at}
+use Rattle.dv_bag.specs.Effects.{is_within, with_collection, with_datum, with_state}
 use Rattle.dv_bag.specs.Outcome.{◌>>=◌}
+use Rattle.dv_bag.specs.declared.collection.Collection.{Collection}
+use Rattle.dv_bag.specs.declared.collection.Collection.TheVariants as collection
+use Rattle.dv_bag.specs.declared.discipline.Change.{Change}
 use Rattle.dv_bag.specs.declared.value.Value.{Value}
 use Rattle.dv_bag.specs.declared.value.Value.TheVariants.{Number, Truth}
 use Rattle.dv_bag.specs.declared.fault.Fault.{Fault}
-use Rattle.dv_bag.specs.declared.fault.Fault.TheVariants.{Range, Full, Negative as BelowZero, Flood}
+use Rattle.dv_bag.specs.declared.fault.Fault.TheVariants.{Range, Negative as BelowZero, Flood}
 use Rattle.dv_bag.specs.declared.state.Datum.{Datum}
 use Rattle.dv_bag.specs.declared.state.Datum.TheVariants as datum
 use Rattle.dv_bag.specs.declared.state.State.{State}
@@ -82,7 +86,7 @@ operator_result AtLeast a b = Ok (Truth (not (int_lt (number_of a) (number_of b)
 abbrev pub value_of_datum : Option Datum → Value
 value_of_datum (Some (datum.Number n)) = Number n
 value_of_datum (Some (datum.Flag b)) = Truth b
-value_of_datum (Some (datum.Bag b)) = Number (pos 0)
+value_of_datum (Some (datum.Held c)) = Number (pos 0)
 value_of_datum None = Number (pos 0)
 
 abbrev pub datum_at : List Datum → Option ℕ → Option Datum
@@ -133,21 +137,38 @@ abbrev pub bag_received : Arrivals → Option ℕ → Counts
 bag_received arrivals None = []
 bag_received arrivals (Some port) = bag_at arrivals.received port
 
--- the bag of the state variable at a place; where there is no variable, the bag that arrived at a port
-abbrev pub bag_between : Moment → Option ℕ → Option ℕ → Counts
-bag_between m (Some place) port = bag_held_at m.state.variables place
-bag_between m None port = bag_received m.context.arrivals port
+-- the collection of the state variable at a place; where there is no variable, the bag that arrived at a port
+abbrev pub collection_between : Moment → Option ℕ → Option ℕ → Collection
+collection_between m (Some place) port = held_at m.state.variables place
+collection_between m None port = collection.Bag (bag_received m.context.arrivals port)
 
--- the bag that a name stands for: a state variable's, else an input port's; a name that is no bag stands for the empty one
-abbrev pub bag_of_name : Scope → Moment → ℕ → Counts
-bag_of_name scope m name = bag_between m (place_of name (names_of scope.variables)) (place_of name scope.inputs)
+-- the collection that a name stands for: a state variable's, else an input port's bag; a name of no collection stands for an
+-- empty bag
+abbrev pub collection_of_name : Scope → Moment → ℕ → Collection
+collection_of_name scope m name = collection_between m (place_of name (names_of scope.variables)) (place_of name scope.inputs)
 
--- what a call gives of a bag: the number of the values, their exact sum, the least and the greatest
-abbrev pub call_result : BagCall → Counts → Result Value Fault
-call_result Size b = Ok (Number (pos (total b)))
-call_result Sum b = sum_or_overflow b >>= λ n. Ok (Number n)
-call_result Least b = number_or_empty (least b)
-call_result Most b = number_or_empty (most b)
+-- a bag's counts; a queue stands for the empty bag
+abbrev pub bag_or_none : Collection → Counts
+bag_or_none (collection.Bag b) = b
+bag_or_none (collection.Queue q) = []
+
+-- a queue's values; a bag stands for the empty queue
+abbrev pub queue_or_none : Collection → List ℤ
+queue_or_none (collection.Bag b) = []
+queue_or_none (collection.Queue q) = q
+
+abbrev pub first : List ℤ → Option ℤ
+first [] = None
+first (n ∷ ns) = Some n
+
+-- what a call gives: the number of the values of a bag or a queue; of a bag their exact sum, the least and the greatest; of a
+-- queue the first
+abbrev pub call_result : BagCall → Collection → Result Value Fault
+call_result Size c = Ok (Number (pos (count_in c)))
+call_result Sum c = sum_or_overflow (bag_or_none c) >>= λ n. Ok (Number n)
+call_result Least c = number_or_empty (least (bag_or_none c))
+call_result Most c = number_or_empty (most (bag_or_none c))
+call_result Front c = number_or_empty (first (queue_or_none c))
 
 -- the value of an expression at a moment; where the left operand decides, the right one is not asked
 abbrev pub meaning : Scope → Moment → Expression → Result Value Fault
@@ -159,9 +180,10 @@ meaning scope m (Prefixed operator place e) = meaning scope m e >>= λ v. prefix
 meaning scope m (Binary operator a b) =
     meaning scope m a >>= λ x.
     if is_decided operator x then Ok (Truth (truth_of x)) else (meaning scope m b >>= λ y. operator_result operator x y)
-meaning scope m (Call call place b) = call_result call (bag_of_name scope m b.number)
+meaning scope m (Call call place b) = call_result call (collection_of_name scope m b.number)
 meaning scope m (Elapsed place) = number_or_overflow (pos m.context.arrivals.elapsed)
-meaning scope m (Times place e b) = meaning scope m e >>= λ v. Ok (Number (pos (count_of (number_of v) (bag_of_name scope m b.number))))
+meaning scope m (Times place e b) =
+    meaning scope m e >>= λ v. Ok (Number (pos (count_of (number_of v) (bag_or_none (collection_of_name scope m b.number)))))
 
 -- a number into the variable at a place, where it is within the variable's range
 abbrev pub assignment_in_range : VariableRange → ℕ → ℤ → Effect → Result Effect Fault
@@ -172,7 +194,7 @@ assignment_in_range range place n e =
 abbrev pub assignment_in_domain : Domain → ℕ → Value → Effect → Result Effect Fault
 assignment_in_domain (domain.Number range) place v e = assignment_in_range range place (number_of v) e
 assignment_in_domain (domain.Flag start) place v e = Ok (with_state e (with_datum e.state place (datum.Flag (truth_of v))))
-assignment_in_domain (domain.Bag capacity) place v e = Ok e
+assignment_in_domain (domain.Held d capacity) place v e = Ok e
 
 abbrev pub assignment_to : Option (ℕ × Domain) → ℕ → Value → Effect → Result Effect Fault
 assignment_to None place v e = Ok e
@@ -198,47 +220,57 @@ sending scope port v e =
     if nat_le greatest_count (total_of_all e.sent) then Err Flood
     else Ok (with_value_at (place_of port scope.outputs) (number_of v) e)
 
--- how many values a state bag may hold
+-- how many values a bag or a queue of the state may hold
 abbrev pub capacity_in : Domain → Option ℕ
 capacity_in (domain.Number range) = None
 capacity_in (domain.Flag start) = None
-capacity_in (domain.Bag capacity) = Some capacity
+capacity_in (domain.Held d capacity) = Some capacity
 
 abbrev pub capacity_of : Option (ℕ × Domain) → Option ℕ
 capacity_of None = None
 capacity_of (Some variable) = capacity_in variable.1
 
--- a number added to the bag at a place, which may hold so many values; where there is no bag, nothing changes
-abbrev pub addition_to : Option ℕ → Option Datum → ℕ → ℤ → Effect → Result Effect Fault
-addition_to (Some capacity) (Some (datum.Bag b)) place n e =
-    if is_full capacity b then Err Full else Ok (with_bag e place (with_copies n 1 b))
-addition_to capacity content place n e = Ok e
+-- what is made of the collection at a place; where that is nothing, nothing changes
+abbrev pub with_made : ℕ → Effect → Option (Result Collection Fault) → Result Effect Fault
+with_made place e None = Ok e
+with_made place e (Some r) = r >>= λ c. Ok (with_collection e place c)
 
-abbrev pub addition_at : Scope → Option ℕ → ℤ → Effect → Result Effect Fault
-addition_at scope None n e = Ok e
-addition_at scope (Some place) n e =
-    addition_to (capacity_of (slice_get scope.variables place)) (slice_get e.state.variables place) place n e
+-- a number changes the collection at a place, which may hold so many values; where there is none of the discipline that the
+-- change wants, nothing changes
+abbrev pub changing_to : Change → Option ℕ → Option Datum → ℕ → ℤ → Effect → Result Effect Fault
+changing_to c (Some capacity) (Some (datum.Held held)) place n e = with_made place e (changed c capacity n held)
+changing_to c capacity content place n e = Ok e
 
--- a number added to a state bag
-abbrev pub addition : Scope → ℕ → ℤ → Effect → Result Effect Fault
-addition scope name n e = addition_at scope (place_of name (names_of scope.variables)) n e
+abbrev pub changing_at : Scope → Change → Option ℕ → ℤ → Effect → Result Effect Fault
+changing_at scope c None n e = Ok e
+changing_at scope c (Some place) n e =
+    changing_to c (capacity_of (slice_get scope.variables place)) (slice_get e.state.variables place) place n e
 
--- one copy of a number less in the bag at a place; where there is no bag, nothing changes
-abbrev pub removal_from : Option Datum → ℕ → ℤ → Effect → Effect
-removal_from (Some (datum.Bag b)) place n e = with_bag e place (without_one n b)
-removal_from content place n e = e
+-- a number changes a collection of the state
+abbrev pub changing : Scope → Change → ℕ → ℤ → Effect → Result Effect Fault
+changing scope c name n e = changing_at scope c (place_of name (names_of scope.variables)) n e
 
-abbrev pub removal_at : Option ℕ → ℤ → Effect → Effect
-removal_at None n e = e
-removal_at (Some place) n e = removal_from (slice_get e.state.variables place) place n e
+-- the queue at a place loses its first value; where there is no queue, nothing changes
+abbrev pub popping_from : Option Datum → ℕ → Effect → Result Effect Fault
+popping_from (Some (datum.Held held)) place e = with_made place e (popped held)
+popping_from content place e = Ok e
 
--- one copy of a number less in a state bag, where there is one
-abbrev pub removal : Scope → ℕ → ℤ → Effect → Effect
-removal scope name n e = removal_at (place_of name (names_of scope.variables)) n e
+abbrev pub popping_at : Option ℕ → Effect → Result Effect Fault
+popping_at None e = Ok e
+popping_at (Some place) e = popping_from (slice_get e.state.variables place) place e
+
+-- a queue of the state loses its first value
+abbrev pub popping : Scope → ℕ → Effect → Result Effect Fault
+popping scope name e = popping_at (place_of name (names_of scope.variables)) e
 
 abbrev pub with_goto : Option ℕ → Effect → Effect
 with_goto None e = e
 with_goto (Some phase) e = record { state = e.state; sent = e.sent; goto = Some phase }
+
+-- what a command does with a name
+abbrev pub command_effect : Scope → Command → ℕ → Effect → Result Effect Fault
+command_effect scope command.Goto name e = Ok (with_goto (place_of name scope.phases) e)
+command_effect scope command.Pop name e = popping scope name e
 
 -- a step for each of some values, one after the other; the first fault ends it
 abbrev pub repetition : (ℤ → Effect → Result Effect Fault) → List ℤ → Effect → Result Effect Fault
@@ -249,13 +281,13 @@ repetition step (n ∷ ns) e = step n e >>= repetition step ns
 abbrev pub value_within : Scope → Context → Effect → Expression → Result Value Fault
 value_within scope context e value = meaning scope (moment_in context e.state) value
 
--- What a list of statements does, one after the other; the last goto that ran counts. A loop walks the values of its bag as
--- it stood when the loop began, in ascending order, each copy once.
+-- What a list of statements does, one after the other; the last goto that ran counts. A loop walks the values of its bag or
+-- its queue as it stood when the loop began: those of a bag in ascending order, each copy once, those of a queue from the first on.
 abbrev pub run : Scope → Context → Statements → Effect → Result Effect Fault
 run scope context Done e = Ok e
 run scope context (Assign variable value rest) e =
     value_within scope context e value >>= λ v. assignment scope variable.number v e >>= run scope context rest
-run scope context (Goto place phase rest) e = run scope context rest (with_goto (place_of phase.number scope.phases) e)
+run scope context (Does c place name rest) e = command_effect scope c name.number e >>= run scope context rest
 run scope context (Send place port value rest) e =
     value_within scope context e value >>= λ v. sending scope port.number v e >>= run scope context rest
 run scope context (If place condition block rest) e =
@@ -264,12 +296,11 @@ run scope context (IfElse place condition block other rest) e =
     value_within scope context e condition
     >>= λ v. (if truth_of v then run scope context block e else run scope context other e) >>= run scope context rest
 run scope context (For place v b block rest) e =
-    repetition (λ n. run scope (in_loop (v.number, n) context) block) (values_of (bag_of_name scope (moment_in context e.state) b.number)) e
+    repetition
+    (λ n. run scope (in_loop (v.number, n) context) block) (values_in (collection_of_name scope (moment_in context e.state) b.number)) e
     >>= run scope context rest
-run scope context (AddTo place value b rest) e =
-    value_within scope context e value >>= λ v. addition scope b.number (number_of v) e >>= run scope context rest
-run scope context (Drop place value b rest) e =
-    value_within scope context e value >>= λ v. run scope context rest (removal scope b.number (number_of v) e)
+run scope context (Changes c place value x rest) e =
+    value_within scope context e value >>= λ v. changing scope c x.number (number_of v) e >>= run scope context rest
 
 -- the effect of a rule on a state, with what has arrived
 abbrev pub effect_of : Scope → Statements → Arrivals → State → Result Effect Fault

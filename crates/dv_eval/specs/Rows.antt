@@ -1,12 +1,17 @@
--- Bags and loops in worked rows, over a model with a variable tally of the range 0..9999, a bag of at most 6 values, an
--- input port and an output port.
-use Rattle.std.specs.Prelude.{ℕ, ℤ, pos, [], ◌∷◌, None, Result}
+-- Bags, queues and loops in worked rows, over a model with a variable tally of the range 0..9999, a bag or a queue of at most 6
+-- values, an input port and an output port.
+use Rattle.std.specs.Prelude.{ℕ, ℤ, pos, List, [], ◌∷◌, replicate, None, Result}
 use Rattle.dv_syntax.specs.declared.tree.Name.{Name}
+use Rattle.dv_syntax.specs.declared.tree.Command.TheVariants.{Pop}
 use Rattle.dv_syntax.specs.declared.tree.BagCall.TheVariants.{Size, Least}
 use Rattle.dv_syntax.specs.declared.tree.Operator.TheVariants.{Add, Multiply, Equal, Greater}
-use Rattle.dv_syntax.specs.Trees.{Expression, Named, Binary, Call, Elapsed, Statements, Done, Assign, Send, For}
-use Rattle.dv_syntax.specs.Trees.{Add as AddTo}
+use Rattle.dv_syntax.specs.Trees.{Expression, Named, Binary, Call, Elapsed, Statements, Done, Assign, Does, Send, For, Changes}
 use Rattle.dv_bag.specs.Bag.{Counts}
+use Rattle.dv_bag.specs.Collections.{discipline_of}
+use Rattle.dv_bag.specs.declared.collection.Collection.{Collection}
+use Rattle.dv_bag.specs.declared.collection.Collection.TheVariants as collection
+use Rattle.dv_bag.specs.declared.discipline.Change.TheVariants as change
+use Rattle.dv_bag.specs.declared.discipline.Discipline.{Discipline}
 use Rattle.dv_bag.specs.declared.fault.Fault.{Fault}
 use Rattle.dv_bag.specs.declared.value.Value.{Value}
 use Rattle.dv_bag.specs.declared.state.Datum.TheVariants as datum
@@ -27,6 +32,10 @@ tally = named 0
 abbrev pub bag : Name
 bag = named 1
 
+-- the queue, in a model that has one in the place of the bag
+abbrev pub queue : Name
+queue = named 1
+
 abbrev pub port : Name
 port = named 2
 
@@ -38,32 +47,55 @@ item = named 3
 abbrev pub requests : Name
 requests = named 4
 
-abbrev pub tally_and_bag : Scope
-tally_and_bag = record {
-  variables = (0, domain.Number (record { low = pos 0; high = pos 9999; start = pos 0 })) ∷ (1, domain.Bag 6) ∷ [];
+abbrev pub tally_and : Discipline → Scope
+tally_and d = record {
+  variables = (0, domain.Number (record { low = pos 0; high = pos 9999; start = pos 0 })) ∷ (1, domain.Held d 6) ∷ [];
   phases = [];
   inputs = 4 ∷ [];
   outputs = 2 ∷ [];
 }
 
-abbrev pub holding : ℤ → Counts → State
-holding count values = record { phase = 0; variables = datum.Number count ∷ datum.Bag values ∷ [] }
+abbrev pub holding : ℤ → Collection → State
+holding count c = record { phase = 0; variables = datum.Number count ∷ datum.Held c ∷ [] }
 
--- the value where the bag has such values
+-- the value and the effect in a state with this collection, with what has arrived
+abbrev pub value_over : Collection → Arrivals → Expression → Result Value Fault
+value_over c arrivals e = meaning (tally_and (discipline_of c)) (moment_in (outermost arrivals) (holding (pos 0) c)) e
+
+abbrev pub effect_over : Collection → Arrivals → Statements → Result Effect Fault
+effect_over c arrivals body = effect_of (tally_and (discipline_of c)) body arrivals (holding (pos 0) c)
+
+-- the number and the collection after a rule, and what it sent
+abbrev pub left_over : ℤ → Collection → Counts → Effect
+left_over count c sent = record { state = holding count c; sent = sent ∷ []; goto = None }
+
+-- the same where the bag has such values
 abbrev pub value_with : Counts → Expression → Result Value Fault
-value_with values e = meaning tally_and_bag (moment_in (outermost nothing_arrived) (holding (pos 0) values)) e
+value_with values e = value_over (collection.Bag values) nothing_arrived e
 
--- the effect where the bag has such values
 abbrev pub effect_with : Counts → Statements → Result Effect Fault
-effect_with values body = effect_of tally_and_bag body nothing_arrived (holding (pos 0) values)
+effect_with values body = effect_over (collection.Bag values) nothing_arrived body
 
--- the number and the values after a rule, and what it sent
 abbrev pub left : ℤ → Counts → Counts → Effect
-left count values sent = record { state = holding count values; sent = sent ∷ []; goto = None }
+left count values sent = left_over count (collection.Bag values) sent
+
+-- and where the queue has them
+abbrev pub value_queued : List ℤ → Expression → Result Value Fault
+value_queued values e = value_over (collection.Queue values) nothing_arrived e
+
+abbrev pub effect_queued : List ℤ → Statements → Result Effect Fault
+effect_queued values body = effect_over (collection.Queue values) nothing_arrived body
+
+abbrev pub queued : ℤ → List ℤ → Effect
+queued count values = left_over count (collection.Queue values) []
 
 -- 2, 3 and 3
 abbrev pub two_threes : Counts
 two_threes = (pos 2, 1) ∷ (pos 3, 2) ∷ []
+
+-- so many ones, in a queue
+abbrev pub ones : ℕ → List ℤ
+ones n = replicate n (pos 1)
 
 -- the greatest number twice
 abbrev pub great : Counts
@@ -81,9 +113,12 @@ least_is_one = Binary Equal (Call Least 1 bag) (number 1)
 abbrev pub for_each : Statements → Statements
 for_each block = For 1 item bag block Done
 
--- tally := tally * 10 + item;
+-- tally := tally * 10 + item; and what follows
+abbrev pub digit_before : Statements → Statements
+digit_before rest = Assign tally (Binary Add (Binary Multiply (Named tally) (number 10)) (Named item)) rest
+
 abbrev pub next_digit : Statements
-next_digit = Assign tally (Binary Add (Binary Multiply (Named tally) (number 10)) (Named item)) Done
+next_digit = digit_before Done
 
 -- send port item;
 abbrev pub send_it : Statements
@@ -91,7 +126,19 @@ send_it = Send 1 port (Named item) Done
 
 -- add item to bag;
 abbrev pub add_it : Statements
-add_it = AddTo 1 (Named item) bag Done
+add_it = Changes change.Add 1 (Named item) bag Done
+
+-- push item to queue; and what follows
+abbrev pub push_it : Statements → Statements
+push_it rest = Changes change.Push 1 (Named item) queue rest
+
+-- pop queue;
+abbrev pub pop_one : Statements
+pop_one = Does Pop 1 queue Done
+
+-- tally := tally * 10 + item; push item to queue; pop queue;
+abbrev pub turn_over : Statements
+turn_over = digit_before (push_it pop_one)
 
 -- for item in bag { for item in bag { tally := tally * 10 + item; } }
 abbrev pub nested : Statements
@@ -103,15 +150,15 @@ arrived values ticks = record { received = values ∷ []; elapsed = ticks }
 
 -- the value where the bag has one set of values, and another arrived
 abbrev pub value_when : Counts → Counts → Expression → Result Value Fault
-value_when values received e = meaning tally_and_bag (moment_in (outermost (arrived received 1)) (holding (pos 0) values)) e
+value_when values received e = value_over (collection.Bag values) (arrived received 1) e
 
 -- the ticks since the last transition, where there are so many
 abbrev pub elapsed_when : ℕ → Result Value Fault
-elapsed_when ticks = meaning tally_and_bag (moment_in (outermost (arrived [] ticks)) (holding (pos 0) [])) (Elapsed 1)
+elapsed_when ticks = value_over (collection.Bag []) (arrived [] ticks) (Elapsed 1)
 
 -- the effect where the bag has one set of values, and another arrived
 abbrev pub effect_when : Counts → Counts → Statements → Result Effect Fault
-effect_when values received body = effect_of tally_and_bag body (arrived received 1) (holding (pos 0) values)
+effect_when values received body = effect_over (collection.Bag values) (arrived received 1) body
 
 -- for item in requests { .. }
 abbrev pub for_each_request : Statements → Statements

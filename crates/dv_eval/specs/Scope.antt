@@ -7,11 +7,12 @@ use Rattle.dv_syntax.specs.declared.tree.Name.{Name}
 use Rattle.dv_syntax.specs.declared.tree.Bound.{Bound}
 use Rattle.dv_syntax.specs.declared.tree.Variable.{Variable}
 use Rattle.dv_syntax.specs.declared.tree.Declaration.{Declaration}
-use Rattle.dv_syntax.specs.declared.tree.Declaration.TheVariants.{In, Out, Var, Flag, Bag}
+use Rattle.dv_syntax.specs.declared.tree.Declaration.TheVariants.{In, Out, Var, Flag, Held}
 use Rattle.dv_syntax.specs.declared.tree.Start.{Start}
 use Rattle.dv_syntax.specs.declared.tree.Ticks.{Ticks}
 use Rattle.dv_syntax.specs.declared.tree.RuleSort.{RuleSort}
 use Rattle.dv_syntax.specs.declared.tree.RuleSort.TheVariants.{Output, Internal, External, Confluent}
+use Rattle.dv_bag.specs.Collections.{empty_of}
 use Rattle.dv_bag.specs.declared.state.State.{State}
 use Rattle.dv_bag.specs.declared.state.Datum.{Datum}
 use Rattle.dv_bag.specs.declared.state.Datum.TheVariants as datum
@@ -19,7 +20,7 @@ use Rattle.dv_eval.specs.declared.scope.VariableRange.{VariableRange}
 use Rattle.dv_eval.specs.declared.scope.Domain.{Domain}
 use Rattle.dv_eval.specs.declared.scope.Domain.TheVariants as domain
 
--- variables, flags and bags with what they may hold, phases and ports, each in the order of declaration
+-- variables, flags, bags and queues with what they may hold, phases and ports, each in the order of declaration
 pub record Scope : Type 0 where
   pub variables : List (ℕ × Domain)
   pub phases : List ℕ
@@ -32,7 +33,7 @@ input_of (In port) = Some port
 input_of (Out port) = None
 input_of (Var v) = None
 input_of (Flag f) = None
-input_of (Bag b) = None
+input_of (Held c) = None
 
 -- the output port that it declares
 abbrev pub output_of : Declaration → Option Name
@@ -40,7 +41,7 @@ output_of (In port) = None
 output_of (Out port) = Some port
 output_of (Var v) = None
 output_of (Flag f) = None
-output_of (Bag b) = None
+output_of (Held c) = None
 
 abbrev pub inputs_in : List Declaration → List Name
 inputs_in declarations = filter_map input_of declarations
@@ -85,13 +86,13 @@ bound_value b = signed b.minus b.magnitude.value
 abbrev pub range_of : Variable → VariableRange
 range_of v = record { low = bound_value v.low; high = bound_value v.high; start = bound_value v.start }
 
--- the state variable that a declaration declares, a variable, a flag or a bag: its name, and what it may hold
+-- the state variable that a declaration declares, a variable, a flag, a bag or a queue: its name, and what it may hold
 abbrev pub state_variable_of : Declaration → Option (Name × Domain)
 state_variable_of (In port) = None
 state_variable_of (Out port) = None
 state_variable_of (Var v) = Some (v.name, domain.Number (range_of v))
 state_variable_of (Flag f) = Some (f.name, domain.Flag f.start)
-state_variable_of (Bag b) = Some (b.name, domain.Bag b.capacity.value)
+state_variable_of (Held c) = Some (c.name, domain.Held c.discipline c.capacity.value)
 
 abbrev pub state_variables_in : List Declaration → List (Name × Domain)
 state_variables_in declarations = filter_map state_variable_of declarations
@@ -122,11 +123,11 @@ same_sort External External = true
 same_sort Confluent Confluent = true
 same_sort a b = false
 
--- what a state variable holds at the start; a bag is empty
+-- what a state variable holds at the start; a bag or a queue is empty
 abbrev pub start_datum : Domain → Datum
 start_datum (domain.Number range) = datum.Number range.start
 start_datum (domain.Flag start) = datum.Flag start
-start_datum (domain.Bag capacity) = datum.Bag []
+start_datum (domain.Held d capacity) = datum.Held (empty_of d)
 
 abbrev pub start_data : List (ℕ × Domain) → List Datum
 start_data entries = map (λ e. start_datum e.1) entries

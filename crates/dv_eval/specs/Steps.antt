@@ -5,9 +5,9 @@ use Rattle.dv_bag.specs.Outcome.{◌>>=◌}
 use Rattle.dv_bag.specs.declared.fault.Fault.{Fault}
 use Rattle.dv_bag.specs.declared.state.Effect.{Effect}
 use Rattle.dv_bag.specs.declared.value.Value.{Value}
-use Rattle.dv_eval.specs.Meaning.{Context, addition, assignment, number_of, removal, sending, value_within}
+use Rattle.dv_eval.specs.Meaning.{Context, assignment, changing, number_of, sending, value_within}
 use Rattle.dv_eval.specs.declared.rule.Step.{Step}
-use Rattle.dv_eval.specs.declared.rule.Step.TheVariants.{Assign, Send, Add, Drop}
+use Rattle.dv_eval.specs.declared.rule.Step.TheVariants.{Assign, Send, Change}
 use Rattle.dv_eval.specs.Scope.{Scope}
 
 -- a step with the value of an expression
@@ -18,8 +18,7 @@ with_value scope context value step e = value_within scope context e value >>= �
 abbrev pub step_with : Scope → Step → Value → Effect → Result Effect Fault
 step_with scope (Assign variable) v e = assignment scope variable v e
 step_with scope (Send port) v e = sending scope port v e
-step_with scope (Add bag) v e = addition scope bag (number_of v) e
-step_with scope (Drop bag) v e = Ok (removal scope bag (number_of v) e)
+step_with scope (Change c collection) v e = changing scope c collection (number_of v) e
 
 -- a step so many times
 abbrev pub repeated : (Effect → Result Effect Fault) → ℕ → Effect → Result Effect Fault

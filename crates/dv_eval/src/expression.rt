@@ -1,30 +1,30 @@
 //! The value of an expression.
 
-ghost use Rattle.std.specs.Prelude.{◌≡◌, ◌≤◌, [], option_map, unwrap_or, IfSome};
-ghost use Rattle.std.specs.Option.{option_copied};
-ghost use Rattle.dv_bag.specs.Bag.{total};
-ghost use Rattle.dv_bag.specs.Reading.{HoldsFew, bag_held_at, datum_of};
+ghost use Rattle.std.specs.Prelude.{◌≡◌, ◌≤◌, option_map, IfSome};
+ghost use Rattle.dv_bag.specs.Collections.{count_in};
+ghost use Rattle.dv_bag.specs.Reading.{HoldsFew, datum_of};
 ghost use Rattle.dv_syntax.specs.Trees.{expression_of};
-ghost use Rattle.dv_eval.specs.Contexts.{context_of, moment_of};
-ghost use Rattle.dv_eval.specs.Meaning.{bag_of_name, bag_received, call_result, datum_of_name, is_decided, meaning, number_of};
-ghost use Rattle.dv_eval.specs.Meaning.{operator_result, prefix_result, same, truth_of, value_of_name};
+ghost use Rattle.dv_eval.specs.Contexts.{collection_seen, moment_of};
+ghost use Rattle.dv_eval.specs.Meaning.{call_result, datum_of_name, is_decided, meaning, number_of, operator_result};
+ghost use Rattle.dv_eval.specs.Meaning.{prefix_result, same, truth_of, value_of_name};
 ghost use Rattle.dv_bag.specs.Limits.{greatest_count};
 
-use crate::moment::{Context, Moment};
+use crate::collection::{CollectionView, collection_of_name};
+use crate::moment::Moment;
 use crate::scope::Scope;
 use dv_bag::arithmetic::{
     difference, negated, number_or_empty, product, quotient, remainder, sum, ticks_or_overflow,
 };
 use dv_bag::bag::copies_of;
-use dv_bag::{Bag, DatumView, Fault, State, Value};
+use dv_bag::{DatumView, Fault, State, Value};
 use dv_syntax::{BagCall, Expr, Operator, Prefix};
 
 /// The value of an expression at a moment.
 ///
 /// # Errors
 ///
-/// The first fault from the left: `Overflow`, `Divide`, or `Empty` of the least or the greatest value of a bag that has
-/// none.
+/// The first fault from the left: `Overflow`, `Divide`, or `Empty` of the least or the greatest value of a bag, or the
+/// first value of a queue, that has none.
 pub fn eval(expression: &Expr, moment: &Moment, scope: &Scope) -> Result<Value, Fault>
     ensures { result ≡ meaning scope.now (moment_of moment.now) (expression_of expression.now) }
 {
@@ -51,13 +51,13 @@ pub fn eval(expression: &Expr, moment: &Moment, scope: &Scope) -> Result<Value, 
             operator_result(*operator, left, right)
         }
         Expr::Call { call, bag, .. } => {
-            call_result(*call, bag_of_name(bag.number, moment, scope))
+            call_result(*call, &collection_of_name(bag.number, moment, scope))
         }
         Expr::Elapsed { .. } => ticks_or_overflow(moment.context.arrivals().elapsed()),
         Expr::Times { value, bag, .. } => {
             let value = eval(value, moment, scope)?;
-            let copies = copies_of(number_of(value), bag_of_name(bag.number, moment, scope));
-            Ok(Value::Number(copies))
+            let collection = collection_of_name(bag.number, moment, scope);
+            Ok(Value::Number(copies_of(number_of(value), collection.bag())))
         }
     }
 }
@@ -72,7 +72,7 @@ fn value_of_name(name: u32, moment: &Moment, scope: &Scope) -> Value
     match datum_of_name(name, moment.state, scope) {
         Some(DatumView::Number(number)) => Value::Number(number),
         Some(DatumView::Flag(truth)) => Value::Truth(truth),
-        Some(DatumView::Bag(_)) | None => Value::Number(0),
+        Some(DatumView::Held(_)) | None => Value::Number(0),
     }
 }
 
@@ -85,57 +85,17 @@ fn datum_of_name<'a>(name: u32, state: &'a State, scope: &Scope) -> Option<Datum
     state.variables.get(place)
 }
 
-/// The bag that a name stands for, if it stands for one.
-pub(crate) fn bag_of_name<'a>(name: u32, moment: &'a Moment, scope: &Scope) -> Option<&'a Bag>
-    ensures bag { unwrap_or (option_copied result) []
-        ≡ bag_of_name scope.now (moment_of moment.now) name }
-    ensures few { IfSome result (λ bag. total bag.now ≤ greatest_count) }
+// What a call gives.
+fn call_result(call: BagCall, collection: &CollectionView) -> Result<Value, Fault>
+    requires { count_in (collection_seen collection.now) ≤ greatest_count }
+    ensures { result ≡ call_result call (collection_seen collection.now) }
 {
-    match scope.variable(name) {
-        Some(place) => bag_held_at(place, moment.state),
-        None => bag_received(scope.input(name), moment.context),
-    }
-}
-
-// The bag of the state variable at a place, if it is one.
-fn bag_held_at(place: usize, state: &State) -> Option<&Bag>
-    ensures bag { unwrap_or (option_copied result) [] ≡ bag_held_at state.now.variables place }
-    ensures few { IfSome result (λ bag. total bag.now ≤ greatest_count) }
-{
-    match state.variables.get(place) {
-        Some(DatumView::Bag(bag)) => Some(bag),
-        _ => None,
-    }
-}
-
-// The bag that arrived at an input port.
-fn bag_received<'a>(port: Option<usize>, context: &'a Context) -> Option<&'a Bag>
-    ensures bag { unwrap_or (option_copied result) []
-        ≡ bag_received (context_of context.now).arrivals port }
-    ensures few { IfSome result (λ bag. total bag.now ≤ greatest_count) }
-{
-    match port {
-        Some(port) => context.arrivals().bag(port),
-        None => None,
-    }
-}
-
-// What a call gives of a bag, and of none what it gives of an empty one.
-fn call_result(call: BagCall, bag: Option<&Bag>) -> Result<Value, Fault>
-    requires { IfSome bag (λ bag. total bag.now ≤ greatest_count) }
-    ensures { result ≡ call_result call (unwrap_or (option_copied bag.entry) []) }
-{
-    let Some(bag) = bag else {
-        return match call {
-            BagCall::Size | BagCall::Sum => Ok(Value::Number(0)),
-            BagCall::Least | BagCall::Most => Err(Fault::Empty),
-        };
-    };
     match call {
-        BagCall::Size => Ok(Value::Number(bag.size() as i64)),
-        BagCall::Sum => Ok(Value::Number(bag.sum()?)),
-        BagCall::Least => number_or_empty(bag.least()),
-        BagCall::Most => number_or_empty(bag.most()),
+        BagCall::Size => Ok(Value::Number(collection.count())),
+        BagCall::Sum => Ok(Value::Number(collection.sum()?)),
+        BagCall::Least => number_or_empty(collection.least()),
+        BagCall::Most => number_or_empty(collection.most()),
+        BagCall::Front => number_or_empty(collection.first()),
     }
 }
 

@@ -1,16 +1,17 @@
 //! Laws of the language. Each function stands for the law in its contract; its body does nothing.
 
 ghost use Rattle.std.specs.Prelude.{◌≡◌, true, false, pos, negsuc, [], ◌∷◌, Ok, Err};
-ghost use Rattle.dv_syntax.specs.Trees.{Binary, Call, Done, Drop, Elapsed, Prefixed, Times};
-ghost use Rattle.dv_syntax.specs.Trees.{Add as AddTo};
+ghost use Rattle.dv_syntax.specs.Trees.{Binary, Call, Changes, Done, Elapsed, Prefixed, Times};
 ghost use Rattle.dv_syntax.specs.declared.tree.BagCall.TheVariants as call;
 ghost use Rattle.dv_syntax.specs.declared.tree.Prefix.TheVariants as prefix;
 ghost use Rattle.dv_syntax.specs.declared.tree.Operator.TheVariants as operator;
+ghost use Rattle.dv_bag.specs.declared.discipline.Change.TheVariants.{Add, Drop, Push};
 ghost use Rattle.dv_bag.specs.declared.fault.Fault.TheVariants as fault;
 ghost use Rattle.dv_bag.specs.declared.value.Value.TheVariants as outcome;
 ghost use Rattle.dv_eval.specs.Edges.{by_nothing, failing, faulty, greatest, holding, least, minus, number, too_great, value};
-ghost use Rattle.dv_eval.specs.Rows.{add_it, bag, effect_when, effect_with, elapsed_when, for_each, for_each_request, great};
-ghost use Rattle.dv_eval.specs.Rows.{least_is_one, left, nested, next_digit, requests, send_it, some_there, two_threes};
+ghost use Rattle.dv_eval.specs.Rows.{add_it, bag, effect_queued, effect_when, effect_with, elapsed_when, for_each};
+ghost use Rattle.dv_eval.specs.Rows.{for_each_request, great, least_is_one, left, nested, next_digit, ones, pop_one, push_it};
+ghost use Rattle.dv_eval.specs.Rows.{queue, queued, requests, send_it, some_there, turn_over, two_threes, value_queued};
 ghost use Rattle.dv_eval.specs.Rows.{value_when, value_with};
 
 /// Numbers have 64 bits and a sign. A quotient is rounded towards 0, and a remainder is what the exact quotient
@@ -70,17 +71,42 @@ pub fn bags_in_expressions()
 
 /// A bag takes values until it is full, and gives back what it has.
 pub fn bags_in_statements()
-    ensures one_more { effect_with two_threes (AddTo 1 (number 2) bag Done)
+    ensures one_more { effect_with two_threes (Changes Add 1 (number 2) bag Done)
         ≡ Ok (left (pos 0) ((pos 2, 2) ∷ (pos 3, 2) ∷ []) []) }
-    ensures last { effect_with ((pos 1, 5) ∷ []) (AddTo 1 (number 1) bag Done)
+    ensures last { effect_with ((pos 1, 5) ∷ []) (Changes Add 1 (number 1) bag Done)
         ≡ Ok (left (pos 0) ((pos 1, 6) ∷ []) []) }
-    ensures full { effect_with ((pos 1, 6) ∷ []) (AddTo 1 (number 1) bag Done) ≡ Err fault.Full }
-    ensures value_first { effect_with ((pos 1, 6) ∷ []) (AddTo 1 by_nothing bag Done)
+    ensures full { effect_with ((pos 1, 6) ∷ []) (Changes Add 1 (number 1) bag Done)
+        ≡ Err fault.Full }
+    ensures value_first { effect_with ((pos 1, 6) ∷ []) (Changes Add 1 by_nothing bag Done)
         ≡ Err fault.Divide }
-    ensures one_less { effect_with two_threes (Drop 1 (number 3) bag Done)
+    ensures one_less { effect_with two_threes (Changes Drop 1 (number 3) bag Done)
         ≡ Ok (left (pos 0) ((pos 2, 1) ∷ (pos 3, 1) ∷ []) []) }
-    ensures none_less { effect_with two_threes (Drop 1 (number 4) bag Done)
+    ensures none_less { effect_with two_threes (Changes Drop 1 (number 4) bag Done)
         ≡ Ok (left (pos 0) two_threes []) }
+{}
+
+/// Of a queue the values are counted, and the first one is read. An empty queue has no first value.
+pub fn queues_in_expressions()
+    ensures size { value_queued (pos 7 ∷ pos 3 ∷ pos 7 ∷ []) (Call call.Size 1 queue)
+        ≡ Ok (outcome.Number (pos 3)) }
+    ensures front { value_queued (pos 7 ∷ pos 3 ∷ []) (Call call.Front 1 queue)
+        ≡ Ok (outcome.Number (pos 7)) }
+    ensures no_front { value_queued [] (Call call.Front 1 queue) ≡ Err fault.Empty }
+{}
+
+/// A queue takes values behind those that it has until it is full, and loses the first one, if there is one. A fault of
+/// the value comes before one of the queue.
+pub fn queues_in_statements()
+    ensures pushed { effect_queued (pos 7 ∷ pos 3 ∷ []) (Changes Push 1 (number 5) queue Done)
+        ≡ Ok (queued (pos 0) (pos 7 ∷ pos 3 ∷ pos 5 ∷ [])) }
+    ensures last { effect_queued (ones 5) (Changes Push 1 (number 1) queue Done)
+        ≡ Ok (queued (pos 0) (ones 6)) }
+    ensures full { effect_queued (ones 6) (Changes Push 1 (number 1) queue Done)
+        ≡ Err fault.Full }
+    ensures value_first { effect_queued (ones 6) (Changes Push 1 by_nothing queue Done)
+        ≡ Err fault.Divide }
+    ensures popped { effect_queued (pos 7 ∷ pos 3 ∷ []) pop_one ≡ Ok (queued (pos 0) (pos 3 ∷ [])) }
+    ensures none_popped { effect_queued [] pop_one ≡ Err fault.Empty }
 {}
 
 /// A loop takes the values in ascending order, each copy once, of its bag as it stood when the loop began. The first
@@ -96,6 +122,18 @@ pub fn loops_walk_bags()
     ensures nothing { effect_with [] (for_each next_digit) ≡ Ok (left (pos 0) [] []) }
     ensures inner { effect_with ((pos 1, 1) ∷ (pos 2, 1) ∷ []) nested
         ≡ Ok (left (pos 1212) ((pos 1, 1) ∷ (pos 2, 1) ∷ []) []) }
+{}
+
+/// A loop over a queue takes the values from the first on, of the queue as it stood when the loop began, whatever the loop
+/// does with it.
+pub fn loops_walk_queues()
+    ensures in_order { effect_queued (pos 2 ∷ pos 1 ∷ pos 2 ∷ []) (for_each next_digit)
+        ≡ Ok (queued (pos 212) (pos 2 ∷ pos 1 ∷ pos 2 ∷ [])) }
+    ensures as_it_stood { effect_queued (pos 2 ∷ pos 1 ∷ []) (for_each (push_it Done))
+        ≡ Ok (queued (pos 0) (pos 2 ∷ pos 1 ∷ pos 2 ∷ pos 1 ∷ [])) }
+    ensures turned_over { effect_queued (pos 2 ∷ pos 1 ∷ pos 3 ∷ []) (for_each turn_over)
+        ≡ Ok (queued (pos 213) (pos 2 ∷ pos 1 ∷ pos 3 ∷ [])) }
+    ensures nothing { effect_queued [] (for_each pop_one) ≡ Ok (queued (pos 0) []) }
 {}
 
 /// A rule sees the bags that have arrived and the ticks since the last transition, and changes neither. What arrived is
@@ -120,6 +158,6 @@ pub fn rules_see_what_arrived()
         ≡ Ok (left (pos 0) [] two_threes) }
     ensures keeps { effect_when [] two_threes (for_each_request add_it)
         ≡ Ok (left (pos 0) two_threes []) }
-    ensures not_to_a_port { effect_when [] two_threes (AddTo 1 (number 2) requests Done)
+    ensures not_to_a_port { effect_when [] two_threes (Changes Add 1 (number 2) requests Done)
         ≡ Ok (left (pos 0) [] []) }
 {}

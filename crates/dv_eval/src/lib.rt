@@ -1,6 +1,8 @@
 //! The meaning of expressions and rules, on trees, over the names that an atomic model declares.
 #![tactic(auto)]
 
+/// The collections that names stand for.
+mod collection;
 /// The values of expressions.
 pub mod expression;
 /// Laws of rules and holds.

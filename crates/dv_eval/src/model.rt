@@ -3,6 +3,7 @@
 ghost use Rattle.std.specs.Prelude.{◌≡◌, ◌<◌, ◌^◌, IfOk, IfSome, option_map};
 ghost use Rattle.std.specs.Option.{option_copied};
 ghost use Rattle.dv_syntax.specs.Trees.{atomic_of, statements_of, ticks_of};
+ghost use Rattle.dv_bag.specs.Collections.{empty_of};
 ghost use Rattle.dv_eval.specs.Scope.{hold_ticks, rule_body, rule_of, same_sort, scope_of, start_data, start_datum, start_phase};
 ghost use Rattle.dv_eval.specs.Scope.{start_state, ticks_found};
 ghost use Rattle.dv_eval.specs.Meaning.{hold_of};
@@ -10,7 +11,7 @@ ghost use Rattle.dv_eval.specs.Meaning.{hold_of};
 use crate::expression::{eval, number_of};
 use crate::moment::{Context, Moment};
 use crate::scope::{Domain, Scope};
-use dv_bag::{Arrivals, Bag, Datum, Fault, HeldBag, State, Variables};
+use dv_bag::{Arrivals, Bag, Collection, Datum, Discipline, Fault, Held, Queue, State, Variables};
 use dv_syntax::{Atomic, RuleSort, Stmt, Ticks};
 use std::alloc::{AllocError, Global};
 
@@ -54,7 +55,20 @@ fn start_datum(alloc: Global, domain: Domain) -> Result<Datum, AllocError>
     match domain {
         Domain::Number(range) => Ok(Datum::Number(range.start)),
         Domain::Flag { start } => Ok(Datum::Flag(start)),
-        Domain::Bag { .. } => Ok(Datum::Bag(HeldBag::new(alloc, Bag::new(alloc))?)),
+        Domain::Held { discipline, .. } => {
+            let held = Held::new(alloc, empty_of(alloc, discipline))?;
+            Ok(Datum::Held(held))
+        }
+    }
+}
+
+// A collection without values.
+fn empty_of(alloc: Global, discipline: Discipline) -> Collection
+    ensures { result ≡ empty_of discipline }
+{
+    match discipline {
+        Discipline::Bag => Collection::Bag(Bag::new(alloc)),
+        Discipline::Queue => Collection::Queue(Queue::new(alloc)),
     }
 }
 

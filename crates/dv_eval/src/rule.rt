@@ -1,24 +1,28 @@
 //! What the rules of a phase do.
 
-ghost use Rattle.std.specs.Prelude.{◌≡◌, ◌∷◌, [], slice_get, unwrap_or, IfOk, Ok};
+ghost use Rattle.std.specs.Prelude.{◌≡◌, slice_get, IfOk, Ok};
 ghost use Rattle.dv_syntax.specs.Trees.{Done, expression_of, statement_before, statements_of};
 ghost use Rattle.dv_bag.specs.Bag.{values_of};
+ghost use Rattle.dv_bag.specs.Collections.{values_in};
 ghost use Rattle.dv_bag.specs.Outcome.{Gives};
 ghost use Rattle.dv_bag.specs.declared.state.Datum.TheVariants as datum;
 ghost use Rattle.dv_eval.specs.Steps.{repeated, step_with, with_value};
 ghost use Rattle.dv_eval.specs.Contexts.{context_of};
 ghost use Rattle.dv_bag.specs.Effects.{with_datum, with_state};
-ghost use Rattle.dv_eval.specs.Meaning.{addition, addition_to, assignment, assignment_in_range, bag_of_name, effect_of, in_loop};
-ghost use Rattle.dv_eval.specs.Meaning.{meaning, moment_in, number_of, removal, repetition, run, sending};
+ghost use Rattle.dv_eval.specs.Meaning.{assignment, assignment_in_range, changing, changing_to, collection_of_name, command_effect};
+ghost use Rattle.dv_eval.specs.Meaning.{effect_of, in_loop, meaning, moment_in, number_of, popping, repetition, run, sending};
 ghost use Rattle.dv_eval.specs.Meaning.{with_goto};
 
-use crate::expression::{bag_of_name, eval, number_of, truth_of};
+use crate::collection::collection_of_name;
+use crate::expression::{eval, number_of, truth_of};
 use crate::moment::{Context, Moment};
 use crate::scope::{Domain, Scope, VariableRange};
 use dv_bag::limits::{test_flood, test_range, test_room};
-use dv_bag::{Arrivals, Bag, DatumView, Effect, Fault, RuleError, Sent, State, Value};
+use dv_bag::{
+    Arrivals, Change, Collection, DatumView, Effect, Fault, RuleError, Sent, State, Value,
+};
 use dv_syntax::laws::trees_keep_blocks;
-use dv_syntax::{Expr, Stmt};
+use dv_syntax::{Command, Expr, Stmt};
 use std::alloc::{AllocError, Global};
 
 /// A step that takes a value: what it speaks of, by name.
@@ -26,16 +30,16 @@ use std::alloc::{AllocError, Global};
 pub(crate) enum Step {
     Assign(u32),
     Send(u32),
-    Add(u32),
-    Drop(u32),
+    Change(Change, u32),
 }
 
 /// The effect of a rule's statements on a state, with what has arrived.
 ///
 /// # Errors
 ///
-/// The first fault: one of an expression, `Range` of an assignment, `Full` of a bag that takes one more value than it
-/// may hold, `Flood` of the 4,097th value that is sent. Or no memory.
+/// The first fault: one of an expression, `Range` of an assignment, `Full` of a bag or a queue that takes one more value
+/// than it may hold, `Empty` of a queue that has no first value to lose, `Flood` of the 4,097th value that is sent. Or no
+/// memory.
 pub fn run_rule(
     alloc: Global,
     statements: &[Stmt],
@@ -51,12 +55,19 @@ pub fn run_rule(
         sent: Sent::empty(alloc, scope.output_count()),
         goto: None,
     };
-    run(statements, &Context::Outermost(arrivals), scope, effect)
+    run(
+        alloc,
+        statements,
+        &Context::Outermost(arrivals),
+        scope,
+        effect,
+    )
 }
 
 // What statements do, one after the other.
 #[cycle(run)]
 fn run(
+    alloc: Global,
     statements: &[Stmt],
     context: &Context,
     scope: &Scope,
@@ -66,13 +77,14 @@ fn run(
         (run scope.now (context_of context.now) (statements_of statements.now) effect) }
 {
     for statement in statements {
-        effect = run_statement(statement, context, scope, effect)?;
+        effect = run_statement(alloc, statement, context, scope, effect)?;
     }
     Ok(effect)
 }
 
 #[cycle(run)]
 fn run_statement(
+    alloc: Global,
     statement: &Stmt,
     context: &Context,
     scope: &Scope,
@@ -90,7 +102,7 @@ fn run_statement(
             scope,
             effect,
         ),
-        Stmt::Goto { phase, .. } => Ok(with_goto(scope.phase(phase.number), effect)),
+        Stmt::Command { command, name, .. } => obey(*command, name.number, scope, effect),
         Stmt::Send { port, value, .. } => {
             run_step(Step::Send(port.number), value, context, scope, effect)
         }
@@ -101,7 +113,7 @@ fn run_statement(
         } => {
             let condition = value_of(condition, &effect.state, context, scope)?;
             if truth_of(condition) {
-                run(&then_block.statements, context, scope, effect)
+                run(alloc, &then_block.statements, context, scope, effect)
             } else {
                 Ok(effect)
             }
@@ -114,9 +126,9 @@ fn run_statement(
         } => {
             let condition = value_of(condition, &effect.state, context, scope)?;
             if truth_of(condition) {
-                run(&then_block.statements, context, scope, effect)
+                run(alloc, &then_block.statements, context, scope, effect)
             } else {
-                run(&else_block.statements, context, scope, effect)
+                run(alloc, &else_block.statements, context, scope, effect)
             }
         }
         Stmt::For {
@@ -124,29 +136,37 @@ fn run_statement(
             bag,
             block,
             ..
-        } => match bag_at_entry(bag.number, &effect.state, context, scope)? {
-            Some(values) => run_loop(
-                values.pairs(),
+        } => {
+            let pairs = pairs_at_entry(alloc, bag.number, &effect.state, context, scope)?;
+            run_loop(
+                alloc,
+                &pairs,
                 variable.number,
                 &block.statements,
                 context,
                 scope,
                 effect,
-            ),
-            None => Ok(effect),
-        },
-        Stmt::Add { value, bag, .. } => {
-            run_step(Step::Add(bag.number), value, context, scope, effect)
+            )
         }
-        Stmt::Drop { value, bag, .. } => {
-            run_step(Step::Drop(bag.number), value, context, scope, effect)
-        }
+        Stmt::Change {
+            change,
+            value,
+            collection,
+            ..
+        } => run_step(
+            Step::Change(*change, collection.number),
+            value,
+            context,
+            scope,
+            effect,
+        ),
     }
 }
 
 // What a block does for each of the values in their order, each copy once.
 #[cycle(run)]
 fn run_loop(
+    alloc: Global,
     pairs: &[(i64, u64)],
     variable: u32,
     block: &[Stmt],
@@ -165,7 +185,7 @@ fn run_loop(
             value: pair.0,
             outer: &*context,
         };
-        effect = run_copies(pair.1, block, &within, scope, effect)?;
+        effect = run_copies(alloc, pair.1, block, &within, scope, effect)?;
     }
     Ok(effect)
 }
@@ -173,6 +193,7 @@ fn run_loop(
 // What a block does for so many copies of one value.
 #[cycle(run)]
 fn run_copies(
+    alloc: Global,
     copies: u64,
     block: &[Stmt],
     context: &Context,
@@ -184,25 +205,25 @@ fn run_copies(
         copies effect) }
 {
     for _ in 0..copies {
-        effect = run(block, context, scope, effect)?;
+        effect = run(alloc, block, context, scope, effect)?;
     }
     Ok(effect)
 }
 
-// The bag that a name stands for, to be walked while the state changes.
-fn bag_at_entry(
+// The values of the collection that a name stands for, to be walked while the state changes.
+fn pairs_at_entry(
+    alloc: Global,
     name: u32,
     state: &State,
     context: &Context,
     scope: &Scope,
-) -> Result<Option<Bag>, AllocError>
-    ensures { IfOk result (λ bag. unwrap_or bag []
-        ≡ bag_of_name scope.now (moment_in (context_of context.now) state.now) name) }
+) -> Result<Vec<(i64, u64)>, AllocError>
+    ensures { IfOk result (λ pairs. values_of pairs.items ≡ values_in
+        (collection_of_name scope.now (moment_in (context_of context.now) state.now) name)) }
 {
-    match bag_of_name(name, &Moment { state, context }, scope) {
-        Some(bag) => Ok(Some(bag.clone()?)),
-        None => Ok(None),
-    }
+    let moment = Moment { state, context };
+    let collection = collection_of_name(name, &moment, scope);
+    collection.pairs(alloc)
 }
 
 fn value_of(
@@ -232,8 +253,9 @@ fn run_step(
     match step {
         Step::Assign(variable) => Ok(assign(variable, value, scope, effect)?),
         Step::Send(port) => send(port, value, scope, effect),
-        Step::Add(bag) => add(bag, number_of(value), scope, effect),
-        Step::Drop(bag) => Ok(drop_one(bag, number_of(value), scope, effect)),
+        Step::Change(change, collection) => {
+            edit(change, collection, number_of(value), scope, effect)
+        }
     }
 }
 
@@ -248,7 +270,7 @@ fn assign(name: u32, value: Value, scope: &Scope, effect: Effect) -> Result<Effe
         None => Ok(effect),
         Some(Domain::Number(range)) => assign_number(range, place, number_of(value), effect),
         Some(Domain::Flag { .. }) => Ok(assign_flag(place, truth_of(value), effect)),
-        Some(Domain::Bag { .. }) => Ok(effect),
+        Some(Domain::Held { .. }) => Ok(effect),
     }
 }
 
@@ -277,6 +299,16 @@ fn assign_flag(place: usize, truth: bool, mut effect: Effect) -> Effect
     effect
 }
 
+// What a command does with a name.
+fn obey(command: Command, name: u32, scope: &Scope, effect: Effect) -> Result<Effect, RuleError>
+    ensures { Gives result (command_effect scope.now command name effect) }
+{
+    match command {
+        Command::Goto => Ok(with_goto(scope.phase(name), effect)),
+        Command::Pop => Ok(pop(name, scope, effect)?),
+    }
+}
+
 fn with_goto(phase: Option<u32>, mut effect: Effect) -> Effect
     ensures { result ≡ with_goto phase effect }
 {
@@ -300,46 +332,62 @@ fn send(name: u32, value: Value, scope: &Scope, mut effect: Effect) -> Result<Ef
     Ok(effect)
 }
 
-// A number added to a state bag.
-fn add(name: u32, number: i64, scope: &Scope, effect: Effect) -> Result<Effect, RuleError>
-    ensures { Gives result (addition scope.now name number effect) }
+// A number changes a collection of the state.
+fn edit(
+    change: Change,
+    name: u32,
+    number: i64,
+    scope: &Scope,
+    effect: Effect,
+) -> Result<Effect, RuleError>
+    ensures { Gives result (changing scope.now change name number effect) }
 {
     let Some(place) = scope.variable(name) else {
         return Ok(effect);
     };
     match scope.domain(place) {
-        Some(Domain::Bag { capacity }) => add_within(capacity, place, number, effect),
+        Some(Domain::Held { capacity, .. }) => edit_within(change, capacity, place, number, effect),
         _ => Ok(effect),
     }
 }
 
-// A number added to the bag at a place, if there is one.
-fn add_within(
+// A number changes the collection at a place, if there is one that the change can change.
+fn edit_within(
+    change: Change,
     capacity: u64,
     place: usize,
     number: i64,
     mut effect: Effect,
 ) -> Result<Effect, RuleError>
-    ensures { Gives result
-        (addition_to (Some capacity) (slice_get effect.state.variables place) place number effect) }
+    ensures { Gives result (changing_to change (Some capacity)
+        (slice_get effect.state.variables place) place number effect) }
 {
-    let Some(DatumView::Bag(bag)) = effect.state.variables.get(place) else {
+    let Some(DatumView::Held(held)) = effect.state.variables.get(place) else {
         return Ok(effect);
     };
-    test_room(bag, capacity)?;
-    effect.state.variables.insert(place, number)?;
+    if held.discipline() != change.discipline() {
+        return Ok(effect);
+    }
+    if change.makes_more() {
+        test_room(held.count(), capacity)?;
+    }
+    effect.state.variables.edit(change, place, number)?;
     Ok(effect)
 }
 
-// One copy of a number less in a state bag, where there is one.
-fn drop_one(name: u32, number: i64, scope: &Scope, mut effect: Effect) -> Effect
-    ensures { result ≡ removal scope.now name number effect }
+// A queue of the state loses its first value.
+fn pop(name: u32, scope: &Scope, mut effect: Effect) -> Result<Effect, Fault>
+    ensures { result ≡ popping scope.now name effect }
 {
     let Some(place) = scope.variable(name) else {
-        return effect;
+        return Ok(effect);
     };
-    if let Some(DatumView::Bag(_)) = effect.state.variables.get(place) {
-        effect.state.variables.drop_one(place, number);
+    let Some(DatumView::Held(Collection::Queue(queue))) = effect.state.variables.get(place) else {
+        return Ok(effect);
+    };
+    if queue.len() == 0 {
+        return Err(Fault::Empty);
     }
-    effect
+    effect.state.variables.pop(place);
+    Ok(effect)
 }

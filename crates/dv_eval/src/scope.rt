@@ -7,6 +7,7 @@ ghost use Rattle.dv_eval.specs.Scope.{bound_value, inputs_in, names_of, nothing_
 ghost use Rattle.dv_eval.specs.Scope.{range_of, scope_of, state_variable_of, state_variables_in, with_name, with_names};
 ghost use Rattle.dv_eval.specs.Scope.{with_variable, with_variables};
 
+use dv_bag::Discipline;
 use dv_syntax::{Atomic, Bound, Declaration, Name, Phases, Variable};
 use indexmap::{IndexMap, IndexSet};
 use std::alloc::{AllocError, Global};
@@ -49,9 +50,14 @@ pub enum Domain {
     /// The numbers of a range.
     Number(VariableRange),
     /// A truth value.
-    Flag { start: bool },
-    /// A bag of at most so many values, each copy counted. It is empty at the start.
-    Bag { capacity: u64 },
+    Flag {
+        start: bool,
+    },
+    /// A bag or a queue of at most so many values, each copy counted. It is empty at the start.
+    Held {
+        discipline: Discipline,
+        capacity: u64,
+    },
 }
 
 /// The name of the state variable that a declaration declares, and what it may hold.
@@ -64,9 +70,12 @@ pub fn state_variable_of(declaration: &Declaration) -> Option<(Name, Domain)>
             Some((variable.name, Domain::Number(VariableRange::of(variable))))
         }
         Declaration::Flag(flag) => Some((flag.name, Domain::Flag { start: flag.start })),
-        Declaration::Bag(bag) => {
-            let capacity = bag.capacity.value.value() as u64;
-            Some((bag.name, Domain::Bag { capacity }))
+        Declaration::Held(collection) => {
+            let domain = Domain::Held {
+                discipline: collection.discipline,
+                capacity: collection.capacity.value.value() as u64,
+            };
+            Some((collection.name, domain))
         }
     }
 }
@@ -126,7 +135,7 @@ impl Scope {
         })
     }
 
-    /// The place of a variable, a flag or a bag.
+    /// The place of a variable, a flag, a bag or a queue.
     pub fn variable(&self, name: u32) -> Option<usize>
         ensures { result ≡ place_of name (names_of self.now.variables) }
     {
@@ -155,7 +164,7 @@ impl Scope {
         self.outputs.get_index_of(&name)
     }
 
-    /// What the variable, flag or bag at a place may hold.
+    /// What the variable, flag, bag or queue at a place may hold.
     pub fn domain(&self, place: usize) -> Option<Domain>
         ensures { result ≡ option_map (λ v. v.1) (slice_get self.now.variables place) }
     {
@@ -170,14 +179,14 @@ impl Scope {
         self.phases.get_index(place as usize).copied()
     }
 
-    /// The names of the variables, flags and bags by place.
+    /// The names of the variables, flags, bags and queues by place.
     pub fn variables(&self) -> &[u32]
         ensures { result.now ≡ names_of self.now.variables }
     {
         self.variables.keys().as_slice()
     }
 
-    /// What the variables, flags and bags may hold, by place.
+    /// What the variables, flags, bags and queues may hold, by place.
     pub fn domains(&self) -> &[Domain]
         ensures { result.now ≡ map (λ v. v.1) self.now.variables }
     {

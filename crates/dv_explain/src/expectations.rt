@@ -1,6 +1,6 @@
 //! What may stand at a place of a text.
 
-use crate::grammar::{FILE, Part};
+use crate::grammar::{Called, FILE, Part, knows_queues};
 use dv_lex::{Token, TokenKind};
 use std::alloc::{AllocError, Global};
 use std::fmt;
@@ -9,6 +9,8 @@ use std::fmt;
 #[derive(Drop)]
 pub struct Expectations {
     pub parts: Vec<Part>,
+    /// Whether the text knows the words of queues.
+    pub knows_queues: bool,
 }
 
 /// What may stand at a place, where the tokens before it begin a text. `place` is the number of bytes before it.
@@ -29,7 +31,10 @@ pub fn expectations_at(
             break;
         }
     }
-    Ok(Expectations { parts })
+    Ok(Expectations {
+        parts,
+        knows_queues: knows_queues(tokens),
+    })
 }
 
 /// What is owed at a place, the nearest last.
@@ -93,7 +98,11 @@ impl fmt::Display for Expectations {
             } else {
                 ", "
             };
-            write!(f, "{separator}{part}")?;
+            let called = Called {
+                part,
+                knows_queues: self.knows_queues,
+            };
+            write!(f, "{separator}{called}")?;
         }
         Ok(())
     }

@@ -3,7 +3,7 @@
 //! What is owed is a list of parts. A token begins the first of them that is not passed over, and that part is replaced
 //! by what is owed behind the token.
 
-use dv_lex::{Keyword, Symbol, TokenKind};
+use dv_lex::{Keyword, Symbol, Token, TokenKind};
 use std::fmt;
 
 /// A part of the grammar that is owed at a place of a text.
@@ -17,7 +17,7 @@ pub enum Part {
     Number,
     /// A header, or none.
     Header,
-    /// The number of the version.
+    /// The number of a version.
     Version,
     /// Models, or none.
     Models,
@@ -72,7 +72,8 @@ const RANGE: Part = Part::Sign(Symbol::Range, "..");
 
 const EQUAL: Part = Part::Sign(Symbol::Equal, "=");
 
-const ASSIGN: Part = Part::Sign(Symbol::Assign, ":=");
+/// What stands between a variable and its value in a statement.
+pub const ASSIGN: Part = Part::Sign(Symbol::Assign, ":=");
 
 const ARROW: Part = Part::Sign(Symbol::Arrow, "->");
 
@@ -124,7 +125,7 @@ impl Part {
             Part::Name => nothing_if(matches!(kind, TokenKind::Name(_))),
             Part::Number => nothing_if(matches!(kind, TokenKind::Number(_))),
             Part::Header => header_behind(kind),
-            Part::Version => nothing_if(is_version(*kind)),
+            Part::Version => nothing_if(is_version(kind)),
             Part::Models => model_behind(kind),
             Part::Items => item_behind(kind),
             Part::CoupledItems => coupled_item_behind(kind),
@@ -173,12 +174,27 @@ fn header_behind(kind: &TokenKind) -> Option<&'static [Part]> {
     }
 }
 
-/// Whether a token is the number of the version.
-fn is_version(kind: TokenKind) -> bool {
-    let TokenKind::Number(number) = kind else {
-        return false;
-    };
-    number.value() == 1
+/// Whether a token is the number of a version.
+fn is_version(kind: &TokenKind) -> bool {
+    is_number(kind, 1) || is_number(kind, 2)
+}
+
+/// Whether a token is this number.
+fn is_number(kind: &TokenKind, value: i64) -> bool {
+    match kind {
+        TokenKind::Number(number) => number.value() == value,
+        _ => false,
+    }
+}
+
+/// Whether a text of these tokens knows the words of queues: it has a header of version 2.
+pub fn knows_queues(tokens: &[Token]) -> bool {
+    match tokens {
+        [first, second, ..] => {
+            first.kind == TokenKind::Keyword(Keyword::Version) && is_number(&second.kind, 2)
+        }
+        _ => false,
+    }
 }
 
 fn model_behind(kind: &TokenKind) -> Option<&'static [Part]> {
@@ -209,7 +225,9 @@ fn item_behind(kind: &TokenKind) -> Option<&'static [Part]> {
             SEMICOLON,
         ]),
         TokenKind::Keyword(Keyword::Flag) => Some(&[Part::Name, EQUAL, Part::Truth, SEMICOLON]),
-        TokenKind::Keyword(Keyword::Bag) => Some(&[Part::Name, Part::Number, SEMICOLON]),
+        TokenKind::Keyword(Keyword::Bag | Keyword::Queue) => {
+            Some(&[Part::Name, Part::Number, SEMICOLON])
+        }
         TokenKind::Keyword(Keyword::Phases) => Some(&[Part::Name, Part::Names, SEMICOLON]),
         TokenKind::Keyword(Keyword::Hold) => Some(&[Part::Name, COLON, Part::Ticks, SEMICOLON]),
         TokenKind::Keyword(
@@ -233,9 +251,11 @@ fn coupled_item_behind(kind: &TokenKind) -> Option<&'static [Part]> {
 fn statement_behind(kind: &TokenKind) -> Option<&'static [Part]> {
     match kind {
         TokenKind::Name(_) => Some(&[ASSIGN, Part::Expression, SEMICOLON]),
-        TokenKind::Keyword(Keyword::Goto) => Some(&[Part::Name, SEMICOLON]),
+        TokenKind::Keyword(Keyword::Goto | Keyword::Pop) => Some(&[Part::Name, SEMICOLON]),
         TokenKind::Keyword(Keyword::Send) => Some(&[Part::Name, Part::Expression, SEMICOLON]),
-        TokenKind::Keyword(Keyword::Add) => Some(&[Part::Expression, TO, Part::Name, SEMICOLON]),
+        TokenKind::Keyword(Keyword::Add | Keyword::Push) => {
+            Some(&[Part::Expression, TO, Part::Name, SEMICOLON])
+        }
         TokenKind::Keyword(Keyword::Drop) => {
             Some(&[Part::Expression, FROM, Part::Name, SEMICOLON])
         }
@@ -305,9 +325,9 @@ fn operand_behind(kind: &TokenKind) -> Option<&'static [Part]> {
     match kind {
         TokenKind::Name(_) | TokenKind::Number(_) => Some(&[]),
         TokenKind::Keyword(Keyword::True | Keyword::False | Keyword::Elapsed) => Some(&[]),
-        TokenKind::Keyword(Keyword::Size | Keyword::Sum | Keyword::Least | Keyword::Most) => {
-            Some(&[OPEN_PAREN, Part::Name, CLOSE_PAREN])
-        }
+        TokenKind::Keyword(
+            Keyword::Size | Keyword::Sum | Keyword::Least | Keyword::Most | Keyword::Front,
+        ) => Some(&[OPEN_PAREN, Part::Name, CLOSE_PAREN]),
         TokenKind::Keyword(Keyword::Times) => Some(&[
             OPEN_PAREN,
             Part::Expression,
@@ -371,23 +391,40 @@ pub fn is_comparison(symbol: Symbol) -> bool {
     )
 }
 
-impl fmt::Display for Part {
+/// A part as it is called in a text that knows the words of queues, or in one that does not.
+#[derive(Clone, Copy)]
+pub struct Called<'a> {
+    pub part: &'a Part,
+    pub knows_queues: bool,
+}
+
+impl fmt::Display for Called<'_> {
     fn fmt<W: fmt::Write>(&self, f: &mut fmt::Formatter<W>) -> fmt::Result {
-        match self {
+        match self.part {
             Part::Sign(_, text) | Part::Word(_, text) => write!(f, "`{text}`"),
-            _ => f.write_str(words_of(self)),
+            Part::Items if self.knows_queues => f.write_str(ITEMS_WITH_QUEUES),
+            Part::Statements if self.knows_queues => f.write_str(STATEMENTS_WITH_QUEUES),
+            part => f.write_str(words_of(part)),
         }
     }
 }
 
-/// What a part is called, where it is not one sign or word.
+/// What items of an atomic model are called in a text that knows the words of queues.
+const ITEMS_WITH_QUEUES: &str =
+    "an item of an atomic model (`in`, `out`, `var`, `flag`, `bag`, `queue`, `phases`, `start`, `hold`, `output`, `internal`, `external`, `confluent`)";
+
+/// What statements are called in a text that knows the words of queues.
+const STATEMENTS_WITH_QUEUES: &str =
+    "a statement (`NAME :=`, `goto`, `send`, `if`, `for`, `add`, `drop`, `push`, `pop`)";
+
+/// What a part is called, where it is not one sign or word, in a text that does not know the words of queues.
 fn words_of(part: &Part) -> &'static str {
     match part {
         Part::Sign(..) | Part::Word(..) => "",
         Part::Name => "a name",
         Part::Number | Part::Bound => "a number",
-        Part::Header => "a header (`version 1;`)",
-        Part::Version => "the number 1",
+        Part::Header => "a header (`version 1;`, `version 2;`)",
+        Part::Version => "the number 1 or 2",
         Part::Models => "a model (`atomic`, `coupled`)",
         Part::Items => {
             "an item of an atomic model (`in`, `out`, `var`, `flag`, `bag`, `phases`, `start`, `hold`, `output`, `internal`, `external`, `confluent`)"

@@ -1,10 +1,10 @@
 //! A token that can't stand where it stands: what may stand there, what was met, and what seems to be meant.
 
 use crate::expectations::{Expectations, expectations_at};
-use crate::grammar::{DOT, Part, SEMICOLON, is_comparison};
+use crate::grammar::{ASSIGN, DOT, Part, SEMICOLON, is_comparison};
 use crate::met::met_at;
 use crate::slips::{begins_line, slip_at};
-use dv_lex::{Keyword, Symbol, Token, TokenKind, tokens};
+use dv_lex::{Keyword, Symbol, Token, TokenKind, Tokens, tokens};
 use std::alloc::{AllocError, Global};
 
 /// Sentences on the first token with which no text goes on, each with a line feed: what may stand at its place and what was
@@ -25,8 +25,55 @@ pub fn unexpected_at(alloc: Global, text: &[u8], place: usize) -> Result<String,
         .skip_while(|token| (token.place as usize) < place);
     let token = behind.next();
     let met = met_at(str::from_utf8(text).unwrap_or(""), &read.names, token);
-    let hint = hint_at(text, place, &expected, token, behind.next());
+    let slip = slip_at(text, place);
+    let hint = if !slip.is_empty() {
+        slip
+    } else if lacks_version(&expected, &read, place) {
+        WITHOUT_QUEUES
+    } else {
+        hint_at(text, place, &expected, token, behind.next())
+    };
     format!(in alloc; "Expected {expected}, but met {met}.\n{hint}")
+}
+
+/// What is told of a word of queues in a text that does not know it.
+const WITHOUT_QUEUES: &str =
+    "Queues are known in a text that begins with `version 2;`: in others `queue`, `push`, `pop` and `front` are names.\n";
+
+/// Whether a name that stands at the place, or just before it, seems to be meant as a word of queues.
+fn lacks_version(expected: &Expectations, read: &Tokens, place: usize) -> bool {
+    let number = read
+        .tokens
+        .iter()
+        .take_while(|token| (token.place as usize) < place)
+        .count();
+    let before = number.saturating_sub(1);
+    if expected.have(Part::Items) {
+        is_name(read, number, "queue")
+    } else if expected.have(ASSIGN) {
+        is_name(read, before, "push") || is_name(read, before, "pop")
+    } else {
+        opens_parenthesis(read, number) && is_name(read, before, "front")
+    }
+}
+
+/// Whether the token with so many before it is a name that is so written.
+fn is_name(read: &Tokens, number: usize, text: &str) -> bool {
+    match read.tokens.get(number) {
+        Some(token) => match token.kind {
+            TokenKind::Name(name) => read.names.text(name).unwrap_or("") == text,
+            _ => false,
+        },
+        None => false,
+    }
+}
+
+/// Whether the token with so many before it is an opening parenthesis.
+fn opens_parenthesis(read: &Tokens, number: usize) -> bool {
+    match read.tokens.get(number) {
+        Some(token) => token.kind == TokenKind::Symbol(Symbol::OpenParen),
+        None => false,
+    }
 }
 
 /// A sentence on what seems to be meant, with a line feed, or nothing.
@@ -37,10 +84,6 @@ fn hint_at(
     token: Option<&Token>,
     next: Option<&Token>,
 ) -> &'static str {
-    let slip = slip_at(text, place);
-    if !slip.is_empty() {
-        return slip;
-    }
     if expected.have(SEMICOLON) && begins_line(text, place) {
         return "It begins a line: the line before may lack its `;`.\n";
     }

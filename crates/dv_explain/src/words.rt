@@ -54,7 +54,7 @@ const REFUSALS: &[Explanation] = &[
     },
     Explanation {
         code: "E4",
-        words: "This token can't stand here. It is the first one with which no text goes on; where a text ends too early, its end is named. Look just before it, too: a missing `;`, `:` or `}` is found at the token after it. A reserved word can't be a name. A text may begin with `version 1;`, and no other version is known. `--explain` says what may stand there, and the grammar is in `docs/REFERENCE.md`.",
+        words: "This token can't stand here. It is the first one with which no text goes on; where a text ends too early, its end is named. Look just before it, too: a missing `;`, `:` or `}` is found at the token after it. A reserved word can't be a name; `queue`, `push`, `pop` and `front` are reserved in a text that begins with `version 2;`, and names in all others. A text may begin with `version 1;` or `version 2;`, and no other version is known. `--explain` says what may stand there, and the grammar is in `docs/REFERENCE.md`.",
         example: Some(Example {
             model: "coupled T { part a A; }\nroot T;\n",
             inputs: "",
@@ -76,7 +76,7 @@ const REFUSALS: &[Explanation] = &[
     },
     Explanation {
         code: "E6",
-        words: "A name is declared twice. The second one is named. Ports, variables, flags and bags of an atomic model share their names, and a loop has another name than these and than the loops around it; so do models, the phases of a model, its parts, and the ports of a coupled model; and a phase has one rule of each sort. Give one of the two another name.",
+        words: "A name is declared twice. The second one is named. Ports, variables, flags, bags and queues of an atomic model share their names, and a loop has another name than these and than the loops around it; so do models, the phases of a model, its parts, and the ports of a coupled model; and a phase has one rule of each sort. Give one of the two another name.",
         example: Some(Example {
             model: "atomic A { out y; var y: 0..1 = 0; phases z; start z; hold z: 1; }\nroot A;\n",
             inputs: "",
@@ -87,7 +87,7 @@ const REFUSALS: &[Explanation] = &[
     },
     Explanation {
         code: "E7",
-        words: "This name is unknown. Declare the model, part, port, variable, flag, bag or phase, or mend its spelling; the variable of a loop is known in its block alone.",
+        words: "This name is unknown. Declare the model, part, port, variable, flag, bag, queue or phase, or mend its spelling; the variable of a loop is known in its block alone.",
         example: Some(Example {
             model: "coupled T { part a: A; }\nroot T;\n",
             inputs: "",
@@ -98,7 +98,7 @@ const REFUSALS: &[Explanation] = &[
     },
     Explanation {
         code: "E8",
-        words: "The type is wrong. The first token of the expression is named, or a name of another sort than its place wants. Numbers are wanted by arithmetic, by `<` and its like, by `send`, `add`, `drop`, `times` and by holds; truth values by conditions, `not`, `and` and `or`; `=` and `!=` want two of one type; a variable takes a number and a flag a truth value; a bag stands in `for`, `add`, `drop` and in the calls on bags, and nowhere else.",
+        words: "The type is wrong. The first token of the expression is named, or a name of another sort than its place wants. Numbers are wanted by arithmetic, by `<` and its like, by `send`, `add`, `drop`, `push`, `times` and by holds; truth values by conditions, `not`, `and` and `or`; `=` and `!=` want two of one type; a variable takes a number and a flag a truth value; a bag stands in `for`, `add`, `drop` and in all calls but `front`, a queue in `for`, `push`, `pop`, `size` and `front`, and neither elsewhere.",
         example: Some(Example {
             model: "atomic A { phases z; start z; hold z: true; }\nroot A;\n",
             inputs: "",
@@ -109,7 +109,7 @@ const REFUSALS: &[Explanation] = &[
     },
     Explanation {
         code: "E9",
-        words: "This is not allowed in a rule of this sort. The first token of the statement is named. Send in an output rule; assign, `goto`, `add` and `drop` in the others. `elapsed` is known in external rules, and what came to an input port in external and confluent ones; there the word or the port is named. Nothing is assigned to the variable of a loop: declare a variable for what has to stay.",
+        words: "This is not allowed in a rule of this sort. The first token of the statement is named. Send in an output rule; assign, `goto`, `add`, `drop`, `push` and `pop` in the others. `elapsed` is known in external rules, and what came to an input port in external and confluent ones; there the word or the port is named. Nothing is assigned to the variable of a loop: declare a variable for what has to stay.",
         example: Some(Example {
             model: "atomic A { out y; phases z; start z; hold z: 1; internal z { send y 1; } }\nroot A;\n",
             inputs: "",
@@ -197,7 +197,7 @@ const REFUSALS: &[Explanation] = &[
     },
     Explanation {
         code: "E17",
-        words: "A limit on size is passed. The name that is too many is named, or the capacity of a bag; line 1 where the text is too long. The root's name is named where the tree of its parts passes a limit: it has 1 to 4,096 components, at most 8,192 atomic and coupled models, each counted as often as it is a part and the root once, and coupled models lie at most 16 deep in one another, the root counted; and where nothing else is refused, with more than 65,536 links: ways from an output of a component or an input of the root to an input of a component or an output of the root, through the models between. An atomic model has at most 4,096 ports, 4,096 variables, flags and bags together, and 4,096 phases, and a bag holds 1 to 4,096 numbers; a coupled model has at most 4,096 ports and 4,096 parts; a text 16,777,216 bytes.",
+        words: "A limit on size is passed. The name that is too many is named, or the capacity of a bag or a queue; line 1 where the text is too long. The root's name is named where the tree of its parts passes a limit: it has 1 to 4,096 components, at most 8,192 atomic and coupled models, each counted as often as it is a part and the root once, and coupled models lie at most 16 deep in one another, the root counted; and where nothing else is refused, with more than 65,536 links: ways from an output of a component or an input of the root to an input of a component or an output of the root, through the models between. An atomic model has at most 4,096 ports, 4,096 variables, flags, bags and queues together, and 4,096 phases, and a bag or a queue holds 1 to 4,096 numbers; a coupled model has at most 4,096 ports and 4,096 parts; a text 16,777,216 bytes.",
         example: Some(Example {
             model: "coupled T { }\nroot T;\n",
             inputs: "",
@@ -337,7 +337,7 @@ const FAULTS: &[Explanation] = &[
     },
     Explanation {
         code: "empty",
-        words: "`least` or `most` of a bag that is empty. Ask before: `if size(b) > 0 and least(b) = 1` is false where `b` is empty.",
+        words: "`least` or `most` of an empty bag, or `front` or `pop` of an empty queue. Ask before: `if size(b) > 0 and least(b) = 1` is false where `b` is empty.",
         example: Some(Example {
             model: "atomic A { out y; bag b 1; phases z; start z; hold z: 1; output z { send y least(b); } }\ncoupled T { part a: A; }\nroot T;\n",
             inputs: "",
@@ -348,7 +348,7 @@ const FAULTS: &[Explanation] = &[
     },
     Explanation {
         code: "full",
-        words: "An `add` to a bag that holds its capacity. Declare a greater one, or ask for its `size` before.",
+        words: "An `add` to a bag, or a `push` to a queue, that holds its capacity. Declare a greater one, or ask for its `size` before.",
         example: Some(Example {
             model: "atomic A { bag b 1; phases z; start z; hold z: 1; internal z { add 7 to b; } }\ncoupled T { part a: A; }\nroot T;\n",
             inputs: "",

@@ -3,17 +3,22 @@ use Rattle.std.proofs.Common.{◌≡◌, ℕ, true, false, not, List, [], ◌∷
 use Rattle.std.specs.List.{All, AllByRecursion, flat_map}
 use Rattle.std.proofs.lemmas.List.Elements.{All-from_recursion}
 use Rattle.dv_lex.specs.declared.error.RefusalNumber.TheVariants.{E9}
-use Rattle.dv_syntax.specs.Trees.{AtomicTree, HoldTree, RuleTree, Expression, Statements, Done, Assign, Goto, Send, If, IfElse, For}
+use Rattle.dv_syntax.specs.Trees.{AtomicTree, HoldTree, RuleTree, Expression, Statements, Done, Assign, Does, Send, If, IfElse}
+use Rattle.dv_syntax.specs.Trees.{For, Changes}
+use Rattle.dv_syntax.specs.declared.tree.Command.{Command}
 use Rattle.dv_syntax.specs.declared.tree.Name.{Name}
+use Rattle.dv_bag.specs.Collections.{discipline_of_change}
+use Rattle.dv_bag.specs.declared.discipline.Change.{Change}
 use Rattle.dv_bag.specs.declared.value.ValueType.TheVariants.{Number, Truth}
+use Rattle.dv_check.specs.declared.wanted.Wanted.TheVariants as want
 use Rattle.dv_check.specs.Names.{refusal_if}
-use Rattle.dv_check.specs.Rules.{assignment_refusals, atomic_refusals, change_refusals, changed_bag_refusals, hold_refusals}
-use Rattle.dv_check.specs.Rules.{is_output_rule, known_in, known_in_loop, known_in_rule, loop_variable_refusals, phase_refusals}
-use Rattle.dv_check.specs.Rules.{rule_refusals, sent_port_refusals, statements_refusals, ticks_refusals}
-use Rattle.dv_check.specs.Types.{Known, bag_name_refusals, is_bag, place_refusals, type_of_name, value_refusals}
+use Rattle.dv_check.specs.Rules.{assignment_refusals, atomic_refusals, change_refusals, changed_refusals, command_name_refusals}
+use Rattle.dv_check.specs.Rules.{hold_refusals, is_output_rule, known_in, known_in_loop, known_in_rule, loop_variable_refusals}
+use Rattle.dv_check.specs.Rules.{phase_refusals, rule_refusals, sent_port_refusals, statements_refusals, ticks_refusals}
+use Rattle.dv_check.specs.Types.{Known, held_name_refusals, is_readable, place_refusals, type_of_name, value_refusals}
 use Rattle.dv_check.proofs.CheckedFiles.{both_nil, not_false, not_refused}
 use Rattle.dv_accepted.proofs.Fitting.{parts_of_none}
-use Rattle.dv_accepted.proofs.Known.{bag_name_known}
+use Rattle.dv_accepted.proofs.Known.{held_name_known}
 
 -- ---- Statements
 
@@ -22,9 +27,9 @@ pub record AcceptedAssignment (known : Known) (n : Name) (e : Expression) (more 
   pub value : value_refusals (type_of_name (known.sort n.number)) known e ≡ []
   pub rest : statements_refusals known more ≡ []
 
-pub record AcceptedGoto (known : Known) (phase : Name) (more : Statements) : Type 0 where
+pub record AcceptedCommand (known : Known) (c : Command) (name : Name) (more : Statements) : Type 0 where
   pub changing : is_output_rule known.rule ≡ false
-  pub there : known.has_phase phase.number ≡ true
+  pub target : command_name_refusals known c name ≡ []
   pub rest : statements_refusals known more ≡ []
 
 pub record AcceptedSend (known : Known) (port : Name) (e : Expression) (more : Statements) : Type 0 where
@@ -40,15 +45,14 @@ pub record AcceptedChoice (known : Known) (e : Expression) (block other more : S
   pub rest : statements_refusals known more ≡ []
 
 pub record AcceptedLoop (known : Known) (v b : Name) (block more : Statements) : Type 0 where
-  pub readable : is_bag known.rule (known.sort b.number) ≡ true
+  pub readable : is_readable want.Values known.rule (known.sort b.number) ≡ true
   pub inside : statements_refusals (known_in_loop v known) block ≡ []
   pub rest : statements_refusals known more ≡ []
 
--- an addition to a bag, or a removal
-pub record AcceptedChange (known : Known) (e : Expression) (b : Name) (more : Statements) : Type 0 where
+pub record AcceptedChange (known : Known) (c : Change) (e : Expression) (x : Name) (more : Statements) : Type 0 where
   pub changing : is_output_rule known.rule ≡ false
   pub value : place_refusals Number known e ≡ []
-  pub bag : changed_bag_refusals (known.sort b.number) b.place ≡ []
+  pub target : changed_refusals (discipline_of_change c) (known.sort x.number) x.place ≡ []
   pub rest : statements_refusals known more ≡ []
 
 module _ (known : Known) where
@@ -61,13 +65,13 @@ module _ (known : Known) where
       let right = both_nil value (statements_refusals known more) left.1 in
       record { target = left.0; value = right.0; rest = right.1 }
 
-  pub accepted_goto : (place : ℕ) (phase : Name) (more : Statements) → statements_refusals known (Goto place phase more) ≡ []
-      → AcceptedGoto known phase more
-  accepted_goto place phase more none =
-      let later = phase_refusals known phase ++ statements_refusals known more in
-      let left = both_nil (refusal_if (is_output_rule known.rule) E9 place) later none in
-      let right = both_nil (phase_refusals known phase) (statements_refusals known more) left.1 in
-      record { changing = not_refused _ _ _ left.0; there = not_false _ (not_refused _ _ _ right.0); rest = right.1 }
+  pub accepted_command : (c : Command) (place : ℕ) (name : Name) (more : Statements)
+      → statements_refusals known (Does c place name more) ≡ [] → AcceptedCommand known c name more
+  accepted_command c place name more none =
+      let target = command_name_refusals known c name in
+      let left = both_nil (refusal_if (is_output_rule known.rule) E9 place) (target ++ statements_refusals known more) none in
+      let right = both_nil target (statements_refusals known more) left.1 in
+      record { changing = not_refused _ _ _ left.0; target = right.0; rest = right.1 }
 
   pub accepted_send : (place : ℕ) (port : Name) (e : Expression) (more : Statements)
       → statements_refusals known (Send place port e more) ≡ [] → AcceptedSend known port e more
@@ -102,24 +106,24 @@ module _ (known : Known) where
   pub accepted_loop : (place : ℕ) (v b : Name) (block more : Statements) → statements_refusals known (For place v b block more) ≡ []
       → AcceptedLoop known v b block more
   accepted_loop place v b block more none =
-      let bag = bag_name_refusals known.rule (known.sort b.number) b.place in
+      let bag = held_name_refusals want.Values known.rule (known.sort b.number) b.place in
       let inside = statements_refusals (known_in_loop v known) block in
       let later = statements_refusals known more in
       let left = both_nil (loop_variable_refusals (known.place v.number) v.place) (bag ++ (inside ++ later)) none in
       let middle = both_nil bag (inside ++ later) left.1 in
       let right = both_nil inside later middle.1 in
-      let readable = bag_name_known known.rule (known.sort b.number) b.place middle.0 in
+      let readable = held_name_known want.Values known.rule (known.sort b.number) b.place middle.0 in
       record { readable = readable; inside = right.0; rest = right.1 }
 
-  pub accepted_change : (place : ℕ) (e : Expression) (b : Name) (more : Statements)
-      → change_refusals known place e b ++ statements_refusals known more ≡ [] → AcceptedChange known e b more
-  accepted_change place e b more none =
+  pub accepted_change : (c : Change) (place : ℕ) (e : Expression) (x : Name) (more : Statements)
+      → statements_refusals known (Changes c place e x more) ≡ [] → AcceptedChange known c e x more
+  accepted_change c place e x more none =
       let value = place_refusals Number known e in
-      let bag = changed_bag_refusals (known.sort b.number) b.place in
-      let both = both_nil (change_refusals known place e b) (statements_refusals known more) none in
-      let left = both_nil (refusal_if (is_output_rule known.rule) E9 place) (value ++ bag) both.0 in
-      let right = both_nil value bag left.1 in
-      record { changing = not_refused _ _ _ left.0; value = right.0; bag = right.1; rest = both.1 }
+      let target = changed_refusals (discipline_of_change c) (known.sort x.number) x.place in
+      let both = both_nil (change_refusals known c place e x) (statements_refusals known more) none in
+      let left = both_nil (refusal_if (is_output_rule known.rule) E9 place) (value ++ target) both.0 in
+      let right = both_nil value target left.1 in
+      record { changing = not_refused _ _ _ left.0; value = right.0; target = right.1; rest = both.1 }
 
 -- ---- Rules and holds
 

@@ -9,14 +9,14 @@ use Rattle.dv_syntax.specs.Trees.{statement_before, statements_of}
 use Rattle.dv_code.specs.declared.instruction.Instruction.{Instruction}
 use Rattle.dv_eval.specs.Scope.{Scope}
 use Rattle.dv_gen.specs.Emission.{with_statements}
-use Rattle.dv_gen.specs.Resolved.{Expression, Statements, Done, Act, Goto, When, If, For}
+use Rattle.dv_gen.specs.Resolved.{Expression, Statements, Done, Act, Obey, When, If, For}
 use Rattle.dv_gen.specs.Resolution.{all_resolved, choice, resolved}
 use Rattle.dv_gen.proofs.Trees.{choice_tree}
 
 abbrev is_done : Statements → Bool
 is_done Done = true
 is_done (Act a value rest) = false
-is_done (Goto phase rest) = false
+is_done (Obey d rest) = false
 is_done (When condition block rest) = false
 is_done (If condition block other rest) = false
 is_done (For s block rest) = false
@@ -24,7 +24,7 @@ is_done (For s block rest) = false
 choice-some : (e : Expression) (block other rest : Statements) → is_done (choice e block other rest) ≡ false
 choice-some e block Done rest = refl
 choice-some e block (Act a value more) rest = refl
-choice-some e block (Goto phase more) rest = refl
+choice-some e block (Obey d more) rest = refl
 choice-some e block (When condition inside more) rest = refl
 choice-some e block (If condition inside other more) rest = refl
 choice-some e block (For s inside more) rest = refl
@@ -32,7 +32,7 @@ choice-some e block (For s inside more) rest = refl
 choice-If : (e : Expression) (block other rest : Statements) → is_done other ≡ false → choice e block other rest ≡ If e block other rest
 choice-If e block Done rest some = absurd (cc)
 choice-If e block (Act a value more) rest some = refl
-choice-If e block (Goto phase more) rest some = refl
+choice-If e block (Obey d more) rest some = refl
 choice-If e block (When condition inside more) rest some = refl
 choice-If e block (If condition inside other more) rest some = refl
 choice-If e block (For s inside more) rest some = refl
@@ -40,14 +40,13 @@ choice-If e block (For s inside more) rest some = refl
 module _ (scope : Scope) (loops : List ℕ) where
   statement-some : (s : Stmt) (rest : NamedStatements) → is_done (all_resolved scope loops (statement_before s rest)) ≡ false
   statement-some (stmt.Assign name e) rest = refl
-  statement-some (stmt.Goto place phase) rest = refl
+  statement-some (stmt.Command c place name) rest = refl
   statement-some (stmt.Send place port e) rest = refl
   statement-some (stmt.If' place e shape block) rest = refl
   statement-some (stmt.IfElse' place e shape block other_shape other) rest =
       choice-some _ _ (all_resolved scope loops (row_statements other)) _
   statement-some (stmt.For' place v b shape block) rest = refl
-  statement-some (stmt.Add place e b) rest = refl
-  statement-some (stmt.Drop place e b) rest = refl
+  statement-some (stmt.Change c place e collection) rest = refl
 
   -- an empty second block
   pub choice_of_none : (e : Expression) (block : Statements) (other : List Stmt) (rest : Statements) → length other ≡ 0

@@ -4,13 +4,14 @@ use Rattle.std.proofs.Common.{length-append, length-set, arith}
 use Rattle.std.specs.Prelude.{slice_set}
 use Rattle.dv_code.specs.declared.instruction.Action.{Action}
 use Rattle.dv_code.specs.declared.instruction.Binary.{Binary}
+use Rattle.dv_code.specs.declared.instruction.Deed.{Deed}
 use Rattle.dv_code.specs.declared.instruction.Instruction.{Instruction}
-use Rattle.dv_code.specs.declared.instruction.Instruction.TheVariants.{Push, Apply, Combine, Perform, Go, Jump, JumpFalse}
+use Rattle.dv_code.specs.declared.instruction.Instruction.TheVariants.{Push, Apply, Combine, Perform, Do, Jump, JumpFalse}
 use Rattle.dv_code.specs.declared.instruction.Instruction.TheVariants.{FalseKeep, TrueKeep, Loop, Next}
 use Rattle.dv_code.specs.declared.instruction.Leaf.{Leaf}
 use Rattle.dv_code.specs.declared.instruction.Source.{Source}
 use Rattle.dv_code.specs.declared.instruction.Unary.{Unary}
-use Rattle.dv_gen.specs.Resolved.{Expression, Read, Prefix, Infix, And, Or, Statements, Done, Act, Goto, When, If, For}
+use Rattle.dv_gen.specs.Resolved.{Expression, Read, Prefix, Infix, And, Or, Statements, Done, Act, Obey, When, If, For}
 use Rattle.dv_gen.specs.Generator.{code_of, code_of_all, past, past_all}
 use Rattle.dv_gen.specs.Emission.{with_branch, with_expression, with_statements}
 
@@ -53,7 +54,7 @@ length-code_of_all (Act a value rest) p =
       length-code_of value p,
       length-code_of_all rest (past p value + 1),
     )
-length-code_of_all (Goto phase rest) p = omega (arith, length-code_of_all rest (p + 1))
+length-code_of_all (Obey d rest) p = omega (arith, length-code_of_all rest (p + 1))
 length-code_of_all (When condition block rest) p =
     let at = past p condition + 1 in
     let after = past_all at block in
@@ -199,12 +200,12 @@ pub with_statements-Done : (code : List Instruction) → with_statements code Do
 unfolding with_statements
 with_statements-Done code = append-nil code
 
-pub with_statements-Goto : (code : List Instruction) (phase : ℕ) (rest : Statements)
-    → with_statements (code ++ Go phase ∷ []) rest ≡ with_statements code (Goto phase rest)
+pub with_statements-Obey : (code : List Instruction) (d : Deed) (rest : Statements)
+    → with_statements (code ++ Do d ∷ []) rest ≡ with_statements code (Obey d rest)
 unfolding with_statements
-with_statements-Goto code phase rest =
-    ap (λ p. (code ++ Go phase ∷ []) ++ code_of_all p rest) (one_more code (Go phase))
-    ∙ append_assoc code (Go phase ∷ []) (code_of_all (length code + 1) rest)
+with_statements-Obey code d rest =
+    ap (λ p. (code ++ Do d ∷ []) ++ code_of_all p rest) (one_more code (Do d))
+    ∙ append_assoc code (Do d ∷ []) (code_of_all (length code + 1) rest)
 
 pub with_statements-Act : (code : List Instruction) (a : Action) (value : Expression) (rest : Statements)
     → with_statements (with_expression code value ++ Perform a ∷ []) rest ≡ with_statements code (Act a value rest)

@@ -1,55 +1,71 @@
 -- The effect of what is accepted is the same by places as by names, on a state that fits.
 use Rattle.std.proofs.Common.{◌≡◌, ℕ, ℤ, Bool, true, false, if◌then◌else◌, List, [], ◌∷◌, length, refl, sym, ap, ◌∙◌, Option}
-use Rattle.std.proofs.Common.{Some, None, Result, Ok, IfOk, IfSome}
+use Rattle.std.proofs.Common.{Some, None, Result, Ok, Err, IfOk, IfSome}
 use Rattle.std.specs.List.{All}
 use Rattle.std.proofs.lemmas.Bool.{lt-ltb}
 use Rattle.std.proofs.lemmas.Result.{IfOk-at_ok}
 use Rattle.dv_syntax.specs.Trees.{AtomicTree, HoldTree, RuleTree, Expression as NamedExpression, Statements as NamedStatements}
-use Rattle.dv_syntax.specs.Trees.{Done as Ended, Assign, Goto as GoTo, Send, If as IfOnly, IfElse, For as Each, Add as AddTo}
-use Rattle.dv_syntax.specs.Trees.{Drop}
+use Rattle.dv_syntax.specs.Trees.{Done as Ended, Assign, Does, Send, If as IfOnly, IfElse, For as Each, Changes}
+use Rattle.dv_syntax.specs.declared.tree.Command.{Command}
+use Rattle.dv_syntax.specs.declared.tree.Command.TheVariants as command
 use Rattle.dv_syntax.specs.declared.tree.Name.{Name}
 use Rattle.dv_syntax.specs.declared.tree.RuleSort.{RuleSort}
 use Rattle.dv_bag.specs.Arrivals.{Arrivals, nothing_arrived}
-use Rattle.dv_bag.specs.Bag.{values_of}
+use Rattle.dv_bag.specs.Collections.{changed, discipline_of_change, popped, values_in as values_held}
 use Rattle.dv_bag.specs.Outcome.{◌>>=◌}
+use Rattle.dv_bag.specs.declared.collection.Collection.{Collection}
+use Rattle.dv_bag.specs.declared.discipline.Change.{Change}
+use Rattle.dv_bag.specs.declared.discipline.Discipline.{Discipline}
+use Rattle.dv_bag.specs.declared.discipline.Discipline.TheVariants as discipline
 use Rattle.dv_bag.specs.declared.fault.Fault.{Fault}
 use Rattle.dv_bag.specs.declared.state.State.{State}
 use Rattle.dv_bag.specs.declared.state.Effect.{Effect}
 use Rattle.dv_bag.specs.declared.value.Value.{Value}
 use Rattle.dv_bag.specs.declared.value.ValueType.{ValueType}
 use Rattle.dv_bag.specs.declared.value.ValueType.TheVariants.{Number, Truth}
-use Rattle.dv_eval.specs.Meaning.{addition, assignment, bag_of_name, effect_of, meaning, moment_in, number_of, outermost, removal}
-use Rattle.dv_eval.specs.Meaning.{repetition, run, sending, value_within, with_goto, truth_of as truth_in_text}
+use Rattle.dv_eval.specs.Meaning.{assignment, changing, collection_of_name, command_effect, effect_of, meaning, moment_in}
+use Rattle.dv_eval.specs.Meaning.{number_of, outermost, repetition, run, sending, value_within, truth_of as truth_in_text}
+use Rattle.dv_eval.specs.Meaning.{with_made as with_made_in_text}
 use Rattle.dv_eval.specs.Scope.{Scope, names_of, place_of, scope_of}
 use Rattle.dv_eval.specs.declared.scope.Domain.TheVariants as domain
 use Rattle.dv_check.specs.declared.declarations.NameSort.{NameSort}
-use Rattle.dv_check.specs.Rules.{atomic_refusals, known_in, known_in_rule, statements_refusals}
+use Rattle.dv_check.specs.declared.wanted.Wanted.TheVariants as want
+use Rattle.dv_check.specs.Rules.{atomic_refusals, changed_refusals, command_name_refusals, known_in, known_in_rule}
+use Rattle.dv_check.specs.Rules.{statements_refusals}
 use Rattle.dv_check.specs.Types.{Known, place_refusals, type_of_name, value_refusals}
+use Rattle.dv_check.proofs.CheckedFiles.{not_false, not_refused}
 use Rattle.dv_accepted.specs.Fitting.{context_within, fits, is_of_type, known_within}
-use Rattle.dv_accepted.proofs.Effects.{Fits, fits_kept, goto_fits, run_fits}
+use Rattle.dv_accepted.proofs.Effects.{Fits, fits_kept, run_fits}
 use Rattle.dv_accepted.proofs.Fitting.{HasPlace}
 use Rattle.dv_accepted.proofs.Keeping.{StatementsKeep, repetition_keeps, sending_keeps}
 use Rattle.dv_accepted.proofs.Outcomes.{if_ok_branch}
 use Rattle.dv_accepted.proofs.Typed.{place_typed}
 use Rattle.dv_code.specs.Machine.{first_effect}
-use Rattle.dv_code.specs.Operations.{action_effect}
+use Rattle.dv_code.specs.Operations.{action_effect, deed_effect, with_made}
 use Rattle.dv_code.specs.Shape.{Shape}
 use Rattle.dv_code.specs.declared.instruction.Action.{Action}
 use Rattle.dv_code.specs.declared.instruction.Action.TheVariants as action
-use Rattle.dv_gen.specs.Resolution.{all_resolved, assignment_at, choice, hold_tree, place_or_first, resolved, rule_shape}
+use Rattle.dv_gen.specs.Resolution.{all_resolved, assignment_at, choice, deed_of, hold_tree, place_or_first, resolved, rule_shape}
 use Rattle.dv_gen.specs.Resolution.{rule_tree, slot_place}
-use Rattle.dv_gen.specs.Resolved.{Act, Done, Expression, For, Goto, If, Statements, When, effect_from, for_each, or_same}
+use Rattle.dv_gen.specs.Resolved.{Act, Done, Expression, For, If, Obey, Statements, When, effect_from, for_each, or_same}
 use Rattle.dv_gen.specs.Resolved.{rule_effect, truth_of, value_of, values_in}
-use Rattle.dv_gen.proofs.Accepted.{accepted_assignment, accepted_change, accepted_goto, accepted_if, accepted_if_else}
+use Rattle.dv_gen.proofs.Accepted.{accepted_assignment, accepted_change, accepted_command, accepted_if, accepted_if_else}
 use Rattle.dv_gen.proofs.Accepted.{accepted_loop, accepted_send, each_hold, each_rule}
 use Rattle.dv_gen.proofs.EqualOperators.{bind_agrees, on_number, on_truth}
-use Rattle.dv_gen.proofs.EqualValues.{bag_agrees, gives_type, value_agrees}
-use Rattle.dv_gen.proofs.FittingStates.{bag_there}
+use Rattle.dv_gen.proofs.EqualValues.{collection_agrees, gives_type, value_agrees}
+use Rattle.dv_gen.proofs.FittingStates.{held_there}
 use Rattle.dv_gen.proofs.LoopVariables.{items_within, knows_within, loops_of}
-use Rattle.dv_gen.proofs.KnownNames.{Assigned, Stands, StandsForBag, ToFlag, ToVariable, assigned_stands, assigned_type}
-use Rattle.dv_gen.proofs.KnownNames.{changed_bag_stands, flag_assignment, sent_port_stands, slot_there, variable_assignment}
+use Rattle.dv_gen.proofs.KnownNames.{Assigned, Stands, StandsForHeld, ToFlag, ToVariable, assigned_stands, assigned_type}
+use Rattle.dv_gen.proofs.KnownNames.{changed_stands, flag_assignment, sent_port_stands, slot_there, variable_assignment}
 
--- ---- Actions
+-- ---- Actions and deeds
+
+-- what is made of a collection is put at its place, or is the fault; where nothing is made, nothing changes
+made_agrees : (e : Effect) (place : ℕ) (made : Option (Result Collection Fault))
+    → or_same e (with_made e place made) ≡ with_made_in_text place e made
+made_agrees e place None = refl
+made_agrees e place (Some (Ok c)) = refl
+made_agrees e place (Some (Err f)) = refl
 
 module _ (scope : Scope) (s : RuleSort) (e : Effect) (fit : Fits scope e) (q : ℕ) where
   abbrev done_by : Action → Value → Result Effect Fault
@@ -80,20 +96,24 @@ module _ (scope : Scope) (s : RuleSort) (e : Effect) (fit : Fits scope e) (q : �
       on_number (λ x. done_by (action.Send (place_or_first (place_of q scope.outputs))) x) (λ x. sending scope q x e) v is
       (λ n. rw (there.found, within) refl)
 
-  addition_agrees : (v : Value) → StandsForBag scope q → is_of_type Number v ≡ true
-      → done_by (action.AddTo (slot_place scope q)) v ≡ addition scope q (number_of v) e
-  addition_agrees v stands is =
-      let slot = slot_there scope q (domain.Bag stands.capacity) stands.has in
-      let held = bag_there scope e.state fit.state q stands in
-      on_number (λ x. done_by (action.AddTo (slot_place scope q)) x) (λ x. addition scope q (number_of x) e) v is
-      (λ n. rw (stands.has.found, slot, stands.has.there, held.1) refl)
+  change_agrees : (c : Change) (v : Value) → StandsForHeld scope (discipline_of_change c) q → is_of_type Number v ≡ true
+      → done_by (action.Change c (slot_place scope q)) v ≡ changing scope c q (number_of v) e
+  change_agrees c v stands is =
+      let d = discipline_of_change c in
+      let slot = slot_there scope q (domain.Held d stands.capacity) stands.has in
+      let held = held_there scope e.state fit.state q d stands in
+      on_number (λ x. done_by (action.Change c (slot_place scope q)) x) (λ x. changing scope c q (number_of x) e) v is
+      (λ n. rw (stands.has.found, slot, stands.has.there, held.1)
+      (made_agrees e stands.has.place (changed c stands.capacity n held.0)))
 
-  removal_agrees : (v : Value) → StandsForBag scope q → is_of_type Number v ≡ true
-      → done_by (action.DropFrom (slot_place scope q)) v ≡ Ok (removal scope q (number_of v) e)
-  removal_agrees v stands is =
-      let held = bag_there scope e.state fit.state q stands in
-      on_number (λ x. done_by (action.DropFrom (slot_place scope q)) x) (λ x. Ok (removal scope q (number_of x) e)) v is
-      (λ n. rw (stands.has.found, held.1) refl)
+  go_agrees : HasPlace q scope.phases → or_same e (deed_effect (deed_of scope command.Goto q) e) ≡ command_effect scope command.Goto q e
+  go_agrees there = rw there.found refl
+
+  pop_agrees : StandsForHeld scope discipline.Queue q
+      → or_same e (deed_effect (deed_of scope command.Pop q) e) ≡ command_effect scope command.Pop q e
+  pop_agrees stands =
+      let held = held_there scope e.state fit.state q discipline.Queue stands in
+      rw (stands.has.found, held.1) (made_agrees e stands.has.place (popped held.0))
 
 -- ---- What follows alike
 
@@ -119,7 +139,7 @@ choice_effect : (shape : Shape) (arrivals : Arrivals) (items : List ℤ) (condit
     ≡ effect_from shape arrivals items (If condition block other rest) e
 choice_effect shape arrivals items condition block Done rest e = refl
 choice_effect shape arrivals items condition block (Act a value next) rest e = refl
-choice_effect shape arrivals items condition block (Goto phase next) rest e = refl
+choice_effect shape arrivals items condition block (Obey d next) rest e = refl
 choice_effect shape arrivals items condition block (When c b next) rest e = refl
 choice_effect shape arrivals items condition block (If c b o next) rest e = refl
 choice_effect shape arrivals items condition block (For source b next) rest e = refl
@@ -147,6 +167,25 @@ module _ (m : AtomicTree) (none : atomic_refusals m ≡ []) (s : RuleSort) (arri
 
     stands : (q : ℕ) → Stands (scope_of m) (loops_of bound) q ((known bound).sort q)
     stands q = (knows_within m none (Some s) bound).name q
+
+    -- a collection of the state that may be changed
+    held_changed : (d : Discipline) (x : Name) → changed_refusals d ((known bound).sort x.number) x.place ≡ []
+        → StandsForHeld (scope_of m) d x.number
+    held_changed d x accepted =
+        changed_stands (scope_of m) (loops_of bound) x.number d ((known bound).sort x.number) x.place (stands x.number) accepted
+
+    -- a command does what its deed does
+    deed_agrees : (c : Command) (name : Name) → command_name_refusals (known bound) c name ≡ []
+        → or_same e (deed_effect (deed_of (scope_of m) c name.number) e) ≡ command_effect (scope_of m) c name.number e
+    deed_agrees command.Goto name accepted =
+        let there = (knows_within m none (Some s) bound).phase name.number (not_false _ (not_refused _ _ _ accepted)) in
+        go_agrees (scope_of m) s e fit name.number there
+    deed_agrees command.Pop name accepted =
+        pop_agrees (scope_of m) s e fit name.number (held_changed discipline.Queue name accepted)
+
+    command_fits : (c : Command) (name : Name) → IfOk (command_effect (scope_of m) c name.number e) (Fits (scope_of m))
+    command_fits command.Goto name = kept.gone name.number e tt fit
+    command_fits command.Pop name = kept.pops name.number e fit
 
     -- the same value, something that is done alike with each value of its type, and what follows
     value_follows : (t : ValueType) (x : NamedExpression) (f g : Value → Result Effect Fault) (go on : Effect → Result Effect Fault)
@@ -188,11 +227,13 @@ module _ (m : AtomicTree) (none : atomic_refusals m ≡ []) (s : RuleSort) (arri
       value_follows bound e fit type.0 x _ (λ v. assignment (scope_of m) n.number v e) (by_places bound rest) (by_names bound rest) value
       (λ v is. assignment_agrees (scope_of m) s e fit n.number (loops_of bound) type.0 v target.0 type.1 is)
       (λ v. kept.assigned n.number v e fit) (effects_agree bound rest parts.rest)
-  effects_agree bound (GoTo place phase rest) accepted e fit =
-      let parts = accepted_goto (known bound) place phase rest accepted in
-      let there = (knows_within m none (Some s) bound).phase phase.number parts.there in
-      let fits_there = goto_fits (scope_of m) (Some there.place) phase.number e there.found fit in
-      rw there.found (effects_agree bound rest parts.rest (with_goto (Some there.place) e) fits_there)
+  effects_agree bound (Does c place name rest) accepted e fit =
+      let parts = accepted_command (known bound) c place name rest accepted in
+      let same = deed_agrees bound e fit c name parts.target in
+      let done = command_effect (scope_of m) c name.number e in
+      ap (λ r. r >>= by_places bound rest) same
+      ∙ bind_agrees done (by_places bound rest) (by_names bound rest) (λ next is.
+      effects_agree bound rest parts.rest next (IfOk-at_ok (Fits (scope_of m)) is (command_fits bound e fit c name)))
   effects_agree bound (Send place port x rest) accepted e fit =
       let k = known bound in
       let parts = accepted_send k place port x rest accepted in
@@ -220,33 +261,24 @@ module _ (m : AtomicTree) (none : atomic_refusals m ≡ []) (s : RuleSort) (arri
       (run_fits (scope_of m) context block e fit) (run_fits (scope_of m) context other e fit) (effects_agree bound rest parts.rest)
   effects_agree bound (Each place v b block rest) accepted e fit =
       let parts = accepted_loop (known bound) place v b block rest accepted in
-      let bag = bag_agrees m none (Some s) arrivals bound e.state fit.state b.number parts.readable in
-      let values = values_of (bag_of_name (scope_of m) (moment_in (context_within arrivals bound) e.state) b.number) in
+      let held = collection_agrees m none (Some s) arrivals bound e.state fit.state want.Values b.number parts.readable in
+      let values = values_held (collection_of_name (scope_of m) (moment_in (context_within arrivals bound) e.state) b.number) in
       let step = λ (n : ℤ). by_places ((v, n) ∷ bound) block in
       let named = λ (n : ℤ). by_names ((v, n) ∷ bound) block in
       let keeps = λ (n : ℤ) (now : Effect). run_fits (scope_of m) (context_within arrivals ((v, n) ∷ bound)) block now in
       let same = walk_agrees (scope_of m) step named values e (λ n now. effects_agree ((v, n) ∷ bound) block parts.inside now) keeps fit in
-      ap (λ o. for_each step (values_in o) e >>= by_places bound rest) bag
+      ap (λ o. for_each step (values_in o) e >>= by_places bound rest) held.0
       ∙ (ap (λ r. r >>= by_places bound rest) same
       ∙ bind_agrees (repetition named values e) (by_places bound rest) (by_names bound rest) (λ next is.
       effects_agree bound rest parts.rest next
       (IfOk-at_ok (Fits (scope_of m)) is (repetition_keeps (Fits (scope_of m)) named values e keeps fit))))
-  effects_agree bound (AddTo place x b rest) accepted e fit =
-      let k = known bound in
-      let parts = accepted_change k place x b rest accepted in
-      let stands_for = stands bound e fit b.number in
-      let bag = changed_bag_stands (scope_of m) (loops_of bound) b.number (k.sort b.number) b.place stands_for parts.bag in
-      value_follows bound e fit Number x _ (λ v. addition (scope_of m) b.number (number_of v) e)
-      (by_places bound rest) (by_names bound rest) parts.value (λ v is. addition_agrees (scope_of m) s e fit b.number v bag is)
-      (λ v. kept.added b.number (number_of v) e fit) (effects_agree bound rest parts.rest)
-  effects_agree bound (Drop place x b rest) accepted e fit =
-      let k = known bound in
-      let parts = accepted_change k place x b rest accepted in
-      let stands_for = stands bound e fit b.number in
-      let bag = changed_bag_stands (scope_of m) (loops_of bound) b.number (k.sort b.number) b.place stands_for parts.bag in
-      value_follows bound e fit Number x _ (λ v. Ok (removal (scope_of m) b.number (number_of v) e))
-      (by_places bound rest) (by_names bound rest) parts.value (λ v is. removal_agrees (scope_of m) s e fit b.number v bag is)
-      (λ v. kept.removed b.number (number_of v) e fit) (effects_agree bound rest parts.rest)
+  effects_agree bound (Changes c place x collection rest) accepted e fit =
+      let q = collection.number in
+      let parts = accepted_change (known bound) c place x collection rest accepted in
+      let target = held_changed bound e fit (discipline_of_change c) collection parts.target in
+      value_follows bound e fit Number x _ (λ v. changing (scope_of m) c q (number_of v) e)
+      (by_places bound rest) (by_names bound rest) parts.value (λ v is. change_agrees (scope_of m) s e fit q c v target is)
+      (λ v. kept.changes c q (number_of v) e fit) (effects_agree bound rest parts.rest)
 
 -- ---- Rules and holds
 

@@ -1,23 +1,28 @@
 -- Operators give the same by places as by names, of operands of their types.
-use Rattle.std.proofs.Common.{◌≡◌, ℤ, Bool, true, false, if◌then◌else◌, List, refl, ap, ◌∙◌, Option, Some, Result, Ok, Err}
+use Rattle.std.proofs.Common.{◌≡◌, ℤ, Bool, true, false, if◌then◌else◌, List, [], ◌∷◌, refl, ap, ◌∙◌, Option, Some, Result, Ok}
+use Rattle.std.proofs.Common.{Err}
 use Rattle.dv_syntax.specs.declared.tree.BagCall.{BagCall}
 use Rattle.dv_syntax.specs.declared.tree.BagCall.TheVariants as call
 use Rattle.dv_syntax.specs.declared.tree.Operator.{Operator}
 use Rattle.dv_syntax.specs.declared.tree.Operator.TheVariants as operator
 use Rattle.dv_bag.specs.Arrivals.{Arrivals}
-use Rattle.dv_bag.specs.Bag.{Counts}
+use Rattle.dv_bag.specs.Collections.{discipline_of}
 use Rattle.dv_bag.specs.Outcome.{◌>>=◌}
+use Rattle.dv_bag.specs.declared.collection.Collection.{Collection}
+use Rattle.dv_bag.specs.declared.collection.Collection.TheVariants as collection
 use Rattle.dv_bag.specs.declared.fault.Fault.{Fault}
 use Rattle.dv_bag.specs.declared.state.State.{State}
 use Rattle.dv_bag.specs.declared.value.Value.{Value}
 use Rattle.dv_bag.specs.declared.value.Value.TheVariants as value
 use Rattle.dv_bag.specs.declared.value.ValueType.{ValueType}
 use Rattle.dv_bag.specs.declared.value.ValueType.TheVariants.{Number, Truth}
-use Rattle.dv_eval.specs.Meaning.{call_result, is_decided, operator_result, truth_of as truth_in_text}
-use Rattle.dv_check.specs.Types.{both_of, type_if, type_of_operator}
+use Rattle.dv_eval.specs.Meaning.{bag_or_none, call_result, is_decided, operator_result, truth_of as truth_in_text}
+use Rattle.dv_check.specs.declared.wanted.Wanted.TheVariants as want
+use Rattle.dv_check.specs.Types.{both_of, suits, type_if, type_of_operator, wanted_by}
 use Rattle.dv_accepted.specs.Fitting.{is_of_type}
-use Rattle.dv_code.specs.Operations.{bag_of, binary_value, leaf_value, of_numbers, of_truths}
+use Rattle.dv_code.specs.Operations.{bag_in, binary_value, collection_of, leaf_value, of_numbers, of_truths}
 use Rattle.dv_code.specs.declared.instruction.Source.{Source}
+use Rattle.dv_code.specs.declared.instruction.Source.TheVariants.{Own, Port}
 use Rattle.dv_code.specs.declared.instruction.Binary.{Binary as Operation}
 use Rattle.dv_code.specs.declared.instruction.Binary.TheVariants as binary
 use Rattle.dv_gen.specs.Resolution.{call_leaf, equal_of, infix_of, unequal_of}
@@ -168,10 +173,29 @@ module _ (arrivals : Arrivals) (items : List ℤ) (s : State) (a b : Expression)
     operator_agrees operator.Greater typed = of_numbers_agree binary.Greater operator.Greater Truth typed (λ n k. refl)
     operator_agrees operator.AtLeast typed = of_numbers_agree binary.AtLeast operator.AtLeast Truth typed (λ n k. refl)
 
--- what a call gives of a bag
-pub call_agrees : (c : BagCall) (arrivals : Arrivals) (items : List ℤ) (s : State) (source : Source) (b : Counts)
-    → bag_of arrivals s source ≡ Some b → or_zero (leaf_value arrivals items s (call_leaf c source)) ≡ call_result c b
-call_agrees call.Size arrivals items s source b is = rw is refl
-call_agrees call.Sum arrivals items s source b is = rw is refl
-call_agrees call.Least arrivals items s source b is = rw is refl
-call_agrees call.Most arrivals items s source b is = rw is refl
+-- ---- Collections
+
+-- what suits where a bag is wanted is read as a bag
+pub bag_read : (o : Option Collection) (held : Collection) → o ≡ Some held → suits want.Bag (discipline_of held) ≡ true
+    → bag_in o ≡ Some (bag_or_none held)
+bag_read o (collection.Bag b) is suited = ap bag_in is
+bag_read o (collection.Queue q) is suited = absurd (cc)
+
+-- what a call gives of a collection that suits it
+pub call_agrees : (c : BagCall) (arrivals : Arrivals) (items : List ℤ) (s : State) (source : Source) (held : Collection)
+    → collection_of arrivals s source ≡ Some held → suits (wanted_by c) (discipline_of held) ≡ true
+    → or_zero (leaf_value arrivals items s (call_leaf c source)) ≡ call_result c held
+call_agrees call.Size arrivals items s source held is suited = rw is refl
+call_agrees call.Sum arrivals items s source held is suited =
+    let bag = bag_read (collection_of arrivals s source) held is suited in
+    rw bag refl
+call_agrees call.Least arrivals items s source held is suited =
+    let bag = bag_read (collection_of arrivals s source) held is suited in
+    rw bag refl
+call_agrees call.Most arrivals items s source held is suited =
+    let bag = bag_read (collection_of arrivals s source) held is suited in
+    rw bag refl
+call_agrees call.Front arrivals items s source (collection.Bag b) is suited = absurd (cc)
+call_agrees call.Front arrivals items s (Own d place) (collection.Queue []) is suited = rw is refl
+call_agrees call.Front arrivals items s (Own d place) (collection.Queue (n ∷ q)) is suited = rw is refl
+call_agrees call.Front arrivals items s (Port port) (collection.Queue q) is suited = absurd (cc)

@@ -7,7 +7,7 @@ use Rattle.dv_lex.specs.declared.error.RefusalNumber.TheVariants.{E6}
 use Rattle.dv_syntax.specs.Trees.{AtomicTree}
 use Rattle.dv_syntax.specs.declared.tree.Name.{Name}
 use Rattle.dv_syntax.specs.declared.tree.Declaration.{Declaration}
-use Rattle.dv_syntax.specs.declared.tree.Declaration.TheVariants.{In, Out, Var, Flag, Bag}
+use Rattle.dv_syntax.specs.declared.tree.Declaration.TheVariants.{In, Out, Var, Flag, Held}
 use Rattle.dv_syntax.specs.declared.tree.RuleSort.TheVariants as rule
 use Rattle.dv_eval.specs.declared.scope.Domain.{Domain}
 use Rattle.dv_eval.specs.Scope.{Scope, inputs_in, is_declared, names_of, outputs_in, phases_in, place_from, place_of, scope_of}
@@ -93,7 +93,7 @@ inputs_are_ports (In port ∷ ds) = omega (arith, inputs_are_ports ds)
 inputs_are_ports (Out port ∷ ds) = omega (arith, inputs_are_ports ds)
 inputs_are_ports (Var v ∷ ds) = inputs_are_ports ds
 inputs_are_ports (Flag f ∷ ds) = inputs_are_ports ds
-inputs_are_ports (Bag b ∷ ds) = inputs_are_ports ds
+inputs_are_ports (Held c ∷ ds) = inputs_are_ports ds
 
 outputs_are_ports : (ds : List Declaration) → length (outputs_in ds) ≤ length (ports_in ds)
 outputs_are_ports [] = omega arith
@@ -101,7 +101,7 @@ outputs_are_ports (In port ∷ ds) = omega (arith, outputs_are_ports ds)
 outputs_are_ports (Out port ∷ ds) = omega (arith, outputs_are_ports ds)
 outputs_are_ports (Var v ∷ ds) = outputs_are_ports ds
 outputs_are_ports (Flag f ∷ ds) = outputs_are_ports ds
-outputs_are_ports (Bag b ∷ ds) = outputs_are_ports ds
+outputs_are_ports (Held c ∷ ds) = outputs_are_ports ds
 
 module _ (m : AtomicTree) where
   -- no kind of names is refused as too many

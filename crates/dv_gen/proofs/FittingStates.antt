@@ -1,23 +1,26 @@
 -- States that fit a model: they fit the slots of its tables, and have at each place what the name of that place stands for.
--- The bags of an accepted model are small.
-use Rattle.std.proofs.Common.{◌≡◌, ℕ, zero, suc, ◌<◌, ◌≤◌, Bool, true, false, nat_le, if◌then◌else◌, List, [], ◌∷◌, ◌++◌, map}
-use Rattle.std.proofs.Common.{refl, ap, ◌∙◌, Some, arith, ℤ, option_map}
+-- The bags and queues of an accepted model are small.
+use Rattle.std.proofs.Common.{◌≡◌, ℕ, zero, suc, ◌<◌, ◌≤◌, Bool, true, false, ◌&&◌, nat_le, if◌then◌else◌, List, [], ◌∷◌, ◌++◌, map}
+use Rattle.std.proofs.Common.{refl, sym, ap, ◌∙◌, Some, arith, ℤ, option_map}
 use Rattle.std.specs.Prelude.{slice_get}
 use Rattle.std.specs.List.{flat_map}
 use Rattle.std.proofs.lemmas.Bool.{leb-true}
 use Rattle.dv_syntax.specs.Trees.{AtomicTree}
 use Rattle.dv_syntax.specs.declared.tree.Name.{Name}
 use Rattle.dv_syntax.specs.declared.tree.Declaration.{Declaration}
-use Rattle.dv_syntax.specs.declared.tree.Declaration.TheVariants.{In, Out, Var, Flag, Bag}
-use Rattle.dv_bag.specs.Bag.{total, Counts}
+use Rattle.dv_syntax.specs.declared.tree.Declaration.TheVariants.{In, Out, Var, Flag, Held}
+use Rattle.dv_bag.specs.Collections.{count_in, discipline_of, same_discipline}
 use Rattle.dv_bag.specs.Limits.{greatest_count}
+use Rattle.dv_bag.specs.declared.collection.Collection.{Collection}
+use Rattle.dv_bag.specs.declared.discipline.Discipline.{Discipline}
 use Rattle.dv_bag.specs.declared.state.Datum.{Datum}
 use Rattle.dv_bag.specs.declared.state.Datum.TheVariants as datum
 use Rattle.dv_bag.specs.declared.state.State.{State}
+use Rattle.dv_bag.proofs.Collections.{disciplines_same}
 use Rattle.dv_eval.specs.Scope.{is_declared, names_of, range_of, scope_of, state_variables_in, with_variable, with_variables, Scope}
 use Rattle.dv_eval.specs.declared.scope.Domain.{Domain}
 use Rattle.dv_eval.specs.declared.scope.Domain.TheVariants as domain
-use Rattle.dv_check.specs.Rules.{atomic_refusals, bag_refusals, declaration_refusals, is_capacity, variable_refusals}
+use Rattle.dv_check.specs.Rules.{atomic_refusals, collection_refusals, declaration_refusals, is_capacity, variable_refusals}
 use Rattle.dv_check.proofs.CheckedFiles.{both_nil, not_false, not_refused}
 use Rattle.dv_accepted.specs.Fitting.{data_fit, datum_fits, fits, fits_in}
 use Rattle.dv_accepted.proofs.Fitting.{both_true, parts_of_none}
@@ -26,21 +29,24 @@ use Rattle.dv_code.specs.declared.shape.Slot.TheVariants.{Holding}
 use Rattle.dv_gen.specs.Resolution.{slot_of, tables_of}
 use Rattle.dv_eval.specs.declared.scope.VariableRange.{VariableRange}
 use Rattle.dv_accepted.proofs.Known.{fits_at}
-use Rattle.dv_gen.proofs.KnownNames.{HasDomain, StandsForBag}
+use Rattle.dv_gen.proofs.KnownNames.{HasDomain, StandsForHeld}
 
 -- ---- States and tables
 
 datum_fits_slot : (d : Domain) (x : Datum) → datum_fits d x ≡ true → FitsSlot (slot_of d) x
 datum_fits_slot (domain.Number range) (datum.Number n) fit = fit
 datum_fits_slot (domain.Number range) (datum.Flag b) fit = absurd (cc)
-datum_fits_slot (domain.Number range) (datum.Bag b) fit = absurd (cc)
+datum_fits_slot (domain.Number range) (datum.Held c) fit = absurd (cc)
 datum_fits_slot (domain.Flag start) (datum.Number n) fit = absurd (cc)
 datum_fits_slot (domain.Flag start) (datum.Flag b) fit = tt
-datum_fits_slot (domain.Flag start) (datum.Bag b) fit = absurd (cc)
-datum_fits_slot (domain.Bag capacity) (datum.Number n) fit = absurd (cc)
-datum_fits_slot (domain.Bag capacity) (datum.Flag b) fit = absurd (cc)
-datum_fits_slot (domain.Bag capacity) (datum.Bag b) fit =
-    leb-true (total b) capacity (both_true (nat_le (total b) capacity) (nat_le capacity greatest_count) fit).0
+datum_fits_slot (domain.Flag start) (datum.Held c) fit = absurd (cc)
+datum_fits_slot (domain.Held d capacity) (datum.Number n) fit = absurd (cc)
+datum_fits_slot (domain.Held d capacity) (datum.Flag b) fit = absurd (cc)
+datum_fits_slot (domain.Held d capacity) (datum.Held c) fit =
+    let few = nat_le (count_in c) capacity && nat_le capacity greatest_count in
+    let both = both_true (same_discipline d (discipline_of c)) few fit in
+    let within = both_true (nat_le (count_in c) capacity) (nat_le capacity greatest_count) both.1 in
+    (sym (disciplines_same d (discipline_of c) both.0), leb-true (count_in c) capacity within.0)
 
 data_fit_slots : (variables : List (ℕ × Domain)) (xs : List Datum) → data_fit variables xs ≡ true
     → Fits (map (λ v. slot_of v.1) variables) xs
@@ -59,17 +65,20 @@ states_fit m s fit = data_fit_slots (scope_of m).variables s.variables (both_tru
 number_datum : (range : VariableRange) (d : Datum) → datum_fits (domain.Number range) d ≡ true → (n : ℤ) × (d ≡ datum.Number n)
 number_datum range (datum.Number n) fit = (n, refl)
 number_datum range (datum.Flag b) fit = absurd (cc)
-number_datum range (datum.Bag b) fit = absurd (cc)
+number_datum range (datum.Held c) fit = absurd (cc)
 
 flag_datum : (start : Bool) (d : Datum) → datum_fits (domain.Flag start) d ≡ true → (b : Bool) × (d ≡ datum.Flag b)
 flag_datum start (datum.Number n) fit = absurd (cc)
 flag_datum start (datum.Flag b) fit = (b, refl)
-flag_datum start (datum.Bag b) fit = absurd (cc)
+flag_datum start (datum.Held c) fit = absurd (cc)
 
-bag_datum : (capacity : ℕ) (d : Datum) → datum_fits (domain.Bag capacity) d ≡ true → (b : Counts) × (d ≡ datum.Bag b)
-bag_datum capacity (datum.Number n) fit = absurd (cc)
-bag_datum capacity (datum.Flag b) fit = absurd (cc)
-bag_datum capacity (datum.Bag b) fit = (b, refl)
+held_datum : (d : Discipline) (capacity : ℕ) (x : Datum) → datum_fits (domain.Held d capacity) x ≡ true
+    → (c : Collection) × (x ≡ datum.Held c) × (discipline_of c ≡ d)
+held_datum d capacity (datum.Number n) fit = absurd (cc)
+held_datum d capacity (datum.Flag b) fit = absurd (cc)
+held_datum d capacity (datum.Held c) fit =
+    let few = nat_le (count_in c) capacity && nat_le capacity greatest_count in
+    (c, refl, sym (disciplines_same d (discipline_of c) (both_true (same_discipline d (discipline_of c)) few fit).0))
 
 module _ (scope : Scope) (s : State) (fit : fits_in scope s ≡ true) (q : ℕ) where
   datum_there : (d : Domain) (has : HasDomain scope q d)
@@ -93,18 +102,19 @@ module _ (scope : Scope) (s : State) (fit : fits_in scope s ≡ true) (q : ℕ) 
       let flag = flag_datum start held.0 held.2 in
       (flag.0, held.1 ∙ ap (λ x. Some x) flag.1)
 
-  pub bag_there : (stands : StandsForBag scope q) → (b : Counts) × (slice_get s.variables stands.has.place ≡ Some (datum.Bag b))
-  bag_there stands =
-      let held = datum_there (domain.Bag stands.capacity) stands.has in
-      let bag = bag_datum stands.capacity held.0 held.2 in
-      (bag.0, held.1 ∙ ap (λ x. Some x) bag.1)
+  pub held_there : (d : Discipline) (stands : StandsForHeld scope d q)
+      → (c : Collection) × (slice_get s.variables stands.has.place ≡ Some (datum.Held c)) × (discipline_of c ≡ d)
+  held_there d stands =
+      let there = datum_there (domain.Held d stands.capacity) stands.has in
+      let held = held_datum d stands.capacity there.0 there.2 in
+      (held.0, there.1 ∙ ap (λ x. Some x) held.1, held.2)
 
 -- ---- Capacities
 
 abbrev HasCapacity : Domain → Type 0
 HasCapacity (domain.Number range) = Unit {0}
 HasCapacity (domain.Flag start) = Unit {0}
-HasCapacity (domain.Bag capacity) = (0 < capacity) × (capacity ≤ greatest_count)
+HasCapacity (domain.Held d capacity) = (0 < capacity) × (capacity ≤ greatest_count)
 
 abbrev HaveCapacities : List (ℕ × Domain) → Type 0
 HaveCapacities [] = Unit {0}
@@ -141,23 +151,24 @@ declarations_have_capacities (Var v ∷ ds) variables none have =
     declarations_have_capacities ds _ both.1 (have_capacities_with variables (v.name, domain.Number (range_of v)) have tt)
 declarations_have_capacities (Flag f ∷ ds) variables none have =
     declarations_have_capacities ds _ none (have_capacities_with variables (f.name, domain.Flag f.start) have tt)
-declarations_have_capacities (Bag b ∷ ds) variables none have =
-    let both = both_nil (bag_refusals b) (flat_map declaration_refusals ds) none in
-    let within = capacity_within b.capacity.value (not_false _ (not_refused _ _ _ both.0)) in
-    declarations_have_capacities ds _ both.1 (have_capacities_with variables (b.name, domain.Bag b.capacity.value) have within)
+declarations_have_capacities (Held c ∷ ds) variables none have =
+    let both = both_nil (collection_refusals c) (flat_map declaration_refusals ds) none in
+    let within = capacity_within c.capacity.value (not_false _ (not_refused _ _ _ both.0)) in
+    let held = domain.Held c.discipline c.capacity.value in
+    declarations_have_capacities ds _ both.1 (have_capacities_with variables (c.name, held) have within)
 
-capacity_of_slot : (d : Domain) (capacity : ℕ) → HasCapacity d → Some (slot_of d) ≡ Some (Holding capacity)
+capacity_of_slot : (held : Domain) (d : Discipline) (capacity : ℕ) → HasCapacity held → Some (slot_of held) ≡ Some (Holding d capacity)
     → (0 < capacity) × (capacity ≤ greatest_count)
-capacity_of_slot (domain.Number range) capacity has is = absurd (cc)
-capacity_of_slot (domain.Flag start) capacity has is = absurd (cc)
-capacity_of_slot (domain.Bag declared) capacity has is =
+capacity_of_slot (domain.Number range) d capacity has is = absurd (cc)
+capacity_of_slot (domain.Flag start) d capacity has is = absurd (cc)
+capacity_of_slot (domain.Held kind declared) d capacity has is =
     let same : declared ≡ capacity = cc in
     rw (← same) has
 
 capacities_of_slots : (variables : List (ℕ × Domain)) → HaveCapacities variables → AreSmall (map (λ v. slot_of v.1) variables)
-capacities_of_slots [] have place capacity is = absurd (cc)
-capacities_of_slots (v ∷ variables) have zero capacity is = capacity_of_slot v.1 capacity have.0 is
-capacities_of_slots (v ∷ variables) have (suc place) capacity is = capacities_of_slots variables have.1 place capacity is
+capacities_of_slots [] have place d capacity is = absurd (cc)
+capacities_of_slots (v ∷ variables) have zero d capacity is = capacity_of_slot v.1 d capacity have.0 is
+capacities_of_slots (v ∷ variables) have (suc place) d capacity is = capacities_of_slots variables have.1 place d capacity is
 
 pub tables_are_small : (m : AtomicTree) → atomic_refusals m ≡ [] → AreSmall (tables_of (scope_of m)).slots
 tables_are_small m none =

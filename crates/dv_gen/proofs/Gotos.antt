@@ -1,19 +1,22 @@
--- The gotos of a tree are the instructions Go of its program, and those of the text whose names became its places.
-use Rattle.std.proofs.Common.{◌≡◌, ℕ, ◌+◌, List, [], ◌∷◌, ◌++◌, append-nil, map, refl, sym, ap, ◌∙◌}
+-- The gotos of a tree are the deeds Go of its program, and those of the text whose names became its places.
+use Rattle.std.proofs.Common.{◌≡◌, ℕ, ◌+◌, List, [], ◌∷◌, ◌++◌, append-nil, append_assoc, map, refl, sym, ap, ◌∙◌}
 use mathlib.Core.List.{map-append}
-use Rattle.dv_syntax.specs.Trees.{Statements as NamedStatements, Done as Ended, Assign, Goto as GoTo, Send, If as IfOnly, IfElse}
-use Rattle.dv_syntax.specs.Trees.{For as Each, Add as AddTo, Drop}
+use Rattle.dv_syntax.specs.Trees.{Statements as NamedStatements, Done as Ended, Assign, Does, Send, If as IfOnly, IfElse}
+use Rattle.dv_syntax.specs.Trees.{For as Each, Changes}
+use Rattle.dv_syntax.specs.declared.tree.Command.{Command}
+use Rattle.dv_syntax.specs.declared.tree.Command.TheVariants as command
+use Rattle.dv_syntax.specs.declared.tree.Name.{Name}
 use Rattle.dv_eval.specs.Scope.{Scope, place_of}
-use Rattle.dv_accepted.specs.Gotos.{gotos_in}
+use Rattle.dv_accepted.specs.Gotos.{goto_of, gotos_in}
 use Rattle.dv_code.specs.declared.instruction.Instruction.{Instruction}
-use Rattle.dv_code.specs.declared.instruction.Instruction.TheVariants.{Go}
-use Rattle.dv_gen.specs.Resolved.{Expression, Read, Prefix, Infix, And, Or, Statements, Done, Act, Goto, When, If, For, gotos}
+use Rattle.dv_code.specs.declared.instruction.Instruction.TheVariants.{Do}
+use Rattle.dv_gen.specs.Resolved.{Expression, Read, Prefix, Infix, And, Or, Statements, Done, Act, Obey, When, If, For, gone, gotos}
 use Rattle.dv_gen.specs.Generator.{past, code_of, past_all, code_of_all, goes, program_of, hold_program_of}
-use Rattle.dv_gen.specs.Resolution.{all_resolved, choice, goto_places, place_or_first, resolved}
+use Rattle.dv_gen.specs.Resolution.{all_resolved, choice, deed_of, goto_places, place_or_first, resolved}
 
 goes_append : (is js : List Instruction) → goes (is ++ js) ≡ goes is ++ goes js
 goes_append [] js = refl
-goes_append (Go phase ∷ is) js = ap (λ phases. phase ∷ phases) (goes_append is js)
+goes_append (Do d ∷ is) js = ap (λ phases. gone d ++ phases) (goes_append is js) ∙ sym (append_assoc (gone d) (goes is) (goes js))
 goes_append (i ∷ is) js = goes_append is js
 
 -- code after code that goes to these phases
@@ -36,7 +39,7 @@ goes_past e p js = goes_after (code_of p e) js [] (goes_nowhere e p)
 goes_all : (block : Statements) (p : ℕ) → goes (code_of_all p block) ≡ gotos block
 goes_all Done p = refl
 goes_all (Act a value rest) p = goes_past value p _ ∙ goes_all rest (past p value + 1)
-goes_all (Goto phase rest) p = ap (λ phases. phase ∷ phases) (goes_all rest (p + 1))
+goes_all (Obey d rest) p = ap (λ phases. gone d ++ phases) (goes_all rest (p + 1))
 goes_all (When condition block rest) p =
     let then_at = past p condition + 1 in
     goes_past condition p _
@@ -67,7 +70,7 @@ choice_gotos : (condition : Expression) (block other rest : Statements)
     → gotos (choice condition block other rest) ≡ gotos block ++ (gotos other ++ gotos rest)
 choice_gotos condition block Done rest = refl
 choice_gotos condition block (Act a value more) rest = refl
-choice_gotos condition block (Goto phase more) rest = refl
+choice_gotos condition block (Obey d more) rest = refl
 choice_gotos condition block (When inner then more) rest = refl
 choice_gotos condition block (If inner then otherwise more) rest = refl
 choice_gotos condition block (For s body more) rest = refl
@@ -84,12 +87,17 @@ module _ (scope : Scope) where
       ∙ ap (λ places. map place_of_phase names ++ places) f
       ∙ sym (map-append place_of_phase names more)
 
+  -- a command goes to the place of the phase to which it went
+  gone_places : (c : Command) (name : Name) → gone (deed_of scope c name.number) ≡ map place_of_phase (goto_of c name)
+  gone_places command.Goto name = refl
+  gone_places command.Pop name = refl
+
   -- statements whose names became places go to the places of the phases to which they went
   pub resolved_gotos : (loops : List ℕ) (body : NamedStatements) → gotos (all_resolved scope loops body) ≡ goto_places scope body
   resolved_gotos loops Ended = refl
   resolved_gotos loops (Assign variable e rest) = resolved_gotos loops rest
-  resolved_gotos loops (GoTo place phase rest) =
-      ap (λ places. place_of_phase phase.number ∷ places) (resolved_gotos loops rest)
+  resolved_gotos loops (Does c place name rest) =
+      gotos_before _ _ (goto_of c name) (gotos_in rest) (gone_places c name) (resolved_gotos loops rest)
   resolved_gotos loops (Send place port e rest) = resolved_gotos loops rest
   resolved_gotos loops (IfOnly place e block rest) =
       gotos_before _ _ (gotos_in block) (gotos_in rest) (resolved_gotos loops block) (resolved_gotos loops rest)
@@ -100,5 +108,4 @@ module _ (scope : Scope) where
       (gotos_before _ _ (gotos_in other) (gotos_in rest) (resolved_gotos loops other) (resolved_gotos loops rest))
   resolved_gotos loops (Each place v b block rest) =
       gotos_before _ _ (gotos_in block) (gotos_in rest) (resolved_gotos (v.number ∷ loops) block) (resolved_gotos loops rest)
-  resolved_gotos loops (AddTo place e b rest) = resolved_gotos loops rest
-  resolved_gotos loops (Drop place e b rest) = resolved_gotos loops rest
+  resolved_gotos loops (Changes c place e collection rest) = resolved_gotos loops rest

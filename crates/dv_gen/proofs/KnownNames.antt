@@ -11,19 +11,24 @@ use Rattle.dv_eval.specs.declared.scope.VariableRange.{VariableRange}
 use Rattle.dv_eval.specs.declared.scope.Domain.{Domain}
 use Rattle.dv_eval.specs.declared.scope.Domain.TheVariants as domain
 use Rattle.dv_check.specs.declared.declarations.NameSort.{NameSort}
-use Rattle.dv_check.specs.declared.declarations.NameSort.TheVariants.{Variable as ForVariable, Flag as ForFlag, Bag as ForBag}
+use Rattle.dv_check.specs.declared.declarations.NameSort.TheVariants.{Variable as ForVariable, Flag as ForFlag, Held as ForHeld}
 use Rattle.dv_check.specs.declared.declarations.NameSort.TheVariants.{Input as ForInput, Output as ForOutput}
 use Rattle.dv_check.specs.declared.declarations.NameSort.TheVariants.{LoopVariable as ForLoopVariable}
+use Rattle.dv_check.specs.declared.wanted.Wanted.{Wanted}
 use Rattle.dv_check.specs.Couplings.{is_input, is_output}
+use Rattle.dv_bag.specs.Collections.{same_discipline}
+use Rattle.dv_bag.specs.declared.discipline.Discipline.{Discipline}
+use Rattle.dv_bag.specs.declared.discipline.Discipline.TheVariants as discipline
 use Rattle.dv_bag.specs.declared.value.ValueType.{ValueType}
 use Rattle.dv_bag.specs.declared.value.ValueType.TheVariants.{Number, Truth}
-use Rattle.dv_check.specs.Rules.{assignment_refusals, atomic_refusals, changed_bag_refusals, is_output_rule, known_in}
+use Rattle.dv_bag.proofs.Collections.{disciplines_same}
+use Rattle.dv_check.specs.Rules.{assignment_refusals, atomic_refusals, changed_refusals, is_output_rule, known_in}
 use Rattle.dv_check.specs.Rules.{known_in_loop, known_in_rule, sent_port_refusals, sort_in}
-use Rattle.dv_check.specs.Types.{Known, is_bag, sees_inputs, type_of_name}
-use Rattle.dv_check.proofs.CheckedFiles.{not_refused}
+use Rattle.dv_check.specs.Types.{Known, is_readable, sees_inputs, suits, suits_port, type_of_name}
+use Rattle.dv_check.proofs.CheckedFiles.{not_false, not_refused}
 use Rattle.dv_check.proofs.Declared.{input_declared, output_declared}
 use Rattle.dv_accepted.specs.Fitting.{domain_named, domain_at as domain_of_place}
-use Rattle.dv_accepted.proofs.Fitting.{HasPlace, among_declared, place_of_declared}
+use Rattle.dv_accepted.proofs.Fitting.{HasPlace, among_declared, both_true, place_of_declared}
 use Rattle.dv_accepted.proofs.Inputs.{port_placeless}
 use Rattle.dv_accepted.proofs.Known.{is_of_loop, is_stored, of_no_loop, sort_named, sort_of_domain}
 use Rattle.dv_code.specs.declared.instruction.Source.TheVariants.{Own, Port}
@@ -33,7 +38,7 @@ use Rattle.dv_gen.specs.Resolution.{assignment_at, leaf_of, loop_of, slot_of, so
 
 -- ---- What a name stands for
 
--- the name has a place among the variables, flags and bags, with this domain
+-- the name has a place among the state variables, with this domain
 pub record HasDomain (scope : Scope) (q : ℕ) (d : Domain) : Type 0 where
   pub place : ℕ
   pub found : place_of q (names_of scope.variables) ≡ Some place
@@ -52,9 +57,10 @@ pub record StandsForFlag (scope : Scope) (loops : List ℕ) (q : ℕ) : Type 0 w
   pub start : Bool
   pub has : HasDomain scope q (domain.Flag start)
 
-pub record StandsForBag (scope : Scope) (q : ℕ) : Type 0 where
+-- a bag, or a queue
+pub record StandsForHeld (scope : Scope) (d : Discipline) (q : ℕ) : Type 0 where
   pub capacity : ℕ
-  pub has : HasDomain scope q (domain.Bag capacity)
+  pub has : HasDomain scope q (domain.Held d capacity)
 
 pub record StandsForInput (scope : Scope) (q : ℕ) : Type 0 where
   pub placeless : place_of q (names_of scope.variables) ≡ None
@@ -70,7 +76,7 @@ abbrev pub Stands : Scope → List ℕ → ℕ → Option NameSort → Type 0
 Stands scope loops q None = Unit {0}
 Stands scope loops q (Some ForVariable) = StandsForVariable scope loops q
 Stands scope loops q (Some ForFlag) = StandsForFlag scope loops q
-Stands scope loops q (Some ForBag) = StandsForBag scope q
+Stands scope loops q (Some (ForHeld d)) = StandsForHeld scope d q
 Stands scope loops q (Some ForInput) = StandsForInput scope q
 Stands scope loops q (Some ForOutput) = HasPlace q scope.outputs
 Stands scope loops q (Some ForLoopVariable) = StandsForLoop loops q
@@ -129,9 +135,9 @@ pub flag_assignment : (scope : Scope) (loops : List ℕ) (q : ℕ) (stands : Sta
     → assignment_at scope (place_of q (names_of scope.variables)) ≡ action.SetFlag stands.has.place
 flag_assignment scope loops q stands = rw (stands.has.found, stands.has.there) refl
 
--- where a bag is read
-pub own_source : (scope : Scope) (q : ℕ) (stands : StandsForBag scope q) → source_of scope q ≡ Own stands.has.place
-own_source scope q stands = rw stands.has.found refl
+-- where a collection is read
+pub own_source : (scope : Scope) (d : Discipline) (q : ℕ) (stands : StandsForHeld scope d q) → source_of scope q ≡ Own d stands.has.place
+own_source scope d q stands = rw (stands.has.found, stands.has.there) refl
 
 pub port_source : (scope : Scope) (q : ℕ) (stands : StandsForInput scope q) → source_of scope q ≡ Port stands.port.place
 port_source scope q stands = rw (stands.placeless, stands.port.found) refl
@@ -143,7 +149,7 @@ domain_stands scope q (domain.Number range) is =
     record { outside = refl; range = range; has = has_domain scope q (domain.Number range) is }
 domain_stands scope q (domain.Flag start) is =
     record { outside = refl; start = start; has = has_domain scope q (domain.Flag start) is }
-domain_stands scope q (domain.Bag capacity) is = record { capacity = capacity; has = has_domain scope q (domain.Bag capacity) is }
+domain_stands scope q (domain.Held d capacity) is = record { capacity = capacity; has = has_domain scope q (domain.Held d capacity) is }
 
 module _ (m : AtomicTree) (none : atomic_refusals m ≡ []) where
   stored_stands : (q : ℕ) (o : NameSort) → sort_in m.declarations q ≡ Some o → is_stored (Some o) ≡ true
@@ -156,7 +162,7 @@ module _ (m : AtomicTree) (none : atomic_refusals m ≡ []) where
   stands_outside_as q None sort = tt
   stands_outside_as q (Some ForVariable) sort = stored_stands q ForVariable sort refl
   stands_outside_as q (Some ForFlag) sort = stored_stands q ForFlag sort refl
-  stands_outside_as q (Some ForBag) sort = stored_stands q ForBag sort refl
+  stands_outside_as q (Some (ForHeld d)) sort = stored_stands q (ForHeld d) sort refl
   stands_outside_as q (Some ForInput) sort =
       let declared = input_declared q m.declarations [] (ap is_input sort) in
       record { placeless = port_placeless m q none declared; port = place_of_declared q (scope_of m).inputs declared }
@@ -182,7 +188,7 @@ stands_behind scope loops v q (Some ForVariable) other stands =
     record { outside = rw other stands.outside; range = stands.range; has = stands.has }
 stands_behind scope loops v q (Some ForFlag) other stands =
     record { outside = rw other stands.outside; start = stands.start; has = stands.has }
-stands_behind scope loops v q (Some ForBag) other stands = stands
+stands_behind scope loops v q (Some (ForHeld d)) other stands = stands
 stands_behind scope loops v q (Some ForInput) other stands = stands
 stands_behind scope loops v q (Some ForOutput) other stands = stands
 stands_behind scope loops v q (Some ForLoopVariable) other stands =
@@ -204,10 +210,11 @@ knows_inside scope rule loops known v knows = record {
 
 -- ---- What accepted names stand for
 
--- a bag that can be read: one of the state, or where inputs are seen what has arrived at a port
-pub data Readable (scope : Scope) (rule : Option RuleSort) (q : ℕ) : Type 0 where
-  StateBag : (stands : StandsForBag scope q) → Readable scope rule q
-  InputPort : (stands : StandsForInput scope q) (seen : sees_inputs rule ≡ true) → Readable scope rule q
+-- what can be read where this is wanted: a collection of the state, or where inputs are seen what has arrived at a port
+pub data Readable (scope : Scope) (w : Wanted) (rule : Option RuleSort) (q : ℕ) : Type 0 where
+  OfState : (d : Discipline) (stands : StandsForHeld scope d q) (suited : suits w d ≡ true) → Readable scope w rule q
+  InputPort : (stands : StandsForInput scope q) (suited : suits_port w ≡ true) (seen : sees_inputs rule ≡ true)
+      → Readable scope w rule q
 
 -- what is assigned: a variable or a flag
 pub data Assigned (scope : Scope) (loops : List ℕ) (q : ℕ) : Option NameSort → Type 0 where
@@ -215,22 +222,24 @@ pub data Assigned (scope : Scope) (loops : List ℕ) (q : ℕ) : Option NameSort
   ToFlag : (stands : StandsForFlag scope loops q) → Assigned scope loops q (Some ForFlag)
 
 module _ (scope : Scope) (loops : List ℕ) (q : ℕ) where
-  readable_stands : (rule : Option RuleSort) (o : Option NameSort) → Stands scope loops q o → is_bag rule o ≡ true
-      → Readable scope rule q
-  readable_stands rule None stands is = absurd (cc)
-  readable_stands rule (Some ForVariable) stands is = absurd (cc)
-  readable_stands rule (Some ForFlag) stands is = absurd (cc)
-  readable_stands rule (Some ForBag) stands is = StateBag stands
-  readable_stands rule (Some ForInput) stands is = InputPort stands is
-  readable_stands rule (Some ForOutput) stands is = absurd (cc)
-  readable_stands rule (Some ForLoopVariable) stands is = absurd (cc)
+  readable_stands : (w : Wanted) (rule : Option RuleSort) (o : Option NameSort) → Stands scope loops q o → is_readable w rule o ≡ true
+      → Readable scope w rule q
+  readable_stands w rule None stands is = absurd (cc)
+  readable_stands w rule (Some ForVariable) stands is = absurd (cc)
+  readable_stands w rule (Some ForFlag) stands is = absurd (cc)
+  readable_stands w rule (Some (ForHeld d)) stands is = OfState d stands is
+  readable_stands w rule (Some ForInput) stands is =
+      let both = both_true (suits_port w) (sees_inputs rule) is in
+      InputPort stands both.0 both.1
+  readable_stands w rule (Some ForOutput) stands is = absurd (cc)
+  readable_stands w rule (Some ForLoopVariable) stands is = absurd (cc)
 
   pub assigned_stands : (rule : Option RuleSort) (o : Option NameSort) (place : ℕ) → Stands scope loops q o
       → assignment_refusals rule o place ≡ [] → Assigned scope loops q o × (is_output_rule rule ≡ false)
   assigned_stands rule None place stands none = absurd (cc)
   assigned_stands rule (Some ForVariable) place stands none = (ToVariable stands, not_refused _ _ _ none)
   assigned_stands rule (Some ForFlag) place stands none = (ToFlag stands, not_refused _ _ _ none)
-  assigned_stands rule (Some ForBag) place stands none = absurd (cc)
+  assigned_stands rule (Some (ForHeld d)) place stands none = absurd (cc)
   assigned_stands rule (Some ForInput) place stands none = absurd (cc)
   assigned_stands rule (Some ForOutput) place stands none = absurd (cc)
   assigned_stands rule (Some ForLoopVariable) place stands none = absurd (cc)
@@ -240,28 +249,29 @@ module _ (scope : Scope) (loops : List ℕ) (q : ℕ) where
   assigned_type (ToVariable stands) = (Number, refl)
   assigned_type (ToFlag stands) = (Truth, refl)
 
-  pub changed_bag_stands : (o : Option NameSort) (place : ℕ) → Stands scope loops q o → changed_bag_refusals o place ≡ []
-      → StandsForBag scope q
-  changed_bag_stands None place stands none = absurd (cc)
-  changed_bag_stands (Some ForVariable) place stands none = absurd (cc)
-  changed_bag_stands (Some ForFlag) place stands none = absurd (cc)
-  changed_bag_stands (Some ForBag) place stands none = stands
-  changed_bag_stands (Some ForInput) place stands none = absurd (cc)
-  changed_bag_stands (Some ForOutput) place stands none = absurd (cc)
-  changed_bag_stands (Some ForLoopVariable) place stands none = absurd (cc)
+  pub changed_stands : (d : Discipline) (o : Option NameSort) (place : ℕ) → Stands scope loops q o → changed_refusals d o place ≡ []
+      → StandsForHeld scope d q
+  changed_stands d None place stands none = absurd (cc)
+  changed_stands d (Some ForVariable) place stands none = absurd (cc)
+  changed_stands d (Some ForFlag) place stands none = absurd (cc)
+  changed_stands d (Some (ForHeld other)) place stands none =
+      subst (λ (x : Discipline). StandsForHeld scope x q) (disciplines_same other d (not_false _ (not_refused _ _ _ none))) stands
+  changed_stands d (Some ForInput) place stands none = absurd (cc)
+  changed_stands d (Some ForOutput) place stands none = absurd (cc)
+  changed_stands d (Some ForLoopVariable) place stands none = absurd (cc)
 
   pub sent_port_stands : (o : Option NameSort) (place : ℕ) → Stands scope loops q o → sent_port_refusals o place ≡ []
       → HasPlace q scope.outputs
   sent_port_stands None place stands none = absurd (cc)
   sent_port_stands (Some ForVariable) place stands none = absurd (cc)
   sent_port_stands (Some ForFlag) place stands none = absurd (cc)
-  sent_port_stands (Some ForBag) place stands none = absurd (cc)
+  sent_port_stands (Some (ForHeld d)) place stands none = absurd (cc)
   sent_port_stands (Some ForInput) place stands none = absurd (cc)
   sent_port_stands (Some ForOutput) place stands none = stands
   sent_port_stands (Some ForLoopVariable) place stands none = absurd (cc)
 
-pub known_readable : (scope : Scope) (rule : Option RuleSort) (loops : List ℕ) (known : Known) → Knows scope rule loops known → (q : ℕ)
-    → is_bag known.rule (known.sort q) ≡ true → Readable scope rule q
-known_readable scope rule loops known knows q is =
-    let seen = ap (λ r. is_bag r (known.sort q)) (sym knows.rule_is) ∙ is in
-    readable_stands scope loops q rule (known.sort q) (knows.name q) seen
+pub known_readable : (scope : Scope) (rule : Option RuleSort) (loops : List ℕ) (known : Known) → Knows scope rule loops known
+    → (w : Wanted) (q : ℕ) → is_readable w known.rule (known.sort q) ≡ true → Readable scope w rule q
+known_readable scope rule loops known knows w q is =
+    let seen = ap (λ r. is_readable w r (known.sort q)) (sym knows.rule_is) ∙ is in
+    readable_stands scope loops q w rule (known.sort q) (knows.name q) seen

@@ -10,12 +10,12 @@ use Rattle.dv_syntax.specs.declared.tree.Name.{Name}
 use Rattle.dv_syntax.specs.declared.tree.Operator.{Operator}
 use Rattle.dv_syntax.specs.declared.tree.Operator.TheVariants as operator
 use Rattle.dv_syntax.specs.declared.tree.Prefix.TheVariants as prefix
-use Rattle.dv_syntax.specs.Grammar.{Anywhere, IsFileOf, Spelled, braces, expression_spelling, file_spelling, header_spelling}
-use Rattle.dv_syntax.specs.Grammar.{hold_spelling, item_spelling, model_spelling, name, operator_kind, rule_spelling, sign}
+use Rattle.dv_syntax.specs.Grammar.{Anywhere, IsFileOf, Spelled, braces, change_preposition, expression_spelling, file_spelling}
+use Rattle.dv_syntax.specs.Grammar.{header_spelling, hold_spelling, item_spelling, model_spelling, name, operator_kind, rule_spelling, sign}
 use Rattle.dv_syntax.specs.Grammar.{statements_spelling, word}
 use Rattle.dv_syntax.specs.Trees.{AtomicTree, FileTree, HoldTree, ModelTree, RuleTree, Expression as NamedExpression, Literal, TruthValue}
 use Rattle.dv_syntax.specs.Trees.{Named, Parens, Prefixed, Binary, Call, Elapsed, Times, Statements as NamedStatements, Done as Ended}
-use Rattle.dv_syntax.specs.Trees.{Assign, Goto as GoTo, Send, If as IfOnly, IfElse, For as Each, Add as AddTo, Drop}
+use Rattle.dv_syntax.specs.Trees.{Assign, Does, Send, If as IfOnly, IfElse, For as Each, Changes}
 use Rattle.dv_syntax.specs.Written.{AtomicItem, Declares, Lists, Starts, Holds, Rules, WrittenModel, WrittenAtomic, WrittenCoupled}
 use Rattle.dv_syntax.specs.Written.{sorted_items, sorted_model}
 use Rattle.dv_syntax.proofs.Lengths.{Spells-length, length-braces}
@@ -88,7 +88,7 @@ statements_within scope loops (Assign variable e rest) p =
     let behind = sign symbol.Semicolon ∷ statements_spelling rest in
     let later = statements_within scope loops rest (past p (resolved scope loops e) + 1) in
     omega (arith, expression_within scope loops e p, later, length-append (expression_spelling e) behind)
-statements_within scope loops (GoTo place phase rest) p = omega (arith, statements_within scope loops rest (p + 1))
+statements_within scope loops (Does c place name rest) p = omega (arith, statements_within scope loops rest (p + 1))
 statements_within scope loops (Send place port e rest) p =
     let behind = sign symbol.Semicolon ∷ statements_spelling rest in
     let later = statements_within scope loops rest (past p (resolved scope loops e) + 1) in
@@ -124,12 +124,8 @@ statements_within scope loops (Each place v b block rest) p =
       statements_within scope loops rest (past_all (p + 1) inside + 1),
       length-block (statements_spelling block) (statements_spelling rest),
     )
-statements_within scope loops (AddTo place e b rest) p =
-    let behind = word keyword.To ∷ name b ∷ sign symbol.Semicolon ∷ statements_spelling rest in
-    let later = statements_within scope loops rest (past p (resolved scope loops e) + 1) in
-    omega (arith, expression_within scope loops e p, later, length-append (expression_spelling e) behind)
-statements_within scope loops (Drop place e b rest) p =
-    let behind = word keyword.From ∷ name b ∷ sign symbol.Semicolon ∷ statements_spelling rest in
+statements_within scope loops (Changes c place e collection rest) p =
+    let behind = word (change_preposition c) ∷ name collection ∷ sign symbol.Semicolon ∷ statements_spelling rest in
     let later = statements_within scope loops rest (past p (resolved scope loops e) + 1) in
     omega (arith, expression_within scope loops e p, later, length-append (expression_spelling e) behind)
 

@@ -11,13 +11,12 @@ use Rattle.dv_syntax.specs.Trees.{Expression, Statements, Done, If, IfElse, For,
 loop_depth-before : (s : Stmt) (rest : Statements)
     → loop_depth (statement_before s rest) ≡ max (loop_depth (statement_before s Done)) (loop_depth rest)
 loop_depth-before (stmt.Assign name e) rest = omega arith
-loop_depth-before (stmt.Goto place phase) rest = omega arith
+loop_depth-before (stmt.Command c place name) rest = omega arith
 loop_depth-before (stmt.Send place port e) rest = omega arith
 loop_depth-before (stmt.If' place e shape block) rest = omega arith
 loop_depth-before (stmt.IfElse' place e shape block other_shape other) rest = omega arith
 loop_depth-before (stmt.For' place v b shape block) rest = omega arith
-loop_depth-before (stmt.Add place e b) rest = omega arith
-loop_depth-before (stmt.Drop place e b) rest = omega arith
+loop_depth-before (stmt.Change c place e collection) rest = omega arith
 
 -- no statement of a list is deeper than the list
 pub loop_depth-at : (statements : List Stmt) (i : ℕ) (d : Stmt) → i < length statements

@@ -6,7 +6,7 @@ use Rattle.dv_bag.specs.declared.value.ValueType.{ValueType}
 use Rattle.dv_code.specs.Valid.{Body, Mark, mark}
 use Rattle.dv_code.specs.declared.instruction.Instruction.{Instruction}
 use Rattle.dv_code.specs.declared.instruction.Instruction.TheVariants as code
-use Rattle.dv_gen.specs.Resolved.{Expression, Read, Prefix, Infix, And, Or, Statements, Done, Act, Goto, When, If, For, type_of}
+use Rattle.dv_gen.specs.Resolved.{Expression, Read, Prefix, Infix, And, Or, Statements, Done, Act, Obey, When, If, For, type_of}
 use Rattle.dv_gen.specs.Generator.{past, code_of, past_all, code_of_all}
 
 -- an instruction, and the mark of its place
@@ -52,7 +52,7 @@ marked_code_of_all p nest Done after = after
 marked_code_of_all p nest (Act a value rest) after =
     marked_code_of p [] nest value
     (with_mark (code.Perform a) (type_of value ∷ []) nest ∷ marked_code_of_all (past p value + 1) nest rest after)
-marked_code_of_all p nest (Goto phase rest) after = with_mark (code.Go phase) [] nest ∷ marked_code_of_all (p + 1) nest rest after
+marked_code_of_all p nest (Obey d rest) after = with_mark (code.Do d) [] nest ∷ marked_code_of_all (p + 1) nest rest after
 marked_code_of_all p nest (When condition block rest) after =
     let then_at = past p condition + 1 in
     let end_at = past_all then_at block in
@@ -98,7 +98,7 @@ same_code_all Done p nest after = refl
 same_code_all (Act a value rest) p nest after =
     code_joins (code_of p value) _ (instructions after) (same_code value p [] nest _)
     (ap (λ is. code.Perform a ∷ is) (same_code_all rest (past p value + 1) nest after))
-same_code_all (Goto phase rest) p nest after = ap (λ is. code.Go phase ∷ is) (same_code_all rest (p + 1) nest after)
+same_code_all (Obey d rest) p nest after = ap (λ is. code.Do d ∷ is) (same_code_all rest (p + 1) nest after)
 same_code_all (When condition block rest) p nest after =
     let then_at = past p condition + 1 in
     let end_at = past_all then_at block in

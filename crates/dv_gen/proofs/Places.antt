@@ -8,7 +8,7 @@ use Rattle.dv_bag.specs.declared.value.ValueType.{ValueType}
 use Rattle.dv_code.specs.Valid.{Body}
 use Rattle.dv_code.specs.declared.instruction.Instruction.{Instruction}
 use Rattle.dv_code.specs.declared.instruction.Instruction.TheVariants as code
-use Rattle.dv_gen.specs.Resolved.{Expression, Read, Prefix, Infix, And, Or, Statements, Done, Act, Goto, When, If, For, type_of}
+use Rattle.dv_gen.specs.Resolved.{Expression, Read, Prefix, Infix, And, Or, Statements, Done, Act, Obey, When, If, For, type_of}
 use Rattle.dv_gen.specs.Generator.{past, past_all}
 use Rattle.dv_gen.proofs.Marks.{MarkedInstruction, body_at, marked_code_of, marked_code_of_all, with_mark}
 
@@ -26,7 +26,7 @@ past_all_no_earlier (Act a value rest) p =
     let x = past_later value p in
     let y = past_all_no_earlier rest (past p value + 1) in
     omega (arith, x, y)
-past_all_no_earlier (Goto phase rest) p = let y = past_all_no_earlier rest (p + 1) in omega (arith, y)
+past_all_no_earlier (Obey d rest) p = let y = past_all_no_earlier rest (p + 1) in omega (arith, y)
 past_all_no_earlier (When condition block rest) p =
     let then_at = past p condition + 1 in
     let x = past_later condition p in
@@ -76,7 +76,7 @@ module _ (program : List MarkedInstruction) where
   HasCodeOfAll p nest (Act a value rest) =
       HasCode p [] nest value × IsAt (past p value) (code.Perform a) (type_of value ∷ []) nest
       × HasCodeOfAll (past p value + 1) nest rest
-  HasCodeOfAll p nest (Goto phase rest) = IsAt p (code.Go phase) [] nest × HasCodeOfAll (p + 1) nest rest
+  HasCodeOfAll p nest (Obey d rest) = IsAt p (code.Do d) [] nest × HasCodeOfAll (p + 1) nest rest
   HasCodeOfAll p nest (When condition block rest) =
       let then_at = past p condition + 1 in
       let end_at = past_all then_at block in
@@ -119,7 +119,7 @@ module _ (program : List MarkedInstruction) where
       let x = code_stands value p [] nest _ h in
       let y = code_of_all_stands rest (past p value + 1) nest after x.1.1 in
       ((x.0, x.1.0, y.0), y.1)
-  code_of_all_stands (Goto phase rest) p nest after h =
+  code_of_all_stands (Obey d rest) p nest after h =
       let y = code_of_all_stands rest (p + 1) nest after h.1 in
       ((h.0, y.0), y.1)
   code_of_all_stands (When condition block rest) p nest after h =

@@ -2,8 +2,9 @@
 use Rattle.std.proofs.Common.{◌≡◌, ℕ, suc, ◌+◌, ℤ, true, false, cond, List, [], ◌∷◌, Option, Some, None, Result, Ok, Err, refl, ap, ◌∙◌}
 use Rattle.std.specs.Prelude.{slice_get, ◌≢◌}
 use Rattle.dv_bag.specs.Arrivals.{Arrivals}
-use Rattle.dv_bag.specs.Bag.{Counts, values_of}
+use Rattle.dv_bag.specs.Collections.{values_in as values_held}
 use Rattle.dv_bag.specs.Outcome.{◌>>=◌}
+use Rattle.dv_bag.specs.declared.collection.Collection.{Collection}
 use Rattle.dv_bag.specs.declared.fault.Fault.{Fault}
 use Rattle.dv_bag.specs.declared.state.State.{State}
 use Rattle.dv_bag.specs.declared.state.Effect.{Effect}
@@ -11,7 +12,7 @@ use Rattle.dv_bag.specs.declared.value.Value.{Value}
 use Rattle.dv_bag.specs.declared.value.Value.TheVariants.{Number, Truth}
 use Rattle.dv_bag.specs.declared.value.ValueType.{ValueType}
 use Rattle.dv_code.specs.Shape.{Fits, Shape}
-use Rattle.dv_code.specs.Operations.{action_effect, bag_of, binary_value, going, leaf_value, unary_value}
+use Rattle.dv_code.specs.Operations.{action_effect, binary_value, collection_of, deed_effect, leaf_value, unary_value}
 use Rattle.dv_code.specs.Machine.{Turn, Configuration, Outcome, Goes, Faulted, Stuck, acted, and_then, begins, first_effect}
 use Rattle.dv_code.specs.Machine.{items_of, opened, performed, pushed, run, step, turns_to}
 use Rattle.dv_code.specs.Valid.{Body}
@@ -19,7 +20,7 @@ use Rattle.dv_code.specs.declared.instruction.Source.{Source}
 use Rattle.dv_code.specs.declared.instruction.Instruction.{Instruction}
 use Rattle.dv_code.specs.declared.instruction.Instruction.TheVariants as code
 use Rattle.dv_code.proofs.Endings.{never_stuck}
-use Rattle.dv_gen.specs.Resolved.{Expression, Read, Prefix, Infix, And, Or, Statements, Done, Act, Goto, When, If, For, AreTyped}
+use Rattle.dv_gen.specs.Resolved.{Expression, Read, Prefix, Infix, And, Or, Statements, Done, Act, Obey, When, If, For, AreTyped}
 use Rattle.dv_gen.specs.Resolved.{IsTyped, effect_from, for_each, or_same, or_zero, rule_effect, truth_of, type_of, value_of}
 use Rattle.dv_gen.specs.Resolved.{values_in}
 use Rattle.dv_gen.specs.Generator.{ending, hold_ending, past, past_all}
@@ -182,14 +183,15 @@ module _ (shape : Shape) (arrivals : Arrivals) (program : List MarkedInstruction
       step_on c d (body v x >>= for_each body rest) _ (step_at c (code.Next first) h) free_x
       (turns first next loops body h each rest v x))
 
-  -- so does a loop, over the values of its bag
+  -- so does a loop, over the values of its collection
   loop : (p past : ℕ) (s : Source) (loops : List Turn) (e : Effect) (body : ℤ → Effect → Result Effect Fault)
       → Stands p (code.Loop s past)
       → ((n : ℤ) (rest : List ℤ) → IsFree (at (p + 1) [] (turn n rest ∷ loops) e)
       → ReachesMeant (at (p + 1) [] (turn n rest ∷ loops) e) (body n e >>= for_each body rest) (λ x. at past [] loops x))
       → IsFree (at p [] loops e)
-      → ReachesMeant (at p [] loops e) (for_each body (values_in (bag_of arrivals e.state s)) e) (λ x. at past [] loops x)
-  loop p past s loops e body h begun free = over_bag (bag_of arrivals e.state s) (step_at (at p [] loops e) (code.Loop s past) h)
+      → ReachesMeant (at p [] loops e) (for_each body (values_in (collection_of arrivals e.state s)) e) (λ x. at past [] loops x)
+  loop p past s loops e body h begun free =
+      over_collection (collection_of arrivals e.state s) (step_at (at p [] loops e) (code.Loop s past) h)
     where
       over : (vs : List ℤ) → steps (at p [] loops e) ≡ turns_to (p + 1) past loops (at p [] loops e) vs
           → ReachesMeant (at p [] loops e) (for_each body vs e) (λ x. at past [] loops x)
@@ -197,10 +199,10 @@ module _ (shape : Shape) (arrivals : Arrivals) (program : List MarkedInstruction
       over (n ∷ rest) is =
           step_on (at p [] loops e) (at (p + 1) [] (turn n rest ∷ loops) e) (body n e >>= for_each body rest) _ is free (begun n rest)
 
-      over_bag : (o : Option Counts) → steps (at p [] loops e) ≡ opened past (at p [] loops e) o
+      over_collection : (o : Option Collection) → steps (at p [] loops e) ≡ opened past (at p [] loops e) o
           → ReachesMeant (at p [] loops e) (for_each body (values_in o) e) (λ x. at past [] loops x)
-      over_bag None is = free_not_stuck (at p [] loops e) free is
-      over_bag (Some b) is = over (values_of b) is
+      over_collection None is = free_not_stuck (at p [] loops e) free is
+      over_collection (Some held) is = over (values_held held) is
 
   -- the code of an expression leaves its value
   leaves_value : (a : Expression) (p : ℕ) (types : List ValueType) (nest : List Body) (stack : List Value) (loops : List Turn) (e : Effect)
@@ -253,11 +255,11 @@ module _ (shape : Shape) (arrivals : Arrivals) (program : List MarkedInstruction
       let o = action_effect shape a v e in
       in_sequence c (or_same e o) _ _ _ free_v (acts c [] o free_v (step_at c (code.Perform a) (stands q _ _ nest h.1)))
       (λ x free_x. has_effect rest (q + 1) nest loops x h.2 free_x))
-  has_effect (Goto phase rest) p nest loops e h free =
+  has_effect (Obey d rest) p nest loops e h free =
       let c = at p [] loops e in
-      let x = going phase e in
-      step_on c (at (p + 1) [] loops x) (effect_from shape arrivals (items_of loops) rest x) _
-      (step_at c (code.Go phase) (stands p _ _ nest h.0)) free (has_effect rest (p + 1) nest loops x h.1)
+      let o = deed_effect d e in
+      in_sequence c (or_same e o) _ _ _ free (acts c [] o free (step_at c (code.Do d) (stands p _ _ nest h.0)))
+      (λ x free_x. has_effect rest (p + 1) nest loops x h.1 free_x)
   has_effect (When condition block rest) p nest loops e h free =
       let q = past p condition in
       let end_at = past_all (q + 1) block in
@@ -292,7 +294,7 @@ module _ (shape : Shape) (arrivals : Arrivals) (program : List MarkedInstruction
       let next = past_all (p + 1) block in
       let inner = body_at p block ∷ nest in
       let body : ℤ → Effect → Result Effect Fault = λ n. effect_from shape arrivals (n ∷ items_of loops) block in
-      in_sequence (at p [] loops e) (for_each body (values_in (bag_of arrivals e.state s)) e) _ _ _ free
+      in_sequence (at p [] loops e) (for_each body (values_in (collection_of arrivals e.state s)) e) _ _ _ free
       (loop p (next + 1) s loops e body (stands p _ _ nest h.0)
       (λ n vs free_n.
       turns (p + 1) next loops body (stands next _ _ inner h.2)

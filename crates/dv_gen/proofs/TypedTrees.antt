@@ -1,12 +1,13 @@
 -- What is accepted is well typed where its names are places.
-use Rattle.std.proofs.Common.{◌≡◌, ℕ, ◌+◌, ◌≤◌, true, false, ◌&&◌, List, [], ◌∷◌, length, refl, sym, ap, subst, ◌∙◌, Option, Some}
+use Rattle.std.proofs.Common.{◌≡◌, ℕ, ◌+◌, ◌≤◌, Bool, true, false, ◌&&◌, List, [], ◌∷◌, length, refl, sym, ap, subst, ◌∙◌, Option, Some}
 use Rattle.std.proofs.Common.{None, IfSome, arith}
-use Rattle.std.specs.Prelude.{IsTrue, slice_get}
 use Rattle.std.specs.List.{All}
 use Rattle.dv_syntax.specs.Grammar.{loop_depth}
 use Rattle.dv_syntax.specs.Trees.{AtomicTree, HoldTree, RuleTree, Expression as NamedExpression, Literal, TruthValue, Named}
 use Rattle.dv_syntax.specs.Trees.{Parens, Prefixed, Binary, Call, Elapsed, Times, Statements as NamedStatements, Done as Ended}
-use Rattle.dv_syntax.specs.Trees.{Assign, Goto as GoTo, Send, If as IfOnly, IfElse, For as Each, Add as AddTo, Drop}
+use Rattle.dv_syntax.specs.Trees.{Assign, Does, Send, If as IfOnly, IfElse, For as Each, Changes}
+use Rattle.dv_syntax.specs.declared.tree.Command.{Command}
+use Rattle.dv_syntax.specs.declared.tree.Command.TheVariants as command
 use Rattle.dv_syntax.specs.declared.tree.Name.{Name}
 use Rattle.dv_syntax.specs.declared.tree.BagCall.{BagCall}
 use Rattle.dv_syntax.specs.declared.tree.BagCall.TheVariants as call
@@ -15,38 +16,47 @@ use Rattle.dv_syntax.specs.declared.tree.Operator.{Operator}
 use Rattle.dv_syntax.specs.declared.tree.Operator.TheVariants as operator
 use Rattle.dv_syntax.specs.declared.tree.RuleSort.{RuleSort}
 use Rattle.dv_syntax.specs.declared.tree.RuleSort.TheVariants as rule
+use Rattle.dv_bag.specs.Collections.{discipline_of_change}
+use Rattle.dv_bag.specs.declared.discipline.Change.{Change}
+use Rattle.dv_bag.specs.declared.discipline.Discipline.{Discipline}
+use Rattle.dv_bag.specs.declared.discipline.Discipline.TheVariants as discipline
 use Rattle.dv_bag.specs.declared.value.ValueType.{ValueType}
 use Rattle.dv_bag.specs.declared.value.ValueType.TheVariants.{Number, Truth}
 use Rattle.dv_eval.specs.Scope.{Scope, names_of, place_of, scope_of}
 use Rattle.dv_eval.specs.declared.scope.Domain.TheVariants as domain
 use Rattle.dv_check.specs.declared.declarations.NameSort.{NameSort}
-use Rattle.dv_check.specs.declared.declarations.NameSort.TheVariants.{Variable as ForVariable, Flag as ForFlag, Bag as ForBag}
+use Rattle.dv_check.specs.declared.declarations.NameSort.TheVariants.{Variable as ForVariable, Flag as ForFlag, Held as ForHeld}
 use Rattle.dv_check.specs.declared.declarations.NameSort.TheVariants.{Input as ForInput, Output as ForOutput}
 use Rattle.dv_check.specs.declared.declarations.NameSort.TheVariants.{LoopVariable as ForLoopVariable}
-use Rattle.dv_check.specs.Rules.{atomic_refusals, is_output_rule, known_in, known_in_loop, known_in_rule, statements_refusals}
-use Rattle.dv_check.specs.Types.{Known, both_of, type_if, is_bag, is_of, knows_elapsed, place_refusals, sees_inputs, type_of_name}
-use Rattle.dv_check.specs.Types.{type_of_operator, value_refusals, type_of as type_in_text}
+use Rattle.dv_check.specs.declared.wanted.Wanted.{Wanted}
+use Rattle.dv_check.specs.declared.wanted.Wanted.TheVariants as want
+use Rattle.dv_check.specs.Rules.{atomic_refusals, command_name_refusals, is_output_rule, known_in, known_in_loop, known_in_rule}
+use Rattle.dv_check.specs.Rules.{statements_refusals}
+use Rattle.dv_check.specs.Types.{Known, both_of, type_if, is_of, is_readable, knows_elapsed, place_refusals, sees_inputs, suits}
+use Rattle.dv_check.specs.Types.{suits_port, type_of_name, type_of_operator, value_refusals, wanted_by, type_of as type_in_text}
+use Rattle.dv_check.proofs.CheckedFiles.{not_false, not_refused}
 use Rattle.dv_accepted.proofs.Fitting.{both_true}
 use Rattle.dv_accepted.proofs.Typed.{place_typed}
-use Rattle.dv_code.specs.Known.{IsBagOf, KnowsAction, action_type, operand_type, result_type}
-use Rattle.dv_code.specs.declared.shape.Slot.TheVariants.{Holding}
+use Rattle.dv_code.specs.Known.{IsBagOf, IsSourceOf, KnowsAction, KnowsDeed, action_type, is_bag_source, operand_type, result_type}
 use Rattle.dv_code.specs.Shape.{Shape, may_change, may_read_elapsed, may_receive, may_send, shape_of}
 use Rattle.dv_code.specs.declared.shape.ProgramSort.{ProgramSort}
 use Rattle.dv_code.specs.declared.shape.ProgramSort.TheVariants as sort
 use Rattle.dv_code.specs.declared.instruction.Source.{Source}
+use Rattle.dv_code.specs.declared.instruction.Source.TheVariants.{Own, Port}
+use Rattle.dv_code.specs.declared.instruction.Action.TheVariants as act
 use Rattle.dv_code.specs.declared.instruction.Binary.{Binary as Operation}
 use Rattle.dv_code.specs.declared.instruction.Binary.TheVariants as binary
-use Rattle.dv_gen.specs.Resolution.{all_resolved, assignment_at, call_leaf, choice, equal_of, hold_shape, hold_tree, infix_of}
-use Rattle.dv_gen.specs.Resolution.{leaf_of, program_sort, resolved, rule_shape, rule_tree, slot_place, source_of, tables_of}
+use Rattle.dv_gen.specs.Resolution.{all_resolved, assignment_at, call_leaf, choice, deed_of, equal_of, hold_shape, hold_tree}
+use Rattle.dv_gen.specs.Resolution.{infix_of, leaf_of, program_sort, resolved, rule_shape, rule_tree, slot_place, source_of, tables_of}
 use Rattle.dv_gen.specs.Resolution.{unequal_of}
-use Rattle.dv_gen.specs.Resolved.{Act, AreTyped, Done, Expression, For, Goto, If, Infix, IsTyped, Read, Statements, When, type_of}
+use Rattle.dv_gen.specs.Resolved.{Act, AreTyped, Done, Expression, For, If, Infix, IsTyped, Obey, Read, Statements, When, type_of}
 use Rattle.dv_gen.proofs.OperandTypes.{alike_wanted, both_wanted, type_given, type_wanted}
-use Rattle.dv_gen.proofs.Accepted.{AcceptedChange, accepted_assignment, accepted_change, accepted_goto, accepted_if}
+use Rattle.dv_gen.proofs.Accepted.{AcceptedChange, accepted_assignment, accepted_change, accepted_command, accepted_if}
 use Rattle.dv_gen.proofs.Accepted.{accepted_if_else, accepted_loop, accepted_send, each_hold, each_rule}
-use Rattle.dv_gen.proofs.KnownNames.{Assigned, InputPort, Knows, Readable, Stands, StateBag, ToFlag, ToVariable, assigned_stands}
-use Rattle.dv_gen.proofs.KnownNames.{assigned_type, changed_bag_stands, flag_assignment, flag_leaf, item_leaf, knows_inside}
-use Rattle.dv_gen.proofs.KnownNames.{knows_outside, own_source, port_source, known_readable, sent_port_stands, slot_there}
-use Rattle.dv_gen.proofs.KnownNames.{variable_assignment, variable_leaf}
+use Rattle.dv_gen.proofs.KnownNames.{Assigned, InputPort, Knows, OfState, Readable, Stands, StandsForHeld, ToFlag, ToVariable}
+use Rattle.dv_gen.proofs.KnownNames.{assigned_stands, assigned_type, changed_stands, flag_assignment, flag_leaf, item_leaf}
+use Rattle.dv_gen.proofs.KnownNames.{knows_inside, knows_outside, own_source, port_source, known_readable, sent_port_stands}
+use Rattle.dv_gen.proofs.KnownNames.{slot_there, variable_assignment, variable_leaf}
 
 -- ---- What a rule may do
 
@@ -86,6 +96,23 @@ sends rule.Confluent e = absurd (cc)
 -- an expression of a type, well typed within so many loops
 abbrev pub HasType : Shape → ℕ → ValueType → Expression → Type 0
 HasType shape inside t e = (type_of e ≡ t) × IsTyped shape inside e
+
+-- a source where this is wanted
+abbrev suits_source : Wanted → Source → Bool
+suits_source w (Own d place) = suits w d
+suits_source w (Port port) = suits_port w
+
+-- one that the shape knows
+abbrev IsWanted : Shape → Wanted → Source → Type 0
+IsWanted shape w source = IsSourceOf shape source × (suits_source w source ≡ true)
+
+bag_suits : (source : Source) → suits_source want.Bag source ≡ is_bag_source source
+bag_suits (Own d place) = refl
+bag_suits (Port port) = refl
+
+-- where a bag is wanted it is a bag
+bag_wanted : (shape : Shape) (source : Source) → IsWanted shape want.Bag source → IsBagOf shape source
+bag_wanted shape source is = (is.0, sym (bag_suits source) ∙ is.1)
 
 module _ (shape : Shape) (inside : ℕ) where
   infix_typed : (o : Operation) (t : ValueType) (a b : Expression) → result_type o ≡ t → HasType shape inside (operand_type o) a
@@ -145,12 +172,15 @@ module _ (shape : Shape) (inside : ℕ) where
     operator_typed operator.Greater typed = of_numbers_typed binary.Greater Truth refl refl typed
     operator_typed operator.AtLeast typed = of_numbers_typed binary.AtLeast Truth refl refl typed
 
-  call_typed : (c : BagCall) (t : ValueType) (source : Source) → Number ≡ t → IsBagOf shape source
+  call_typed : (c : BagCall) (t : ValueType) (source : Source) → Number ≡ t → IsWanted shape (wanted_by c) source
       → HasType shape inside t (Read (call_leaf c source))
-  call_typed call.Size t source same is = (same, is)
-  call_typed call.Sum t source same is = (same, is)
-  call_typed call.Least t source same is = (same, is)
-  call_typed call.Most t source same is = (same, is)
+  call_typed call.Size t source same is = (same, is.0)
+  call_typed call.Sum t source same is = (same, bag_wanted shape source is)
+  call_typed call.Least t source same is = (same, bag_wanted shape source is)
+  call_typed call.Most t source same is = (same, bag_wanted shape source is)
+  call_typed call.Front t (Own discipline.Bag place) same is = let bag = is.1 in absurd (cc)
+  call_typed call.Front t (Own discipline.Queue place) same is = (same, is.0)
+  call_typed call.Front t (Port port) same is = let bag = is.1 in absurd (cc)
 
 -- the shape of a rule's program, or of a hold's
 abbrev pub shape_for : Scope → Option RuleSort → Shape
@@ -167,21 +197,24 @@ module _ (scope : Scope) (rule : Option RuleSort) (loops : List ℕ) where
   name_typed q (Some ForFlag) t stands typed =
       let same : Truth ≡ t = cc in
       rw (flag_leaf scope loops q stands) (same, slot_there scope q (domain.Flag stands.start) stands.has)
-  name_typed q (Some ForBag) t stands typed = absurd (cc)
+  name_typed q (Some (ForHeld d)) t stands typed = absurd (cc)
   name_typed q (Some ForInput) t stands typed = absurd (cc)
   name_typed q (Some ForOutput) t stands typed = absurd (cc)
   name_typed q (Some ForLoopVariable) t stands typed =
       let same : Number ≡ t = cc in
       rw (item_leaf scope loops q stands) (same, stands.within)
 
-  source_typed : (q : ℕ) → Readable scope rule q → IsBagOf (shape_for scope rule) (source_of scope q)
-  source_typed q (StateBag stands) =
-      rw (own_source scope q stands) (stands.capacity, slot_there scope q (domain.Bag stands.capacity) stands.has)
-  source_typed q (InputPort stands seen) = rw (port_source scope q stands) (stands.port.within, receives rule ∙ seen)
+  source_typed : (w : Wanted) (q : ℕ) → Readable scope w rule q → IsWanted (shape_for scope rule) w (source_of scope q)
+  source_typed w q (OfState d stands suited) =
+      let slot = slot_there scope q (domain.Held d stands.capacity) stands.has in
+      rw (own_source scope d q stands) ((stands.capacity, slot), suited)
+  source_typed w q (InputPort stands suited seen) =
+      rw (port_source scope q stands) ((stands.port.within, receives rule ∙ seen), suited)
 
   module _ (known : Known) (knows : Knows scope rule loops known) where
-    readable_typed : (q : ℕ) → is_bag known.rule (known.sort q) ≡ true → IsBagOf (shape_for scope rule) (source_of scope q)
-    readable_typed q is = source_typed q (known_readable scope rule loops known knows q is)
+    readable_typed : (w : Wanted) (q : ℕ) → is_readable w known.rule (known.sort q) ≡ true
+        → IsWanted (shape_for scope rule) w (source_of scope q)
+    readable_typed w q is = source_typed w q (known_readable scope rule loops known knows w q is)
 
     pub expression_typed : (e : NamedExpression) (t : ValueType) → type_in_text known e ≡ Some t
         → HasType (shape_for scope rule) (length loops) t (resolved scope loops e)
@@ -205,16 +238,20 @@ module _ (scope : Scope) (rule : Option RuleSort) (loops : List ℕ) where
         operator_typed (shape_for scope rule) (length loops) (type_in_text known a) (type_in_text known b) t (resolved scope loops a)
         (resolved scope loops b) (expression_typed a) (expression_typed b) o typed
     expression_typed (Call c place b) t typed =
-        let is = type_given (is_bag known.rule (known.sort b.number)) Number t typed in
-        call_typed (shape_for scope rule) (length loops) c t (source_of scope b.number) is.1 (readable_typed b.number is.0)
+        let w = wanted_by c in
+        let is = type_given (is_readable w known.rule (known.sort b.number)) Number t typed in
+        call_typed (shape_for scope rule) (length loops) c t (source_of scope b.number) is.1 (readable_typed w b.number is.0)
     expression_typed (Elapsed place) t typed =
         let is = type_given (knows_elapsed known.rule) Number t typed in
         (is.1, reads_elapsed rule ∙ (ap knows_elapsed (sym knows.rule_is) ∙ is.0))
     expression_typed (Times place e b) t typed =
-        let is = type_given (is_of Number (type_in_text known e) && is_bag known.rule (known.sort b.number)) Number t typed in
-        let both = both_true (is_of Number (type_in_text known e)) (is_bag known.rule (known.sort b.number)) is.0 in
+        let number = is_of Number (type_in_text known e) in
+        let readable = is_readable want.Bag known.rule (known.sort b.number) in
+        let is = type_given (number && readable) Number t typed in
+        let both = both_true number readable is.0 in
         let operand = expression_typed e Number (type_wanted Number (type_in_text known e) both.0) in
-        (is.1, (readable_typed b.number both.1, operand.0, operand.1))
+        let source = bag_wanted (shape_for scope rule) (source_of scope b.number) (readable_typed want.Bag b.number both.1) in
+        (is.1, (source, operand.0, operand.1))
 
 -- ---- Statements
 
@@ -237,7 +274,7 @@ choice_typed : (shape : Shape) (depth inside : ℕ) (condition : Expression) (bl
     → AreTyped shape depth inside (If condition block other rest) → AreTyped shape depth inside (choice condition block other rest)
 choice_typed shape depth inside condition block Done rest typed = (typed.0, typed.1, typed.2, typed.4)
 choice_typed shape depth inside condition block (Act a value next) rest typed = typed
-choice_typed shape depth inside condition block (Goto phase next) rest typed = typed
+choice_typed shape depth inside condition block (Obey d next) rest typed = typed
 choice_typed shape depth inside condition block (When c b next) rest typed = typed
 choice_typed shape depth inside condition block (If c b o next) rest typed = typed
 choice_typed shape depth inside condition block (For source b next) rest typed = typed
@@ -251,14 +288,26 @@ module _ (scope : Scope) (s : RuleSort) (depth : ℕ) where
     changes_here : is_output_rule known.rule ≡ false → may_change (program_sort s) ≡ true
     changes_here none = changes s (ap is_output_rule (sym knows.rule_is) ∙ none)
 
-    -- the slot of a bag that is changed
-    bag_changed : (e : NamedExpression) (b : Name) (rest : NamedStatements) → AcceptedChange known e b rest
-        → (capacity : ℕ) × (slice_get (tables_of scope).slots (slot_place scope b.number) ≡ Some (Holding capacity))
-        × IsTrue (may_change (program_sort s))
-    bag_changed e b rest parts =
-        let stands = changed_bag_stands scope loops b.number (known.sort b.number) b.place (knows.name b.number) parts.bag in
-        let slot = slot_there scope b.number (domain.Bag stands.capacity) stands.has in
-        rw stands.has.found (stands.capacity, slot, changes_here parts.changing)
+    -- the slot of a collection that is changed
+    slot_known : (d : Discipline) (q : ℕ) → StandsForHeld scope d q → IsSourceOf (rule_shape scope s) (Own d (slot_place scope q))
+    slot_known d q stands = rw stands.has.found (stands.capacity, slot_there scope q (domain.Held d stands.capacity) stands.has)
+
+    change_known : (c : Change) (e : NamedExpression) (x : Name) (rest : NamedStatements) → AcceptedChange known c e x rest
+        → KnowsAction (rule_shape scope s) (act.Change c (slot_place scope x.number))
+    change_known c e x rest parts =
+        let d = discipline_of_change c in
+        let stands = changed_stands scope loops x.number d (known.sort x.number) x.place (knows.name x.number) parts.target in
+        (slot_known d x.number stands, changes_here parts.changing)
+
+    deed_known : (c : Command) (name : Name) → is_output_rule known.rule ≡ false → command_name_refusals known c name ≡ []
+        → KnowsDeed (rule_shape scope s) (deed_of scope c name.number)
+    deed_known command.Goto name changing none =
+        let there = knows.phase name.number (not_false _ (not_refused _ _ _ none)) in
+        rw there.found (there.within, changes_here changing)
+    deed_known command.Pop name changing none =
+        let d = discipline.Queue in
+        let stands = changed_stands scope loops name.number d (known.sort name.number) name.place (knows.name name.number) none in
+        (slot_known d name.number stands, changes_here changing)
 
   statements_typed : (loops : List ℕ) (known : Known) (knows : Knows scope (Some s) loops known) (body : NamedStatements)
       → statements_refusals known body ≡ [] → length loops + loop_depth body ≤ depth
@@ -273,11 +322,9 @@ module _ (scope : Scope) (s : RuleSort) (depth : ℕ) where
       let action = assignment_known scope s loops n.number type.0 target.0 changing type.1 in
       let value = value_typed loops known knows type.0 e (ap (λ o. value_refusals o known e) (sym type.1) ∙ parts.value) in
       (action.0, value.0 ∙ action.1, value.1, statements_typed loops known knows rest parts.rest deep)
-  statements_typed loops known knows (GoTo place phase rest) none deep =
-      let parts = accepted_goto known place phase rest none in
-      let there = knows.phase phase.number parts.there in
-      let rest_typed = statements_typed loops known knows rest parts.rest deep in
-      rw there.found ((there.within, changes_here loops known knows parts.changing), rest_typed)
+  statements_typed loops known knows (Does c place name rest) none deep =
+      let parts = accepted_command known c place name rest none in
+      (deed_known loops known knows c name parts.changing parts.target, statements_typed loops known knows rest parts.rest deep)
   statements_typed loops known knows (Send place port e rest) none deep =
       let parts = accepted_send known place port e rest none in
       let there = sent_port_stands scope loops port.number (known.sort port.number) port.place (knows.name port.number) parts.target in
@@ -301,17 +348,13 @@ module _ (scope : Scope) (s : RuleSort) (depth : ℕ) where
   statements_typed loops known knows (Each place v b block rest) none deep =
       let parts = accepted_loop known place v b block rest none in
       let inner = knows_inside scope (Some s) loops known v knows in
-      let source = readable_typed scope (Some s) loops known knows b.number parts.readable in
+      let source = readable_typed scope (Some s) loops known knows want.Values b.number parts.readable in
       let inside = statements_typed (v.number ∷ loops) (known_in_loop v known) inner block parts.inside (omega arith) in
-      (omega arith, source, inside, statements_typed loops known knows rest parts.rest (omega arith))
-  statements_typed loops known knows (AddTo place e b rest) none deep =
-      let parts = accepted_change known place e b rest none in
+      (omega arith, source.0, inside, statements_typed loops known knows rest parts.rest (omega arith))
+  statements_typed loops known knows (Changes c place e x rest) none deep =
+      let parts = accepted_change known c place e x rest none in
       let value = value_typed loops known knows Number e parts.value in
-      (bag_changed loops known knows e b rest parts, value.0, value.1, statements_typed loops known knows rest parts.rest deep)
-  statements_typed loops known knows (Drop place e b rest) none deep =
-      let parts = accepted_change known place e b rest none in
-      let value = value_typed loops known knows Number e parts.value in
-      (bag_changed loops known knows e b rest parts, value.0, value.1, statements_typed loops known knows rest parts.rest deep)
+      (change_known loops known knows c e x rest parts, value.0, value.1, statements_typed loops known knows rest parts.rest deep)
 
 -- ---- Rules and holds
 

@@ -8,7 +8,7 @@ use Rattle.dv_code.specs.Shape.{Shape}
 use Rattle.dv_code.specs.Known.{operand_type}
 use Rattle.dv_code.specs.Valid.{Agrees, Arrives, Body, IsFine, IsValid, LiesIn, Mark, mark}
 use Rattle.dv_code.specs.declared.instruction.Instruction.{Instruction}
-use Rattle.dv_gen.specs.Resolved.{Expression, Read, Prefix, Infix, And, Or, Statements, Done, Act, Goto, When, If, For, AreTyped}
+use Rattle.dv_gen.specs.Resolved.{Expression, Read, Prefix, Infix, And, Or, Statements, Done, Act, Obey, When, If, For, AreTyped}
 use Rattle.dv_gen.specs.Resolved.{IsTyped, type_of}
 use Rattle.dv_gen.specs.Generator.{past, past_all}
 use Rattle.dv_gen.proofs.Marks.{MarkedInstruction, body_at, instruction_at, instructions, marked_code_of, marked_code_of_all}
@@ -62,7 +62,7 @@ module _ (shape : Shape) (left : List ValueType) (depth : ℕ) (program : List M
       → Arrives end marks (past_all p block) [] nest → Arrives end marks p [] nest
   code_of_all_begins Done p nest h after = after
   code_of_all_begins (Act a value rest) p nest h after = code_begins value p [] nest h.0
-  code_of_all_begins (Goto phase rest) p nest h after = arrives p _ [] nest h.0
+  code_of_all_begins (Obey d rest) p nest h after = arrives p _ [] nest h.0
   code_of_all_begins (When condition block rest) p nest h after = code_begins condition p [] nest h.0
   code_of_all_begins (If condition block other rest) p nest h after = code_begins condition p [] nest h.0
   code_of_all_begins (For s block rest) p nest h after = arrives p _ [] nest h.0
@@ -133,7 +133,7 @@ module _ (shape : Shape) (left : List ValueType) (depth : ℕ) (program : List M
         (at_q, deep, ([], ap (λ t. t ∷ []) typed.1, typed.0, code_of_all_begins rest (q + 1) nest h.2 arrive)),
         code_of_all_agrees rest (q + 1) nest after h.2 typed.3 deep at_next to arrive later,
       )
-  code_of_all_agrees (Goto phase rest) p nest after h typed deep from to arrive later =
+  code_of_all_agrees (Obey d rest) p nest after h typed deep from to arrive later =
       let y = past_all_no_earlier rest (p + 1) in
       let at_next = lies_between end nest p (p + 1) _ from to (omega arith) y in (
         (from, deep, (typed.0, code_of_all_begins rest (p + 1) nest h.1 arrive)),

@@ -6,7 +6,7 @@ use Rattle.dv_bag.specs.declared.value.Value.{Value}
 use Rattle.dv_code.specs.Machine.{Outcome, Finished, Faulted}
 use Rattle.dv_code.specs.declared.instruction.Instruction.{Instruction}
 use Rattle.dv_code.specs.declared.instruction.Instruction.TheVariants as code
-use Rattle.dv_gen.specs.Resolved.{Expression, Read, Prefix, Infix, And, Or, Statements, Done, Act, Goto, When, If, For}
+use Rattle.dv_gen.specs.Resolved.{Expression, Read, Prefix, Infix, And, Or, Statements, Done, Act, Obey, When, If, For, gone}
 
 -- the place past the code of an expression that begins at a place
 abbrev pub past : ℕ → Expression → ℕ
@@ -27,7 +27,7 @@ code_of p (Or a b) = code_of p a ++ code.TrueKeep (past (past p a + 1) b) ∷ co
 abbrev pub past_all : ℕ → Statements → ℕ
 past_all p Done = p
 past_all p (Act a value rest) = past_all (past p value + 1) rest
-past_all p (Goto phase rest) = past_all (p + 1) rest
+past_all p (Obey d rest) = past_all (p + 1) rest
 past_all p (When condition block rest) = past_all (past_all (past p condition + 1) block) rest
 past_all p (If condition block other rest) = past_all (past_all (past_all (past p condition + 1) block + 1) other) rest
 past_all p (For s block rest) = past_all (past_all (p + 1) block + 1) rest
@@ -35,7 +35,7 @@ past_all p (For s block rest) = past_all (past_all (p + 1) block + 1) rest
 abbrev pub code_of_all : ℕ → Statements → List Instruction
 code_of_all p Done = []
 code_of_all p (Act a value rest) = code_of p value ++ code.Perform a ∷ code_of_all (past p value + 1) rest
-code_of_all p (Goto phase rest) = code.Go phase ∷ code_of_all (p + 1) rest
+code_of_all p (Obey d rest) = code.Do d ∷ code_of_all (p + 1) rest
 code_of_all p (When condition block rest) =
     let then_at = past p condition + 1 in
     let after = past_all then_at block in
@@ -57,10 +57,10 @@ program_of body = code_of_all 0 body ++ code.End ∷ []
 abbrev pub hold_program_of : Expression → List Instruction
 hold_program_of e = code_of 0 e ++ code.End ∷ []
 
--- the phases of its instructions Go, in their order
+-- the phases of its deeds Go, in their order
 abbrev pub goes : List Instruction → List ℕ
 goes [] = []
-goes (code.Go phase ∷ rest) = phase ∷ goes rest
+goes (code.Do d ∷ rest) = gone d ++ goes rest
 goes (i ∷ rest) = goes rest
 
 -- how a run that means this ends

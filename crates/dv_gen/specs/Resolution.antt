@@ -1,15 +1,19 @@
 -- From the trees of a text, whose names a scope knows, to trees in which every name is a place.
 use Rattle.std.specs.Prelude.{ℕ, ◌==◌, pos, if◌then◌else◌, unwrap_or, List, [], ◌∷◌, length, map, option_map, slice_get, Option, Some, None}
 use Rattle.dv_syntax.specs.Trees.{AtomicTree, Expression as NamedExpression, Literal, TruthValue, Named, Parens, Prefixed, Binary}
-use Rattle.dv_syntax.specs.Trees.{Call, Elapsed, Times, Statements as NamedStatements, Done as Ended, Assign, Goto as GoTo, Send}
-use Rattle.dv_syntax.specs.Trees.{If as IfOnly, IfElse, For as Each, Add as AddTo, Drop}
+use Rattle.dv_syntax.specs.Trees.{Call, Elapsed, Times, Statements as NamedStatements, Done as Ended, Assign, Does, Send}
+use Rattle.dv_syntax.specs.Trees.{If as IfOnly, IfElse, For as Each, Changes}
 use Rattle.dv_syntax.specs.declared.tree.Prefix.TheVariants as prefix
 use Rattle.dv_syntax.specs.declared.tree.Operator.{Operator}
 use Rattle.dv_syntax.specs.declared.tree.Operator.TheVariants as operator
 use Rattle.dv_syntax.specs.declared.tree.BagCall.{BagCall}
 use Rattle.dv_syntax.specs.declared.tree.BagCall.TheVariants as call
+use Rattle.dv_syntax.specs.declared.tree.Command.{Command}
+use Rattle.dv_syntax.specs.declared.tree.Command.TheVariants as command
 use Rattle.dv_syntax.specs.declared.tree.RuleSort.{RuleSort}
 use Rattle.dv_syntax.specs.declared.tree.RuleSort.TheVariants as rule
+use Rattle.dv_bag.specs.declared.discipline.Discipline.{Discipline}
+use Rattle.dv_bag.specs.declared.discipline.Discipline.TheVariants as discipline
 use Rattle.dv_bag.specs.declared.value.ValueType.{ValueType}
 use Rattle.dv_bag.specs.declared.value.ValueType.TheVariants as type
 use Rattle.dv_eval.specs.Scope.{Scope, names_of, place_of, scope_of}
@@ -30,13 +34,15 @@ use Rattle.dv_code.specs.declared.instruction.Binary.{Binary as Operation}
 use Rattle.dv_code.specs.declared.instruction.Binary.TheVariants as binary
 use Rattle.dv_code.specs.declared.instruction.Action.{Action}
 use Rattle.dv_code.specs.declared.instruction.Action.TheVariants as action
-use Rattle.dv_gen.specs.Resolved.{Expression, Read, Prefix, Infix, And, Or, Statements, Done, Act, Goto, When, If, For, type_of}
+use Rattle.dv_code.specs.declared.instruction.Deed.{Deed}
+use Rattle.dv_code.specs.declared.instruction.Deed.TheVariants.{Go, Pop}
+use Rattle.dv_gen.specs.Resolved.{Expression, Read, Prefix, Infix, And, Or, Statements, Done, Act, Obey, When, If, For, type_of}
 
 -- what a slot may hold
 abbrev pub slot_of : Domain → Slot
 slot_of (domain.Number range) = slot.Ranged range.low range.high
 slot_of (domain.Flag start) = slot.Flagged
-slot_of (domain.Bag capacity) = slot.Holding capacity
+slot_of (domain.Held d capacity) = slot.Holding d capacity
 
 -- what the programs of a model may speak of
 abbrev pub tables_of : Scope → Tables
@@ -63,13 +69,25 @@ hold_shape scope = shape_of (tables_of scope) sort.Hold
 abbrev pub place_or_first : Option ℕ → ℕ
 place_or_first place = unwrap_or place 0
 
--- where a bag is read: a state bag, or an input port
-abbrev pub source_between : Option ℕ → Option ℕ → Source
-source_between (Some place) port = Own place
-source_between None port = Port (place_or_first port)
+-- what the state variable at a place may hold
+abbrev pub domain_at : Scope → Option ℕ → Option Domain
+domain_at scope None = None
+domain_at scope (Some place) = option_map (λ v. v.1) (slice_get scope.variables place)
+
+-- the discipline of what a state variable holds; that of bags where it holds no collection
+abbrev pub discipline_in : Option Domain → Discipline
+discipline_in None = discipline.Bag
+discipline_in (Some (domain.Number range)) = discipline.Bag
+discipline_in (Some (domain.Flag start)) = discipline.Bag
+discipline_in (Some (domain.Held d capacity)) = d
+
+-- where a collection is read: a bag or a queue of the state, or an input port
+abbrev pub source_between : Scope → Option ℕ → Option ℕ → Source
+source_between scope (Some place) port = Own (discipline_in (domain_at scope (Some place))) place
+source_between scope None port = Port (place_or_first port)
 
 abbrev pub source_of : Scope → ℕ → Source
-source_of scope name = source_between (place_of name (names_of scope.variables)) (place_of name scope.inputs)
+source_of scope name = source_between scope (place_of name (names_of scope.variables)) (place_of name scope.inputs)
 
 -- the number of the innermost loop of a variable, from the outermost on; the innermost stands first
 abbrev pub loop_of : ℕ → List ℕ → Option ℕ
@@ -80,11 +98,7 @@ abbrev pub leaf_in : ℕ → Option Domain → Leaf
 leaf_in place None = leaf.Number (pos 0)
 leaf_in place (Some (domain.Number range)) = leaf.Variable place
 leaf_in place (Some (domain.Flag start)) = leaf.Flag place
-leaf_in place (Some (domain.Bag capacity)) = leaf.Number (pos 0)
-
-abbrev pub domain_at : Scope → Option ℕ → Option Domain
-domain_at scope None = None
-domain_at scope (Some place) = option_map (λ v. v.1) (slice_get scope.variables place)
+leaf_in place (Some (domain.Held d capacity)) = leaf.Number (pos 0)
 
 abbrev pub leaf_at : Scope → Option ℕ → Leaf
 leaf_at scope place = leaf_in (place_or_first place) (domain_at scope place)
@@ -97,11 +111,17 @@ leaf_by (Some loop) l = leaf.Item loop
 abbrev pub leaf_of : Scope → List ℕ → ℕ → Leaf
 leaf_of scope loops name = leaf_by (loop_of name loops) (leaf_at scope (place_of name (names_of scope.variables)))
 
+-- the first value of a queue; a port has none, and gives 0
+abbrev pub front_of : Source → Leaf
+front_of (Own d place) = leaf.Front place
+front_of (Port port) = leaf.Number (pos 0)
+
 abbrev pub call_leaf : BagCall → Source → Leaf
 call_leaf call.Size s = leaf.Size s
 call_leaf call.Sum s = leaf.Sum s
 call_leaf call.Least s = leaf.Least s
 call_leaf call.Most s = leaf.Most s
+call_leaf call.Front s = front_of s
 
 -- equal and unequal, of numbers or of truth values
 abbrev pub equal_of : ValueType → Operation
@@ -146,7 +166,7 @@ abbrev pub assignment_in : ℕ → Option Domain → Action
 assignment_in place None = action.SetVariable place
 assignment_in place (Some (domain.Number range)) = action.SetVariable place
 assignment_in place (Some (domain.Flag start)) = action.SetFlag place
-assignment_in place (Some (domain.Bag capacity)) = action.SetVariable place
+assignment_in place (Some (domain.Held d capacity)) = action.SetVariable place
 
 abbrev pub assignment_at : Scope → Option ℕ → Action
 assignment_at scope place = assignment_in (place_or_first place) (domain_at scope place)
@@ -154,6 +174,11 @@ assignment_at scope place = assignment_in (place_or_first place) (domain_at scop
 -- the place of a state variable
 abbrev pub slot_place : Scope → ℕ → ℕ
 slot_place scope name = place_or_first (place_of name (names_of scope.variables))
+
+-- what a command does with a name: a phase to which it goes, or a queue that loses its first value
+abbrev pub deed_of : Scope → Command → ℕ → Deed
+deed_of scope command.Goto name = Go (place_or_first (place_of name scope.phases))
+deed_of scope command.Pop name = Pop (slot_place scope name)
 
 -- a choice between blocks; an empty second one is none
 abbrev pub choice : Expression → Statements → Statements → Statements → Statements
@@ -165,8 +190,7 @@ abbrev pub all_resolved : Scope → List ℕ → NamedStatements → Statements
 all_resolved scope loops Ended = Done
 all_resolved scope loops (Assign variable e rest) =
     Act (assignment_at scope (place_of variable.number (names_of scope.variables))) (resolved scope loops e) (all_resolved scope loops rest)
-all_resolved scope loops (GoTo place phase rest) =
-    Goto (place_or_first (place_of phase.number scope.phases)) (all_resolved scope loops rest)
+all_resolved scope loops (Does c place name rest) = Obey (deed_of scope c name.number) (all_resolved scope loops rest)
 all_resolved scope loops (Send place port e rest) =
     Act (action.Send (place_or_first (place_of port.number scope.outputs))) (resolved scope loops e) (all_resolved scope loops rest)
 all_resolved scope loops (IfOnly place e block rest) =
@@ -175,10 +199,8 @@ all_resolved scope loops (IfElse place e block other rest) =
     choice (resolved scope loops e) (all_resolved scope loops block) (all_resolved scope loops other) (all_resolved scope loops rest)
 all_resolved scope loops (Each place v b block rest) =
     For (source_of scope b.number) (all_resolved scope (v.number ∷ loops) block) (all_resolved scope loops rest)
-all_resolved scope loops (AddTo place e b rest) =
-    Act (action.AddTo (slot_place scope b.number)) (resolved scope loops e) (all_resolved scope loops rest)
-all_resolved scope loops (Drop place e b rest) =
-    Act (action.DropFrom (slot_place scope b.number)) (resolved scope loops e) (all_resolved scope loops rest)
+all_resolved scope loops (Changes c place e collection rest) =
+    Act (action.Change c (slot_place scope collection.number)) (resolved scope loops e) (all_resolved scope loops rest)
 
 -- the places of the phases to which statements go, in the order of the text
 abbrev pub goto_places : Scope → NamedStatements → List ℕ

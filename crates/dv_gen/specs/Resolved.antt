@@ -1,8 +1,9 @@
 -- Trees in which every name is a place already, and their meaning, by recursion on the tree.
 use Rattle.std.specs.Prelude.{◌≡◌, ℕ, suc, ℤ, pos, ◌<◌, Bool, false, if◌then◌else◌, List, [], ◌∷◌, ◌++◌, Option, Some, None, Result, Ok}
 use Rattle.dv_bag.specs.Arrivals.{Arrivals}
-use Rattle.dv_bag.specs.Bag.{Counts, values_of}
+use Rattle.dv_bag.specs.Collections.{values_in as values_held}
 use Rattle.dv_bag.specs.Outcome.{◌>>=◌}
+use Rattle.dv_bag.specs.declared.collection.Collection.{Collection}
 use Rattle.dv_bag.specs.declared.fault.Fault.{Fault}
 use Rattle.dv_bag.specs.declared.state.State.{State}
 use Rattle.dv_bag.specs.declared.state.Effect.{Effect}
@@ -11,12 +12,14 @@ use Rattle.dv_bag.specs.declared.value.Value.TheVariants as value
 use Rattle.dv_bag.specs.declared.value.ValueType.{ValueType}
 use Rattle.dv_bag.specs.declared.value.ValueType.TheVariants.{Truth}
 use Rattle.dv_code.specs.Shape.{Shape}
-use Rattle.dv_code.specs.Operations.{action_effect, bag_of, binary_value, going, leaf_value, unary_value}
+use Rattle.dv_code.specs.Operations.{action_effect, binary_value, collection_of, deed_effect, leaf_value, unary_value}
 use Rattle.dv_code.specs.Machine.{first_effect}
-use Rattle.dv_code.specs.Known.{IsBagOf, KnowsAction, KnowsLeaf, KnowsPhase, KnowsUnary, action_type, leaf_type, operand_type}
+use Rattle.dv_code.specs.Known.{IsSourceOf, KnowsAction, KnowsDeed, KnowsLeaf, KnowsUnary, action_type, leaf_type, operand_type}
 use Rattle.dv_code.specs.Known.{result_type, unary_type}
 use Rattle.dv_code.specs.declared.instruction.Action.{Action}
 use Rattle.dv_code.specs.declared.instruction.Binary.{Binary}
+use Rattle.dv_code.specs.declared.instruction.Deed.{Deed}
+use Rattle.dv_code.specs.declared.instruction.Deed.TheVariants.{Go, Pop}
 use Rattle.dv_code.specs.declared.instruction.Leaf.{Leaf}
 use Rattle.dv_code.specs.declared.instruction.Source.{Source}
 use Rattle.dv_code.specs.declared.instruction.Unary.{Unary}
@@ -32,7 +35,7 @@ pub data Expression : Type 0 where
 pub data Statements : Type 0 where
   Done : Statements
   Act : (a : Action) (value : Expression) (rest : Statements) → Statements
-  Goto : (phase : ℕ) (rest : Statements) → Statements
+  Obey : (d : Deed) (rest : Statements) → Statements
   When : (condition : Expression) (block rest : Statements) → Statements
   If : (condition : Expression) (block other rest : Statements) → Statements
   For : (s : Source) (block rest : Statements) → Statements
@@ -46,9 +49,9 @@ abbrev pub or_same : Effect → Option (Result Effect Fault) → Result Effect F
 or_same e None = Ok e
 or_same e (Some r) = r
 
-abbrev pub values_in : Option Counts → List ℤ
+abbrev pub values_in : Option Collection → List ℤ
 values_in None = []
-values_in (Some b) = values_of b
+values_in (Some c) = values_held c
 
 abbrev pub truth_of : Value → Bool
 truth_of (value.Truth b) = b
@@ -74,7 +77,7 @@ abbrev pub effect_from : Shape → Arrivals → List ℤ → Statements → Effe
 effect_from shape arrivals items Done e = Ok e
 effect_from shape arrivals items (Act a value rest) e =
     value_of arrivals items e.state value >>= λ v. or_same e (action_effect shape a v e) >>= effect_from shape arrivals items rest
-effect_from shape arrivals items (Goto phase rest) e = effect_from shape arrivals items rest (going phase e)
+effect_from shape arrivals items (Obey d rest) e = or_same e (deed_effect d e) >>= effect_from shape arrivals items rest
 effect_from shape arrivals items (When condition block rest) e =
     value_of arrivals items e.state condition
     >>= λ v. (if truth_of v then effect_from shape arrivals items block e else Ok e) >>= effect_from shape arrivals items rest
@@ -83,7 +86,7 @@ effect_from shape arrivals items (If condition block other rest) e =
     >>= λ v. (if truth_of v then effect_from shape arrivals items block e else effect_from shape arrivals items other e)
     >>= effect_from shape arrivals items rest
 effect_from shape arrivals items (For s block rest) e =
-    for_each (λ n. effect_from shape arrivals (n ∷ items) block) (values_in (bag_of arrivals e.state s)) e
+    for_each (λ n. effect_from shape arrivals (n ∷ items) block) (values_in (collection_of arrivals e.state s)) e
     >>= effect_from shape arrivals items rest
 
 -- the effect of a rule on a state
@@ -111,20 +114,25 @@ abbrev pub AreTyped : Shape → ℕ → ℕ → Statements → Type 0
 AreTyped shape depth inside Done = Unit {0}
 AreTyped shape depth inside (Act a value rest) =
     KnowsAction shape a × (type_of value ≡ action_type a) × IsTyped shape inside value × AreTyped shape depth inside rest
-AreTyped shape depth inside (Goto phase rest) = KnowsPhase shape phase × AreTyped shape depth inside rest
+AreTyped shape depth inside (Obey d rest) = KnowsDeed shape d × AreTyped shape depth inside rest
 AreTyped shape depth inside (When condition block rest) =
     (type_of condition ≡ Truth) × IsTyped shape inside condition × AreTyped shape depth inside block × AreTyped shape depth inside rest
 AreTyped shape depth inside (If condition block other rest) =
     (type_of condition ≡ Truth) × IsTyped shape inside condition × AreTyped shape depth inside block
     × AreTyped shape depth inside other × AreTyped shape depth inside rest
 AreTyped shape depth inside (For s block rest) =
-    (inside < depth) × IsBagOf shape s × AreTyped shape depth (suc inside) block × AreTyped shape depth inside rest
+    (inside < depth) × IsSourceOf shape s × AreTyped shape depth (suc inside) block × AreTyped shape depth inside rest
+
+-- the phase to which a deed goes, if it goes to one
+abbrev pub gone : Deed → List ℕ
+gone (Go phase) = phase ∷ []
+gone (Pop place) = []
 
 -- the phases of its gotos, in the order of the text
 abbrev pub gotos : Statements → List ℕ
 gotos Done = []
 gotos (Act a value rest) = gotos rest
-gotos (Goto phase rest) = phase ∷ gotos rest
+gotos (Obey d rest) = gone d ++ gotos rest
 gotos (When condition block rest) = gotos block ++ gotos rest
 gotos (If condition block other rest) = gotos block ++ (gotos other ++ gotos rest)
 gotos (For s block rest) = gotos block ++ gotos rest

@@ -5,7 +5,7 @@ ghost use Rattle.dv_code.specs.Known.{leaf_type, unary_type};
 ghost use Rattle.dv_code.specs.declared.instruction.Instruction.{Instruction};
 ghost use Rattle.dv_syntax.specs.Trees.{expression_of};
 ghost use Rattle.dv_gen.specs.Emission.{junction, loops_of, unary_of, with_expression};
-ghost use Rattle.dv_gen.specs.Resolution.{call_leaf, equal_of, infix_of, resolved, unequal_of};
+ghost use Rattle.dv_gen.specs.Resolution.{call_leaf, equal_of, front_of, infix_of, resolved, unequal_of};
 ghost use Rattle.dv_gen.specs.Resolved.{Expression, Prefix as Prefixed, Read, type_of};
 ghost use Rattle.dv_code.specs.Limits.{deepest_loops};
 
@@ -195,5 +195,16 @@ fn call_leaf(call: BagCall, source: Source) -> Leaf
         BagCall::Sum => Leaf::Sum(source),
         BagCall::Least => Leaf::Least(source),
         BagCall::Most => Leaf::Most(source),
+        BagCall::Front => front_of(source),
+    }
+}
+
+// How the first value of a queue is read. A port has none, and gives 0.
+fn front_of(source: Source) -> Leaf
+    ensures { result ≡ front_of source }
+{
+    match source {
+        Source::Own(_, place) => Leaf::Front(place),
+        Source::Port(_) => Leaf::Number(0),
     }
 }

@@ -202,7 +202,7 @@ fn slots_of(alloc: Global, domains: &[Domain]) -> Result<Vec<Slot>, AllocError>
     domains.iter().map(|domain| slot_of(*domain)).collect(alloc)
 }
 
-// What the slot of a variable, a flag or a bag may hold.
+// What the slot of a variable, a flag, a bag or a queue may hold.
 fn slot_of(domain: Domain) -> Slot
     ensures { result ≡ slot_of domain }
 {
@@ -212,6 +212,12 @@ fn slot_of(domain: Domain) -> Slot
             high: range.high,
         },
         Domain::Flag { .. } => Slot::Flagged,
-        Domain::Bag { capacity } => Slot::Holding { capacity },
+        Domain::Held {
+            discipline,
+            capacity,
+        } => Slot::Holding {
+            discipline,
+            capacity,
+        },
     }
 }

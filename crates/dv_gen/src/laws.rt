@@ -46,7 +46,7 @@ pub fn generated_programs_do_what_the_tree_means()
         ≡ hold_ending (first_effect shape s) (value_of arrivals [] s e)) }
 {}
 
-/// The phases of a program's instructions `Go` are those of its tree's gotos, in their order: so those of a rule's
+/// The phases of a program's deeds `Go` are those of its tree's gotos, in their order: so those of a rule's
 /// program are the places of the phases to which the rule goes in the text. A hold's program has none.
 pub fn generated_programs_go_where_the_tree_goes()
     ensures rule { (body : Statements) → goes (program_of body) ≡ gotos body }
@@ -95,7 +95,8 @@ pub fn accepted_rules_are_well_typed()
         × IsTyped (hold_shape (scope_of m)) 0 (hold_tree m e))) m.holds }
 {}
 
-/// A state that fits an accepted model fits the slots of its tables, of which each bag holds from 1 to 4,096 values.
+/// A state that fits an accepted model fits the slots of its tables, of which each bag and each queue holds from 1 to 4,096
+/// values.
 pub fn states_fit_the_tables()
     ensures fits { (m : AtomicTree) (s : State) → fits m s ≡ true →
         Fits (tables_of (scope_of m)).slots s.variables }

@@ -3,13 +3,15 @@
 ghost use Rattle.std.specs.Prelude.{◌≡◌, ◌<◌, ◌≤◌, ◌^◌, length, IfSome};
 ghost use Rattle.dv_eval.specs.Scope.{names_of, place_of};
 ghost use Rattle.dv_gen.specs.Emission.{HasFewNames, loops_of};
-ghost use Rattle.dv_gen.specs.Resolution.{assignment_at, assignment_in, domain_at, leaf_at, leaf_by, leaf_in, leaf_of};
-ghost use Rattle.dv_gen.specs.Resolution.{place_or_first, slot_place, source_of};
+ghost use Rattle.dv_gen.specs.Resolution.{assignment_at, assignment_in, deed_of, discipline_in, domain_at, leaf_at, leaf_by};
+ghost use Rattle.dv_gen.specs.Resolution.{leaf_in, leaf_of, place_or_first, slot_place, source_of};
 ghost use Rattle.dv_code.specs.Limits.{deepest_loops};
 
 use crate::loops::Loops;
-use dv_code::{Action, Leaf, Source};
+use dv_bag::Discipline;
+use dv_code::{Action, Deed, Leaf, Source};
 use dv_eval::{Domain, Scope};
+use dv_syntax::Command;
 use std::marker::Model;
 
 /// The names of an atomic model, so few of each kind that a place has 16 bits.
@@ -38,7 +40,7 @@ impl<'a> Names<'a> {
         Names { scope }
     }
 
-    /// The place of a variable, a flag or a bag.
+    /// The place of a variable, a flag, a bag or a queue.
     pub fn slot(&self, name: u32) -> u16
         ensures { result ≡ slot_place self.now name }
     {
@@ -52,19 +54,22 @@ impl<'a> Names<'a> {
         place_or_first(self.scope.output(name))
     }
 
-    /// The place of a phase.
-    pub fn phase(&self, name: u32) -> u32
-        ensures { result ≡ place_or_first (place_of name self.now.phases) }
+    /// What a command does with a name: a phase to which it goes, or a queue that loses its first value.
+    pub fn deed(&self, command: Command, name: u32) -> Deed
+        ensures { result ≡ deed_of self.now command name }
     {
-        self.scope.phase(name).unwrap_or(0)
+        match command {
+            Command::Goto => Deed::Go(self.phase(name)),
+            Command::Pop => Deed::Pop(self.slot(name)),
+        }
     }
 
-    /// Where a bag is read: a bag of the state, or an input port.
+    /// Where a collection is read: a bag or a queue of the state, or an input port.
     pub fn source(&self, name: u32) -> Source
         ensures { result ≡ source_of self.now name }
     {
         match self.scope.variable(name) {
-            Some(place) => Source::Own(place as u16),
+            Some(place) => Source::Own(discipline_in(self.scope.domain(place)), place as u16),
             None => Source::Port(place_or_first(self.scope.input(name))),
         }
     }
@@ -88,7 +93,14 @@ impl<'a> Names<'a> {
         assignment_in(self.slot(name), self.domain(name))
     }
 
-    // What the variable, the flag or the bag of a name may hold.
+    // The place of a phase.
+    fn phase(&self, name: u32) -> u32
+        ensures { result ≡ place_or_first (place_of name self.now.phases) }
+    {
+        self.scope.phase(name).unwrap_or(0)
+    }
+
+    // What the variable, the flag, the bag or the queue of a name may hold.
     fn domain(&self, name: u32) -> Option<Domain>
         ensures { result ≡ domain_at self.now (place_of name (names_of self.now.variables)) }
     {
@@ -117,7 +129,7 @@ fn leaf_in(place: u16, domain: Option<Domain>) -> Leaf
     match domain {
         Some(Domain::Number(_)) => Leaf::Variable(place),
         Some(Domain::Flag { .. }) => Leaf::Flag(place),
-        Some(Domain::Bag { .. }) | None => Leaf::Number(0),
+        Some(Domain::Held { .. }) | None => Leaf::Number(0),
     }
 }
 
@@ -127,6 +139,16 @@ fn assignment_in(place: u16, domain: Option<Domain>) -> Action
 {
     match domain {
         Some(Domain::Flag { .. }) => Action::SetFlag(place),
-        Some(Domain::Number(_) | Domain::Bag { .. }) | None => Action::SetVariable(place),
+        Some(Domain::Number(_) | Domain::Held { .. }) | None => Action::SetVariable(place),
+    }
+}
+
+// The discipline of what a state variable holds. One that holds no collection has that of bags.
+fn discipline_in(domain: Option<Domain>) -> Discipline
+    ensures { result ≡ discipline_in domain }
+{
+    match domain {
+        Some(Domain::Held { discipline, .. }) => discipline,
+        Some(Domain::Number(_) | Domain::Flag { .. }) | None => Discipline::Bag,
     }
 }

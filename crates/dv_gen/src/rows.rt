@@ -2,13 +2,14 @@
 
 ghost use Rattle.std.specs.Prelude.{◌≡◌, false, true, [], ◌∷◌, Err, Ok, pos};
 ghost use Rattle.dv_bag.specs.Arrivals.{nothing_arrived};
-ghost use Rattle.dv_bag.specs.declared.fault.Fault.TheVariants.{Full, Range};
+ghost use Rattle.dv_bag.specs.declared.fault.Fault.TheVariants.{Empty, Full, Range};
 ghost use Rattle.dv_bag.specs.declared.value.Value.TheVariants.{Truth};
 ghost use Rattle.dv_code.specs.Machine.{Faulted, Finished};
 ghost use Rattle.dv_gen.specs.Resolved.{AreTyped, rule_effect, value_of};
 ghost use Rattle.dv_gen.specs.Generator.{program_of};
-ghost use Rattle.dv_gen.specs.Rows.{even_delivery, false_before_fault, great_delivery, intake, intake_code, mixed_delivery};
-ghost use Rattle.dv_gen.specs.Rows.{outcome_after, reset, reset_code, stock, store, to_second_phase};
+ghost use Rattle.dv_gen.specs.Rows.{desk, even_delivery, false_before_fault, great_delivery, intake, intake_code, leaving};
+ghost use Rattle.dv_gen.specs.Rows.{leaving_code, mixed_delivery, outcome_after, outcome_at_desk, reset, reset_code, service};
+ghost use Rattle.dv_gen.specs.Rows.{service_code, stock, store, to_second_phase, two_delivered, waiting};
 
 /// A rule with a loop over an input port, a choice and an `and`: its program of 17 instructions,
 /// and what both do with three values, the program within 35 steps.
@@ -44,6 +45,32 @@ pub fn a_choice_without_a_second_block()
         ≡ Ok (to_second_phase (stock 10 false [])) }
     ensures unmet_run { outcome_after 4 reset_code nothing_arrived (stock 10 false [])
         ≡ Finished [] (to_second_phase (stock 10 false [])) }
+{}
+
+/// A rule over a queue, and its program of 18 instructions, which runs within 29 steps: what arrives comes last, what is read and
+/// taken out is the first value, and a loop walks the queue as it stood when the loop began, whatever leaves it meanwhile.
+pub fn a_rule_over_a_queue()
+    ensures typed { AreTyped desk 1 0 service }
+    ensures program { program_of service ≡ service_code }
+    ensures effect { rule_effect desk two_delivered service (waiting 0 (pos 7 ∷ []))
+        ≡ Ok (to_second_phase (waiting 735 [])) }
+    ensures run { outcome_at_desk 29 service_code two_delivered (waiting 0 (pos 7 ∷ []))
+        ≡ Finished [] (to_second_phase (waiting 735 [])) }
+{}
+
+/// A fourth value for a queue of three is a fault. So is its first value where it has none, read or taken out.
+pub fn a_rule_over_a_queue_has_faults()
+    ensures full { rule_effect desk two_delivered service (waiting 0 (pos 1 ∷ pos 2 ∷ []))
+        ≡ Err Full }
+    ensures full_run { outcome_at_desk 6 service_code two_delivered
+        (waiting 0 (pos 1 ∷ pos 2 ∷ [])) ≡ Faulted Full }
+    ensures front { rule_effect desk nothing_arrived service (waiting 0 []) ≡ Err Empty }
+    ensures front_run { outcome_at_desk 2 service_code nothing_arrived (waiting 0 [])
+        ≡ Faulted Empty }
+    ensures leaving { program_of leaving ≡ leaving_code }
+    ensures pop { rule_effect desk nothing_arrived leaving (waiting 0 []) ≡ Err Empty }
+    ensures pop_run { outcome_at_desk 1 leaving_code nothing_arrived (waiting 0 [])
+        ≡ Faulted Empty }
 {}
 
 /// Where the first operand of `and` is false the second has no say, whatever its faults.

@@ -65,8 +65,8 @@ fn emit_statement(
                 draft,
             )?;
         }
-        Stmt::Goto { phase, .. } => {
-            draft.push(Instruction::Go(names.phase(phase.number)))?;
+        Stmt::Command { command, name, .. } => {
+            draft.push(Instruction::Do(names.deed(*command, name.number)))?;
         }
         Stmt::Send { port, value, .. } => {
             let action = Action::Send(names.output(port.number));
@@ -112,12 +112,13 @@ fn emit_statement(
                 draft,
             )?;
         }
-        Stmt::Add { value, bag, .. } => {
-            let action = Action::AddTo(names.slot(bag.number));
-            emit_action(action, value, names, loops, draft)?;
-        }
-        Stmt::Drop { value, bag, .. } => {
-            let action = Action::DropFrom(names.slot(bag.number));
+        Stmt::Change {
+            change,
+            value,
+            collection,
+            ..
+        } => {
+            let action = Action::Change(*change, names.slot(collection.number));
             emit_action(action, value, names, loops, draft)?;
         }
     }
@@ -198,11 +199,11 @@ fn emit_other_block(
     Ok(())
 }
 
-// Writes a loop over the values of a bag, whose own variable is the innermost of the loops.
+// Writes a loop over the values of a collection, whose own variable is the innermost of the loops.
 #[cycle(statements)]
 fn emit_loop(
     block: &[Stmt],
-    bag: Source,
+    source: Source,
     names: &Names,
     loops: &Loops,
     draft: &mut Draft,
@@ -210,15 +211,15 @@ fn emit_loop(
     requires { length (loops_of loops.now) + loop_depth (statements_of block.now)
         ≤ deepest_loops }
     ensures { OnOk result ((rest : Statements) → with_statements draft.new rest
-        ≡ with_statements draft.old (For bag
+        ≡ with_statements draft.old (For source
         (all_resolved names.now (loops_of loops.now) (statements_of block.now)) rest)) }
 {
     let entry = draft.place();
-    draft.push(Instruction::Loop(bag, entry))?;
+    draft.push(Instruction::Loop(source, entry))?;
     let first = draft.place();
     emit_statements(block, names, loops, draft)?;
     draft.push(Instruction::Next(first))?;
-    draft.replace(entry, Instruction::Loop(bag, draft.place()));
+    draft.replace(entry, Instruction::Loop(source, draft.place()));
     Ok(())
 }
 

@@ -1,6 +1,7 @@
 //! Laws of texts. Each function stands for the law or the worked rows in its contract; its body does nothing.
 
-ghost use Rattle.std.specs.Prelude.{◌≡◌, ◌+◌, ◌-◌, ◌<◌, ◌≤◌, ◌^◌, ℕ, IsTrue, List, [], ◌∷◌, ◌++◌, All, length, codes, Some, None, Ok, Err, ℤ, pos, neg_ℤ};
+ghost use Rattle.std.specs.Prelude.{◌≡◌, ◌+◌, ◌-◌, ◌<◌, ◌≤◌, ◌^◌, ℕ, IsTrue, List, [], ◌∷◌, ◌++◌, All, length};
+ghost use Rattle.std.specs.Prelude.{codes, Some, None, Ok, Err, ℤ, pos, neg_ℤ};
 ghost use Rattle.std.specs.Fmt.{decimal, signed_decimal};
 ghost use Rattle.dv_bag.specs.Bag.{is_number};
 ghost use Rattle.dv_bag.specs.Inputs.{IsByTime, start_of};

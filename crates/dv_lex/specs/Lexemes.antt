@@ -86,10 +86,18 @@ keyword_text keyword.Least = codes "least"
 keyword_text keyword.Most = codes "most"
 keyword_text keyword.Times = codes "times"
 keyword_text keyword.Version = codes "version"
+keyword_text keyword.Queue = codes "queue"
+keyword_text keyword.Push = codes "push"
+keyword_text keyword.Pop = codes "pop"
+keyword_text keyword.Front = codes "front"
 
 -- is the word never a name
 abbrev pub is_reserved : Keyword → Bool
 is_reserved keyword.Version = false
+is_reserved keyword.Queue = false
+is_reserved keyword.Push = false
+is_reserved keyword.Pop = false
+is_reserved keyword.Front = false
 is_reserved word = true
 
 -- how a symbol is written

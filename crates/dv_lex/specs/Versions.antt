@@ -1,5 +1,6 @@
--- The header of a model text, which says the version of the language.
-use Rattle.std.specs.Prelude.{◌≡◌, ℕ, List, [], ◌∷◌, Option, Some, None, find, bytes_eq, slice_get, unwrap_or}
+-- The header of a model text, which says the version of the language, and the words of version 2.
+use Rattle.std.specs.Prelude.{◌≡◌, if◌then◌else◌, ℕ, Bool, false, IsTrue, ◌==◌, List, [], ◌∷◌, Option, Some, None}
+use Rattle.std.specs.Prelude.{find, map, bytes_eq, slice_get, unwrap_or}
 use Rattle.dv_lex.specs.declared.token.Token.{Token}
 use Rattle.dv_lex.specs.declared.token.TokenKind.{TokenKind}
 use Rattle.dv_lex.specs.declared.token.TokenKind.TheVariants as kind
@@ -10,6 +11,10 @@ use Rattle.dv_lex.specs.Lexemes.{keyword_text}
 -- the words of a header
 abbrev pub header_words : List Keyword
 header_words = keyword.Version ∷ []
+
+-- the words of version 2
+abbrev pub later_words : List Keyword
+later_words = keyword.Queue ∷ keyword.Push ∷ keyword.Pop ∷ keyword.Front ∷ []
 
 -- the one among these words that is so written
 abbrev pub word_written : List Keyword → List ℕ → Option Keyword
@@ -32,12 +37,32 @@ kind_among names words k = kind_or_word k (word_written words (text_in names k))
 abbrev pub with_words : List (List ℕ) → List Keyword → Token → Token
 with_words names words t = record { kind = kind_among names words t.kind; place = t.place }
 
+-- does the number of version 2 stand here
+abbrev pub is_second_version : TokenKind → Bool
+is_second_version (kind.Number n) = n == 2
+is_second_version other = false
+
+-- what stands behind the word of a header
+abbrev pub behind_header : List (List ℕ) → List Token → List Token
+behind_header names [] = []
+behind_header names (t ∷ ts) = t ∷ (if is_second_version t.kind then map (with_words names later_words) ts else ts)
+
+abbrev pub headed : List (List ℕ) → Option Keyword → Token → List Token → List Token
+headed names None t ts = t ∷ ts
+headed names (Some word) t ts = record { kind = kind.Keyword word; place = t.place } ∷ behind_header names ts
+
 -- The tokens of a text: where the first is the name `version` it is the word of a header. Everywhere else `version` is a name.
+-- Where the number 2 follows that word, the names behind it that are written as words of version 2 are these.
 abbrev pub versioned : List (List ℕ) → List Token → List Token
 versioned names [] = []
-versioned names (t ∷ ts) = with_words names header_words t ∷ ts
+versioned names (t ∷ ts) = headed names (word_written header_words (text_in names t.kind)) t ts
 
 -- the first of the tokens is the name `version`
 abbrev pub IsHeaded : List (List ℕ) → List Token → Type 0
 IsHeaded names [] = ⊥
 IsHeaded names (t ∷ ts) = text_in names t.kind ≡ keyword_text keyword.Version
+
+-- the first of the tokens behind the word of a header is the number of version 2
+abbrev pub IsOfSecondVersion : List Token → Type 0
+IsOfSecondVersion [] = ⊥
+IsOfSecondVersion (t ∷ ts) = IsTrue (is_second_version t.kind)

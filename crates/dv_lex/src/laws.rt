@@ -5,7 +5,7 @@ ghost use Rattle.std.specs.List.{IsDistinct};
 ghost use Rattle.dv_lex.specs.Numbering.{tokens_of};
 ghost use Rattle.dv_lex.specs.Reading.{Placed, Reads};
 ghost use Rattle.dv_lex.specs.Texts.{IsTokensOf, IsRefused, IsNumbered, IsPlace, IsAscending};
-ghost use Rattle.dv_lex.specs.Versions.{IsHeaded};
+ghost use Rattle.dv_lex.specs.Versions.{IsHeaded, IsOfSecondVersion};
 
 use crate::error::Refusal;
 use crate::token::{Keyword, Token, TokenKind};
@@ -76,11 +76,13 @@ pub fn other_texts_keep_their_tokens()
         → tokens ≡ tokens_of names t.lexemes }
 {}
 
-/// Where a text begins with the name `version` that is a keyword, at its place; the other tokens are those of its lexemes.
-pub fn a_header_changes_the_first_token_alone()
+/// Where a text begins with the name `version` and is not of version 2, that name is a keyword, at its place; the other tokens
+/// are those of its lexemes.
+pub fn version_two_alone_changes_what_follows_a_header()
     ensures { (text : List ℕ) (names : List (List ℕ)) (tokens : List Token)
         (t : IsTokensOf text names tokens) (first : Token) (others : List Token) →
-        tokens_of names t.lexemes ≡ first ∷ others → IsHeaded names (first ∷ others) → tokens
+        tokens_of names t.lexemes ≡ first ∷ others → IsHeaded names (first ∷ others) →
+        ¬ IsOfSecondVersion others → tokens
         ≡ record { kind = TokenKind.Keyword Keyword.Version; place = first.place } ∷ others }
 {}
 

@@ -20,7 +20,7 @@ pub mod numeral;
 mod symbols;
 /// The tokens.
 pub mod token;
-/// The header of a text.
+/// The header of a text, and the words of version 2.
 mod versions;
 
 pub use error::{LoadError, Refusal, RefusalNumber, TextError, answer};

@@ -3,7 +3,8 @@
 use crate::names::Names;
 use crate::numeral::Numeral;
 
-/// A word of the language. `Version` is one where a text begins with it, and a name elsewhere; the others are never names.
+/// A word of the language. `Version` is one where a text begins with it, and a name elsewhere; `Queue`, `Push`, `Pop` and `Front`
+/// are words behind a header of version 2, and names elsewhere; the others are never names.
 #[derive(Clone, Copy, Debug, PartialEq, Eq)]
 pub enum Keyword {
     Atomic,
@@ -46,6 +47,10 @@ pub enum Keyword {
     Most,
     Times,
     Version,
+    Queue,
+    Push,
+    Pop,
+    Front,
 }
 
 /// A sign of one or two characters.

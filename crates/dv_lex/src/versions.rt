@@ -1,7 +1,7 @@
-//! The header of a text, which says the version of the language.
+//! The header of a text, which says the version of the language, and the words of version 2.
 
-ghost use Rattle.std.specs.Prelude.{◌≡◌};
-ghost use Rattle.dv_lex.specs.Versions.{header_words, text_in, versioned, with_words, word_written};
+ghost use Rattle.std.specs.Prelude.{◌≡◌, ◌≤◌, ◌++◌, drop, length, map, take};
+ghost use Rattle.dv_lex.specs.Versions.{header_words, is_second_version, later_words, text_in, versioned, with_words, word_written};
 
 use crate::names::Names;
 use crate::token::{Keyword, Token, TokenKind};
@@ -12,6 +12,19 @@ fn header_word(text: &str) -> Option<Keyword>
 {
     match text {
         "version" => Some(Keyword::Version),
+        _ => None,
+    }
+}
+
+// The word of version 2 that is so written, if there is one.
+fn later_word(text: &str) -> Option<Keyword>
+    ensures { result ≡ word_written later_words text.now }
+{
+    match text {
+        "queue" => Some(Keyword::Queue),
+        "push" => Some(Keyword::Push),
+        "pop" => Some(Keyword::Pop),
+        "front" => Some(Keyword::Front),
         _ => None,
     }
 }
@@ -29,11 +42,11 @@ fn text_of<'a>(names: &'a Names, kind: TokenKind) -> &'a str
     }
 }
 
-// A token; where it is a name that is written as a word of a header, that word.
-fn with_header_word(names: &Names, token: Token) -> Token
-    ensures { result ≡ with_words names.now header_words token }
+// A token; where it is a name that is written as a word of version 2, that word.
+fn with_later_word(names: &Names, token: Token) -> Token
+    ensures { result ≡ with_words names.now later_words token }
 {
-    match header_word(text_of(names, token.kind)) {
+    match later_word(text_of(names, token.kind)) {
         Some(word) => Token {
             kind: TokenKind::Keyword(word),
             place: token.place,
@@ -42,12 +55,44 @@ fn with_header_word(names: &Names, token: Token) -> Token
     }
 }
 
-/// Makes a keyword of the name `version` where the tokens begin with it. It takes no memory.
+// Is a token the number of version 2.
+fn is_second_version(kind: TokenKind) -> bool
+    ensures { result ≡ is_second_version kind }
+{
+    let TokenKind::Number(number) = kind else {
+        return false;
+    };
+    number.value() == 2
+}
+
+// Makes words of names, from the third token on.
+fn make_later_words(names: &Names, tokens: &mut Vec<Token>)
+    requires { 2 ≤ length tokens.old.items }
+    ensures { tokens.new.items ≡ take 2 tokens.old.items
+        ++ map (with_words names.now later_words) (drop 2 tokens.old.items) }
+{
+    for place in 2..tokens.len() {
+        tokens[place] = with_later_word(names, tokens[place]);
+    }
+}
+
+/// Makes a keyword of the name `version` where the tokens begin with it, and keywords of the names behind a header of version 2
+/// that are written as words of that version. It takes no memory.
 pub fn make_words(names: &Names, tokens: &mut Vec<Token>)
     ensures { tokens.new.items ≡ versioned names.now tokens.old.items }
 {
     if tokens.is_empty() {
         return;
     }
-    tokens[0] = with_header_word(names, tokens[0]);
+    let first = tokens[0];
+    let Some(word) = header_word(text_of(names, first.kind)) else {
+        return;
+    };
+    tokens[0] = Token {
+        kind: TokenKind::Keyword(word),
+        place: first.place,
+    };
+    if tokens.len() >= 2 && is_second_version(tokens[1].kind) {
+        make_later_words(names, tokens);
+    }
 }

@@ -4,6 +4,7 @@ use Rattle.std.specs.Prelude.{ℕ, ◌+◌, List, [], ◌∷◌, ◌++◌, Optio
 use Rattle.std.specs.Fmt.{decimal}
 use Rattle.std.specs.List.{filter_map}
 use Rattle.dv_syntax.specs.Trees.{AtomicTree, ModelTree, AtomicModel, CoupledModel, FileTree}
+use Rattle.dv_bag.specs.declared.discipline.Discipline.TheVariants as discipline
 use Rattle.dv_eval.specs.Scope.{Scope, scope_of}
 use Rattle.dv_eval.specs.declared.scope.Domain.{Domain}
 use Rattle.dv_eval.specs.declared.scope.Domain.TheVariants as domain
@@ -33,9 +34,10 @@ names_text names word numbers = placed_from (line_of_name names word) 0 numbers
 abbrev pub domain_word : Domain → List ℕ
 domain_word (domain.Number range) = codes "variable"
 domain_word (domain.Flag start) = codes "flag"
-domain_word (domain.Bag capacity) = codes "bag"
+domain_word (domain.Held discipline.Bag capacity) = codes "bag"
+domain_word (domain.Held discipline.Queue capacity) = codes "queue"
 
--- the line of a variable, a flag or a bag, and one for each of a list
+-- the line of a variable, a flag, a bag or a queue, and one for each of a list
 abbrev pub line_of_slot : List (List ℕ) → ℕ → ℕ × Domain → List ℕ
 line_of_slot names k slot = name_line (domain_word slot.1) k (name_at names slot.0)
 

@@ -8,6 +8,7 @@ ghost use Rattle.dv_listing.specs.Listing.{confluent_text, domain_word, hold_tex
 ghost use Rattle.dv_listing.specs.Listing.{phases_text, program_text, scope_text, slots_text};
 ghost use Rattle.dv_listing.specs.Placing.{gap};
 
+use dv_bag::Discipline;
 use dv_code::Valid;
 use dv_eval::{Domain, Scope};
 use dv_gen::{PhaseCode, generate};
@@ -84,7 +85,7 @@ fn push_names(text: &mut String, tree: &Tree, word: &str, names: &[u32]) -> Resu
     Ok(())
 }
 
-// A line for each variable, flag and bag, with its place.
+// A line for each variable, flag, bag and queue, with its place.
 fn push_slots(text: &mut String, tree: &Tree, scope: &Scope) -> Result<(), AllocError>
     ensures { OnOk result (string_bytes text.new
         ≡ string_bytes text.old ++ slots_text tree.now.names scope.now.variables) }
@@ -107,7 +108,14 @@ fn word_of(domain: Domain) -> &'static str
     match domain {
         Domain::Number(_) => "variable",
         Domain::Flag { .. } => "flag",
-        Domain::Bag { .. } => "bag",
+        Domain::Held {
+            discipline: Discipline::Bag,
+            ..
+        } => "bag",
+        Domain::Held {
+            discipline: Discipline::Queue,
+            ..
+        } => "queue",
     }
 }
 

@@ -1,8 +1,8 @@
 //! A slow decision whether instructions are a program, written from the definition: a mark for each place, by all ways
 //! from the first one, and an instruction at each place that agrees with the marks where it leads.
 
-use dv_bag::ValueType;
-use dv_code::{Action, Binary, Instruction, Leaf, ProgramSort, Shape, Slot, Source, Unary};
+use dv_bag::{Change, Discipline, ValueType};
+use dv_code::{Action, Binary, Deed, Instruction, Leaf, ProgramSort, Shape, Slot, Source, Unary};
 use std::alloc::{AllocError, Global};
 
 /// How deep loops may lie in one another.
@@ -393,11 +393,10 @@ fn taken_and_given(instruction: Instruction) -> (Types, Types) {
 fn knows(shape: &Shape, inside: usize, instruction: Instruction) -> bool {
     match instruction {
         Instruction::Push(leaf) => knows_leaf(shape, inside, leaf),
-        Instruction::Apply(Unary::Times(source)) | Instruction::Loop(source, _) => {
-            knows_bag(shape, source)
-        }
+        Instruction::Apply(Unary::Times(source)) => knows_bag(shape, source),
+        Instruction::Loop(source, _) => knows_source(shape, source),
         Instruction::Perform(action) => knows_action(shape, action),
-        Instruction::Go(phase) => phase < shape.tables().phases() && changes(shape.sort()),
+        Instruction::Do(deed) => knows_deed(shape, deed),
         _ => true,
     }
 }
@@ -409,15 +408,22 @@ fn knows_leaf(shape: &Shape, inside: usize, leaf: Leaf) -> bool {
         Leaf::Flag(place) => matches!(slot(shape, place), Some(Slot::Flagged)),
         Leaf::Item(number) => usize::from(number) < inside,
         Leaf::Elapsed => shape.sort() == ProgramSort::External,
-        Leaf::Size(source) | Leaf::Sum(source) | Leaf::Least(source) | Leaf::Most(source) => {
-            knows_bag(shape, source)
-        }
+        Leaf::Size(source) => knows_source(shape, source),
+        Leaf::Sum(source) | Leaf::Least(source) | Leaf::Most(source) => knows_bag(shape, source),
+        Leaf::Front(place) => holds(shape, place, Discipline::Queue),
     }
 }
 
+/// Whether a bag may be read there.
 fn knows_bag(shape: &Shape, source: Source) -> bool {
+    let is_queue = matches!(source, Source::Own(Discipline::Queue, _));
+    knows_source(shape, source) && !is_queue
+}
+
+/// Whether a bag or a queue may be read there.
+fn knows_source(shape: &Shape, source: Source) -> bool {
     match source {
-        Source::Own(place) => matches!(slot(shape, place), Some(Slot::Holding { .. })),
+        Source::Own(discipline, place) => holds(shape, place, discipline),
         Source::Port(port) => {
             u32::from(port) < shape.tables().inputs()
                 && matches!(shape.sort(), ProgramSort::External | ProgramSort::Confluent)
@@ -433,12 +439,31 @@ fn knows_action(shape: &Shape, action: Action) -> bool {
         Action::SetFlag(place) => {
             matches!(slot(shape, place), Some(Slot::Flagged)) && changes(shape.sort())
         }
-        Action::AddTo(place) | Action::DropFrom(place) => {
-            matches!(slot(shape, place), Some(Slot::Holding { .. })) && changes(shape.sort())
+        Action::Change(Change::Add | Change::Drop, place) => {
+            holds(shape, place, Discipline::Bag) && changes(shape.sort())
+        }
+        Action::Change(Change::Push, place) => {
+            holds(shape, place, Discipline::Queue) && changes(shape.sort())
         }
         Action::Send(port) => {
             u32::from(port) < shape.tables().outputs() && shape.sort() == ProgramSort::Output
         }
+    }
+}
+
+fn knows_deed(shape: &Shape, deed: Deed) -> bool {
+    let is_known = match deed {
+        Deed::Go(phase) => phase < shape.tables().phases(),
+        Deed::Pop(place) => holds(shape, place, Discipline::Queue),
+    };
+    is_known && changes(shape.sort())
+}
+
+/// Whether the slot of a place holds a collection of this discipline.
+fn holds(shape: &Shape, place: u16, wanted: Discipline) -> bool {
+    match slot(shape, place) {
+        Some(Slot::Holding { discipline, .. }) => discipline == wanted,
+        _ => false,
     }
 }
 

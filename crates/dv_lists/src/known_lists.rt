@@ -1,13 +1,16 @@
 //! Lists of instructions that are programs, and lists that are not.
 
 use crate::taken::taken;
-use dv_code::{Action, Instruction, Leaf, ProgramSort, Source};
-use dv_samples::shape_of_one_bag;
+use dv_bag::{Change, Discipline};
+use dv_code::{Action, Deed, Instruction, Leaf, ProgramSort, Source};
+use dv_samples::shape_of_collections;
 use std::alloc::AllocError;
 use std::process::Abort;
 use std::test::Fail;
 
-const BAG: Source = Source::Own(0);
+const BAG: Source = Source::Own(Discipline::Bag, 0);
+
+const QUEUE: Source = Source::Own(Discipline::Queue, 1);
 
 const ITEM: Instruction = Instruction::Push(Leaf::Item(0));
 
@@ -19,7 +22,13 @@ const ELAPSED: Instruction = Instruction::Push(Leaf::Elapsed);
 
 const SEND: Instruction = Instruction::Perform(Action::Send(0));
 
-const ADD: Instruction = Instruction::Perform(Action::AddTo(0));
+const ADD: Instruction = Instruction::Perform(Action::Change(Change::Add, 0));
+
+const PUSH: Instruction = Instruction::Perform(Action::Change(Change::Push, 1));
+
+const POP: Instruction = Instruction::Do(Deed::Pop(1));
+
+const FRONT: Instruction = Instruction::Push(Leaf::Front(1));
 
 /// Lists that are programs of an output rule.
 const OUTPUT_RULES: &[(&str, &[Instruction])] = &[
@@ -42,6 +51,28 @@ const OUTPUT_RULES: &[(&str, &[Instruction])] = &[
             Instruction::Next(3),
             Instruction::Next(2),
             Instruction::Next(1),
+            Instruction::End,
+        ],
+    ),
+    (
+        "a loop over the queue in one over the bag",
+        &[
+            Instruction::Loop(BAG, 6),
+            Instruction::Loop(QUEUE, 5),
+            ITEM,
+            SEND,
+            Instruction::Next(2),
+            Instruction::Next(1),
+            Instruction::End,
+        ],
+    ),
+    (
+        "the number of values of the queue, and the first",
+        &[
+            Instruction::Push(Leaf::Size(QUEUE)),
+            SEND,
+            FRONT,
+            SEND,
             Instruction::End,
         ],
     ),
@@ -123,6 +154,30 @@ const NO_PROGRAMS: &[(&str, &[Instruction])] = &[
             Instruction::End,
         ],
     ),
+    (
+        "the first value of a bag",
+        &[Instruction::Push(Leaf::Front(0)), SEND, Instruction::End],
+    ),
+    (
+        "the sum of a queue",
+        &[Instruction::Push(Leaf::Sum(QUEUE)), SEND, Instruction::End],
+    ),
+    (
+        "a loop over a queue as a bag",
+        &[
+            Instruction::Loop(Source::Own(Discipline::Bag, 1), 2),
+            Instruction::Next(1),
+            Instruction::End,
+        ],
+    ),
+    (
+        "the number of values of a bag as a queue",
+        &[
+            Instruction::Push(Leaf::Size(Source::Own(Discipline::Queue, 0))),
+            SEND,
+            Instruction::End,
+        ],
+    ),
     ("no instruction", &[]),
     (
         "a place behind the end",
@@ -156,18 +211,56 @@ const BY_SORT: &[(&str, &[Instruction], [bool; 5])] = &[
         [false, false, true, false, false],
     ),
     (
+        "a number goes into the queue",
+        &[ONE, PUSH, Instruction::End],
+        [false, true, true, true, false],
+    ),
+    (
+        "a number goes into the bag as into a queue",
+        &[
+            ONE,
+            Instruction::Perform(Action::Change(Change::Push, 0)),
+            Instruction::End,
+        ],
+        [false; 5],
+    ),
+    (
+        "a number goes out of the queue as out of a bag",
+        &[
+            ONE,
+            Instruction::Perform(Action::Change(Change::Drop, 1)),
+            Instruction::End,
+        ],
+        [false; 5],
+    ),
+    (
+        "the queue loses its first value",
+        &[POP, Instruction::End],
+        [false, true, true, true, false],
+    ),
+    (
+        "the bag loses its first value",
+        &[Instruction::Do(Deed::Pop(0)), Instruction::End],
+        [false; 5],
+    ),
+    (
         "a phase is named",
-        &[Instruction::Go(0), Instruction::End],
+        &[Instruction::Do(Deed::Go(0)), Instruction::End],
         [false, true, true, true, false],
     ),
     (
         "a phase that the model has not is named",
-        &[Instruction::Go(1), Instruction::End],
+        &[Instruction::Do(Deed::Go(1)), Instruction::End],
         [false; 5],
     ),
     (
         "a number is left",
         &[ONE, Instruction::End],
+        [false, false, false, false, true],
+    ),
+    (
+        "the first value of the queue is left",
+        &[FRONT, Instruction::End],
         [false, false, false, false, true],
     ),
 ];
@@ -180,7 +273,7 @@ fn expect_answer<R: Abort + AllocGlobal>(
     list: &[Instruction],
     wanted: bool,
 ) -> Result<(), AllocError> {
-    let shape = shape_of_one_bag(rt.alloc(), sort)?;
+    let shape = shape_of_collections(rt.alloc(), sort)?;
     let found = taken(rt, shape, list)?;
     assert_eq!(rt; found.is_some(), wanted, "{name}, {sort:?}");
     Ok(())

@@ -4,7 +4,8 @@ ghost use Rattle.dv_syntax.specs.Trees.{atomic_of};
 ghost use Rattle.dv_gen.specs.ModelCode.{IsCompilable};
 
 use crate::taken::{Answers, taken};
-use dv_code::{Action, Binary, Instruction, Leaf, Shape, Source, Tables, Valid};
+use dv_bag::Discipline;
+use dv_code::{Action, Binary, Deed, Instruction, Leaf, Shape, Source, Tables, Valid};
 use dv_samples::{Compiled, atomic_at, checked, compile, model_texts};
 use dv_syntax::Atomic;
 use std::alloc::AllocError;
@@ -17,17 +18,19 @@ fn shape_like(program: &Valid, tables: &Arc<Tables>) -> Result<Shape, AllocError
 }
 
 /// Other instructions for a place: most are those of no program there.
-fn others(place: u32, instruction: Instruction) -> [Instruction; 12] {
+fn others(place: u32, instruction: Instruction) -> [Instruction; 14] {
     [
         turned(instruction),
         Instruction::Push(Leaf::Number(1)),
         Instruction::Push(Leaf::Truth(true)),
         Instruction::Push(Leaf::Item(0)),
-        Instruction::Push(Leaf::Size(Source::Own(0))),
+        Instruction::Push(Leaf::Size(Source::Own(Discipline::Bag, 0))),
+        Instruction::Push(Leaf::Front(0)),
         Instruction::Combine(Binary::Add),
         Instruction::Perform(Action::Send(0)),
         Instruction::Perform(Action::SetVariable(0)),
-        Instruction::Go(0),
+        Instruction::Do(Deed::Go(0)),
+        Instruction::Do(Deed::Pop(0)),
         Instruction::Jump(place.saturating_add(2)),
         Instruction::Next(place.saturating_sub(2)),
         Instruction::End,

@@ -3,9 +3,9 @@
 ghost use Rattle.std.specs.Prelude.{◌≡◌, ◌<◌};
 
 use crate::taken::{Answers, taken};
-use dv_bag::{Arrivals, RuleError, State};
+use dv_bag::{Arrivals, Change, Discipline, RuleError, State};
 use dv_code::{
-    Action, Binary, Instruction, Leaf, ProgramSort, Shape, Source, Tables, Unary, Valid,
+    Action, Binary, Deed, Instruction, Leaf, ProgramSort, Shape, Source, Tables, Unary, Valid,
 };
 use dv_samples::{Level, Random, Runs, deliveries, state_at, tables_of_each_slot};
 use std::alloc::{AllocError, Global};
@@ -37,15 +37,17 @@ fn random_sort(random: &mut Random) -> ProgramSort {
 }
 
 fn random_source(random: &mut Random) -> Source {
-    match random.below(5) {
+    match random.below(8) {
         0 => Source::Port(0),
-        1 => Source::Own(0),
-        _ => Source::Own(2),
+        1 => Source::Own(Discipline::Bag, 0),
+        2 => Source::Own(Discipline::Queue, 2),
+        3 | 4 => Source::Own(Discipline::Queue, 3),
+        _ => Source::Own(Discipline::Bag, 2),
     }
 }
 
 fn random_leaf(random: &mut Random) -> Leaf {
-    match random.below(9) {
+    match random.below(10) {
         0 => Leaf::Truth(true),
         1 => Leaf::Variable(0),
         2 => Leaf::Flag(1),
@@ -54,7 +56,16 @@ fn random_leaf(random: &mut Random) -> Leaf {
         5 => Leaf::Size(random_source(random)),
         6 => Leaf::Most(random_source(random)),
         7 => Leaf::Truth(false),
+        8 => Leaf::Front(random_place(random)),
         _ => Leaf::Number(3),
+    }
+}
+
+/// The place of the queue, or now and then that of the bag.
+fn random_place(random: &mut Random) -> u16 {
+    match random.below(4) {
+        0 => 2,
+        _ => 3,
     }
 }
 
@@ -68,12 +79,20 @@ fn random_binary(random: &mut Random) -> Binary {
 }
 
 fn random_action(random: &mut Random) -> Action {
-    match random.below(5) {
+    match random.below(6) {
         0 => Action::SetVariable(0),
         1 => Action::SetFlag(1),
-        2 => Action::AddTo(2),
-        3 => Action::DropFrom(2),
+        2 => Action::Change(Change::Add, 2),
+        3 => Action::Change(Change::Drop, 2),
+        4 => Action::Change(Change::Push, random_place(random)),
         _ => Action::Send(0),
+    }
+}
+
+fn random_deed(random: &mut Random) -> Deed {
+    match random.below(2) {
+        0 => Deed::Go(random.below(3)),
+        _ => Deed::Pop(random_place(random)),
     }
 }
 
@@ -85,7 +104,7 @@ fn random_instruction(random: &mut Random, place: u32) -> Instruction {
         0 => Instruction::Apply(Unary::Not),
         1 => Instruction::Apply(Unary::Times(random_source(random))),
         2 | 3 => Instruction::Combine(random_binary(random)),
-        4 => Instruction::Go(random.below(3)),
+        4 => Instruction::Do(random_deed(random)),
         5 => Instruction::Jump(ahead),
         6 => Instruction::JumpFalse(ahead),
         7 => Instruction::FalseKeep(ahead),

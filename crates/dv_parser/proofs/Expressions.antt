@@ -507,8 +507,9 @@ no_truth : (ts : List Token) → begins (kind.Keyword keyword.True) ts ≡ false
 no_truth ts a b = rw (a, b) refl
 
 no_call : (ts : List Token) → begins (kind.Keyword keyword.Size) ts ≡ false → begins (kind.Keyword keyword.Sum) ts ≡ false
-    → begins (kind.Keyword keyword.Least) ts ≡ false → begins (kind.Keyword keyword.Most) ts ≡ false → begins_call ts ≡ false
-no_call ts a b c d = rw (a, b, c, d) refl
+    → begins (kind.Keyword keyword.Least) ts ≡ false → begins (kind.Keyword keyword.Most) ts ≡ false
+    → begins (kind.Keyword keyword.Front) ts ≡ false → begins_call ts ≡ false
+no_call ts a b c d e = rw (a, b, c, d, e) refl
 
 number_again : (operand : Operands) (limit level : ℕ) (n : Number) {ts rest : List Token} → Spans (number n ∷ []) ts rest
     → primary_at operand limit level ts ≡ Ok (Literal n, rest)
@@ -517,7 +518,7 @@ number_again operand limit level n {ts = ts} h =
     let b = (first h).begins in
     let g = first_number n h in
     primary_leaf operand limit level _ (b _) (b _) (b _) (b _)
-    (past _ (first h).begins_name (past _ (no_truth ts (b _) (b _)) (past _ (no_call ts (b _) (b _) (b _) (b _)) (past _ (b _)
+    (past _ (first h).begins_name (past _ (no_truth ts (b _) (b _)) (past _ (no_call ts (b _) (b _) (b _) (b _) (b _)) (past _ (b _)
     (rw (g.read, span_end g.spelled) refl)))))
 
 elapsed_again : (operand : Operands) (limit level place : ℕ) {ts rest : List Token} → Spans (word_at keyword.Elapsed place ∷ []) ts rest
@@ -527,7 +528,7 @@ elapsed_again operand limit level place {ts = ts} h =
     let f = first h in
     let b = f.begins in
     primary_leaf operand limit level _ (b _) (b _) (b _) (b _)
-    (past _ f.begins_name (past _ (no_truth ts (b _) (b _)) (past _ (no_call ts (b _) (b _) (b _) (b _)) (here _ (b _)
+    (past _ f.begins_name (past _ (no_truth ts (b _) (b _)) (past _ (no_call ts (b _) (b _) (b _) (b _) (b _)) (here _ (b _)
     (rw (f.after, f.place, span_end f.spelled) refl)))))
 
 truth_again : (operand : Operands) (limit level place : ℕ) (value : Bool) {ts rest : List Token}
@@ -581,6 +582,14 @@ call_leaf operand limit level call.Most {ts = ts} h =
     primary_leaf operand limit level _ (b _) (b _) (b _) (b _)
     (past _ (first h).begins_name (past _ (no_truth ts (b _) (b _))
     (here _ (rw (b (kind.Keyword keyword.Size), b (kind.Keyword keyword.Sum), least, most) refl) refl)))
+call_leaf operand limit level call.Front {ts = ts} h =
+    let b = (first h).begins in
+    let least = b (kind.Keyword keyword.Least) in
+    let most = b (kind.Keyword keyword.Most) in
+    let front = b (kind.Keyword keyword.Front) in
+    primary_leaf operand limit level _ (b _) (b _) (b _) (b _)
+    (past _ (first h).begins_name (past _ (no_truth ts (b _) (b _))
+    (here _ (rw (b (kind.Keyword keyword.Size), b (kind.Keyword keyword.Sum), least, most, front) refl) refl)))
 
 call_again : (operand : Operands) (limit level : ℕ) (c : BagCall) (place : ℕ) (b : Name) {ts rest : List Token}
     → Spans (expression_spelling (Call c place b)) ts rest → primary_at operand limit level ts ≡ Ok (Call c place b, rest)

@@ -2,6 +2,8 @@
 use Rattle.std.proofs.Common.{◌≡◌, ℕ, ◌<◌, true, false, List, [], ◌∷◌, ◌++◌, length, Option, Some, None, Ok, Err, refl, sym, ap}
 use Rattle.std.proofs.Common.{subst, ◌∙◌, inl, inr, arith}
 use Rattle.std.specs.List.{flat_map, AllByRecursion}
+use Rattle.dv_bag.specs.declared.discipline.Discipline.{Discipline}
+use Rattle.dv_bag.specs.declared.discipline.Discipline.TheVariants as discipline
 use Rattle.dv_lex.specs.declared.token.Token.{Token}
 use Rattle.dv_lex.specs.declared.token.TokenKind.TheVariants as kind
 use Rattle.dv_lex.specs.declared.token.Keyword.{Keyword}
@@ -16,7 +18,7 @@ use Rattle.dv_syntax.specs.declared.tree.Number.{Number}
 use Rattle.dv_syntax.specs.declared.tree.Bound.{Bound}
 use Rattle.dv_syntax.specs.declared.tree.Variable.{Variable}
 use Rattle.dv_syntax.specs.declared.tree.Flag.{Flag}
-use Rattle.dv_syntax.specs.declared.tree.StateBag.{StateBag}
+use Rattle.dv_syntax.specs.declared.tree.StateCollection.{StateCollection}
 use Rattle.dv_syntax.specs.declared.tree.BagCall.TheVariants as call
 use Rattle.dv_syntax.specs.declared.tree.Declaration.TheVariants as declaration
 use Rattle.dv_syntax.specs.declared.tree.RuleSort.{RuleSort}
@@ -30,11 +32,11 @@ use Rattle.dv_syntax.specs.Written.{AtomicItem, Declares, Lists, Starts, Holds, 
 use Rattle.dv_syntax.specs.Written.{Couples, WrittenModel, WrittenAtomic, WrittenCoupled, WrittenFile, sorted}
 use Rattle.dv_syntax.specs.Grammar.{Spelled, Anywhere, Limits, the_limits, name, number, sign, word, braces, operator_kind}
 use Rattle.dv_syntax.specs.Grammar.{expression_spelling, minus_spelling, bound_spelling, variable_spelling, flag_spelling}
-use Rattle.dv_syntax.specs.Grammar.{bag_spelling, ticks_spelling, phases_spelling, rule_spelling, item_spelling, AreTicks}
-use Rattle.dv_syntax.specs.Grammar.{IsItem, part_name_spelling, end_spelling, coupled_item_spelling, model_spelling, IsModel}
+use Rattle.dv_syntax.specs.Grammar.{collection_spelling, ticks_spelling, phases_spelling, rule_spelling, item_spelling}
+use Rattle.dv_syntax.specs.Grammar.{AreTicks, IsItem, part_name_spelling, end_spelling, coupled_item_spelling, model_spelling, IsModel}
 use Rattle.dv_syntax.specs.Grammar.{file_spelling, header_spelling, version_number, IsWritten, IsFileWithin, IsFileOf}
 use Rattle.dv_parser.specs.Reading.{Obstacle, Read, read_then, choose, begins, operator_of, many_at, braces_at, bound_at}
-use Rattle.dv_parser.specs.Reading.{variable_at, flag_at, bag_at, further_name_at, phases_at, start_at, ticks_at, hold_at}
+use Rattle.dv_parser.specs.Reading.{variable_at, flag_at, collection_at, further_name_at, phases_at, start_at, ticks_at, hold_at}
 use Rattle.dv_parser.specs.Reading.{rule_at, any_rule_at, port_at, item_at, atomic_at, end_at, part_at, link_at}
 use Rattle.dv_parser.specs.Reading.{coupled_item_at, coupled_at, model_at, is_end, header_at, version_at, file_at}
 use Rattle.dv_parser.proofs.Tokens.{FirstRead, then_ok, here, past, chosen, ok_is, err_ok, Spans, nothing, span_end, then_spans, split}
@@ -138,22 +140,24 @@ flag_complete f ts rest h =
     let d = first start.spelled in
     rw (a.after, b.read, c.after, start.read, d.after, span_end d.spelled) refl
 
-bag_sound : (ts : List Token) (x : StateBag × List Token) → bag_at ts ≡ Ok x → Spans (bag_spelling x.0) ts x.1
-unfolding bag_at
-bag_sound ts x e =
+collection_sound : (d : Discipline) (ts : List Token) (x : StateCollection × List Token) → collection_at d ts ≡ Ok x
+    → Spans (collection_spelling x.0) ts x.1
+unfolding collection_at
+collection_sound d ts x e =
     let a = then_ok _ _ _ e in
     let b = then_ok _ _ _ a.2 in
     let c = then_ok _ _ _ b.2 in
-    let d = then_ok _ _ _ c.2 in
-    subst (λ (y : StateBag × List Token). Spans (bag_spelling y.0) ts y.1) (ok_is _ _ d.2)
-    (after_spans a.1 (name_spans b.1 (number_spans c.1 (after_spans d.1 nothing))))
+    let f = then_ok _ _ _ c.2 in
+    subst (λ (y : StateCollection × List Token). Spans (collection_spelling y.0) ts y.1) (ok_is _ _ f.2)
+    (after_spans a.1 (name_spans b.1 (number_spans c.1 (after_spans f.1 nothing))))
 
-bag_complete : (b : StateBag) (ts rest : List Token) → Spans (bag_spelling b) ts rest → bag_at ts ≡ Ok (b, rest)
-unfolding bag_at read_then
-bag_complete b ts rest h =
+collection_complete : (c : StateCollection) (ts rest : List Token) → Spans (collection_spelling c) ts rest
+    → collection_at c.discipline ts ≡ Ok (c, rest)
+unfolding collection_at read_then
+collection_complete c ts rest h =
     let a = first h in
-    let n = first_name b.name a.spelled in
-    let capacity = first_number b.capacity n.spelled in
+    let n = first_name c.name a.spelled in
+    let capacity = first_number c.capacity n.spelled in
     let d = first capacity.spelled in
     rw (a.after, n.read, capacity.read, d.after, span_end d.spelled) refl
 
@@ -286,14 +290,23 @@ item_sound limits ts x e =
           | inr q ↦ elim (chosen _ _ _ _ q.1) [
             | inl f ↦ let a = then_ok _ _ _ f.1 in let s = flag_sound ts a.0 a.1 in subst (ReadsItem limits ts) (ok_is _ _ a.2) (s, tt)
             | inr f ↦ elim (chosen _ _ _ _ f.1) [
-              | inl b ↦ let a = then_ok _ _ _ b.1 in let s = bag_sound ts a.0 a.1 in subst (ReadsItem limits ts) (ok_is _ _ a.2) (s, tt)
+              | inl b ↦
+                  let a = then_ok _ _ _ b.1 in
+                  let s = collection_sound discipline.Bag ts a.0 a.1 in
+                  subst (ReadsItem limits ts) (ok_is _ _ a.2) (s, tt)
               | inr b ↦ elim (chosen _ _ _ _ b.1) [
-                | inl w ↦ phases_sound limits ts x w.1
-                | inr w ↦ elim (chosen _ _ _ _ w.1) [
-                  | inl u ↦ start_sound limits ts x u.1
-                  | inr u ↦ elim (chosen _ _ _ _ u.1) [
-                    | inl v ↦ hold_sound limits ts x v.1
-                    | inr v ↦ any_rule_sound limits ts x v.1
+                | inl c ↦
+                    let a = then_ok _ _ _ c.1 in
+                    let s = collection_sound discipline.Queue ts a.0 a.1 in
+                    subst (ReadsItem limits ts) (ok_is _ _ a.2) (s, tt)
+                | inr c ↦ elim (chosen _ _ _ _ c.1) [
+                  | inl w ↦ phases_sound limits ts x w.1
+                  | inr w ↦ elim (chosen _ _ _ _ w.1) [
+                    | inl u ↦ start_sound limits ts x u.1
+                    | inr u ↦ elim (chosen _ _ _ _ u.1) [
+                      | inl v ↦ hold_sound limits ts x v.1
+                      | inr v ↦ any_rule_sound limits ts x v.1
+                    ]
                   ]
                 ]
               ]
@@ -327,6 +340,7 @@ expression_no_word (Call call.Size place b) ts rest h = (first h).begins _
 expression_no_word (Call call.Sum place b) ts rest h = (first h).begins _
 expression_no_word (Call call.Least place b) ts rest h = (first h).begins _
 expression_no_word (Call call.Most place b) ts rest h = (first h).begins _
+expression_no_word (Call call.Front place b) ts rest h = (first h).begins _
 expression_no_word (Elapsed place) ts rest h = (first h).begins _
 expression_no_word (Times place e b) ts rest h = (first h).begins _
 expression_no_word (Binary o a b) ts rest h =
@@ -348,11 +362,13 @@ ticks_complete limits (Some e) ts rest is h =
 item_rule : (limits : Limits) (ts : List Token) {read : Read (AtomicItem × List Token)} → begins (kind.Keyword keyword.In) ts ≡ false
     → begins (kind.Keyword keyword.Out) ts ≡ false
     → begins (kind.Keyword keyword.Var) ts ≡ false → begins (kind.Keyword keyword.Flag) ts ≡ false
-    → begins (kind.Keyword keyword.Bag) ts ≡ false → begins (kind.Keyword keyword.Phases) ts ≡ false
+    → begins (kind.Keyword keyword.Bag) ts ≡ false → begins (kind.Keyword keyword.Queue) ts ≡ false
+    → begins (kind.Keyword keyword.Phases) ts ≡ false
     → begins (kind.Keyword keyword.Start) ts ≡ false → begins (kind.Keyword keyword.Hold) ts ≡ false
     → any_rule_at limits ts ≡ read → item_at limits ts ≡ read
 unfolding item_at
-item_rule limits ts a b c d e f g h r = past _ a (past _ b (past _ c (past _ d (past _ e (past _ f (past _ g (past _ h r)))))))
+item_rule limits ts a b c d e f g h i r =
+    past _ a (past _ b (past _ c (past _ d (past _ e (past _ f (past _ g (past _ h (past _ i r))))))))
 
 rule_item_complete : (limits : Limits) (sort : RuleSort) (p : Name) (body : Statements) (ts rest : List Token)
     → IsBlock limits limits.block limits.loop body → Spans (rule_spelling (record { sort = sort; phase = p; body = body })) ts rest
@@ -360,19 +376,19 @@ rule_item_complete : (limits : Limits) (sort : RuleSort) (p : Name) (body : Stat
 unfolding any_rule_at
 rule_item_complete limits sort.Output p body ts rest is h =
     let b = (first h).begins in
-    item_rule limits ts (b _) (b _) (b _) (b _) (b _) (b _) (b _) (b _)
+    item_rule limits ts (b _) (b _) (b _) (b _) (b _) (b _) (b _) (b _) (b _)
     (here _ (b _) (rule_complete limits sort.Output p body ts rest is h))
 rule_item_complete limits sort.Internal p body ts rest is h =
     let b = (first h).begins in
-    item_rule limits ts (b _) (b _) (b _) (b _) (b _) (b _) (b _) (b _)
+    item_rule limits ts (b _) (b _) (b _) (b _) (b _) (b _) (b _) (b _) (b _)
     (past _ (b _) (here _ (b _) (rule_complete limits sort.Internal p body ts rest is h)))
 rule_item_complete limits sort.External p body ts rest is h =
     let b = (first h).begins in
-    item_rule limits ts (b _) (b _) (b _) (b _) (b _) (b _) (b _) (b _)
+    item_rule limits ts (b _) (b _) (b _) (b _) (b _) (b _) (b _) (b _) (b _)
     (past _ (b _) (past _ (b _) (here _ (b _) (rule_complete limits sort.External p body ts rest is h))))
 rule_item_complete limits sort.Confluent p body ts rest is h =
     let b = (first h).begins in
-    item_rule limits ts (b _) (b _) (b _) (b _) (b _) (b _) (b _) (b _)
+    item_rule limits ts (b _) (b _) (b _) (b _) (b _) (b _) (b _) (b _) (b _)
     (past _ (b _) (past _ (b _) (past _ (b _) (rule_complete limits sort.Confluent p body ts rest is h))))
 
 phases_complete : (place : ℕ) (names : List Name) (ts rest : List Token) → 0 < length names
@@ -410,6 +426,19 @@ hold_complete limits d ts rest is h =
     let e = first t.2 in
     rw (a.after, b.read, c.after, t.1, e.after, a.place, span_end e.spelled) refl
 
+collection_item_complete : (limits : Limits) (d : Discipline) (n : Name) (m : Number) (ts rest : List Token)
+    → Spans (collection_spelling (record { discipline = d; name = n; capacity = m })) ts rest
+    → item_at limits ts ≡ Ok (Declares (declaration.Held (record { discipline = d; name = n; capacity = m })), rest)
+unfolding item_at read_then
+collection_item_complete limits discipline.Bag n m ts rest h =
+    let b = (first h).begins in
+    let c = collection_complete (record { discipline = discipline.Bag; name = n; capacity = m }) ts rest h in
+    past _ (b _) (past _ (b _) (past _ (b _) (past _ (b _) (here _ (b _) (rw c refl)))))
+collection_item_complete limits discipline.Queue n m ts rest h =
+    let b = (first h).begins in
+    let c = collection_complete (record { discipline = discipline.Queue; name = n; capacity = m }) ts rest h in
+    past _ (b _) (past _ (b _) (past _ (b _) (past _ (b _) (past _ (b _) (here _ (b _) (rw c refl))))))
+
 item_complete : (limits : Limits) (x : AtomicItem) (ts rest : List Token) → IsItem limits x → Spans (item_spelling x) ts rest
     → item_at limits ts ≡ Ok (x, rest)
 unfolding item_at read_then
@@ -424,20 +453,20 @@ item_complete limits (Declares (declaration.Var v)) ts rest is h =
 item_complete limits (Declares (declaration.Flag f)) ts rest is h =
     let b = (first h).begins in
     past _ (b _) (past _ (b _) (past _ (b _) (here _ (b _) (rw (flag_complete f ts rest h) refl))))
-item_complete limits (Declares (declaration.Bag s)) ts rest is h =
-    let b = (first h).begins in
-    past _ (b _) (past _ (b _) (past _ (b _) (past _ (b _) (here _ (b _) (rw (bag_complete s ts rest h) refl)))))
+item_complete limits (Declares (declaration.Held c)) ts rest is h =
+    collection_item_complete limits c.discipline c.name c.capacity ts rest h
 item_complete limits (Lists p) ts rest is h =
     let b = (first h).begins in
-    past _ (b _) (past _ (b _) (past _ (b _) (past _ (b _) (past _ (b _) (here _ (b _) (phases_complete p.place p.names ts rest is h))))))
+    past _ (b _) (past _ (b _) (past _ (b _) (past _ (b _) (past _ (b _) (past _ (b _) (here _ (b _)
+    (phases_complete p.place p.names ts rest is h)))))))
 item_complete limits (Starts s) ts rest is h =
     let b = (first h).begins in
-    past _ (b _) (past _ (b _) (past _ (b _) (past _ (b _) (past _ (b _) (past _ (b _) (here _ (b _)
-    (start_complete s.place s.phase ts rest h)))))))
+    past _ (b _) (past _ (b _) (past _ (b _) (past _ (b _) (past _ (b _) (past _ (b _) (past _ (b _) (here _ (b _)
+    (start_complete s.place s.phase ts rest h))))))))
 item_complete limits (Holds d) ts rest is h =
     let b = (first h).begins in
-    past _ (b _) (past _ (b _) (past _ (b _) (past _ (b _) (past _ (b _) (past _ (b _) (past _ (b _) (here _ (b _)
-    (hold_complete limits d ts rest is h))))))))
+    past _ (b _) (past _ (b _) (past _ (b _) (past _ (b _) (past _ (b _) (past _ (b _) (past _ (b _) (past _ (b _) (here _ (b _)
+    (hold_complete limits d ts rest is h)))))))))
 item_complete limits (Rules r) ts rest is h = rule_item_complete limits r.sort r.phase r.body ts rest is h
 
 item_opens : (k : Symbol) (x : AtomicItem) (ts rest : List Token) → Spans (item_spelling x) ts rest → begins (kind.Symbol k) ts ≡ false
@@ -445,7 +474,7 @@ item_opens k (Declares (declaration.In n)) ts rest h = (first h).begins _
 item_opens k (Declares (declaration.Out n)) ts rest h = (first h).begins _
 item_opens k (Declares (declaration.Var v)) ts rest h = (first h).begins _
 item_opens k (Declares (declaration.Flag f)) ts rest h = (first h).begins _
-item_opens k (Declares (declaration.Bag b)) ts rest h = (first h).begins _
+item_opens k (Declares (declaration.Held c)) ts rest h = (first h).begins _
 item_opens k (Lists p) ts rest h = (first h).begins _
 item_opens k (Starts s) ts rest h = (first h).begins _
 item_opens k (Holds d) ts rest h = (first h).begins _
@@ -456,7 +485,7 @@ item_some (Declares (declaration.In n)) = omega arith
 item_some (Declares (declaration.Out n)) = omega arith
 item_some (Declares (declaration.Var v)) = omega arith
 item_some (Declares (declaration.Flag f)) = omega arith
-item_some (Declares (declaration.Bag b)) = omega arith
+item_some (Declares (declaration.Held c)) = omega arith
 item_some (Lists p) = omega arith
 item_some (Starts s) = omega arith
 item_some (Holds d) = omega arith
@@ -728,9 +757,16 @@ version_spans : {ss : List Spelled} {ts rest : List Token} {x : Version × List 
     → Spans (Anywhere (kind.Number (version_number x.0)) ∷ ss) ts rest
 unfolding version_at
 version_spans {ss = ss} {ts = ts} {rest = rest} {x = x} e =
-    let a = then_ok _ _ _ e in
-    subst (λ (y : Version × List Token). Spans ss y.1 rest → Spans (Anywhere (kind.Number (version_number y.0)) ∷ ss) ts rest)
-    (ok_is _ _ a.2) (λ h. after_spans a.1 h)
+    elim (chosen _ _ _ _ e) [
+      | inl p ↦
+          let a = then_ok _ _ _ p.1 in
+          subst (λ (y : Version × List Token). Spans ss y.1 rest → Spans (Anywhere (kind.Number (version_number y.0)) ∷ ss) ts rest)
+          (ok_is _ _ a.2) (λ h. after_spans a.1 h)
+      | inr p ↦
+          let a = then_ok _ _ _ p.1 in
+          subst (λ (y : Version × List Token). Spans ss y.1 rest → Spans (Anywhere (kind.Number (version_number y.0)) ∷ ss) ts rest)
+          (ok_is _ _ a.2) (λ h. after_spans a.1 h)
+    ]
 
 header_sound : (ts : List Token) (x : Option Version × List Token) → header_at ts ≡ Ok x → Spans (header_spelling x.0) ts x.1
 unfolding header_at
@@ -751,7 +787,12 @@ header_sound ts x e =
 first_version : (v : Version) {ss : List Spelled} {ts rest : List Token} → Spans (Anywhere (kind.Number (version_number v)) ∷ ss) ts rest
     → FirstRead version_at v ss ts rest
 unfolding version_at read_then
-first_version version.First h = let f = first h in record { behind = f.behind; read = rw f.after refl; spelled = f.spelled }
+first_version version.First h =
+    let f = first h in
+    record { behind = f.behind; read = here _ (f.begins _) (rw f.after refl); spelled = f.spelled }
+first_version version.Second h =
+    let f = first h in
+    record { behind = f.behind; read = past _ (f.begins _) (rw f.after refl); spelled = f.spelled }
 
 -- no header follows
 abbrev pub NoHeader : List Token → Type 0

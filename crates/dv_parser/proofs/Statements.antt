@@ -2,21 +2,24 @@
 use Rattle.std.proofs.Common.{◌≡◌, ℕ, zero, suc, ◌-◌, ◌<◌, ◌≤◌, true, false, List, [], ◌∷◌, ◌++◌, length, None, Ok, refl, sym, ap}
 use Rattle.std.proofs.Common.{subst, ◌∙◌, append_assoc, inl, inr, arith}
 use Rattle.std.specs.List.{flat_map, AllByRecursion}
+use Rattle.dv_bag.specs.declared.discipline.Change.{Change}
+use Rattle.dv_bag.specs.declared.discipline.Change.TheVariants as change
 use Rattle.dv_lex.specs.declared.token.Token.{Token}
 use Rattle.dv_lex.specs.declared.token.TokenKind.{TokenKind}
 use Rattle.dv_lex.specs.declared.token.TokenKind.TheVariants as kind
-use Rattle.dv_lex.specs.declared.token.Keyword.{Keyword}
 use Rattle.dv_lex.specs.declared.token.Keyword.TheVariants as keyword
 use Rattle.dv_lex.specs.declared.token.Symbol.TheVariants as symbol
 use Rattle.dv_syntax.specs.declared.tree.Name.{Name}
-use Rattle.dv_syntax.specs.Trees.{Expression, Statements, Done, Assign, Goto, Send, If, IfElse, For, Add, Drop}
+use Rattle.dv_syntax.specs.declared.tree.Command.{Command}
+use Rattle.dv_syntax.specs.declared.tree.Command.TheVariants as command
+use Rattle.dv_syntax.specs.Trees.{Expression, Statements, Done, Assign, Does, Send, If, IfElse, For, Changes}
 use Rattle.dv_syntax.specs.Grammar.{Spelled, name, sign, word, word_at, braces, Limits, IsExpression, expression_spelling}
-use Rattle.dv_syntax.specs.Grammar.{statements_spelling, block_depth, loop_depth, AreStatements}
+use Rattle.dv_syntax.specs.Grammar.{command_word, change_word, change_preposition, statements_spelling, block_depth, loop_depth}
+use Rattle.dv_syntax.specs.Grammar.{AreStatements}
 use Rattle.dv_parser.specs.Reading.{read_then, after, name_at, place_at, within, same_kind, begins, Reader, becoming}
-use Rattle.dv_parser.specs.Reading.{keyword_operator, operator_of, expression_at, braces_at, many_at, Single, SingleAssign, SingleGoto}
-use Rattle.dv_parser.specs.Reading.{SingleSend, SingleIf, SingleIfElse, SingleFor, SingleAdd, SingleDrop, single_before, joined}
-use Rattle.dv_parser.specs.Reading.{assign_at, goto_at, send_at, add_at, drop_at, else_at, if_at, for_at, statement_at}
-use Rattle.dv_parser.specs.Reading.{block_at}
+use Rattle.dv_parser.specs.Reading.{keyword_operator, operator_of, expression_at, braces_at, many_at, Single, SingleAssign}
+use Rattle.dv_parser.specs.Reading.{SingleCommand, SingleSend, SingleIf, SingleIfElse, SingleFor, SingleChange, single_before, joined}
+use Rattle.dv_parser.specs.Reading.{assign_at, command_at, send_at, change_at, else_at, if_at, for_at, statement_at, block_at}
 use Rattle.dv_parser.proofs.Tokens.{then_ok, here, past, chosen, ok_is, err_ok, same_kind-true, Spans, nothing, span_end}
 use Rattle.dv_parser.proofs.Tokens.{then_spans, split, first, first_name, after_spans, after_spans_at}
 use Rattle.dv_parser.proofs.Tokens.{name_spans}
@@ -25,13 +28,13 @@ use Rattle.dv_parser.proofs.Expressions.{within_ok, within_room, within_positive
 
 -- ---- Single statements
 
--- a word, and the bag of a statement behind it
-abbrev bag_behind : Keyword → Name → List Spelled
-bag_behind k b = word k ∷ name b ∷ sign symbol.Semicolon ∷ []
+-- what stands behind the value of a change
+abbrev collection_behind : Change → Name → List Spelled
+collection_behind c x = word (change_preposition c) ∷ name x ∷ sign symbol.Semicolon ∷ []
 
 abbrev pub single_spelling : Single → List Spelled
 single_spelling (SingleAssign n e) = name n ∷ sign symbol.Assign ∷ (expression_spelling e ++ sign symbol.Semicolon ∷ [])
-single_spelling (SingleGoto place p) = word_at keyword.Goto place ∷ name p ∷ sign symbol.Semicolon ∷ []
+single_spelling (SingleCommand c place n) = word_at (command_word c) place ∷ name n ∷ sign symbol.Semicolon ∷ []
 single_spelling (SingleSend place p e) = word_at keyword.Send place ∷ name p ∷ (expression_spelling e ++ sign symbol.Semicolon ∷ [])
 single_spelling (SingleIf place e block) = word_at keyword.If place ∷ (expression_spelling e ++ braces (statements_spelling block))
 single_spelling (SingleIfElse place e block other) =
@@ -39,8 +42,7 @@ single_spelling (SingleIfElse place e block other) =
     (expression_spelling e ++ (braces (statements_spelling block) ++ (word keyword.Else ∷ braces (statements_spelling other))))
 single_spelling (SingleFor place v b block) =
     word_at keyword.For place ∷ name v ∷ word keyword.In ∷ name b ∷ braces (statements_spelling block)
-single_spelling (SingleAdd place e b) = word_at keyword.Add place ∷ (expression_spelling e ++ bag_behind keyword.To b)
-single_spelling (SingleDrop place e b) = word_at keyword.Drop place ∷ (expression_spelling e ++ bag_behind keyword.From b)
+single_spelling (SingleChange c place e x) = word_at (change_word c) place ∷ (expression_spelling e ++ collection_behind c x)
 
 -- a block in which blocks lie in one another no deeper than the limit, and at most so many loops
 abbrev pub IsBlock : Limits → (limit loops : ℕ) → Statements → Type 0
@@ -48,14 +50,13 @@ IsBlock limits limit loops s = AreStatements limits s × (block_depth s ≤ limi
 
 abbrev pub IsSingle : Limits → (limit loops : ℕ) → Single → Type 0
 IsSingle limits limit loops (SingleAssign n e) = IsExpression limits e
-IsSingle limits limit loops (SingleGoto place p) = Unit {0}
+IsSingle limits limit loops (SingleCommand c place n) = Unit {0}
 IsSingle limits limit loops (SingleSend place p e) = IsExpression limits e
 IsSingle limits limit loops (SingleIf place e block) = IsExpression limits e × IsBlock limits limit loops block
 IsSingle limits limit loops (SingleIfElse place e block other) =
     IsExpression limits e × IsBlock limits limit loops block × IsBlock limits limit loops other
 IsSingle limits limit loops (SingleFor place v b block) = (0 < loops) × IsBlock limits limit (loops - 1) block
-IsSingle limits limit loops (SingleAdd place e b) = IsExpression limits e
-IsSingle limits limit loops (SingleDrop place e b) = IsExpression limits e
+IsSingle limits limit loops (SingleChange c place e x) = IsExpression limits e
 
 abbrev pub block_spelling : Statements → List Spelled
 block_spelling s = braces (statements_spelling s)
@@ -89,14 +90,14 @@ assign_sound limits limit loops ts x e =
     let s = (expression_reader limits).sound b.0 c.0 c.1 in
     subst (Reads limits limit loops ts) (ok_is _ _ d.2) (name_spans a.1 (after_spans b.1 (then_spans s.0 (after_spans d.1 nothing))), s.1)
 
-goto_sound : (limits : Limits) (limit loops : ℕ) (ts : List Token) (x : Single × List Token) → goto_at ts ≡ Ok x
+command_sound : (limits : Limits) (limit loops : ℕ) (c : Command) (ts : List Token) (x : Single × List Token) → command_at c ts ≡ Ok x
     → Reads limits limit loops ts x
-unfolding goto_at
-goto_sound limits limit loops ts x e =
+unfolding command_at
+command_sound limits limit loops c ts x e =
     let a = then_ok _ _ _ e in
     let b = then_ok _ _ _ a.2 in
-    let c = then_ok _ _ _ b.2 in
-    subst (Reads limits limit loops ts) (ok_is _ _ c.2) (after_spans_at a.1 (name_spans b.1 (after_spans c.1 nothing)), tt)
+    let d = then_ok _ _ _ b.2 in
+    subst (Reads limits limit loops ts) (ok_is _ _ d.2) (after_spans_at a.1 (name_spans b.1 (after_spans d.1 nothing)), tt)
 
 send_sound : (limits : Limits) (limit loops : ℕ) (ts : List Token) (x : Single × List Token) → send_at limits ts ≡ Ok x
     → Reads limits limit loops ts x
@@ -130,42 +131,18 @@ if_sound limits limit loops block r ts x e =
       | inr p ↦ subst (Reads limits limit loops ts) (ok_is _ _ p.1) (after_spans_at a.1 (then_spans s.0 t.0), (s.1, t.1))
     ]
 
--- a word, a value, another word, and a bag
-abbrev pub bag_statement_at : Keyword → Keyword → (ℕ → Expression → Name → Single) → Limits → Reader Single
-bag_statement_at k j make limits ts =
-    read_then (after (kind.Keyword k) ts) (λ behind.
-    read_then (expression_at limits.expression 0 behind) (λ e.
-    read_then (after (kind.Keyword j) e.1) (λ word.
-    read_then (name_at word) (λ bag.
-    read_then (after (kind.Symbol symbol.Semicolon) bag.1) (λ rest. Ok (make (place_at ts) e.0 bag.0, rest))))))
-
-bag_statement_sound : (k j : Keyword) (make : ℕ → Expression → Name → Single) (limits : Limits) (ts : List Token)
-    (Is : Single × List Token → Type 0)
-    → ((e : Expression) (b : Name) (rest : List Token)
-    → Spans (word_at k (place_at ts) ∷ (expression_spelling e ++ bag_behind j b)) ts rest → IsExpression limits e
-    → Is (make (place_at ts) e b, rest))
-    → (x : Single × List Token) → bag_statement_at k j make limits ts ≡ Ok x → Is x
-bag_statement_sound k j make limits ts Is is x e =
+change_sound : (limits : Limits) (limit loops : ℕ) (c : Change) (ts : List Token) (x : Single × List Token) → change_at limits c ts ≡ Ok x
+    → Reads limits limit loops ts x
+unfolding change_at
+change_sound limits limit loops c ts x e =
     let a = then_ok _ _ _ e in
     let b = then_ok _ _ _ a.2 in
-    let c = then_ok _ _ _ b.2 in
-    let d = then_ok _ _ _ c.2 in
+    let d = then_ok _ _ _ b.2 in
     let f = then_ok _ _ _ d.2 in
+    let g = then_ok _ _ _ f.2 in
     let s = (expression_reader limits).sound a.0 b.0 b.1 in
-    let spelled = after_spans_at a.1 (then_spans s.0 (after_spans c.1 (name_spans d.1 (after_spans f.1 nothing)))) in
-    subst Is (ok_is _ _ f.2) (is b.0.0 d.0.0 f.0 spelled s.1)
-
-add_sound : (limits : Limits) (limit loops : ℕ) (ts : List Token) (x : Single × List Token) → add_at limits ts ≡ Ok x
-    → Reads limits limit loops ts x
-unfolding add_at
-add_sound limits limit loops ts x e =
-    bag_statement_sound keyword.Add keyword.To SingleAdd limits ts (Reads limits limit loops ts) (λ v b rest h is. (h, is)) x e
-
-drop_sound : (limits : Limits) (limit loops : ℕ) (ts : List Token) (x : Single × List Token) → drop_at limits ts ≡ Ok x
-    → Reads limits limit loops ts x
-unfolding drop_at
-drop_sound limits limit loops ts x e =
-    bag_statement_sound keyword.Drop keyword.From SingleDrop limits ts (Reads limits limit loops ts) (λ v b rest h is. (h, is)) x e
+    subst (Reads limits limit loops ts) (ok_is _ _ g.2)
+    (after_spans_at a.1 (then_spans s.0 (after_spans d.1 (name_spans f.1 (after_spans g.1 nothing)))), s.1)
 
 for_sound : (limits : Limits) (limit loops : ℕ) (blocks : Blocks) → BlockReaders limits limit blocks
     → (ts : List Token) (x : Single × List Token)
@@ -189,18 +166,24 @@ statement_sound : (limits : Limits) (limit loops : ℕ) (blocks : Blocks) → Bl
 unfolding statement_at
 statement_sound limits limit loops blocks r ts x e =
     elim (chosen _ _ _ _ e) [
-      | inl p ↦ goto_sound limits limit loops ts x p.1
-      | inr p ↦ elim (chosen _ _ _ _ p.1) [
-        | inl q ↦ send_sound limits limit loops ts x q.1
-        | inr q ↦ elim (chosen _ _ _ _ q.1) [
-          | inl w ↦ if_sound limits limit loops (blocks loops) (r loops) ts x w.1
-          | inr w ↦ elim (chosen _ _ _ _ w.1) [
-            | inl u ↦ for_sound limits limit loops blocks r ts x u.1
-            | inr u ↦ elim (chosen _ _ _ _ u.1) [
-              | inl v ↦ add_sound limits limit loops ts x v.1
-              | inr v ↦ elim (chosen _ _ _ _ v.1) [
-                | inl z ↦ drop_sound limits limit loops ts x z.1
-                | inr z ↦ assign_sound limits limit loops ts x z.1
+      | inl a ↦ command_sound limits limit loops command.Goto ts x a.1
+      | inr a ↦ elim (chosen _ _ _ _ a.1) [
+        | inl p ↦ command_sound limits limit loops command.Pop ts x p.1
+        | inr p ↦ elim (chosen _ _ _ _ p.1) [
+          | inl q ↦ send_sound limits limit loops ts x q.1
+          | inr q ↦ elim (chosen _ _ _ _ q.1) [
+            | inl w ↦ if_sound limits limit loops (blocks loops) (r loops) ts x w.1
+            | inr w ↦ elim (chosen _ _ _ _ w.1) [
+              | inl u ↦ for_sound limits limit loops blocks r ts x u.1
+              | inr u ↦ elim (chosen _ _ _ _ u.1) [
+                | inl v ↦ change_sound limits limit loops change.Add ts x v.1
+                | inr v ↦ elim (chosen _ _ _ _ v.1) [
+                  | inl z ↦ change_sound limits limit loops change.Drop ts x z.1
+                  | inr z ↦ elim (chosen _ _ _ _ z.1) [
+                    | inl y ↦ change_sound limits limit loops change.Push ts x y.1
+                    | inr y ↦ assign_sound limits limit loops ts x y.1
+                  ]
+                ]
               ]
             ]
           ]
@@ -214,13 +197,12 @@ semicolon = sign symbol.Semicolon ∷ []
 positive_block : (s : Statements) → 0 < block_depth s
 positive_block Done = omega arith
 positive_block (Assign n e rest) = positive_block rest
-positive_block (Goto place p rest) = positive_block rest
+positive_block (Does c place n rest) = positive_block rest
 positive_block (Send place p e rest) = positive_block rest
 positive_block (If place e b rest) = omega arith
 positive_block (IfElse place e b o rest) = omega arith
 positive_block (For place v b block rest) = omega arith
-positive_block (Add place e b rest) = positive_block rest
-positive_block (Drop place e b rest) = positive_block rest
+positive_block (Changes c place e x rest) = positive_block rest
 
 assign_complete : (limits : Limits) (n : Name) (e : Expression) (ts rest : List Token) → IsExpression limits e
     → Spans (single_spelling (SingleAssign n e)) ts rest → assign_at limits ts ≡ Ok (SingleAssign n e, rest)
@@ -233,14 +215,14 @@ assign_complete limits n e ts rest is h =
     let c = first s.2 in
     rw (v.read, f.after, value, c.after, span_end c.spelled) refl
 
-goto_complete : (place : ℕ) (p : Name) (ts rest : List Token) → Spans (single_spelling (SingleGoto place p)) ts rest
-    → goto_at ts ≡ Ok (SingleGoto place p, rest)
-unfolding goto_at read_then
-goto_complete place p ts rest h =
+command_complete : (c : Command) (place : ℕ) (n : Name) (ts rest : List Token) → Spans (single_spelling (SingleCommand c place n)) ts rest
+    → command_at c ts ≡ Ok (SingleCommand c place n, rest)
+unfolding command_at read_then
+command_complete c place n ts rest h =
     let f = first h in
-    let n = first_name p f.spelled in
-    let c = first n.spelled in
-    rw (f.after, n.read, c.after, f.place, span_end c.spelled) refl
+    let m = first_name n f.spelled in
+    let d = first m.spelled in
+    rw (f.after, m.read, d.after, f.place, span_end d.spelled) refl
 
 send_complete : (limits : Limits) (place : ℕ) (p : Name) (e : Expression) (ts rest : List Token) → IsExpression limits e
     → Spans (single_spelling (SingleSend place p e)) ts rest → send_at limits ts ≡ Ok (SingleSend place p e, rest)
@@ -299,51 +281,65 @@ for_complete limits limit loops blocks r place v b block ts rest is h =
     let room = within_positive limit (place_at ts) (within loops (place_at ts) (name_at f.behind)) some in
     rw (f.after, room, inner, n.read, w.after, m.read, c, f.place) refl
 
-bag_statement_complete : (k j : Keyword) (make : ℕ → Expression → Name → Single) (limits : Limits) (place : ℕ) (e : Expression) (b : Name)
-    (ts rest : List Token) → keyword_operator j ≡ None → IsExpression limits e
-    → Spans (word_at k place ∷ (expression_spelling e ++ bag_behind j b)) ts rest
-    → bag_statement_at k j make limits ts ≡ Ok (make place e b, rest)
-unfolding read_then operator_of
-bag_statement_complete k j make limits place e b ts rest none is h =
+-- no operator stands before the collection of a change
+pub no_operator : (c : Change) → keyword_operator (change_preposition c) ≡ None
+no_operator change.Add = refl
+no_operator change.Drop = refl
+no_operator change.Push = refl
+
+change_complete : (limits : Limits) (c : Change) (place : ℕ) (e : Expression) (x : Name) (ts rest : List Token) → IsExpression limits e
+    → Spans (single_spelling (SingleChange c place e x)) ts rest → change_at limits c ts ≡ Ok (SingleChange c place e x, rest)
+unfolding change_at read_then operator_of
+change_complete limits c place e x ts rest is h =
     let f = first h in
-    let s = split (expression_spelling e) (bag_behind j b) f.spelled in
-    let value = (expression_reader limits).complete e f.behind s.0 is s.1 (closed_front none s.2) in
+    let s = split (expression_spelling e) (collection_behind c x) f.spelled in
+    let value = (expression_reader limits).complete e f.behind s.0 is s.1 (closed_front (no_operator c) s.2) in
     let w = first s.2 in
-    let n = first_name b w.spelled in
-    let c = first n.spelled in
-    rw (f.after, value, w.after, n.read, c.after, f.place, span_end c.spelled) refl
+    let n = first_name x w.spelled in
+    let d = first n.spelled in
+    rw (f.after, value, w.after, n.read, d.after, f.place, span_end d.spelled) refl
 
 statement_complete : (limits : Limits) (limit loops : ℕ) (blocks : Blocks) → BlockReaders limits limit blocks
     → (x : Single) (ts rest : List Token)
     → IsSingle limits limit loops x → Spans (single_spelling x) ts rest → NoElse rest
     → statement_at limits blocks limit loops ts ≡ Ok (x, rest)
-unfolding statement_at add_at drop_at
+unfolding statement_at
 statement_complete limits limit loops blocks r (SingleAssign n e) ts rest is h ends =
     let b = (first h).begins in
-    past _ (b _) (past _ (b _) (past _ (b _) (past _ (b _) (past _ (b _) (past _ (b _) (assign_complete limits n e ts rest is h))))))
-statement_complete limits limit loops blocks r (SingleGoto place p) ts rest is h ends =
-    here _ ((first h).begins _) (goto_complete place p ts rest h)
+    past _ (b _) (past _ (b _) (past _ (b _) (past _ (b _) (past _ (b _) (past _ (b _) (past _ (b _) (past _ (b _)
+    (assign_complete limits n e ts rest is h))))))))
+statement_complete limits limit loops blocks r (SingleCommand command.Goto place n) ts rest is h ends =
+    here _ ((first h).begins _) (command_complete command.Goto place n ts rest h)
+statement_complete limits limit loops blocks r (SingleCommand command.Pop place n) ts rest is h ends =
+    let b = (first h).begins in
+    past _ (b _) (here _ (b _) (command_complete command.Pop place n ts rest h))
 statement_complete limits limit loops blocks r (SingleSend place p e) ts rest is h ends =
     let b = (first h).begins in
-    past _ (b _) (here _ (b _) (send_complete limits place p e ts rest is h))
+    past _ (b _) (past _ (b _) (here _ (b _) (send_complete limits place p e ts rest is h)))
 statement_complete limits limit loops blocks r (SingleIf place e block) ts rest is h ends =
     let b = (first h).begins in
-    past _ (b _) (past _ (b _) (here _ (b _) (if_complete limits limit loops (blocks loops) (r loops) place e block ts rest is h ends)))
+    past _ (b _) (past _ (b _) (past _ (b _) (here _ (b _)
+    (if_complete limits limit loops (blocks loops) (r loops) place e block ts rest is h ends))))
 statement_complete limits limit loops blocks r (SingleIfElse place e block other) ts rest is h ends =
     let b = (first h).begins in
-    past _ (b _) (past _ (b _) (here _ (b _)
-    (if_else_complete limits limit loops (blocks loops) (r loops) place e block other ts rest is h)))
+    past _ (b _) (past _ (b _) (past _ (b _) (here _ (b _)
+    (if_else_complete limits limit loops (blocks loops) (r loops) place e block other ts rest is h))))
 statement_complete limits limit loops blocks r (SingleFor place v bag block) ts rest is h ends =
     let b = (first h).begins in
-    past _ (b _) (past _ (b _) (past _ (b _) (here _ (b _) (for_complete limits limit loops blocks r place v bag block ts rest is h))))
-statement_complete limits limit loops blocks r (SingleAdd place e bag) ts rest is h ends =
-    let b = (first h).begins in
     past _ (b _) (past _ (b _) (past _ (b _) (past _ (b _) (here _ (b _)
-    (bag_statement_complete keyword.Add keyword.To SingleAdd limits place e bag ts rest refl is h)))))
-statement_complete limits limit loops blocks r (SingleDrop place e bag) ts rest is h ends =
+    (for_complete limits limit loops blocks r place v bag block ts rest is h)))))
+statement_complete limits limit loops blocks r (SingleChange change.Add place e x) ts rest is h ends =
     let b = (first h).begins in
     past _ (b _) (past _ (b _) (past _ (b _) (past _ (b _) (past _ (b _) (here _ (b _)
-    (bag_statement_complete keyword.Drop keyword.From SingleDrop limits place e bag ts rest refl is h))))))
+    (change_complete limits change.Add place e x ts rest is h))))))
+statement_complete limits limit loops blocks r (SingleChange change.Drop place e x) ts rest is h ends =
+    let b = (first h).begins in
+    past _ (b _) (past _ (b _) (past _ (b _) (past _ (b _) (past _ (b _) (past _ (b _) (here _ (b _)
+    (change_complete limits change.Drop place e x ts rest is h)))))))
+statement_complete limits limit loops blocks r (SingleChange change.Push place e x) ts rest is h ends =
+    let b = (first h).begins in
+    past _ (b _) (past _ (b _) (past _ (b _) (past _ (b _) (past _ (b _) (past _ (b _) (past _ (b _) (here _ (b _)
+    (change_complete limits change.Push place e x ts rest is h))))))))
 
 pub statement_reader : (limits : Limits) (limit loops : ℕ) (blocks : Blocks) → BlockReaders limits limit blocks
     → IsReader (statement_at limits blocks limit loops) single_spelling (IsSingle limits limit loops) NoElse
@@ -355,36 +351,36 @@ statement_reader limits limit loops blocks r = record {
 single_opens : (x : Single) (ts rest : List Token) → Spans (single_spelling x) ts rest
     → (begins (kind.Symbol symbol.CloseBrace) ts ≡ false) × (begins (kind.Keyword keyword.Else) ts ≡ false)
 single_opens (SingleAssign n e) ts rest h = let f = first h in (f.begins _, f.begins _)
-single_opens (SingleGoto place p) ts rest h = let f = first h in (f.begins _, f.begins _)
+single_opens (SingleCommand command.Goto place n) ts rest h = let f = first h in (f.begins _, f.begins _)
+single_opens (SingleCommand command.Pop place n) ts rest h = let f = first h in (f.begins _, f.begins _)
 single_opens (SingleSend place p e) ts rest h = let f = first h in (f.begins _, f.begins _)
 single_opens (SingleIf place e b) ts rest h = let f = first h in (f.begins _, f.begins _)
 single_opens (SingleIfElse place e b o) ts rest h = let f = first h in (f.begins _, f.begins _)
 single_opens (SingleFor place v b block) ts rest h = let f = first h in (f.begins _, f.begins _)
-single_opens (SingleAdd place e b) ts rest h = let f = first h in (f.begins _, f.begins _)
-single_opens (SingleDrop place e b) ts rest h = let f = first h in (f.begins _, f.begins _)
+single_opens (SingleChange change.Add place e x) ts rest h = let f = first h in (f.begins _, f.begins _)
+single_opens (SingleChange change.Drop place e x) ts rest h = let f = first h in (f.begins _, f.begins _)
+single_opens (SingleChange change.Push place e x) ts rest h = let f = first h in (f.begins _, f.begins _)
 
 single_some : (x : Single) → 0 < length (single_spelling x)
 single_some (SingleAssign n e) = omega arith
-single_some (SingleGoto place p) = omega arith
+single_some (SingleCommand c place n) = omega arith
 single_some (SingleSend place p e) = omega arith
 single_some (SingleIf place e b) = omega arith
 single_some (SingleIfElse place e b o) = omega arith
 single_some (SingleFor place v b block) = omega arith
-single_some (SingleAdd place e b) = omega arith
-single_some (SingleDrop place e b) = omega arith
+single_some (SingleChange c place e x) = omega arith
 
 -- ---- Statements as a list of single ones
 
 single_before-spelling : (s : Single) (rest : Statements)
     → statements_spelling (single_before s rest) ≡ single_spelling s ++ statements_spelling rest
 single_before-spelling (SingleAssign n e) rest = simp append_assoc
-single_before-spelling (SingleGoto place p) rest = refl
+single_before-spelling (SingleCommand c place n) rest = refl
 single_before-spelling (SingleSend place p e) rest = simp append_assoc
 single_before-spelling (SingleIf place e b) rest = simp append_assoc
 single_before-spelling (SingleIfElse place e b o) rest = simp append_assoc
 single_before-spelling (SingleFor place v b block) rest = simp append_assoc
-single_before-spelling (SingleAdd place e b) rest = simp append_assoc
-single_before-spelling (SingleDrop place e b) rest = simp append_assoc
+single_before-spelling (SingleChange c place e x) rest = simp append_assoc
 
 joined-spelling : (ss : List Single) → statements_spelling (joined ss) ≡ flat_map single_spelling ss
 joined-spelling [] = refl
@@ -393,30 +389,28 @@ joined-spelling (s ∷ ss) = single_before-spelling s (joined ss) ∙ ap (λ (t 
 abbrev apart : Statements → List Single
 apart Done = []
 apart (Assign n e rest) = SingleAssign n e ∷ apart rest
-apart (Goto place p rest) = SingleGoto place p ∷ apart rest
+apart (Does c place n rest) = SingleCommand c place n ∷ apart rest
 apart (Send place p e rest) = SingleSend place p e ∷ apart rest
 apart (If place e block rest) = SingleIf place e block ∷ apart rest
 apart (IfElse place e block other rest) = SingleIfElse place e block other ∷ apart rest
 apart (For place v b block rest) = SingleFor place v b block ∷ apart rest
-apart (Add place e b rest) = SingleAdd place e b ∷ apart rest
-apart (Drop place e b rest) = SingleDrop place e b ∷ apart rest
+apart (Changes c place e x rest) = SingleChange c place e x ∷ apart rest
 
 joined-apart : (s : Statements) → joined (apart s) ≡ s
 joined-apart Done = refl
 joined-apart (Assign n e rest) = ap (Assign n e) (joined-apart rest)
-joined-apart (Goto place p rest) = ap (Goto place p) (joined-apart rest)
+joined-apart (Does c place n rest) = ap (Does c place n) (joined-apart rest)
 joined-apart (Send place p e rest) = ap (Send place p e) (joined-apart rest)
 joined-apart (If place e block rest) = ap (If place e block) (joined-apart rest)
 joined-apart (IfElse place e block other rest) = ap (IfElse place e block other) (joined-apart rest)
 joined-apart (For place v b block rest) = ap (For place v b block) (joined-apart rest)
-joined-apart (Add place e b rest) = ap (Add place e b) (joined-apart rest)
-joined-apart (Drop place e b rest) = ap (Drop place e b) (joined-apart rest)
+joined-apart (Changes c place e x rest) = ap (Changes c place e x) (joined-apart rest)
 
 are_joined : (limits : Limits) (limit loops : ℕ) (ss : List Single) → AllByRecursion (IsSingle limits limit loops) ss
     → IsBlock limits (suc limit) loops (joined ss)
 are_joined limits limit loops [] all = (tt, omega arith, omega arith)
 are_joined limits limit loops (SingleAssign n e ∷ ss) all = let r = are_joined limits limit loops ss all.1 in ((all.0, r.0), r.1, r.2)
-are_joined limits limit loops (SingleGoto place p ∷ ss) all = let r = are_joined limits limit loops ss all.1 in (r.0, r.1, r.2)
+are_joined limits limit loops (SingleCommand c place n ∷ ss) all = let r = are_joined limits limit loops ss all.1 in (r.0, r.1, r.2)
 are_joined limits limit loops (SingleSend place p e ∷ ss) all = let r = are_joined limits limit loops ss all.1 in ((all.0, r.0), r.1, r.2)
 are_joined limits limit loops (SingleIf place e b ∷ ss) all =
     let r = are_joined limits limit loops ss all.1 in
@@ -427,14 +421,14 @@ are_joined limits limit loops (SingleIfElse place e b o ∷ ss) all =
 are_joined limits limit loops (SingleFor place v b block ∷ ss) all =
     let r = are_joined limits limit loops ss all.1 in
     ((all.0.1.0, r.0), omega (arith, r.1, all.0.1.1), omega (arith, r.2, all.0.0, all.0.1.2))
-are_joined limits limit loops (SingleAdd place e b ∷ ss) all = let r = are_joined limits limit loops ss all.1 in ((all.0, r.0), r.1, r.2)
-are_joined limits limit loops (SingleDrop place e b ∷ ss) all = let r = are_joined limits limit loops ss all.1 in ((all.0, r.0), r.1, r.2)
+are_joined limits limit loops (SingleChange c place e x ∷ ss) all =
+    let r = are_joined limits limit loops ss all.1 in ((all.0, r.0), r.1, r.2)
 
 are_apart : (limits : Limits) (limit loops : ℕ) (s : Statements) → IsBlock limits (suc limit) loops s
     → AllByRecursion (IsSingle limits limit loops) (apart s)
 are_apart limits limit loops Done is = tt
 are_apart limits limit loops (Assign n e rest) is = (is.0.0, are_apart limits limit loops rest (is.0.1, is.1, is.2))
-are_apart limits limit loops (Goto place p rest) is = (tt, are_apart limits limit loops rest (is.0, is.1, is.2))
+are_apart limits limit loops (Does c place n rest) is = (tt, are_apart limits limit loops rest (is.0, is.1, is.2))
 are_apart limits limit loops (Send place p e rest) is = (is.0.0, are_apart limits limit loops rest (is.0.1, is.1, is.2))
 are_apart limits limit loops (If place e b rest) is = (
   (is.0.0, (is.0.1, omega (arith, is.1), omega (arith, is.2))),
@@ -448,8 +442,7 @@ are_apart limits limit loops (For place v b block rest) is = (
   (omega (arith, is.2), (is.0.0, omega (arith, is.1), omega (arith, is.2))),
   are_apart limits limit loops rest (is.0.1, omega (arith, is.1), omega (arith, is.2)),
 )
-are_apart limits limit loops (Add place e b rest) is = (is.0.0, are_apart limits limit loops rest (is.0.1, is.1, is.2))
-are_apart limits limit loops (Drop place e b rest) is = (is.0.0, are_apart limits limit loops rest (is.0.1, is.1, is.2))
+are_apart limits limit loops (Changes c place e x rest) is = (is.0.0, are_apart limits limit loops rest (is.0.1, is.1, is.2))
 
 -- ---- Blocks
 

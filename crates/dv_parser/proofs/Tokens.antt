@@ -113,7 +113,7 @@ keywords =
     ∷ keyword.Confluent ∷ keyword.Part ∷ keyword.Link ∷ keyword.Itself ∷ keyword.If ∷ keyword.Else ∷ keyword.For ∷ keyword.Add
     ∷ keyword.To ∷ keyword.Drop ∷ keyword.From ∷ keyword.Send ∷ keyword.Goto ∷ keyword.True ∷ keyword.False ∷ keyword.Not
     ∷ keyword.And ∷ keyword.Or ∷ keyword.Elapsed ∷ keyword.Size ∷ keyword.Sum ∷ keyword.Least ∷ keyword.Most ∷ keyword.Times
-    ∷ keyword.Version ∷ []
+    ∷ keyword.Version ∷ keyword.Queue ∷ keyword.Push ∷ keyword.Pop ∷ keyword.Front ∷ []
 
 symbols : List Symbol
 symbols =
@@ -164,6 +164,10 @@ keyword_again keyword.Least = refl
 keyword_again keyword.Most = refl
 keyword_again keyword.Times = refl
 keyword_again keyword.Version = refl
+keyword_again keyword.Queue = refl
+keyword_again keyword.Push = refl
+keyword_again keyword.Pop = refl
+keyword_again keyword.Front = refl
 
 symbol_again : (s : Symbol) → get_or symbols (symbol_number s) symbol.Assign ≡ s
 unfolding symbols
@@ -310,7 +314,11 @@ first_call call.Least h =
 first_call call.Most h =
     let f = first h in
     let b = f.begins in
-    record { behind = f.behind; read = past _ (b _) (past _ (b _) (past _ (b _) (rw f.after refl))); spelled = f.spelled }
+    record { behind = f.behind; read = past _ (b _) (past _ (b _) (past _ (b _) (here _ (b _) (rw f.after refl)))); spelled = f.spelled }
+first_call call.Front h =
+    let f = first h in
+    let b = f.begins in
+    record { behind = f.behind; read = past _ (b _) (past _ (b _) (past _ (b _) (past _ (b _) (rw f.after refl)))); spelled = f.spelled }
 
 unplaced_spells : (k : TokenKind) (place : ℕ) (ss : List Spelled) (ts rest : List Token) → Spells (At k place ∷ ss) ts rest
     → Spells (Anywhere k ∷ ss) ts rest
@@ -408,7 +416,10 @@ call_spans {ss = ss} {ts = ts} {rest = rest} {x = x} e =
         | inl q ↦ word_of_spans call.Sum ss ts rest x q.1
         | inr q ↦ elim (chosen _ _ _ _ q.1) [
           | inl r ↦ word_of_spans call.Least ss ts rest x r.1
-          | inr r ↦ word_of_spans call.Most ss ts rest x r.1
+          | inr r ↦ elim (chosen _ _ _ _ r.1) [
+            | inl s ↦ word_of_spans call.Most ss ts rest x s.1
+            | inr s ↦ word_of_spans call.Front ss ts rest x s.1
+          ]
         ]
       ]
     ]

@@ -2,6 +2,10 @@
 -- with what stops it.
 use Rattle.std.specs.Prelude.{◌≡◌, ℕ, zero, suc, ◌+◌, ◌-◌, List, [], ◌∷◌, ◌++◌, length, Bool, true, false, ◌&&◌, Option, Some}
 use Rattle.std.specs.Prelude.{None, Result, Ok, Err, nat_lt, nat_le, ◌==◌, ◌||◌}
+use Rattle.dv_bag.specs.declared.discipline.Change.{Change}
+use Rattle.dv_bag.specs.declared.discipline.Change.TheVariants as change
+use Rattle.dv_bag.specs.declared.discipline.Discipline.{Discipline}
+use Rattle.dv_bag.specs.declared.discipline.Discipline.TheVariants as discipline
 use Rattle.dv_lex.specs.declared.token.Token.{Token}
 use Rattle.dv_lex.specs.declared.token.TokenKind.{TokenKind}
 use Rattle.dv_lex.specs.declared.token.TokenKind.TheVariants as kind
@@ -19,10 +23,12 @@ use Rattle.dv_syntax.specs.declared.tree.Operator.{Operator}
 use Rattle.dv_syntax.specs.declared.tree.Operator.TheVariants as operator
 use Rattle.dv_syntax.specs.declared.tree.BagCall.{BagCall}
 use Rattle.dv_syntax.specs.declared.tree.BagCall.TheVariants as call
+use Rattle.dv_syntax.specs.declared.tree.Command.{Command}
+use Rattle.dv_syntax.specs.declared.tree.Command.TheVariants as command
 use Rattle.dv_syntax.specs.declared.tree.Bound.{Bound}
 use Rattle.dv_syntax.specs.declared.tree.Variable.{Variable}
 use Rattle.dv_syntax.specs.declared.tree.Flag.{Flag}
-use Rattle.dv_syntax.specs.declared.tree.StateBag.{StateBag}
+use Rattle.dv_syntax.specs.declared.tree.StateCollection.{StateCollection}
 use Rattle.dv_syntax.specs.declared.tree.RuleSort.{RuleSort}
 use Rattle.dv_syntax.specs.declared.tree.RuleSort.TheVariants as sort
 use Rattle.dv_syntax.specs.declared.tree.End.{End}
@@ -44,13 +50,13 @@ use Rattle.dv_lex.specs.declared.error.LoadError.TheVariants as error
 use Rattle.dv_lex.specs.declared.error.Refusal.{Refusal}
 use Rattle.dv_lex.specs.declared.error.RefusalNumber.TheVariants.{E4, E5}
 use Rattle.dv_syntax.specs.Trees.{expression_of, row_statements, phases_of, hold_of, rule_of, Expression, Literal, TruthValue}
-use Rattle.dv_syntax.specs.Trees.{Named, Parens, Prefixed, Binary, Call, Elapsed, Times, Statements, Done, Assign, Goto, Send, If}
-use Rattle.dv_syntax.specs.Trees.{IfElse, For, Add, Drop, AtomicTree, CoupledTree, ModelTree, AtomicModel, CoupledModel, FileTree}
+use Rattle.dv_syntax.specs.Trees.{Named, Parens, Prefixed, Binary, Call, Elapsed, Times, Statements, Done, Assign, Does, Send, If}
+use Rattle.dv_syntax.specs.Trees.{IfElse, For, Changes, AtomicTree, CoupledTree, ModelTree, AtomicModel, CoupledModel, FileTree}
 use Rattle.dv_syntax.specs.Written.{AtomicItem, Declares, Lists, Starts, Holds, Rules, CoupledItem, Inputs, Outputs, Contains}
 use Rattle.dv_syntax.specs.Written.{Couples, WrittenModel, WrittenAtomic, WrittenCoupled, WrittenFile, sorted_items}
 use Rattle.dv_syntax.specs.Written.{sorted_coupled_items}
 use Rattle.dv_syntax.specs.Grammar.{Limits, the_limits, prefix_kind, prefix_rank, operator_rank, left_rank, rank, depth}
-use Rattle.dv_syntax.specs.Grammar.{call_word, sort_word}
+use Rattle.dv_syntax.specs.Grammar.{call_word, command_word, change_word, change_preposition, discipline_word, sort_word}
 
 -- What stops a reader: the token at a place can't stand there, or what begins with it, or what it joins, lies too deep; or
 -- more tokens have to follow.
@@ -146,6 +152,10 @@ keyword_number keyword.Least = 36
 keyword_number keyword.Most = 37
 keyword_number keyword.Times = 38
 keyword_number keyword.Version = 39
+keyword_number keyword.Queue = 40
+keyword_number keyword.Push = 41
+keyword_number keyword.Pop = 42
+keyword_number keyword.Front = 43
 
 abbrev pub symbol_number : Symbol → ℕ
 symbol_number symbol.Assign = 0
@@ -231,16 +241,19 @@ begins_word_of c ts = begins (kind.Keyword (call_word c)) ts
 unfoldable pub word_of_at : BagCall → Reader BagCall
 word_of_at c ts = after (kind.Keyword (call_word c)) ts >>= λ rest. Ok (c, rest)
 
--- `size`, `sum`, `least` or `most`
+-- `size`, `sum`, `least`, `most` or `front`
 abbrev pub begins_call : List Token → Bool
-begins_call ts = begins_word_of call.Size ts || begins_word_of call.Sum ts || begins_word_of call.Least ts || begins_word_of call.Most ts
+begins_call ts =
+    begins_word_of call.Size ts || begins_word_of call.Sum ts || begins_word_of call.Least ts || begins_word_of call.Most ts
+    || begins_word_of call.Front ts
 
 unfoldable pub call_word_at : Reader BagCall
 call_word_at ts =
     choose (begins_word_of call.Size ts) (word_of_at call.Size ts)
     (choose (begins_word_of call.Sum ts) (word_of_at call.Sum ts)
     (choose (begins_word_of call.Least ts) (word_of_at call.Least ts)
-    (word_of_at call.Most ts)))
+    (choose (begins_word_of call.Most ts) (word_of_at call.Most ts)
+    (word_of_at call.Front ts))))
 
 -- ---- Expressions
 
@@ -284,7 +297,7 @@ abbrev pub begins_name : List Token → Bool
 begins_name [] = false
 begins_name (t ∷ ts) = is_name t.kind
 
--- a question about a bag
+-- a question about a collection
 unfoldable pub call_at : Reader Expression
 call_at ts = do
   c ← call_word_at ts
@@ -397,23 +410,21 @@ braces_at one ts = do
 -- a statement by itself
 pub data Single : Type 0 where
   SingleAssign : (variable : Name) → (value : Expression) → Single
-  SingleGoto : (place : ℕ) → (phase : Name) → Single
+  SingleCommand : (command : Command) → (place : ℕ) → (name : Name) → Single
   SingleSend : (place : ℕ) → (port : Name) → (value : Expression) → Single
   SingleIf : (place : ℕ) → (condition : Expression) → (block : Statements) → Single
   SingleIfElse : (place : ℕ) → (condition : Expression) → (block other : Statements) → Single
   SingleFor : (place : ℕ) → (variable bag : Name) → (block : Statements) → Single
-  SingleAdd : (place : ℕ) → (value : Expression) → (bag : Name) → Single
-  SingleDrop : (place : ℕ) → (value : Expression) → (bag : Name) → Single
+  SingleChange : (change : Change) → (place : ℕ) → (value : Expression) → (collection : Name) → Single
 
 abbrev pub single_before : Single → Statements → Statements
 single_before (SingleAssign n e) rest = Assign n e rest
-single_before (SingleGoto place p) rest = Goto place p rest
+single_before (SingleCommand c place n) rest = Does c place n rest
 single_before (SingleSend place p e) rest = Send place p e rest
 single_before (SingleIf place e block) rest = If place e block rest
 single_before (SingleIfElse place e block other) rest = IfElse place e block other rest
 single_before (SingleFor place v b block) rest = For place v b block rest
-single_before (SingleAdd place e b) rest = Add place e b rest
-single_before (SingleDrop place e b) rest = Drop place e b rest
+single_before (SingleChange c place e x) rest = Changes c place e x rest
 
 abbrev pub joined : List Single → Statements
 joined [] = Done
@@ -421,14 +432,13 @@ joined (s ∷ ss) = single_before s (joined ss)
 
 abbrev pub single_of : Stmt → Single
 single_of (stmt.Assign n e) = SingleAssign n (expression_of e)
-single_of (stmt.Goto place p) = SingleGoto place p
+single_of (stmt.Command c place n) = SingleCommand c place n
 single_of (stmt.Send place p e) = SingleSend place p (expression_of e)
 single_of (stmt.If' place e shape block) = SingleIf place (expression_of e) (row_statements block)
 single_of (stmt.IfElse' place e shape block other_shape other) =
     SingleIfElse place (expression_of e) (row_statements block) (row_statements other)
 single_of (stmt.For' place v b shape block) = SingleFor place v b (row_statements block)
-single_of (stmt.Add place e b) = SingleAdd place (expression_of e) b
-single_of (stmt.Drop place e b) = SingleDrop place (expression_of e) b
+single_of (stmt.Change c place e x) = SingleChange c place (expression_of e) x
 
 unfoldable pub assign_at : Limits → Reader Single
 assign_at limits ts = do
@@ -438,12 +448,12 @@ assign_at limits ts = do
   rest ← after (kind.Symbol symbol.Semicolon) e.1
   Ok (SingleAssign n.0 e.0, rest)
 
-unfoldable pub goto_at : Reader Single
-goto_at ts = do
-  behind ← after (kind.Keyword keyword.Goto) ts
+unfoldable pub command_at : Command → Reader Single
+command_at c ts = do
+  behind ← after (kind.Keyword (command_word c)) ts
   n ← name_at behind
   rest ← after (kind.Symbol symbol.Semicolon) n.1
-  Ok (SingleGoto (place_at ts) n.0, rest)
+  Ok (SingleCommand c (place_at ts) n.0, rest)
 
 unfoldable pub send_at : Limits → Reader Single
 send_at limits ts = do
@@ -453,23 +463,14 @@ send_at limits ts = do
   rest ← after (kind.Symbol symbol.Semicolon) e.1
   Ok (SingleSend (place_at ts) n.0 e.0, rest)
 
-unfoldable pub add_at : Limits → Reader Single
-add_at limits ts = do
-  behind ← after (kind.Keyword keyword.Add) ts
+unfoldable pub change_at : Limits → Change → Reader Single
+change_at limits c ts = do
+  behind ← after (kind.Keyword (change_word c)) ts
   e ← expression_at limits.expression 0 behind
-  word ← after (kind.Keyword keyword.To) e.1
-  bag ← name_at word
-  rest ← after (kind.Symbol symbol.Semicolon) bag.1
-  Ok (SingleAdd (place_at ts) e.0 bag.0, rest)
-
-unfoldable pub drop_at : Limits → Reader Single
-drop_at limits ts = do
-  behind ← after (kind.Keyword keyword.Drop) ts
-  e ← expression_at limits.expression 0 behind
-  word ← after (kind.Keyword keyword.From) e.1
-  bag ← name_at word
-  rest ← after (kind.Symbol symbol.Semicolon) bag.1
-  Ok (SingleDrop (place_at ts) e.0 bag.0, rest)
+  word ← after (kind.Keyword (change_preposition c)) e.1
+  x ← name_at word
+  rest ← after (kind.Symbol symbol.Semicolon) x.1
+  Ok (SingleChange c (place_at ts) e.0 x.0, rest)
 
 -- what follows the block of an `if`
 unfoldable pub else_at : Reader Statements → ℕ → Expression → Statements → Reader Single
@@ -497,16 +498,26 @@ for_at block_at limit loops ts = do
   block ← block_at (loops - 1) bag.1
   Ok (SingleFor (place_at ts) v.0 bag.0 block.0, block.1)
 
+-- the word of this command comes first
+abbrev pub begins_command : Command → List Token → Bool
+begins_command c ts = begins (kind.Keyword (command_word c)) ts
+
+-- the word of this change comes first
+abbrev pub begins_change : Change → List Token → Bool
+begins_change c ts = begins (kind.Keyword (change_word c)) ts
+
 -- `block_at` reads a block, by how many loops may lie in one another in it.
 unfoldable pub statement_at : Limits → (ℕ → Reader Statements) → (limit loops : ℕ) → Reader Single
 statement_at limits block_at limit loops ts =
-    choose (begins (kind.Keyword keyword.Goto) ts) (goto_at ts)
+    choose (begins_command command.Goto ts) (command_at command.Goto ts)
+    (choose (begins_command command.Pop ts) (command_at command.Pop ts)
     (choose (begins (kind.Keyword keyword.Send) ts) (send_at limits ts)
     (choose (begins (kind.Keyword keyword.If) ts) (if_at limits (block_at loops) limit ts)
     (choose (begins (kind.Keyword keyword.For) ts) (for_at block_at limit loops ts)
-    (choose (begins (kind.Keyword keyword.Add) ts) (add_at limits ts)
-    (choose (begins (kind.Keyword keyword.Drop) ts) (drop_at limits ts)
-    (assign_at limits ts))))))
+    (choose (begins_change change.Add ts) (change_at limits change.Add ts)
+    (choose (begins_change change.Drop ts) (change_at limits change.Drop ts)
+    (choose (begins_change change.Push ts) (change_at limits change.Push ts)
+    (assign_at limits ts))))))))
 
 -- a block in which blocks lie in one another no deeper than the limit, and at most so many loops
 unfoldable pub block_at : Limits → (limit loops : ℕ) → Reader Statements
@@ -544,13 +555,17 @@ flag_at ts = do
   rest ← after (kind.Symbol symbol.Semicolon) start.1
   Ok (record { name = n.0; start = start.0 }, rest)
 
-unfoldable pub bag_at : Reader StateBag
-bag_at ts = do
-  behind ← after (kind.Keyword keyword.Bag) ts
+unfoldable pub collection_at : Discipline → Reader StateCollection
+collection_at d ts = do
+  behind ← after (kind.Keyword (discipline_word d)) ts
   n ← name_at behind
   capacity ← number_at n.1
   rest ← after (kind.Symbol symbol.Semicolon) capacity.1
-  Ok (record { name = n.0; capacity = capacity.0 }, rest)
+  Ok (record { discipline = d; name = n.0; capacity = capacity.0 }, rest)
+
+-- the word of a collection of this discipline comes first
+abbrev pub begins_collection : Discipline → List Token → Bool
+begins_collection d ts = begins (kind.Keyword (discipline_word d)) ts
 
 -- a comma and a name
 unfoldable pub further_name_at : Reader Name
@@ -618,11 +633,12 @@ item_at limits ts =
     (choose (begins (kind.Keyword keyword.Out) ts) (port_at keyword.Out ts >>= λ n. Ok (Declares (declaration.Out n.0), n.1))
     (choose (begins (kind.Keyword keyword.Var) ts) (variable_at ts >>= λ v. Ok (Declares (declaration.Var v.0), v.1))
     (choose (begins (kind.Keyword keyword.Flag) ts) (flag_at ts >>= λ f. Ok (Declares (declaration.Flag f.0), f.1))
-    (choose (begins (kind.Keyword keyword.Bag) ts) (bag_at ts >>= λ b. Ok (Declares (declaration.Bag b.0), b.1))
+    (choose (begins_collection discipline.Bag ts) (collection_at discipline.Bag ts >>= λ c. Ok (Declares (declaration.Held c.0), c.1))
+    (choose (begins_collection discipline.Queue ts) (collection_at discipline.Queue ts >>= λ c. Ok (Declares (declaration.Held c.0), c.1))
     (choose (begins (kind.Keyword keyword.Phases) ts) (phases_at ts)
     (choose (begins (kind.Keyword keyword.Start) ts) (start_at ts)
     (choose (begins (kind.Keyword keyword.Hold) ts) (hold_at limits ts)
-    (any_rule_at limits ts))))))))
+    (any_rule_at limits ts)))))))))
 
 unfoldable pub atomic_at : Limits → Reader (Name × List AtomicItem)
 atomic_at limits ts = do
@@ -689,7 +705,9 @@ is_end (t ∷ ts) = false
 
 -- the number of a version
 unfoldable pub version_at : Reader Version
-version_at ts = after (kind.Number 1) ts >>= λ rest. Ok (version.First, rest)
+version_at ts = choose (begins (kind.Number 1) ts)
+    (after (kind.Number 1) ts >>= λ rest. Ok (version.First, rest))
+    (after (kind.Number 2) ts >>= λ rest. Ok (version.Second, rest))
 
 -- a header, if there is one
 unfoldable pub header_at : Reader (Option Version)

@@ -2,8 +2,9 @@
 
 ghost use Rattle.std.specs.Prelude.{◌≡◌, [], OnOk, IfErr};
 ghost use Rattle.dv_syntax.specs.Trees.{ticks_of, atomic_of};
-ghost use Rattle.dv_syntax.specs.Grammar.{the_limits, sort_word};
-ghost use Rattle.dv_parser.specs.Reading.{Gives, Reads, with_front, many_at, braces_at, bound_at, variable_at, flag_at, bag_at};
+ghost use Rattle.dv_syntax.specs.Grammar.{the_limits, discipline_word, sort_word};
+ghost use Rattle.dv_parser.specs.Reading.{Gives, Reads, with_front, many_at, braces_at, bound_at, variable_at, flag_at};
+ghost use Rattle.dv_parser.specs.Reading.{collection_at, begins_collection};
 ghost use Rattle.dv_parser.specs.Reading.{further_name_at, phases_at, start_at, ticks_at, hold_at, rule_at, begins_rule};
 ghost use Rattle.dv_parser.specs.Reading.{any_rule_at, port_at, item_at, item_of, with_item, with_items, empty_atomic, becoming};
 ghost use Rattle.dv_parser.specs.Reading.{atomic_tree_at};
@@ -15,10 +16,11 @@ use crate::token::{
     after_keyword, after_symbol, begins_with_keyword, begins_with_symbol, first_place, name,
     number, truth,
 };
+use dv_bag::Discipline;
 use dv_lex::{Keyword, Symbol, Token, TokenKind};
 use dv_syntax::{
-    Atomic, Bound, Declaration, Flag, Hold, Name, Phases, Rule, RuleSort, Start, StateBag, Ticks,
-    Variable,
+    Atomic, Bound, Declaration, Flag, Hold, Name, Phases, Rule, RuleSort, Start, StateCollection,
+    Ticks, Variable,
 };
 use std::alloc::Global;
 
@@ -119,19 +121,46 @@ fn flag(tokens: &[Token]) -> Result<(Flag, &[Token]), Obstacle>
     Ok((Flag { name, start }, rest))
 }
 
-/// `bag name capacity;`
-#[tactic(auto, unfolding(crate::specs::Reading::bag_at, crate::specs::Reading::read_then))]
-fn bag(tokens: &[Token]) -> Result<(StateBag, &[Token]), Obstacle>
-    ensures { Reads (λ x. (x.0, x.1.now)) result (bag_at tokens.now) }
+/// The word with which a collection of this discipline is declared.
+fn word_of_discipline(discipline: Discipline) -> Keyword
+    ensures { result ≡ discipline_word discipline }
 {
-    let rest = after_keyword(tokens, Keyword::Bag)?;
+    match discipline {
+        Discipline::Bag => Keyword::Bag,
+        Discipline::Queue => Keyword::Queue,
+    }
+}
+
+/// Whether the word of a collection of this discipline comes first.
+fn begins_with_collection(tokens: &[Token], discipline: Discipline) -> bool
+    ensures { result ≡ begins_collection discipline tokens.now }
+{
+    begins_with_keyword(tokens, word_of_discipline(discipline))
+}
+
+/// `bag name capacity;` or `queue name capacity;`
+#[tactic(auto, unfolding(crate::specs::Reading::collection_at, crate::specs::Reading::read_then))]
+fn collection(
+    tokens: &[Token],
+    discipline: Discipline,
+) -> Result<(StateCollection, &[Token]), Obstacle>
+    ensures { Reads (λ x. (x.0, x.1.now)) result (collection_at discipline tokens.now) }
+{
+    let rest = after_keyword(tokens, word_of_discipline(discipline))?;
     let (name, rest) = name(rest)?;
     let (capacity, rest) = match number(rest) {
         Ok(read) => read,
         Err(e) => return Err(e),
     };
     let rest = after_symbol(rest, Symbol::Semicolon)?;
-    Ok((StateBag { name, capacity }, rest))
+    Ok((
+        StateCollection {
+            discipline,
+            name,
+            capacity,
+        },
+        rest,
+    ))
 }
 
 /// A comma and a name.
@@ -303,12 +332,18 @@ fn item(alloc: Global, tokens: &[Token]) -> Result<(AtomicItem, &[Token]), Parse
     } else if begins_with_keyword(tokens, Keyword::Flag) {
         let (flag, rest) = flag(tokens)?;
         Ok((AtomicItem::Declares(Declaration::Flag(flag)), rest))
-    } else if begins_with_keyword(tokens, Keyword::Bag) {
-        let (bag, rest) = match bag(tokens) {
+    } else if begins_with_collection(tokens, Discipline::Bag) {
+        let (bag, rest) = match collection(tokens, Discipline::Bag) {
             Ok(read) => read,
             Err(obstacle) => return Err(ParseError::Stopped(obstacle)),
         };
-        Ok((AtomicItem::Declares(Declaration::Bag(bag)), rest))
+        Ok((AtomicItem::Declares(Declaration::Held(bag)), rest))
+    } else if begins_with_collection(tokens, Discipline::Queue) {
+        let (queue, rest) = match collection(tokens, Discipline::Queue) {
+            Ok(read) => read,
+            Err(obstacle) => return Err(ParseError::Stopped(obstacle)),
+        };
+        Ok((AtomicItem::Declares(Declaration::Held(queue)), rest))
     } else if begins_with_keyword(tokens, Keyword::Phases) {
         phases(alloc, tokens)
     } else if begins_with_keyword(tokens, Keyword::Start) {

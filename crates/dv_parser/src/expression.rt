@@ -158,7 +158,7 @@ fn next_operator<'a>(
     }
 }
 
-/// A question about a bag, and what follows it.
+/// A question about a collection, and what follows it.
 #[tactic(auto, unfolding(crate::specs::Reading::call_at, crate::specs::Reading::read_then))]
 fn call(tokens: &[Token]) -> Result<(Expr, &[Token]), Obstacle>
     ensures gives { Reads (λ x. (expression_of x.0, x.1.now)) result (call_at tokens.now) }

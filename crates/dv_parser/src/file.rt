@@ -10,7 +10,8 @@ use crate::atomic::atomic;
 use crate::coupled::coupled;
 use crate::parse_error::{Obstacle, ParseError};
 use crate::token::{
-    after_keyword, after_number, after_symbol, begins_with_keyword, name, test_end,
+    after_keyword, after_number, after_symbol, begins_with_keyword, begins_with_number, name,
+    test_end,
 };
 use dv_lex::{Keyword, LoadError, Refusal, RefusalNumber, Symbol, Token, TokenKind};
 use dv_syntax::{File, Model, Version};
@@ -46,12 +47,17 @@ fn models(alloc: Global, tokens: &[Token]) -> Result<(Vec<Model>, &[Token]), Par
 }
 
 /// The number of a version at the front, and what follows it.
-#[tactic(auto, unfolding(crate::specs::Reading::version_at, crate::specs::Reading::read_then))]
+#[tactic(auto, unfolding(crate::specs::Reading::version_at, crate::specs::Reading::read_then, crate::specs::Reading::choose))]
 fn version(tokens: &[Token]) -> Result<(Version, &[Token]), Obstacle>
     ensures { Reads (λ x. (x.0, x.1.now)) result (version_at tokens.now) }
 {
-    let rest = after_number(tokens, 1)?;
-    Ok((Version::First, rest))
+    if begins_with_number(tokens, 1) {
+        let rest = after_number(tokens, 1)?;
+        Ok((Version::First, rest))
+    } else {
+        let rest = after_number(tokens, 2)?;
+        Ok((Version::Second, rest))
+    }
 }
 
 /// The header at the front, if there is one, and what follows it.

@@ -2,10 +2,10 @@
 
 ghost use Rattle.std.specs.Prelude.{◌≡◌, ◌-◌, ◌<◌, ◌≤◌, IfOk, List, Ok, map};
 ghost use Rattle.dv_syntax.specs.Trees.{block_of, expression_of, Statements};
-ghost use Rattle.dv_syntax.specs.Grammar.{the_limits};
-ghost use Rattle.dv_parser.specs.Reading.{Gives, Reads, single_of, many_at, assign_at, goto_at, send_at, add_at, drop_at, if_at, for_at};
+ghost use Rattle.dv_syntax.specs.Grammar.{the_limits, command_word, change_word, change_preposition};
+ghost use Rattle.dv_parser.specs.Reading.{Gives, Reads, single_of, many_at, assign_at, command_at, send_at, change_at, if_at, for_at};
 ghost use Rattle.dv_parser.specs.Reading.{statement_at, block_at, after, place_at, name_at, expression_at, within, read_then};
-ghost use Rattle.dv_parser.specs.Reading.{joined, SingleIf, SingleIfElse, SingleFor};
+ghost use Rattle.dv_parser.specs.Reading.{begins_command, begins_change, joined, SingleIf, SingleIfElse, SingleFor};
 
 use crate::expression::expression;
 use crate::limits::test_depth;
@@ -13,8 +13,9 @@ use crate::parse_error::{Obstacle, ParseError};
 use crate::token::{
     after_keyword, after_symbol, begins_with_keyword, begins_with_symbol, first_place, name,
 };
+use dv_bag::Change;
 use dv_lex::{Keyword, Symbol, Token, TokenKind};
-use dv_syntax::{Block, Expr, Name, Stmt};
+use dv_syntax::{Block, Command, Expr, Name, Stmt};
 use std::alloc::Global;
 
 /// `variable := value;`
@@ -29,16 +30,40 @@ fn assign(alloc: Global, tokens: &[Token]) -> Result<(Stmt, &[Token]), ParseErro
     Ok((Stmt::Assign { variable, value }, rest))
 }
 
-/// `goto phase;`
-#[tactic(auto, unfolding(crate::specs::Reading::goto_at, crate::specs::Reading::read_then))]
-fn goto(tokens: &[Token]) -> Result<(Stmt, &[Token]), Obstacle>
-    ensures { Reads (λ x. (single_of x.0, x.1.now)) result (goto_at tokens.now) }
+/// The word of a command.
+fn word_of_command(command: Command) -> Keyword
+    ensures { result ≡ command_word command }
+{
+    match command {
+        Command::Goto => Keyword::Goto,
+        Command::Pop => Keyword::Pop,
+    }
+}
+
+/// Whether the word of this command comes first.
+fn begins_with_command(tokens: &[Token], command: Command) -> bool
+    ensures { result ≡ begins_command command tokens.now }
+{
+    begins_with_keyword(tokens, word_of_command(command))
+}
+
+/// `goto phase;` or `pop queue;`
+#[tactic(auto, unfolding(crate::specs::Reading::command_at, crate::specs::Reading::read_then))]
+fn command_statement(tokens: &[Token], command: Command) -> Result<(Stmt, &[Token]), Obstacle>
+    ensures { Reads (λ x. (single_of x.0, x.1.now)) result (command_at command tokens.now) }
 {
     let place = first_place(tokens);
-    let rest = after_keyword(tokens, Keyword::Goto)?;
-    let (phase, rest) = name(rest)?;
+    let rest = after_keyword(tokens, word_of_command(command))?;
+    let (name, rest) = name(rest)?;
     let rest = after_symbol(rest, Symbol::Semicolon)?;
-    Ok((Stmt::Goto { place, phase }, rest))
+    Ok((
+        Stmt::Command {
+            command,
+            place,
+            name,
+        },
+        rest,
+    ))
 }
 
 /// `send port value;`
@@ -54,32 +79,59 @@ fn send(alloc: Global, tokens: &[Token]) -> Result<(Stmt, &[Token]), ParseError>
     Ok((Stmt::Send { place, port, value }, rest))
 }
 
-/// `add value to bag;`
-#[tactic(auto, unfolding(crate::specs::Reading::add_at, crate::specs::Reading::read_then))]
-fn add_to_bag(alloc: Global, tokens: &[Token]) -> Result<(Stmt, &[Token]), ParseError>
-    ensures { Gives (λ x. (single_of x.0, x.1.now)) result (add_at the_limits tokens.now) }
+/// The word of a change.
+fn word_of_change(change: Change) -> Keyword
+    ensures { result ≡ change_word change }
 {
-    let place = first_place(tokens);
-    let rest = after_keyword(tokens, Keyword::Add)?;
-    let (value, rest) = expression(alloc, rest)?;
-    let rest = after_keyword(rest, Keyword::To)?;
-    let (bag, rest) = name(rest)?;
-    let rest = after_symbol(rest, Symbol::Semicolon)?;
-    Ok((Stmt::Add { place, value, bag }, rest))
+    match change {
+        Change::Add => Keyword::Add,
+        Change::Drop => Keyword::Drop,
+        Change::Push => Keyword::Push,
+    }
 }
 
-/// `drop value from bag;`
-#[tactic(auto, unfolding(crate::specs::Reading::drop_at, crate::specs::Reading::read_then))]
-fn drop_from_bag(alloc: Global, tokens: &[Token]) -> Result<(Stmt, &[Token]), ParseError>
-    ensures { Gives (λ x. (single_of x.0, x.1.now)) result (drop_at the_limits tokens.now) }
+/// The word between the value and the collection of a change.
+fn preposition_of(change: Change) -> Keyword
+    ensures { result ≡ change_preposition change }
+{
+    match change {
+        Change::Add | Change::Push => Keyword::To,
+        Change::Drop => Keyword::From,
+    }
+}
+
+/// Whether the word of this change comes first.
+fn begins_with_change(tokens: &[Token], change: Change) -> bool
+    ensures { result ≡ begins_change change tokens.now }
+{
+    begins_with_keyword(tokens, word_of_change(change))
+}
+
+/// `add value to bag;`, `drop value from bag;` or `push value to queue;`
+#[tactic(auto, unfolding(crate::specs::Reading::change_at, crate::specs::Reading::read_then))]
+fn change_statement(
+    alloc: Global,
+    tokens: &[Token],
+    change: Change,
+) -> Result<(Stmt, &[Token]), ParseError>
+    ensures { Gives (λ x. (single_of x.0, x.1.now)) result
+        (change_at the_limits change tokens.now) }
 {
     let place = first_place(tokens);
-    let rest = after_keyword(tokens, Keyword::Drop)?;
+    let rest = after_keyword(tokens, word_of_change(change))?;
     let (value, rest) = expression(alloc, rest)?;
-    let rest = after_keyword(rest, Keyword::From)?;
-    let (bag, rest) = name(rest)?;
+    let rest = after_keyword(rest, preposition_of(change))?;
+    let (collection, rest) = name(rest)?;
     let rest = after_symbol(rest, Symbol::Semicolon)?;
-    Ok((Stmt::Drop { place, value, bag }, rest))
+    Ok((
+        Stmt::Change {
+            change,
+            place,
+            value,
+            collection,
+        },
+        rest,
+    ))
 }
 
 /// The condition of an `if`, if the limit leaves room for its block, and what follows it.
@@ -170,7 +222,7 @@ fn if_statement(
     }
 }
 
-/// The variable and the bag of a `for`, if the limits leave room for its block, and what follows them.
+/// The variable and the collection of a `for`, if the limits leave room for its block, and what follows them.
 #[tactic(auto, unfolding(crate::specs::Reading::within, crate::specs::Reading::read_then))]
 fn head_of_for(tokens: &[Token], limit: u32, loops: u32) -> Result<(Name, Name, &[Token]), Obstacle>
     requires { 0 < limit }
@@ -193,7 +245,7 @@ fn head_of_for(tokens: &[Token], limit: u32, loops: u32) -> Result<(Name, Name, 
     Ok((variable, bag, rest))
 }
 
-/// The `for` of a variable, a bag and a block.
+/// The `for` of a variable, a collection and a block.
 #[tactic(auto, using(crate::proofs::Rows::rows))]
 fn for_loop(place: u32, variable: Name, bag: Name, block: Block) -> Stmt
     ensures { single_of result ≡ SingleFor place variable bag (block_of block) }
@@ -238,18 +290,22 @@ fn statement(
     ensures { Gives (λ x. (single_of x.0, x.1.now)) result
         (statement_at the_limits (block_at the_limits (limit - 1)) (limit - 1) loops tokens.now) }
 {
-    if begins_with_keyword(tokens, Keyword::Goto) {
-        Ok(goto(tokens)?)
+    if begins_with_command(tokens, Command::Goto) {
+        Ok(command_statement(tokens, Command::Goto)?)
+    } else if begins_with_command(tokens, Command::Pop) {
+        Ok(command_statement(tokens, Command::Pop)?)
     } else if begins_with_keyword(tokens, Keyword::Send) {
         send(alloc, tokens)
     } else if begins_with_keyword(tokens, Keyword::If) {
         if_statement(alloc, tokens, limit, loops)
     } else if begins_with_keyword(tokens, Keyword::For) {
         for_statement(alloc, tokens, limit, loops)
-    } else if begins_with_keyword(tokens, Keyword::Add) {
-        add_to_bag(alloc, tokens)
-    } else if begins_with_keyword(tokens, Keyword::Drop) {
-        drop_from_bag(alloc, tokens)
+    } else if begins_with_change(tokens, Change::Add) {
+        change_statement(alloc, tokens, Change::Add)
+    } else if begins_with_change(tokens, Change::Drop) {
+        change_statement(alloc, tokens, Change::Drop)
+    } else if begins_with_change(tokens, Change::Push) {
+        change_statement(alloc, tokens, Change::Push)
     } else {
         assign(alloc, tokens)
     }

@@ -40,6 +40,23 @@ pub fn begins_with_keyword(tokens: &[Token], keyword: Keyword) -> bool
     begins_with(tokens, TokenKind::Keyword(keyword))
 }
 
+/// The kind of a number that is small.
+fn small(number: u32) -> TokenKind
+    ensures { result ≡ TokenKind.Number number }
+{
+    match Numeral::new(u64::from(number)) {
+        Some(value) => TokenKind::Number(value),
+        None => unreachable!(),
+    }
+}
+
+/// Whether the first token is this number.
+pub fn begins_with_number(tokens: &[Token], number: u32) -> bool
+    ensures { result ≡ begins (TokenKind.Number number) tokens.now }
+{
+    begins_with(tokens, small(number))
+}
+
 /// Whether the first token is a name.
 pub fn begins_with_name(tokens: &[Token]) -> bool
     ensures { result ≡ begins_name tokens.now }
@@ -72,6 +89,7 @@ fn word_of_call(call: BagCall) -> Keyword
         BagCall::Sum => Keyword::Sum,
         BagCall::Least => Keyword::Least,
         BagCall::Most => Keyword::Most,
+        BagCall::Front => Keyword::Front,
     }
 }
 
@@ -82,7 +100,7 @@ fn begins_with_word_of(tokens: &[Token], call: BagCall) -> bool
     begins_with_keyword(tokens, word_of_call(call))
 }
 
-/// Whether `size`, `sum`, `least` or `most` comes first.
+/// Whether `size`, `sum`, `least`, `most` or `front` comes first.
 pub fn begins_with_call(tokens: &[Token]) -> bool
     ensures { result ≡ begins_call tokens.now }
 {
@@ -90,6 +108,7 @@ pub fn begins_with_call(tokens: &[Token]) -> bool
         || begins_with_word_of(tokens, BagCall::Sum)
         || begins_with_word_of(tokens, BagCall::Least)
         || begins_with_word_of(tokens, BagCall::Most)
+        || begins_with_word_of(tokens, BagCall::Front)
 }
 
 /// The place of the first token.
@@ -140,16 +159,6 @@ pub fn after_kind(tokens: &[Token], kind: TokenKind) -> Result<&[Token], Obstacl
         return Err(unexpected(tokens));
     }
     Ok(&tokens[1..])
-}
-
-/// The kind of a number that is small.
-fn small(number: u32) -> TokenKind
-    ensures { result ≡ TokenKind.Number number }
-{
-    match Numeral::new(u64::from(number)) {
-        Some(value) => TokenKind::Number(value),
-        None => unreachable!(),
-    }
 }
 
 /// The tokens after this number.
@@ -253,7 +262,9 @@ pub fn call_word(tokens: &[Token]) -> Result<(BagCall, &[Token]), Obstacle>
         word_of(tokens, BagCall::Sum)
     } else if begins_with_word_of(tokens, BagCall::Least) {
         word_of(tokens, BagCall::Least)
-    } else {
+    } else if begins_with_word_of(tokens, BagCall::Most) {
         word_of(tokens, BagCall::Most)
+    } else {
+        word_of(tokens, BagCall::Front)
     }
 }

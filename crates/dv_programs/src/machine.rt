@@ -3,11 +3,13 @@
 ghost use Rattle.std.specs.Prelude.{◌≡◌, ◌<◌};
 
 use dv_bag::{
-    Arrivals, Bag, Bags, Datum, DatumView, Effect, Fault, HeldBag, RuleError, Sent, State,
-    Variables,
+    Arrivals, Bag, Bags, Collection, Datum, DatumView, Discipline, Effect, Fault, Held, Queue,
+    RuleError, Sent, State, Variables,
 };
-use dv_code::{Action, Binary, Instruction, Leaf, ProgramSort, Shape, Slot, Source, Tables, Valid};
-use dv_samples::{Runs, shape_of_one_bag};
+use dv_code::{
+    Action, Binary, Deed, Instruction, Leaf, ProgramSort, Shape, Slot, Source, Tables, Valid,
+};
+use dv_samples::{Runs, shape_of_collections};
 use dv_valid::validate;
 use std::alloc::{AllocError, Global};
 use std::marker::Brand;
@@ -42,7 +44,7 @@ fn adder<R: Abort + AllocGlobal>(rt: &R) -> Result<Valid, AllocError> {
         Instruction::Combine(Binary::Add),
         Instruction::Perform(Action::SetVariable(0)),
         Instruction::Next(1),
-        Instruction::Go(1),
+        Instruction::Do(Deed::Go(1)),
         Instruction::End,
     ]?;
     program(rt, ProgramSort::External, code)
@@ -77,9 +79,9 @@ fn divider<R: Abort + AllocGlobal>(rt: &R) -> Result<Valid, AllocError> {
 
 /// Sends each value of a bag of the state.
 fn each_sent<R: Abort + AllocGlobal>(rt: &R) -> Result<Valid, AllocError> {
-    let shape = shape_of_one_bag(rt.alloc(), ProgramSort::Output)?;
+    let shape = shape_of_collections(rt.alloc(), ProgramSort::Output)?;
     let code = vec![in rt.alloc();
-        Instruction::Loop(Source::Own(0), 4),
+        Instruction::Loop(Source::Own(Discipline::Bag, 0), 4),
         Instruction::Push(Leaf::Item(0)),
         Instruction::Perform(Action::Send(0)),
         Instruction::Next(1),
@@ -98,13 +100,15 @@ fn counted(alloc: Global, number: i64, flag: bool) -> Result<State, AllocError> 
     })
 }
 
-/// A state with a bag of two 3s and a 7.
+/// A state with a bag of two 3s and a 7, and an empty queue.
 fn three_stored(alloc: Global) -> Result<State, AllocError> {
     let mut bag = Bag::new(alloc);
     bag.insert_copies(3, 2)?;
     bag.insert(7)?;
     let mut variables = Variables::new(alloc);
-    variables.push(Datum::Bag(HeldBag::new(alloc, bag)?))?;
+    variables.push(Datum::Held(Held::new(alloc, Collection::Bag(bag))?))?;
+    let queue = Collection::Queue(Queue::new(alloc));
+    variables.push(Datum::Held(Held::new(alloc, queue)?))?;
     Ok(State {
         phase: 0,
         variables,

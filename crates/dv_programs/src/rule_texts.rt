@@ -4,8 +4,9 @@ use dv_samples::Random;
 use std::alloc::{AllocError, Global};
 
 /// What stands before the rules.
-const BEFORE: &str =
-    "atomic R { in x; out y; var a: -20..50 = 3; var b: 0..9 = 1; flag f = true; bag g 4; phases p, q; start p; hold p: forever; ";
+const BEFORE: &str = "version 2;
+atomic R { in x; out y; var a: -20..50 = 3; var b: 0..9 = 1; flag f = true; bag g 4; queue h 4;
+    phases p, q; start p; hold p: forever; ";
 
 /// What stands behind them.
 const AFTER: &str = "}\ncoupled Top { part r: R; }\nroot Top;\n";
@@ -112,7 +113,7 @@ fn push_statement(
     spot: Spot,
     depth: u32,
 ) -> Result<(), AllocError> {
-    match random.below(6) {
+    match random.below(8) {
         0 if depth > 0 => push_choice(text, random, spot, depth - 1),
         1 if depth > 0 && spot.loops < 3 => push_loop(text, random, spot, depth - 1),
         _ if spot.sends => push_action(text, random, spot, "send y ", "; "),
@@ -120,6 +121,8 @@ fn push_statement(
         3 => push_from(text, random, &["goto p; ", "goto q; "]),
         4 => push_action(text, random, spot, "add ", " to g; "),
         5 => push_action(text, random, spot, "drop ", " from g; "),
+        6 => push_action(text, random, spot, "push ", " to h; "),
+        7 => push_popping(text, random),
         0 => push_action(text, random, spot, "a := ", "; "),
         _ => push_action(text, random, spot, "b := ", "; "),
     }
@@ -150,17 +153,22 @@ fn push_loop(
     spot: Spot,
     depth: u32,
 ) -> Result<(), AllocError> {
-    let bag = if spot.receives && random.below(2) == 0 {
-        "x"
+    write!(text, "for v{} in ", spot.loops)?;
+    if spot.receives && random.below(2) == 0 {
+        text.push_str("x ")?;
     } else {
-        "g"
-    };
-    write!(text, "for v{} in {bag} ", spot.loops)?;
+        push_from(text, random, &["g ", "h "])?;
+    }
     let inside = Spot {
         loops: spot.loops.saturating_add(1),
         ..spot
     };
     push_block(text, random, inside, depth)
+}
+
+/// A statement that takes the first value from the queue, mostly where there is one.
+fn push_popping(text: &mut String, random: &mut Random) -> Result<(), AllocError> {
+    push_from(text, random, &["if size(h) > 0 { pop h; } ", "pop h; "])
 }
 
 /// A statement with a number between these words.
@@ -224,7 +232,7 @@ fn push_number(
 }
 
 fn push_number_leaf(text: &mut String, random: &mut Random, spot: Spot) -> Result<(), AllocError> {
-    match random.below(9) {
+    match random.below(10) {
         0 => text.push_str("a"),
         1 => text.push_str("b"),
         2 => push_from(text, random, &["size(g)", "sum(g)", "least(g)", "most(g)"]),
@@ -234,6 +242,7 @@ fn push_number_leaf(text: &mut String, random: &mut Random, spot: Spot) -> Resul
         4 if spot.waits => text.push_str("elapsed"),
         5 | 6 if spot.loops > 0 => write!(text, "v{}", random.below(spot.loops)),
         7 => text.push_str("9223372036854775807"),
+        8 => push_from(text, random, &["size(h)", "front(h)"]),
         _ => write!(text, "{}", random.below(12)),
     }
 }

@@ -1,15 +1,19 @@
 //! States that fit the slots of a model, and values that arrive.
 
-ghost use Rattle.std.specs.Prelude.{◌≡◌, ◌≤◌, nat_le, option_map, slice_get, IfOk, IsTrue};
+ghost use Rattle.std.specs.Prelude.{◌≡◌, ◌≤◌, length, nat_le, option_map, slice_get, IfOk, IfSome, IsTrue};
 ghost use Rattle.std.specs.List.{list_all};
 ghost use Rattle.dv_bag.specs.Arrivals.{AreFew};
 ghost use Rattle.dv_bag.specs.Bag.{size, total};
-ghost use Rattle.dv_bag.specs.Reading.{datum_of};
+ghost use Rattle.dv_bag.specs.Collections.{count_in};
+ghost use Rattle.dv_bag.specs.Reading.{HoldsFew, datum_of};
 ghost use Rattle.dv_code.specs.Shape.{Fits};
 ghost use Rattle.dv_samples.specs.Fitting.{FitsAt};
 ghost use Rattle.dv_bag.specs.Limits.{greatest_count};
 
-use dv_bag::{Bag, Bags, Datum, DatumView, GREATEST_COUNT, HeldBag, State, Variables};
+use dv_bag::{
+    Bag, Bags, Collection, Datum, DatumView, Discipline, GREATEST_COUNT, Held, Queue, State,
+    Variables,
+};
 use dv_code::Slot;
 use std::alloc::{AllocError, Global};
 
@@ -29,6 +33,7 @@ pub fn fits(slots: &[Slot], variables: &Variables) -> bool
 }
 
 fn fits_slot(slot: Slot, datum: Option<DatumView>) -> bool
+    requires { IfSome datum (λ view. HoldsFew view) }
     ensures { IsTrue result → FitsAt slot (option_map datum_of datum.entry) }
 {
     match (slot, datum) {
@@ -36,8 +41,13 @@ fn fits_slot(slot: Slot, datum: Option<DatumView>) -> bool
             low <= number && number <= high
         }
         (Slot::Flagged, Some(DatumView::Flag(_))) => true,
-        (Slot::Holding { capacity }, Some(DatumView::Bag(bag))) => bag.size()
-            <= capacity.min(GREATEST_COUNT),
+        (
+            Slot::Holding {
+                discipline,
+                capacity,
+            },
+            Some(DatumView::Held(held)),
+        ) => held.discipline() == discipline && held.count() <= capacity,
         _ => false,
     }
 }
@@ -45,11 +55,11 @@ fn fits_slot(slot: Slot, datum: Option<DatumView>) -> bool
 /// Where in its range each slot of a state is.
 #[derive(Clone, Copy, Debug)]
 pub enum Level {
-    /// The least number, false, and an empty bag.
+    /// The least number, false, and an empty bag or queue.
     Low,
-    /// A number in the middle, true, and a bag of two copies of one value.
+    /// A number in the middle, true, a bag of two copies of one value, and a queue of two values that fall.
     Middle,
-    /// The greatest number, true, and a bag full of one value.
+    /// The greatest number, true, a bag full of one value, and a queue full of values that fall.
     High,
 }
 
@@ -73,9 +83,12 @@ fn datum_at(alloc: Global, slot: Slot, level: Level) -> Result<Datum, AllocError
     match slot {
         Slot::Ranged { low, high } => Ok(Datum::Number(number_at(low, high, level))),
         Slot::Flagged => Ok(Datum::Flag(!matches!(level, Level::Low))),
-        Slot::Holding { capacity } => {
-            let bag = bag_at(alloc, capacity, level)?;
-            Ok(Datum::Bag(HeldBag::new(alloc, bag)?))
+        Slot::Holding {
+            discipline,
+            capacity,
+        } => {
+            let collection = collection_at(alloc, discipline, capacity, level)?;
+            Ok(Datum::Held(Held::new(alloc, collection)?))
         }
     }
 }
@@ -85,6 +98,20 @@ fn number_at(low: i64, high: i64, level: Level) -> i64 {
         Level::Low => low,
         Level::Middle => low / 2 + high / 2,
         Level::High => high,
+    }
+}
+
+fn collection_at(
+    alloc: Global,
+    discipline: Discipline,
+    capacity: u64,
+    level: Level,
+) -> Result<Collection, AllocError>
+    ensures { IfOk result (λ collection. count_in collection ≤ greatest_count) }
+{
+    match discipline {
+        Discipline::Bag => Ok(Collection::Bag(bag_at(alloc, capacity, level)?)),
+        Discipline::Queue => Ok(Collection::Queue(queue_at(alloc, capacity, level)?)),
     }
 }
 
@@ -102,6 +129,27 @@ fn bag_at(alloc: Global, capacity: u64, level: Level) -> Result<Bag, AllocError>
         bag
     } else {
         Bag::new(alloc)
+    })
+}
+
+fn queue_at(alloc: Global, capacity: u64, level: Level) -> Result<Queue, AllocError>
+    ensures { IfOk result (λ queue. length queue ≤ greatest_count) }
+{
+    let mut queue = Queue::new(alloc);
+    let count = match level {
+        Level::Low => 0,
+        Level::Middle => 2,
+        Level::High => capacity,
+    };
+    let mut value: i64 = 7;
+    for _number in 0..count {
+        queue.push(value)?;
+        value = value.wrapping_sub(2);
+    }
+    Ok(if queue.len() as u64 <= GREATEST_COUNT {
+        queue
+    } else {
+        Queue::new(alloc)
     })
 }
 

@@ -19,5 +19,5 @@ pub use compiled::{Compiled, Pair, Tree, atomic_at, checked, compile};
 pub use fitting::{Level, deliveries, state_at};
 pub use random::Random;
 pub use runs::Runs;
-pub use shapes::{shape_of_one_bag, tables_of_each_slot};
+pub use shapes::{shape_of_collections, tables_of_each_slot};
 pub use texts::model_texts;

@@ -1,16 +1,29 @@
 //! What lists of instructions are for.
 
+use dv_bag::Discipline;
 use dv_code::{ProgramSort, Shape, Slot, Tables};
 use std::alloc::{AllocError, Global};
 use std::sync::Arc;
 
-/// For an atomic model with one bag, no input port, one output port and one phase.
+/// A bag of at most 4 values.
+const BAG: Slot = Slot::Holding {
+    discipline: Discipline::Bag,
+    capacity: 4,
+};
+
+/// A queue of at most 4 values.
+const QUEUE: Slot = Slot::Holding {
+    discipline: Discipline::Queue,
+    capacity: 4,
+};
+
+/// For an atomic model with a bag and a queue, no input port, one output port and one phase.
 ///
 /// # Errors
 ///
 /// No memory for the shape.
-pub fn shape_of_one_bag(alloc: Global, sort: ProgramSort) -> Result<Shape, AllocError> {
-    let slots = Vec::from_array(alloc, [Slot::Holding { capacity: 4 }])?;
+pub fn shape_of_collections(alloc: Global, sort: ProgramSort) -> Result<Shape, AllocError> {
+    let slots = Vec::from_array(alloc, [BAG, QUEUE])?;
     let tables = Arc::new(alloc, Tables::new(slots, 0, 1, 1))?;
     Ok(Shape::new(tables, sort))
 }
@@ -24,7 +37,8 @@ pub fn tables_of_each_slot(alloc: Global) -> Result<Arc<Tables>, AllocError> {
     let slots = vec![in alloc;
         Slot::Ranged { low: -20, high: 50 },
         Slot::Flagged,
-        Slot::Holding { capacity: 4 },
+        BAG,
+        QUEUE,
     ]?;
     Ok(Arc::new(alloc, Tables::new(slots, 1, 1, 2))?)
 }

@@ -4,7 +4,7 @@
 pub fn model_texts() -> &'static [&'static str] {
     &[
         CLOCK, LAMP, DIVISION, EFFECTS, CELL, IDLE, KEEP, PACK, BENCH, COUNTER, QUEUE, ROUTER,
-        TANK, PUMP, STORE, NESTED, NODE,
+        TANK, PUMP, STORE, NESTED, NODE, LINE, BELT,
     ]
 }
 
@@ -183,5 +183,27 @@ const NODE: &str =
     else { send d s % 1000; } } } internal w { s := (s * 1103515245 + 12345) % 2147483648; }
     external w { s := (s * 1103515245 + 12345 + sum(x)) % 2147483648; goto w; } }
 coupled Top { part n: Node; }
+root Top;
+";
+
+/// A server with a line in front of it.
+const LINE: &str = "version 2;
+atomic Line { in x; out y; queue q 2; phases idle, busy; start idle; hold idle: forever; hold busy: 3;
+    output busy { send y front(q); } internal busy { pop q; if size(q) = 0 { goto idle; } }
+    external idle { for v in x { push v to q; } goto busy; }
+    external busy { for v in x { push v to q; } } }
+coupled Top { in x; out o; part s: Line; link self.x -> s.x; link s.y -> self.o; }
+root Top;
+";
+
+/// A queue that is changed while a loop walks it, and a bag beside it.
+const BELT: &str = "version 2;
+atomic Belt { in x; out y; queue line 6; bag left 8; var last: -50..100 = 0; phases load, move;
+    start load; hold load: forever; hold move: front(line) % 4 + 4; external load { for v in x {
+    push v to line; } if size(line) > 0 { goto move; } } external move { for v in line {
+    if v > 2 { push v - 1 to line; } } pop line; } output move { send y front(line);
+    for v in line { send y v * 2; } } internal move { last := front(line); pop line; add last to left;
+    if size(line) = 0 { goto load; } } }
+coupled Top { in x; part b: Belt; link self.x -> b.x; }
 root Top;
 ";

@@ -4,16 +4,21 @@ use Rattle.std.specs.Option.{unwrap_or}
 use Rattle.std.specs.List.{AllByRecursion, flat_map}
 use Rattle.std.proofs.lemmas.Bool.{and_parts}
 use Rattle.dv_syntax.specs.Trees.{AtomicTree, RuleTree}
-use Rattle.dv_syntax.specs.Trees.{Statements, Done, Assign, Goto, Send, If, IfElse, For, Add, Drop}
+use Rattle.dv_syntax.specs.Trees.{Statements, Done, Assign, Does, Send, If, IfElse, For, Changes}
+use Rattle.dv_syntax.specs.declared.tree.Command.{Command}
+use Rattle.dv_syntax.specs.declared.tree.Command.TheVariants as command
 use Rattle.dv_syntax.specs.declared.tree.Name.{Name}
 use Rattle.dv_syntax.specs.declared.tree.RuleSort.{RuleSort}
 use Rattle.dv_syntax.specs.declared.tree.RuleSort.TheVariants.{External}
+use Rattle.dv_bag.specs.Collections.{discipline_of_change}
 use Rattle.dv_bag.specs.Numbers.{HoldsNumbers}
 use Rattle.dv_bag.specs.declared.state.State.{State}
 use Rattle.dv_eval.specs.Meaning.{hold_of}
 use Rattle.dv_eval.specs.Scope.{Scope, hold_ticks, is_declared, phase_name, place_of, rule_body, rule_of, same_sort, scope_of}
-use Rattle.dv_accepted.specs.Fitting.{are_names_known, are_terms_known, fits, is_assignable, is_bag, is_readable}
-use Rattle.dv_accepted.specs.Gotos.{gotos_in}
+use Rattle.dv_check.specs.declared.wanted.Wanted.TheVariants as wanted
+use Rattle.dv_accepted.specs.Fitting.{are_names_known, are_terms_known, fits, is_assignable, is_command_known, is_held, is_readable}
+use Rattle.dv_accepted.specs.Fitting.{wanted_of}
+use Rattle.dv_accepted.specs.Gotos.{goto_of, gotos_in}
 use Rattle.dv_accepted.proofs.Fitting.{HasPlace, place_of_declared}
 use Rattle.dv_accepted.proofs.Keeping.{all_parts}
 use Rattle.dv_gen.specs.Generator.{goes, program_of}
@@ -50,6 +55,10 @@ module _ (scope : Scope) where
   abbrev IsDeclared : ℕ → Type 0
   IsDeclared name = is_declared name scope.phases ≡ true
 
+  goto_declared : (c : Command) (name : Name) → is_command_known scope c name.number ≡ true → AllByRecursion IsDeclared (goto_of c name)
+  goto_declared command.Goto name h = (h, tt)
+  goto_declared command.Pop name h = tt
+
   all_declared : (rule : Option RuleSort) (loops : List ℕ) (body : Statements) → are_names_known scope rule loops body ≡ true →
       AllByRecursion IsDeclared (gotos_in body)
   all_declared rule loops Done h = tt
@@ -58,9 +67,9 @@ module _ (scope : Scope) where
       (are_terms_known scope rule loops e && are_names_known scope rule loops rest) h in
       let second = and_parts (are_terms_known scope rule loops e) (are_names_known scope rule loops rest) first.1 in
       all_declared rule loops rest second.1
-  all_declared rule loops (Goto place phase rest) h =
-      let first = and_parts (is_declared phase.number scope.phases) (are_names_known scope rule loops rest) h in
-      (first.0, all_declared rule loops rest first.1)
+  all_declared rule loops (Does c place name rest) h =
+      let first = and_parts (is_command_known scope c name.number) (are_names_known scope rule loops rest) h in
+      joined IsDeclared (goto_of c name) (gotos_in rest) (goto_declared c name first.0) (all_declared rule loops rest first.1)
   all_declared rule loops (Send place port e rest) h =
       let first = and_parts (is_declared port.number scope.outputs)
       (are_terms_known scope rule loops e && are_names_known scope rule loops rest) h in
@@ -80,18 +89,15 @@ module _ (scope : Scope) where
       joined IsDeclared (gotos_in block) (gotos_in other ++ gotos_in rest) (all_declared rule loops block second.0)
       (joined IsDeclared (gotos_in other) (gotos_in rest) (all_declared rule loops other third.0) (all_declared rule loops rest third.1))
   all_declared rule loops (For place v b block rest) h =
-      let first = and_parts (is_readable scope rule b.number)
+      let first = and_parts (is_readable wanted.Values scope rule b.number)
       (are_names_known scope rule (v.number ∷ loops) block && are_names_known scope rule loops rest) h in
       let second = and_parts (are_names_known scope rule (v.number ∷ loops) block) (are_names_known scope rule loops rest) first.1 in
       joined IsDeclared (gotos_in block) (gotos_in rest) (all_declared rule (v.number ∷ loops) block second.0)
       (all_declared rule loops rest second.1)
-  all_declared rule loops (Add place e b rest) h =
-      let first = and_parts (are_terms_known scope rule loops e) (is_bag scope b.number && are_names_known scope rule loops rest) h in
-      let second = and_parts (is_bag scope b.number) (are_names_known scope rule loops rest) first.1 in
-      all_declared rule loops rest second.1
-  all_declared rule loops (Drop place e b rest) h =
-      let first = and_parts (are_terms_known scope rule loops e) (is_bag scope b.number && are_names_known scope rule loops rest) h in
-      let second = and_parts (is_bag scope b.number) (are_names_known scope rule loops rest) first.1 in
+  all_declared rule loops (Changes c place e x rest) h =
+      let target = is_held (wanted_of (discipline_of_change c)) scope x.number in
+      let first = and_parts (are_terms_known scope rule loops e) (target && are_names_known scope rule loops rest) h in
+      let second = and_parts target (are_names_known scope rule loops rest) first.1 in
       all_declared rule loops rest second.1
 
   body_declared : (phase : ℕ) (rules : List RuleTree) →

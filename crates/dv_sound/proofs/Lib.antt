@@ -2,6 +2,7 @@ pub mod Flattened
 pub mod Gos
 pub mod Linear
 pub mod Networks
+pub mod Collections
 pub mod Rules
 pub mod Soundness
 pub mod Jobbing

@@ -1,20 +1,21 @@
 -- Rules keep states to numbers of the language, and send such numbers.
-use Rattle.std.proofs.Common.{◌≡◌, ℕ, zero, suc, ◌-◌, Bool, true, false, ◌&&◌, ◌||◌, cond, nat_eq, nat_le, List, [], ◌∷◌, ◌++◌}
-use Rattle.std.proofs.Common.{length, replicate, ℤ, Option, Some, None, Result, Ok, Err, IfOk, IsTrue, refl, sym, ap, ◌∙◌}
-use Rattle.std.proofs.Common.{arith}
+use Rattle.std.proofs.Common.{◌≡◌, ℕ, zero, suc, Bool, true, ◌&&◌, cond, nat_le, List, [], ◌∷◌, ◌++◌, length, replicate, ℤ}
+use Rattle.std.proofs.Common.{Option, Some, None, Result, Ok, Err, IfOk, IsTrue, refl, sym, ap, ◌∙◌}
 use Rattle.std.specs.Prelude.{slice_get, slice_set}
 use Rattle.std.specs.List.{list_all}
-use Rattle.std.specs.Ordering.{int_cmp, match_ordering}
-use Rattle.std.specs.declared.cmp.Ordering.{Ordering}
-use Rattle.std.specs.declared.cmp.Ordering.TheVariants as order
 use Rattle.std.proofs.lemmas.Bool.{and_parts}
-use Rattle.std.proofs.lemmas.Bool.Decides.{nat_tests}
-use Rattle.dv_syntax.specs.Trees.{Expression, Statements, Done, Assign, Goto, Send, If, IfElse, For, Add, Drop}
+use Rattle.dv_syntax.specs.Trees.{Expression, Statements, Done, Assign, Does, Send, If, IfElse, For, Changes}
+use Rattle.dv_syntax.specs.declared.tree.Command.{Command}
+use Rattle.dv_syntax.specs.declared.tree.Command.TheVariants as command
 use Rattle.dv_bag.specs.Arrivals.{Arrivals}
-use Rattle.dv_bag.specs.Bag.{Counts, bag_at, is_number, total, total_of_all, values_of, with_copies, without_one}
-use Rattle.dv_bag.specs.Effects.{is_full, is_within, with_bag, with_datum, with_state}
+use Rattle.dv_bag.specs.Bag.{Counts, bag_at, is_number, total_of_all, values_of, with_copies}
+use Rattle.dv_bag.specs.Collections.{changed, popped, values_in}
+use Rattle.dv_bag.specs.Effects.{is_within, with_datum, with_state}
 use Rattle.dv_bag.specs.Outcome.{◌>>=◌}
 use Rattle.dv_bag.specs.Limits.{greatest_count}
+use Rattle.dv_bag.specs.declared.collection.Collection.{Collection}
+use Rattle.dv_bag.specs.declared.collection.Collection.TheVariants as collection
+use Rattle.dv_bag.specs.declared.discipline.Change.{Change}
 use Rattle.dv_bag.specs.declared.fault.Fault.{Fault}
 use Rattle.dv_bag.specs.declared.fault.Fault.TheVariants as fault
 use Rattle.dv_bag.specs.declared.state.Datum.{Datum}
@@ -22,20 +23,21 @@ use Rattle.dv_bag.specs.declared.state.Datum.TheVariants as datum
 use Rattle.dv_bag.specs.declared.state.State.{State}
 use Rattle.dv_bag.specs.declared.state.Effect.{Effect}
 use Rattle.dv_bag.specs.declared.value.Value.{Value}
-use Rattle.dv_bag.proofs.Monoid.{total_with, total_without}
+use Rattle.dv_bag.proofs.NumbersKept.{MadeOf}
 use Rattle.dv_devs.specs.Behaviour.{are_few}
 use Rattle.dv_eval.specs.declared.scope.Domain.{Domain}
 use Rattle.dv_eval.specs.declared.scope.Domain.TheVariants as domain
 use Rattle.dv_eval.specs.Scope.{Scope, names_of, place_of}
-use Rattle.dv_eval.specs.Meaning.{Context, addition, addition_at, addition_to, assignment, assignment_at, assignment_in_domain}
-use Rattle.dv_eval.specs.Meaning.{assignment_to, bag_of_name, capacity_of, effect_of, in_loop, moment_in, number_of, outermost}
-use Rattle.dv_eval.specs.Meaning.{removal, removal_at, removal_from, repetition, run, sending, truth_of, value_within}
-use Rattle.dv_eval.specs.Meaning.{with_goto, with_value_at}
+use Rattle.dv_eval.specs.Meaning.{Context, assignment, assignment_at, assignment_in_domain, assignment_to, changing, changing_at}
+use Rattle.dv_eval.specs.Meaning.{collection_of_name, command_effect, effect_of, in_loop, moment_in, number_of, outermost, popping_at}
+use Rattle.dv_eval.specs.Meaning.{repetition, run, sending, truth_of, value_within, with_goto, with_made, with_value_at}
+use Rattle.dv_accepted.proofs.Keeping.{changing_at_keeps, made_keeps, popping_at_keeps}
 use Rattle.dv_accepted.proofs.Outcomes.{if_ok_branch, if_ok_then}
 use Rattle.dv_conservative.specs.Sound.{are_of_numbers, is_of_numbers}
 use Rattle.dv_conservative.proofs.Numbers.{numbers_with}
-use Rattle.dv_sound.specs.Kept.{are_kept, is_kept, name_numbers, names_numbers}
-use Rattle.dv_sound.proofs.Values.{IsNumber, KnowsNumbers, bag_here, bag_named, meaning_number}
+use Rattle.dv_sound.specs.Kept.{are_kept, has_numbers, is_kept, name_numbers, names_numbers}
+use Rattle.dv_sound.proofs.Collections.{IsKept, changed_kept, popped_kept}
+use Rattle.dv_sound.proofs.Values.{IsNumber, KnowsNumbers, bag_here, collection_named, meaning_number}
 
 both_true : (a b : Bool) → a ≡ true → b ≡ true → (a && b) ≡ true
 both_true a b h k = rw (h, k) refl
@@ -56,39 +58,6 @@ get_all test (y ∷ ys) zero x h e =
     ap test (sym same) ∙ parts.0
 get_all test (y ∷ ys) (suc i) x h e = let parts = and_parts (test y) (list_all test ys) h in get_all test ys i x parts.1 e
 
-less_numbers : (v : ℤ) (b : Counts) → is_of_numbers b ≡ true → is_of_numbers (without_one v b) ≡ true
-less_numbers v [] h = refl
-less_numbers v (p ∷ ps) h =
-    let parts = and_parts (is_number p.0) (is_of_numbers ps) h in
-    by_order (int_cmp v p.0) (nat_eq p.1 1) parts.0 parts.1 (less_numbers v ps parts.1)
-  where
-    by_order : (o : Ordering) (one : Bool) → is_number p.0 ≡ true → is_of_numbers ps ≡ true → is_of_numbers (without_one v ps) ≡ true →
-        is_of_numbers (match_ordering o (p ∷ ps) (cond one ps ((p.0, p.1 - 1) ∷ ps)) (p ∷ without_one v ps)) ≡ true
-    by_order order.Less one first others rest = both_true (is_number p.0) (is_of_numbers ps) first others
-    by_order order.Equal true first others rest = others
-    by_order order.Equal false first others rest = both_true (is_number p.0) (is_of_numbers ps) first others
-    by_order order.Greater one first others rest = both_true (is_number p.0) (is_of_numbers (without_one v ps)) first rest
-
-less_kept : (v : ℤ) (b : Counts) → is_kept (datum.Bag b) ≡ true → is_kept (datum.Bag (without_one v b)) ≡ true
-less_kept v b h =
-    let parts = and_parts (is_of_numbers b) (nat_le (total b) greatest_count) h in
-    let fewer = total_without v b in
-    let few : nat_le (total (without_one v b)) greatest_count ≡ true = grind (arith, nat_tests, parts.1) in
-    both_true (is_of_numbers (without_one v b)) (nat_le (total (without_one v b)) greatest_count) (less_numbers v b parts.0) few
-
-more_kept : (v : ℤ) (capacity : ℕ) (b : Counts) → is_number v ≡ true → is_kept (datum.Bag b) ≡ true → is_full capacity b ≡ false →
-    is_kept (datum.Bag (with_copies v 1 b)) ≡ true
-more_kept v capacity b n h room =
-    let parts = and_parts (is_of_numbers b) (nat_le (total b) greatest_count) h in
-    let more = (total_with v 1 b).1 in
-    let free : nat_le greatest_count (total b) ≡ false = or_none (nat_le capacity (total b)) (nat_le greatest_count (total b)) room in
-    let few : nat_le (total (with_copies v 1 b)) greatest_count ≡ true = grind (arith, nat_tests, free, more) in
-    both_true (is_of_numbers (with_copies v 1 b)) (nat_le (total (with_copies v 1 b)) greatest_count) (numbers_with v 1 b n parts.0) few
-  where
-    or_none : (a b : Bool) → (a || b) ≡ false → b ≡ false
-    or_none true b h = absurd (cc)
-    or_none false b h = h
-
 -- an effect that holds numbers and has sent numbers
 pub record Keeps (e : Effect) : Type 0 where
   pub state : are_kept e.state.variables ≡ true
@@ -103,7 +72,7 @@ module _ (scope : Scope) where
       if_ok_branch (is_within r.low r.high (number_of v)) (Ok (with_state e (with_datum e.state place (datum.Number (number_of v)))))
       (Err fault.Range) Keeps (put_keeps e place (datum.Number (number_of v)) n keeps) tt
   domain_keeps (domain.Flag start) place v e n keeps = put_keeps e place (datum.Flag (truth_of v)) refl keeps
-  domain_keeps (domain.Bag capacity) place v e n keeps = keeps
+  domain_keeps (domain.Held d capacity) place v e n keeps = keeps
 
   assigned_keeps : (o : Option (ℕ × Domain)) (place : ℕ) (v : Value) (e : Effect) → IsNumber v → Keeps e →
       IfOk (assignment_to o place v e) Keeps
@@ -114,37 +83,23 @@ module _ (scope : Scope) where
   assign_keeps None v e n keeps = keeps
   assign_keeps (Some place) v e n keeps = assigned_keeps (slice_get scope.variables place) place v e n keeps
 
-  added_keeps : (capacity : Option ℕ) (o : Option Datum) (place : ℕ) (n : ℤ) (e : Effect) → slice_get e.state.variables place ≡ o →
-      is_number n ≡ true → Keeps e → IfOk (addition_to capacity o place n e) Keeps
-  added_keeps None o place n e there number keeps = keeps
-  added_keeps (Some capacity) None place n e there number keeps = keeps
-  added_keeps (Some capacity) (Some (datum.Number x)) place n e there number keeps = keeps
-  added_keeps (Some capacity) (Some (datum.Flag x)) place n e there number keeps = keeps
-  added_keeps (Some capacity) (Some (datum.Bag b)) place n e there number keeps =
-      by_room (is_full capacity b) refl (get_all is_kept e.state.variables place (datum.Bag b) keeps.state there)
-    where
-      by_room : (full : Bool) → is_full capacity b ≡ full → is_kept (datum.Bag b) ≡ true →
-          IfOk (cond full (Err fault.Full) (Ok (with_bag e place (with_copies n 1 b)))) Keeps
-      by_room true room held = tt
-      by_room false room held = put_keeps e place (datum.Bag (with_copies n 1 b)) (more_kept n capacity b number held room) keeps
+  -- what is made of the collection at a place, where that is kept
+  put_made_keeps : (place : ℕ) (held : Collection) (made : Option (Result Collection Fault)) (e : Effect) →
+      slice_get e.state.variables place ≡ Some (datum.Held held) → (IsKept held → MadeOf IsKept made) → Keeps e →
+      IfOk (with_made place e made) Keeps
+  put_made_keeps place held made e content stays keeps =
+      made_keeps Keeps e keeps IsKept place made (stays (get_all is_kept e.state.variables place (datum.Held held) keeps.state content))
+      (λ c kept. put_keeps e place (datum.Held c) kept keeps)
 
-  add_keeps : (o : Option ℕ) (n : ℤ) (e : Effect) → is_number n ≡ true → Keeps e → IfOk (addition_at scope o n e) Keeps
-  add_keeps None n e number keeps = keeps
-  add_keeps (Some place) n e number keeps =
-      added_keeps (capacity_of (slice_get scope.variables place)) (slice_get e.state.variables place) place n e refl number keeps
+  change_keeps : (c : Change) (o : Option ℕ) (n : ℤ) (e : Effect) → is_number n ≡ true → Keeps e → IfOk (changing_at scope c o n e) Keeps
+  change_keeps c o n e number keeps =
+      changing_at_keeps Keeps e keeps scope c o n (λ place most held room content.
+      put_made_keeps place held (changed c most n held) e content (λ kept. changed_kept held kept c most n number) keeps)
 
-  removed_keeps : (o : Option Datum) (place : ℕ) (n : ℤ) (e : Effect) → slice_get e.state.variables place ≡ o → Keeps e →
-      Keeps (removal_from o place n e)
-  removed_keeps None place n e there keeps = keeps
-  removed_keeps (Some (datum.Number x)) place n e there keeps = keeps
-  removed_keeps (Some (datum.Flag x)) place n e there keeps = keeps
-  removed_keeps (Some (datum.Bag b)) place n e there keeps =
-      put_keeps e place (datum.Bag (without_one n b))
-      (less_kept n b (get_all is_kept e.state.variables place (datum.Bag b) keeps.state there)) keeps
-
-  remove_keeps : (o : Option ℕ) (n : ℤ) (e : Effect) → Keeps e → Keeps (removal_at o n e)
-  remove_keeps None n e keeps = keeps
-  remove_keeps (Some place) n e keeps = removed_keeps (slice_get e.state.variables place) place n e refl keeps
+  pop_keeps : (o : Option ℕ) (e : Effect) → Keeps e → IfOk (popping_at o e) Keeps
+  pop_keeps o e keeps =
+      popping_at_keeps Keeps e keeps o (λ place held content.
+      put_made_keeps place held (popped held) e content (λ kept. popped_kept held kept) keeps)
 
   sent_keeps : (o : Option ℕ) (n : ℤ) (e : Effect) → is_number n ≡ true → Keeps e → Keeps (with_value_at o n e)
   sent_keeps None n e number keeps = keeps
@@ -157,6 +112,10 @@ module _ (scope : Scope) where
   goes_keeps : (o : Option ℕ) (e : Effect) → Keeps e → Keeps (with_goto o e)
   goes_keeps None e keeps = keeps
   goes_keeps (Some phase) e keeps = record { state = keeps.state; sent = keeps.sent }
+
+  command_keeps : (c : Command) (name : ℕ) (e : Effect) → Keeps e → IfOk (command_effect scope c name e) Keeps
+  command_keeps command.Goto name e keeps = goes_keeps (place_of name scope.phases) e keeps
+  command_keeps command.Pop name e keeps = pop_keeps (place_of name (names_of scope.variables)) e keeps
 
   -- what has arrived and loops go through
   record Knows (context : Context) : Type 0 where
@@ -171,7 +130,7 @@ module _ (scope : Scope) where
       IfOk (value_within scope context e x) IsNumber
   within context e x small knows keeps = meaning_number scope (moment_in context e.state) x small (knows_at context e knows keeps)
 
-  -- the values of a bag
+  -- the values of a bag, and of a collection
   copies_numbers : (n : ℕ) (v : ℤ) (rest : List ℤ) → is_number v ≡ true → list_all is_number rest ≡ true →
       list_all is_number (replicate n v ++ rest) ≡ true
   copies_numbers zero v rest h k = k
@@ -182,6 +141,10 @@ module _ (scope : Scope) where
   values_numbers (p ∷ ps) h =
       let parts = and_parts (is_number p.0) (is_of_numbers ps) h in
       copies_numbers p.1 p.0 (values_of ps) parts.0 (values_numbers ps parts.1)
+
+  held_values : (c : Collection) → has_numbers c ≡ true → list_all is_number (values_in c) ≡ true
+  held_values (collection.Bag b) h = values_numbers b h
+  held_values (collection.Queue q) h = h
 
   repeats : (step : ℤ → Effect → Result Effect Fault) (ns : List ℤ) (e : Effect) → list_all is_number ns ≡ true →
       ((n : ℤ) (now : Effect) → is_number n ≡ true → Keeps now → IfOk (step n now) Keeps) → Keeps e → IfOk (repetition step ns e) Keeps
@@ -205,9 +168,9 @@ module _ (scope : Scope) where
       after_step (value_within scope context e x) (λ v. assignment scope variable.number v e) (run scope context rest)
       (within context e x parts.0 knows keeps) (λ v n. assign_keeps (place_of variable.number (names_of scope.variables)) v e n keeps)
       (λ now k. run_keeps context rest now parts.1 knows k)
-  run_keeps context (Goto place phase rest) e small knows keeps =
-      run_keeps context rest (with_goto (place_of phase.number scope.phases) e) small knows
-      (goes_keeps (place_of phase.number scope.phases) e keeps)
+  run_keeps context (Does c place name rest) e small knows keeps =
+      if_ok_then (command_effect scope c name.number e) (run scope context rest) Keeps Keeps (command_keeps c name.number e keeps)
+      (λ now k. run_keeps context rest now small knows k)
   run_keeps context (Send place port x rest) e small knows keeps =
       let parts = and_parts (names_numbers x) (name_numbers rest) small in
       after_step (value_within scope context e x) (λ v. sending scope port.number v e) (run scope context rest)
@@ -237,8 +200,8 @@ module _ (scope : Scope) where
       (λ now k. run_keeps context rest now others.1 knows k)
   run_keeps context (For place v b block rest) e small knows keeps =
       let parts = and_parts (name_numbers block) (name_numbers rest) small in
-      let bag = bag_of_name scope (moment_in context e.state) b.number in
-      let few = bag_named scope (moment_in context e.state) b.number (knows_at context e knows keeps) in
+      let c = collection_of_name scope (moment_in context e.state) b.number in
+      let few = collection_named scope (moment_in context e.state) b.number (knows_at context e knows keeps) in
       let step = λ (n : ℤ). run scope (in_loop (v.number, n) context) block in
       let each = λ (n : ℤ) (now : Effect) (number : is_number n ≡ true) (k : Keeps now).
       run_keeps (in_loop (v.number, n) context) block now parts.0
@@ -247,17 +210,13 @@ module _ (scope : Scope) where
         few = knows.few;
         loops = both_true (is_number n) (list_all (λ (l : ℕ × ℤ). is_number l.1) context.loops) number knows.loops;
       }) k in
-      if_ok_then (repetition step (values_of bag) e) (run scope context rest) Keeps Keeps
-      (repeats step (values_of bag) e (values_numbers bag few.numbers) each keeps) (λ now k. run_keeps context rest now parts.1 knows k)
-  run_keeps context (Add place x b rest) e small knows keeps =
+      if_ok_then (repetition step (values_in c) e) (run scope context rest) Keeps Keeps
+      (repeats step (values_in c) e (held_values c few.numbers) each keeps) (λ now k. run_keeps context rest now parts.1 knows k)
+  run_keeps context (Changes c place x target rest) e small knows keeps =
       let parts = and_parts (names_numbers x) (name_numbers rest) small in
-      after_step (value_within scope context e x) (λ v. addition scope b.number (number_of v) e) (run scope context rest)
-      (within context e x parts.0 knows keeps) (λ v n. add_keeps (place_of b.number (names_of scope.variables)) (number_of v) e n keeps)
-      (λ now k. run_keeps context rest now parts.1 knows k)
-  run_keeps context (Drop place x b rest) e small knows keeps =
-      let parts = and_parts (names_numbers x) (name_numbers rest) small in
-      after_step (value_within scope context e x) (λ v. Ok (removal scope b.number (number_of v) e)) (run scope context rest)
-      (within context e x parts.0 knows keeps) (λ v n. remove_keeps (place_of b.number (names_of scope.variables)) (number_of v) e keeps)
+      after_step (value_within scope context e x) (λ v. changing scope c target.number (number_of v) e) (run scope context rest)
+      (within context e x parts.0 knows keeps)
+      (λ v n. change_keeps c (place_of target.number (names_of scope.variables)) (number_of v) e n keeps)
       (λ now k. run_keeps context rest now parts.1 knows k)
 
   none_numbers : (n : ℕ) → are_of_numbers (replicate n []) ≡ true

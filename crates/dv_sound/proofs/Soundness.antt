@@ -9,8 +9,9 @@ use Rattle.dv_syntax.specs.Trees.{AtomicTree, RuleTree, Statements, Done}
 use Rattle.dv_syntax.specs.declared.tree.RuleSort.{RuleSort}
 use Rattle.dv_syntax.specs.declared.tree.RuleSort.TheVariants.{Output, Internal, External, Confluent}
 use Rattle.dv_bag.specs.Arrivals.{AreFew, Arrivals, nothing_arrived}
-use Rattle.dv_bag.specs.Bag.{Counts, is_number, total}
-use Rattle.dv_bag.specs.Numbers.{HoldsNumbers, IsBagOfNumbers, IsOfNumbers as HoldsOneOfNumbers}
+use Rattle.dv_bag.specs.Bag.{Counts}
+use Rattle.dv_bag.specs.Collections.{count_in}
+use Rattle.dv_bag.specs.Numbers.{HoldsNumbers, IsOfNumbers as HoldsOneOfNumbers}
 use Rattle.dv_bag.specs.Outcome.{◌>>=◌}
 use Rattle.dv_bag.specs.Limits.{greatest_count}
 use Rattle.dv_bag.specs.declared.fault.Fault.{Fault}
@@ -28,9 +29,10 @@ use Rattle.dv_bound.specs.Response.{IsNotBelow, response_of}
 use Rattle.dv_plain.specs.Source.{behaviour_of, change_by, first_component, state_by_goto}
 use Rattle.dv_compiled.specs.Behaviours.{behaviour_by}
 use Rattle.dv_conservative.specs.Promise.{IsAtLeast, IsResponse}
-use Rattle.dv_conservative.specs.Sound.{IsSound, are_of_numbers, is_of_numbers}
-use Rattle.dv_sound.specs.Kept.{IsOfNumbers, are_kept, fits_kept, is_kept, name_numbers, rules_name_numbers}
+use Rattle.dv_conservative.specs.Sound.{IsSound, are_of_numbers}
+use Rattle.dv_sound.specs.Kept.{IsOfNumbers, are_kept, fits_kept, has_numbers, is_kept, name_numbers, rules_name_numbers}
 use Rattle.dv_sound.specs.Members.{member_of}
+use Rattle.dv_sound.proofs.Collections.{numbers_in}
 use Rattle.dv_sound.proofs.Rules.{effect_kept, effect_sends}
 use Rattle.dv_sound.proofs.Values.{few_here}
 
@@ -38,16 +40,10 @@ both_true : (a b : Bool) → a ≡ true → b ≡ true → (a && b) ≡ true
 both_true a b h k = rw (h, k) refl
 
 -- states that hold numbers, in the words of responses
-bag_held : (b : Counts) → is_of_numbers b ≡ true → IsBagOfNumbers b
-bag_held [] h = All-nil (λ p. IsTrue (is_number p.0))
-bag_held (p ∷ ps) h =
-    let parts = and_parts (is_number p.0) (is_of_numbers ps) h in
-    All-cons (λ p. IsTrue (is_number p.0)) p ps parts.0 (bag_held ps parts.1)
-
 datum_held : (d : Datum) → is_kept d ≡ true → HoldsOneOfNumbers d
 datum_held (datum.Number n) h = h
 datum_held (datum.Flag b) h = tt
-datum_held (datum.Bag b) h = let parts = and_parts (is_of_numbers b) (nat_le (total b) greatest_count) h in bag_held b parts.0
+datum_held (datum.Held c) h = let parts = and_parts (has_numbers c) (nat_le (count_in c) greatest_count) h in numbers_in c parts.0
 
 pub all_held : (ds : List Datum) → are_kept ds ≡ true → HoldsNumbers ds
 all_held [] h = All-nil HoldsOneOfNumbers

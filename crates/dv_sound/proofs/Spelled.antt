@@ -7,7 +7,8 @@ use Rattle.dv_lex.specs.Lexemes.{Lexeme, Blank, Comment, Identifier, Numeral, Re
 use Rattle.dv_lex.specs.Numbering.{token_of, tokens_of}
 use Rattle.dv_lex.specs.Reading.{IsInRange, Placed, Reads}
 use Rattle.dv_lex.specs.Texts.{IsTokensOf}
-use Rattle.dv_lex.specs.Versions.{header_words, kind_or_word, text_in, versioned, word_written}
+use Rattle.dv_lex.specs.Versions.{behind_header, headed, header_words, is_second_version, kind_or_word, later_words, text_in, versioned}
+use Rattle.dv_lex.specs.Versions.{with_words, word_written}
 use Rattle.dv_lex.specs.declared.token.Keyword.{Keyword}
 use Rattle.dv_lex.specs.declared.token.Symbol.TheVariants as symbol
 use Rattle.dv_lex.specs.declared.token.Token.{Token}
@@ -17,7 +18,7 @@ use Rattle.dv_syntax.specs.Grammar.{Anywhere, At, IsFileOf, IsSpelled, Spelled, 
 use Rattle.dv_syntax.specs.Grammar.{declaration_spelling, expression_spelling, file_spelling, header_spelling, item_spelling}
 use Rattle.dv_syntax.specs.Grammar.{minus_spelling, model_spelling, name, number, sign, statements_spelling, word}
 use Rattle.dv_syntax.specs.Trees.{Expression, Literal, TruthValue, Named, Parens, Prefixed, Binary, Call, Elapsed, Times, FileTree}
-use Rattle.dv_syntax.specs.Trees.{Statements, Done, Assign, Goto, Send, If, IfElse, For, Add, Drop}
+use Rattle.dv_syntax.specs.Trees.{Statements, Done, Assign, Does, Send, If, IfElse, For, Changes}
 use Rattle.dv_syntax.specs.Written.{AtomicItem, Declares, Lists, Starts, Holds, Rules, WrittenAtomic, WrittenCoupled}
 use Rattle.dv_syntax.specs.Written.{WrittenModel, sorted_items, sorted_model}
 use Rattle.dv_syntax.specs.declared.tree.Declaration.{Declaration}
@@ -26,6 +27,10 @@ use Rattle.dv_syntax.specs.declared.tree.Name.{Name}
 use Rattle.dv_syntax.specs.declared.tree.Number.{Number}
 use Rattle.dv_syntax.specs.declared.tree.Variable.{Variable}
 use Rattle.dv_bag.specs.Bag.{is_number}
+use Rattle.dv_bag.specs.Collections.{empty_of}
+use Rattle.dv_bag.specs.declared.discipline.Discipline.{Discipline}
+use Rattle.dv_bag.specs.declared.discipline.Discipline.TheVariants as discipline
+use Rattle.dv_bag.specs.declared.state.Datum.TheVariants as datum
 use Rattle.dv_eval.specs.Scope.{bound_value, is_declared, names_of, signed, start_data, start_datum, state_variable_of}
 use Rattle.dv_eval.specs.Scope.{state_variables_in, with_variable, with_variables}
 use Rattle.dv_eval.specs.declared.scope.Domain.{Domain}
@@ -73,14 +78,33 @@ tokens_small names place bytes (x ∷ xs) end rest h =
     small_then names x.lexeme x.place (tokens_of names xs) h.1
     (tokens_small names (place + length front) h.2.1 xs end rest h.2.3)
 
--- the same where the first is the word of a header
+-- the same where words stand in the places of names
 small_or : (k : TokenKind) (word : Option Keyword) → IsSmall k → IsSmall (kind_or_word k word)
 small_or k None h = h
 small_or k (Some word) h = tt
 
+words_small : (names : List (List ℕ)) (words : List Keyword) (ts : List Token) → AreSmall ts →
+    AreSmall (map (with_words names words) ts)
+words_small names words [] h = tt
+words_small names words (t ∷ ts) h =
+    (small_or t.kind (word_written words (text_in names t.kind)) h.0, words_small names words ts h.1)
+
+behind_small : (names : List (List ℕ)) (ts : List Token) → AreSmall ts → AreSmall (behind_header names ts)
+behind_small names [] h = tt
+behind_small names (t ∷ ts) h = (h.0, by_test (is_second_version t.kind))
+  where
+    by_test : (second : Bool) → AreSmall (cond second (map (with_words names later_words) ts) ts)
+    by_test true = words_small names later_words ts h.1
+    by_test false = h.1
+
+headed_small : (names : List (List ℕ)) (word : Option Keyword) (t : Token) (ts : List Token) → AreSmall (t ∷ ts) →
+    AreSmall (headed names word t ts)
+headed_small names None t ts h = h
+headed_small names (Some word) t ts h = (tt, behind_small names ts h.1)
+
 versioned_small : (names : List (List ℕ)) (ts : List Token) → AreSmall ts → AreSmall (versioned names ts)
 versioned_small names [] h = tt
-versioned_small names (t ∷ ts) h = (small_or t.kind (word_written header_words (text_in names t.kind)) h.0, h.1)
+versioned_small names (t ∷ ts) h = headed_small names (word_written header_words (text_in names t.kind)) t ts h
 
 -- what they spell
 spelled_small : (ss : List Spelled) (ts rest : List Token) → Spells ss ts rest → AreSmall ts → AskSmall ss
@@ -119,7 +143,7 @@ statements_small Done h = refl
 statements_small (Assign n e rest) h =
     let both = parted (expression_spelling e) _ h.1.1 in
     and_from (names_numbers e) (name_numbers rest) (expression_small e both.0) (statements_small rest both.1.1)
-statements_small (Goto place p rest) h = statements_small rest h.1.1.1
+statements_small (Does c place n rest) h = statements_small rest h.1.1.1
 statements_small (Send place p e rest) h =
     let both = parted (expression_spelling e) _ h.1.1 in
     and_from (names_numbers e) (name_numbers rest) (expression_small e both.0) (statements_small rest both.1.1)
@@ -142,10 +166,7 @@ statements_small (For place v b block rest) h =
     let both = parted (braces (statements_spelling block)) (statements_spelling rest) h.1.1.1.1 in
     and_from (name_numbers block) (name_numbers rest) (statements_small block (inside (statements_spelling block) both.0))
     (statements_small rest both.1)
-statements_small (Add place e b rest) h =
-    let both = parted (expression_spelling e) _ h.1 in
-    and_from (names_numbers e) (name_numbers rest) (expression_small e both.0) (statements_small rest both.1.1.1.1)
-statements_small (Drop place e b rest) h =
+statements_small (Changes c place e x rest) h =
     let both = parted (expression_spelling e) _ h.1 in
     and_from (names_numbers e) (name_numbers rest) (expression_small e both.0) (statements_small rest both.1.1.1.1)
 
@@ -186,13 +207,17 @@ start_number v h =
     let start = parted (bound_spelling v.start) _ high.1.1 in
     signed_number v.start.minus v.start.magnitude.value (magnitude_small v.start.minus v.start.magnitude start.0)
 
+empty_kept : (d : Discipline) → is_kept (datum.Held (empty_of d)) ≡ true
+empty_kept discipline.Bag = refl
+empty_kept discipline.Queue = refl
+
 kept_then : (d : Declaration) (more : List (Name × Domain)) → AskSmall (declaration_spelling d) → AllByRecursion IsStartKept more →
     AllByRecursion IsStartKept (cons_option (state_variable_of d) more)
 kept_then (declaration.In n) more h rest = rest
 kept_then (declaration.Out n) more h rest = rest
 kept_then (declaration.Var v) more h rest = (start_number v h, rest)
 kept_then (declaration.Flag f) more h rest = (refl, rest)
-kept_then (declaration.Bag b) more h rest = (refl, rest)
+kept_then (declaration.Held c) more h rest = (empty_kept c.discipline, rest)
 
 starts_kept : (name : Name) (items : List AtomicItem) → AskSmall (flat_map item_spelling items) →
     AllByRecursion IsStartKept (state_variables_in (sorted_items name items).declarations)

@@ -20,9 +20,12 @@ use Rattle.dv_syntax.specs.declared.tree.BagCall.TheVariants as call
 use Rattle.dv_bag.specs.Arithmetic.{number_or_empty, number_or_overflow, quotient, remainder}
 use Rattle.dv_bag.specs.Arithmetic as arithmetic
 use Rattle.dv_bag.specs.Bag.{Counts, bag_at, count_of, is_number, least, most, size, sum_of, sum_or_overflow, total}
+use Rattle.dv_bag.specs.Collections.{count_in}
 use Rattle.dv_bag.specs.Outcome.{◌>>=◌}
-use Rattle.dv_bag.specs.Reading.{bag_of_datum}
+use Rattle.dv_bag.specs.Reading.{held_of_datum}
 use Rattle.dv_bag.specs.Limits.{greatest_count}
+use Rattle.dv_bag.specs.declared.collection.Collection.{Collection}
+use Rattle.dv_bag.specs.declared.collection.Collection.TheVariants as collection
 use Rattle.dv_bag.specs.declared.fault.Fault.TheVariants as fault
 use Rattle.dv_bag.specs.declared.state.Datum.{Datum}
 use Rattle.dv_bag.specs.declared.state.Datum.TheVariants as datum
@@ -30,12 +33,12 @@ use Rattle.dv_bag.specs.declared.value.Value.{Value}
 use Rattle.dv_bag.specs.declared.value.Value.TheVariants as value
 use Rattle.dv_devs.specs.Behaviour.{are_few}
 use Rattle.dv_eval.specs.Scope.{Scope, names_of, place_of}
-use Rattle.dv_eval.specs.Meaning.{Moment, bag_between, bag_of_name, bag_received, call_result, datum_at, datum_of_name}
-use Rattle.dv_eval.specs.Meaning.{is_decided, loop_value, meaning, number_of, operator_result, prefix_result, same, truth_of}
-use Rattle.dv_eval.specs.Meaning.{value_in_loop, value_of_datum, value_of_name}
+use Rattle.dv_eval.specs.Meaning.{Moment, bag_or_none, bag_received, call_result, collection_between, collection_of_name, datum_at}
+use Rattle.dv_eval.specs.Meaning.{datum_of_name, first, is_decided, loop_value, meaning, number_of, operator_result, prefix_result}
+use Rattle.dv_eval.specs.Meaning.{queue_or_none, same, truth_of, value_in_loop, value_of_datum, value_of_name}
 use Rattle.dv_accepted.proofs.Outcomes.{if_ok_branch, if_ok_then}
 use Rattle.dv_conservative.specs.Sound.{are_of_numbers, is_of_numbers}
-use Rattle.dv_sound.specs.Kept.{are_kept, is_kept, names_numbers}
+use Rattle.dv_sound.specs.Kept.{are_kept, has_numbers, is_kept, names_numbers}
 
 -- a value that is a number of the language
 abbrev pub IsNumber : Value → Type 0
@@ -93,20 +96,20 @@ few_here (b ∷ bs) zero h =
     omega arith
 few_here (b ∷ bs) (suc port) h = let parts = and_parts (nat_le (size b) greatest_count) (are_few bs) h in few_here bs port parts.1
 
--- bags of numbers with few values
-pub record IsFewNumbers (b : Counts) : Type 0 where
-  pub numbers : is_of_numbers b ≡ true
-  pub few : total b ≤ greatest_count
+-- bags and queues of numbers with few values
+pub record IsFewNumbers (c : Collection) : Type 0 where
+  pub numbers : has_numbers c ≡ true
+  pub few : count_in c ≤ greatest_count
 
-empty_few : IsFewNumbers []
+empty_few : IsFewNumbers (collection.Bag [])
 empty_few = record { numbers = refl; few = omega arith }
 
-held_few : (o : Option Datum) → ((d : Datum) → o ≡ Some d → is_kept d ≡ true) → IsFewNumbers (bag_of_datum o)
+held_few : (o : Option Datum) → ((d : Datum) → o ≡ Some d → is_kept d ≡ true) → IsFewNumbers (held_of_datum o)
 held_few None h = empty_few
 held_few (Some (datum.Number n)) h = empty_few
 held_few (Some (datum.Flag b)) h = empty_few
-held_few (Some (datum.Bag b)) h =
-    let parts = and_parts (is_of_numbers b) (nat_le (total b) greatest_count) (h (datum.Bag b) refl) in
+held_few (Some (datum.Held c)) h =
+    let parts = and_parts (has_numbers c) (nat_le (count_in c) greatest_count) (h (datum.Held c) refl) in
     record { numbers = parts.0; few = grind (arith, nat_tests, parts.1) }
 
 -- what is known where an expression stands: numbers in the state, in what has arrived and in loops
@@ -116,15 +119,15 @@ pub record KnowsNumbers (m : Moment) : Type 0 where
   pub few : are_few m.context.arrivals.received ≡ true
   pub loops : list_all (λ (l : ℕ × ℤ). is_number l.1) m.context.loops ≡ true
 
-pub bag_named : (scope : Scope) (m : Moment) (name : ℕ) → KnowsNumbers m → IsFewNumbers (bag_of_name scope m name)
-bag_named scope m name h = by_place (place_of name (names_of scope.variables)) (place_of name scope.inputs)
+pub collection_named : (scope : Scope) (m : Moment) (name : ℕ) → KnowsNumbers m → IsFewNumbers (collection_of_name scope m name)
+collection_named scope m name h = by_place (place_of name (names_of scope.variables)) (place_of name scope.inputs)
   where
-    by_port : (port : Option ℕ) → IsFewNumbers (bag_received m.context.arrivals port)
+    by_port : (port : Option ℕ) → IsFewNumbers (collection.Bag (bag_received m.context.arrivals port))
     by_port None = empty_few
     by_port (Some port) =
         record { numbers = bag_here m.context.arrivals.received port h.received; few = few_here m.context.arrivals.received port h.few }
 
-    by_place : (place port : Option ℕ) → IsFewNumbers (bag_between m place port)
+    by_place : (place port : Option ℕ) → IsFewNumbers (collection_between m place port)
     by_place None port = by_port port
     by_place (Some place) port =
         held_few (slice_get m.state.variables place) (λ d e. all_get is_kept m.state.variables place d h.state e)
@@ -145,7 +148,7 @@ datum_number : (o : Option Datum) → ((d : Datum) → o ≡ Some d → is_kept 
 datum_number None h = refl
 datum_number (Some (datum.Number n)) h = h (datum.Number n) refl
 datum_number (Some (datum.Flag b)) h = truth_number b
-datum_number (Some (datum.Bag b)) h = refl
+datum_number (Some (datum.Held c)) h = refl
 
 at_place : (contents : List Datum) (place : Option ℕ) (d : Datum) → are_kept contents ≡ true → datum_at contents place ≡ Some d →
     is_kept d ≡ true
@@ -188,11 +191,29 @@ sum_number b = by_test (is_number (sum_of b)) refl
     by_test true h = h
     by_test false h = tt
 
-call_number : (c : BagCall) (b : Counts) → IsFewNumbers b → IfOk (call_result c b) IsNumber
-call_number call.Size b h = small_number (total b) h.few
-call_number call.Sum b h = sum_number b
-call_number call.Least b h = least_number b h.numbers
-call_number call.Most b h = most_number b h.numbers
+first_number : (q : List ℤ) → list_all is_number q ≡ true → IfOk (number_or_empty (first q)) IsNumber
+first_number [] h = tt
+first_number (n ∷ q) h = let parts = and_parts (is_number n) (list_all is_number q) h in parts.0
+
+-- what is read of a bag or a queue as one of the other
+bag_numbers : (c : Collection) → has_numbers c ≡ true → is_of_numbers (bag_or_none c) ≡ true
+bag_numbers (collection.Bag b) h = h
+bag_numbers (collection.Queue q) h = refl
+
+queue_numbers : (c : Collection) → has_numbers c ≡ true → list_all is_number (queue_or_none c) ≡ true
+queue_numbers (collection.Bag b) h = refl
+queue_numbers (collection.Queue q) h = h
+
+bag_few : (c : Collection) → total (bag_or_none c) ≤ count_in c
+bag_few (collection.Bag b) = omega arith
+bag_few (collection.Queue q) = omega arith
+
+call_number : (k : BagCall) (c : Collection) → IsFewNumbers c → IfOk (call_result k c) IsNumber
+call_number call.Size c h = small_number (count_in c) h.few
+call_number call.Sum c h = sum_number (bag_or_none c)
+call_number call.Least c h = least_number (bag_or_none c) (bag_numbers c h.numbers)
+call_number call.Most c h = most_number (bag_or_none c) (bag_numbers c h.numbers)
+call_number call.Front c h = first_number (queue_or_none c) (queue_numbers c h.numbers)
 
 -- operators
 prefix_number : (p : Prefix) (v : Value) → IfOk (prefix_result p v) IsNumber
@@ -240,11 +261,13 @@ meaning_number scope m (Binary o a b) small h =
     (λ x n. if_ok_branch (is_decided o x) (Ok (value.Truth (truth_of x))) (meaning scope m b >>= λ y. operator_result o x y) IsNumber
     (truth_number (truth_of x))
     (if_ok_then (meaning scope m b) (λ y. operator_result o x y) IsNumber IsNumber second (λ y k. operator_number o x y n)))
-meaning_number scope m (Call c place b) small h = call_number c (bag_of_name scope m b.number) (bag_named scope m b.number h)
+meaning_number scope m (Call c place x) small h =
+    call_number c (collection_of_name scope m x.number) (collection_named scope m x.number h)
 meaning_number scope m (Elapsed place) small h = number_from (pos m.context.arrivals.elapsed)
 meaning_number scope m (Times place e b) small h =
-    let few = bag_named scope m b.number h in
-    if_ok_then (meaning scope m e) (λ v. Ok (value.Number (pos (count_of (number_of v) (bag_of_name scope m b.number))))) IsNumber IsNumber
+    let c = collection_of_name scope m b.number in
+    let few = collection_named scope m b.number h in
+    if_ok_then (meaning scope m e) (λ v. Ok (value.Number (pos (count_of (number_of v) (bag_or_none c))))) IsNumber IsNumber
     (meaning_number scope m e small h)
-    (λ v n. small_number (count_of (number_of v) (bag_of_name scope m b.number))
-    (omega (arith, count_few (number_of v) (bag_of_name scope m b.number), few.few)))
+    (λ v n. small_number (count_of (number_of v) (bag_or_none c))
+    (omega (arith, count_few (number_of v) (bag_or_none c), bag_few c, few.few)))

@@ -3,9 +3,12 @@ use Rattle.std.specs.Prelude.{◌^◌, Bool, true, ◌&&◌, nat_le, nat_lt, IsT
 use Rattle.std.specs.List.{list_all}
 use Rattle.dv_syntax.specs.Trees.{AtomicTree, Expression, Literal, TruthValue, Named, Parens, Prefixed, Binary, Call, Elapsed}
 use Rattle.dv_syntax.specs.Trees.{Times, RuleTree}
-use Rattle.dv_syntax.specs.Trees.{Statements, Done, Assign, Goto, Send, If, IfElse, For, Add, Drop}
-use Rattle.dv_bag.specs.Bag.{is_number, total}
+use Rattle.dv_syntax.specs.Trees.{Statements, Done, Assign, Does, Send, If, IfElse, For, Changes}
+use Rattle.dv_bag.specs.Bag.{is_number}
+use Rattle.dv_bag.specs.Collections.{count_in}
 use Rattle.dv_bag.specs.Limits.{greatest_count}
+use Rattle.dv_bag.specs.declared.collection.Collection.{Collection}
+use Rattle.dv_bag.specs.declared.collection.Collection.TheVariants as collection
 use Rattle.dv_bag.specs.declared.state.Datum.{Datum}
 use Rattle.dv_bag.specs.declared.state.Datum.TheVariants as datum
 use Rattle.dv_bag.specs.declared.state.State.{State}
@@ -13,11 +16,16 @@ use Rattle.dv_eval.specs.Scope.{start_state}
 use Rattle.dv_accepted.specs.Fitting.{fits}
 use Rattle.dv_conservative.specs.Sound.{is_of_numbers}
 
--- a number of the language, a truth value, or a bag of such numbers with no more than the greatest count of values
+-- is each value of a bag or a queue a number of the language
+abbrev pub has_numbers : Collection → Bool
+has_numbers (collection.Bag b) = is_of_numbers b
+has_numbers (collection.Queue q) = list_all is_number q
+
+-- a number of the language, a truth value, or a bag or a queue of such numbers with no more than the greatest count of values
 abbrev pub is_kept : Datum → Bool
 is_kept (datum.Number n) = is_number n
 is_kept (datum.Flag b) = true
-is_kept (datum.Bag b) = is_of_numbers b && nat_le (total b) greatest_count
+is_kept (datum.Held c) = has_numbers c && nat_le (count_in c) greatest_count
 
 abbrev pub are_kept : List Datum → Bool
 are_kept contents = list_all is_kept contents
@@ -41,14 +49,13 @@ names_numbers (Times place e b) = names_numbers e
 abbrev pub name_numbers : Statements → Bool
 name_numbers Done = true
 name_numbers (Assign variable value rest) = names_numbers value && name_numbers rest
-name_numbers (Goto place phase rest) = name_numbers rest
+name_numbers (Does c place name rest) = name_numbers rest
 name_numbers (Send place port value rest) = names_numbers value && name_numbers rest
 name_numbers (If place condition block rest) = names_numbers condition && (name_numbers block && name_numbers rest)
 name_numbers (IfElse place condition block other rest) =
     names_numbers condition && (name_numbers block && (name_numbers other && name_numbers rest))
 name_numbers (For place v b block rest) = name_numbers block && name_numbers rest
-name_numbers (Add place value b rest) = names_numbers value && name_numbers rest
-name_numbers (Drop place value b rest) = names_numbers value && name_numbers rest
+name_numbers (Changes c place value x rest) = names_numbers value && name_numbers rest
 
 abbrev pub rules_name_numbers : List RuleTree → Bool
 rules_name_numbers rules = list_all (λ (r : RuleTree). name_numbers r.body) rules

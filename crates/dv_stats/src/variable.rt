@@ -3,7 +3,7 @@
 use dv_eval::Domain;
 use dv_trace::Datum;
 
-/// What a variable held: a flag counts as 1 where it is true, and else as 0, and a bag as the number of its values.
+/// What a variable held: a flag counts as 1 where it is true, and else as 0, and a bag or a queue as the number of its values.
 #[derive(Clone, Copy)]
 pub(crate) struct VariableCount {
     now: i64,
@@ -19,7 +19,7 @@ impl VariableCount {
         let start = match domain {
             Domain::Number(range) => range.start,
             Domain::Flag { start } => i64::from(start),
-            Domain::Bag { .. } => 0,
+            Domain::Held { .. } => 0,
         };
         VariableCount {
             now: start,
@@ -39,7 +39,7 @@ impl VariableCount {
         let now = match datum {
             Datum::Number(number) => number,
             Datum::Flag(flag) => i64::from(flag),
-            Datum::Bag(values) => i64::try_from(values.count).unwrap_or(i64::MAX),
+            Datum::Held(values) => i64::try_from(values.count).unwrap_or(i64::MAX),
         };
         self.now = now;
         self.least = now.min(self.least);

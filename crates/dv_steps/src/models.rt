@@ -43,12 +43,20 @@ enum Value {
     Total(Port),
     /// The ticks since the last transition.
     Elapsed,
+    /// How many values the queue has.
+    Waiting,
 }
 
 /// A statement of a rule. Phases have numbers.
 #[derive(Drop)]
 enum Statement {
     Send(Port, Value),
+    /// Each value of the queue is sent.
+    SendQueue(Port),
+    /// A value comes into the queue, where there is room.
+    Push(Value),
+    /// The first value goes from the queue, which is a fault where there is none.
+    Pop,
     Goto(u32),
     /// A `goto` where the variable is above a digit.
     GotoAbove(u32, u32),
@@ -105,6 +113,7 @@ impl fmt::Display for Value {
             Value::Arrived(port) => write!(f, "size({}) % 10", port.input()),
             Value::Total(port) => write!(f, "sum({}) % 10", port.input()),
             Value::Elapsed => f.write_str("elapsed % 10"),
+            Value::Waiting => f.write_str("size(q)"),
         }
     }
 }
@@ -113,6 +122,11 @@ impl fmt::Display for Statement {
     fn fmt<W: fmt::Write>(&self, f: &mut fmt::Formatter<W>) -> fmt::Result {
         match self {
             Statement::Send(port, value) => write!(f, "send {} {value};", port.output()),
+            Statement::SendQueue(port) => {
+                write!(f, "for one in q {{ send {} one; }}", port.output())
+            }
+            Statement::Push(value) => write!(f, "if size(q) < 4 {{ push {value} to q; }}"),
+            Statement::Pop => f.write_str("pop q;"),
             Statement::Goto(phase) => write!(f, "goto p{phase};"),
             Statement::GotoAbove(digit, phase) => {
                 write!(f, "if v > {digit} {{ goto p{phase}; }}")
@@ -126,7 +140,7 @@ impl fmt::Display for Statement {
 /// A random model: two to six components, each of an atomic model of its own, with links between them and to outside.
 pub fn model_text(alloc: Global, source: &mut Source) -> Result<String, AllocError> {
     let components = source.below(5).saturating_add(2);
-    let mut text = String::new(alloc);
+    let mut text = String::from_str(alloc, "version 2;\n")?;
     for component in 0..components {
         push_atomic(&mut text, source, component)?;
     }
@@ -135,11 +149,11 @@ pub fn model_text(alloc: Global, source: &mut Source) -> Result<String, AllocErr
     Ok(text)
 }
 
-/// An atomic model of one variable and one to four phases.
+/// An atomic model of one variable, one queue and one to four phases.
 fn push_atomic(text: &mut String, source: &mut Source, number: u32) -> Result<(), AllocError> {
     let phases = source.below(4).saturating_add(1);
     write!(text, "atomic A{number} {{ in x; in w; out y; out u; ")?;
-    write!(text, "var v: 0..9 = {}; ", source.below(10))?;
+    write!(text, "var v: 0..9 = {}; queue q 4; ", source.below(10))?;
     write!(text, "start p{}; phases p0", source.below(phases))?;
     for phase in 1..phases {
         write!(text, ", p{phase}")?;
@@ -201,6 +215,7 @@ fn random_hold(source: &mut Source) -> Hold {
 fn random_statement(source: &mut Source, rule: Rule, phases: u32) -> Statement {
     let value = random_value(source, rule);
     match rule {
+        Rule::Output if source.is_one_in(4) => Statement::SendQueue(random_port(source)),
         Rule::Output => Statement::Send(random_port(source), value),
         Rule::Internal | Rule::External | Rule::Confluent => change(source, value, phases),
     }
@@ -208,10 +223,12 @@ fn random_statement(source: &mut Source, rule: Rule, phases: u32) -> Statement {
 
 /// A statement that changes the state; it is seldom one that may have a fault.
 fn change(source: &mut Source, value: Value, phases: u32) -> Statement {
-    match source.below(12) {
-        0..=3 => Statement::Goto(source.below(phases)),
-        4..=6 => Statement::GotoAbove(source.below(10), source.below(phases)),
-        7..=10 => Statement::Set(value),
+    match source.below(18) {
+        0..=4 => Statement::Goto(source.below(phases)),
+        5..=7 => Statement::GotoAbove(source.below(10), source.below(phases)),
+        8..=11 => Statement::Set(value),
+        12..=15 => Statement::Push(value),
+        16 => Statement::Pop,
         _ => Statement::Raise,
     }
 }
@@ -226,9 +243,10 @@ fn random_value(source: &mut Source, rule: Rule) -> Value {
 }
 
 fn own_value(source: &mut Source) -> Value {
-    match source.below(3) {
+    match source.below(4) {
         0 => Value::Digit(source.below(10)),
         1 => Value::Variable,
+        2 => Value::Waiting,
         _ => Value::Next,
     }
 }

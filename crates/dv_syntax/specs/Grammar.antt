@@ -1,6 +1,10 @@
 -- The grammar of model texts: how a tree is spelled by tokens, and which trees are those of a text.
 use Rattle.std.specs.Prelude.{◌≡◌, ℕ, ◌+◌, ◌<◌, ◌≤◌, Bool, true, false, List, [], ◌∷◌, ◌++◌, length, Option, Some, None, max}
 use Rattle.std.specs.List.{flat_map, AllByRecursion}
+use Rattle.dv_bag.specs.declared.discipline.Change.{Change}
+use Rattle.dv_bag.specs.declared.discipline.Change.TheVariants as change
+use Rattle.dv_bag.specs.declared.discipline.Discipline.{Discipline}
+use Rattle.dv_bag.specs.declared.discipline.Discipline.TheVariants as discipline
 use Rattle.dv_lex.specs.declared.token.Token.{Token}
 use Rattle.dv_lex.specs.declared.token.TokenKind.{TokenKind}
 use Rattle.dv_lex.specs.declared.token.TokenKind.TheVariants as kind
@@ -18,10 +22,12 @@ use Rattle.dv_syntax.specs.declared.tree.Operator.{Operator}
 use Rattle.dv_syntax.specs.declared.tree.Operator.TheVariants as operator
 use Rattle.dv_syntax.specs.declared.tree.BagCall.{BagCall}
 use Rattle.dv_syntax.specs.declared.tree.BagCall.TheVariants as call
+use Rattle.dv_syntax.specs.declared.tree.Command.{Command}
+use Rattle.dv_syntax.specs.declared.tree.Command.TheVariants as command
 use Rattle.dv_syntax.specs.declared.tree.Bound.{Bound}
 use Rattle.dv_syntax.specs.declared.tree.Variable.{Variable}
 use Rattle.dv_syntax.specs.declared.tree.Flag.{Flag}
-use Rattle.dv_syntax.specs.declared.tree.StateBag.{StateBag}
+use Rattle.dv_syntax.specs.declared.tree.StateCollection.{StateCollection}
 use Rattle.dv_syntax.specs.declared.tree.Declaration.{Declaration}
 use Rattle.dv_syntax.specs.declared.tree.Declaration.TheVariants as declaration
 use Rattle.dv_syntax.specs.declared.tree.Part.{Part}
@@ -31,7 +37,7 @@ use Rattle.dv_syntax.specs.declared.tree.RuleSort.{RuleSort}
 use Rattle.dv_syntax.specs.declared.tree.RuleSort.TheVariants as sort
 use Rattle.dv_syntax.specs.declared.tree.End.{End}
 use Rattle.dv_syntax.specs.Trees.{Expression, Literal, TruthValue, Named, Parens, Prefixed, Binary, Call, Elapsed, Times}
-use Rattle.dv_syntax.specs.Trees.{Statements, Done, Assign, Goto, Send, If, IfElse, For, Add, Drop, PhasesTree, HoldTree}
+use Rattle.dv_syntax.specs.Trees.{Statements, Done, Assign, Does, Send, If, IfElse, For, Changes, PhasesTree, HoldTree}
 use Rattle.dv_syntax.specs.Trees.{RuleTree, FileTree}
 use Rattle.dv_syntax.specs.Written.{AtomicItem, Declares, Lists, Starts, Holds, Rules, CoupledItem, Inputs, Outputs, Contains}
 use Rattle.dv_syntax.specs.Written.{Couples, WrittenModel, WrittenAtomic, WrittenCoupled, WrittenFile, sorted}
@@ -114,6 +120,7 @@ call_word call.Size = keyword.Size
 call_word call.Sum = keyword.Sum
 call_word call.Least = keyword.Least
 call_word call.Most = keyword.Most
+call_word call.Front = keyword.Front
 
 abbrev pub expression_spelling : Expression → List Spelled
 expression_spelling (Literal n) = number n ∷ []
@@ -206,11 +213,26 @@ pub record IsExpression (limits : Limits) (e : Expression) : Type 0 where
 
 -- ---- Statements
 
+abbrev pub command_word : Command → Keyword
+command_word command.Goto = keyword.Goto
+command_word command.Pop = keyword.Pop
+
+abbrev pub change_word : Change → Keyword
+change_word change.Add = keyword.Add
+change_word change.Drop = keyword.Drop
+change_word change.Push = keyword.Push
+
+-- what stands between the value and the collection
+abbrev pub change_preposition : Change → Keyword
+change_preposition change.Add = keyword.To
+change_preposition change.Drop = keyword.From
+change_preposition change.Push = keyword.To
+
 abbrev pub statements_spelling : Statements → List Spelled
 statements_spelling Done = []
 statements_spelling (Assign n e rest) =
     name n ∷ sign symbol.Assign ∷ (expression_spelling e ++ sign symbol.Semicolon ∷ statements_spelling rest)
-statements_spelling (Goto place p rest) = word_at keyword.Goto place ∷ name p ∷ sign symbol.Semicolon ∷ statements_spelling rest
+statements_spelling (Does c place n rest) = word_at (command_word c) place ∷ name n ∷ sign symbol.Semicolon ∷ statements_spelling rest
 statements_spelling (Send place p e rest) =
     word_at keyword.Send place ∷ name p ∷ (expression_spelling e ++ sign symbol.Semicolon ∷ statements_spelling rest)
 statements_spelling (If place e block rest) =
@@ -223,48 +245,42 @@ statements_spelling (IfElse place e block other rest) =
 statements_spelling (For place v b block rest) =
     word_at keyword.For place ∷ name v ∷ word keyword.In ∷ name b
     ∷ (braces (statements_spelling block) ++ statements_spelling rest)
-statements_spelling (Add place e b rest) =
-    word_at keyword.Add place
-    ∷ (expression_spelling e ++ word keyword.To ∷ name b ∷ sign symbol.Semicolon ∷ statements_spelling rest)
-statements_spelling (Drop place e b rest) =
-    word_at keyword.Drop place
-    ∷ (expression_spelling e ++ word keyword.From ∷ name b ∷ sign symbol.Semicolon ∷ statements_spelling rest)
+statements_spelling (Changes c place e x rest) =
+    word_at (change_word c) place
+    ∷ (expression_spelling e ++ word (change_preposition c) ∷ name x ∷ sign symbol.Semicolon ∷ statements_spelling rest)
 
 -- how many blocks lie in one another here, the one that holds these statements counted
 abbrev pub block_depth : Statements → ℕ
 block_depth Done = 1
 block_depth (Assign n e rest) = block_depth rest
-block_depth (Goto place p rest) = block_depth rest
+block_depth (Does c place n rest) = block_depth rest
 block_depth (Send place p e rest) = block_depth rest
 block_depth (If place e block rest) = max (block_depth block + 1) (block_depth rest)
 block_depth (IfElse place e block other rest) = max (max (block_depth block + 1) (block_depth other + 1)) (block_depth rest)
 block_depth (For place v b block rest) = max (block_depth block + 1) (block_depth rest)
-block_depth (Add place e b rest) = block_depth rest
-block_depth (Drop place e b rest) = block_depth rest
+block_depth (Changes c place e x rest) = block_depth rest
 
 -- how many loops lie in one another in these statements
 abbrev pub loop_depth : Statements → ℕ
 loop_depth Done = 0
 loop_depth (Assign n e rest) = loop_depth rest
-loop_depth (Goto place p rest) = loop_depth rest
+loop_depth (Does c place n rest) = loop_depth rest
 loop_depth (Send place p e rest) = loop_depth rest
 loop_depth (If place e block rest) = max (loop_depth block) (loop_depth rest)
 loop_depth (IfElse place e block other rest) = max (max (loop_depth block) (loop_depth other)) (loop_depth rest)
 loop_depth (For place v b block rest) = max (loop_depth block + 1) (loop_depth rest)
-loop_depth (Add place e b rest) = loop_depth rest
-loop_depth (Drop place e b rest) = loop_depth rest
+loop_depth (Changes c place e x rest) = loop_depth rest
 
 abbrev pub AreStatements : Limits → Statements → Type 0
 AreStatements limits Done = Unit {0}
 AreStatements limits (Assign n e rest) = IsExpression limits e × AreStatements limits rest
-AreStatements limits (Goto place p rest) = AreStatements limits rest
+AreStatements limits (Does c place n rest) = AreStatements limits rest
 AreStatements limits (Send place p e rest) = IsExpression limits e × AreStatements limits rest
 AreStatements limits (If place e block rest) = IsExpression limits e × AreStatements limits block × AreStatements limits rest
 AreStatements limits (IfElse place e block other rest) =
     IsExpression limits e × AreStatements limits block × AreStatements limits other × AreStatements limits rest
 AreStatements limits (For place v b block rest) = AreStatements limits block × AreStatements limits rest
-AreStatements limits (Add place e b rest) = IsExpression limits e × AreStatements limits rest
-AreStatements limits (Drop place e b rest) = IsExpression limits e × AreStatements limits rest
+AreStatements limits (Changes c place e x rest) = IsExpression limits e × AreStatements limits rest
 
 -- ---- Atomic models
 
@@ -285,8 +301,12 @@ variable_spelling v =
 abbrev pub flag_spelling : Flag → List Spelled
 flag_spelling f = word keyword.Flag ∷ name f.name ∷ sign symbol.Equal ∷ word (truth_word f.start) ∷ sign symbol.Semicolon ∷ []
 
-abbrev pub bag_spelling : StateBag → List Spelled
-bag_spelling b = word keyword.Bag ∷ name b.name ∷ number b.capacity ∷ sign symbol.Semicolon ∷ []
+abbrev pub discipline_word : Discipline → Keyword
+discipline_word discipline.Bag = keyword.Bag
+discipline_word discipline.Queue = keyword.Queue
+
+abbrev pub collection_spelling : StateCollection → List Spelled
+collection_spelling c = word (discipline_word c.discipline) ∷ name c.name ∷ number c.capacity ∷ sign symbol.Semicolon ∷ []
 
 abbrev pub input_spelling : Name → List Spelled
 input_spelling n = word keyword.In ∷ name n ∷ sign symbol.Semicolon ∷ []
@@ -299,7 +319,7 @@ declaration_spelling (declaration.In n) = input_spelling n
 declaration_spelling (declaration.Out n) = output_spelling n
 declaration_spelling (declaration.Var v) = variable_spelling v
 declaration_spelling (declaration.Flag f) = flag_spelling f
-declaration_spelling (declaration.Bag b) = bag_spelling b
+declaration_spelling (declaration.Held c) = collection_spelling c
 
 -- names with commas between them
 abbrev pub names_spelling : List Name → List Spelled
@@ -382,6 +402,7 @@ IsModel limits (WrittenCoupled n items) = Unit {0}
 -- the number by which a header says the version
 abbrev pub version_number : Version → ℕ
 version_number version.First = 1
+version_number version.Second = 2
 
 abbrev pub header_spelling : Option Version → List Spelled
 header_spelling None = []

@@ -1,11 +1,13 @@
 -- Syntax trees without where they lie in memory, and the tree that a value of the code stands for. The items of a model are
 -- sorted by what they say, each kind in the order of the text: every question about a model is asked of these lists.
 use Rattle.std.specs.Prelude.{ℕ, Bool, List, [], ◌∷◌, Option, Some, None, map}
+use Rattle.dv_bag.specs.declared.discipline.Change.{Change}
 use Rattle.dv_syntax.specs.declared.tree.Name.{Name}
 use Rattle.dv_syntax.specs.declared.tree.Number.{Number}
 use Rattle.dv_syntax.specs.declared.tree.Prefix.{Prefix}
 use Rattle.dv_syntax.specs.declared.tree.Operator.{Operator}
 use Rattle.dv_syntax.specs.declared.tree.BagCall.{BagCall}
+use Rattle.dv_syntax.specs.declared.tree.Command.{Command}
 use Rattle.dv_syntax.specs.declared.tree.Declaration.{Declaration}
 use Rattle.dv_syntax.specs.declared.tree.Start.{Start}
 use Rattle.dv_syntax.specs.declared.tree.RuleSort.{RuleSort}
@@ -43,13 +45,12 @@ pub data Expression : Type 0 where
 pub data Statements : Type 0 where
   Done : Statements
   Assign : (variable : Name) → (value : Expression) → (rest : Statements) → Statements
-  Goto : (place : ℕ) → (phase : Name) → (rest : Statements) → Statements
+  Does : (command : Command) → (place : ℕ) → (name : Name) → (rest : Statements) → Statements
   Send : (place : ℕ) → (port : Name) → (value : Expression) → (rest : Statements) → Statements
   If : (place : ℕ) → (condition : Expression) → (block rest : Statements) → Statements
   IfElse : (place : ℕ) → (condition : Expression) → (block other rest : Statements) → Statements
   For : (place : ℕ) → (variable bag : Name) → (block rest : Statements) → Statements
-  Add : (place : ℕ) → (value : Expression) → (bag : Name) → (rest : Statements) → Statements
-  Drop : (place : ℕ) → (value : Expression) → (bag : Name) → (rest : Statements) → Statements
+  Changes : (change : Change) → (place : ℕ) → (value : Expression) → (collection : Name) → (rest : Statements) → Statements
 
 -- an item of phases
 pub record PhasesTree : Type 0 where
@@ -67,7 +68,7 @@ pub record RuleTree : Type 0 where
   pub phase : Name
   pub body : Statements
 
--- an atomic model: ports, variables, flags and bags, which share their names; phases; starts; holds; rules
+-- an atomic model: ports, variables, flags, bags and queues, which share their names; phases; starts; holds; rules
 pub record AtomicTree : Type 0 where
   pub name : Name
   pub declarations : List Declaration
@@ -107,14 +108,13 @@ abbrev mutual
   -- a statement of the code, before a rest
   pub statement_before : Stmt → Statements → Statements
   statement_before (stmt.Assign name e) rest = Assign name (expression_of e) rest
-  statement_before (stmt.Goto place phase) rest = Goto place phase rest
+  statement_before (stmt.Command c place name) rest = Does c place name rest
   statement_before (stmt.Send place port e) rest = Send place port (expression_of e) rest
   statement_before (stmt.If' place e shape block) rest = If place (expression_of e) (row_statements block) rest
   statement_before (stmt.IfElse' place e shape block other_shape other) rest =
       IfElse place (expression_of e) (row_statements block) (row_statements other) rest
   statement_before (stmt.For' place v b shape block) rest = For place v b (row_statements block) rest
-  statement_before (stmt.Add place e b) rest = Add place (expression_of e) b rest
-  statement_before (stmt.Drop place e b) rest = Drop place (expression_of e) b rest
+  statement_before (stmt.Change c place e x) rest = Changes c place (expression_of e) x rest
 
   pub row_statements : {n : _} → Row_of-Stmt n → Statements
   row_statements end_of-Stmt = Done

@@ -7,7 +7,7 @@ pub mod laws;
 pub mod tree;
 
 pub use tree::{
-    Atomic, BagCall, Block, Bound, Coupled, Declaration, End, Expr, File, Flag, Hold, Link, Model,
-    Name, Number, Operator, Part, Phases, Prefix, Rule, RuleSort, Start, StateBag, Stmt, Ticks,
-    Variable, Version,
+    Atomic, BagCall, Block, Bound, Command, Coupled, Declaration, End, Expr, File, Flag, Hold,
+    Link, Model, Name, Number, Operator, Part, Phases, Prefix, Rule, RuleSort, Start,
+    StateCollection, Stmt, Ticks, Variable, Version,
 };

@@ -1,12 +1,14 @@
 //! Syntax trees: what a model text says, its items sorted by what they say, with the parentheses and the places that
 //! refusals name. A place is the number of the bytes of the text before a token.
 
+use dv_bag::{Change, Discipline};
 use dv_lex::Numeral;
 
 /// The version of the language that a header says.
 #[derive(Clone, Copy, Debug, PartialEq, Eq)]
 pub enum Version {
     First,
+    Second,
 }
 
 /// A name where it stands: its number in the table of names, and its place.
@@ -48,7 +50,7 @@ pub enum Operator {
     AtLeast,
 }
 
-/// What a call asks of a bag.
+/// What a call asks of a collection.
 #[derive(Clone, Copy, Debug, PartialEq, Eq)]
 pub enum BagCall {
     /// The number of its values, each copy counted.
@@ -59,6 +61,17 @@ pub enum BagCall {
     Least,
     /// Its greatest value.
     Most,
+    /// The first value of a queue.
+    Front,
+}
+
+/// What a statement of a word and a name does.
+#[derive(Clone, Copy, Debug, PartialEq, Eq)]
+pub enum Command {
+    /// It goes to a phase.
+    Goto,
+    /// It takes the first value from a queue.
+    Pop,
 }
 
 /// An expression. A place is that of the node's first token where no operand has it.
@@ -85,7 +98,7 @@ pub enum Expr {
         left: Box<Expr>,
         right: Box<Expr>,
     },
-    /// `size(bag)`, and `sum`, `least` and `most` alike
+    /// `size(bag)`, and `sum`, `least`, `most` and `front` alike
     Call {
         call: BagCall,
         place: u32,
@@ -112,10 +125,11 @@ pub enum Stmt {
         variable: Name,
         value: Expr,
     },
-    /// `goto phase;`
-    Goto {
+    /// `goto phase;` or `pop queue;`
+    Command {
+        command: Command,
         place: u32,
-        phase: Name,
+        name: Name,
     },
     /// `send port value;`
     Send {
@@ -143,17 +157,12 @@ pub enum Stmt {
         bag: Name,
         block: Block,
     },
-    /// `add value to bag;`
-    Add {
+    /// `add value to bag;`, `drop value from bag;` or `push value to queue;`
+    Change {
+        change: Change,
         place: u32,
         value: Expr,
-        bag: Name,
-    },
-    /// `drop value from bag;`
-    Drop {
-        place: u32,
-        value: Expr,
-        bag: Name,
+        collection: Name,
     },
 }
 
@@ -187,14 +196,15 @@ pub struct Flag {
     pub start: bool,
 }
 
-/// `bag name capacity;`
+/// `bag name capacity;` or `queue name capacity;`
 #[derive(Clone, Copy, Debug, PartialEq, Eq)]
-pub struct StateBag {
+pub struct StateCollection {
+    pub discipline: Discipline,
     pub name: Name,
     pub capacity: Number,
 }
 
-/// What declares a name that ports, variables, flags and bags share.
+/// What declares a name that ports, variables, flags, bags and queues share.
 #[derive(Clone, Copy, Debug, PartialEq, Eq)]
 pub enum Declaration {
     /// `in port;`
@@ -205,8 +215,8 @@ pub enum Declaration {
     Var(Variable),
     /// `flag name = start;`
     Flag(Flag),
-    /// `bag name capacity;`
-    Bag(StateBag),
+    /// `bag name capacity;` or `queue name capacity;`
+    Held(StateCollection),
 }
 
 /// `phases first, second, ..;` and the place of its first word.

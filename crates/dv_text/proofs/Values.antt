@@ -1,11 +1,13 @@
--- The values of a bag as text.
+-- The values of a bag and of a queue as text.
 use Rattle.std.proofs.Common.{◌≡◌, ℕ, zero, suc, ◌+◌, ◌-◌, ◌<◌, ◌≤◌, drop, Bool, true, false, cond, List, [], ◌∷◌, ◌++◌, length}
 use Rattle.std.proofs.Common.{get_or, map, replicate, refl, sym, ap, ◌∙◌, append_assoc, append-nil, arith, ℤ}
+use Rattle.std.specs.Prelude.{Some, slice_get}
 use Rattle.std.proofs.lemmas.List.{at_drop_more, at_drop_all}
 use Rattle.std.specs.Fmt.{signed_decimal}
 use Rattle.dv_bag.specs.Bag.{Counts, IsBag, IsAbove, values_of}
-use Rattle.dv_text.specs.Texts.{values_text, with_commas}
+use Rattle.dv_text.specs.Texts.{numbers_text, values_text, with_commas}
 use Rattle.dv_text.specs.Writing.{values_from}
+use Rattle.dv_text.proofs.Places.{left_at}
 
 -- commas between are commas before all but the first
 with_commas-from : (vs : List ℤ) → with_commas (map signed_decimal vs) ≡ values_from true vs
@@ -21,6 +23,28 @@ values_from-append [] ws = refl
 values_from-append (v ∷ vs) ws =
     ap (λ t. 44 ∷ (signed_decimal v ++ t)) (values_from-append vs ws)
     ∙ ap (λ t. 44 ∷ t) (sym (append_assoc (signed_decimal v) (values_from false vs) (values_from false ws)))
+
+-- one more value of a queue
+pub queue_step : (line line' whole : List ℕ) (is_first : Bool) (q : List ℤ) (i : ℕ) (v : ℤ) → slice_get q i ≡ Some v →
+    line ++ values_from is_first (drop i q) ≡ whole → line' ≡ line ++ (cond is_first [] (44 ∷ []) ++ signed_decimal v) →
+    line' ++ values_from false (drop (i + 1) q) ≡ whole
+queue_step line line' whole is_first q i v there before more =
+    let comma = cond is_first [] (44 ∷ []) in
+    let rest = values_from false (drop (i + 1) q) in
+    let left = ap (λ vs. line ++ values_from is_first vs) (left_at q i v there) in
+    ap (λ t. t ++ rest) more
+    ∙ append_assoc line (comma ++ signed_decimal v) rest
+    ∙ ap (λ t. line ++ t) (append_assoc comma (signed_decimal v) rest)
+    ∙ sym left ∙ before
+
+-- no value is left
+pub queue_end : (line start : List ℕ) (is_first : Bool) (q : List ℤ) (i : ℕ) → length q ≤ i →
+    line ++ values_from is_first (drop i q) ≡ start ++ values_from true q → line ≡ start ++ numbers_text q
+queue_end line start is_first q i past before =
+    sym (append-nil line)
+    ∙ sym (at_drop_all (λ vs. line ++ values_from is_first vs) q i past)
+    ∙ before
+    ∙ ap (λ t. start ++ t) (sym (with_commas-from q))
 
 -- some copies of a value, and the values after it
 pub values_from-copies : (is_first : Bool) (n : ℕ) (v : ℤ) (vs : List ℤ) → 0 < n →

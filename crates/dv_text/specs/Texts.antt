@@ -1,5 +1,5 @@
 -- The bytes of a trace: the text of each instant, one after the other, and the end.
-use Rattle.std.specs.Prelude.{ℕ, zero, suc, true, false, nat_eq, if◌then◌else◌, List, [], ◌∷◌, ◌++◌, map, slice_get, unwrap_or}
+use Rattle.std.specs.Prelude.{ℕ, zero, suc, ℤ, true, false, nat_eq, if◌then◌else◌, List, [], ◌∷◌, ◌++◌, map, slice_get, unwrap_or}
 use Rattle.std.specs.Prelude.{codes, filter}
 use Rattle.std.specs.Fmt.{decimal, signed_decimal}
 use Rattle.std.specs.List.{flat_map}
@@ -8,6 +8,7 @@ use Rattle.dv_time.specs.declared.time.Time.{Time}
 use Rattle.dv_time.specs.Time.{end_of, is_before, time_cmp, time_of, time_text}
 use Rattle.dv_tree.specs.Paths.{name_at}
 use Rattle.dv_bag.specs.Bag.{Counts, values_of, size}
+use Rattle.dv_bag.specs.Collections.{values_in}
 use Rattle.dv_bag.specs.Part.{PartOf}
 use Rattle.dv_bag.specs.Words.{fault_word, kind_word}
 use Rattle.dv_bag.specs.declared.state.Datum.{Datum}
@@ -34,15 +35,20 @@ with_commas [] = []
 with_commas (x ∷ []) = x
 with_commas (x ∷ y ∷ xs) = x ++ (44 ∷ with_commas (y ∷ xs))
 
+-- numbers with a comma between them
+abbrev pub numbers_text : List ℤ → List ℕ
+numbers_text numbers = with_commas (map signed_decimal numbers)
+
 -- ascending values, each copy once
 abbrev pub values_text : Counts → List ℕ
-values_text b = with_commas (map signed_decimal (values_of b))
+values_text b = numbers_text (values_of b)
 
+-- a bag has its values ascending, each copy once, and a queue from the first to the last
 abbrev pub datum_text : Datum → List ℕ
 datum_text (datum.Number n) = signed_decimal n
 datum_text (datum.Flag true) = codes "true"
 datum_text (datum.Flag false) = codes "false"
-datum_text (datum.Bag b) = 91 ∷ (values_text b ++ (93 ∷ []))
+datum_text (datum.Held c) = 91 ∷ (numbers_text (values_in c) ++ (93 ∷ []))
 
 -- ` name=value` for each state variable
 abbrev pub variables_text : List (List ℕ) → List Datum → List ℕ

@@ -1,16 +1,20 @@
 //! Laws of the text of a trace. Each function stands for the law in its contract; its body only names
 //! those that it rests on.
 
-ghost use Rattle.std.specs.Prelude.{◌≡◌, ◌≤◌, ℕ, [], ◌∷◌, ◌++◌, List, codes};
+ghost use Rattle.std.specs.Prelude.{◌≡◌, ◌≤◌, ℕ, [], ◌∷◌, ◌++◌, List, codes, pos};
 ghost use Rattle.dv_time.specs.Time.{end_of};
+ghost use Rattle.dv_bag.specs.Collections.{empty_of};
 ghost use Rattle.dv_bag.specs.Part.{IsByTime};
+ghost use Rattle.dv_bag.specs.declared.collection.Collection.TheVariants as collection;
+ghost use Rattle.dv_bag.specs.declared.discipline.Discipline.{Discipline};
+ghost use Rattle.dv_bag.specs.declared.state.Datum.TheVariants as datum;
 ghost use Rattle.dv_devs.specs.Cuts.{trace_between};
 ghost use Rattle.dv_devs.specs.Network.{Network, trace_before};
 ghost use Rattle.dv_devs.specs.Models.{clock};
 ghost use Rattle.dv_devs.specs.Rows.{no_input};
 ghost use Rattle.dv_text.specs.Clock.{clock_names, clock_outputs};
 ghost use Rattle.dv_text.specs.declared.writing.Ending.TheVariants.{Whole};
-ghost use Rattle.dv_text.specs.Texts.{ComponentNames, ending_text, instants_text, part_text, whole_text};
+ghost use Rattle.dv_text.specs.Texts.{ComponentNames, datum_text, ending_text, instants_text, part_text, whole_text};
 
 use dv_devs::laws::parts::{
     cuts_are_earlier_parts, instants_are_at_their_time, parts_are_by_time, the_rest_is_between,
@@ -56,4 +60,13 @@ pub fn a_clock_ticks()
         codes "5.0 t i run n=1 > beat:0" ++ (10 ∷ (codes "5.0 out o:0" ++ (10 ∷
         (codes "10.0 t i run n=2 > beat:1" ++ (10 ∷ (codes "10.0 out o:1" ++ (10 ∷
         (codes "whole 12" ++ (10 ∷ []))))))))) }
+{}
+
+/// A queue is printed from its first value to its last, and a bag in ascending order, each copy once.
+pub fn collections_are_printed()
+    ensures queue { datum_text (datum.Held (collection.Queue (pos 7 ∷ pos 5 ∷ [])))
+        ≡ codes "[7,5]" }
+    ensures bag { datum_text (datum.Held (collection.Bag ((pos 5, 1) ∷ (pos 7, 2) ∷ [])))
+        ≡ codes "[5,7,7]" }
+    ensures empty { (d : Discipline) → datum_text (datum.Held (empty_of d)) ≡ codes "[]" }
 {}

@@ -5,11 +5,12 @@ ghost use Rattle.std.specs.Ordering.{is_eq};
 ghost use Rattle.dv_time.specs.Time.{time_cmp, time_text};
 ghost use Rattle.dv_bag.specs.Reading.{datum_of};
 ghost use Rattle.std.specs.Fmt.{signed_decimal};
-ghost use Rattle.dv_text.specs.Texts.{clock_text, clocks_text, datum_text, ending_text, port_text, values_text};
+ghost use Rattle.dv_bag.specs.Collections.{values_in};
+ghost use Rattle.dv_text.specs.Texts.{clock_text, clocks_text, datum_text, ending_text, numbers_text, port_text, values_text};
 ghost use Rattle.dv_text.specs.Writing.{values_from};
 
 use crate::writing::Ending;
-use dv_bag::{Bag, DatumView};
+use dv_bag::{Bag, Collection, DatumView, Queue};
 use dv_time::Time;
 use itoa::Buffer;
 use std::alloc::AllocError;
@@ -79,7 +80,34 @@ pub fn push_values(line: &mut String, values: &Bag) -> Result<(), AllocError>
     Ok(())
 }
 
-/// What a state variable holds: a number, a truth value, or a bag in brackets.
+// The values of a queue from the first to the last, with commas between them.
+fn push_queue(line: &mut String, values: &Queue) -> Result<(), AllocError>
+    ensures { OnOk result (string_bytes line.new ≡
+        string_bytes line.old ++ numbers_text values.now) }
+{
+    let mut is_first = true;
+    for number in 0..values.len() {
+        let Some(value) = values.get(number) else {
+            unreachable!()
+        };
+        push_value(line, is_first, value)?;
+        is_first = false;
+    }
+    Ok(())
+}
+
+// The values of a bag or a queue, with commas between them.
+fn push_collection(line: &mut String, held: &Collection) -> Result<(), AllocError>
+    ensures { OnOk result (string_bytes line.new ≡
+        string_bytes line.old ++ numbers_text (values_in held.now)) }
+{
+    match held {
+        Collection::Bag(bag) => push_values(line, bag),
+        Collection::Queue(queue) => push_queue(line, queue),
+    }
+}
+
+/// What a state variable holds: a number, a truth value, or a bag or a queue in brackets.
 pub fn push_datum(line: &mut String, datum: DatumView) -> Result<(), AllocError>
     ensures { OnOk result (string_bytes line.new ≡
         string_bytes line.old ++ datum_text (datum_of datum.entry)) }
@@ -88,9 +116,9 @@ pub fn push_datum(line: &mut String, datum: DatumView) -> Result<(), AllocError>
         DatumView::Number(number) => push_number(line, number),
         DatumView::Flag(true) => line.push_str("true"),
         DatumView::Flag(false) => line.push_str("false"),
-        DatumView::Bag(values) => {
+        DatumView::Held(held) => {
             line.push('[')?;
-            push_values(line, values)?;
+            push_collection(line, held)?;
             line.push(']')
         }
     }

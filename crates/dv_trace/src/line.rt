@@ -3,8 +3,8 @@
 use dv_bag::{Fault, Kind};
 use dv_time::Time;
 
-/// A bag's values, as the line has them: ascending, with commas between them, copies repeated. Without values the text is
-/// empty.
+/// The values of a bag or a queue, as the line has them, with commas between them: those of a bag ascend, copies repeated, and
+/// those of a queue go from the first to the last. Without values the text is empty.
 #[derive(Clone, Copy, Debug, PartialEq, Eq)]
 pub struct Values<'a> {
     pub text: &'a str,
@@ -12,12 +12,12 @@ pub struct Values<'a> {
     pub count: u64,
 }
 
-/// What a variable, a flag or a bag holds.
+/// What a variable, a flag, a bag or a queue holds.
 #[derive(Clone, Copy, Debug, PartialEq, Eq)]
 pub enum Datum<'a> {
     Number(i64),
     Flag(bool),
-    Bag(Values<'a>),
+    Held(Values<'a>),
 }
 
 /// What was sent by a port, or left the model there: the place of the port, and the values, of which there are some.
@@ -30,7 +30,7 @@ pub struct Sending<'a> {
 /// What happened to a component.
 #[derive(Debug, Drop)]
 pub enum Happening<'a> {
-    /// A transition to a phase, by its place, and what the variables, flags and bags hold then, all of them in their order.
+    /// A transition to a phase, by its place, and what the variables, flags, bags and queues hold then, in their order.
     Transition {
         kind: Kind,
         phase: u32,

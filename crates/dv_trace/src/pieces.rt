@@ -4,6 +4,7 @@ use crate::line::{Datum, Sending};
 use crate::names::Directory;
 use crate::refusal::{LineError, TraceReason};
 use crate::values::{datum_in, values_in};
+use dv_bag::Discipline;
 use dv_eval::{Domain, Scope};
 use dv_tree::Tree;
 use std::alloc::Global;
@@ -23,7 +24,7 @@ fn variable_in<'a>(name: &str, domain: Domain, word: &'a str) -> Result<Datum<'a
     }
 }
 
-/// What the variables, flags and bags hold, in their order, and what is behind them.
+/// What the variables, flags, bags and queues hold, in their order, and what is behind them.
 pub(crate) fn split_state<'a>(
     alloc: Global,
     tree: &Tree,
@@ -73,7 +74,7 @@ fn sending_in<'a>(
     let Some(port) = port_of(names, sender, name) else {
         return Err(TraceReason::Port);
     };
-    match values_in(values) {
+    match values_in(Discipline::Bag, values) {
         Some(values) => Ok(Sending { port, values }),
         None => Err(TraceReason::Value),
     }

@@ -2,25 +2,26 @@
 
 use crate::line::{Datum, Values};
 use crate::numbers::value_in;
+use dv_bag::Discipline;
 use dv_eval::Domain;
 
-/// Some values with commas between them, ascending.
-pub(crate) fn values_in(text: &str) -> Option<Values<'_>> {
-    let mut least = i64::MIN;
+/// Some values with commas between them, as a collection of this discipline has them: those of a bag ascend.
+pub(crate) fn values_in(discipline: Discipline, text: &str) -> Option<Values<'_>> {
+    let mut before = i64::MIN;
     let mut count: u64 = 0;
     for piece in text.split(',') {
         let value = value_in(piece)?;
-        if value < least {
+        if discipline == Discipline::Bag && value < before {
             return None;
         }
-        least = value;
+        before = value;
         count = count.saturating_add(1);
     }
     Some(Values { text, count })
 }
 
-// A bag in brackets.
-fn bag_in(text: &str) -> Option<Values<'_>> {
+// A collection in brackets.
+fn held_in(discipline: Discipline, text: &str) -> Option<Values<'_>> {
     let inner = text.strip_prefix("[")?.strip_suffix("]")?;
     if inner.is_empty() {
         return Some(Values {
@@ -28,10 +29,10 @@ fn bag_in(text: &str) -> Option<Values<'_>> {
             count: 0,
         });
     }
-    values_in(inner)
+    values_in(discipline, inner)
 }
 
-/// What a variable, a flag or a bag holds.
+/// What a variable, a flag, a bag or a queue holds.
 pub(crate) fn datum_in(domain: Domain, text: &str) -> Option<Datum<'_>> {
     match domain {
         Domain::Number(_) => Some(Datum::Number(value_in(text)?)),
@@ -40,6 +41,6 @@ pub(crate) fn datum_in(domain: Domain, text: &str) -> Option<Datum<'_>> {
             "false" => Some(Datum::Flag(false)),
             _ => None,
         },
-        Domain::Bag { .. } => Some(Datum::Bag(bag_in(text)?)),
+        Domain::Held { discipline, .. } => Some(Datum::Held(held_in(discipline, text)?)),
     }
 }

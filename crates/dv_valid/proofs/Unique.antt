@@ -10,7 +10,7 @@ use Rattle.dv_code.specs.Valid.{Agrees, Arrives, Body, IsFine, LiesIn, Mark as M
 use Rattle.dv_code.specs.Limits.{deepest_loops}
 use Rattle.dv_code.specs.declared.shape.ProgramSort.{ProgramSort}
 use Rattle.dv_code.specs.declared.instruction.Instruction.{Instruction}
-use Rattle.dv_code.specs.declared.instruction.Instruction.TheVariants.{Push, Apply, Combine, Perform, Go, Jump, JumpFalse}
+use Rattle.dv_code.specs.declared.instruction.Instruction.TheVariants.{Push, Apply, Combine, Perform, Do, Jump, JumpFalse}
 use Rattle.dv_code.specs.declared.instruction.Instruction.TheVariants.{FalseKeep, TrueKeep, Loop, Next, End}
 use Rattle.dv_valid.specs.Marks.{Fit, IsForced, Settles, settling_place, with_top}
 
@@ -33,7 +33,7 @@ module _ (shape : Shape) (code : List Instruction) (marks these : ℕ → Meant)
     forced_by (Apply u) d h = (h.3.0, d, next _ _ h.3 ∙ ap (λ ts. mark ts (marks place).nest) (sym h.1))
     forced_by (Combine o) d h = (h.2.0, d, (h.0, h.1, next _ _ h.2))
     forced_by (Perform a) d h = (h.3.0, d, one_more (action_type a) h.0 (marks place) (these (place + 1)) h.1 (next _ _ h.3))
-    forced_by (Go phase) d h = (h.1.0, d, next _ _ h.1)
+    forced_by (Do a) d h = (h.1.0, d, next _ _ h.1)
     forced_by (Jump to) d h = (h.1.0, d, same to (omega arith) h.1.0 ∙ h.1.1)
     forced_by (JumpFalse to) d h = (h.3.0, d, one_more Truth h.0 (marks place) (these (place + 1)) h.1 (next _ _ h.3))
     forced_by (FalseKeep to) d h = (h.3.0, d, one_more Truth h.0 (marks place) (these (place + 1)) h.1 (next _ _ h.3))
@@ -67,7 +67,7 @@ module _ (shape : Shape) (code : List Instruction) (marks these : ℕ → Meant)
     agrees_too left place types nest (Apply u) h = (h.0, h.1, h.2, arrives_too _ _ _ h.3)
     agrees_too left place types nest (Combine o) h = (h.0, h.1, arrives_too _ _ _ h.2)
     agrees_too left place types nest (Perform a) h = (h.0, h.1, h.2, arrives_too _ _ _ h.3)
-    agrees_too left place types nest (Go phase) h = (h.0, arrives_too _ _ _ h.1)
+    agrees_too left place types nest (Do d) h = (h.0, arrives_too _ _ _ h.1)
     agrees_too left place types nest (Jump to) h = (
       h.0,
       arrives_too _ _ _ h.1,
@@ -108,7 +108,7 @@ forced_parts left end marks after (Push l) here other f = f
 forced_parts left end marks after (Apply u) here other f = f
 forced_parts left end marks after (Combine o) here other f = f
 forced_parts left end marks after (Perform a) here other f = f
-forced_parts left end marks after (Go phase) here other f = f
+forced_parts left end marks after (Do d) here other f = f
 forced_parts left end marks after (Jump to) here other f = f
 forced_parts left end marks after (JumpFalse to) here other f = f
 forced_parts left end marks after (FalseKeep to) here other f = f

@@ -7,7 +7,7 @@ use Rattle.dv_code.specs.Known.{action_type, leaf_type, operand_type, result_typ
 use Rattle.dv_code.specs.Valid.{Agrees, Arrives, Body, IsFine, Mark as Meant, mark}
 use Rattle.dv_code.specs.Limits.{deepest_loops}
 use Rattle.dv_code.specs.declared.instruction.Instruction.{Instruction}
-use Rattle.dv_code.specs.declared.instruction.Instruction.TheVariants.{Push, Apply, Combine, Perform, Go, Jump, JumpFalse}
+use Rattle.dv_code.specs.declared.instruction.Instruction.TheVariants.{Push, Apply, Combine, Perform, Do, Jump, JumpFalse}
 use Rattle.dv_code.specs.declared.instruction.Instruction.TheVariants.{FalseKeep, TrueKeep, Loop, Next, End}
 use Rattle.dv_valid.specs.Stacks.{Stacks, types_at}
 use Rattle.dv_valid.specs.Nests.{bodies}
@@ -55,7 +55,7 @@ Settles next (Apply u) here after = after ≡ here
 Settles next (Combine o) here after =
     (below : List ValueType) × (here.types ≡ operand_type o ∷ operand_type o ∷ below) × (after ≡ mark (result_type o ∷ below) here.nest)
 Settles next (Perform a) here after = here ≡ with_top (action_type a) after
-Settles next (Go phase) here after = after ≡ here
+Settles next (Do d) here after = after ≡ here
 Settles next (Jump to) here after = after ≡ here
 Settles next (JumpFalse to) here after = here ≡ with_top Truth after
 Settles next (FalseKeep to) here after = here ≡ with_top Truth after

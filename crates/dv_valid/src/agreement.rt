@@ -10,7 +10,7 @@ ghost use Rattle.dv_valid.specs.Stacks.{types_at};
 ghost use Rattle.dv_valid.specs.Marks.{AgreesAt, AreNumbered, ArrivesAt, Fit, IsNumbered, IsPlaced, mark_of, meaning, with_top};
 ghost use Rattle.dv_code.specs.Limits.{deepest_loops};
 
-use crate::known::{is_bag, knows_action, knows_leaf, knows_phase, knows_unary};
+use crate::known::{is_source, knows_action, knows_deed, knows_leaf, knows_unary};
 use crate::marks::{Mark, Marks, without_top};
 use crate::nest::{Body, Nest};
 use crate::stacks::TypeStacks;
@@ -59,7 +59,7 @@ impl Marks {
             Instruction::Apply(unary) => self.apply_agrees(shape, place, here, unary),
             Instruction::Combine(binary) => self.combine_agrees(place, here, binary),
             Instruction::Perform(action) => self.perform_agrees(shape, place, here, action),
-            Instruction::Go(phase) => knows_phase(shape, phase) && self.arrives(place + 1, here),
+            Instruction::Do(deed) => knows_deed(shape, deed) && self.arrives(place + 1, here),
             Instruction::Jump(to) => self.jump_agrees(place, here, to),
             Instruction::JumpFalse(to) => self.jump_false_agrees(place, here, to),
             Instruction::FalseKeep(to) => self.keep_agrees(place, here, to),
@@ -164,8 +164,8 @@ impl Marks {
         place < to as usize && self.arrives(place + 1, below) && self.arrives(to as usize, here)
     }
 
-    /// Whether a loop begins on an empty stack, over a known bag, and leads into its body and past
-    /// it.
+    /// Whether a loop begins on an empty stack, over a known collection, and leads into its body and
+    /// past it.
     fn loop_agrees(
         &self,
         shape: &Shape,
@@ -190,7 +190,7 @@ impl Marks {
             nest,
         };
         self.stacks.is_same(here.types, self.stacks.empty())
-            && is_bag(shape, source)
+            && is_source(shape, source)
             && self.arrives(place + 1, inside)
             && self.arrives(past as usize, here)
     }

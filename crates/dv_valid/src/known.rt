@@ -2,10 +2,11 @@
 
 ghost use Rattle.std.specs.Prelude.{◌≡◌, ◌↔◌, ℕ, ℤ, slice_get, IsTrue, Some};
 ghost use Rattle.dv_code.specs.Shape.{may_change, may_read_elapsed, may_receive, may_send};
-ghost use Rattle.dv_code.specs.Known.{IsBagOf, KnowsAction, KnowsLeaf, KnowsPhase, KnowsUnary};
+ghost use Rattle.dv_code.specs.Known.{IsBagOf, IsSourceOf, KnowsAction, KnowsDeed, KnowsLeaf, KnowsUnary};
 ghost use Rattle.dv_code.specs.declared.shape.Slot.TheVariants.{Ranged, Flagged, Holding};
 
-use dv_code::{Action, Leaf, ProgramSort, Shape, Slot, Source, Unary};
+use dv_bag::Discipline;
+use dv_code::{Action, Deed, Leaf, ProgramSort, Shape, Slot, Source, Unary};
 
 /// Whether programs of this sort may change the state and go to a phase.
 fn may_change(sort: ProgramSort) -> bool
@@ -60,23 +61,33 @@ fn is_flagged(shape: &Shape, place: u16) -> bool
     matches!(slot(shape, place), Some(Slot::Flagged))
 }
 
-/// Whether the slot of a place holds a bag.
-fn is_holding(shape: &Shape, place: u16) -> bool
+/// Whether the slot of a place holds a collection of this discipline.
+fn is_holding(shape: &Shape, discipline: Discipline, place: u16) -> bool
     ensures { IsTrue result
-        ↔ ((capacity : ℕ) × (slice_get shape.now.slots place ≡ Some (Holding capacity))) }
+        ↔ ((capacity : ℕ) × (slice_get shape.now.slots place ≡ Some (Holding discipline capacity))) }
 {
-    matches!(slot(shape, place), Some(Slot::Holding { .. }))
+    matches!(slot(shape, place), Some(Slot::Holding { discipline: held, .. }) if held == discipline)
 }
 
-/// Whether a program may read a bag there.
-pub fn is_bag(shape: &Shape, source: Source) -> bool
-    ensures { IsTrue result ↔ IsBagOf shape.now source }
+/// Whether a program may read a collection there.
+pub fn is_source(shape: &Shape, source: Source) -> bool
+    ensures { IsTrue result ↔ IsSourceOf shape.now source }
 {
     match source {
-        Source::Own(place) => is_holding(shape, place),
+        Source::Own(discipline, place) => is_holding(shape, discipline, place),
         Source::Port(port) => {
             u32::from(port) < shape.tables().inputs() && may_receive(shape.sort())
         }
+    }
+}
+
+/// Whether a program may read a bag there.
+fn is_bag(shape: &Shape, source: Source) -> bool
+    ensures { IsTrue result ↔ IsBagOf shape.now source }
+{
+    match source {
+        Source::Own(Discipline::Queue, _) => false,
+        _ => is_source(shape, source),
     }
 }
 
@@ -90,9 +101,9 @@ pub fn knows_leaf(shape: &Shape, inside: usize, leaf: Leaf) -> bool
         Leaf::Flag(place) => is_flagged(shape, place),
         Leaf::Item(number) => usize::from(number) < inside,
         Leaf::Elapsed => may_read_elapsed(shape.sort()),
-        Leaf::Size(source) | Leaf::Sum(source) | Leaf::Least(source) | Leaf::Most(source) => {
-            is_bag(shape, source)
-        }
+        Leaf::Size(source) => is_source(shape, source),
+        Leaf::Sum(source) | Leaf::Least(source) | Leaf::Most(source) => is_bag(shape, source),
+        Leaf::Front(place) => is_holding(shape, Discipline::Queue, place),
     }
 }
 
@@ -113,8 +124,8 @@ pub fn knows_action(shape: &Shape, action: Action) -> bool
     match action {
         Action::SetVariable(place) => is_ranged(shape, place) && may_change(shape.sort()),
         Action::SetFlag(place) => is_flagged(shape, place) && may_change(shape.sort()),
-        Action::AddTo(place) | Action::DropFrom(place) => {
-            is_holding(shape, place) && may_change(shape.sort())
+        Action::Change(change, place) => {
+            is_holding(shape, change.discipline(), place) && may_change(shape.sort())
         }
         Action::Send(port) => {
             u32::from(port) < shape.tables().outputs() && may_send(shape.sort())
@@ -122,9 +133,14 @@ pub fn knows_action(shape: &Shape, action: Action) -> bool
     }
 }
 
-/// Whether a program may go to a phase.
-pub fn knows_phase(shape: &Shape, phase: u32) -> bool
-    ensures { IsTrue result ↔ KnowsPhase shape.now phase }
+/// Whether a program may do a deed.
+pub fn knows_deed(shape: &Shape, deed: Deed) -> bool
+    ensures { IsTrue result ↔ KnowsDeed shape.now deed }
 {
-    phase < shape.tables().phases() && may_change(shape.sort())
+    match deed {
+        Deed::Go(phase) => phase < shape.tables().phases() && may_change(shape.sort()),
+        Deed::Pop(place) => {
+            is_holding(shape, Discipline::Queue, place) && may_change(shape.sort())
+        }
+    }
 }

@@ -174,7 +174,7 @@ fn mark_before(
 {
     match instruction {
         Instruction::Push(leaf) => Ok(without_top(stacks, after, leaf_type(leaf))),
-        Instruction::Apply(_) | Instruction::Go(_) | Instruction::Jump(_) => Ok(Some(after)),
+        Instruction::Apply(_) | Instruction::Do(_) | Instruction::Jump(_) => Ok(Some(after)),
         Instruction::Combine(binary) => before_combine(stacks, after, binary),
         Instruction::Perform(action) => Ok(Some(with_top(stacks, after, action_type(action))?)),
         Instruction::JumpFalse(_) | Instruction::FalseKeep(_) | Instruction::TrueKeep(_) => {

@@ -56,7 +56,7 @@ fn is_program(alloc: Global, shape: &Shape, code: &[Instruction]) -> Result<bool
     }
 }
 
-/// A law: no bag of a shape may hold more than the language allows, since its tables keep that.
+/// A law: no collection of a shape may hold more than the language allows, since its tables keep that.
 fn bags_are_small(shape: &Shape)
     ensures { AreSmall shape.now.slots }
 {

@@ -45,7 +45,7 @@ impl From<AllocError> for VcdError {
 }
 
 /// Writes a trace of the model of a tree as a value change dump, one time unit a tick. A coupled model and a component are
-/// scopes. Of a component there are its phase and its bags as strings, its variables as vectors of 64 bits, its flags as wires
+/// scopes. Of a component there are its phase, its bags and its queues as strings, its variables as vectors of 64 bits, its flags as wires
 /// and its output ports as strings: `-`, and for one tick the values that left, those of different microsteps with a
 /// semicolon between them. Changes at the microsteps of one tick stand one after the other at that tick: the last one stays.
 ///

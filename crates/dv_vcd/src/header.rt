@@ -100,7 +100,7 @@ fn kind_of(domain: Option<Domain>) -> &'static str {
     match domain {
         Some(Domain::Number(_)) => "reg 64",
         Some(Domain::Flag { .. }) => "wire 1",
-        Some(Domain::Bag { .. }) | None => "string 1",
+        Some(Domain::Held { .. }) | None => "string 1",
     }
 }
 

@@ -13,7 +13,8 @@ pub(crate) enum Standing<'a> {
     Fault(Fault),
 }
 
-/// What a component shows now. Its codes follow each other: its phase, its variables, flags and bags, and its output ports.
+/// What a component shows now. Its codes follow each other: its phase, its variables, flags, bags and queues, and its output
+/// ports.
 #[derive(Drop)]
 pub(crate) struct Shown<'a> {
     /// The code of the phase.
@@ -80,6 +81,6 @@ fn start_datum<'a>(domain: Domain) -> Datum<'a> {
     match domain {
         Domain::Number(range) => Datum::Number(range.start),
         Domain::Flag { start } => Datum::Flag(start),
-        Domain::Bag { .. } => Datum::Bag(Values { text: "", count: 0 }),
+        Domain::Held { .. } => Datum::Held(Values { text: "", count: 0 }),
     }
 }

@@ -50,12 +50,12 @@ pub(crate) fn push_standing(
     }
 }
 
-/// What a variable, a flag or a bag holds.
+/// What a variable, a flag, a bag or a queue holds.
 pub(crate) fn push_datum(text: &mut String, datum: Datum<'_>, code: u64) -> Result<(), AllocError> {
     match datum {
         Datum::Number(number) => push_number(text, number, code),
         Datum::Flag(flag) => push_flag(text, flag, code),
-        Datum::Bag(values) => writeln_string(text, "[", values.text, "]", code),
+        Datum::Held(values) => writeln_string(text, "[", values.text, "]", code),
     }
 }
 

@@ -12,6 +12,12 @@ syntax keyword pdevsFunction size sum least most times
 syntax keyword pdevsConstant forever true false elapsed self
 " The word of a header is a name elsewhere: here it begins a line, before a number.
 syntax match pdevsStructure "^\s*\zsversion\ze\s\+\d"
+" These are names in a text that does not begin with the header of version 2.
+if search('\%^\_s*\%(#.*\_s*\)*version\_s\+0*2\_s*;', 'cnw')
+  syntax keyword pdevsDeclaration queue
+  syntax keyword pdevsStatement push pop
+  syntax keyword pdevsFunction front
+endif
 syntax match pdevsNumber "\<\d\+\>"
 syntax match pdevsComment "#.*$" contains=@Spell
 

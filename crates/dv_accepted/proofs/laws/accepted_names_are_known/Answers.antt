@@ -1,6 +1,7 @@
 use Rattle.dv_eval.specs.Scope.{scope_of}
 use Rattle.dv_accepted.proofs.Inputs.{port_read}
-use Rattle.dv_accepted.proofs.Known.{datum_held, holds_known, rules_known}
+use Rattle.dv_accepted.proofs.Known.{datum_held}
+use Rattle.dv_accepted.proofs.NamesKnown.{holds_known, rules_known}
 use Rattle.dv_accepted.proofs.laws.accepted_names_are_known.Goals as goal
 
 pub returns-clause-rules : goal.returns-clause-rules

@@ -1,5 +1,5 @@
-use Rattle.std.proofs.Common.{◌≡◌, ℕ, ◌<◌, List, Some, eqb, drop, map, ◌+◌, ◌∷◌, below_more, refl, sym, ap, subst, ◌∙◌}
-use Rattle.std.specs.Prelude.{slice_get, Option}
+use Rattle.std.proofs.Common.{◌≡◌, ℕ, List, Some, eqb, drop, map, ◌+◌, ◌∷◌, below_more, sym, ap, subst, ◌∙◌}
+use Rattle.std.specs.Prelude.{slice_get}
 use Rattle.std.proofs.lemmas.Option.{get_or_from_slice_get}
 use Rattle.dv_bound.specs.Short.{IsShort}
 use Rattle.std.specs.Map.{lookup}

@@ -17,3 +17,7 @@ returns-clause-greatest c = refl
 pub returns-clause-too_great : goal.returns-clause-too_great
 unfolding atomic_rows
 returns-clause-too_great c = refl
+
+pub returns-clause-queue_too_great : goal.returns-clause-queue_too_great
+unfolding atomic_rows
+returns-clause-queue_too_great c = refl

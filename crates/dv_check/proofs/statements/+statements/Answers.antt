@@ -42,5 +42,5 @@ check_statement-returns-in-For t c = λ rest.
     ∙ c.trees_keep_blocks.ensures.repeated place v bag c.in-For.block rest
     ∙ ap (λ items. For place v bag (statements_of items) rest) (sym c.deref-in-For.ensures.value) in
     with_refusals-For (known_at c.args.environment.now) c.args.found.now _ _ _ c.args.statement.now place v bag
-    (statements_of c.deref-in-For.result.now) rest tree c.check_loop_variable.ensures c.check_bag.ensures.found
+    (statements_of c.deref-in-For.result.now) rest tree c.check_loop_variable.ensures c.check_held.ensures.found
     (rw (known_at-Loop v c.args.environment) at c.check_statements-in-For.ensures)

@@ -1,6 +1,7 @@
 use Rattle.std.proofs.Common.{◌≡◌, ℕ, zero, suc, [], length, Some, refl, subst, arith}
 use Rattle.std.specs.Prelude.{slice_get}
 use Rattle.std.proofs.lemmas.Option.{same_Some}
+use Rattle.dv_bag.specs.declared.discipline.Discipline.TheVariants as discipline
 use Rattle.dv_code.specs.Shape.{AreSmall}
 use Rattle.dv_code.specs.Rows.{each_sent, each_sent_marks, sender}
 use Rattle.dv_code.specs.Valid.{IsFine}
@@ -41,11 +42,11 @@ fine_at (suc (suc (suc (suc zero)))) i e = subst (Fine 4) (same_Some _ i e) (rec
 fine_at (suc (suc (suc (suc (suc place))))) i e = absurd (cc)
 
 small : AreSmall sender.slots
-small zero capacity e =
-    let same : Holding 8 ≡ Holding capacity = same_Some (Holding 8) (Holding capacity) e in
+small zero d capacity e =
+    let same : Holding discipline.Bag 8 ≡ Holding d capacity = same_Some (Holding discipline.Bag 8) (Holding d capacity) e in
     let eight : 8 ≡ capacity = cc in
     (omega (arith, eight), omega (arith, eight))
-small (suc place) capacity e = absurd (cc)
+small (suc place) d capacity e = absurd (cc)
 
 pub returns : goal.returns
 returns c = (

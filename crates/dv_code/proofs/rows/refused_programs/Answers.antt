@@ -45,3 +45,9 @@ returns-clause-value_left_at_end c depth valid =
 
 pub returns-clause-two_ends : goal.returns-clause-two_ends
 returns-clause-two_ends c depth valid = let ending = (valid.each 0 _ refl).agrees in omega (arith, ending.2)
+
+pub returns-clause-front_of_bag : goal.returns-clause-front_of_bag
+returns-clause-front_of_bag c depth valid = let push = (valid.each 0 _ refl).agrees in absurd (cc (push.0.1))
+
+pub returns-clause-pop_in_output : goal.returns-clause-pop_in_output
+returns-clause-pop_in_output c depth valid = let pop = (valid.each 0 _ refl).agrees in absurd (cc (pop.0.1))

@@ -1,14 +1,15 @@
-use Rattle.std.proofs.Common.{◌≡◌, [], ℤ, Option, unwrap_or, pos, Ok, ap, sym, ◌∙◌, get_or, subst, true, false, rules, w64}
+use Rattle.std.proofs.Common.{◌≡◌, ℤ, pos, Ok, ap, sym, ◌∙◌, get_or, subst, true, false, rules, w64}
 use Rattle.std.proofs.lemmas.Int.{to_z-of_z}
 use Rattle.std.proofs.lemmas.Result.{err_from_is_err_and}
 use Rattle.dv_syntax.specs.Trees.{Done, For, If, IfElse, expression_of, statement_before, statements_of}
-use Rattle.dv_bag.specs.Bag.{Counts, values_of}
+use Rattle.dv_bag.specs.Bag.{values_of}
+use Rattle.dv_bag.specs.Collections.{values_in}
 use Rattle.dv_bag.specs.Outcome.{Fails, Gives}
 use Rattle.dv_eval.specs.Steps.{repeated}
 use Rattle.dv_eval.specs.Contexts.{context_of}
-use Rattle.dv_eval.specs.Meaning.{bag_of_name, in_loop, moment_in, repetition, run}
-use Rattle.dv_eval.proofs.Rules.{run-drop_ok, run-drop_err, run-If, run-IfElse, run-For, run-Assign, run-Add, run-Send, repeated_fails}
-use Rattle.dv_eval.proofs.Rules.{repeated_next, repetition_fails, repetition_next}
+use Rattle.dv_eval.specs.Meaning.{collection_of_name, in_loop, moment_in, repetition, run}
+use Rattle.dv_eval.proofs.Rules.{run-drop_ok, run-drop_err, run-If, run-IfElse, run-For, run-Assign, run-Change, run-Command, run-Send}
+use Rattle.dv_eval.proofs.Rules.{repeated_fails, repeated_next, repetition_fails, repetition_next}
 use Rattle.dv_eval.proofs.rule.+run.Goals as goal
 
 pub run-returns-in_err-effect : goal.run-returns-in_err-effect
@@ -115,30 +116,38 @@ run_loop-loop-pair-preserved t c =
     let done = subst (λ (n : ℤ). repeated (step n) pair.1 at.effect ≡ Ok next) number c.in_ok-effect.ensures in
     repetition_next step c.args.pairs.now at.pair-index at.effect _ c.loop-pair-test.true at.invariant next done
 
-pub run_statement-returns-in-Some : goal.run_statement-returns-in-Some
-run_statement-returns-in-Some t c =
+pub run_statement-returns-in_ok-pairs-in-For : goal.run_statement-returns-in_ok-pairs-in-For
+run_statement-returns-in_ok-pairs-in-For t c =
     let place = c.in-For.place in
     let v = c.in-For.variable in
     let b = c.in-For.bag in
-    let block = statements_of c.deref-in-Some.result.now in
+    let block = statements_of c.deref-in-For-2.result.now in
     let scope = c.args.scope.now in
     let context = context_of c.args.context.now in
     let tree =
     ap (λ s. statement_before s Done) c.in-For.is
     ∙ c.trees_keep_blocks.ensures.repeated place v b c.in-For.block Done
-    ∙ ap (λ items. For place v b (statements_of items) Done) (sym c.deref-in-Some.ensures.value) in
-    let walked : c.pairs.result.now ≡ bag_of_name scope (moment_in context c.args.effect.state) b.number =
-    c.pairs.ensures.walk ∙ ap (λ (bag : Option Counts). unwrap_or bag []) (sym c.in-Some.is) ∙ c.in_ok-values-in-For.ensures in
+    ∙ ap (λ items. For place v b (statements_of items) Done) (sym c.deref-in-For-2.ensures.value) in
+    let walked :
+    values_of c.deref-in-For.result.now
+    ≡ values_in (collection_of_name scope (moment_in context c.args.effect.state) b.number) =
+    ap values_of c.deref-in-For.ensures.value ∙ c.in_ok-pairs-in-For.ensures in
     let whole =
-    ap (λ values. repetition (λ n. run scope (in_loop (v.number, n) context) block) (values_of values) c.args.effect) walked
+    ap (λ values. repetition (λ n. run scope (in_loop (v.number, n) context) block) values c.args.effect) walked
     ∙ sym (run-For scope context c.args.statement.now place c.args.effect v b block tree) in
     subst (Gives c.run_loop.result) whole c.run_loop.ensures
 
-pub run_statement-returns-in-Add : goal.run_statement-returns-in-Add
-run_statement-returns-in-Add t c =
-    let whole = run-Add c.args.scope.now (context_of c.args.context.now) c.args.statement.now c.in-Add.place c.args.effect c.in-Add.value
-    c.in-Add.bag c.in-Add.is in
-    subst (Gives c.run_step-in-Add.result) (sym whole) c.run_step-in-Add.ensures
+pub run_statement-returns-in-Command : goal.run_statement-returns-in-Command
+run_statement-returns-in-Command t c =
+    let whole = run-Command c.args.scope.now (context_of c.args.context.now) c.args.statement.now c.in-Command.place c.args.effect
+    c.in-Command.command c.in-Command.name c.in-Command.is in
+    subst (Gives c.obey.result) (sym whole) c.obey.ensures
+
+pub run_statement-returns-in-Change : goal.run_statement-returns-in-Change
+run_statement-returns-in-Change t c =
+    let whole = run-Change c.args.scope.now (context_of c.args.context.now) c.args.statement.now c.in-Change.place c.args.effect
+    c.in-Change.change c.in-Change.value c.in-Change.collection c.in-Change.is in
+    subst (Gives c.run_step-in-Change.result) (sym whole) c.run_step-in-Change.ensures
 
 pub run_statement-returns-in-Assign : goal.run_statement-returns-in-Assign
 run_statement-returns-in-Assign t c =

@@ -8,7 +8,7 @@ returns-clause-typed c = (
   (
     refl,
     (refl, refl, refl, (refl, refl, omega arith, (pos 0, pos 100, refl))),
-    ((2, refl, refl), refl, omega arith, tt),
+    (((2, refl), refl), refl, omega arith, tt),
     ((pos 0, pos 100, refl, refl), refl, (refl, refl, (pos 0, pos 100, refl), omega arith), tt),
     tt,
   ),

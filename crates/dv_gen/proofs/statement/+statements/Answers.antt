@@ -4,14 +4,13 @@ use Rattle.std.proofs.lemmas.Bool.{eqb-false, eqb-true}
 use Rattle.dv_syntax.specs.declared.tree.Stmt.{the_lemmas}
 use Rattle.dv_syntax.specs.Grammar.{loop_depth}
 use Rattle.dv_syntax.specs.Trees.{Done, expression_of, statement_before, statements_of}
-use Rattle.dv_code.specs.declared.instruction.Instruction.TheVariants.{Go}
-use Rattle.dv_eval.specs.Scope.{place_of}
+use Rattle.dv_code.specs.declared.instruction.Instruction.TheVariants.{Do}
 use Rattle.dv_gen.specs.Emission.{loops_of, with_statements}
-use Rattle.dv_gen.specs.Resolution.{all_resolved, place_or_first, resolved}
+use Rattle.dv_gen.specs.Resolution.{all_resolved, deed_of, resolved}
 use Rattle.dv_gen.specs.Resolved.{For as Each}
 use Rattle.dv_gen.proofs.Choices.{choice_of_none, choice_of_some, with_statements-choice}
 use Rattle.dv_gen.proofs.Emission.{jump_behind_within, jump_within_block, jump_within_more, still_within, with_branch-is}
-use Rattle.dv_gen.proofs.Emission.{with_statements-Done, with_statements-For, with_statements-Goto, with_statements-If}
+use Rattle.dv_gen.proofs.Emission.{with_statements-Done, with_statements-For, with_statements-If, with_statements-Obey}
 use Rattle.dv_gen.proofs.Emission.{with_statements-When}
 use Rattle.dv_gen.proofs.LoopDepth.{block_shallow, first_shallow, loop_depth-at, loop_shallow, other_shallow}
 use Rattle.dv_gen.proofs.Trees.{choice_tree, loop_tree, when_tree}
@@ -43,7 +42,7 @@ emit_loop-replace-requires t c =
 pub emit_loop-returns : goal.emit_loop-returns
 emit_loop-returns t c =
     let block = all_resolved c.args.names.now (loops_of c.args.loops.now) (statements_of c.args.block.now) in
-    with_statements-For c.args.draft.now c.push.new.self c.emit_statements.new.draft c.push-2.new.self _ _ _ _ _ c.args.bag block
+    with_statements-For c.args.draft.now c.push.new.self c.emit_statements.new.draft c.push-2.new.self _ _ _ _ _ c.args.source block
     c.place-entry.ensures c.in_ok-push.ensures c.place-first.ensures c.in_ok-emit_statements.ensures c.in_ok-push-2.ensures
     c.place.ensures c.replace.ensures
 
@@ -131,16 +130,17 @@ emit_statements-returns t c =
     (sym (drop_all c.loop-statement.statement-index c.args.statements.now c.loop-statement-test.false))
     ∙ c.loop-statement.invariant
 
-pub emit_statement-returns-in_ok-push-in-Goto : goal.emit_statement-returns-in_ok-push-in-Goto
-emit_statement-returns-in_ok-push-in-Goto t c = λ rest.
+pub emit_statement-returns-in_ok-push-in-Command : goal.emit_statement-returns-in_ok-push-in-Command
+emit_statement-returns-in_ok-push-in-Command t c = λ rest.
     let scope = c.args.names.now in
     let loops = loops_of c.args.loops.now in
-    let phase = c.in-Goto.phase in
+    let command = c.in-Command.command in
+    let name = c.in-Command.name in
     let after = all_resolved scope loops rest in
     ap (λ code. with_statements code after)
-    (c.in_ok-push-in-Goto.ensures ∙ ap (λ place. c.args.draft.now ++ Go place ∷ []) c.phase.ensures)
-    ∙ with_statements-Goto c.args.draft.now (place_or_first (place_of phase.number scope.phases)) after
-    ∙ ap (λ s. with_statements c.args.draft.now (all_resolved scope loops (statement_before s rest))) (sym c.in-Goto.is)
+    (c.in_ok-push-in-Command.ensures ∙ ap (λ d. c.args.draft.now ++ Do d ∷ []) c.deed.ensures)
+    ∙ with_statements-Obey c.args.draft.now (deed_of scope command name.number) after
+    ∙ ap (λ s. with_statements c.args.draft.now (all_resolved scope loops (statement_before s rest))) (sym c.in-Command.is)
 
 pub emit_statement-returns-in_ok-emit_when-in-If : goal.emit_statement-returns-in_ok-emit_when-in-If
 emit_statement-returns-in_ok-emit_when-in-If t c = λ rest.

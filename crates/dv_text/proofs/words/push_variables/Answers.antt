@@ -1,23 +1,9 @@
-use Rattle.std.proofs.Common.{◌≡◌, ◌+◌, ℕ, List, [], ap, ◌∙◌, sym, ◌++◌, ◌∷◌, inl, inr, drop, get_or, string_bytes}
+use Rattle.std.proofs.Common.{◌+◌, ℕ, List, ap, ◌∙◌, sym, ◌++◌, ◌∷◌, [], inl, inr, drop, get_or, string_bytes}
 use Rattle.std.proofs.lemmas.List.{drop_all, drop_more}
-use Rattle.std.proofs.lemmas.Option.{get_or_from_slice_get, slice_get_cases, slice_get_within}
-use Rattle.std.specs.Prelude.{None, Some, slice_get}
 use Rattle.dv_bag.specs.Reading.{datum_of}
-use Rattle.dv_bag.specs.declared.state.Datum.{Datum}
+use Rattle.dv_text.proofs.Places.{left_at, none_left}
 use Rattle.dv_text.proofs.Sent.{variables_step, variables_end}
 use Rattle.dv_text.proofs.words.push_variables.Goals as goal
-
--- a place with a datum has it in front of what is left
-left_at : (ds : List Datum) (i : ℕ) (d : Datum) → slice_get ds i ≡ Some d → drop i ds ≡ d ∷ drop (i + 1) ds
-left_at ds i d there =
-    drop_more ds i d (slice_get_within ds i d there) ∙ ap (λ (x : Datum). x ∷ drop (i + 1) ds) (get_or_from_slice_get ds i d d there)
-
--- a place without one is past them all
-none_left : (ds : List Datum) (i : ℕ) → None ≡ slice_get ds i → drop i ds ≡ []
-none_left ds i none = elim (slice_get_cases ds i).1 [
-  | inl within ↦ absurd (let h : None ≡ Some within.0 = none ∙ within.2 in cc)
-  | inr past ↦ drop_all i ds past.0
-]
 
 pub loop-place-preserved : goal.loop-place-preserved
 loop-place-preserved c =

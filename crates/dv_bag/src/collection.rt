@@ -1,0 +1,200 @@
+//! Collections of values that states hold: bags and queues.
+
+ghost use Rattle.std.specs.Cmp.{decided, partial_equiv_from_equiv};
+ghost use Rattle.std.specs.Prelude.{◌≡◌, ◌<◌, ◌≤◌, true, IfOk, OnErr, OnOk};
+ghost use Rattle.dv_bag.specs.Collections.{count_in, discipline_of, edited, makes_more, without_first};
+ghost use Rattle.dv_bag.specs.Limits.{greatest_count};
+ghost use Rattle.dv_bag.specs.Numbers.{HasNumbers};
+ghost use Rattle.dv_bag.specs.Same.{same_collection, same_collection-decides};
+
+use crate::bag::Bag;
+use crate::discipline::{Change, Discipline};
+use crate::queue::Queue;
+use std::alloc::{AllocError, Global};
+use std::marker::Model;
+
+/// A bag or a queue.
+#[derive(Debug, Drop)]
+pub enum Collection {
+    Bag(Bag),
+    Queue(Queue),
+}
+
+impl Collection {
+    /// How it keeps its values.
+    pub fn discipline(&self) -> Discipline
+        ensures { result ≡ discipline_of self.now }
+    {
+        match self {
+            Collection::Bag(_) => Discipline::Bag,
+            Collection::Queue(_) => Discipline::Queue,
+        }
+    }
+
+    /// The number of its values, each copy counted.
+    pub fn count(&self) -> u64
+        requires { count_in self.now ≤ greatest_count }
+        ensures { result ≡ count_in self.now }
+    {
+        match self {
+            Collection::Bag(bag) => bag.size(),
+            Collection::Queue(queue) => queue.len() as u64,
+        }
+    }
+
+    /// What a change makes of it with a value. One of another discipline stays as it is.
+    ///
+    /// # Errors
+    ///
+    /// No memory for the value. The collection is as before.
+    pub fn edit(&mut self, change: Change, value: i64) -> Result<(), AllocError>
+        ensures ok { OnOk result (self.new ≡ edited change value self.old) }
+        ensures err { OnErr result (self.new ≡ self.old) }
+    {
+        match (self, change) {
+            (Collection::Bag(bag), Change::Add) => bag.insert(value),
+            (Collection::Bag(bag), Change::Drop) => {
+                bag.drop_one(value);
+                Ok(())
+            }
+            (Collection::Queue(queue), Change::Push) => queue.push(value),
+            _ => Ok(()),
+        }
+    }
+
+    /// Without the first value of a queue, where there is one.
+    pub fn pop(&mut self)
+        ensures { self.new ≡ without_first self.old }
+    {
+        if let Collection::Queue(queue) = self {
+            queue.pop();
+        }
+    }
+
+    /// Each value is a number of the language. It does nothing.
+    pub fn holds_numbers(&self)
+        ensures { HasNumbers self.now }
+    {
+        match self {
+            Collection::Bag(bag) => bag.holds_numbers(),
+            Collection::Queue(queue) => queue.holds_numbers(),
+        }
+    }
+}
+
+impl Clone for Collection {
+    ghost is_clone = { λ c d. d ≡ c };
+
+    fn clone(&self) -> Result<Self, AllocError> {
+        match self {
+            Collection::Bag(bag) => Ok(Collection::Bag(bag.clone()?)),
+            Collection::Queue(queue) => Ok(Collection::Queue(queue.clone()?)),
+        }
+    }
+}
+
+impl PartialEq for Collection {
+    ghost eq = { same_collection };
+
+    ghost laws = { partial_equiv_from_equiv (decided same_collection same_collection-decides) };
+
+    fn eq(&self, other: &Self) -> bool {
+        match (self, other) {
+            (Collection::Bag(one), Collection::Bag(two)) => one == two,
+            (Collection::Queue(one), Collection::Queue(two)) => one == two,
+            _ => false,
+        }
+    }
+}
+
+impl Eq for Collection {
+    ghost laws = { decided same_collection same_collection-decides };
+}
+
+/// A collection that a state holds, in memory of its own: it has at most `GREATEST_COUNT` values, each copy counted. Two
+/// with the same values are equal, wherever they lie.
+#[derive(Debug, Drop)]
+pub struct Held {
+    collection: Box<Collection>,
+}
+
+impl Model for Held {
+    ghost use Rattle.std.specs.Prelude.{◌≤◌};
+    ghost use Rattle.dv_bag.specs.Collections.{count_in};
+    ghost use Rattle.dv_bag.specs.Limits.{greatest_count};
+    ghost use Rattle.dv_bag.specs.declared.collection.Collection.{Collection};
+
+    ghost Value = { Collection };
+
+    ghost view = { λ h. h.collection.value };
+
+    ghost invariant = { λ h. count_in h.collection.value ≤ greatest_count };
+}
+
+impl Held {
+    /// A collection, moved to memory of its own.
+    ///
+    /// # Errors
+    ///
+    /// No memory for it. The collection is dropped.
+    pub fn new(alloc: Global, collection: Collection) -> Result<Self, AllocError>
+        requires { count_in collection ≤ greatest_count }
+        ensures { IfOk result (λ held. held ≡ collection) }
+    {
+        Ok(Held {
+            collection: Box::new(alloc, collection)?,
+        })
+    }
+
+    /// The collection.
+    pub fn as_collection(&self) -> &Collection
+        ensures same { result.now ≡ self.now }
+        ensures few { count_in result.now ≤ greatest_count }
+    {
+        self.collection.as_ref()
+    }
+
+    /// What a change makes of it with a value.
+    ///
+    /// # Errors
+    ///
+    /// No memory for the value. The collection is as before.
+    pub(crate) fn edit(&mut self, change: Change, value: i64) -> Result<(), AllocError>
+        requires { makes_more change ≡ true → count_in self.old < greatest_count }
+        ensures ok { OnOk result (self.new ≡ edited change value self.old) }
+        ensures err { OnErr result (self.new ≡ self.old) }
+    {
+        self.collection.edit(change, value)
+    }
+
+    /// Without the first value of a queue, where there is one.
+    pub(crate) fn pop(&mut self)
+        ensures { self.new ≡ without_first self.old }
+    {
+        self.collection.pop();
+    }
+}
+
+impl Clone for Held {
+    ghost is_clone = { λ h k. k ≡ h };
+
+    fn clone(&self) -> Result<Self, AllocError> {
+        Ok(Held {
+            collection: self.collection.clone()?,
+        })
+    }
+}
+
+impl PartialEq for Held {
+    ghost eq = { same_collection };
+
+    ghost laws = { partial_equiv_from_equiv (decided same_collection same_collection-decides) };
+
+    fn eq(&self, other: &Self) -> bool {
+        self.collection == other.collection
+    }
+}
+
+impl Eq for Held {
+    ghost laws = { decided same_collection same_collection-decides };
+}

@@ -1,0 +1,119 @@
+//! Queues of values.
+
+ghost use Rattle.std.specs.Cmp.{decided, partial_equiv_from_equiv};
+ghost use Rattle.std.specs.List.{All};
+ghost use Rattle.std.specs.Option.{option_copied};
+ghost use Rattle.std.specs.Prelude.{◌≡◌, ◌∷◌, ◌++◌, [], drop, length, slice_get, IfOk, IsTrue, OnErr, OnOk};
+ghost use Rattle.dv_bag.specs.Bag.{is_number};
+ghost use Rattle.dv_bag.specs.Collections.{singles};
+ghost use Rattle.dv_bag.specs.Same.{same_values, same_values-decides};
+
+use std::alloc::{AllocError, Global};
+use std::collections::VecDeque;
+use std::marker::Model;
+
+/// A list of whole numbers, to which values come last, and from which the first one goes.
+#[derive(Debug, Drop)]
+pub struct Queue {
+    values: VecDeque<i64>,
+}
+
+impl Model for Queue {
+    ghost use Rattle.std.specs.Prelude.{List, ℤ};
+
+    ghost Value = { List ℤ };
+
+    ghost view = { λ q. q.values.items };
+}
+
+impl Queue {
+    /// The empty queue, which takes no memory.
+    pub fn new(alloc: Global) -> Self
+        ensures { result ≡ [] }
+    {
+        Queue {
+            values: VecDeque::new(alloc),
+        }
+    }
+
+    /// The number of values.
+    pub fn len(&self) -> usize
+        ensures { result ≡ length self.now }
+    {
+        self.values.len()
+    }
+
+    /// A value by its number, from the first on, if there is one.
+    pub fn get(&self, number: usize) -> Option<i64>
+        ensures { result ≡ slice_get self.now number }
+    {
+        self.values.get(number).copied()
+    }
+
+    /// One more value, behind the others.
+    ///
+    /// # Errors
+    ///
+    /// No memory for it. The queue is as before.
+    pub fn push(&mut self, value: i64) -> Result<(), AllocError>
+        ensures ok { OnOk result (self.new ≡ self.old ++ value ∷ []) }
+        ensures err { OnErr result (self.new ≡ self.old) }
+    {
+        Ok(self.values.push_back(value)?)
+    }
+
+    /// Without the first value, where there is one.
+    pub fn pop(&mut self)
+        ensures { self.new ≡ drop 1 self.old }
+    {
+        let _ = self.values.pop_front();
+    }
+
+    /// The values as they stand, each as a pair of one copy.
+    ///
+    /// # Errors
+    ///
+    /// No memory for them.
+    pub fn singles(&self, alloc: Global) -> Result<Vec<(i64, u64)>, AllocError>
+        ensures { IfOk result (λ pairs. pairs.items ≡ singles self.now) }
+    {
+        let mut pairs = Vec::with_capacity(alloc, self.len())?;
+        for number in 0..self.len() {
+            pairs.push((self.values[number], 1))?;
+        }
+        Ok(pairs)
+    }
+
+    /// Each value is a number of the language. It does nothing.
+    pub fn holds_numbers(&self)
+        ensures { All (λ v. IsTrue (is_number v)) self.now }
+    {
+        for number in 0..self.len() {
+            let _value = self.values[number];
+        }
+    }
+}
+
+impl Clone for Queue {
+    ghost is_clone = { λ q r. r ≡ q };
+
+    fn clone(&self) -> Result<Self, AllocError> {
+        Ok(Queue {
+            values: self.values.clone()?,
+        })
+    }
+}
+
+impl PartialEq for Queue {
+    ghost eq = { same_values };
+
+    ghost laws = { partial_equiv_from_equiv (decided same_values same_values-decides) };
+
+    fn eq(&self, other: &Self) -> bool {
+        self.values == other.values
+    }
+}
+
+impl Eq for Queue {
+    ghost laws = { decided same_values same_values-decides };
+}
