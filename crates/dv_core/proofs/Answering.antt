@@ -202,6 +202,25 @@ module _ {J P : Type 0} {IsValid : P → Type 0} {means : J → Job} {state : P 
         (turned_progress job k stands.kept p (state x) (state y) seen h.share h.received h.committed h.turn stands.reached)
         (turned_stands job k stands.kept p (state x) (state y) seen h.share h.received h.committed h.turn)
 
+-- where a process was changed, and that cannot be seen
+module _ {J P : Type 0} {IsValid : P → Type 0} {means : J → Job} {state : P → ProcessState} (w : WorldState J P)
+    (stands : Stands means state IsValid w) (p : ℕ) (x y : P) (here : slice_get w.processes.items p ≡ Some x) (valid : IsValid y)
+    (same : state y ≡ state x) where
+  pub unseen : kept_by state (after_turn w p y) ≡ kept_by state w
+  unseen =
+      let now = kept_by state w in
+      kept_alike w.capacity (map state (set w.processes.items p y)) now.states now.stopped now.queued now.queued
+      (hidden_write state w.processes.items p x here y same) refl
+
+  pub unseen_stands : Stands means state IsValid (after_turn w p y)
+  unseen_stands = record {
+    valid = set_each (λ q z. IsValid z) w.processes.items p x y here stands.valid valid;
+    kept = subst (StandsFor (means w.job)) (sym unseen) stands.kept;
+    reached = subst (λ (k : Kept). IsReached (means w.job) (world_of (means w.job) k)) (sym unseen) stands.reached;
+    channels = stands.channels;
+    few = stands.few;
+  }
+
 abbrev pub after_move : {J P : Type 0} → WorldState J P → Vec P Global → Vec (VecDeque PacketOfCode Global) Global → WorldState J P
 after_move w processes queues = record {
   job = w.job;

@@ -8,7 +8,7 @@ use Rattle.dv_proc.specs.declared.process.Process.{Process}
 use Rattle.dv_core.specs.ProcessState.{ProcessState}
 
 -- what it is to the world
-abbrev pub state_by : {L W : Type 0} → (L → View) → Process L W → ProcessState
+abbrev pub state_by : {L W R : Type 0} → (L → View) → Process L W R → ProcessState
 state_by view p = record {
   share = (view p.local).share;
   received = received_by p.incoming.items;
@@ -17,6 +17,6 @@ state_by view p = record {
 }
 
 -- its components, its links and its clock agree, and nothing that was done to its components is still to be settled
-pub record IsConservative {L W : Type 0} (view settled : L → View) (p : Process L W) : Type 0 where
+pub record IsConservative {L W R : Type 0} (view settled : L → View) (p : Process L W R) : Type 0 where
   pub process : IsProcess (view p.local) p.incoming.items p.outgoing.items p.clock
   pub at_rest : settled p.local ≡ view p.local

@@ -3,7 +3,6 @@
 ghost use Rattle.dv_core.specs.Conservative.{IsConservative, state_by};
 
 use crate::process::LogicalProcess;
-use dv_bag::Part;
 use dv_proc::{Local, Packet, Process, Refused, Turned};
 use dv_time::Time;
 use std::alloc::AllocError;
@@ -11,7 +10,11 @@ use std::alloc::AllocError;
 impl<L: Local + Drop> LogicalProcess for Process<L> {
     type Work = L::Work;
 
+    type Record = L::Record;
+
     ghost state = { state_by L.view };
+
+    ghost handed = { λ p. L.handed p.local };
 
     ghost valid = { IsConservative L.view L.settled };
 
@@ -38,11 +41,15 @@ impl<L: Local + Drop> LogicalProcess for Process<L> {
         Process::clock(self)
     }
 
-    fn committed(&self) -> &Part {
-        Process::committed(self)
+    fn record(&self) -> &L::Record {
+        Process::record(self)
     }
 
-    fn finish(self) -> (Part, Time) {
-        Process::into_part(self)
+    fn let_go(&mut self) {
+        Process::let_go(self);
+    }
+
+    fn finish(self) -> (L::Record, Time) {
+        Process::into_record(self)
     }
 }

@@ -16,6 +16,10 @@ pub mod state;
 /// Logical processes, the links between them, and their steps.
 pub mod world;
 
+/// Processes whose records keep what they committed as parts of a trace.
+pub mod parts;
+
+pub use parts::{committed, into_part, into_parts};
 pub use process::{LogicalProcess, PlannedJob};
 pub use state::WorldState;
 pub use step::{Ended, Reply, Step};

@@ -7,10 +7,11 @@ ghost use Rattle.dv_proc.specs.Packets.{meant_packet};
 ghost use Rattle.dv_core.specs.ProcessState.{IsReceived, IsSent, IsTurned, ProcessState};
 ghost use Rattle.dv_proc.specs.Midway.{meant_turned};
 ghost use Rattle.dv_proc.specs.Refusals.{meant_refusal};
+ghost use Rattle.dv_record.specs.Told.{Handed};
 ghost use Rattle.dv_time.specs.Limits.{greatest_tick};
 
-use dv_bag::Part;
 use dv_proc::{Packet, Refused, Turned};
+use dv_record::Record;
 use dv_time::Time;
 use std::alloc::AllocError;
 
@@ -20,7 +21,13 @@ pub trait LogicalProcess: Drop {
     /// What a turn works with and leaves nothing in, as the stack machine; one serves all processes.
     type Work;
 
+    /// What is told what it commits.
+    type Record: Record;
+
     ghost state: { Self → ProcessState };
+
+    /// How its record writes what is told, and what of that was handed over.
+    ghost handed: { Self → Handed };
 
     /// What holds of it from one call to the next.
     ghost valid: { Self → Type 0 };
@@ -35,7 +42,8 @@ pub trait LogicalProcess: Drop {
         ensures valid { valid self.new }
         ensures ok { IfOk result (λ answer. IsTurned (meant_turned answer)
             (state self.old) (state self.new)) }
-        ensures err { OnErr result (state self.new ≡ state self.old) };
+        ensures err { OnErr result (state self.new ≡ state self.old) }
+        ensures handed { handed self.new ≡ handed self.old };
 
     /// Takes a packet from a link that leads here.
     ///
@@ -51,7 +59,8 @@ pub trait LogicalProcess: Drop {
             ≡ refusal_of (state self.old).share (state self.old).received
             (meant_packet packet)) }
         ensures unchanged { OnErr result (state self.new ≡ state self.old) }
-        ensures handed_back { IfErr result (λ e. e.1 ≡ packet) };
+        ensures handed_back { IfErr result (λ e. e.1 ≡ packet) }
+        ensures handed { handed self.new ≡ handed self.old };
 
     /// The packet that stands for a link that leads away.
     fn out(&self, link: u32) -> Option<&Packet>
@@ -64,19 +73,30 @@ pub trait LogicalProcess: Drop {
         requires stands { (state self.old).position.standing link ≢ None }
         ensures valid { valid self.new }
         ensures packet { (state self.old).position.standing link ≡ Some (meant_packet result) }
-        ensures sent { IsSent link (state self.old) (state self.new) };
+        ensures sent { IsSent link (state self.old) (state self.new) }
+        ensures handed { handed self.new ≡ handed self.old };
 
     /// The clock: every instant before it is committed.
     fn clock(&self) -> Time
         ensures { result ≡ (state self.now).position.clock };
 
-    /// What was committed.
-    fn committed(&self) -> &Part
-        ensures { result.now ≡ (state self.now).part };
+    /// The record, which was told what was committed.
+    fn record(&self) -> &Self::Record
+        ensures told { Self.Record.told result.now ≡ (state self.now).part }
+        ensures handed { Self.Record.handed result.now ≡ handed self.now };
 
-    /// What was committed, and the clock.
-    fn finish(self) -> (Part, Time)
-        ensures part { result.0 ≡ (state self).part }
+    /// Lets go of the bytes of the record, which were handed over.
+    fn let_go(&mut self)
+        requires { valid self.old }
+        ensures valid { valid self.new }
+        ensures state { state self.new ≡ state self.old }
+        ensures handed { handed self.new ≡ record (handed self.old) {
+          text = (handed self.old).text_of (state self.old).part;
+        } };
+
+    /// The record, and the clock.
+    fn finish(self) -> (Self::Record, Time)
+        ensures told { Self.Record.told result.0 ≡ (state self).part }
         ensures clock { result.1 ≡ (state self).position.clock };
 }
 

@@ -1,7 +1,7 @@
 //! What a world keeps, and what steps do to it.
 
 ghost use Rattle.std.specs.Prelude.{◌≡◌, ◌≢◌, ◌+◌, ◌^◌, ◌≤◌, ◌<◌, ℕ, ◌↔◌, IsTrue, IfOk, OnErr, OnOk, map, [], length};
-ghost use Rattle.std.specs.Prelude.{replicate, slice_get, Some, vec_len, true, false};
+ghost use Rattle.std.specs.Prelude.{replicate, slice_get, slice_set, Some, vec_len, true, false};
 ghost use Rattle.dv_time.specs.Time.{end_of};
 ghost use Rattle.dv_conservative.specs.Rounds.{IsDriven, moves_from, round};
 ghost use Rattle.dv_conservative.specs.World.{IsRun, new_world};
@@ -13,7 +13,6 @@ ghost use Rattle.dv_core.specs.declared.step.Step.TheVariants as step;
 
 use crate::process::{LogicalProcess, PlannedJob};
 use crate::step::{Ended, Reply, Step};
-use dv_bag::Part;
 use dv_proc::{Channel, Packet, Refused};
 use dv_time::Time;
 use std::alloc::{AllocError, Global};
@@ -68,13 +67,13 @@ impl<J: PlannedJob, P: LogicalProcess> WorldState<J, P> {
         })
     }
 
-    /// What each process has committed, and the clock of each, by their numbers.
+    /// The record of each process, which was told what it committed, and the clock of each, by their numbers.
     ///
     /// # Errors
     ///
     /// No memory.
-    pub fn finish(self, alloc: Global) -> Result<(Vec<Part>, Vec<Time>), AllocError>
-        ensures parts { IfOk result (λ r. r.0.items
+    pub fn finish(self, alloc: Global) -> Result<(Vec<P::Record>, Vec<Time>), AllocError>
+        ensures told { IfOk result (λ r. map P.Record.told r.0.items
             ≡ map (λ x. (P.state x).part) self.processes.items) }
         ensures clocks { IfOk result (λ r. r.1.items
             ≡ map (λ x. (P.state x).position.clock) self.processes.items) }
@@ -87,21 +86,23 @@ impl<J: PlannedJob, P: LogicalProcess> WorldState<J, P> {
             queues: _,
             capacity: _,
         } = self;
-        let mut parts = Vec::with_capacity(alloc, processes.len())?;
+        let mut records = Vec::with_capacity(alloc, processes.len())?;
         let mut clocks = Vec::with_capacity(alloc, processes.len())?;
         for process in processes {
-            let (part, clock) = process.finish();
-            parts.push_reserved(part);
+            let (told, clock) = process.finish();
+            records.push_reserved(told);
             clocks.push_reserved(clock);
         }
-        Ok((parts, clocks))
+        Ok((records, clocks))
     }
 
     /// A turn of a process.
     fn turn(&mut self, work: &mut P::Work, process: u32) -> Reply
         requires { Stands J.means P.state P.valid self.old }
-        ensures { IsStepped J.means P.state P.valid (step.Turn process) result
+        ensures stepped { IsStepped J.means P.state P.valid (step.Turn process) result
             self.old self.new }
+        ensures handed { map P.handed self.new.processes.items
+            ≡ map P.handed self.old.processes.items }
     {
         let place = process as usize;
         if place >= self.processes.len() {
@@ -120,7 +121,10 @@ impl<J: PlannedJob, P: LogicalProcess> WorldState<J, P> {
     /// The packet that stands at a link's sender goes to the link's end.
     fn put(&mut self, link: u32) -> Reply
         requires { Stands J.means P.state P.valid self.old }
-        ensures { IsStepped J.means P.state P.valid (step.Put link) result self.old self.new }
+        ensures stepped { IsStepped J.means P.state P.valid (step.Put link) result
+            self.old self.new }
+        ensures handed { map P.handed self.new.processes.items
+            ≡ map P.handed self.old.processes.items }
     {
         let place = link as usize;
         if place >= self.channels.len() {
@@ -149,7 +153,10 @@ impl<J: PlannedJob, P: LogicalProcess> WorldState<J, P> {
     /// The front packet of a link goes to its receiver.
     fn take(&mut self, link: u32) -> Reply
         requires { Stands J.means P.state P.valid self.old }
-        ensures { IsStepped J.means P.state P.valid (step.Take link) result self.old self.new }
+        ensures stepped { IsStepped J.means P.state P.valid (step.Take link) result
+            self.old self.new }
+        ensures handed { map P.handed self.new.processes.items
+            ≡ map P.handed self.old.processes.items }
     {
         let place = link as usize;
         if place >= self.channels.len() {
@@ -266,6 +273,8 @@ impl<J: PlannedJob, P: LogicalProcess> WorldState<J, P> {
             (shown J.means P.state self.old) (shown J.means P.state self.new) }
         ensures job { self.new.job ≡ self.old.job }
         ensures stands { Stands J.means P.state P.valid self.new }
+        ensures handed { map P.handed self.new.processes.items
+            ≡ map P.handed self.old.processes.items }
     {
         let count = self.processes.len() as u32;
         for process in 0..count {
@@ -287,6 +296,8 @@ impl<J: PlannedJob, P: LogicalProcess> WorldState<J, P> {
             (shown J.means P.state self.old) (shown J.means P.state self.new) }
         ensures job { self.new.job ≡ self.old.job }
         ensures stands { Stands J.means P.state P.valid self.new }
+        ensures handed { map P.handed self.new.processes.items
+            ≡ map P.handed self.old.processes.items }
     {
         let count = self.channels.len() as u32;
         for link in 0..count {
@@ -311,6 +322,8 @@ impl<J: PlannedJob, P: LogicalProcess> WorldState<J, P> {
             (shown J.means P.state self.old) (shown J.means P.state self.new) }
         ensures job { self.new.job ≡ self.old.job }
         ensures stands { Stands J.means P.state P.valid self.new }
+        ensures handed { map P.handed self.new.processes.items
+            ≡ map P.handed self.old.processes.items }
     {
         if !self.turns(work) {
             return false;
@@ -333,6 +346,8 @@ impl<J: PlannedJob, P: LogicalProcess> WorldState<J, P> {
         ensures true_to_model { IsTrueToModel (J.means self.new.job) (kept_by P.state self.new) }
         ensures job { self.new.job ≡ self.old.job }
         ensures stands { Stands J.means P.state P.valid self.new }
+        ensures handed { map P.handed self.new.processes.items
+            ≡ map P.handed self.old.processes.items }
     {
         for _done in 0..limit {
             if self.whole() {
@@ -346,6 +361,22 @@ impl<J: PlannedJob, P: LogicalProcess> WorldState<J, P> {
             return Ended::Whole;
         }
         Ended::Stalled
+    }
+
+    /// The record of a process lets go of the bytes that were handed over.
+    pub fn let_go(&mut self, process: u32)
+        requires stands { Stands J.means P.state P.valid self.old }
+        requires process { process < vec_len self.old.processes }
+        ensures stands { Stands J.means P.state P.valid self.new }
+        ensures job { self.new.job ≡ self.old.job }
+        ensures kept { kept_by P.state self.new ≡ kept_by P.state self.old }
+        ensures handed { (x : P) → slice_get self.old.processes.items process ≡ Some x
+            → map P.handed self.new.processes.items
+            ≡ slice_set (map P.handed self.old.processes.items) process
+            (record (P.handed x) { text = (P.handed x).text_of (P.state x).part }) }
+    {
+        let owner = &mut self.processes[process as usize];
+        owner.let_go();
     }
 
     /// The process of a number.

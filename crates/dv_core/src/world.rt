@@ -3,7 +3,6 @@
 use crate::process::{LogicalProcess, PlannedJob};
 use crate::state::WorldState;
 use crate::step::{Ended, Reply, Step};
-use dv_bag::Part;
 use dv_proc::Channel;
 use dv_time::Time;
 use std::alloc::{AllocError, Global};
@@ -28,7 +27,8 @@ impl<J: PlannedJob, P: LogicalProcess> Model for World<J, P> {
 }
 
 impl<J: PlannedJob, P: LogicalProcess> World<J, P> {
-    ghost use Rattle.std.specs.Prelude.{◌≡◌, ◌≢◌, ◌+◌, ◌≤◌, ◌<◌, ℕ, ◌↔◌, IsTrue, IfOk, OnErr, map, length, slice_get, Some, vec_len};
+    ghost use Rattle.std.specs.Prelude.{◌≡◌, ◌≢◌, ◌+◌, ◌≤◌, ◌<◌, ℕ, ◌↔◌, IsTrue, IfOk, OnErr};
+    ghost use Rattle.std.specs.Prelude.{map, length, slice_get, slice_set, Some, vec_len};
     ghost use Rattle.dv_time.specs.Time.{end_of};
     ghost use Rattle.dv_conservative.specs.World.{IsRun, new_world};
     ghost use Rattle.dv_core.specs.Worlds.{AreMadeFor, AreTheTrace, EndsAs, IsAnswered, IsTrueToModel, IsWhole, kept_by, shown};
@@ -111,8 +111,23 @@ impl<J: PlannedJob, P: LogicalProcess> World<J, P> {
             → AreTheTrace (J.means self.new.job) (map P.state self.new.processes.items) }
         ensures true_to_model { IsTrueToModel (J.means self.new.job) (kept_by P.state self.new) }
         ensures job { self.new.job ≡ self.old.job }
+        ensures handed { map P.handed self.new.processes.items
+            ≡ map P.handed self.old.processes.items }
     {
         self.state.serial(work, limit)
+    }
+
+    /// The record of a process lets go of the bytes that were handed over. Nothing else changes that is seen.
+    pub fn let_go(&mut self, process: u32)
+        requires { process < (J.means self.old.job).processes }
+        ensures job { self.new.job ≡ self.old.job }
+        ensures kept { kept_by P.state self.new ≡ kept_by P.state self.old }
+        ensures handed { (x : P) → slice_get self.old.processes.items process ≡ Some x
+            → map P.handed self.new.processes.items
+            ≡ slice_set (map P.handed self.old.processes.items) process
+            (record (P.handed x) { text = (P.handed x).text_of (P.state x).part }) }
+    {
+        self.state.let_go(process);
     }
 
     /// The process of a number.
@@ -138,13 +153,13 @@ impl<J: PlannedJob, P: LogicalProcess> World<J, P> {
         self.state.job()
     }
 
-    /// What each process has committed, and the clock of each, by their numbers.
+    /// The record of each process, which was told what it committed, and the clock of each, by their numbers.
     ///
     /// # Errors
     ///
     /// No memory.
-    pub fn finish(self, alloc: Global) -> Result<(Vec<Part>, Vec<Time>), AllocError>
-        ensures parts { IfOk result (λ r. r.0.items
+    pub fn finish(self, alloc: Global) -> Result<(Vec<P::Record>, Vec<Time>), AllocError>
+        ensures told { IfOk result (λ r. map P.Record.told r.0.items
             ≡ map (λ x. (P.state x).part) self.processes.items) }
         ensures clocks { IfOk result (λ r. r.1.items
             ≡ map (λ x. (P.state x).position.clock) self.processes.items) }

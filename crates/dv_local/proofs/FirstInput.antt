@@ -8,6 +8,7 @@ use Rattle.std.proofs.lemmas.Bool.Decides.{nat_tests}
 use Rattle.dv_time.specs.Time.{IsOfRun, is_before, rank, time_of}
 use Rattle.dv_time.specs.declared.time.Time.{Time}
 use Rattle.dv_time.proofs.Ranks.{is_before-rank, time_of-rank}
+use Rattle.dv_bag.specs.Part.{PartOf}
 use Rattle.dv_bag.specs.Bag.{bag_at, total}
 use Rattle.dv_bag.specs.Inputs.{IsByTime, inputs_at, is_passed, next_from}
 use Rattle.dv_bag.specs.declared.inputs.Input.{Input}
@@ -88,9 +89,9 @@ next_there limit t (x ∷ xs) u e = step (is_passed limit t x) (next_there limit
         (there.0, (suc c.0, omega (arith, c.1), c.2), there.2)
     step false rest h = let same : x.time ≡ u = cc in (x, (0, omega arith, refl), same)
 
-module _ {S : Type 0} (behaviour : S → Behaviour) (x : LocalState S) where
+module _ {S R : Type 0} (behaviour : S → Behaviour) (told : R → PartOf) (x : LocalState S R) where
   abbrev pub v : View
-  v = view_by behaviour x
+  v = view_by behaviour told x
 
   abbrev pub limit : ℕ
   limit = x.share.tables.limit

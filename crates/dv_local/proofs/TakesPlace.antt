@@ -40,7 +40,7 @@ use Rattle.dv_local.specs.Undoing.{arrivals_but, is_taken}
 use Rattle.dv_local.specs.declared.state.LocalState.{LocalState}
 use Rattle.dv_local.proofs.Sending.{same_numbers}
 
-module _ {S : Type 0} (behaviour : S → Behaviour) (x : LocalState S) (n : ℕ) (outside : List Counts) (ds : List Delivery)
+module _ {S R : Type 0} (behaviour : S → Behaviour) (x : LocalState S R) (n : ℕ) (outside : List Counts) (ds : List Delivery)
     (os : List (Placed Outcome)) where
   instant_part : AreEmitted behaviour x.share.tables n x.components.running.items x.emitted.items
       → AreOutcomes behaviour x.share.tables n x.components.running.items outside ds x.emitted.items os
@@ -72,12 +72,13 @@ delivered [] = refl
 delivered (x ∷ xs) = ap (λ (ds : List Delivery). delivery_of x ∷ ds) (delivered xs)
 
 -- what comes in is what is seen to come in
-pub input_is : {S : Type 0} (behaviour : S → Behaviour) (x : LocalState S) (now : Time) (outside : List Counts) (ds : List DeliveryOfCode)
+pub input_is : {S R : Type 0} (behaviour : S → Behaviour) (told : R → PartOf) (x : LocalState S R) (now : Time) (outside : List Counts)
+    (ds : List DeliveryOfCode)
     → IsOfRun x.share.tables.limit now → x.undo.taken ≡ None
     → outside ≡ inputs_at x.share.tables.limit x.share.ports x.share.inputs (rank x.share.tables.limit now)
     → ds ≡ map delivered_by (arrivals_at now x.inbox) → (outside, deliveries_of ds)
-    ≡ input_at (view_by behaviour x) (rank x.share.tables.limit now)
-input_is behaviour x now outside ds of_run taken o d =
+    ≡ input_at (view_by behaviour told x) (rank x.share.tables.limit now)
+input_is behaviour told x now outside ds of_run taken o d =
     let limit = x.share.tables.limit in
     ap₂ (λ (a : List Counts) (b : List Delivery). (a, b)) o
     (ap (λ (es : List DeliveryOfCode). deliveries_of es) d
@@ -89,9 +90,8 @@ not_taken : (limit m : ℕ) (now : Time) → IsOfRun limit now → rank limit no
 not_taken limit m now of_run lt =
     same_as_rank limit m now of_run ∙ differ (rank limit now) m (λ e. absurd (omega (arith, lt, e)))
 
-module _ {S : Type 0} (behaviour : S → Behaviour) (fits : S → State → Type 0) (x : LocalState S) (now : Time) (outside : List Counts)
-    (ds : List Delivery)
-    (xs : List (Placed (List Counts))) where
+module _ {S R : Type 0} (behaviour : S → Behaviour) (fits : S → State → Type 0) (told : R → PartOf) (x : LocalState S R) (now : Time)
+    (outside : List Counts) (ds : List Delivery) (xs : List (Placed (List Counts))) where
   abbrev tables : Tables S
   tables = x.share.tables
 
@@ -103,14 +103,14 @@ module _ {S : Type 0} (behaviour : S → Behaviour) (fits : S → State → Type
 
   -- what components committed that reacted to all that comes is the part of the instant, and they are those after it
   pub took_place : (ss : List Running) (p : PartOf) (visits : ℕ) → IsOfRun tables.limit now
-      → (outside, ds) ≡ input_at (view_by behaviour x) n
+      → (outside, ds) ≡ input_at (view_by behaviour told x) n
       → AreComponents fits tables standing → AreEmitted behaviour tables n standing x.emitted.items
       → AreAmong (places_of x.emitted.items) (places_of xs) → AreReceived tables.members.items (coming tables x.emitted.items outside ds) xs
-      → HaveReacted behaviour fits tables n standing x.emitted.items xs (places_of xs) ss x.committed.entries p.entries
-      → p.outer ≡ x.committed.outer
+      → HaveReacted behaviour fits tables n standing x.emitted.items xs (places_of xs) ss (told x.record).entries p.entries
+      → p.outer ≡ (told x.record).outer
       ++ outer_from tables.limit n 0 (inbox 0 (carried tables.exits (sent_in tables.members.items x.emitted.items)) 0 tables.outputs)
       → x.undo.taken ≡ None
-      → IsAfterInstant n (view_by behaviour x)
+      → IsAfterInstant n (view_by behaviour told x)
       (let v : View = record {
         share = share_by behaviour x.share;
         components = components_of tables.limit ss;
@@ -128,7 +128,7 @@ module _ {S : Type 0} (behaviour : S → Behaviour) (fits : S → State → Type
       let stand : StandByPlace (length tables.members.items) os =
       subst (λ (k : ℕ). StandByPlace k os) are.count outcomes.places in
       let entries = reacted.entries
-      ∙ ap (λ (es : List Entry). x.committed.entries ++ es)
+      ∙ ap (λ (es : List Entry). (told x.record).entries ++ es)
       (entries_of_instant limit n x.emitted.items tables.members.items standing os are.count stand) in
       record {
         share = refl;
@@ -137,7 +137,7 @@ module _ {S : Type 0} (behaviour : S → Behaviour) (fits : S → State → Type
             ∙ ap (λ (i : List Counts × List Delivery). components_after limit net n i (components_of limit standing)) input;
         committed =
             ap₂ (λ (es : List Entry) (ls : List Outer). let q : PartOf = record { entries = es; outer = ls } in q) entries outer
-            ∙ ap (λ (q : PartOf). joined x.committed q)
+            ∙ ap (λ (q : PartOf). joined (told x.record) q)
             (instant_part behaviour x n outside ds os emitted outcomes _ _ refl refl
             ∙ ap (λ (i : List Counts × List Delivery). part_of_instant limit net n i (components_of limit standing)) input);
         held = λ m lt.

@@ -1,9 +1,10 @@
 -- What the components of a process stand at.
-use Rattle.std.specs.Prelude.{◌≡◌, ℕ, ◌<◌, List, [], map, take, length, Option, None, Some}
+use Rattle.std.specs.Prelude.{◌≡◌, ℕ, ◌<◌, List, [], map, length, Option, None, Some}
 use Rattle.std.specs.List.{All}
 use Rattle.dv_time.specs.Time.{IsOfRun, rank, time_of}
 use Rattle.dv_time.specs.declared.time.Time.{Time}
 use Rattle.dv_bag.specs.Bag.{Counts}
+use Rattle.dv_bag.specs.Part.{PartOf}
 use Rattle.dv_bag.specs.declared.state.State.{State}
 use Rattle.dv_devs.specs.Behaviour.{Behaviour}
 use Rattle.dv_react.specs.Components.{components_of}
@@ -26,27 +27,27 @@ abbrev pub held_by : ℕ → Option Time → Arrivals → ℕ → List Delivery
 held_by limit taken inbox n = map delivery_of (arrivals_but taken (time_of limit n) inbox)
 
 -- what is seen of it
-abbrev pub view_by : {S : Type 0} → (S → Behaviour) → LocalState S → View
-view_by behaviour x = record {
+abbrev pub view_by : {S R : Type 0} → (S → Behaviour) → (R → PartOf) → LocalState S R → View
+view_by behaviour told x = record {
   share = share_by behaviour x.share;
   components = components_of x.share.tables.limit x.components.running.items;
-  committed = x.committed;
+  committed = told x.record;
   held = held_by x.share.tables.limit x.undo.taken x.inbox;
   visits = x.components.visits;
 }
 
 -- what was seen when all was settled
-abbrev pub settled_by : {S : Type 0} → (S → Behaviour) → LocalState S → View
-settled_by behaviour x = record {
+abbrev pub settled_by : {S R : Type 0} → (S → Behaviour) → (R → PartOf) → LocalState S R → View
+settled_by behaviour settled x = record {
   share = share_by behaviour x.share;
   components = components_of x.share.tables.limit (undone x.undo.before.items x.components.running.items);
-  committed = record { entries = take x.undo.entries x.committed.entries; outer = take x.undo.outer x.committed.outer };
+  committed = settled x.record;
   held = held_by x.share.tables.limit None x.inbox;
   visits = x.undo.visits;
 }
 
 -- what was sent at the time that was last asked about
-abbrev pub sent_of : {S : Type 0} → LocalState S → List (List Counts)
+abbrev pub sent_of : {S R : Type 0} → LocalState S R → List (List Counts)
 sent_of x = sents_by 0 x.share.tables.members.items x.emitted.items
 
 -- an arrival brings something: there is a copy, and a port for it
@@ -59,15 +60,15 @@ AllArrive limit ms inbox =
     ((t : Time) → All (IsOfPort ms) (arrivals_at t inbox)) × ((t : Time) → 0 < length (arrivals_at t inbox) → IsOfRun limit t)
 
 -- what was emitted at a time, if there is one
-abbrev pub AreEmittedIf : {S : Type 0} → (S → Behaviour) → LocalState S → Option Time → Type 0
+abbrev pub AreEmittedIf : {S R : Type 0} → (S → Behaviour) → LocalState S R → Option Time → Type 0
 AreEmittedIf behaviour x None = Unit {0}
 AreEmittedIf behaviour x (Some t) =
     IsOfRun x.share.tables.limit t
     × AreEmitted behaviour x.share.tables (rank x.share.tables.limit t) x.components.running.items x.emitted.items
 
 -- what is always so
-pub record IsKept {S : Type 0} (behaviour : S → Behaviour) (fits : S → State → Type 0) (comes : S → List Counts → Type 0)
-    (x : LocalState S) : Type 0 where
+pub record IsKept {S R : Type 0} (behaviour : S → Behaviour) (fits : S → State → Type 0) (comes : S → List Counts → Type 0)
+    (x : LocalState S R) : Type 0 where
   pub share : IsShare fits x.share
   pub all_come : (a : S) (bags : List Counts) → comes a bags
   pub components : AreComponents fits x.share.tables x.components.running.items
@@ -79,8 +80,7 @@ pub record IsKept {S : Type 0} (behaviour : S → Behaviour) (fits : S → State
   pub still : AreEmittedIf behaviour x x.emitted_at
 
 -- nothing was put in since all was settled
-pub record IsAtRest {S : Type 0} (x : LocalState S) : Type 0 where
+pub record IsAtRest {S R : Type 0} (told settled : R → PartOf) (x : LocalState S R) : Type 0 where
   pub before : x.undo.before.items ≡ []
-  pub entries : x.undo.entries ≡ length x.committed.entries
-  pub outer : x.undo.outer ≡ length x.committed.outer
+  pub committed : settled x.record ≡ told x.record
   pub taken : x.undo.taken ≡ None

@@ -2,6 +2,7 @@
 
 ghost use Rattle.std.specs.Prelude.{◌≡◌, ◌<◌, ◌^◌, ℕ, Bool, List, [], IfOk, length, None};
 ghost use Rattle.dv_bag.specs.Bag.{Counts};
+ghost use Rattle.dv_bag.specs.Part.{nothing};
 ghost use Rattle.dv_bag.specs.declared.state.State.{State};
 ghost use Rattle.dv_conservative.specs.Process.{first_time};
 ghost use Rattle.dv_conservative.specs.Sound.{IsSoundShare};
@@ -19,19 +20,21 @@ use crate::share::{Share, Way};
 use crate::state::LocalState;
 use dv_proc::Process;
 use dv_react::{Atomic, Running};
+use dv_record::Record;
 use dv_share::Member;
 use std::alloc::{AllocError, Global};
 
 /// A process at 0.0 of the components of a share as they start: nothing came, was committed or was sent. No component may
-/// be imminent at 0.0.
+/// be imminent at 0.0. What happens to them is told to a record, which was told nothing yet.
 ///
 /// # Errors
 ///
 /// No memory.
-pub fn begin<A: Atomic + Drop>(
+pub fn begin<A: Atomic + Drop, R: Record>(
     alloc: Global,
     share: Share<A>,
-) -> Result<Process<LocalRun<A>>, AllocError>
+    to: R,
+) -> Result<Process<LocalRun<A, R>>, AllocError>
     requires few { length share.tables.members.items < 2 ^ 32 }
     requires comes { (a : A) (bags : List Counts) → A.comes a bags }
     requires share { IsShare A.fits share }
@@ -40,22 +43,25 @@ pub fn begin<A: Atomic + Drop>(
     requires sound { (fits : ℕ → State → Bool) × IsSoundShare fits (share_by A.behaviour share) }
     requires apart_in { AreApart share.sources.items }
     requires apart_out { AreApart (numbers_of_ways share.ways.items) }
-    ensures process { IfOk result (λ p. IsProcess (view_by A.behaviour p.local)
+    requires told { R.told to ≡ nothing }
+    requires at_rest { R.settled to ≡ R.told to }
+    ensures process { IfOk result (λ p. IsProcess (view_by A.behaviour R.told p.local)
         p.incoming.items p.outgoing.items p.clock) }
-    ensures settled { IfOk result (λ p. settled_by A.behaviour p.local
-        ≡ view_by A.behaviour p.local) }
-    ensures share { IfOk result (λ p. (view_by A.behaviour p.local).share
+    ensures settled { IfOk result (λ p. settled_by A.behaviour R.settled p.local
+        ≡ view_by A.behaviour R.told p.local) }
+    ensures share { IfOk result (λ p. (view_by A.behaviour R.told p.local).share
         ≡ share_by A.behaviour share) }
     ensures received { IfOk result (λ p. (l : ℕ) → received_by p.incoming.items l ≡ []) }
     ensures standing { IfOk result (λ p. (l : ℕ) → standing_by p.outgoing.items l ≡ None) }
     ensures promised { IfOk result (λ p. (l : ℕ) → promised_by p.outgoing.items l ≡ first_time) }
     ensures clock { IfOk result (λ p. p.clock ≡ first_time) }
-    ensures visits { IfOk result (λ p. (view_by A.behaviour p.local).visits ≡ 0) }
+    ensures visits { IfOk result (λ p. (view_by A.behaviour R.told p.local).visits ≡ 0) }
+    ensures handed { IfOk result (λ p. R.handed p.local.record ≡ R.handed to) }
 {
     let sources = Vec::from_slice(alloc, share.sources.as_slice())?;
     let ways = numbers_of(alloc, share.ways.as_slice())?;
     let running = starts_of(alloc, share.tables.members.as_slice())?;
-    let state = LocalState::new(alloc, share, running)?;
+    let state = LocalState::new(alloc, share, running, to)?;
     Ok(Process::new(alloc, LocalRun::new(state), &sources, &ways)?)
 }
 

@@ -1,13 +1,13 @@
 //! The components to which something happens at an instant react, and what happens is committed.
 
-ghost use Rattle.std.specs.Prelude.{◌≡◌, ◌<◌, ◌+◌, ◌∷◌, [], List, Some, IfOk, MatchOption, OnOk, length, slice_get, slice_set};
+ghost use Rattle.std.specs.Prelude.{◌≡◌, ◌<◌, ◌+◌, ◌++◌, [], List, Some, IfOk, MatchOption, OnErr, OnOk, length, slice_get, slice_set};
 ghost use Rattle.std.specs.Prelude.{vec_capacity, vec_len};
 ghost use Rattle.std.specs.Option.{option_map};
 ghost use Rattle.dv_bag.specs.Bag.{Counts};
 ghost use Rattle.dv_react.specs.Components.{rank_of};
 ghost use Rattle.dv_react.specs.Outcomes.{happened_in, left_by, sent_of};
 ghost use Rattle.dv_devs.specs.Network.{entry_of};
-ghost use Rattle.dv_react.specs.Committed.{HasGrown};
+ghost use Rattle.dv_record.specs.Told.{IsOpenAt};
 ghost use Rattle.dv_share.specs.Places.{AreRising, places_of};
 ghost use Rattle.dv_share.specs.Rows.{number_of};
 ghost use Rattle.dv_share.specs.Share.{AreComponents, AreEmitted, AreTables, StandByPlace, given_at};
@@ -18,34 +18,36 @@ ghost use Rattle.dv_local.specs.declared.commit.Left.{Left};
 use crate::components::Components;
 use crate::undo::{push_to_room, time_of};
 use dv_agenda::Agenda;
-use dv_bag::{Bags, Entry, Fault, Part, Sent, What};
+use dv_bag::{Bags, Fault, Sent, What};
 use dv_react::{Atomic, Instant, Outcome, Running, Wait};
+use dv_record::Record;
 use dv_share::{Placed, Tables, outcome, sent_at};
-use std::alloc::{AllocError, Global};
+use std::alloc::AllocError;
 
-/// What an instant is computed from, beside the components: the tables, the instant itself, and what was emitted at it.
+/// What an instant is computed from, beside the components: the tables, the instant itself, what was emitted at it, and
+/// what a component sent that emitted nothing.
 #[derive(Clone, Copy)]
 pub(crate) struct Moment<'a, A> {
     pub tables: &'a Tables<A>,
     pub instant: &'a Instant,
     pub emitted: &'a [Placed<Result<Sent, Fault>>],
-    pub alloc: Global,
+    pub nothing: &'a Sent,
 }
 
-/// Lets the components that emitted or receive something react, one after the other. What happens is committed; a
-/// component that changes is put in its place, and the one that stood there is appended to `before`.
+/// Lets the components that emitted or receive something react, one after the other. What happens is told; a component
+/// that changes is put in its place, and the one that stood there is appended to `before`.
 ///
 /// # Errors
 ///
 /// No memory. Some components may have reacted then: with those put back that stood before, the last first, all stand again
 /// as they did.
-pub(crate) fn commit<A: Atomic>(
+pub(crate) fn commit<A: Atomic, R: Record>(
     moment: &Moment<'_, A>,
     work: &mut A::Work,
     received: &[Placed<Bags>],
     components: &mut Components,
     agenda: &mut Agenda,
-    committed: &mut Part,
+    to: &mut R,
     before: &mut Vec<Placed<Running>>,
 ) -> Result<(), AllocError>
     requires tables { AreTables A.fits moment.now.tables.now }
@@ -57,35 +59,39 @@ pub(crate) fn commit<A: Atomic>(
     requires received { StandByPlace (length moment.now.tables.now.members.items) received.now }
     requires agenda { agenda.old ≡ waits_of components.old.running.items }
     requires within { AreWithin (length components.old.running.items) before.old.items }
+    requires nothing { moment.now.nothing.now ≡ [] }
+    requires is_open { IsOpenAt moment.now.instant.now.time (R.told to.old) }
     ensures reacted { OnOk result (HaveReacted A.behaviour A.fits moment.now.tables.now
         (rank_of moment.now.instant.now) components.old.running.items moment.now.emitted.now
         received.now (places_of received.now) components.new.running.items
-        committed.old.entries committed.new.entries) }
+        (R.told to.old).entries (R.told to.new).entries) }
     ensures components { AreComponents A.fits moment.now.tables.now components.new.running.items }
     ensures agenda { agenda.new ≡ waits_of components.new.running.items }
     ensures within { AreWithin (length components.new.running.items) before.new.items }
     ensures before { undone before.new.items components.new.running.items
         ≡ undone before.old.items components.old.running.items }
     ensures visits { components.new.visits ≡ components.old.visits }
-    ensures count { length before.new.items + length committed.old.entries
-        ≡ length before.old.items + length committed.new.entries }
-    ensures entries { HasGrown committed.old.entries committed.new.entries }
-    ensures outer { committed.new.outer ≡ committed.old.outer }
+    ensures count { length before.new.items + length (R.told to.old).entries
+        ≡ length before.old.items + length (R.told to.new).entries }
+    ensures outer { (R.told to.new).outer ≡ (R.told to.old).outer }
+    ensures is_open { IsOpenAt moment.now.instant.now.time (R.told to.new) }
+    ensures settled { R.settled to.new ≡ R.settled to.old }
+    ensures handed { R.handed to.new ≡ R.handed to.old }
 {
     for arrival in received {
-        commit_one(moment, work, arrival, components, agenda, committed, before)?;
+        commit_one(moment, work, arrival, components, agenda, to, before)?;
     }
     Ok(())
 }
 
 // The component at the place of an arrival reacts.
-fn commit_one<A: Atomic>(
+fn commit_one<A: Atomic, R: Record>(
     moment: &Moment<'_, A>,
     work: &mut A::Work,
     arrival: &Placed<Bags>,
     components: &mut Components,
     agenda: &mut Agenda,
-    committed: &mut Part,
+    to: &mut R,
     before: &mut Vec<Placed<Running>>,
 ) -> Result<(), AllocError>
     requires tables { AreTables A.fits moment.now.tables.now }
@@ -98,20 +104,24 @@ fn commit_one<A: Atomic>(
         moment.now.emitted.now components.old.running.items arrival.now.place }
     requires agenda { agenda.old ≡ waits_of components.old.running.items }
     requires within { AreWithin (length components.old.running.items) before.old.items }
+    requires nothing { moment.now.nothing.now ≡ [] }
+    requires is_open { IsOpenAt moment.now.instant.now.time (R.told to.old) }
     ensures reacted { OnOk result (HasReacted A.behaviour A.fits moment.now.tables.now
         (rank_of moment.now.instant.now) moment.now.emitted.now arrival.now
         components.old.running.items
-        components.new.running.items committed.old.entries committed.new.entries) }
+        components.new.running.items (R.told to.old).entries (R.told to.new).entries) }
     ensures components { AreComponents A.fits moment.now.tables.now components.new.running.items }
     ensures agenda { agenda.new ≡ waits_of components.new.running.items }
     ensures within { AreWithin (length components.new.running.items) before.new.items }
     ensures before { undone before.new.items components.new.running.items
         ≡ undone before.old.items components.old.running.items }
     ensures visits { components.new.visits ≡ components.old.visits }
-    ensures count { length before.new.items + length committed.old.entries
-        ≡ length before.old.items + length committed.new.entries }
-    ensures entries { HasGrown committed.old.entries committed.new.entries }
-    ensures outer { committed.new.outer ≡ committed.old.outer }
+    ensures count { length before.new.items + length (R.told to.old).entries
+        ≡ length before.old.items + length (R.told to.new).entries }
+    ensures outer { (R.told to.new).outer ≡ (R.told to.old).outer }
+    ensures is_open { IsOpenAt moment.now.instant.now.time (R.told to.new) }
+    ensures settled { R.settled to.new ≡ R.settled to.old }
+    ensures handed { R.handed to.new ≡ R.handed to.old }
 {
     let component = &components.running[arrival.place as usize];
     let outcome = outcome(
@@ -125,9 +135,8 @@ fn commit_one<A: Atomic>(
     let Some(left) = left_by(component, outcome)? else {
         return Ok(());
     };
-    let entry = entry_at(moment, arrival.place, left.what)?;
     before.reserve(1)?;
-    committed.push_entry(entry)?;
+    tell(moment, arrival.place, left.what, to)?;
     put_in(components, agenda, before, arrival.place, left.after);
     Ok(())
 }
@@ -171,21 +180,30 @@ fn left_by(component: &Running, outcome: Outcome) -> Result<Option<Left>, AllocE
     }
 }
 
-// The entry of what happened to the component at a place.
-fn entry_at<A>(moment: &Moment<'_, A>, place: u32, what: What) -> Result<Entry, AllocError>
+// Tells what happened to the component at a place, and what it sent.
+fn tell<A, R: Record>(
+    moment: &Moment<'_, A>,
+    place: u32,
+    what: What,
+    to: &mut R,
+) -> Result<(), AllocError>
     requires place { place < length moment.now.tables.now.members.items }
     requires rise { AreRising (places_of moment.now.emitted.now) }
-    ensures { IfOk result (λ entry. entry ∷ [] ≡ entry_of moment.now.instant.now.limit
-        (rank_of moment.now.instant.now)
+    requires nothing { moment.now.nothing.now ≡ [] }
+    requires is_open { IsOpenAt moment.now.instant.now.time (R.told to.old) }
+    ensures entries { OnOk result ((R.told to.new).entries ≡ (R.told to.old).entries
+        ++ entry_of moment.now.instant.now.limit (rank_of moment.now.instant.now)
         (number_of (slice_get moment.now.tables.now.members.items place))
         (Some (what, sent_of (given_at place moment.now.emitted.now)))) }
+    ensures outer { (R.told to.new).outer ≡ (R.told to.old).outer }
+    ensures err { OnErr result (R.told to.new ≡ R.told to.old) }
+    ensures is_open { IsOpenAt moment.now.instant.now.time (R.told to.new) }
+    ensures settled { R.settled to.new ≡ R.settled to.old }
+    ensures handed { R.handed to.new ≡ R.handed to.old }
 {
-    Ok(Entry {
-        time: moment.instant.time,
-        component: moment.tables.members[place as usize].number,
-        what,
-        sent: sent_at(moment.alloc, moment.emitted, place)?,
-    })
+    let component = moment.tables.members[place as usize].number;
+    let sent = sent_at(moment.emitted, place, moment.nothing);
+    to.happened(moment.instant.time, component, what, sent)
 }
 
 // Puts a component in its place, and the one that stood there behind those that stood before, where there is room for it.

@@ -1,26 +1,27 @@
 //! What a process asks of its components, over what they stand at.
 
 use crate::state::LocalState;
-use dv_bag::{Part, Response};
+use dv_bag::Response;
 use dv_proc::{Event, Frame, Local};
 use dv_react::Atomic;
+use dv_record::Record;
 use dv_time::Time;
 use std::alloc::AllocError;
 use std::marker::Model;
 
 /// What the components of a process stand at, with all that is always so of it.
 #[derive(Drop)]
-pub struct LocalRun<A: Atomic> {
-    state: LocalState<A>,
+pub struct LocalRun<A: Atomic, R: Record> {
+    state: LocalState<A, R>,
 }
 
-impl<A: Atomic> Model for LocalRun<A> {
+impl<A: Atomic, R: Record> Model for LocalRun<A, R> {
     ghost use Rattle.std.specs.Coded.{codes};
     ghost use Rattle.dv_agenda.specs.contracts.inbox.Inbox as inbox;
     ghost use Rattle.dv_local.specs.declared.state.LocalState.{LocalState};
     ghost use Rattle.dv_local.specs.States.{IsKept};
 
-    ghost Value = { LocalState A };
+    ghost Value = { LocalState A R };
 
     ghost coded = { Prim.hlevel (codes, inbox.the_row.coded) };
 
@@ -29,12 +30,12 @@ impl<A: Atomic> Model for LocalRun<A> {
     ghost invariant = { λ r. IsKept A.behaviour A.fits A.comes r.state };
 }
 
-impl<A: Atomic> LocalRun<A> {
+impl<A: Atomic, R: Record> LocalRun<A, R> {
     ghost use Rattle.std.specs.Prelude.{◌≡◌};
     ghost use Rattle.dv_local.specs.States.{IsKept};
 
     /// From what stands to be kept.
-    pub fn new(state: LocalState<A>) -> Self
+    pub fn new(state: LocalState<A, R>) -> Self
         requires { IsKept A.behaviour A.fits A.comes state }
         ensures { result ≡ state }
     {
@@ -42,16 +43,20 @@ impl<A: Atomic> LocalRun<A> {
     }
 }
 
-impl<A: Atomic + Drop> Local for LocalRun<A> {
+impl<A: Atomic + Drop, R: Record> Local for LocalRun<A, R> {
     ghost use Rattle.dv_local.specs.States.{sent_of, settled_by, view_by};
 
     type Work = A::Work;
 
-    ghost view = { λ r. view_by A.behaviour r };
+    type Record = R;
 
-    ghost settled = { λ r. settled_by A.behaviour r };
+    ghost view = { λ r. view_by A.behaviour R.told r };
+
+    ghost settled = { λ r. settled_by A.behaviour R.settled r };
 
     ghost sent = { λ r. sent_of r };
+
+    ghost handed = { λ r. R.handed r.record };
 
     fn frame(&self) -> Frame {
         self.state.frame()
@@ -93,12 +98,12 @@ impl<A: Atomic + Drop> Local for LocalRun<A> {
         self.state.components.visits
     }
 
-    fn committed(&self) -> &Part {
-        &self.state.committed
+    fn record(&self) -> &R {
+        &self.state.record
     }
 
-    fn into_part(self) -> Part {
-        self.state.into_part()
+    fn into_record(self) -> R {
+        self.state.into_record()
     }
 
     fn settle(&mut self) {
@@ -107,5 +112,9 @@ impl<A: Atomic + Drop> Local for LocalRun<A> {
 
     fn roll_back(&mut self) {
         self.state.roll_back();
+    }
+
+    fn let_go(&mut self) {
+        self.state.let_go();
     }
 }

@@ -2,6 +2,7 @@
 
 ghost use Rattle.std.specs.Prelude.{◌≡◌, ◌++◌, ◌<◌, ◌^◌, ℕ, List, [], IfOk, length, map, None, OnErr, OnOk, Some, slice_get, true};
 ghost use Rattle.dv_time.specs.Time.{IsOfRun, rank};
+ghost use Rattle.dv_devs.specs.Cuts.{IsAllBefore};
 ghost use Rattle.dv_devs.specs.NextTimes.{least_next};
 ghost use Rattle.dv_conservative.specs.Events.{event_of};
 ghost use Rattle.dv_conservative.specs.Process.{Outgoing, end_rank, is_port_of};
@@ -24,23 +25,24 @@ use crate::share::Share;
 use crate::undo::{Undo, agenda_of, let_go, put_all_back};
 use crate::waiting::{earlier, first_held, first_outside, is_taken, outside_at};
 use dv_agenda::{Agenda, Inbox};
-use dv_bag::{Fault, Part, Response, Sent};
+use dv_bag::{Fault, Response, Sent};
 use dv_proc::{Event, Frame};
 use dv_react::{Atomic, Instant, Running};
+use dv_record::Record;
 use dv_share::tables::place_of;
 use dv_share::{Placed, arrivals, away, emit, outer};
 use dv_time::Time;
 use std::alloc::{AllocError, Global};
 
-/// The components of one process with the links between them, what came for them, and what they committed. What they
-/// emitted at a time is kept until they change.
+/// The components of one process with the links between them, what came for them, and the record that is told what happens
+/// to them. What they emitted at a time is kept until they change.
 #[derive(Drop)]
-pub struct LocalState<A> {
+pub struct LocalState<A, R> {
     pub share: Share<A>,
     pub components: Components,
     pub agenda: Agenda,
     pub inbox: Inbox,
-    pub committed: Part,
+    pub record: R,
     pub undo: Undo,
     pub emitted: Vec<Placed<Result<Sent, Fault>>>,
     pub emitted_at: Option<Time>,
@@ -48,8 +50,8 @@ pub struct LocalState<A> {
     pub alloc: Global,
 }
 
-impl<A: Atomic + Drop> LocalState<A> {
-    /// As a run begins: components of a share, for which nothing came yet.
+impl<A: Atomic + Drop, R: Record> LocalState<A, R> {
+    /// As a run begins: components of a share, for which nothing came yet, and a record that was told nothing.
     ///
     /// # Errors
     ///
@@ -58,32 +60,35 @@ impl<A: Atomic + Drop> LocalState<A> {
         alloc: Global,
         share: Share<A>,
         running: Vec<Running>,
-    ) -> Result<LocalState<A>, AllocError>
+        to: R,
+    ) -> Result<LocalState<A, R>, AllocError>
         requires few { length running.items < 2 ^ 32 }
         requires comes { (a : A) (bags : List Counts) → A.comes a bags }
         requires share { IsShare A.fits share }
         requires components { AreComponents A.fits share.tables running.items }
+        requires told { R.told to ≡ nothing }
+        requires at_rest { R.settled to ≡ R.told to }
         ensures kept { IfOk result (λ x. IsKept A.behaviour A.fits A.comes x) }
-        ensures share { IfOk result (λ x. (view_by A.behaviour x).share
+        ensures share { IfOk result (λ x. (view_by A.behaviour R.told x).share
             ≡ share_by A.behaviour share) }
-        ensures components { IfOk result (λ x. (view_by A.behaviour x).components
+        ensures components { IfOk result (λ x. (view_by A.behaviour R.told x).components
             ≡ components_of share.tables.limit running.items) }
-        ensures committed { IfOk result (λ x. (view_by A.behaviour x).committed ≡ nothing) }
-        ensures held { IfOk result (λ x. (n : ℕ) → (view_by A.behaviour x).held n ≡ []) }
-        ensures visits { IfOk result (λ x. (view_by A.behaviour x).visits ≡ 0) }
-        ensures settled { IfOk result (λ x. settled_by A.behaviour x ≡ view_by A.behaviour x) }
+        ensures committed { IfOk result (λ x. (view_by A.behaviour R.told x).committed ≡ nothing) }
+        ensures held { IfOk result (λ x. (n : ℕ) → (view_by A.behaviour R.told x).held n ≡ []) }
+        ensures visits { IfOk result (λ x. (view_by A.behaviour R.told x).visits ≡ 0) }
+        ensures settled { IfOk result (λ x. settled_by A.behaviour R.settled x
+            ≡ view_by A.behaviour R.told x) }
+        ensures record { IfOk result (λ x. x.record ≡ to) }
     {
         let agenda = agenda_of(alloc, &running)?;
         Ok(LocalState {
+            record: to,
             share,
             components: Components { running, visits: 0 },
             agenda,
             inbox: Inbox::new(alloc),
-            committed: Part::new(alloc),
             undo: Undo {
                 before: Vec::new(alloc),
-                entries: 0,
-                outer: 0,
                 visits: 0,
                 taken: None,
             },
@@ -94,20 +99,20 @@ impl<A: Atomic + Drop> LocalState<A> {
         })
     }
 
-    /// What was committed, moved out.
-    pub fn into_part(self) -> Part
-        ensures { result ≡ self.committed }
+    /// The record, moved out.
+    pub fn into_record(self) -> R
+        ensures { result ≡ self.record }
     {
-        self.committed
+        self.record
     }
 }
 
-impl<A: Atomic> LocalState<A> {
+impl<A: Atomic, R: Record> LocalState<A, R> {
     /// The frame of the run.
     pub fn frame(&self) -> Frame
         requires { IsKept A.behaviour A.fits A.comes self.now }
-        ensures limit { result.limit ≡ (view_by A.behaviour self.now).share.limit }
-        ensures horizon { result.horizon ≡ (view_by A.behaviour self.now).share.horizon }
+        ensures limit { result.limit ≡ (view_by A.behaviour R.told self.now).share.limit }
+        ensures horizon { result.horizon ≡ (view_by A.behaviour R.told self.now).share.horizon }
     {
         Frame {
             limit: self.share.tables.limit,
@@ -118,7 +123,7 @@ impl<A: Atomic> LocalState<A> {
     /// A response of the components.
     pub fn response(&self) -> Response
         requires { IsKept A.behaviour A.fits A.comes self.now }
-        ensures ticks { ticks_of result ≡ (view_by A.behaviour self.now).share.response }
+        ensures ticks { ticks_of result ≡ (view_by A.behaviour R.told self.now).share.response }
         ensures hold { IsOfHold result }
     {
         self.share.response
@@ -127,8 +132,8 @@ impl<A: Atomic> LocalState<A> {
     /// Whether there is such an input port of a component.
     pub fn is_port(&self, component: u32, port: u32) -> bool
         requires { IsKept A.behaviour A.fits A.comes self.now }
-        ensures { result ≡ is_port_of (view_by A.behaviour self.now).share.flat.members component
-            port }
+        ensures { result
+            ≡ is_port_of (view_by A.behaviour R.told self.now).share.flat.members component port }
     {
         let members = self.share.tables.members.as_slice();
         match place_of(members, component) {
@@ -140,9 +145,9 @@ impl<A: Atomic> LocalState<A> {
     /// The least of the components' next times.
     pub fn next(&self) -> Option<Time>
         requires { IsKept A.behaviour A.fits A.comes self.now }
-        ensures least { rank_if (view_by A.behaviour self.now).share.limit result
-            ≡ least_next (view_by A.behaviour self.now).components }
-        ensures of_run { IsOfRunIf (view_by A.behaviour self.now).share.limit result }
+        ensures least { rank_if (view_by A.behaviour R.told self.now).share.limit result
+            ≡ least_next (view_by A.behaviour R.told self.now).components }
+        ensures of_run { IsOfRunIf (view_by A.behaviour R.told self.now).share.limit result }
     {
         self.agenda.first()
     }
@@ -150,9 +155,9 @@ impl<A: Atomic> LocalState<A> {
     /// The first time from one on at which something comes for them, of what is held and from outside.
     pub fn first_input(&self, from: Time) -> Option<Time>
         requires kept { IsKept A.behaviour A.fits A.comes self.now }
-        requires of_run { IsOfRun (view_by A.behaviour self.now).share.limit from }
-        ensures { IsFirstInput (view_by A.behaviour self.now)
-            (rank (view_by A.behaviour self.now).share.limit from) result }
+        requires of_run { IsOfRun (view_by A.behaviour R.told self.now).share.limit from }
+        ensures { IsFirstInput (view_by A.behaviour R.told self.now)
+            (rank (view_by A.behaviour R.told self.now).share.limit from) result }
     {
         let held = first_held(&self.inbox, self.undo.taken, from);
         let outside = first_outside(self.share.inputs.as_slice(), from);
@@ -166,14 +171,18 @@ impl<A: Atomic> LocalState<A> {
     /// No memory; then nothing that is seen changes.
     pub fn keep(&mut self, events: &[Event]) -> Result<(), AllocError>
         requires kept { IsKept A.behaviour A.fits A.comes self.old }
-        requires settled { settled_by A.behaviour self.old ≡ view_by A.behaviour self.old }
-        requires ports { are_for_ports (view_by A.behaviour self.old).share
+        requires settled { settled_by A.behaviour R.settled self.old
+            ≡ view_by A.behaviour R.told self.old }
+        requires ports { are_for_ports (view_by A.behaviour R.told self.old).share
             (meant_events events.now) ≡ true }
         ensures is_kept { IsKept A.behaviour A.fits A.comes self.new }
         ensures kept { OnOk result (IsAfterEvents (meant_events events.now)
-            (view_by A.behaviour self.old) (view_by A.behaviour self.new)) }
-        ensures err { OnErr result (view_by A.behaviour self.new ≡ view_by A.behaviour self.old) }
-        ensures settled { settled_by A.behaviour self.new ≡ view_by A.behaviour self.new }
+            (view_by A.behaviour R.told self.old) (view_by A.behaviour R.told self.new)) }
+        ensures err { OnErr result (view_by A.behaviour R.told self.new
+            ≡ view_by A.behaviour R.told self.old) }
+        ensures settled { settled_by A.behaviour R.settled self.new
+            ≡ view_by A.behaviour R.told self.new }
+        ensures handed { R.handed self.new.record ≡ R.handed self.old.record }
     {
         self.settle();
         let comings = comings_of(self.alloc, self.share.tables.limit, events)?;
@@ -188,17 +197,19 @@ impl<A: Atomic> LocalState<A> {
     /// No memory; nothing that is seen has changed.
     pub fn emit(&mut self, work: &mut A::Work, now: Time) -> Result<(), AllocError>
         requires kept { IsKept A.behaviour A.fits A.comes self.old }
-        requires of_run { IsOfRun (view_by A.behaviour self.old).share.limit now }
-        requires before_end { rank (view_by A.behaviour self.old).share.limit now
-            < end_rank (view_by A.behaviour self.old).share }
+        requires of_run { IsOfRun (view_by A.behaviour R.told self.old).share.limit now }
+        requires before_end { rank (view_by A.behaviour R.told self.old).share.limit now
+            < end_rank (view_by A.behaviour R.told self.old).share }
         ensures kept { IsKept A.behaviour A.fits A.comes self.new }
         ensures sent { OnOk result (sent_of self.new
-            ≡ sent_at (view_by A.behaviour self.old)
-            (rank (view_by A.behaviour self.old).share.limit now)) }
-        ensures found { IsAfterEmission (rank (view_by A.behaviour self.old).share.limit now)
-            (view_by A.behaviour self.old) (view_by A.behaviour self.new) }
-        ensures settled { settled_by A.behaviour self.new ≡ settled_by A.behaviour self.old }
-        ensures at_rest { IsAtRest self.old → IsAtRest self.new }
+            ≡ sent_at (view_by A.behaviour R.told self.old)
+            (rank (view_by A.behaviour R.told self.old).share.limit now)) }
+        ensures found { IsAfterEmission (rank (view_by A.behaviour R.told self.old).share.limit now)
+            (view_by A.behaviour R.told self.old) (view_by A.behaviour R.told self.new) }
+        ensures settled { settled_by A.behaviour R.settled self.new
+            ≡ settled_by A.behaviour R.settled self.old }
+        ensures at_rest { IsAtRest R.told R.settled self.old → IsAtRest R.told R.settled self.new }
+        ensures handed { R.handed self.new.record ≡ R.handed self.old.record }
         ensures emitted { OnOk result (AreEmitted A.behaviour self.new.share.tables
             (rank self.new.share.tables.limit now) self.new.components.running.items
             self.new.emitted.items) }
@@ -227,26 +238,31 @@ impl<A: Atomic> LocalState<A> {
         Ok(())
     }
 
-    /// The instant at a time: components react, and what happened is committed. Each that is due is visited once, if what
-    /// it emits was not found already, and each to which something happens once more.
+    /// The instant at a time, which is after all that was committed: components react, what happened is told, and then what
+    /// left. Each component that is due is visited once, if what it emits was not found already, and each to which something
+    /// happens once more.
     ///
     /// # Errors
     ///
     /// No memory; nothing that is seen has changed.
     pub fn react(&mut self, work: &mut A::Work, now: Time) -> Result<(), AllocError>
         requires kept { IsKept A.behaviour A.fits A.comes self.old }
-        requires settled { settled_by A.behaviour self.old ≡ view_by A.behaviour self.old }
-        requires of_run { IsOfRun (view_by A.behaviour self.old).share.limit now }
-        requires before_end { rank (view_by A.behaviour self.old).share.limit now
-            < end_rank (view_by A.behaviour self.old).share }
+        requires settled { settled_by A.behaviour R.settled self.old
+            ≡ view_by A.behaviour R.told self.old }
+        requires of_run { IsOfRun (view_by A.behaviour R.told self.old).share.limit now }
+        requires before_end { rank (view_by A.behaviour R.told self.old).share.limit now
+            < end_rank (view_by A.behaviour R.told self.old).share }
+        requires later { IsAllBefore now (view_by A.behaviour R.told self.old).committed }
         ensures kept { IsKept A.behaviour A.fits A.comes self.new }
         ensures reacted { OnOk result (IsAfterInstant
-            (rank (view_by A.behaviour self.old).share.limit now)
-            (view_by A.behaviour self.old) (view_by A.behaviour self.new)) }
+            (rank (view_by A.behaviour R.told self.old).share.limit now)
+            (view_by A.behaviour R.told self.old) (view_by A.behaviour R.told self.new)) }
         ensures visits { OnOk result (CountsInstant
-            (rank (view_by A.behaviour self.old).share.limit now)
-            (view_by A.behaviour self.old) (view_by A.behaviour self.new)) }
-        ensures settled { settled_by A.behaviour self.new ≡ settled_by A.behaviour self.old }
+            (rank (view_by A.behaviour R.told self.old).share.limit now)
+            (view_by A.behaviour R.told self.old) (view_by A.behaviour R.told self.new)) }
+        ensures settled { settled_by A.behaviour R.settled self.new
+            ≡ settled_by A.behaviour R.settled self.old }
+        ensures handed { R.handed self.new.record ≡ R.handed self.old.record }
     {
         self.settle();
         self.emit(work, now)?;
@@ -268,19 +284,12 @@ impl<A: Atomic> LocalState<A> {
             &mut self.scratch.carried,
             &mut self.scratch.received,
         )?;
-        outer(
-            self.alloc,
-            tables,
-            &instant,
-            emitted,
-            &mut self.scratch.carried,
-            &mut self.committed,
-        )?;
+        let nothing = Sent::empty(self.alloc, 0);
         let moment = Moment {
             tables,
             instant: &instant,
             emitted,
-            alloc: self.alloc,
+            nothing: &nothing,
         };
         commit(
             &moment,
@@ -288,8 +297,16 @@ impl<A: Atomic> LocalState<A> {
             &self.scratch.received,
             &mut self.components,
             &mut self.agenda,
-            &mut self.committed,
+            &mut self.record,
             &mut self.undo.before,
+        )?;
+        outer(
+            self.alloc,
+            tables,
+            &instant,
+            emitted,
+            &mut self.scratch.carried,
+            &mut self.record,
         )?;
         self.components.count(self.undo.before.len());
         self.undo.taken = Some(now);
@@ -304,10 +321,10 @@ impl<A: Atomic> LocalState<A> {
     pub fn send(&self, place: usize, now: Time, into: &mut Vec<Event>) -> Result<(), AllocError>
         requires { IsKept A.behaviour A.fits A.comes self.now }
         ensures { OnOk result ((out : Outgoing)
-            → slice_get (view_by A.behaviour self.now).share.outgoing place ≡ Some out
+            → slice_get (view_by A.behaviour R.told self.now).share.outgoing place ≡ Some out
             → meant_events into.new.items ≡ meant_events into.old.items
             ++ map (event_of now)
-            (carried_away (view_by A.behaviour self.now) out.links (sent_of self.now))) }
+            (carried_away (view_by A.behaviour R.told self.now) out.links (sent_of self.now))) }
     {
         let ways = self.share.ways.as_slice();
         if place >= ways.len() {
@@ -323,15 +340,16 @@ impl<A: Atomic> LocalState<A> {
     pub fn settle(&mut self)
         requires { IsKept A.behaviour A.fits A.comes self.old }
         ensures kept { IsKept A.behaviour A.fits A.comes self.new }
-        ensures view { view_by A.behaviour self.new ≡ view_by A.behaviour self.old }
-        ensures settled { settled_by A.behaviour self.new ≡ view_by A.behaviour self.old }
-        ensures at_rest { IsAtRest self.new }
+        ensures view { view_by A.behaviour R.told self.new ≡ view_by A.behaviour R.told self.old }
+        ensures settled { settled_by A.behaviour R.settled self.new
+            ≡ view_by A.behaviour R.told self.old }
+        ensures at_rest { IsAtRest R.told R.settled self.new }
+        ensures handed { R.handed self.new.record ≡ R.handed self.old.record }
     {
         let_go(&mut self.inbox, self.undo.taken);
         self.undo.taken = None;
         self.undo.before.clear();
-        self.undo.entries = self.committed.entry_count();
-        self.undo.outer = self.committed.outer_count();
+        self.record.settle();
         self.undo.visits = self.components.visits;
     }
 
@@ -339,8 +357,11 @@ impl<A: Atomic> LocalState<A> {
     pub fn roll_back(&mut self)
         requires { IsKept A.behaviour A.fits A.comes self.old }
         ensures kept { IsKept A.behaviour A.fits A.comes self.new }
-        ensures view { view_by A.behaviour self.new ≡ settled_by A.behaviour self.old }
-        ensures settled { settled_by A.behaviour self.new ≡ settled_by A.behaviour self.old }
+        ensures view { view_by A.behaviour R.told self.new
+            ≡ settled_by A.behaviour R.settled self.old }
+        ensures settled { settled_by A.behaviour R.settled self.new
+            ≡ settled_by A.behaviour R.settled self.old }
+        ensures handed { R.handed self.new.record ≡ R.handed self.old.record }
     {
         put_all_back(
             &mut self.components,
@@ -348,8 +369,24 @@ impl<A: Atomic> LocalState<A> {
             &mut self.undo.before,
         );
         self.components.visits = self.undo.visits;
-        self.committed.truncate(self.undo.entries, self.undo.outer);
+        self.record.roll_back();
         self.emitted_at = None;
         self.undo.taken = None;
+    }
+
+    /// Lets go of the bytes of the record, which were handed over, when all is settled.
+    pub fn let_go(&mut self)
+        requires kept { IsKept A.behaviour A.fits A.comes self.old }
+        requires settled { settled_by A.behaviour R.settled self.old
+            ≡ view_by A.behaviour R.told self.old }
+        ensures kept { IsKept A.behaviour A.fits A.comes self.new }
+        ensures view { view_by A.behaviour R.told self.new ≡ view_by A.behaviour R.told self.old }
+        ensures settled { settled_by A.behaviour R.settled self.new
+            ≡ settled_by A.behaviour R.settled self.old }
+        ensures handed { R.handed self.new.record ≡ record (R.handed self.old.record) {
+          text = (R.handed self.old.record).text_of (R.told self.old.record);
+        } }
+    {
+        self.record.let_go();
     }
 }

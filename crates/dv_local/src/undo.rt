@@ -12,13 +12,12 @@ use dv_share::Placed;
 use dv_time::Time;
 use std::alloc::{AllocError, Global};
 
-/// What stood when all was settled: the components that were put in since with those that stood there before, how much was
-/// committed, how often components were looked at, and the time whose arrivals are let go when all is settled again.
+/// What stood when all was settled: the components that were put in since with those that stood there before, how often
+/// components were looked at, and the time whose arrivals are let go when all is settled again. What was told since, the
+/// record knows.
 #[derive(Drop)]
 pub struct Undo {
     pub before: Vec<Placed<Running>>,
-    pub entries: usize,
-    pub outer: usize,
     pub visits: u64,
     pub taken: Option<Time>,
 }

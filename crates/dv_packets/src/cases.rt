@@ -3,8 +3,9 @@
 ghost use Rattle.std.specs.Prelude.{IfOk};
 
 use dv_bag::{Entry, Fault, What};
-use dv_core::LogicalProcess;
+use dv_core::{LogicalProcess, committed};
 use dv_proc::{Event, Packet, Refused};
+use dv_record::PartRecord;
 use dv_time::Time;
 use std::alloc::{AllocError, Global};
 
@@ -77,7 +78,7 @@ impl Committed {
 }
 
 /// Whether a new process does as a case says.
-pub fn does_hold<P: LogicalProcess>(
+pub fn does_hold<P: LogicalProcess<Record = PartRecord>>(
     alloc: Global,
     mut process: P,
     work: &mut P::Work,
@@ -89,9 +90,9 @@ pub fn does_hold<P: LogicalProcess>(
         return Ok(false);
     }
     take_turns(&mut process, work)?;
-    let committed = process.committed();
-    let is_count = committed.entry_count() == case.committed.count();
-    let mut entries = committed.entries();
+    let part = committed(&process);
+    let is_count = part.entry_count() == case.committed.count();
+    let mut entries = part.entries();
     let are_entries = entries.all(|entry| case.committed.is_entry(entry));
     Ok(is_count && are_entries && process.clock() == case.clock)
 }

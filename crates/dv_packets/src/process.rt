@@ -9,6 +9,7 @@ ghost use Rattle.dv_flat.specs.Limit.{link_refusal};
 ghost use Rattle.dv_local.specs.declared.share.Share.{Share};
 ghost use Rattle.dv_local.specs.States.{settled_by, view_by};
 ghost use Rattle.dv_planned.specs.Texts.{AreLinksOf};
+ghost use Rattle.dv_record.specs.Told.{settled_of, told_of};
 ghost use Rattle.dv_serial.specs.Beginning.{CanBegin};
 ghost use Rattle.dv_syntax.specs.Trees.{file_of};
 
@@ -26,6 +27,7 @@ use dv_partition::Groups;
 use dv_plan::Plan;
 use dv_planned::{TextJob, plan_text};
 use dv_proc::Process;
+use dv_record::PartRecord;
 use dv_sound::shares::processes_of_texts_start_sound;
 use dv_tree::Tree;
 use std::alloc::{AllocError, Global};
@@ -119,11 +121,12 @@ fn does_hold_of_job(
 fn last_process<'m>(
     alloc: Global,
     plan: Plan<Lent<'m>>,
-) -> Result<Option<Process<LocalRun<Lent<'m>>>>, AllocError>
+) -> Result<Option<Process<LocalRun<Lent<'m>, PartRecord>>>, AllocError>
     requires begin { (p : ℕ) (s : Share Lent) → slice_get plan.shares.items p ≡ Some s
         → s.inputs ≡ [] → CanBegin behaviour_of_lent lent_takes s }
     ensures { IfOk result (λ found. IfSome found (λ p.
-        IsConservative (view_by behaviour_of_lent) (settled_by behaviour_of_lent) p)) }
+        IsConservative (view_by behaviour_of_lent told_of)
+        (settled_by behaviour_of_lent settled_of) p)) }
 {
     let Some(share) = last(plan.shares) else {
         return Ok(None);
@@ -131,7 +134,7 @@ fn last_process<'m>(
     if !share.inputs.is_empty() {
         return Ok(None);
     }
-    let process = begin(alloc, share)?;
+    let process = begin(alloc, share, PartRecord::new(alloc))?;
     Ok(Some(process))
 }
 

@@ -1,10 +1,14 @@
 -- The local run from one instant to the next.
 use Rattle.std.proofs.Common.{◌≡◌, ℕ, zero, suc, ◌+◌, ◌-◌, ◌<◌, ◌≤◌, Bool, true, false, not, nat_eq, List, [], ◌∷◌, ◌++◌, map}
 use Rattle.std.proofs.Common.{IsTrue, Option, Some, None, refl, ap, sym, ◌∙◌, subst, arith}
-use Rattle.dv_time.specs.Time.{rank}
+use Rattle.dv_time.specs.Time.{IsOfRun, rank, time_of}
+use Rattle.dv_time.specs.declared.time.Time.{Time}
+use Rattle.dv_time.proofs.Ranks.{time_of-rank}
 use Rattle.dv_bag.specs.Bag.{Counts}
 use Rattle.dv_bag.specs.Part.{PartOf, joined}
 use Rattle.dv_bag.specs.declared.state.State.{State}
+use Rattle.dv_devs.specs.Cuts.{IsAllBefore}
+use Rattle.dv_devs.proofs.Cuts.{trace_is_before}
 use Rattle.dv_devs.proofs.Stretches.{resting_components, resting_trace, rests_until_next}
 use Rattle.dv_devs.specs.Behaviour.{Component, Reaction}
 use Rattle.dv_devs.specs.Idle.{AllBringNothing, LeavesOnlyWhatIsSent, no_values, nothing_sent}
@@ -154,3 +158,12 @@ run_received v w received p k run fine le apart some after = record {
       (deliveries_at v.share.limit p.events n) bag)
       ∙ sym (deliver_with v.share.limit received p n v.share.incoming apart some c port bag));
 }
+
+-- what a local run committed is before its time
+pub run_before : (v : View) (events : ℕ → List Event) (t : Time) → IsOfRun v.share.limit t → IsLocalRun v events (rank v.share.limit t)
+    → IsAllBefore t v.committed
+run_before v events t of_run run =
+    let limit = v.share.limit in
+    subst (λ (u : Time). IsAllBefore u v.committed) (time_of-rank limit t of_run)
+    (subst (λ (p : PartOf). IsAllBefore (time_of limit (rank limit t)) p) (sym run.committed)
+    (trace_is_before limit (network v.share.flat) (inputs_by v.share events) (rank limit t)))

@@ -2,6 +2,7 @@
 
 ghost use Rattle.std.specs.Prelude.{◌≡◌, ◌≤◌, ◌<◌, ℕ, IfOk, length, nat_lt, slice_index_or, true};
 ghost use Rattle.dv_time.specs.Time.{IsOfRun, end_of, rank};
+ghost use Rattle.dv_devs.specs.Cuts.{IsAllBefore};
 ghost use Rattle.dv_conservative.specs.Process.{at_most};
 ghost use Rattle.dv_conservative.specs.Promise.{foreseen};
 ghost use Rattle.dv_proc.specs.Accesses.{CountsInstant, CountsStep};
@@ -81,6 +82,7 @@ pub fn advance<L: Local>(
     requires clock { IsOfRun frame.now.limit clock }
     requires least { IsOfRun frame.now.limit least }
     requires before { rank frame.now.limit clock < rank frame.now.limit least }
+    requires later { IsAllBefore clock (L.view local.old).committed }
     requires within { rank frame.now.limit least
         ≤ end_of frame.now.limit frame.now.horizon }
     ensures advance { IfOk result (λ now. IsAdvance (rank frame.now.limit clock)
@@ -90,6 +92,7 @@ pub fn advance<L: Local>(
         (L.view local.old) (L.view local.new)) }
     ensures of_run { IfOk result (λ now. IsOfRun frame.now.limit now) }
     ensures settled { L.settled local.new ≡ L.settled local.old }
+    ensures handed { L.handed local.new ≡ L.handed local.old }
 {
     local.react(work, clock)?;
     let next = sooner(frame.limit, least, local.next());
@@ -116,6 +119,7 @@ pub fn step<L: Local>(
     requires clock { IsOfRun frame.now.limit clock }
     requires least { IsOfRun frame.now.limit least }
     requires before { rank frame.now.limit clock < rank frame.now.limit least }
+    requires later { IsAllBefore clock (L.view local.old).committed }
     requires within { rank frame.now.limit least
         ≤ end_of frame.now.limit frame.now.horizon }
     ensures advance { IfOk result (λ now. IsAdvance (rank frame.now.limit clock)
@@ -131,6 +135,7 @@ pub fn step<L: Local>(
         now j (slice_index_or outgoing.new j d)) }
     ensures same { AreBeside (λ j. IsSameLink) outgoing.old outgoing.new }
     ensures settled { L.settled local.new ≡ L.settled local.old }
+    ensures handed { L.handed local.new ≡ L.handed local.old }
 {
     let now = advance(local, work, frame, least, clock)?;
     if !now.is_before(frame.end()) {

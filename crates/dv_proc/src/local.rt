@@ -3,6 +3,7 @@
 ghost use Rattle.std.specs.Prelude.{◌≡◌, ◌<◌, ◌++◌, OnErr, OnOk, List, Some, map, slice_get, true};
 ghost use Rattle.dv_time.specs.Time.{IsOfRun, rank};
 ghost use Rattle.dv_bag.specs.Bag.{Counts};
+ghost use Rattle.dv_devs.specs.Cuts.{IsAllBefore};
 ghost use Rattle.dv_devs.specs.NextTimes.{least_next};
 ghost use Rattle.dv_conservative.specs.Events.{event_of};
 ghost use Rattle.dv_conservative.specs.Process.{Outgoing, end_rank, is_port_of};
@@ -10,18 +11,23 @@ ghost use Rattle.dv_proc.specs.Foreseeing.{IsOfHold, IsOfRunIf, rank_if, ticks_o
 ghost use Rattle.dv_proc.specs.Accesses.{CountsInstant, IsAfterEmission};
 ghost use Rattle.dv_proc.specs.Local.{IsAfterEvents, IsAfterInstant, IsFirstInput, View, are_for_ports, carried_away, sent_at};
 ghost use Rattle.dv_proc.specs.Packets.{meant_events};
+ghost use Rattle.dv_record.specs.Told.{Handed};
 
 use crate::packet::Event;
 use crate::window::Frame;
-use dv_bag::{Part, Response};
+use dv_bag::Response;
+use dv_record::Record;
 use dv_time::Time;
 use std::alloc::AllocError;
 
-/// The components of one process, the links between them and away, what came for them, and what they committed. What
-/// is done to them since `settle` can be taken back by `roll_back`, and neither can fail.
+/// The components of one process, the links between them and away, what came for them, and the record that is told what
+/// happens to them. What is done to them since `settle` can be taken back by `roll_back`, and neither can fail.
 pub trait Local {
     /// What the methods work with and may change as they like, as a machine.
     type Work;
+
+    /// What is told what they commit.
+    type Record: Record;
 
     /// What they stand at.
     ghost view: { Self → View };
@@ -31,6 +37,9 @@ pub trait Local {
 
     /// What they send at the time that was last asked about.
     ghost sent: { Self → List (List Counts) };
+
+    /// How their record writes what is told, and what of that was handed over.
+    ghost handed: { Self → Handed };
 
     /// The frame of the run.
     fn frame(&self) -> Frame
@@ -57,7 +66,8 @@ pub trait Local {
         ensures kept { OnOk result
             (IsAfterEvents (meant_events events.now) (view self.old) (view self.new)) }
         ensures err { OnErr result (view self.new ≡ view self.old) }
-        ensures settled { settled self.new ≡ view self.new };
+        ensures settled { settled self.new ≡ view self.new }
+        ensures handed { handed self.new ≡ handed self.old };
 
     /// The least of the components' next times.
     fn next(&self) -> Option<Time>
@@ -70,8 +80,8 @@ pub trait Local {
         requires { IsOfRun (view self.now).share.limit from }
         ensures { IsFirstInput (view self.now) (rank (view self.now).share.limit from) result };
 
-    /// The instant at a time. A visit is counted of each component that is due, as it emits, unless what it emits was found,
-    /// and one more of each to which something happens.
+    /// The instant at a time, which is after all that was committed. A visit is counted of each component that is due, as it
+    /// emits, unless what it emits was found, and one more of each to which something happens.
     ///
     /// # Errors
     ///
@@ -81,11 +91,13 @@ pub trait Local {
         requires of_run { IsOfRun (view self.old).share.limit now }
         requires before_end { rank (view self.old).share.limit now
             < end_rank (view self.old).share }
+        requires later { IsAllBefore now (view self.old).committed }
         ensures reacted { OnOk result (IsAfterInstant
             (rank (view self.old).share.limit now) (view self.old) (view self.new)) }
         ensures visits { OnOk result (CountsInstant
             (rank (view self.old).share.limit now) (view self.old) (view self.new)) }
-        ensures settled { settled self.new ≡ settled self.old };
+        ensures settled { settled self.new ≡ settled self.old }
+        ensures handed { handed self.new ≡ handed self.old };
 
     /// Finds what they send at a time, from their states alone. Of each that is due a visit is counted, once at most.
     ///
@@ -100,7 +112,8 @@ pub trait Local {
             ≡ sent_at (view self.old) (rank (view self.old).share.limit now)) }
         ensures found { OnOk result (IsAfterEmission
             (rank (view self.old).share.limit now) (view self.old) (view self.new)) }
-        ensures settled { settled self.new ≡ settled self.old };
+        ensures settled { settled self.new ≡ settled self.old }
+        ensures handed { handed self.new ≡ handed self.old };
 
     /// Adds the events of what they send by the outgoing link at a place, at the time that was last asked about.
     ///
@@ -117,21 +130,33 @@ pub trait Local {
     fn visits(&self) -> u64
         ensures { result ≡ (view self.now).visits };
 
-    /// What they committed.
-    fn committed(&self) -> &Part
-        ensures { result.now ≡ (view self.now).committed };
+    /// The record, which was told what they committed.
+    fn record(&self) -> &Self::Record
+        ensures told { Self.Record.told result.now ≡ (view self.now).committed }
+        ensures handed { Self.Record.handed result.now ≡ handed self.now };
 
-    /// What they committed, moved out.
-    fn into_part(self) -> Part
-        ensures { result ≡ (view self).committed };
+    /// The record, moved out.
+    fn into_record(self) -> Self::Record
+        ensures { Self.Record.told result ≡ (view self).committed };
 
     /// Lets what they stood at before go.
     fn settle(&mut self)
         ensures view { view self.new ≡ view self.old }
-        ensures settled { settled self.new ≡ view self.old };
+        ensures settled { settled self.new ≡ view self.old }
+        ensures handed { handed self.new ≡ handed self.old };
 
     /// Makes them stand again where they were settled.
     fn roll_back(&mut self)
         ensures view { view self.new ≡ settled self.old }
-        ensures settled { settled self.new ≡ settled self.old };
+        ensures settled { settled self.new ≡ settled self.old }
+        ensures handed { handed self.new ≡ handed self.old };
+
+    /// Lets go of the bytes of the record, which were handed over, when all is settled.
+    fn let_go(&mut self)
+        requires { settled self.old ≡ view self.old }
+        ensures view { view self.new ≡ view self.old }
+        ensures settled { settled self.new ≡ settled self.old }
+        ensures handed { handed self.new ≡ record (handed self.old) {
+          text = (handed self.old).text_of (view self.old).committed;
+        } };
 }

@@ -26,7 +26,6 @@ use crate::outgoing::{
 };
 use crate::packet::{Event, Packet};
 use crate::window::{Frame, are_in_order, is_same};
-use dv_bag::Part;
 use dv_time::Time;
 use std::alloc::{AllocError, Global};
 
@@ -152,16 +151,36 @@ impl<L: Local> Process<L> {
         self.local.visits()
     }
 
-    /// What was committed.
-    pub fn committed(&self) -> &Part
-        ensures { result.now ≡ (L.view self.now.local).committed }
+    /// The record, which was told what was committed.
+    pub fn record(&self) -> &L::Record
+        ensures told { L.Record.told result.now ≡ (L.view self.now.local).committed }
+        ensures handed { L.Record.handed result.now ≡ L.handed self.now.local }
     {
-        self.local.committed()
+        self.local.record()
     }
 
-    /// What was committed, and the clock.
-    pub fn into_part(self) -> (Part, Time)
-        ensures part { result.0 ≡ (L.view self.local).committed }
+    /// Lets go of the bytes of the record, which were handed over.
+    pub fn let_go(&mut self)
+        requires process { IsProcess (L.view self.old.local)
+            self.old.incoming.items self.old.outgoing.items self.old.clock }
+        requires settled { L.settled self.old.local ≡ L.view self.old.local }
+        ensures process { IsProcess (L.view self.new.local)
+            self.new.incoming.items self.new.outgoing.items self.new.clock }
+        ensures settled { L.settled self.new.local ≡ L.view self.new.local }
+        ensures view { L.view self.new.local ≡ L.view self.old.local }
+        ensures incoming { self.new.incoming ≡ self.old.incoming }
+        ensures outgoing { self.new.outgoing ≡ self.old.outgoing }
+        ensures clock { self.new.clock ≡ self.old.clock }
+        ensures handed { L.handed self.new.local ≡ record (L.handed self.old.local) {
+          text = (L.handed self.old.local).text_of (L.view self.old.local).committed;
+        } }
+    {
+        self.local.let_go();
+    }
+
+    /// The record, and the clock.
+    pub fn into_record(self) -> (L::Record, Time)
+        ensures told { L.Record.told result.0 ≡ (L.view self.local).committed }
         ensures clock { result.1 ≡ self.clock }
     {
         let Process {
@@ -171,7 +190,7 @@ impl<L: Local> Process<L> {
             clock,
             alloc: _,
         } = self;
-        (local.into_part(), clock)
+        (local.into_record(), clock)
     }
 
     /// Takes a packet. After an error the packet is handed back, and all that contracts see is as it was.
@@ -203,6 +222,7 @@ impl<L: Local> Process<L> {
         ensures visits { (L.view self.new.local).visits ≡ (L.view self.old.local).visits }
         ensures clock { self.new.clock ≡ self.old.clock }
         ensures outgoing { self.new.outgoing ≡ self.old.outgoing }
+        ensures handed { L.handed self.new.local ≡ L.handed self.old.local }
     {
         let place = match self.test(&packet) {
             Ok(place) => place,
@@ -264,6 +284,7 @@ impl<L: Local> Process<L> {
         ensures visits_never_fall { (L.view self.old.local).visits
             ≤ (L.view self.new.local).visits }
         ensures incoming { self.new.incoming ≡ self.old.incoming }
+        ensures handed { L.handed self.new.local ≡ L.handed self.old.local }
     {
         let frame = self.local.frame();
         let least = least_clock(&frame, self.incoming.as_slice());

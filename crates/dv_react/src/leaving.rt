@@ -6,7 +6,8 @@ ghost use Rattle.dv_react.specs.Committed.{HasGrown};
 ghost use Rattle.dv_react.specs.Components.{rank_of};
 
 use crate::instant::Instant;
-use dv_bag::{Bags, Outer, Part};
+use dv_bag::{Bags, Part};
+use dv_record::push_lines;
 use std::alloc::AllocError;
 
 /// Commits what leaves the model at an instant, by output port of the root: a line for each port with values. The work
@@ -26,12 +27,5 @@ pub fn commit_outer(
     ensures grown { HasGrown committed.old.outer committed.new.outer }
     ensures entries { committed.new.entries ≡ committed.old.entries }
 {
-    for held in leaving.held() {
-        committed.push_outer(Outer {
-            time: instant.time,
-            port: held.port as u32,
-            values: held.bag.clone()?,
-        })?;
-    }
-    Ok(())
+    push_lines(committed, instant.time, leaving)
 }

@@ -11,6 +11,7 @@ use Rattle.dv_core.specs.ProcessState.{IsNew}
 use Rattle.dv_core.specs.Worlds.{AreMadeFor}
 use Rattle.dv_proc.specs.declared.channel.Channel.{Channel as ChannelOfCode}
 use Rattle.dv_proc.specs.declared.process.Process.{Process}
+use Rattle.dv_record.specs.Told.{Told}
 use Rattle.dv_ring.specs.Ring.{job_by, job_of, share_by, view_of}
 use Rattle.dv_ring.specs.declared.job.RingJob.{RingJob}
 use Rattle.dv_ring.specs.declared.silent.Silent.{Silent}
@@ -43,16 +44,16 @@ is_job job = record {
 abbrev links : List ChannelOfCode
 links = record { source = 0; target = 1 } ∷ record { source = 1; target = 0 } ∷ []
 
-module _ (job : RingJob) (one other : Process Silent (Unit {0}))
+module _ (job : RingJob) (one other : Process Silent (Unit {0}) Told)
     (one_valid : IsConservative view_of view_of one) (other_valid : IsConservative view_of view_of other)
     (one_new : IsNew (state_by view_of one)) (other_new : IsNew (state_by view_of other))
     (one_share : (view_of one.local).share ≡ share_by job.frame.limit job.frame.horizon job.ticks 1 0)
     (other_share : (view_of other.local).share ≡ share_by job.frame.limit job.frame.horizon job.ticks 0 1) where
-  abbrev processes : List (Process Silent (Unit {0}))
+  abbrev processes : List (Process Silent (Unit {0}) Told)
   processes = one ∷ other ∷ []
 
-  by_place : (Q : ℕ → Process Silent (Unit {0}) → Type 0) → Q 0 one → Q 1 other →
-      (p : ℕ) (x : Process Silent (Unit {0})) → slice_get processes p ≡ Some x → Q p x
+  by_place : (Q : ℕ → Process Silent (Unit {0}) Told → Type 0) → Q 0 one → Q 1 other →
+      (p : ℕ) (x : Process Silent (Unit {0}) Told) → slice_get processes p ≡ Some x → Q p x
   by_place Q at_one at_other zero x e = let same : one ≡ x = cc in subst (Q 0) same at_one
   by_place Q at_one at_other (suc zero) x e = let same : other ≡ x = cc in subst (Q 1) same at_other
   by_place Q at_one at_other (suc (suc p)) x e = absurd (cc)

@@ -26,7 +26,7 @@ abbrev pub view_of : Silent → View
 view_of n = record {
   share = share_by n.frame.limit n.frame.horizon n.ticks n.incoming n.outgoing;
   components = [];
-  committed = n.part;
+  committed = n.record.told;
   held = λ k. [];
   visits = 0;
 }

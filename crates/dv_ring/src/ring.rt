@@ -9,9 +9,9 @@ ghost use Rattle.dv_ring.specs.Ring.{job_of, share_by, view_of};
 
 use crate::job::RingJob;
 use crate::silent::Silent;
-use dv_bag::Part;
 use dv_core::World;
 use dv_proc::{Channel, Frame, Process};
+use dv_record::PartRecord;
 use std::alloc::{AllocError, Global};
 
 /// A process without components, which promises so many ticks ahead, with the numbers of its two links.
@@ -36,7 +36,7 @@ fn process_of(
         ticks,
         incoming,
         outgoing,
-        part: Part::new(alloc),
+        record: PartRecord::new(alloc),
     };
     Process::new(alloc, silent, &[incoming], &[outgoing])
 }

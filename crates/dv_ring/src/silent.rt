@@ -2,8 +2,9 @@
 
 ghost use Rattle.std.specs.Prelude.{◌≡◌, [], OnErr, OnOk};
 
-use dv_bag::{Part, Response};
+use dv_bag::Response;
 use dv_proc::{Event, Frame, Local};
+use dv_record::PartRecord;
 use dv_time::Time;
 use std::alloc::AllocError;
 
@@ -15,20 +16,25 @@ pub struct Silent {
     pub ticks: u32,
     pub incoming: u32,
     pub outgoing: u32,
-    pub part: Part,
+    pub record: PartRecord,
 }
 
 impl Local for Silent {
     ghost use Rattle.std.specs.Prelude.{[]};
+    ghost use Rattle.dv_record.specs.Told.{no_text};
     ghost use Rattle.dv_ring.specs.Ring.{view_of};
 
     type Work = ();
+
+    type Record = PartRecord;
 
     ghost view = { view_of };
 
     ghost settled = { view_of };
 
     ghost sent = { λ n. [] };
+
+    ghost handed = { λ n. no_text };
 
     fn frame(&self) -> Frame {
         self.frame
@@ -70,22 +76,17 @@ impl Local for Silent {
         0
     }
 
-    fn committed(&self) -> &Part {
-        &self.part
+    fn record(&self) -> &PartRecord {
+        &self.record
     }
 
-    fn into_part(self) -> Part {
-        let Silent {
-            frame: _,
-            ticks: _,
-            incoming: _,
-            outgoing: _,
-            part,
-        } = self;
-        part
+    fn into_record(self) -> PartRecord {
+        self.record
     }
 
     fn settle(&mut self) {}
 
     fn roll_back(&mut self) {}
+
+    fn let_go(&mut self) {}
 }

@@ -18,7 +18,7 @@ fn frame() -> Frame {
 fn as_many_rounds_as_times_are_enough(rt: HostRuntime) -> Result<(), Fail> {
     let mut world = ring(rt.alloc(), frame(), 0, 1)?;
     assert_eq!(rt; world.serial(&mut (), 23), Ended::Whole);
-    let (_parts, clocks) = world.finish(rt.alloc())?;
+    let (_records, clocks) = world.finish(rt.alloc())?;
     let end = Time { tick: 11, micro: 0 };
     assert_eq!(rt; clocks.as_slice(), [end, end].as_slice());
     Ok(())

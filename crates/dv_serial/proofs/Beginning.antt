@@ -25,28 +25,28 @@ pub holds_at : {X : Type 0} (Q : X → Type 0) (xs : List X) (i : ℕ) (x : X) �
     → (i < length xs) × (x ≡ get_or xs i x) → Q x
 holds_at Q xs i x h at = subst Q (sym at.1) (got Q xs i x h at.0)
 
-module _ {L W : Type 0} (view settled : L → View) where
+module _ {L W R : Type 0} (view settled : L → View) where
   -- one more has begun
-  pub begun_after : (ss : List ShareAsMeant) (ps : List (Process L W)) (s : ShareAsMeant) (p : Process L W)
+  pub begun_after : (ss : List ShareAsMeant) (ps : List (Process L W R)) (s : ShareAsMeant) (p : Process L W R)
       → AllBegun view settled ss ps → HasBegun view settled s p → AllBegun view settled (ss ++ s ∷ []) (ps ++ p ∷ [])
   begun_after [] [] s p h k = (k, tt)
   begun_after [] (q ∷ ps) s p h k = absurd h
   begun_after (t ∷ ss) [] s p h k = absurd h
   begun_after (t ∷ ss) (q ∷ ps) s p h k = (h.0, begun_after ss ps s p h.1 k)
 
-  pub begun_count : (ss : List ShareAsMeant) (ps : List (Process L W)) → AllBegun view settled ss ps → length ps ≡ length ss
+  pub begun_count : (ss : List ShareAsMeant) (ps : List (Process L W R)) → AllBegun view settled ss ps → length ps ≡ length ss
   begun_count [] [] h = refl
   begun_count [] (q ∷ ps) h = absurd h
   begun_count (t ∷ ss) [] h = absurd h
   begun_count (t ∷ ss) (q ∷ ps) h = ap suc (begun_count ss ps h.1)
 
   -- the process at a place is that of the share there
-  pub record IsBegunAt (ss : List ShareAsMeant) (p : ℕ) (x : Process L W) : Type 0 where
+  pub record IsBegunAt (ss : List ShareAsMeant) (p : ℕ) (x : Process L W R) : Type 0 where
     pub share : ShareAsMeant
     pub there : slice_get ss p ≡ Some share
     pub begun : HasBegun view settled share x
 
-  pub begun_at : (ss : List ShareAsMeant) (ps : List (Process L W)) (p : ℕ) (x : Process L W)
+  pub begun_at : (ss : List ShareAsMeant) (ps : List (Process L W R)) (p : ℕ) (x : Process L W R)
       → AllBegun view settled ss ps → slice_get ps p ≡ Some x → IsBegunAt ss p x
   begun_at [] [] p x h e = absurd (cc)
   begun_at [] (q ∷ ps) p x h e = absurd h
@@ -69,18 +69,18 @@ given_at f (x ∷ xs) (suc p) y e =
     let rest = given_at f xs p y e in record { item = rest.item; there = rest.there; given = rest.given }
 
 -- the processes of a plan make a world of its job
-module _ {J S L W : Type 0} {means : J → Job} {behaviour : S → Behaviour} {fits : S → State → Type 0} (view settled : L → View)
-    (job : J) (plan : Plan S) (can : CanRun means behaviour fits job plan) (processes : List (Process L W))
+module _ {J S L W R : Type 0} {means : J → Job} {behaviour : S → Behaviour} {fits : S → State → Type 0} (view settled : L → View)
+    (job : J) (plan : Plan S) (can : CanRun means behaviour fits job plan) (processes : List (Process L W R))
     (begun : AllBegun view settled (map (share_by behaviour) plan.shares.items) processes) where
   shares_long : length processes ≡ length plan.shares.items
   shares_long = begun_count view settled (map (share_by behaviour) plan.shares.items) processes begun
       ∙ length-map plan.shares.items (share_by behaviour)
 
-  at : (p : ℕ) (x : Process L W) → slice_get processes p ≡ Some x
+  at : (p : ℕ) (x : Process L W R) → slice_get processes p ≡ Some x
       → IsBegunAt view settled (map (share_by behaviour) plan.shares.items) p x
   at p x e = begun_at view settled (map (share_by behaviour) plan.shares.items) processes p x begun e
 
-  its_share : (p : ℕ) (x : Process L W) → slice_get processes p ≡ Some x → AreAlike (state_by view x).share (share_of (means job) p)
+  its_share : (p : ℕ) (x : Process L W R) → slice_get processes p ≡ Some x → AreAlike (state_by view x).share (share_of (means job) p)
   its_share p x e =
       let here = at p x e in
       let given = given_at (share_by behaviour) plan.shares.items p here.share here.there in

@@ -1,5 +1,5 @@
 -- What the processes of a world hand over.
-use Rattle.std.proofs.Common.{◌≡◌, ℕ, List, length, map, Some, sym, ap, subst, ◌∙◌}
+use Rattle.std.proofs.Common.{◌≡◌, ℕ, List, length, map, Some, refl, sym, ap, subst, ◌∙◌}
 use Rattle.std.specs.List.{slice_get}
 use Rattle.std.specs.Option.{option_map}
 use Rattle.std.proofs.lemmas.List.{length-map}
@@ -14,7 +14,7 @@ use Rattle.dv_conservative.specs.World.{Job, owned, share_of}
 use Rattle.dv_core.specs.Kept.{Kept, clock_of, world_of}
 use Rattle.dv_core.specs.ProcessState.{ProcessState}
 use Rattle.dv_core.specs.Worlds.{IsTrueToModel}
-use Rattle.dv_serial.specs.Runs.{AreOfWorld}
+use Rattle.dv_serial.specs.Runs.{AreClocksOf, AreOfWorld}
 use Rattle.dv_serial.proofs.Beginning.{IsGivenAt, given_at}
 
 -- what a world of processes hands over
@@ -56,3 +56,11 @@ module _ {P : Type 0} (state : P → ProcessState) (job : Job) (k : Kept) (proce
     long = ap length parts ∙ length-map processes (λ x. (state x).part) ∙ counted;
     parts = λ p x t there at. its_part p t at x there;
   }
+
+-- and the clocks to which its processes came
+pub clocks_of_world : {P : Type 0} (state : P → ProcessState) (job : Job) (k : Kept) (processes : List P)
+    → k.states ≡ map state processes → IsTrueToModel job k → (times : List Time)
+    → times ≡ map (λ x. (state x).position.clock) processes → AreClocksOf job (world_of job k) times
+clocks_of_world state job k processes states holds times clocks =
+    let own = of_world state job k processes states holds (map (λ x. (state x).part) processes) times refl clocks in
+    record { count = own.count; clocks = own.clocks; within = own.within }

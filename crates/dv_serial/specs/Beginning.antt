@@ -30,13 +30,13 @@ pub record CanBegin {S : Type 0} (behaviour : S → Behaviour) (fits : S → Sta
   pub apart_out : AreApart (numbers_of_ways s.ways.items)
 
 -- a process of a share, as its run begins
-pub record HasBegun {L W : Type 0} (view settled : L → View) (s : ShareAsMeant) (p : Process L W) : Type 0 where
+pub record HasBegun {L W R : Type 0} (view settled : L → View) (s : ShareAsMeant) (p : Process L W R) : Type 0 where
   pub valid : IsConservative view settled p
   pub share : (state_by view p).share ≡ s
   pub new : IsNew (state_by view p)
 
 -- one of each of several shares
-abbrev pub AllBegun : {L W : Type 0} → (L → View) → (L → View) → List ShareAsMeant → List (Process L W) → Type 0
+abbrev pub AllBegun : {L W R : Type 0} → (L → View) → (L → View) → List ShareAsMeant → List (Process L W R) → Type 0
 AllBegun view settled [] [] = Unit {0}
 AllBegun view settled [] (p ∷ ps) = ⊥
 AllBegun view settled (s ∷ ss) [] = ⊥

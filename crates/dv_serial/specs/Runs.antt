@@ -23,11 +23,17 @@ pub record AreOfWorld (job : Job) (w : World) (committed : List PartOf) (times :
   pub parts : (p : ℕ) (x : PartOf) (t : Time) → slice_get committed p ≡ Some x → slice_get times p ≡ Some t
       → x ≡ part_before (owned job p) job.limit (whole job.flat) job.outside (rank job.limit t)
 
--- Rounds of a new world, so many at most, led to what was handed over.
+-- The clocks of the processes of a world, by their numbers, each of which is within the run.
+pub record AreClocksOf (job : Job) (w : World) (times : List Time) : Type 0 where
+  pub count : length times ≡ job.processes
+  pub clocks : (p : ℕ) (t : Time) → slice_get times p ≡ Some t → w.clock p ≡ t
+  pub within : (p : ℕ) (t : Time) → slice_get times p ≡ Some t → IsWithin (share_of job p) t
+
+-- Rounds of a new world, so many at most, led to clocks.
 pub record HasRun (job : Job) (capacity rounds : ℕ) (c : Committed) : Type 0 where
   pub world : World
   pub ends : EndsAs job rounds c.ended (new_world capacity) world
-  pub handed : AreOfWorld job world c.parts.items c.clocks.items
+  pub handed : AreClocksOf job world c.clocks.items
 
 -- The steps of a list, each with its reply, led from a new world to what was handed over.
 pub record HasStepped (job : Job) (capacity : ℕ) (steps : List Step) (s : Stepped) : Type 0 where

@@ -1,6 +1,8 @@
 //! The processes of a plan as a world, and their run by a list of steps on one thread.
 #![tactic(auto)]
 
+/// A world of the one process of a plan, with the record that it tells what happens.
+pub mod alone;
 /// The least clock of processes.
 pub mod least;
 /// The processes of a plan, as they begin.

@@ -5,11 +5,13 @@ ghost use Rattle.std.specs.List.{AllByRecursion};
 ghost use Rattle.dv_bag.specs.Bag.{Counts};
 ghost use Rattle.dv_local.specs.Shares.{share_by};
 ghost use Rattle.dv_local.specs.States.{settled_by, view_by};
+ghost use Rattle.dv_record.specs.Told.{settled_of, told_of};
 ghost use Rattle.dv_serial.specs.Beginning.{AllBegun, CanBegin, HasBegun};
 
 use dv_local::{LocalRun, Share, begin};
 use dv_proc::Process;
 use dv_react::Atomic;
+use dv_record::PartRecord;
 use std::alloc::{AllocError, Global};
 
 /// A process for each share, in their order: nothing came to any, and none has committed or sent anything.
@@ -20,10 +22,11 @@ use std::alloc::{AllocError, Global};
 pub fn begin_each<A: Atomic + Drop>(
     alloc: Global,
     shares: Vec<Share<A>>,
-) -> Result<Vec<Process<LocalRun<A>>>, AllocError>
+) -> Result<Vec<Process<LocalRun<A, PartRecord>>>, AllocError>
     requires comes { (a : A) (bags : List Counts) → A.comes a bags }
     requires begin { AllByRecursion (CanBegin A.behaviour A.fits) shares.items }
-    ensures { IfOk result (λ processes. AllBegun (view_by A.behaviour) (settled_by A.behaviour)
+    ensures { IfOk result (λ processes. AllBegun (view_by A.behaviour told_of)
+        (settled_by A.behaviour settled_of)
         (map (share_by A.behaviour) shares.items) processes.items) }
 {
     let mut processes = Vec::with_capacity(alloc, shares.len())?;
@@ -37,12 +40,12 @@ pub fn begin_each<A: Atomic + Drop>(
 fn begin_one<A: Atomic + Drop>(
     alloc: Global,
     share: Share<A>,
-) -> Result<Process<LocalRun<A>>, AllocError>
+) -> Result<Process<LocalRun<A, PartRecord>>, AllocError>
     requires comes { (a : A) (bags : List Counts) → A.comes a bags }
     requires begin { CanBegin A.behaviour A.fits share }
-    ensures { IfOk result (HasBegun (view_by A.behaviour) (settled_by A.behaviour)
-        (share_by A.behaviour share)) }
+    ensures { IfOk result (HasBegun (view_by A.behaviour told_of)
+        (settled_by A.behaviour settled_of) (share_by A.behaviour share)) }
 {
-    let process = begin(alloc, share)?;
+    let process = begin(alloc, share, PartRecord::new(alloc))?;
     Ok(process)
 }

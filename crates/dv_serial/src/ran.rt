@@ -4,10 +4,10 @@ use dv_bag::Part;
 use dv_core::{Ended, Reply};
 use dv_time::Time;
 
-/// What the processes of a run committed, each before its clock, by their numbers; and how their rounds ended.
+/// To which clocks the processes of a run came, each of which committed all before its clock, by their numbers; and how their
+/// rounds ended.
 #[derive(Drop)]
 pub struct Committed {
-    pub parts: Vec<Part>,
     pub clocks: Vec<Time>,
     pub ended: Ended,
 }

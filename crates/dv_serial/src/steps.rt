@@ -7,7 +7,7 @@ ghost use Rattle.dv_serial.specs.Runs.{HasStepped};
 
 use crate::ran::Stepped;
 use crate::worlds::world_of;
-use dv_core::{PlannedJob, Step};
+use dv_core::{PlannedJob, Step, into_parts};
 use dv_plan::Plan;
 use dv_react::Atomic;
 use std::alloc::{AllocError, Global};
@@ -33,7 +33,7 @@ pub fn step_plan<J: PlannedJob, A: Atomic + Drop>(
 {
     let mut world = world_of(alloc, job, plan, capacity)?;
     let replies = world.run(alloc, work, steps)?;
-    let (parts, clocks) = world.finish(alloc)?;
+    let (parts, clocks) = into_parts(alloc, world)?;
     Ok(Stepped {
         parts,
         clocks,

@@ -6,6 +6,7 @@ ghost use Rattle.dv_conservative.specs.World.{new_world};
 ghost use Rattle.dv_core.specs.Conservative.{state_by};
 ghost use Rattle.dv_core.specs.Worlds.{shown};
 ghost use Rattle.dv_local.specs.States.{view_by};
+ghost use Rattle.dv_record.specs.Told.{told_of};
 ghost use Rattle.dv_serial.specs.Beginning.{CanRun};
 
 use crate::processes::begin_each;
@@ -14,6 +15,7 @@ use dv_local::LocalRun;
 use dv_plan::Plan;
 use dv_proc::Process;
 use dv_react::Atomic;
+use dv_record::PartRecord;
 use std::alloc::{AllocError, Global};
 
 /// A new world of the processes of a plan: none has committed or sent anything, and no packet is on its way. So many may be
@@ -27,10 +29,10 @@ pub fn world_of<J: PlannedJob, A: Atomic + Drop>(
     job: J,
     plan: Plan<A>,
     capacity: usize,
-) -> Result<World<J, Process<LocalRun<A>>>, AllocError>
+) -> Result<World<J, Process<LocalRun<A, PartRecord>>>, AllocError>
     requires comes { (a : A) (bags : List Counts) → A.comes a bags }
     requires run { CanRun J.means A.behaviour A.fits job plan }
-    ensures fresh { IfOk result (λ w. shown J.means (state_by (view_by A.behaviour)) w
+    ensures fresh { IfOk result (λ w. shown J.means (state_by (view_by A.behaviour told_of)) w
         ≡ new_world capacity) }
     ensures job { IfOk result (λ w. w.job ≡ job) }
 {

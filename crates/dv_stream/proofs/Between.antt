@@ -1,8 +1,8 @@
 -- What processes committed between two times, as pieces of the trace.
-use Rattle.std.proofs.Common.{◌≡◌, ℕ, zero, suc, ◌<◌, ◌≤◌, List, [], ◌∷◌, length, map, Some, refl, sym, ap, subst, ◌∙◌, arith}
+use Rattle.std.proofs.Common.{◌≡◌, ℕ, ◌<◌, ◌≤◌, List, [], ◌∷◌, length, map, Some, refl, sym, ap, subst, ◌∙◌, arith}
 use Rattle.std.specs.List.{All, slice_get}
 use Rattle.std.proofs.lemmas.List.{get_or-map, length-map}
-use Rattle.std.proofs.lemmas.Option.{same_Some, slice_get-get_or, slice_get_within}
+use Rattle.std.proofs.lemmas.Option.{slice_get-get_or, slice_get_within}
 use Rattle.dv_time.specs.Time.{IsOfRun, end_of, rank, time_of}
 use Rattle.dv_time.specs.declared.time.Time.{Time}
 use Rattle.dv_time.proofs.Ranks.{time_of-rank}
@@ -151,37 +151,3 @@ all_given P f xs h k d lt =
 pub map_twice : {X Y Z : Type 0} (f : X → Y) (g : Y → Z) (xs : List X) → map g (map f xs) ≡ map (λ x. g (f x)) xs
 map_twice f g [] = refl
 map_twice {X} {Y} {Z} f g (x ∷ xs) = ap (λ (zs : List Z). g (f x) ∷ zs) (map_twice f g xs)
-
--- ---- Of one process
-
-module _ (job : Job) (part : PartOf) (clock : Time) (reached : AreReached job (part ∷ []) (clock ∷ [])) (some : 0 < job.processes)
-    (from : Time) (of_run : IsOfRun job.limit from) (known : IsNoLater job from clock) where
-  each_known : (p : ℕ) (t : Time) → slice_get (clock ∷ []) p ≡ Some t → IsNoLater job from t
-  each_known zero t at = subst (IsNoLater job from) (same_Some clock t at) known
-  each_known (suc p) t at = let lt = slice_get_within (clock ∷ []) (suc p) t at in absurd (omega (arith, lt))
-
-  abbrev at : least_time (clock ∷ []) ≡ clock
-  at = refl
-
-  pub alone_by_time : IsByTime part
-  alone_by_time = parts_by_time job (part ∷ []) (clock ∷ []) reached 0 part (omega arith)
-
-  pub alone_of_run : IsOfRun job.limit clock
-  alone_of_run = mark_of_run job (part ∷ []) (clock ∷ []) reached some from of_run each_known clock (sym at)
-
-  pub alone_within : rank job.limit clock ≤ end_of job.limit job.horizon
-  alone_within = mark_within job (part ∷ []) (clock ∷ []) reached some from of_run each_known clock (sym at)
-
-  -- what it committed is what the trace has in between
-  pub alone_is_trace : IsMergeable job → since from (before clock part) ≡ trace job from clock
-  alone_is_trace merges =
-      alone_is_whole job.owner (trace job from clock) (since from (before clock part))
-      (pieces_are job (part ∷ []) (clock ∷ []) reached some from of_run each_known clock (sym at) merges
-      (since from (before clock part) ∷ []) refl)
-
-  -- the same of a piece that was cut at the clock
-  pub alone_piece : IsMergeable job → (mark : Time) → mark ≡ clock → (committed piece : PartOf) → committed ≡ part
-      → piece ≡ since from (before mark committed) → piece ≡ trace job from mark
-  alone_piece merges mark same committed piece is cut =
-      cut ∙ ap (λ (p : PartOf). since from (before mark p)) is ∙ ap (λ (t : Time). since from (before t part)) same
-      ∙ alone_is_trace merges ∙ ap (trace job from) (sym same)

@@ -1,3 +1,5 @@
+-- What the one process of a job tells, as lines of the job's trace.
+pub mod Telling
 -- What processes committed between two times, as pieces of the trace.
 pub mod Between
 -- The clocks that are told of a run by workers.

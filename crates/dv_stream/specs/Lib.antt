@@ -3,5 +3,7 @@
 pub mod Faults
 -- What was written of the trace of a job.
 pub mod Written
+-- What one process without others has written.
+pub mod Alone
 -- Workers, for whom a job is a type.
 pub mod Workers

@@ -1,6 +1,8 @@
 //! The trace of a run, written while the run goes on.
 #![tactic(auto)]
 
+/// One process on one thread, whose record is its text.
+pub mod alone;
 /// Whether a part of a trace holds a fault.
 pub mod faults;
 /// The pieces of all processes, merged and written.

@@ -4,7 +4,8 @@ ghost use Rattle.std.specs.Prelude.{◌≡◌, IfOk, map};
 ghost use Rattle.std.specs.List.{All};
 ghost use Rattle.dv_bag.specs.Part.{IsByTime, before, since};
 
-use dv_core::LogicalProcess;
+use dv_core::{LogicalProcess, committed};
+use dv_record::PartRecord;
 use dv_slice::PartSlice;
 use dv_time::Time;
 use std::alloc::{AllocError, Global};
@@ -30,7 +31,7 @@ pub fn clocks_of<P: LogicalProcess>(alloc: Global, processes: &[P]) -> Result<Ve
 /// # Errors
 ///
 /// No memory for the list.
-pub fn pieces_of<'p, P: LogicalProcess>(
+pub fn pieces_of<'p, P: LogicalProcess<Record = PartRecord>>(
     alloc: Global,
     processes: &'p [P],
     from: Time,
@@ -42,7 +43,7 @@ pub fn pieces_of<'p, P: LogicalProcess>(
 {
     let mut pieces = Vec::with_capacity(alloc, processes.len())?;
     for process in processes {
-        pieces.push(PartSlice::between(process.committed(), from, upto))?;
+        pieces.push(PartSlice::between(committed(process), from, upto))?;
     }
     Ok(pieces)
 }

@@ -1,6 +1,6 @@
 //! Rounds on one thread; between them the trace is written.
 
-ghost use Rattle.std.specs.Prelude.{◌≡◌, ◌↔◌, ◌<◌, ◌∷◌, [], ℕ, List, IfOk, IsTrue, OnErr, map, slice_get, Some};
+ghost use Rattle.std.specs.Prelude.{◌≡◌, ◌↔◌, ◌<◌, ℕ, List, IfOk, IsTrue, OnErr, map, slice_get, Some};
 ghost use Rattle.dv_bag.specs.Bag.{Counts};
 ghost use Rattle.dv_board.specs.Clocks.{IsNoLater};
 ghost use Rattle.dv_board.specs.Jobs.{IsMergeable};
@@ -14,17 +14,19 @@ ghost use Rattle.dv_time.specs.Time.{IsOfRun};
 ghost use Rattle.dv_time.specs.declared.time.Time.{Time as MeantTime};
 ghost use Rattle.dv_work.specs.Reached.{AreReached};
 
+use crate::alone::stream_alone;
 use crate::merged::write_merged;
 use crate::pieces::{clocks_of, pieces_of};
-use crate::written::{Written, write_piece};
+use crate::written::Written;
 use dv_bag::Bags;
 use dv_core::{Ended, LogicalProcess, PlannedJob, World};
+use dv_lines::TextRecord;
 use dv_plan::Plan;
 use dv_react::Atomic;
+use dv_record::PartRecord;
 use dv_serial::Committed;
 use dv_serial::least::least_clock;
 use dv_serial::worlds::world_of;
-use dv_slice::PartSlice;
 use dv_text::laws::a_trace_is_its_pieces;
 use dv_text::{TraceWriter, WriteError};
 use std::alloc::Global;
@@ -41,38 +43,8 @@ pub struct Streamed {
     pub written: Written,
 }
 
-// Writes what the one process of a job has committed and is not written yet, from where it lies.
-fn write_alone<J: PlannedJob, P: LogicalProcess, W: Write>(
-    job: &J,
-    process: &P,
-    before: Written,
-    lines: &mut TraceWriter<'_>,
-    writer: &mut W,
-) -> Result<Written, WriteError>
-    requires merges { IsMergeable (J.means job.now) }
-    requires some { 0 < (J.means job.now).processes }
-    requires reached { AreReached (J.means job.now) ((P.state process.now).part ∷ [])
-        ((P.state process.now).position.clock ∷ []) }
-    requires of_run { IsOfRun (J.means job.now).limit before.mark }
-    requires order { IsNoLater (J.means job.now) before.mark
-        (P.state process.now).position.clock }
-    ensures tree { lines.new ≡ lines.old }
-    ensures ok { IfOk result (GoesOn (J.means job.now) lines.old
-        (W.contents writer.old) (W.contents writer.new) before) }
-    ensures mark { IfOk result (λ after. after.mark ≡ (P.state process.now).position.clock) }
-    ensures err { OnErr result (Falters (J.means job.now) lines.old
-        (W.contents writer.old) (W.contents writer.new) before) }
-{
-    let _ = job;
-    // A piece of the trace stands by time.
-    a_trace_is_its_pieces::<Bags>();
-    let mark = process.clock();
-    let piece = PartSlice::between(process.committed(), before.mark, mark);
-    write_piece(before, &piece, mark, lines, writer)
-}
-
 // Writes what the processes of a job have committed before their least clock and is not written yet.
-fn write_more<J: PlannedJob, P: LogicalProcess, W: Write>(
+fn write_more<J: PlannedJob, P: LogicalProcess<Record = PartRecord>, W: Write>(
     alloc: Global,
     job: &J,
     processes: &[P],
@@ -96,9 +68,6 @@ fn write_more<J: PlannedJob, P: LogicalProcess, W: Write>(
     ensures err { OnErr result (Falters (J.means job.now) lines.old
         (W.contents writer.old) (W.contents writer.new) before) }
 {
-    if let [process] = processes {
-        return write_alone(job, process, before, lines, writer);
-    }
     let clocks = clocks_of(alloc, processes)?;
     let mark = least_clock(&clocks);
     let pieces = pieces_of(alloc, processes, before.mark, mark)?;
@@ -106,7 +75,7 @@ fn write_more<J: PlannedJob, P: LogicalProcess, W: Write>(
 }
 
 // So many rounds, and then what is new of the trace is written.
-fn advance<J: PlannedJob, P: LogicalProcess, W: Write>(
+fn advance<J: PlannedJob, P: LogicalProcess<Record = PartRecord>, W: Write>(
     alloc: Global,
     world: &mut World<J, P>,
     work: &mut P::Work,
@@ -138,7 +107,7 @@ fn advance<J: PlannedJob, P: LogicalProcess, W: Write>(
 }
 
 // Whether rounds were used up.
-fn is_stalled(ended: Ended) -> bool
+pub(crate) fn is_stalled(ended: Ended) -> bool
     ensures { IsTrue result ↔ (ended ≡ Stalled) }
 {
     match ended {
@@ -148,7 +117,7 @@ fn is_stalled(ended: Ended) -> bool
 }
 
 // Rounds of the processes of a world, so many at most; the trace is written meanwhile.
-fn stream_rounds<J: PlannedJob, P: LogicalProcess, W: Write>(
+fn stream_rounds<J: PlannedJob, P: LogicalProcess<Record = PartRecord>, W: Write>(
     alloc: Global,
     world: &mut World<J, P>,
     work: &mut P::Work,
@@ -192,7 +161,8 @@ fn stream_rounds<J: PlannedJob, P: LogicalProcess, W: Write>(
 
 /// Runs the processes of a plan from their start, in so many rounds at most, with so many packets on their way on a link at
 /// most, and writes the lines of the trace before the least clock while they run. Where memory is refused to a turn or to a
-/// packet the last round is cut; what was committed before is what ran, and is written.
+/// packet the last round is cut; what was committed before is what ran, and is written. Where there is one process, what was
+/// written is let go.
 ///
 /// # Errors
 ///
@@ -219,13 +189,14 @@ pub fn stream_plan<J: PlannedJob, A: Atomic + Drop, W: Write>(
     ensures err { OnErr result (IsBegun (J.means job) lines.old
         (W.contents writer.old) (W.contents writer.new)) }
 {
+    if plan.shares.len() == 1 {
+        let tree = lines.tree();
+        let to = TextRecord::new(alloc, tree)?;
+        return stream_alone(alloc, job, plan, work, rounds, capacity, to, tree, writer);
+    }
     let mut world = world_of(alloc, job, plan, capacity)?;
     let (ended, written) = stream_rounds(alloc, &mut world, work, rounds, lines, writer)?;
-    let (parts, clocks) = world.finish(alloc)?;
-    let committed = Committed {
-        parts,
-        clocks,
-        ended,
-    };
+    let clocks = clocks_of(alloc, world.processes())?;
+    let committed = Committed { clocks, ended };
     Ok(Streamed { committed, written })
 }

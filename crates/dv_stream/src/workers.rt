@@ -19,6 +19,7 @@ use dv_board::{Backlog, Board};
 use dv_core::{LogicalProcess, PlannedJob};
 use dv_link::OfJob;
 use dv_proc::Channel;
+use dv_record::PartRecord;
 use dv_text::laws::a_trace_is_its_pieces;
 use dv_text::{TraceWriter, WriteError};
 use dv_time::Time;
@@ -66,7 +67,7 @@ impl<N: OfJob> PlannedJob for Until<N> {
 // Runs a crew, if it has not run yet, with a board on which it posts. Tells that it has begun, and that it has ended.
 fn run_posting<
     N: OfJob + Send + Sync,
-    P: LogicalProcess + Send,
+    P: LogicalProcess<Record = PartRecord> + Send,
     G: Gate<P>,
     R: Threads + Wait + Sync,
 >(
@@ -137,7 +138,7 @@ fn write_or_stop<N: OfJob, R: Wait, W: Write>(
 // crew last; nothing is written then, since no run begins.
 fn run_and_write<
     N: OfJob + Send + Sync,
-    P: LogicalProcess + Send,
+    P: LogicalProcess<Record = PartRecord> + Send,
     G: Gate<P>,
     R: Threads + Wait + Sync,
     W: Write,
@@ -200,7 +201,7 @@ where
 fn stream_crew<
     N: OfJob + Send + Sync,
     J: PlannedJob,
-    P: LogicalProcess + Send,
+    P: LogicalProcess<Record = PartRecord> + Send,
     G: Gate<P>,
     R: Threads + Wait + Sync,
     W: Write,
@@ -286,7 +287,7 @@ where
 /// the writer holds a beginning of the lines.
 pub fn stream_workers<
     J: PlannedJob,
-    P: LogicalProcess + Send,
+    P: LogicalProcess<Record = PartRecord> + Send,
     G: Gate<P>,
     R: Threads + Wait + Sync,
     W: Write,

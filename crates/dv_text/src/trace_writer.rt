@@ -49,6 +49,13 @@ impl<'t> TraceWriter<'t> {
         }
     }
 
+    /// The tree whose names it writes.
+    pub fn tree(&self) -> &'t Tree<'t>
+        ensures { result.now ≡ self.now }
+    {
+        self.tree
+    }
+
     /// Writes the lines of a part of a trace that stands by time. All of them are with the writer afterwards. A write
     /// that failed is not tried again.
     ///

@@ -6,8 +6,9 @@ ghost use Rattle.dv_work.specs.Seats.{Reports};
 use crate::bell::{Bell, Flag};
 use crate::seat::{Floor, Seat};
 use dv_board::{Board, Piece};
-use dv_core::LogicalProcess;
+use dv_core::{LogicalProcess, committed};
 use dv_link::OfJob;
+use dv_record::PartRecord;
 use dv_slice::piece_since;
 use std::alloc::Global;
 use std::sync::Wait;
@@ -29,7 +30,7 @@ pub struct Stream<'a, N: OfJob> {
 }
 
 // Posts what a process committed since it posted last. Tells whether there was something, and memory for it.
-fn post<N: OfJob, P: LogicalProcess, R: Wait>(
+fn post<N: OfJob, P: LogicalProcess<Record = PartRecord>, R: Wait>(
     rt: &R,
     stream: &Stream<'_, N>,
     seat: &Seat<P>,
@@ -41,7 +42,7 @@ fn post<N: OfJob, P: LogicalProcess, R: Wait>(
     if !kept.is_before(clock) {
         return false;
     }
-    let Ok(part) = piece_since(stream.alloc, seat.process.committed(), kept) else {
+    let Ok(part) = piece_since(stream.alloc, committed(&seat.process), kept) else {
         return false;
     };
     let piece = Piece {
@@ -54,7 +55,7 @@ fn post<N: OfJob, P: LogicalProcess, R: Wait>(
 }
 
 // Posts what the processes of a worker committed, and rings for it.
-fn post_each<N: OfJob, P: LogicalProcess, R: Wait>(
+fn post_each<N: OfJob, P: LogicalProcess<Record = PartRecord>, R: Wait>(
     rt: &R,
     stream: &Stream<'_, N>,
     seats: &[Seat<P>],
@@ -74,7 +75,7 @@ fn post_each<N: OfJob, P: LogicalProcess, R: Wait>(
 
 /// Posts what the processes of a worker committed, if the run has a board. What finds no memory comes with the next piece, and if
 /// there is none it is in the report alone.
-pub fn post_all<N: OfJob, P: LogicalProcess, R: Wait>(
+pub fn post_all<N: OfJob, P: LogicalProcess<Record = PartRecord>, R: Wait>(
     rt: &R,
     floor: &Floor<'_, N>,
     seats: &[Seat<P>],

@@ -12,8 +12,9 @@ ghost use Rattle.dv_work.specs.Seats.{Reports};
 use crate::seat::Seat;
 use crate::worker::{Halt, Worked};
 use dv_bag::Part;
-use dv_core::{LogicalProcess, PlannedJob};
+use dv_core::{LogicalProcess, PlannedJob, into_part};
 use dv_link::OfJob;
+use dv_record::PartRecord;
 use dv_time::Time;
 use std::alloc::{AllocError, Global};
 
@@ -60,7 +61,7 @@ fn nothing<N: OfJob>(alloc: Global, processes: usize) -> Result<Reached, AllocEr
 }
 
 // Enters what one process reached.
-fn enter<N: OfJob, P: LogicalProcess>(reached: &mut Reached, seat: Seat<P>)
+fn enter<N: OfJob, P: LogicalProcess<Record = PartRecord>>(reached: &mut Reached, seat: Seat<P>)
     requires seat { Reports N.job P.state seat }
     requires reached { AreReached N.job reached.old.parts.items reached.old.clocks.items }
     ensures { AreReached N.job reached.new.parts.items reached.new.clocks.items }
@@ -71,14 +72,17 @@ fn enter<N: OfJob, P: LogicalProcess>(reached: &mut Reached, seat: Seat<P>)
         outs: _,
         ins: _,
     } = seat;
-    let (part, clock) = process.finish();
+    let (part, clock) = into_part(process);
     let place = number as usize;
     reached.parts[place] = part;
     reached.clocks[place] = clock;
 }
 
 // Enters what the processes of a worker reached.
-fn enter_all<N: OfJob, P: LogicalProcess>(reached: &mut Reached, seats: Vec<Seat<P>>)
+fn enter_all<N: OfJob, P: LogicalProcess<Record = PartRecord>>(
+    reached: &mut Reached,
+    seats: Vec<Seat<P>>,
+)
     requires seats { All (Reports N.job P.state) seats.items }
     requires reached { AreReached N.job reached.old.parts.items reached.old.clocks.items }
     ensures { AreReached N.job reached.new.parts.items reached.new.clocks.items }
@@ -138,7 +142,7 @@ fn how_ended<C: Drop>(is_whole: bool, memory: bool, cause: Option<C>) -> Ended<C
 /// # Errors
 ///
 /// No memory.
-pub fn report_of<N: OfJob, J: PlannedJob, P: LogicalProcess, C: Drop>(
+pub fn report_of<N: OfJob, J: PlannedJob, P: LogicalProcess<Record = PartRecord>, C: Drop>(
     alloc: Global,
     job: &J,
     processes: usize,

@@ -22,6 +22,7 @@ use dv_board::Board;
 use dv_core::{LogicalProcess, PlannedJob};
 use dv_link::{Link, OfJob};
 use dv_proc::Channel;
+use dv_record::PartRecord;
 use std::alloc::{AllocError, Global};
 use std::marker::{Brand, PhantomData};
 use std::sync::Wait;
@@ -48,7 +49,7 @@ fn start<
     's,
     E,
     N: OfJob + Send + Sync + 's,
-    P: LogicalProcess + Send + 's,
+    P: LogicalProcess<Record = PartRecord> + Send + 's,
     G: Gate<P>,
     R: Threads + Wait + Sync,
 >(
@@ -133,7 +134,7 @@ fn start_and_join<
     's,
     E,
     N: OfJob + Send + Sync + 's,
-    P: LogicalProcess + Send + 's,
+    P: LogicalProcess<Record = PartRecord> + Send + 's,
     G: Gate<P>,
     R: Threads + Wait + Sync,
 >(
@@ -169,7 +170,7 @@ where
 // Runs the crews of a job, each on a thread of its own.
 fn run_crews<
     N: OfJob + Send + Sync,
-    P: LogicalProcess + Send,
+    P: LogicalProcess<Record = PartRecord> + Send,
     G: Gate<P>,
     R: Threads + Wait + Sync,
 >(
@@ -212,7 +213,7 @@ fn bells_of(alloc: Global, workers: usize) -> Result<Vec<Bell>, AllocError>
 fn run_job<
     N: OfJob + Send + Sync,
     J: PlannedJob,
-    P: LogicalProcess + Send,
+    P: LogicalProcess<Record = PartRecord> + Send,
     G: Gate<P>,
     R: Threads + Wait + Sync,
 >(
@@ -258,7 +259,7 @@ where
 fn run_reported<
     N: OfJob + Send + Sync,
     J: PlannedJob,
-    P: LogicalProcess + Send,
+    P: LogicalProcess<Record = PartRecord> + Send,
     G: Gate<P>,
     R: Threads + Wait + Sync,
 >(
@@ -296,7 +297,7 @@ fn run_unposted<
     'a,
     N: OfJob + Send + Sync + 'a,
     J: PlannedJob,
-    P: LogicalProcess + Send,
+    P: LogicalProcess<Record = PartRecord> + Send,
     G: Gate<P>,
     R: Threads + Wait + Sync,
 >(
@@ -335,7 +336,12 @@ where
 /// # Errors
 ///
 /// No memory for the links and the threads, or for the report.
-pub fn run_workers<J: PlannedJob, P: LogicalProcess + Send, G: Gate<P>, R: Threads + Wait + Sync>(
+pub fn run_workers<
+    J: PlannedJob,
+    P: LogicalProcess<Record = PartRecord> + Send,
+    G: Gate<P>,
+    R: Threads + Wait + Sync,
+>(
     rt: &R,
     alloc: Global,
     job: &J,
@@ -372,7 +378,7 @@ pub fn run_streamed<
     'a,
     N: OfJob + Send + Sync,
     J: PlannedJob,
-    P: LogicalProcess + Send,
+    P: LogicalProcess<Record = PartRecord> + Send,
     G: Gate<P>,
     R: Threads + Wait + Sync,
 >(

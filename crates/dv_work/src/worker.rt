@@ -13,6 +13,7 @@ use crate::seat::{Floor, Seat};
 use dv_core::LogicalProcess;
 use dv_link::OfJob;
 use dv_proc::Turned;
+use dv_record::PartRecord;
 use std::alloc::AllocError;
 use std::sync::Wait;
 
@@ -208,7 +209,7 @@ fn posts_after<C>(tells: bool, ended: &Result<Turned, Halt<C>>) -> bool {
 
 // Waits until the worker's bell has rung past a count. Its processes have told all that they prepared. If no ring comes
 // soon, the worker posts before it sleeps.
-fn wait_for_work<N: OfJob, P: LogicalProcess, R: Wait>(
+fn wait_for_work<N: OfJob, P: LogicalProcess<Record = PartRecord>, R: Wait>(
     rt: &R,
     floor: &Floor<'_, N>,
     bell: &Bell,
@@ -226,7 +227,7 @@ fn wait_for_work<N: OfJob, P: LogicalProcess, R: Wait>(
 }
 
 // Makes rounds until all are done, or the worker has to end.
-fn rounds<N: OfJob, P: LogicalProcess, G: Gate<P>, R: Wait>(
+fn rounds<N: OfJob, P: LogicalProcess<Record = PartRecord>, G: Gate<P>, R: Wait>(
     rt: &R,
     floor: &Floor<'_, N>,
     gate: &G,
@@ -262,7 +263,7 @@ fn rounds<N: OfJob, P: LogicalProcess, G: Gate<P>, R: Wait>(
 /// Works until all its processes are done, or it has to end early. If it ends early, it raises the flag, unless the
 /// flag was the reason. What its processes committed is posted before it sleeps and before it ends. If it ends because
 /// they are done, all packets that they prepared were put.
-pub fn work_at<N: OfJob, P: LogicalProcess, G: Gate<P>, R: Wait>(
+pub fn work_at<N: OfJob, P: LogicalProcess<Record = PartRecord>, G: Gate<P>, R: Wait>(
     rt: &R,
     floor: &Floor<'_, N>,
     gate: &G,

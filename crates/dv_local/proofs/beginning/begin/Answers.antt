@@ -19,14 +19,15 @@ use Rattle.dv_local.proofs.beginning.begin.Goals as goal
 pub new-requires-3-clause-begun : goal.new-requires-3-clause-begun
 new-requires-3-clause-begun g c =
     let b = g.A.Atomic.behaviour in
+    let told = g.R.Record.told in
     let t = c.args.share.tables in
     let x = c.in_ok-state.state in
-    let share : (view_by b x).share ≡ share_by b c.args.share = c.in_ok-state.ensures.share in
+    let share : (view_by b told x).share ≡ share_by b c.args.share = c.in_ok-state.ensures.share in
     let running : c.in_ok-running.running.items ≡ starts_of t.members.items =
     c.in_ok-running.ensures ∙ ap (λ (ms : List Member). starts_of ms) c.as_slice-3.ensures.value in
-    let components : (view_by b x).components ≡ components_of t.limit (starts_of t.members.items) =
+    let components : (view_by b told x).components ≡ components_of t.limit (starts_of t.members.items) =
     c.in_ok-state.ensures.components ∙ ap (components_of t.limit) running in
-    subst (λ (y : LocalState _). IsBegun (view_by b y)) (sym c.new-2.ensures)
+    subst (λ (y : LocalState _ _). IsBegun (view_by b told y)) (sym c.new-2.ensures)
     (record {
       components = components ∙ starts_are b t.limit t.models.items t.members.items ∙ ap (λ (s : Share). (network s.flat).start)
           (sym share);
@@ -39,14 +40,16 @@ new-requires-3-clause-begun g c =
 pub new-requires-3-clause-linked : goal.new-requires-3-clause-linked
 new-requires-3-clause-linked g c =
     let b = g.A.Atomic.behaviour in
-    ap (λ (y : LocalState _). (view_by b y).share.incoming) c.new-2.ensures
+    let told = g.R.Record.told in
+    ap (λ (y : LocalState _ _). (view_by b told y).share.incoming) c.new-2.ensures
     ∙ ap (λ (s : Share). s.incoming) c.in_ok-state.ensures.share
     ∙ sym (c.deref.ensures.value ∙ c.in_ok-sources.ensures.items ∙ c.as_slice.ensures.value)
 
 pub new-requires-3-clause-away : goal.new-requires-3-clause-away
 new-requires-3-clause-away g c =
     let b = g.A.Atomic.behaviour in
-    ap (λ (y : LocalState _). map (λ (o : Outgoing). o.number) (view_by b y).share.outgoing) c.new-2.ensures
+    let told = g.R.Record.told in
+    ap (λ (y : LocalState _ _). map (λ (o : Outgoing). o.number) (view_by b told y).share.outgoing) c.new-2.ensures
     ∙ ap (λ (s : Share). map (λ (o : Outgoing). o.number) s.outgoing) c.in_ok-state.ensures.share
     ∙ away_numbers c.args.share.ways.items
     ∙ sym (c.deref-2.ensures.value ∙ c.in_ok-ways.ensures ∙ ap (λ (ws : List Way). numbers_of_ways ws) c.as_slice-2.ensures.value)

@@ -1,11 +1,8 @@
-use Rattle.std.proofs.Common.{◌≡◌, ◌∙◌, ◌<◌, ◌+◌, ◌++◌, [], List, length, get_or, take, refl, sym, ap, subst, arith, append-nil}
-use Rattle.std.proofs.lemmas.List.{append_assoc, take_all}
+use Rattle.std.proofs.Common.{◌∙◌, ◌<◌, List, length, refl, sym, subst, arith}
 use Rattle.dv_bag.specs.Bag.{Counts}
-use Rattle.dv_bag.specs.declared.entry.Entry.{Entry}
 use Rattle.dv_react.specs.Components.{rank_of}
-use Rattle.dv_share.specs.Places.{places_of}
 use Rattle.dv_share.specs.declared.place.Placed.{Placed}
-use Rattle.dv_local.specs.Commits.{HasReacted, HaveReacted, IsGivenAt}
+use Rattle.dv_local.specs.Commits.{HasReacted, IsGivenAt}
 use Rattle.dv_local.proofs.Commits.{given_now, none_reacted, one_more}
 use Rattle.dv_local.proofs.commit.commit.Goals as goal
 
@@ -13,15 +10,17 @@ pub loop-arrival-init : goal.loop-arrival-init
 loop-arrival-init g c = record {
   reacted =
       none_reacted g.A.Atomic.behaviour g.A.Atomic.fits c.args.moment.now.tables.now (rank_of c.args.moment.now.instant.now)
-      c.args.components.now.running.items c.args.moment.now.emitted.now c.args.received.now c.args.committed.now.entries;
+      c.args.components.now.running.items c.args.moment.now.emitted.now c.args.received.now (g.R.Record.told c.args.to.now).entries;
   components = c.requires.components;
   agenda = c.requires.agenda;
   within = c.requires.within;
   before = refl;
   visits = refl;
   count = refl;
-  entries = ([], sym (append-nil _));
   outer = refl;
+  is_open = c.requires.is_open;
+  settled = refl;
+  handed = refl;
 }
 
 pub commit_one-requires : goal.commit_one-requires
@@ -46,10 +45,12 @@ commit_one-requires g c =
       rise = c.requires.emitted.places.rise;
       given =
           subst (λ (y : Placed (List Counts)). IsGivenAt b t now es c.loop-arrival.components.running.items y.place) (sym c.arrival-item.is)
-          (given_now b g.A.Atomic.fits t now rs es xs i x c.loop-arrival.components.running.items c.args.committed.now.entries
-          c.loop-arrival.committed.entries c.requires.received c.requires.components.count early inv.reacted c.requires.emitted);
+          (given_now b g.A.Atomic.fits t now rs es xs i x c.loop-arrival.components.running.items (g.R.Record.told c.args.to.now).entries
+          (g.R.Record.told c.loop-arrival.to).entries c.requires.received c.requires.components.count early inv.reacted c.requires.emitted);
       agenda = inv.agenda;
       within = inv.within;
+      nothing = c.requires.nothing;
+      is_open = inv.is_open;
     }
 
 pub loop-arrival-preserved : goal.loop-arrival-preserved
@@ -68,9 +69,9 @@ loop-arrival-preserved g c =
     let one = c.in_ok-commit_one.ensures in
     let ss = c.loop-arrival.components.running.items in
     let us = c.commit_one.new.components.running.items in
-    let old = c.args.committed.now.entries in
-    let mid = c.loop-arrival.committed.entries in
-    let new = c.commit_one.new.committed.entries in
+    let old = (g.R.Record.told c.args.to.now).entries in
+    let mid = (g.R.Record.told c.loop-arrival.to).entries in
+    let new = (g.R.Record.told c.commit_one.new.to).entries in
     record {
       reacted =
           one_more b fits t now rs es xs i x ss old mid c.requires.received c.requires.components.count early inv.reacted us new
@@ -81,9 +82,8 @@ loop-arrival-preserved g c =
       before = one.before ∙ inv.before;
       visits = one.visits ∙ inv.visits;
       count = omega (arith, one.count, inv.count);
-      entries = (
-        inv.entries.0 ++ one.entries.0,
-        one.entries.1 ∙ ap (λ (es : List Entry). es ++ one.entries.0) inv.entries.1 ∙ append_assoc old inv.entries.0 one.entries.0,
-      );
       outer = one.outer ∙ inv.outer;
+      is_open = one.is_open;
+      settled = one.settled ∙ inv.settled;
+      handed = one.handed ∙ inv.handed;
     }

@@ -1,9 +1,8 @@
-use Rattle.std.proofs.Common.{◌≡◌, ◌∙◌, ◌<◌, [], ◌∷◌, ◌++◌, List, Option, Some, None, MatchOption, length, slice_get, slice_set}
+use Rattle.std.proofs.Common.{◌≡◌, ◌∙◌, ◌<◌, ◌++◌, List, Option, Some, None, MatchOption, length, slice_get, slice_set}
 use Rattle.std.proofs.Common.{append-nil, refl, sym, ap, subst, arith}
 use Rattle.std.proofs.lemmas.List.{set-get_or}
 use Rattle.std.proofs.lemmas.Option.{get_or_from_slice_get, same_Some, slice_get_read}
 use Rattle.std.specs.Option.{option_map}
-use Rattle.dv_bag.specs.Part.{PartOf}
 use Rattle.dv_bag.specs.declared.entry.Entry.{Entry}
 use Rattle.dv_bag.specs.declared.entry.What.{What}
 use Rattle.dv_devs.specs.Network.{entry_of}
@@ -28,7 +27,7 @@ returns-in_default-clause-reacted g c =
     let given = given_at p c.args.moment.now.emitted.now in
     let lt : p < length rs = omega (arith, c.requires.place, c.requires.components.count) in
     let at : slice_get rs p ≡ Some r = slice_get_read rs (length rs) p r refl lt c.index-component.ensures in
-    let old = c.args.committed.now.entries in
+    let old = (g.R.Record.told c.args.to.now).entries in
     let k = number_of (slice_get t.members.items p) in
     let none : happened_in o ≡ None =
     sym c.in_ok-left.ensures.happened ∙ ap (λ (l : Option Left). option_map (λ (l : Left). l.what) l) c.in_default.is in
@@ -57,7 +56,7 @@ returns-clause-reacted g c =
     let given = given_at p c.args.moment.now.emitted.now in
     let lt : p < length rs = omega (arith, c.requires.place, c.requires.components.count) in
     let at : slice_get rs p ≡ Some r = slice_get_read rs (length rs) p r refl lt c.index-component.ensures in
-    let old = c.args.committed.now.entries in
+    let old = (g.R.Record.told c.args.to.now).entries in
     let k = number_of (slice_get t.members.items p) in
     let left = c.in-Some.left in
     let happened : happened_in o ≡ Some left.what =
@@ -74,10 +73,9 @@ returns-clause-reacted g c =
           c.put_in.ensures.components
           ∙ ap (slice_set rs p) (after ∙ ap (λ (u : Running). left_by u o) (same_Some r s (sym at ∙ at-s)));
       entries =
-          ap (λ (q : PartOf). q.entries) c.in_ok-push_entry.ensures.ok
+          c.in_ok-tell.ensures.entries
           ∙ ap (λ (es : List Entry). old ++ es)
-          (c.in_ok-entry.ensures
-          ∙ ap (λ limit. entry_of limit now k (Some (left.what, sent_of given))) c.requires.limit
+          (ap (λ limit. entry_of limit now k (Some (left.what, sent_of given))) c.requires.limit
           ∙ ap (λ (h : Option What). entry_of t.limit now k (event_of h (sent_of given))) (sym happened));
     }
 

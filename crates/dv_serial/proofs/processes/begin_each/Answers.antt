@@ -5,6 +5,7 @@ use Rattle.std.proofs.lemmas.List.{map-append}
 use Rattle.dv_conservative.specs.Process.{Share}
 use Rattle.dv_local.specs.Shares.{share_by}
 use Rattle.dv_local.specs.States.{settled_by, view_by}
+use Rattle.dv_record.specs.Told.{settled_of, told_of}
 use Rattle.dv_serial.specs.Beginning.{AllBegun, CanBegin}
 use Rattle.dv_serial.proofs.Beginning.{begun_after, holds_at}
 use Rattle.dv_serial.proofs.processes.begin_each.Goals as goal
@@ -20,8 +21,8 @@ begin_one-requires-clause-begin g c =
 pub loop-share-preserved : goal.loop-share-preserved
 loop-share-preserved g c =
     let behaviour = g.A.Atomic.behaviour in
-    let view = view_by behaviour in
-    let settled = settled_by behaviour in
+    let view = view_by behaviour told_of in
+    let settled = settled_by behaviour settled_of in
     let begun = c.loop-share.yielded in
     let share = c.in-Some.share in
     let old = c.loop-share.processes.items in

@@ -3,6 +3,7 @@ use Rattle.dv_conservative.specs.World.{IsRun, World, new_world}
 use Rattle.dv_core.specs.Conservative.{state_by}
 use Rattle.dv_core.specs.Worlds.{kept_by, shown, with_replies}
 use Rattle.dv_local.specs.States.{view_by}
+use Rattle.dv_record.specs.Told.{told_of}
 use Rattle.dv_serial.specs.Runs.{HasStepped}
 use Rattle.dv_serial.specs.declared.ran.Stepped.{Stepped}
 use Rattle.dv_serial.proofs.Running.{of_world}
@@ -11,7 +12,7 @@ use Rattle.dv_serial.proofs.steps.step_plan.Goals as goal
 pub returns : goal.returns
 returns g c =
     let means = g.J.PlannedJob.means in
-    let state = state_by (view_by g.A.Atomic.behaviour) in
+    let state = state_by (view_by g.A.Atomic.behaviour told_of) in
     let before = c.in_ok-world.world in
     let after = c.run.new.self in
     let capacity = c.args.capacity in

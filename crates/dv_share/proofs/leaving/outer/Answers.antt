@@ -1,8 +1,11 @@
 use Rattle.std.proofs.Common.{◌≡◌, ◌∙◌, ◌<◌, ◌^◌, ◌++◌, List, IsPermutation, length, ap, subst, sym, arith, rules}
 use Rattle.std.proofs.lemmas.Result.{on_ok_weaker}
 use Rattle.dv_bag.specs.Bag.{Counts}
+use Rattle.dv_bag.specs.declared.entry.Outer.{Outer}
 use Rattle.dv_devs.specs.Network.{outer_from}
 use Rattle.dv_react.specs.Components.{rank_of}
+use Rattle.dv_record.specs.Told.{with_lines}
+use Rattle.dv_record.proofs.Lines.{lines_at_rank}
 use Rattle.dv_conservative.specs.Links.{Delivery as Meant, carried, inbox}
 use Rattle.dv_share.specs.Links.{deliveries_of}
 use Rattle.dv_share.specs.Share.{sent_in}
@@ -12,21 +15,26 @@ use Rattle.dv_share.proofs.Inboxes.{inbox_length, inbox_same}
 use Rattle.dv_share.proofs.Sums.{moved_delivers}
 use Rattle.dv_share.proofs.leaving.outer.Goals as goal
 
-pub commit_outer-requires : goal.commit_outer-requires
-commit_outer-requires g c =
+pub left-requires : goal.left-requires
+left-requires g c =
     let small : c.args.tables.now.outputs < 2 ^ 32 = search rules in
-    omega (
-      arith,
-      ap length c.in_ok-bags.ensures,
-      inbox_length 0 (deliveries_of c.deref-2.result.now) 0 c.args.tables.now.outputs,
-      small,
-    )
+    record {
+      is_open = c.requires.is_open;
+      ports = omega (
+        arith,
+        ap length c.in_ok-bags.ensures,
+        inbox_length 0 (deliveries_of c.deref-2.result.now) 0 c.args.tables.now.outputs,
+        small,
+      );
+    }
 
-pub returns-clause-outer : goal.returns-clause-outer
-returns-clause-outer g c =
+pub returns-clause-told : goal.returns-clause-told
+returns-clause-told g c =
+    let told = g.R.Record.told in
     let t = c.args.tables.now in
     let es = c.args.emitted.now in
     let limit = c.args.instant.now.limit in
+    let time = c.args.instant.now.time in
     let now = rank_of c.args.instant.now in
     let all = c.carry_emitted.new.deliveries.items in
     let sorted = c.deref-2.result.now in
@@ -40,5 +48,7 @@ returns-clause-outer g c =
     c.in_ok-bags.ensures
     ∙ inbox_same 0 (deliveries_of sorted) (deliveries_of all) 0 t.outputs (moved_delivers sorted all moved 0)
     ∙ ap (λ (ds : List Meant). inbox 0 ds 0 t.outputs) led in
-    on_ok_weaker c.commit_outer.result
-    (λ h. h ∙ ap (λ (xs : List Counts). c.args.committed.now.outer ++ outer_from limit now 0 xs) bags) c.commit_outer.ensures.outer
+    let lines = sym (lines_at_rank limit time 0 c.in_ok-bags.bags c.args.instant.now.of_run)
+    ∙ ap (λ (xs : List Counts). outer_from limit now 0 xs) bags in
+    on_ok_weaker c.left.result
+    (λ h. h ∙ ap (λ (os : List Outer). with_lines os (told c.args.to.now)) lines) c.left.ensures.told

@@ -1,18 +1,30 @@
-use Rattle.std.proofs.Common.{◌≡◌, ◌<◌, ◌≤◌, refl, sym, subst, ◌∙◌, arith}
+use Rattle.std.proofs.Common.{◌≡◌, ◌<◌, ◌≤◌, map, refl, sym, ap, subst, ◌∙◌, arith}
 use Rattle.dv_time.specs.Time.{end_of, rank}
 use Rattle.dv_conservative.specs.World.{World, new_world}
 use Rattle.dv_core.specs.Conservative.{state_by}
 use Rattle.dv_core.specs.Worlds.{EndsAs, kept_by, shown}
 use Rattle.dv_local.specs.States.{view_by}
+use Rattle.dv_record.specs.Told.{told_of}
 use Rattle.dv_serial.specs.Runs.{HasRun}
 use Rattle.dv_serial.specs.declared.ran.Committed.{Committed}
-use Rattle.dv_serial.proofs.Running.{of_world}
+use Rattle.dv_serial.proofs.Running.{clocks_of_world}
 use Rattle.dv_text.proofs.Taking.{AppendsBeginning-nothing, OnErr-always}
 use Rattle.dv_stream.specs.Written.{IsBegun, IsWrittenTo, lines_before}
 use Rattle.dv_stream.proofs.Between.{least_within}
 use Rattle.dv_stream.proofs.Worlds.{clocks_in, parts_in, reached_in}
 use Rattle.dv_stream.proofs.Writing.{begun_to}
 use Rattle.dv_stream.proofs.rounds.stream_plan.Goals as goal
+
+pub returns-in_err-to-clause-err : goal.returns-in_err-to-clause-err
+returns-in_err-to-clause-err g c =
+    let job = g.J.PlannedJob.means c.args.job in
+    let known = g.W.Write.contents c.args.writer.now in
+    let nothing : IsBegun job c.args.lines.now known known = record {
+      upto = 0;
+      within = omega arith;
+      text = AppendsBeginning-nothing known (lines_before job c.args.lines.now 0);
+    } in
+    OnErr-always _ nothing
 
 pub returns-in_err-world-clause-err : goal.returns-in_err-world-clause-err
 returns-in_err-world-clause-err g c =
@@ -25,10 +37,10 @@ returns-in_err-world-clause-err g c =
     } in
     OnErr-always _ nothing
 
-pub returns-in_err-parts-clause-err : goal.returns-in_err-parts-clause-err
-returns-in_err-parts-clause-err g c =
+pub returns-in_err-clocks-clause-err : goal.returns-in_err-clocks-clause-err
+returns-in_err-clocks-clause-err g c =
     let means = g.J.PlannedJob.means in
-    let state = state_by (view_by g.A.Atomic.behaviour) in
+    let state = state_by (view_by g.A.Atomic.behaviour told_of) in
     let contents = g.W.Write.contents in
     let after = c.stream_rounds.new.world in
     let tree = c.args.lines.now in
@@ -50,7 +62,7 @@ returns-in_err-parts-clause-err g c =
 pub returns-clause-run : goal.returns-clause-run
 returns-clause-run g c =
     let means = g.J.PlannedJob.means in
-    let state = state_by (view_by g.A.Atomic.behaviour) in
+    let state = state_by (view_by g.A.Atomic.behaviour told_of) in
     let before = c.in_ok-world.world in
     let after = c.stream_rounds.new.world in
     let capacity = c.args.capacity in
@@ -62,11 +74,12 @@ returns-clause-run g c =
     c.in_ok-ended.ensures.rounds in
     let ends = subst (λ j. EndsAs (means j) rounds ended (new_world capacity) (shown means state after))
     (sym c.in_ok-ended.ensures.job) at_new in
-    let given : Committed = record { parts = c.in_ok-parts.parts; clocks = c.in_ok-parts.clocks; ended = ended } in
+    let clocks = c.in_ok-clocks.ensures ∙ ap (λ ps. map (λ x. (state x).position.clock) ps) c.processes.ensures in
+    let given : Committed = record { clocks = c.in_ok-clocks.clocks; ended = ended } in
     subst (λ j. HasRun (means j) capacity rounds given) same (record {
       world = shown means state after;
       ends = ends;
       handed =
-          of_world state (means after.job) (kept_by state after) after.processes.items refl c.in_ok-ended.ensures.true_to_model _ _
-          c.in_ok-parts.ensures.parts c.in_ok-parts.ensures.clocks;
+          clocks_of_world state (means after.job) (kept_by state after) after.processes.items refl c.in_ok-ended.ensures.true_to_model _
+          clocks;
     })

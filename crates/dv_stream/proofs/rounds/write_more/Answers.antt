@@ -1,7 +1,4 @@
-use Rattle.std.proofs.Common.{◌<◌, length, map, Some, sym, ap, ◌∙◌, arith}
-use Rattle.std.specs.Option.{option_map}
-use Rattle.std.proofs.lemmas.Option.{slice_get-get_or, slice_get-map}
-use Rattle.dv_time.specs.declared.time.Time.{Time}
+use Rattle.std.proofs.Common.{map, sym, ap, ◌∙◌}
 use Rattle.dv_bag.specs.Part.{IsByTime, PartOf, before, since}
 use Rattle.dv_serial.specs.Clocks.{least_time}
 use Rattle.dv_text.proofs.Taking.{OnErr-always}
@@ -57,14 +54,3 @@ write_merged-requires g c =
       order = mark_order job parts times c.requires.reached c.requires.some from c.requires.of_run c.requires.order mark at;
       within = mark_within job parts times c.requires.reached c.requires.some from c.requires.of_run c.requires.order mark at;
     }
-
--- where there is one process
-pub write_alone-requires-clause-order : goal.write_alone-requires-clause-order
-write_alone-requires-clause-order g c =
-    let clock : g.row.P.Denot → Time = λ x. (g.P.LogicalProcess.state x).position.clock in
-    let all = c.args.processes.now in
-    let x = c.process-item.result in
-    let some = c.in-len1.len_at_least in
-    let there : 0 < length all = omega (arith, some) in
-    c.requires.order 0 (clock x)
-    (slice_get-map clock all 0 ∙ ap (option_map clock) (slice_get-get_or all 0 x there ∙ ap Some (sym c.process-item.is)))

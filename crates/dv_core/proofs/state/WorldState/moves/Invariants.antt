@@ -1,4 +1,4 @@
-use Rattle.std.proofs.Common.{◌≡◌, length, drop}
+use Rattle.std.proofs.Common.{◌≡◌, length, drop, map}
 use Rattle.dv_conservative.specs.Rounds.{moves_from}
 use Rattle.dv_core.specs.Worlds.{shown}
 use Rattle.dv_core.specs.Standing.{Continues, Stands}
@@ -10,6 +10,7 @@ invariant-loop-link g l =
     record {
       stands : Stands g.J.PlannedJob.means g.P.LogicalProcess.state g.P.LogicalProcess.valid l.self;
       same : l.self.job ≡ l.initial.self.job;
+      handed : map g.P.LogicalProcess.handed l.self.processes.items ≡ map g.P.LogicalProcess.handed l.initial.self.processes.items;
       count : l.count ≡ length job.channels;
       continues : Continues job (moves_from 0 job.channels) (moves_from l.link (drop l.link job.channels))
           (shown g.J.PlannedJob.means g.P.LogicalProcess.state l.initial.self) (shown g.J.PlannedJob.means g.P.LogicalProcess.state l.self);

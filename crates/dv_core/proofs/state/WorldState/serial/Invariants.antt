@@ -1,4 +1,4 @@
-use Rattle.std.proofs.Common.{◌≡◌}
+use Rattle.std.proofs.Common.{◌≡◌, map}
 use Rattle.dv_conservative.specs.Rounds.{AreRounds}
 use Rattle.dv_core.specs.Worlds.{shown}
 use Rattle.dv_core.specs.Standing.{Stands}
@@ -10,6 +10,7 @@ invariant-loop-done g l =
     record {
       stands : Stands g.J.PlannedJob.means g.P.LogicalProcess.state g.P.LogicalProcess.valid l.self;
       same : l.self.job ≡ l.initial.self.job;
+      handed : map g.P.LogicalProcess.handed l.self.processes.items ≡ map g.P.LogicalProcess.handed l.initial.self.processes.items;
       rounds : AreRounds job l._done (shown g.J.PlannedJob.means g.P.LogicalProcess.state l.initial.self)
           (shown g.J.PlannedJob.means g.P.LogicalProcess.state l.self);
     }

@@ -1,5 +1,6 @@
 use Rattle.std.proofs.Common.{◌∷◌, ap, refl, sym, ◌∙◌, arith, rules}
-use Rattle.dv_core.proofs.Answering.{ends, flagged, only_memory, receiver_valid, take_accepts, take_stopped, take_empty}
+use Rattle.dv_core.proofs.Answering.{ends, flagged, hidden_write, only_memory, read_at}
+use Rattle.dv_core.proofs.Answering.{receiver_valid, take_accepts, take_stopped, take_empty}
 use Rattle.dv_core.proofs.Answering.{take_refused, take_done}
 use Rattle.dv_core.proofs.Lookups.{empty_of}
 use Rattle.dv_core.proofs.state.WorldState.take.Goals as goal
@@ -9,13 +10,13 @@ index-requires-2 g c =
     let within = flagged c.args.self.now c.requires c.args.link c.index.result.now (search rules) c.index.ensures in
     omega (arith, within.1)
 
-pub returns-then-index : goal.returns-then-index
-returns-then-index g c =
+pub returns-then-index-clause-stepped : goal.returns-then-index-clause-stepped
+returns-then-index-clause-stepped g c =
     take_stopped c.args.self.now c.requires c.args.link c.index.result.now (search rules) c.index.ensures
     c.index-2.result.now c.index-2.ensures c.if-index.true
 
-pub returns-in_default : goal.returns-in_default
-returns-in_default g c =
+pub returns-in_default-clause-stepped : goal.returns-in_default-clause-stepped
+returns-in_default-clause-stepped g c =
     let cases = c.in_default.ensures.cases in
     let long = c.index_mut-queue.result.now.ok.0 in
     take_empty c.args.self.now c.requires c.args.link c.index.result.now (search rules) c.index.ensures
@@ -33,8 +34,8 @@ receive-requires g c =
     c.index-2.result.now c.index-2.ensures c.if-index.false c.index_mut-queue.result.now c.index_mut-queue.ensures.value
     c.in-Some.packet c.pop_front.new.self.items c.in-Some.ensures.items c.index_mut-receiver.result.now c.index_mut-receiver.ensures.value
 
-pub returns-in-Err : goal.returns-in-Err
-returns-in-Err g c =
+pub returns-in-Err-clause-stepped : goal.returns-in-Err-clause-stepped
+returns-in-Err-clause-stepped g c =
     take_refused c.args.self.now c.requires c.args.link c.index.result.now (search rules) c.index.ensures
     c.index-2.result.now c.index-2.ensures c.if-index.false c.index_mut-queue.result.now c.index_mut-queue.ensures.value
     c.in-Some.packet c.pop_front.new.self.items c.in-Some.ensures.items c.index_mut-receiver.result.now c.index_mut-receiver.ensures.value
@@ -43,8 +44,8 @@ returns-in-Err g c =
     ∙ sym c.in-Some.ensures.items)
     c.in-Err.ensures.unchanged
 
-pub returns-in-Ok : goal.returns-in-Ok
-returns-in-Ok g c =
+pub returns-in-Ok-clause-stepped : goal.returns-in-Ok-clause-stepped
+returns-in-Ok-clause-stepped g c =
     take_done c.args.self.now c.requires c.args.link c.index.result.now (search rules) c.index.ensures
     c.index-2.result.now c.index-2.ensures c.if-index.false c.index_mut-queue.result.now c.index_mut-queue.ensures.value
     c.in-Some.packet c.pop_front.new.self.items c.in-Some.ensures.items c.index_mut-receiver.result.now c.index_mut-receiver.ensures.value
@@ -57,3 +58,21 @@ unreachable-requires g c =
     c.in-Some.packet c.pop_front.new.self.items c.in-Some.ensures.items
     c.index_mut-receiver.result.now c.index_mut-receiver.ensures.value in
     only_memory c.in-Err.refused (c.in-Err.ensures.refused ∙ none) c.in_default-refused.not-NoMemory
+
+pub returns-in-Err-clause-handed : goal.returns-in-Err-clause-handed
+returns-in-Err-clause-handed g c =
+    let w = c.args.self.now in
+    let receiver = c.index_mut-receiver.result.now in
+    let within = ends w c.requires c.args.link c.index.result.now (search rules) c.index.ensures in
+    hidden_write g.P.LogicalProcess.handed w.processes.items c.index.result.now.target receiver
+    (read_at w.processes c.index.result.now.target receiver within.1 c.index_mut-receiver.ensures.value) c.receive.new.self
+    c.receive.ensures.handed
+
+pub returns-in-Ok-clause-handed : goal.returns-in-Ok-clause-handed
+returns-in-Ok-clause-handed g c =
+    let w = c.args.self.now in
+    let receiver = c.index_mut-receiver.result.now in
+    let within = ends w c.requires c.args.link c.index.result.now (search rules) c.index.ensures in
+    hidden_write g.P.LogicalProcess.handed w.processes.items c.index.result.now.target receiver
+    (read_at w.processes c.index.result.now.target receiver within.1 c.index_mut-receiver.ensures.value) c.receive.new.self
+    c.receive.ensures.handed

@@ -14,10 +14,12 @@ loop-process-preserved g c =
     let start = shown g.J.PlannedJob.means g.P.LogicalProcess.state c.args.self.now in
     let now = shown g.J.PlannedJob.means g.P.LogicalProcess.state c.loop-process.self in
     record {
-      stands = c.turn.ensures.stands;
-      same = c.turn.ensures.answered.job ∙ inv.same;
+      stands = c.turn.ensures.stepped.stands;
+      same = c.turn.ensures.stepped.answered.job ∙ inv.same;
+      handed = c.turn.ensures.handed ∙ inv.handed;
       count = inv.count;
-      continues = one_more c.loop-process.self c.turn.new.self (step.Turn c.loop-process.process) c.turn.result c.turn.ensures.answered
+      continues = one_more c.loop-process.self c.turn.new.self (step.Turn c.loop-process.process) c.turn.result
+          c.turn.ensures.stepped.answered
           job (ap g.J.PlannedJob.means inv.same) (round job) _ start
           (subst (λ (ss : List Step). Continues job (round job) ss start now)
           (turns_next job (moves_from 0 job.channels) c.loop-process.process c.len-count.result c.loop-process-test.true) inv.continues)
@@ -30,7 +32,7 @@ returns-in-Memory-clause-cut g c =
     let job = g.J.PlannedJob.means c.args.self.now.job in
     let start = shown g.J.PlannedJob.means g.P.LogicalProcess.state c.args.self.now in
     let now = shown g.J.PlannedJob.means g.P.LogicalProcess.state c.loop-process.self in
-    λ _. cut_here c.loop-process.self c.turn.new.self (step.Turn c.loop-process.process) _ c.in-Memory.ensures.answered
+    λ _. cut_here c.loop-process.self c.turn.new.self (step.Turn c.loop-process.process) _ c.in-Memory.ensures.stepped.answered
     job (ap g.J.PlannedJob.means inv.same) (round job) _ start
     (subst (λ (ss : List Step). Continues job (round job) ss start now)
     (turns_next job (moves_from 0 job.channels) c.loop-process.process c.len-count.result c.loop-process-test.true) inv.continues)

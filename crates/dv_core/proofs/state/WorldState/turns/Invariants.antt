@@ -1,4 +1,4 @@
-use Rattle.std.proofs.Common.{◌≡◌, ◌-◌, ◌++◌}
+use Rattle.std.proofs.Common.{◌≡◌, ◌-◌, ◌++◌, map}
 use Rattle.dv_conservative.specs.Rounds.{moves_from, round, turns_from}
 use Rattle.dv_core.specs.Worlds.{shown}
 use Rattle.dv_core.specs.Standing.{Continues, Stands}
@@ -10,6 +10,7 @@ invariant-loop-process g l =
     record {
       stands : Stands g.J.PlannedJob.means g.P.LogicalProcess.state g.P.LogicalProcess.valid l.self;
       same : l.self.job ≡ l.initial.self.job;
+      handed : map g.P.LogicalProcess.handed l.self.processes.items ≡ map g.P.LogicalProcess.handed l.initial.self.processes.items;
       count : l.count ≡ job.processes;
       continues : Continues job (round job) (turns_from l.process (l.count - l.process) ++ moves_from 0 job.channels)
           (shown g.J.PlannedJob.means g.P.LogicalProcess.state l.initial.self) (shown g.J.PlannedJob.means g.P.LogicalProcess.state l.self);

@@ -9,6 +9,7 @@ use Rattle.dv_local.proofs.local_run.LocalRunLocal.react.Goals as goal
 pub returns-clause-visits : goal.returns-clause-visits
 returns-clause-visits g c =
     let b = g.A.Atomic.behaviour in
-    subst (λ (y : LocalState _).
-    OnOk c.react.result (CountsInstant (rank y.share.tables.limit c.args.now) (view_by b y) (view_by b c.react.new.self)))
+    let told = g.R.Record.told in
+    subst (λ (y : LocalState _ _).
+    OnOk c.react.result (CountsInstant (rank y.share.tables.limit c.args.now) (view_by b told y) (view_by b told c.react.new.self)))
     c.self.view_is c.react.ensures.visits

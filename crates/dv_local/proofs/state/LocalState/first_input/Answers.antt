@@ -13,6 +13,7 @@ pub returns : goal.returns
 returns g c =
     let x = c.args.self.now in
     let b = g.A.Atomic.behaviour in
+    let told = g.R.Record.told in
     let from = c.args.from in
     let limit = x.share.tables.limit in
     let k = rank limit from in
@@ -23,7 +24,8 @@ returns g c =
     let next : outside ≡ next_from limit x.share.inputs from =
     c.first_outside-outside.ensures limit (subst (λ (xs : List Input). AreOfRun limit xs) (sym same) share.of_run)
     ∙ ap (λ (xs : List Input). next_from limit xs from) same in
-    subst (λ (r : Option Time). IsFirstInput (view_by b x) k r) (sym c.earlier.ensures)
-    (both_first (view_by b x) k (QuietInside b x) (QuietOutside b x) (calm b x) held outside
-    (first_inside b x held from c.requires.of_run c.requires.kept.arrive c.first_held-held.ensures.there c.first_held-held.ensures.least)
-    (first_of_inputs b x outside from c.requires.of_run c.as_slice.ensures.by_time share.led share.of_run next))
+    subst (λ (r : Option Time). IsFirstInput (view_by b told x) k r) (sym c.earlier.ensures)
+    (both_first (view_by b told x) k (QuietInside b told x) (QuietOutside b told x) (calm b told x) held outside
+    (first_inside b told x held from c.requires.of_run c.requires.kept.arrive c.first_held-held.ensures.there
+    c.first_held-held.ensures.least)
+    (first_of_inputs b told x outside from c.requires.of_run c.as_slice.ensures.by_time share.led share.of_run next))

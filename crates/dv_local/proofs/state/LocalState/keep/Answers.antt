@@ -31,7 +31,7 @@ returns-clause-is_kept g c =
     let new : Arrivals = c.add_all.new.self in
     let comings : c.deref.result.now ≡ map coming_of (filter (brings s.share.tables.limit) es) = c.deref.ensures.value
     ∙ c.in_ok-comings.ensures in
-    let here : are_for_ports (view_by g.A.Atomic.behaviour s).share (meant_events es) ≡ true =
+    let here : are_for_ports (view_by g.A.Atomic.behaviour g.R.Record.told s).share (meant_events es) ≡ true =
     subst (λ (v : View). are_for_ports v.share (meant_events es) ≡ true) (sym c.settle.ensures.view) c.requires.ports in
     record {
       share = k.share;
@@ -55,13 +55,14 @@ pub returns-clause-kept : goal.returns-clause-kept
 returns-clause-kept g c =
     let s = c.settle.new.self in
     let b = g.A.Atomic.behaviour in
+    let told = g.R.Record.told in
     let limit = s.share.tables.limit in
     let es = c.args.events.now in
     let old : Arrivals = s.inbox in
     let new : Arrivals = c.add_all.new.self in
     let comings : c.deref.result.now ≡ map coming_of (filter (brings s.share.tables.limit) es) = c.deref.ensures.value
     ∙ c.in_ok-comings.ensures in
-    let view : view_by b s ≡ view_by b c.args.self.now = c.settle.ensures.view in
+    let view : view_by b told s ≡ view_by b told c.args.self.now = c.settle.ensures.view in
     on_ok c.add_all.result _ ((u : Time) → arrivals_at u new ≡ arrivals_at u old ++ coming_at u c.deref.result.now) c.add_all.ensures.added
     (λ added. record {
       share = ap (λ (v : View). v.share) view;
@@ -85,9 +86,10 @@ pub returns-clause-settled : goal.returns-clause-settled
 returns-clause-settled g c =
     let s = c.settle.new.self in
     let b = g.A.Atomic.behaviour in
+    let told = g.R.Record.told in
     let limit = s.share.tables.limit in
     let new : Arrivals = c.add_all.new.self in
-    let same : settled_by b s ≡ view_by b s = c.settle.ensures.settled ∙ sym c.settle.ensures.view in
+    let same : settled_by b g.R.Record.settled s ≡ view_by b told s = c.settle.ensures.settled ∙ sym c.settle.ensures.view in
     ap (λ (v : View).
     let w : View = record {
       share = share_by b s.share;
@@ -99,9 +101,9 @@ returns-clause-settled g c =
     ∙ ap (λ (o : Option Time).
     let w : View = record {
       share = share_by b s.share;
-      components = (view_by b s).components;
-      committed = (view_by b s).committed;
+      components = (view_by b told s).components;
+      committed = (view_by b told s).committed;
       held = held_by limit o new;
-      visits = (view_by b s).visits;
+      visits = (view_by b told s).visits;
     } in w)
     (sym c.settle.ensures.at_rest.taken)

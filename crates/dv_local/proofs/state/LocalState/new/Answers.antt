@@ -20,11 +20,11 @@ returns-clause-kept g c =
       components = c.requires.components;
       agenda = c.in_ok-agenda.ensures ∙ ap (λ (ss : List Running). waits_of ss) c.deref.ensures.value;
       arrive = none_arrive t.limit t.members.items c.new.result c.new.ensures.empty;
-      within = subst (λ (xs : List (Placed Running)). AreWithin (length rs) xs) (sym c.new-3.ensures.items)
+      within = subst (λ (xs : List (Placed Running)). AreWithin (length rs) xs) (sym c.new-2.ensures.items)
           (all_none (λ (p : Placed Running). p.place < length rs));
-      before = subst (λ (xs : List (Placed Running)). AreComponents g.A.Atomic.fits t (undone xs rs)) (sym c.new-3.ensures.items)
+      before = subst (λ (xs : List (Placed Running)). AreComponents g.A.Atomic.fits t (undone xs rs)) (sym c.new-2.ensures.items)
           c.requires.components;
-      emitted = subst (λ (xs : List (Placed _)). StandByPlace (length t.members.items) xs) (sym c.new-4.ensures.items)
+      emitted = subst (λ (xs : List (Placed _)). StandByPlace (length t.members.items) xs) (sym c.new-3.ensures.items)
           (record { rise = tt; within = all_none _ });
       still = tt;
     }

@@ -3,6 +3,7 @@ use Rattle.std.proofs.lemmas.List.{length-append}
 use Rattle.dv_time.specs.Time.{IsOfRun, rank}
 use Rattle.dv_bag.specs.Bag.{Counts}
 use Rattle.dv_bag.specs.declared.entry.Entry.{Entry}
+use Rattle.dv_bag.specs.declared.entry.Outer.{Outer}
 use Rattle.dv_bag.specs.declared.fault.Fault.{Fault}
 use Rattle.dv_agenda.specs.Comings.{arrivals_at}
 use Rattle.dv_agenda.specs.declared.arrival.Arrival.{Arrival}
@@ -10,6 +11,7 @@ use Rattle.dv_bag.specs.Part.{PartOf}
 use Rattle.dv_conservative.specs.Flat.{network}
 use Rattle.dv_conservative.specs.Links.{carried, inbox}
 use Rattle.dv_conservative.specs.Process.{Share}
+use Rattle.dv_devs.specs.Cuts.{IsAllBefore}
 use Rattle.dv_devs.specs.Network.{outer_from, part_of_instant}
 use Rattle.dv_react.specs.declared.running.Running.{Running}
 use Rattle.dv_react.specs.Components.{components_of}
@@ -17,6 +19,8 @@ use Rattle.dv_share.specs.Links.{deliveries_of}
 use Rattle.dv_share.specs.Places.{places_of}
 use Rattle.dv_share.specs.Share.{AreAmong, AreReceived, coming, sent_in}
 use Rattle.dv_share.specs.declared.place.Placed.{Placed}
+use Rattle.dv_record.specs.Told.{with_lines}
+use Rattle.dv_record.proofs.Open.{open_after}
 use Rattle.dv_proc.specs.Accesses.{IsAfterEmission, entries_at}
 use Rattle.dv_proc.specs.Local.{IsAfterInstant, View, input_at}
 use Rattle.dv_proc.proofs.Accesses.{instant_found}
@@ -31,12 +35,13 @@ use Rattle.dv_local.proofs.state.LocalState.react.Goals as goal
 pub returns-clause-reacted : goal.returns-clause-reacted
 returns-clause-reacted g c =
     let b = g.A.Atomic.behaviour in
+    let told = g.R.Record.told in
     let fits = g.A.Atomic.fits in
     let x = c.emit.new.self in
     let t = x.share.tables in
-    let v : View = view_by b c.args.self.now in
-    let found : IsAfterEmission (rank v.share.limit c.args.now) v (view_by b x) =
-    subst (λ (y : View). IsAfterEmission (rank y.share.limit c.args.now) y (view_by b x)) c.settle.ensures.view c.emit.ensures.found in
+    let v : View = view_by b told c.args.self.now in
+    let found : IsAfterEmission (rank v.share.limit c.args.now) v (view_by b told x) =
+    subst (λ (y : View). IsAfterEmission (rank y.share.limit c.args.now) y (view_by b told x)) c.settle.ensures.view c.emit.ensures.found in
     let of_run : IsOfRun t.limit c.args.now = subst (λ (s : Share). IsOfRun s.limit c.args.now) (sym found.share) c.requires.of_run in
     let taken = (c.emit.ensures.at_rest c.settle.ensures.at_rest).taken in
     let es = c.as_slice-emitted.result.now in
@@ -59,75 +64,89 @@ returns-clause-reacted g c =
     let received : AreReceived t.members.items (coming t gs outside meant) xs =
     subst (λ (fs : List (Placed (Result (List Counts) Fault))). AreReceived t.members.items (coming t fs outside meant) xs) same-es
     c.in_ok-arrivals.ensures.received in
-    let reacted : HaveReacted b fits t n rs gs xs (places_of xs) put x.committed.entries c.commit.new.committed.entries =
-    subst (λ (old : List Entry). HaveReacted b fits t n rs gs xs (places_of xs) put old c.commit.new.committed.entries)
-    c.in_ok-outer.ensures.entries
-    (subst (λ (ys : List (Placed (List Counts))). HaveReacted b fits t n rs gs ys (places_of ys) put c.outer.new.committed.entries
-    c.commit.new.committed.entries)
+    let old : List Entry = (told x.record).entries in
+    let told_now : PartOf = told c.outer.new.to in
+    let lines : List (Placed (Result (List Counts) Fault)) → List Outer =
+    λ fs. outer_from t.limit n 0 (inbox 0 (carried t.exits (sent_in t.members.items fs)) 0 t.outputs) in
+    let left : told_now ≡ with_lines (lines es) (told c.commit.new.to) = c.in_ok-outer.ensures.told in
+    let reacted : HaveReacted b fits t n rs gs xs (places_of xs) put old told_now.entries =
+    subst (λ (new : List Entry). HaveReacted b fits t n rs gs xs (places_of xs) put old new)
+    (sym (ap (λ (p : PartOf). p.entries) left))
+    (subst (λ (ys : List (Placed (List Counts))). HaveReacted b fits t n rs gs ys (places_of ys) put old (told c.commit.new.to).entries)
     c.deref-2.ensures.value
     (subst (λ (fs : List (Placed (Result (List Counts) Fault))). HaveReacted b fits t n rs fs c.deref-2.result.now
-    (places_of c.deref-2.result.now) put
-    c.outer.new.committed.entries c.commit.new.committed.entries) same-es c.in_ok-commit.ensures.reacted)) in
-    let outer =
-    c.in_ok-commit.ensures.outer ∙ c.in_ok-outer.ensures.outer
-    ∙ ap (λ (fs : List (Placed (Result (List Counts) Fault))). x.committed.outer
-    ++ outer_from t.limit n 0 (inbox 0 (carried t.exits (sent_in t.members.items fs)) 0 t.outputs)) same-es in
+    (places_of c.deref-2.result.now) put old (told c.commit.new.to).entries) same-es c.in_ok-commit.ensures.reacted)) in
+    let outer : told_now.outer ≡ (told x.record).outer ++ lines gs =
+    ap (λ (p : PartOf). p.outer) left
+    ∙ ap (λ (os : List Outer). os ++ lines es) c.in_ok-commit.ensures.outer
+    ∙ ap (λ (fs : List (Placed (Result (List Counts) Fault))). (told x.record).outer ++ lines fs) same-es in
     let w : View = record {
       share = share_by b x.share;
       components = components_of t.limit ss;
-      committed = c.commit.new.committed;
+      committed = told c.outer.new.to;
       held = held_by t.limit (Some c.args.now) x.inbox;
       visits = c.count.new.self.visits;
     } in
     subst (λ (s : Share). IsAfterInstant (rank s.limit c.args.now) v w) found.share
-    (instant_found n (rank v.share.limit c.args.now) v (view_by b x) w found
-    (took_place b fits x c.args.now outside meant xs ss c.commit.new.committed c.count.new.self.visits of_run
-    (input_is b x c.args.now outside ds of_run taken (c.in_ok-outside.ensures t.limit of_run) held)
+    (instant_found n (rank v.share.limit c.args.now) v (view_by b told x) w found
+    (took_place b fits told x c.args.now outside meant xs ss told_now c.count.new.self.visits of_run
+    (input_is b told x c.args.now outside ds of_run taken (c.in_ok-outside.ensures t.limit of_run) held)
     c.emit.ensures.kept.components c.in_ok-emit.ensures.emitted among received
-    (subst (λ (rs' : List Running). HaveReacted b fits t n rs gs xs (places_of xs) rs' x.committed.entries c.commit.new.committed.entries)
+    (subst (λ (rs' : List Running). HaveReacted b fits t n rs gs xs (places_of xs) rs' old told_now.entries)
     (sym counted) reacted) outer taken))
 
 pub returns-clause-visits : goal.returns-clause-visits
 returns-clause-visits g c =
     let b = g.A.Atomic.behaviour in
+    let told = g.R.Record.told in
     let x = c.emit.new.self in
-    let v : View = view_by b c.args.self.now in
+    let v : View = view_by b told c.args.self.now in
     let n = rank v.share.limit c.args.now in
-    let found : IsAfterEmission n v (view_by b x) =
-    subst (λ (y : View). IsAfterEmission (rank y.share.limit c.args.now) y (view_by b x)) c.settle.ensures.view c.emit.ensures.found in
+    let found : IsAfterEmission n v (view_by b told x) =
+    subst (λ (y : View). IsAfterEmission (rank y.share.limit c.args.now) y (view_by b told x)) c.settle.ensures.view c.emit.ensures.found in
     let w : View = record {
       share = share_by b x.share;
       components = components_of x.share.tables.limit c.count.new.self.running.items;
-      committed = c.commit.new.committed;
+      committed = told c.outer.new.to;
       held = held_by x.share.tables.limit (Some c.args.now) x.inbox;
       visits = c.count.new.self.visits;
     } in
     let part = part_of_instant v.share.limit (network v.share.flat) n (input_at v n) v.components in
     let after = returns-clause-reacted g c in
-    let grown : length c.commit.new.committed.entries ≡ length x.committed.entries + entries_at v n =
+    let grown : length (told c.outer.new.to).entries ≡ length (told x.record).entries + entries_at v n =
     ap (λ (p : PartOf). length p.entries) after.committed
     ∙ length-append v.committed.entries part.entries
     ∙ ap (λ (p : PartOf). length p.entries + entries_at v n) (sym found.committed) in
     let none = ap length (c.emit.ensures.at_rest c.settle.ensures.at_rest).before in
-    let old = ap length c.in_ok-outer.ensures.entries in
+    let same = ap (λ (p : PartOf). length p.entries) c.in_ok-outer.ensures.told in
     let put : c.len.result ≡ entries_at v n =
-    omega (arith, c.len.ensures, c.commit.new.before.ok.0, c.in_ok-commit.ensures.count, grown, none, old) in
+    omega (arith, c.len.ensures, c.commit.new.before.ok.0, c.in_ok-commit.ensures.count, grown, none, same) in
     let stood = c.in_ok-commit.ensures.visits in
     let never : x.components.visits ≤ c.count.new.self.visits = subst (λ (k : ℕ). k ≤ c.count.new.self.visits) stood
     c.count.ensures.never_fall in
     let count : c.count.new.self.visits ≡ min (x.components.visits + c.len.result) (2 ^ 64 - 1) =
     c.count.ensures.visits ∙ ap (λ (k : ℕ). min (k + c.len.result) (2 ^ 64 - 1)) stood in
-    instant_counted n v (view_by b x) w c.len.result found put never count
+    instant_counted n v (view_by b told x) w c.len.result found put never count
 
 -- inputs are at times of the run
 pub outside_at-requires : goal.outside_at-requires
 outside_at-requires g c =
     let b = g.A.Atomic.behaviour in
+    let told = g.R.Record.told in
     let x = c.emit.new.self in
-    let v : View = view_by b c.args.self.now in
-    let found : IsAfterEmission (rank v.share.limit c.args.now) v (view_by b x) =
-    subst (λ (y : View). IsAfterEmission (rank y.share.limit c.args.now) y (view_by b x)) c.settle.ensures.view c.emit.ensures.found in (
+    let v : View = view_by b told c.args.self.now in
+    let found : IsAfterEmission (rank v.share.limit c.args.now) v (view_by b told x) =
+    subst (λ (y : View). IsAfterEmission (rank y.share.limit c.args.now) y (view_by b told x)) c.settle.ensures.view
+    c.emit.ensures.found in (
       x.share.tables.limit,
       subst (λ (s : Share). IsOfRun s.limit c.args.now) (sym found.share) c.requires.of_run,
       c.emit.ensures.kept.share.of_run,
     )
+
+-- the instant is after all that was told
+pub commit-requires-clause-is_open : goal.commit-requires-clause-is_open
+commit-requires-clause-is_open g c =
+    let told = g.R.Record.told in
+    open_after c.args.now (told c.emit.new.self.record)
+    (subst (λ (p : PartOf). IsAllBefore c.args.now p)
+    (sym (c.emit.ensures.found.committed ∙ ap (λ (v : View). v.committed) c.settle.ensures.view)) c.requires.later)

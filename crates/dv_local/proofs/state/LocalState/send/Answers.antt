@@ -38,7 +38,7 @@ returns g c =
     let led : deliveries_of c.deref.result.now ≡ in_order (carried w.links (sent_in ms es)) =
     ap (λ (ds : List Delivery). deliveries_of ds) c.deref.ensures.value ∙ c.in_ok-deliveries.ensures
     ∙ ap (λ (v : Way). in_order (carried v.links (sent_in ms es))) (sym c.index-ways-place.is) in
-    let here : in_order (carried w.links (sent_in ms es)) ≡ carried_away (view_by b x) w.links (sent_of x) =
+    let here : in_order (carried w.links (sent_in ms es)) ≡ carried_away (view_by b g.R.Record.told x) w.links (sent_of x) =
     ap (λ (ns : List Member). in_order (carried w.links (sent_in ns es))) c.as_slice-members.ensures.value
     ∙ ap (λ (fs : List (Placed _)). in_order (carried w.links (sent_in t.members.items fs))) c.as_slice-emitted.ensures.value
     ∙ ap (λ (ks : List ℕ). in_order (carried w.links (sent_from ks (sents_by 0 t.members.items x.emitted.items))))
@@ -47,4 +47,6 @@ returns g c =
     (λ added out at.
     added
     ∙ ap (λ (ds : List Meant). meant_events c.args.into.now.items ++ map (event_of c.args.now) ds)
-    (led ∙ here ∙ ap (λ (o : Outgoing). carried_away (view_by b x) o.links (sent_of x)) (sym (way_at x.share.ways.items p w out there at))))
+    (led ∙ here
+    ∙ ap (λ (o : Outgoing). carried_away (view_by b g.R.Record.told x) o.links (sent_of x))
+    (sym (way_at x.share.ways.items p w out there at))))

@@ -3,7 +3,7 @@ use Rattle.std.proofs.Common.{subst, sym, arith}
 use Rattle.std.proofs.lemmas.Bool.Decides.{nat_tests}
 use Rattle.dv_time.specs.Time.{IsOfRun, end_of, rank}
 use Rattle.dv_time.specs.declared.time.Time.{Time}
-use Rattle.dv_conservative.specs.Process.{Share, end_rank, least_clock}
+use Rattle.dv_conservative.specs.Process.{Share, end_rank, events_by, least_clock}
 use Rattle.dv_conservative.specs.Turn.{IsTurnOf, Position, turned}
 use Rattle.dv_proc.specs.Accesses.{CountsTurn}
 use Rattle.dv_proc.specs.Advancing.{AreBeside, HasRoom, IsSameLink}
@@ -15,6 +15,7 @@ use Rattle.dv_proc.specs.Standing.{IsFar, IsProcess}
 use Rattle.dv_proc.specs.declared.outgoing.Outgoing.{Outgoing}
 use Rattle.dv_proc.proofs.Accesses.{counted_turn}
 use Rattle.dv_proc.proofs.Moving.{position_same}
+use Rattle.dv_proc.proofs.Runs.{run_before}
 use Rattle.dv_proc.proofs.NothingDue.{still_unseen}
 use Rattle.dv_proc.proofs.Turns.{far_moved, midway_moved, midway_rest, process_roomy, rose_past}
 use Rattle.dv_proc.proofs.Whole.{least_before_end, least_is, written_back}
@@ -83,6 +84,12 @@ step-requires-clause-within g c =
     c.frame-frame.result.horizon
     (rank c.frame-frame.result.limit c.least_clock-least.result) c.frame-frame.ensures.limit c.frame-frame.ensures.horizon
     c.as_slice.ensures.value c.least_clock-least.ensures.least)
+
+-- what was committed is before the clock
+pub step-requires-clause-later : goal.step-requires-clause-later
+step-requires-clause-later g c =
+    run_before (g.L.Local.view c.args.self.now.local) (events_by (received_by c.args.self.now.incoming.items)) c.args.self.now.clock
+    c.requires.process.standing.within.0 c.requires.process.run
 
 pub returns-in_default-clause-process : goal.returns-in_default-clause-process
 returns-in_default-clause-process g c =

@@ -1,0 +1,9 @@
+pub mod Appending
+pub mod Behind
+pub mod LeftLines
+pub mod Naming
+pub mod Recording
+pub mod Tables
+pub mod Walks
+pub mod Tokens
+pub mod Views

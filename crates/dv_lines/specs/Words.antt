@@ -1,0 +1,88 @@
+-- The words by which a component is written: each name with what stands around it in a line.
+use Rattle.std.specs.Prelude.{ℕ, nat_eq, Bool, true, false, if◌then◌else◌, List, [], ◌∷◌, ◌++◌}
+use Rattle.std.specs.Prelude.{map, take, drop, slice_get, unwrap_or, codes}
+use Rattle.std.specs.List.{flat_map}
+use Rattle.dv_bag.specs.Bag.{Counts, size}
+use Rattle.dv_bag.specs.Words.{fault_word, kind_word}
+use Rattle.dv_bag.specs.declared.bags.PortBag.{PortBag}
+use Rattle.dv_bag.specs.declared.state.Datum.{Datum}
+use Rattle.dv_bag.specs.declared.entry.What.{What}
+use Rattle.dv_bag.specs.declared.entry.What.TheVariants as what
+use Rattle.dv_time.specs.declared.time.Time.{Time}
+use Rattle.dv_time.specs.Time.{time_text}
+use Rattle.dv_text.specs.Texts.{datum_text, values_text}
+use Rattle.dv_lines.specs.declared.pieces.Word.{Word}
+use Rattle.dv_lines.specs.declared.line.ComponentWords.{ComponentWords}
+
+-- a word among bytes
+abbrev pub word_text : List ℕ → Word → List ℕ
+word_text bytes w = take w.length (drop w.start bytes)
+
+-- each variable behind its word
+abbrev pub variables_words : List (List ℕ) → List Datum → List ℕ
+variables_words words [] = []
+variables_words [] (d ∷ rest) = []
+variables_words (w ∷ words) (d ∷ rest) = w ++ (datum_text d ++ variables_words words rest)
+
+-- the values of a port behind its word, where there are some
+abbrev pub port_words : List ℕ → Counts → List ℕ
+port_words word b = if nat_eq (size b) 0 then [] else word ++ values_text b
+
+abbrev pub ports_words : List (List ℕ) → List Counts → List ℕ
+ports_words words [] = []
+ports_words [] (b ∷ bags) = []
+ports_words (w ∷ words) (b ∷ bags) = port_words w b ++ ports_words words bags
+
+-- whether a port with a word has values
+abbrev pub has_some : List (List ℕ) → List Counts → Bool
+has_some words [] = false
+has_some [] (b ∷ bags) = false
+has_some (w ∷ words) (b ∷ bags) = if nat_eq (size b) 0 then has_some words bags else true
+
+-- ` >` and what was sent, where something was
+abbrev pub sent_words : List (List ℕ) → List Counts → List ℕ
+sent_words words bags = if has_some words bags then 32 ∷ 62 ∷ ports_words words bags else []
+
+-- what is left of it, with the ` >` before it if nothing was written yet
+abbrev pub sent_left : Bool → List (List ℕ) → List Counts → List ℕ
+sent_left is_first words bags = if is_first then sent_words words bags else ports_words words bags
+
+-- the words of a component: ` PATH `, ` PHASE` for each phase, ` NAME=` for each variable, ` NAME:` for each output
+pub record WordTexts : Type 0 where
+  pub path : List ℕ
+  pub phases : List (List ℕ)
+  pub variables : List (List ℕ)
+  pub outputs : List (List ℕ)
+
+-- those that the code looked up
+abbrev pub words_found : ComponentWords → WordTexts
+words_found w = record {
+  path = word_text w.bytes.now w.path;
+  phases = map (word_text w.bytes.now) w.phases.now;
+  variables = map (word_text w.bytes.now) w.variables.now;
+  outputs = map (word_text w.bytes.now) w.outputs.now;
+}
+
+-- the word of a phase; a blank past the last
+abbrev pub phase_at : List (List ℕ) → ℕ → List ℕ
+phase_at phases k = unwrap_or (slice_get phases k) (32 ∷ [])
+
+abbrev pub what_words : WordTexts → What → List ℕ
+what_words w (what.Transition k s) = kind_word k ++ (phase_at w.phases s.phase ++ variables_words w.variables s.variables)
+what_words w (what.Fault f) = codes "fault " ++ fault_word f
+
+-- the line of what happened to a component
+abbrev pub line_words : WordTexts → Time → What → List Counts → List ℕ
+line_words w t h sent = time_text t ++ (w.path ++ (what_words w h ++ (sent_words w.outputs sent ++ (10 ∷ []))))
+
+-- the word of a port; past the last one it has no name
+abbrev pub port_at : List (List ℕ) → ℕ → List ℕ
+port_at ports k = unwrap_or (slice_get ports k) (32 ∷ 58 ∷ [])
+
+-- what leaves at a port with values
+abbrev pub held_words : List (List ℕ) → PortBag → List ℕ
+held_words ports h = port_words (port_at ports h.port) h.bag
+
+-- the line of what leaves, by the bags with values
+abbrev pub leaving_words : List (List ℕ) → Time → List PortBag → List ℕ
+leaving_words ports t hs = time_text t ++ (codes " out" ++ (flat_map (held_words ports) hs ++ (10 ∷ [])))

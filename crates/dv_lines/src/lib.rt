@@ -1,0 +1,52 @@
+//! The lines of a trace, written straight into bytes: each as it stands in the text of the trace, with the words of its
+//! component looked up once for all lines.
+#![tactic(auto)]
+
+/// Bytes, words and numbers, put into a room.
+mod pieces;
+
+/// Values, what a state holds, and what was sent.
+mod values;
+
+/// What was told, kept for contracts alone.
+mod history;
+
+/// Whether a fault was told.
+mod faults;
+
+/// What leaves at a time.
+mod leaving;
+
+/// A line.
+mod line;
+
+/// Lines, one behind the other.
+mod lines;
+
+/// Laws of the text of a part to which lines are put.
+pub mod laws;
+
+/// A room that grows.
+mod room;
+
+/// A time with its text.
+mod stamp;
+
+/// A record of a run as its text.
+mod text_record;
+
+/// What happens, told to lines by the words of a tree.
+mod told;
+
+/// The words of all components of a tree.
+mod words;
+
+pub use faults::KnowsFaults;
+pub use history::History;
+pub use leaving::all_left;
+pub use line::ComponentWords;
+pub use lines::Lines;
+pub use pieces::{Word, put_byte, put_digits, put_number, put_word};
+pub use text_record::TextRecord;
+pub use told::{entry, faulted, happened};
+pub use words::Words;

@@ -1,0 +1,87 @@
+//! What happens, told to lines by the words of a tree: each line as it stands in the text of the trace.
+
+ghost use Rattle.std.specs.Prelude.{◌≡◌, ◌++◌, List, map, OnOk, OnErr};
+ghost use Rattle.dv_bag.specs.declared.entry.What.TheVariants as what;
+ghost use Rattle.dv_text.specs.Texts.{ComponentNames, entry_text, names_at};
+ghost use Rattle.dv_lines.specs.Tables.{decorated, rows_found};
+ghost use Rattle.dv_record.specs.Told.{entry};
+
+use crate::laws::words_say_the_names;
+use crate::lines::Lines;
+use crate::words::Words;
+use dv_bag::{Fault, Kind, Sent, State, What};
+use dv_time::Time;
+use std::alloc::AllocError;
+
+/// The line of a transition of a component, with the state after it.
+///
+/// # Errors
+///
+/// No memory for it. All is as before.
+#[inline(always)]
+pub fn happened(
+    lines: &mut Lines,
+    words: &Words,
+    now: Time,
+    component: u32,
+    kind: Kind,
+    state: &State,
+    sent: &Sent,
+) -> Result<(), AllocError>
+    ensures ok { (all : List ComponentNames) → rows_found words.now ≡ map decorated all
+        → OnOk result (lines.new ≡ lines.old ++ entry_text (names_at all component)
+        (entry now component (what.Transition kind state.now) sent.now)) }
+    ensures err { OnErr result (lines.new ≡ lines.old) }
+{
+    words_say_the_names();
+    lines.happened(&words.component(component), now, kind, state, sent)
+}
+
+/// The line of a fault of a component.
+///
+/// # Errors
+///
+/// No memory for it. All is as before.
+pub fn faulted(
+    lines: &mut Lines,
+    words: &Words,
+    now: Time,
+    component: u32,
+    fault: Fault,
+    sent: &Sent,
+) -> Result<(), AllocError>
+    ensures ok { (all : List ComponentNames) → rows_found words.now ≡ map decorated all
+        → OnOk result (lines.new ≡ lines.old ++ entry_text (names_at all component)
+        (entry now component (what.Fault fault) sent.now)) }
+    ensures err { OnErr result (lines.new ≡ lines.old) }
+{
+    words_say_the_names();
+    lines.faulted(&words.component(component), now, fault, sent)
+}
+
+/// The line of what happened to a component.
+///
+/// # Errors
+///
+/// No memory for it. All is as before.
+#[inline(always)]
+pub fn entry(
+    lines: &mut Lines,
+    words: &Words,
+    now: Time,
+    component: u32,
+    what: &What,
+    sent: &Sent,
+) -> Result<(), AllocError>
+    ensures ok { (all : List ComponentNames) → rows_found words.now ≡ map decorated all
+        → OnOk result (lines.new ≡ lines.old ++ entry_text (names_at all component)
+        (entry now component what.now sent.now)) }
+    ensures err { OnErr result (lines.new ≡ lines.old) }
+{
+    match what {
+        What::Transition { kind, state } => {
+            happened(lines, words, now, component, *kind, state, sent)
+        }
+        What::Fault(fault) => faulted(lines, words, now, component, *fault, sent),
+    }
+}

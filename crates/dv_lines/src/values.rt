@@ -1,0 +1,248 @@
+//! Values, what a state holds, and what was sent, put into a room of bytes from a place on.
+
+ghost use Rattle.std.specs.Prelude.{◌≡◌, ◌≤◌, ◌<◌, ◌++◌, ◌∷◌, [], if◌then◌else◌, true, length, map, replicate, IfSome};
+ghost use Rattle.std.specs.Fmt.{signed_decimal};
+ghost use Rattle.dv_bag.specs.Bag.{values_of};
+ghost use Rattle.dv_bag.specs.Collections.{values_in};
+ghost use Rattle.dv_bag.specs.Reading.{datum_of};
+ghost use Rattle.dv_bag.specs.Sent.{AreWithin, RiseFrom, pairs_at};
+ghost use Rattle.dv_text.specs.Texts.{datum_text, numbers_text, values_text};
+ghost use Rattle.dv_text.specs.Writing.{values_from};
+ghost use Rattle.dv_lines.specs.Rooms.{IsPut};
+ghost use Rattle.dv_lines.specs.Words.{word_text, variables_words, sent_words};
+
+use crate::pieces::{Word, put_byte, put_bytes, put_number, put_word};
+use dv_bag::sent::Sending;
+use dv_bag::{Bag, Collection, DatumView, Queue, Sent, Variables};
+
+// A value, with a comma before it unless it is the first.
+#[inline(always)]
+fn put_value(to: &mut [u8], at: usize, is_first: bool, value: i64) -> Option<usize>
+    requires { at ≤ length to.old }
+    ensures size { length to.new ≡ length to.old }
+    ensures text { IfSome result (λ end. IsPut to.old at to.new end
+        ((if is_first then [] else 44 ∷ []) ++ signed_decimal value)) }
+{
+    let mut at = at;
+    if !is_first {
+        at = put_byte(to, at, b',')?;
+    }
+    put_number(to, at, value)
+}
+
+// Copies of a value, with a comma before each but the first of all.
+#[inline(always)]
+fn put_copies(to: &mut [u8], at: usize, is_first: bool, value: i64, copies: u64) -> Option<usize>
+    requires { at ≤ length to.old }
+    ensures size { length to.new ≡ length to.old }
+    ensures text { IfSome result (λ end. IsPut to.old at to.new end
+        (values_from is_first (replicate copies value))) }
+{
+    let mut at = at;
+    let mut is_first = is_first;
+    for _copy in 0..copies {
+        at = put_value(to, at, is_first, value)?;
+        is_first = false;
+    }
+    Some(at)
+}
+
+/// The values of a bag in ascending order, with commas between them, each as often as it has copies.
+pub fn put_values(to: &mut [u8], at: usize, values: &Bag) -> Option<usize>
+    requires { at ≤ length to.old }
+    ensures size { length to.new ≡ length to.old }
+    ensures text { IfSome result (λ end. IsPut to.old at to.new end (values_text values.now)) }
+{
+    let mut at = at;
+    let mut is_first = true;
+    for pair in values.pairs() {
+        at = put_copies(to, at, is_first, pair.0, pair.1)?;
+        is_first = false;
+    }
+    Some(at)
+}
+
+/// The values of a queue from the first to the last, with commas between them.
+pub fn put_queue(to: &mut [u8], at: usize, values: &Queue) -> Option<usize>
+    requires { at ≤ length to.old }
+    ensures size { length to.new ≡ length to.old }
+    ensures text { IfSome result (λ end. IsPut to.old at to.new end (numbers_text values.now)) }
+{
+    let mut at = at;
+    let mut is_first = true;
+    for number in 0..values.len() {
+        let Some(value) = values.get(number) else {
+            unreachable!()
+        };
+        at = put_value(to, at, is_first, value)?;
+        is_first = false;
+    }
+    Some(at)
+}
+
+// The values of a bag or a queue where they lie, with commas between them.
+fn put_collection(to: &mut [u8], at: usize, held: &Collection) -> Option<usize>
+    requires { at ≤ length to.old }
+    ensures size { length to.new ≡ length to.old }
+    ensures text { IfSome result (λ end. IsPut to.old at to.new end
+        (numbers_text (values_in held.now))) }
+{
+    match held {
+        Collection::Bag(bag) => put_values(to, at, bag),
+        Collection::Queue(queue) => put_queue(to, at, queue),
+    }
+}
+
+// A bag or a queue in brackets.
+fn put_held(to: &mut [u8], at: usize, held: &Collection) -> Option<usize>
+    requires { at ≤ length to.old }
+    ensures size { length to.new ≡ length to.old }
+    ensures text { IfSome result (λ end. IsPut to.old at to.new end
+        (91 ∷ (numbers_text (values_in held.now) ++ (93 ∷ [])))) }
+{
+    let at = put_byte(to, at, b'[')?;
+    let at = put_collection(to, at, held)?;
+    put_byte(to, at, b']')
+}
+
+/// What a state variable holds: a number, a truth value, or a bag or a queue in brackets.
+#[inline(always)]
+pub fn put_datum(to: &mut [u8], at: usize, datum: DatumView) -> Option<usize>
+    requires { at ≤ length to.old }
+    ensures size { length to.new ≡ length to.old }
+    ensures text { IfSome result (λ end. IsPut to.old at to.new end
+        (datum_text (datum_of datum.entry))) }
+{
+    match datum {
+        DatumView::Number(number) => put_number(to, at, number),
+        DatumView::Flag(true) => put_bytes(to, at, b"true"),
+        DatumView::Flag(false) => put_bytes(to, at, b"false"),
+        DatumView::Held(held) => put_held(to, at, held),
+    }
+}
+
+/// The variables of a state, each behind its word.
+#[inline(always)]
+pub fn put_variables(
+    to: &mut [u8],
+    at: usize,
+    bytes: &[u8],
+    words: &[Word],
+    variables: &Variables,
+) -> Option<usize>
+    requires { at ≤ length to.old }
+    ensures size { length to.new ≡ length to.old }
+    ensures text { IfSome result (λ end. IsPut to.old at to.new end
+        (variables_words (map (word_text bytes.now) words.now) variables.now)) }
+{
+    let mut at = at;
+    for (place, word) in words.iter().enumerate() {
+        let Some(datum) = variables.get(place) else {
+            return Some(at);
+        };
+        at = put_word(to, at, bytes, *word)?;
+        at = put_datum(to, at, datum)?;
+    }
+    Some(at)
+}
+
+// The values that went to the port of the first of these.
+#[inline(always)]
+fn put_sendings(
+    to: &mut [u8],
+    at: usize,
+    sendings: &[Sending],
+    port: usize,
+    ports: usize,
+) -> Option<usize>
+    requires at { at ≤ length to.old }
+    requires order { RiseFrom port sendings.now }
+    requires within { AreWithin ports sendings.now }
+    ensures size { length to.new ≡ length to.old }
+    ensures text { IfSome result (λ end. IsPut to.old at to.new end
+        (values_from true (values_of (pairs_at port sendings.now)))) }
+{
+    let mut at = at;
+    let mut is_first = true;
+    for sending in sendings {
+        if sending.port != port {
+            return Some(at);
+        }
+        at = put_copies(to, at, is_first, sending.value, sending.copies)?;
+        is_first = false;
+    }
+    Some(at)
+}
+
+/// What was sent: each port at which something was, behind its word.
+#[inline(always)]
+pub fn put_sent(
+    to: &mut [u8],
+    at: usize,
+    bytes: &[u8],
+    words: &[Word],
+    sent: &Sent,
+) -> Option<usize>
+    requires { at ≤ length to.old }
+    ensures size { length to.new ≡ length to.old }
+    ensures text { IfSome result (λ end. IsPut to.old at to.new end
+        (sent_words (map (word_text bytes.now) words.now) sent.now)) }
+{
+    if sent.is_empty() {
+        return Some(at);
+    }
+    let mut at = at;
+    let mut is_first = true;
+    let mut next = 0;
+    let sendings = sent.as_slice();
+    for (place, sending) in sendings.iter().enumerate() {
+        // A port is written with the first value that went there.
+        if sending.port >= next {
+            let Some(word) = words.get(sending.port) else {
+                return Some(at);
+            };
+            at = put_port(
+                to,
+                at,
+                is_first,
+                bytes,
+                *word,
+                &sendings[place..],
+                sending.port,
+                sent.len(),
+            )?;
+            is_first = false;
+            next = sending.port + 1;
+        }
+    }
+    Some(at)
+}
+
+// A port with its values, and the ` >` before it if it is the first.
+#[inline(always)]
+fn put_port(
+    to: &mut [u8],
+    at: usize,
+    is_first: bool,
+    bytes: &[u8],
+    word: Word,
+    sendings: &[Sending],
+    port: usize,
+    ports: usize,
+) -> Option<usize>
+    requires at { at ≤ length to.old }
+    requires order { RiseFrom port sendings.now }
+    requires within { AreWithin ports sendings.now }
+    ensures size { length to.new ≡ length to.old }
+    ensures text { IfSome result (λ end. IsPut to.old at to.new end
+        ((if is_first then 32 ∷ 62 ∷ [] else []) ++ (word_text bytes.now word
+        ++ values_from true (values_of (pairs_at port sendings.now))))) }
+{
+    let mut at = at;
+    if is_first {
+        at = put_byte(to, at, b' ')?;
+        at = put_byte(to, at, b'>')?;
+    }
+    let at = put_word(to, at, bytes, word)?;
+    put_sendings(to, at, sendings, port, ports)
+}

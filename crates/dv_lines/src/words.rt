@@ -1,0 +1,164 @@
+//! The words of all components of a tree, looked up once.
+
+ghost use Rattle.std.specs.Prelude.{◌≡◌, ◌<◌, [], ◌∷◌, length, map, IfOk, OnOk};
+ghost use Rattle.dv_syntax.specs.Trees.{file_of};
+ghost use Rattle.dv_tree.specs.Instances.{instances};
+ghost use Rattle.dv_tree.specs.Paths.{texts_of};
+ghost use Rattle.dv_text.specs.Names.{tree_names, tree_ports};
+ghost use Rattle.dv_text.specs.Texts.{names_at};
+ghost use Rattle.dv_lines.specs.Tables.{AreWords, Extends, IsRow, IsWord, decorated, ports_found, rows_found, with_ends, words_at};
+ghost use Rattle.dv_lines.specs.Words.{port_at, word_text, words_found};
+
+use crate::line::ComponentWords;
+use crate::pieces::Word;
+use dv_tree::Tree;
+use std::alloc::{AllocError, Global};
+
+/// The words of a component.
+#[derive(Drop)]
+struct Row {
+    path: Word,
+    phases: Vec<Word>,
+    variables: Vec<Word>,
+    outputs: Vec<Word>,
+}
+
+/// The words of all components of a tree, and of what leaves.
+#[derive(Drop)]
+pub struct Words {
+    bytes: Vec<u8>,
+    rows: Vec<Row>,
+    outputs: Vec<Word>,
+}
+
+impl Words {
+    /// The words of a tree.
+    ///
+    /// # Errors
+    ///
+    /// No memory for them.
+    pub fn of(alloc: Global, tree: &Tree) -> Result<Self, AllocError>
+        ensures components { IfOk result (λ words. rows_found words
+            ≡ map decorated (tree_names tree.now)) }
+        ensures outputs { IfOk result (λ words. ports_found words
+            ≡ map (with_ends (58 ∷ [])) (tree_ports tree.now)) }
+    {
+        let mut bytes = Vec::new(alloc);
+        let mut rows = Vec::new(alloc);
+        for component in 0..tree.component_count() {
+            rows.push(row_of(alloc, &mut bytes, tree, component)?)?;
+        }
+        let mut outputs = Vec::new(alloc);
+        for port in 0..tree.output_count() {
+            outputs.push(push_word(&mut bytes, tree.output_name(port), b":")?)?;
+        }
+        Ok(Words {
+            bytes,
+            rows,
+            outputs,
+        })
+    }
+
+    /// The words of a component. A number that no component has goes by an empty path and no names.
+    #[inline(always)]
+    pub fn component(&self, component: u32) -> ComponentWords<'_>
+        ensures { words_found result ≡ words_at (rows_found self.now) component }
+    {
+        match self.rows.get(component as usize) {
+            Some(row) => ComponentWords {
+                bytes: &self.bytes,
+                path: row.path,
+                phases: &row.phases,
+                variables: &row.variables,
+                outputs: &row.outputs,
+            },
+            None => ComponentWords {
+                bytes: b"  ",
+                path: Word {
+                    start: 0,
+                    length: 2,
+                },
+                phases: &[],
+                variables: &[],
+                outputs: &[],
+            },
+        }
+    }
+
+    /// The word of an output port of the root, and the bytes among which it lies.
+    pub fn port(&self, port: usize) -> (&[u8], Word)
+        ensures { word_text result.0.now result.1 ≡ port_at (ports_found self.now) port }
+    {
+        match self.outputs.get(port) {
+            Some(word) => (&self.bytes, *word),
+            None => (
+                b" :",
+                Word {
+                    start: 0,
+                    length: 2,
+                },
+            ),
+        }
+    }
+}
+
+// A word for a name: a blank, the name, and what stands behind it.
+fn push_word(bytes: &mut Vec<u8>, name: &str, last: &[u8]) -> Result<Word, AllocError>
+    ensures more { OnOk result (Extends bytes.old.items bytes.new.items) }
+    ensures word { IfOk result (λ word. IsWord bytes.new.items word
+        (with_ends last.now name.now)) }
+{
+    let start = bytes.len();
+    bytes.push(b' ')?;
+    bytes.extend_from_slice(name.as_bytes())?;
+    bytes.extend_from_slice(last)?;
+    Ok(Word {
+        start,
+        length: bytes.len().saturating_sub(start),
+    })
+}
+
+// The words for names that stand as numbers.
+fn push_words(
+    alloc: Global,
+    bytes: &mut Vec<u8>,
+    tree: &Tree,
+    numbers: &[u32],
+    last: &[u8],
+) -> Result<Vec<Word>, AllocError>
+    ensures more { OnOk result (Extends bytes.old.items bytes.new.items) }
+    ensures words { IfOk result (λ words. AreWords bytes.new.items words.items
+        (map (with_ends last.now) (texts_of tree.now.names numbers.now))) }
+{
+    let mut words = Vec::with_capacity(alloc, numbers.len())?;
+    for number in numbers {
+        words.push(push_word(bytes, tree.name(*number), last)?)?;
+    }
+    Ok(words)
+}
+
+// The words of a component.
+fn row_of(
+    alloc: Global,
+    bytes: &mut Vec<u8>,
+    tree: &Tree,
+    component: usize,
+) -> Result<Row, AllocError>
+    requires { component < length (instances (file_of tree.now.file)) }
+    ensures more { OnOk result (Extends bytes.old.items bytes.new.items) }
+    ensures row { IfOk result (λ row. IsRow bytes.new.items row
+        (decorated (names_at (tree_names tree.now) component))) }
+{
+    let path = tree.path_text(alloc, component)?;
+    let path = push_word(bytes, &path, b" ")?;
+    let scope = tree.scope(component);
+    let phases = push_words(alloc, bytes, tree, scope.phases(), b"")?;
+    let variables = push_words(alloc, bytes, tree, scope.variables(), b"=")?;
+    let outputs = push_words(alloc, bytes, tree, scope.outputs(), b":")?;
+    Ok(Row {
+        path,
+        phases,
+        variables,
+        outputs,
+    })
+}

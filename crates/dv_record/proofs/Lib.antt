@@ -1,0 +1,3 @@
+-- The lines of what leaves, and when an instant can be told.
+pub mod Lines
+pub mod Open

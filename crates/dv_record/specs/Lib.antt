@@ -1,0 +1,2 @@
+-- What is told to a record.
+pub mod Told

@@ -1,0 +1,81 @@
+//! What a record is told.
+
+ghost use Rattle.std.specs.Prelude.{◌≡◌, ◌++◌, ◌≤◌, ◌^◌, OnErr, OnOk, length};
+ghost use Rattle.dv_bag.specs.Part.{PartOf};
+ghost use Rattle.dv_record.specs.Told.{Handed, IsOpenAt, entry, lines_from, with_entry, with_lines};
+
+use dv_bag::{Bags, Sent, What};
+use dv_time::Time;
+use std::alloc::AllocError;
+
+/// What happens to the components of a process is told to a record, instant after instant: first what happened to each
+/// component, then what left the model. What was told since `settle` can be taken back by `roll_back`, and neither can fail.
+pub trait Record: Drop {
+    /// All that was told, as entries and as lines of what left.
+    ghost told: { Self → PartOf };
+
+    /// What `roll_back` leaves of it.
+    ghost settled: { Self → PartOf };
+
+    /// How it writes what is told as a text, and what of that text was handed over.
+    ghost handed: { Self → Handed };
+
+    /// Tells what happened to a component at a time, and what it sent then.
+    ///
+    /// # Errors
+    ///
+    /// No memory for it. What was told is as before.
+    fn happened(
+        &mut self,
+        time: Time,
+        component: u32,
+        what: What,
+        sent: &Sent,
+    ) -> Result<(), AllocError>
+        requires is_open { IsOpenAt time (told self.old) }
+        ensures told { OnOk result (told self.new
+            ≡ with_entry (entry time component what sent.now) (told self.old)) }
+        ensures err { OnErr result (told self.new ≡ told self.old) }
+        ensures settled { settled self.new ≡ settled self.old }
+        ensures handed { handed self.new ≡ handed self.old };
+
+    /// Tells what left the model at a time, by output port: a line for each port with values.
+    ///
+    /// # Errors
+    ///
+    /// No memory for the lines, of which some may have been told then; `roll_back` is due.
+    fn left(&mut self, time: Time, values: &Bags) -> Result<(), AllocError>
+        requires is_open { IsOpenAt time (told self.old) }
+        requires ports { length values.now ≤ 2 ^ 32 }
+        ensures told { OnOk result (told self.new
+            ≡ with_lines (lines_from time 0 values.now) (told self.old)) }
+        ensures settled { settled self.new ≡ settled self.old }
+        ensures handed { handed self.new ≡ handed self.old };
+
+    /// Settles what was told.
+    fn settle(&mut self)
+        ensures told { told self.new ≡ told self.old }
+        ensures settled { settled self.new ≡ told self.old }
+        ensures handed { handed self.new ≡ handed self.old };
+
+    /// Takes back what was told since it was settled.
+    fn roll_back(&mut self)
+        ensures told { told self.new ≡ settled self.old }
+        ensures settled { settled self.new ≡ settled self.old }
+        ensures handed { handed self.new ≡ handed self.old };
+
+    /// The bytes of its text that were not handed over: behind those that were they are the text of all that was told. A record
+    /// without a text has none.
+    fn bytes(&self) -> &[u8]
+        ensures { (handed self.now).text_of (told self.now)
+            ≡ (handed self.now).text ++ result.now };
+
+    /// Lets go of the bytes of its text, which were handed over, when all that was told is settled.
+    fn let_go(&mut self)
+        requires { settled self.old ≡ told self.old }
+        ensures told { told self.new ≡ told self.old }
+        ensures settled { settled self.new ≡ settled self.old }
+        ensures handed { handed self.new ≡ record (handed self.old) {
+          text = (handed self.old).text_of (told self.old);
+        } };
+}

@@ -1,0 +1,53 @@
+-- What one process without others has written, while it runs.
+use Rattle.std.specs.Prelude.{◌≡◌, ℕ, ◌≤◌, List, [], ◌∷◌, ◌++◌, Option}
+use Rattle.std.specs.Io.KnownBytes.{Appends}
+use Rattle.dv_time.specs.Time.{IsOfRun, end_of, rank}
+use Rattle.dv_bag.specs.Part.{PartOf}
+use Rattle.dv_conservative.specs.Flat.{whole}
+use Rattle.dv_conservative.specs.World.{Job}
+use Rattle.dv_core.specs.Conservative.{state_by}
+use Rattle.dv_core.specs.ProcessState.{ProcessState}
+use Rattle.dv_devs.specs.Behaviour.{Behaviour}
+use Rattle.dv_devs.specs.Network.{trace_before}
+use Rattle.dv_local.specs.States.{view_by}
+use Rattle.dv_local.specs.declared.state.LocalState.{LocalState}
+use Rattle.dv_proc.specs.declared.process.Process.{Process}
+use Rattle.dv_record.specs.Told.{Handed}
+use Rattle.dv_stream.specs.Faults.{has_fault}
+use Rattle.dv_stream.specs.Written.{lines_before}
+use Rattle.dv_stream.specs.declared.written.Written.{Written}
+use Rattle.dv_text.specs.Names.{tree_names, tree_ports}
+use Rattle.dv_text.specs.Texts.{part_text}
+use Rattle.dv_text.specs.Writing.{AppendsBeginning}
+use Rattle.dv_tree.specs.Tables.{Source}
+
+-- what a process is to the world, and what its record has handed over
+abbrev pub seen_by : {S X W R : Type 0} → (S → Behaviour) → (X → PartOf) → Process (LocalState S X) W R → ProcessState
+seen_by behaviour told p = state_by (view_by behaviour told) p
+
+abbrev pub handed_in : {S X W R : Type 0} → (X → Handed) → Process (LocalState S X) W R → Handed
+handed_in handed p = handed p.local.record
+
+-- of a record that writes parts with the names of a tree, a text was handed over
+abbrev pub by_tree : Source → List ℕ → Handed
+by_tree tree text = record { text_of = part_text (tree_names tree) (tree_ports tree); text = text }
+
+-- the lines before a mark were handed over, by the one process that there is
+abbrev pub HasHandedTo : Job → Source → Written → List Handed → Type 0
+HasHandedTo job tree w all = all ≡ by_tree tree (lines_before job tree (rank job.limit w.mark)) ∷ []
+
+-- The lines went on from those before one mark to those before another, and it is known whether a fault is among them.
+pub record Continues (job : Job) (tree : Source) (old new : Option (List ℕ)) (before after : Written) : Type 0 where
+  pub of_run : IsOfRun job.limit after.mark
+  pub more : List ℕ
+  pub lines : lines_before job tree (rank job.limit before.mark) ++ more ≡ lines_before job tree (rank job.limit after.mark)
+  pub text : Appends old new more
+  pub faults : after.faulted ≡ has_fault (trace_before job.limit (whole job.flat) job.outside (rank job.limit after.mark))
+
+-- The lines stopped somewhere behind those before a mark.
+pub record Breaks (job : Job) (tree : Source) (old new : Option (List ℕ)) (before : Written) : Type 0 where
+  pub upto : ℕ
+  pub within : upto ≤ end_of job.limit job.horizon
+  pub more : List ℕ
+  pub lines : lines_before job tree (rank job.limit before.mark) ++ more ≡ lines_before job tree upto
+  pub text : AppendsBeginning old new more
