@@ -4,6 +4,7 @@ pub mod Innermost
 pub mod Outcomes
 pub mod Remaining
 pub mod Running
+pub mod ShortPrograms
 pub mod Stepping
 pub mod Turning
 pub mod Typing

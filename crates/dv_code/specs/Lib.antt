@@ -13,3 +13,4 @@ pub mod Rows
 -- What serves proofs.
 pub mod Performing
 pub mod Turns
+pub mod Short

@@ -41,7 +41,7 @@ impl<'a> Draft<'a> {
     {
         Draft {
             state,
-            sent: Sent::empty(alloc, shape.tables().outputs() as usize),
+            sent: Sent::empty(alloc, shape.outputs() as usize),
             goto: None,
         }
     }

@@ -6,7 +6,10 @@ ghost use Rattle.dv_bag.specs.Bag.{Counts};
 ghost use Rattle.dv_bag.specs.declared.state.State.{State};
 ghost use Rattle.dv_bag.specs.declared.value.ValueType.{ValueType};
 ghost use Rattle.dv_code.specs.Shape.{AreSmall, Fits, Shape};
-ghost use Rattle.dv_code.specs.Machine.{Outcome, Stuck, begins, run};
+ghost use Rattle.dv_code.specs.Machine.{Outcome, Stuck, begins, first_effect, run};
+ghost use Rattle.dv_code.specs.Operations.{going};
+ghost use Rattle.dv_code.specs.Short.{Does};
+ghost use Rattle.dv_code.specs.declared.short.Short.TheVariants.{Goes, Nothing};
 ghost use Rattle.dv_code.specs.Runs.{Ends, GivesEffect, GivesNumber, GivesSent, IsOver};
 ghost use Rattle.dv_code.specs.Outcomes.{effect_by, number_by, outcome_of};
 ghost use Rattle.dv_code.specs.Valid.{EndsWell, IsSafe, IsValid, Program};
@@ -80,4 +83,22 @@ pub fn the_machine_gives_what_programs_give()
         → AreFew arrivals.received → (s : State) → Fits p.shape.slots s.variables
         → (n : ℕ) (f : Fault) → GivesNumber p arrivals s n (Err (error.Fault f))
         → number_by p arrivals s ≡ Err f }
+{}
+
+/// What short programs give, from any state that fits: those that do nothing or go to a phase alone.
+pub fn short_programs_do_what_they_say()
+    ensures nothing { (p : Program) → IsSafe p → (arrivals : Arrivals)
+        → AreFew arrivals.received → (s : State) → Fits p.shape.slots s.variables
+        → Does Nothing p.code → effect_by p arrivals s ≡ Ok (first_effect p.shape s) }
+    ensures goes { (p : Program) → IsSafe p → (arrivals : Arrivals)
+        → AreFew arrivals.received → (s : State) → Fits p.shape.slots s.variables
+        → (phase : ℕ) → Does (Goes phase) p.code
+        → effect_by p arrivals s ≡ Ok (going phase (first_effect p.shape s)) }
+{}
+
+/// The state that a program leaves fits.
+pub fn states_that_are_left_fit()
+    ensures { (p : Program) → IsSafe p → (arrivals : Arrivals)
+        → AreFew arrivals.received → (s : State) → Fits p.shape.slots s.variables
+        → (e : Effect) → effect_by p arrivals s ≡ Ok e → Fits p.shape.slots e.state.variables }
 {}

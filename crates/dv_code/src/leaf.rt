@@ -1,12 +1,13 @@
 //! What leaves give.
 
-ghost use Rattle.std.specs.Prelude.{◌≡◌, ◌≢◌, ◌≤◌, [], None, Ok, Some, IfSome, slice_get, unwrap_or};
+ghost use Rattle.std.specs.Prelude.{◌≡◌, ◌≢◌, ◌≤◌, ℤ, [], None, Ok, Result, Some, IfSome, slice_get, unwrap_or};
 ghost use Rattle.std.specs.Option.{option_copied};
 ghost use Rattle.dv_bag.specs.Arithmetic.{number_or_empty};
 ghost use Rattle.dv_bag.specs.Bag.{least, most, total};
+ghost use Rattle.dv_bag.specs.declared.fault.Fault.{Fault as Meant};
 ghost use Rattle.dv_bag.specs.declared.value.Value.TheVariants.{Number, Truth};
 ghost use Rattle.dv_code.specs.Machine.{items_of};
-ghost use Rattle.dv_code.specs.Operations.{collection_of, flag_in, front_in, held_in, leaf_value, number_in, size_in, sum_in};
+ghost use Rattle.dv_code.specs.Operations.{collection_of, flag_in, front_in, held_in, leaf_value, number_in, number_of, size_in, sum_in};
 ghost use Rattle.dv_code.specs.Turns.{turns_of};
 ghost use Rattle.dv_bag.specs.Limits.{greatest_count};
 
@@ -49,8 +50,44 @@ pub(crate) fn leaf_value(
     }
 }
 
-// The number in a slot.
-fn number_at(slot: usize, state: &State) -> i64
+/// The number of a leaf, where no loop is open.
+///
+/// # Errors
+///
+/// As the value of a leaf.
+#[inline]
+pub(crate) fn leaf_number(leaf: Leaf, state: &State, arrivals: &Arrivals) -> Result<i64, Fault>
+    requires { (number : Result ℤ Meant)
+        × (leaf_value arrivals.now [] state.now leaf ≡ number_of (Some number)) }
+    ensures { leaf_value arrivals.now [] state.now leaf ≡ number_of (Some result) }
+{
+    match leaf {
+        Leaf::Number(number) => Ok(number),
+        Leaf::Variable(slot) => Ok(number_at(usize::from(slot), state)),
+        Leaf::Size(source) => Ok(size_of(source, state, arrivals)),
+        Leaf::Elapsed => to_number(ticks_or_overflow(arrivals.elapsed())),
+        Leaf::Sum(source) => to_number(sum_of(bag_of(source, state, arrivals))),
+        Leaf::Least(source) => to_number(least_of(bag_of(source, state, arrivals))),
+        Leaf::Most(source) => to_number(most_of(bag_of(source, state, arrivals))),
+        Leaf::Front(slot) => to_number(front_at(usize::from(slot), state)),
+        Leaf::Truth(_) | Leaf::Flag(_) | Leaf::Item(_) => unreachable!(),
+    }
+}
+
+// A value as the number that it is.
+fn to_number(value: Result<Value, Fault>) -> Result<i64, Fault>
+    requires { (number : Result ℤ Meant) × (Some value ≡ number_of (Some number)) }
+    ensures { Some value ≡ number_of (Some result) }
+{
+    match value {
+        Ok(Value::Number(number)) => Ok(number),
+        Ok(Value::Truth(_)) => unreachable!(),
+        Err(fault) => Err(fault),
+    }
+}
+
+/// The number in a slot.
+pub(crate) fn number_at(slot: usize, state: &State) -> i64
     requires { number_in (slice_get state.now.variables slot) ≢ None }
     ensures { number_in (slice_get state.now.variables slot) ≡ Some (Ok (Number result)) }
 {

@@ -3,6 +3,8 @@
 
 /// What actions do.
 mod actions;
+/// What short programs give at once.
+pub mod at_once;
 /// What a run has done so far.
 mod draft;
 /// The instructions.
@@ -25,6 +27,8 @@ mod operators;
 pub mod rows;
 /// What a program may speak of.
 pub mod shape;
+/// What short programs do.
+pub mod short;
 /// The collections that a program reads.
 mod source;
 /// Stacks.
@@ -43,5 +47,6 @@ mod walk;
 pub use instruction::{Action, Binary, Deed, Instruction, Leaf, Source, Unary};
 pub use machine::Machine;
 pub use shape::{ProgramSort, Shape, Slot, Tables};
+pub use short::Short;
 pub use steps::Steps;
 pub use valid::Valid;

@@ -109,15 +109,20 @@ impl Tables {
 #[derive(Drop)]
 pub struct Shape {
     tables: Arc<Tables>,
+    // The number of output ports, which each run asks for.
+    outputs: u32,
     sort: ProgramSort,
 }
 
 impl Model for Shape {
+    ghost use Rattle.std.specs.Prelude.{◌≡◌};
     ghost use Rattle.dv_code.specs.Shape.{Shape as Meant, shape_of};
 
     ghost Value = { Meant };
 
     ghost view = { λ s. shape_of s.tables.value s.sort };
+
+    ghost invariant = { λ s. s.outputs ≡ s.tables.value.outputs };
 }
 
 impl Shape {
@@ -125,7 +130,11 @@ impl Shape {
     pub fn new(tables: Arc<Tables>, sort: ProgramSort) -> Self
         ensures { result ≡ shape_of tables.value sort }
     {
-        Shape { tables, sort }
+        Shape {
+            outputs: tables.outputs(),
+            tables,
+            sort,
+        }
     }
 
     /// The tables.
@@ -135,7 +144,16 @@ impl Shape {
         &self.tables
     }
 
+    /// The number of output ports.
+    #[inline]
+    pub fn outputs(&self) -> u32
+        ensures { result ≡ self.now.outputs }
+    {
+        self.outputs
+    }
+
     /// What the program is for.
+    #[inline]
     pub fn sort(&self) -> ProgramSort
         ensures { result ≡ self.now.sort }
     {

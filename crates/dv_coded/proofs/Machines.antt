@@ -1,8 +1,8 @@
 -- What the machine gives, as what programs give.
-use Rattle.std.proofs.Common.{◌≡◌, ℕ, ℤ, ◌≤◌, List, [], Result, Ok, Err, IfOk, ap, sym, ◌∙◌, subst, arith}
+use Rattle.std.proofs.Common.{◌≡◌, ℕ, ℤ, ◌≤◌, List, [], None, Result, Ok, Err, IfOk, IfErr, ap, sym, ◌∙◌, subst, arith}
 use Rattle.dv_bag.specs.Arrivals.{AreFew, Arrivals, nothing_arrived}
 use Rattle.dv_bag.specs.Bag.{Counts}
-use Rattle.dv_bag.specs.Outcome.{◌>>=◌, Gives}
+use Rattle.dv_bag.specs.Outcome.{◌>>=◌, Fails, Gives}
 use Rattle.dv_bag.specs.declared.fault.Fault.{Fault}
 use Rattle.dv_bag.specs.declared.fault.RuleError.{RuleError}
 use Rattle.dv_bag.specs.declared.fault.RuleError.TheVariants as error
@@ -14,6 +14,7 @@ use Rattle.dv_code.specs.Outcomes.{effect_by, number_by}
 use Rattle.dv_code.specs.Runs.{Ends, GivesEffect, GivesNumber, GivesSent}
 use Rattle.dv_code.specs.Shape.{Fits}
 use Rattle.dv_code.specs.Valid.{EndsWell, Program}
+use Rattle.dv_compiled.specs.Behaviours.{change_of as change_of_effect}
 use Rattle.dv_coded.specs.Given.{output_by}
 
 -- where nothing has arrived, no port is flooded
@@ -62,3 +63,15 @@ fits-given p left arrivals s n most (Ok e) one ends given =
     let same = (one ends.0 n ends.1 (Finished [] e) ends.2 given).1 in
     (subst (EndsWell p.shape left) same ends.4).1
 fits-given p left arrivals s n most (Err f) one ends given = tt
+
+-- what is given at once: what is sent, and a state that is left, or the fault
+pub sent-at-once : (p : Program) (s : State) (r : Result (List Counts) RuleError) →
+    IfOk r (λ (sent : List Counts). effect_by p nothing_arrived s ≡ Ok (record { state = s; sent = sent; goto = None })) →
+    IfErr r (λ (e : RuleError). Fails e (effect_by p nothing_arrived s)) → Gives r (output_by p s)
+sent-at-once p s (Ok sent) ok fault = ap (λ (q : Result Effect Fault). q >>= λ x. Ok x.sent) ok
+sent-at-once p s (Err (error.Fault f)) ok fault = ap (λ (q : Result Effect Fault). q >>= λ x. Ok x.sent) fault
+sent-at-once p s (Err error.Memory) ok fault = tt
+
+pub change-fails : (e : RuleError) (r : Result Effect Fault) → Fails e r → Fails e (change_of_effect r)
+change-fails (error.Fault f) r h = ap change_of_effect h
+change-fails error.Memory r h = tt

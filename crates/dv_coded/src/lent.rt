@@ -1,12 +1,13 @@
 //! Programs where they lie, for those who only run them.
 
-ghost use Rattle.std.specs.Prelude.{◌≡◌, IfOk, map};
-ghost use Rattle.dv_coded.specs.declared.lent.Lent.{Lent};
-ghost use Rattle.dv_coded.specs.Lent.{behaviour_of_lent, lent_takes};
+ghost use Rattle.std.specs.Option.{option_copied};
+ghost use Rattle.std.specs.Prelude.{◌≡◌, IfOk, IfSome, map, slice_get};
+ghost use Rattle.dv_gen.specs.Over.{IsOver};
 
 use crate::bench::Bench;
 use crate::programs::Programs;
 use dv_bag::{Arrivals, RuleError, Sent, State};
+use dv_gen::PhaseCode;
 use dv_react::{Atomic, Change};
 use std::alloc::{AllocError, Global};
 
@@ -14,6 +15,33 @@ use std::alloc::{AllocError, Global};
 #[derive(Clone, Copy)]
 pub struct Lent<'m> {
     pub programs: &'m Programs,
+    // Where the programs lie by phase, so that a turn finds them at once.
+    phases: &'m [PhaseCode],
+    ghost same: { phases.now ≡ programs.now.code.value.phases.items },
+}
+
+impl<'m> Lent<'m> {
+    /// These programs, where they lie.
+    #[inline]
+    pub fn of(programs: &'m Programs) -> Self
+        ensures { result.programs.now ≡ programs.now }
+    {
+        Lent {
+            programs,
+            phases: &programs.code.phases,
+        }
+    }
+
+    // The programs of the phase of a state, if there is such a phase.
+    #[inline]
+    fn phase(&self, state: &State) -> Option<&'m PhaseCode>
+        ensures phase { option_copied result
+            ≡ slice_get self.now.programs.now.code.value.phases.items state.now.phase }
+        ensures over { IfSome result
+            (λ c. IsOver self.now.programs.now.code.value.tables.value c.now) }
+    {
+        self.phases.get(state.phase as usize)
+    }
 }
 
 /// Programs, each where it lies.
@@ -22,16 +50,18 @@ pub struct Lent<'m> {
 ///
 /// No memory for the list.
 pub fn lend<'m>(alloc: Global, all: &'m [Programs]) -> Result<Vec<Lent<'m>>, AllocError>
-    ensures { IfOk result (λ lent. map (λ (l : Lent). l.programs.now) lent.items ≡ all.now) }
+    ensures { IfOk result (λ lent. map (λ l. l.programs.now) lent.items ≡ all.now) }
 {
     let mut lent = Vec::with_capacity(alloc, all.len())?;
     for programs in all {
-        lent.push(Lent { programs })?;
+        lent.push(Lent::of(programs))?;
     }
     Ok(lent)
 }
 
 impl Atomic for Lent<'_> {
+    ghost use Rattle.dv_coded.specs.Lent.{behaviour_of_lent, lent_takes};
+
     type Work = Bench;
 
     ghost behaviour = { behaviour_of_lent };
@@ -40,33 +70,62 @@ impl Atomic for Lent<'_> {
 
     ghost comes = { λ _ _. Unit {0} };
 
+    #[inline]
     fn output(&self, work: &mut Bench, state: &State) -> Result<Sent, RuleError> {
-        self.programs.output(work, state)
+        match self.phase(state) {
+            Some(code) => work.output(&code.output, state),
+            None => Ok(Sent::empty(work.alloc, 0)),
+        }
     }
 
+    #[inline]
     fn internal(&self, work: &mut Bench, state: State) -> Result<Change, RuleError> {
-        self.programs.internal(work, state)
+        match self.phase(&state) {
+            Some(code) => work.change(&code.internal, &Arrivals::nothing(), state),
+            None => Ok(Change { state, goes: false }),
+        }
     }
 
+    #[inline]
     fn external(
         &self,
         work: &mut Bench,
         arrivals: &Arrivals,
         state: State,
     ) -> Result<Change, RuleError> {
-        self.programs.external(work, arrivals, state)
+        match self.phase(&state) {
+            Some(code) => work.change(&code.external, arrivals, state),
+            None => Ok(Change { state, goes: false }),
+        }
     }
 
+    #[inline]
     fn confluent(
         &self,
         work: &mut Bench,
         arrivals: &Arrivals,
         state: &State,
     ) -> Result<Option<Change>, RuleError> {
-        self.programs.confluent(work, arrivals, state)
+        let Some(code) = self.phase(state) else {
+            return Ok(None);
+        };
+        match &code.confluent {
+            Some(program) => match work.change_at_once(program, arrivals, state) {
+                Ok(change) => Ok(Some(change)),
+                Err(error) => Err(error),
+            },
+            None => Ok(None),
+        }
     }
 
+    #[inline]
     fn hold(&self, work: &mut Bench, state: &State) -> Result<Option<u64>, RuleError> {
-        self.programs.hold(work, state)
+        let Some(code) = self.phase(state) else {
+            return Ok(None);
+        };
+        match &code.hold {
+            Some(program) => work.ticks(program, state),
+            None => Ok(None),
+        }
     }
 }

@@ -1,20 +1,20 @@
 //! The programs of an atomic model, as its behaviour.
 
-ghost use Rattle.std.specs.Prelude.{◌≡◌, IfOk, IfSome, slice_get};
-ghost use Rattle.std.specs.Option.{option_copied};
+ghost use Rattle.std.specs.Prelude.{◌≡◌, IfOk};
 ghost use Rattle.dv_code.specs.Shape.{Fits};
 ghost use Rattle.dv_compiled.specs.Behaviours.{behaviour_by};
 ghost use Rattle.dv_eval.specs.Scope.{scope_of};
 ghost use Rattle.dv_gen.specs.ModelCode.{IsCompilable, phase_codes};
-ghost use Rattle.dv_gen.specs.Over.{AreOver, IsOver};
+ghost use Rattle.dv_gen.specs.Over.{AreOver};
 ghost use Rattle.dv_gen.specs.Resolution.{tables_of};
 ghost use Rattle.dv_syntax.specs.Trees.{atomic_of};
 
 use crate::bench::Bench;
+use crate::lent::Lent;
 use dv_bag::{Arrivals, RuleError, Sent, State};
 use dv_eval::Scope;
 use dv_gen::laws::programs_stand_over_their_tables;
-use dv_gen::{ModelCode, PhaseCode, generate};
+use dv_gen::{ModelCode, generate};
 use dv_react::{Atomic, Change};
 use dv_syntax::Atomic as Model;
 use std::alloc::{AllocError, Global};
@@ -58,15 +58,6 @@ impl Programs {
             code: Arc::try_clone(&self.code)?,
         })
     }
-
-    // The programs of the phase of a state, if there is such a phase.
-    fn phase(&self, state: &State) -> Option<&PhaseCode>
-        ensures phase { option_copied result
-            ≡ slice_get self.now.code.value.phases.items state.now.phase }
-        ensures over { IfSome result (λ c. IsOver self.now.code.value.tables.value c.now) }
-    {
-        self.code.phases.get(state.phase as usize)
-    }
 }
 
 impl Atomic for Programs {
@@ -79,17 +70,11 @@ impl Atomic for Programs {
     ghost comes = { λ _ _. Unit {0} };
 
     fn output(&self, work: &mut Bench, state: &State) -> Result<Sent, RuleError> {
-        match self.phase(state) {
-            Some(code) => work.output(&code.output, state),
-            None => Ok(Sent::empty(work.alloc, 0)),
-        }
+        Lent::of(self).output(work, state)
     }
 
     fn internal(&self, work: &mut Bench, state: State) -> Result<Change, RuleError> {
-        match self.phase(&state) {
-            Some(code) => work.change(&code.internal, &Arrivals::nothing(), state),
-            None => Ok(Change { state, goes: false }),
-        }
+        Lent::of(self).internal(work, state)
     }
 
     fn external(
@@ -98,10 +83,7 @@ impl Atomic for Programs {
         arrivals: &Arrivals,
         state: State,
     ) -> Result<Change, RuleError> {
-        match self.phase(&state) {
-            Some(code) => work.change(&code.external, arrivals, state),
-            None => Ok(Change { state, goes: false }),
-        }
+        Lent::of(self).external(work, arrivals, state)
     }
 
     fn confluent(
@@ -110,25 +92,10 @@ impl Atomic for Programs {
         arrivals: &Arrivals,
         state: &State,
     ) -> Result<Option<Change>, RuleError> {
-        let Some(code) = self.phase(state) else {
-            return Ok(None);
-        };
-        match &code.confluent {
-            Some(program) => match work.change_at_once(program, arrivals, state) {
-                Ok(change) => Ok(Some(change)),
-                Err(error) => Err(error),
-            },
-            None => Ok(None),
-        }
+        Lent::of(self).confluent(work, arrivals, state)
     }
 
     fn hold(&self, work: &mut Bench, state: &State) -> Result<Option<u64>, RuleError> {
-        let Some(code) = self.phase(state) else {
-            return Ok(None);
-        };
-        match &code.hold {
-            Some(program) => work.ticks(program, state),
-            None => Ok(None),
-        }
+        Lent::of(self).hold(work, state)
     }
 }

@@ -3,9 +3,10 @@
 ghost use Rattle.std.specs.Prelude.{◌≡◌, ◌∷◌, [], ◌++◌};
 ghost use Rattle.std.specs.Borrow.{ftrue};
 ghost use Rattle.dv_bag.specs.Part.{PartOf, nothing};
+ghost use Rattle.dv_bag.specs.declared.entry.What.TheVariants as what;
 ghost use Rattle.dv_record.specs.Told.{entry, lines_from};
 
-use dv_bag::{Bags, Sent, What};
+use dv_bag::{Bags, Fault, Kind, Sent, State};
 use dv_time::Time;
 use std::marker::Model;
 
@@ -34,11 +35,28 @@ impl History {
         History {}
     }
 
-    /// With what happened to a component at a time, behind all that was told.
-    pub fn and_happened(&self, time: &Time, component: &u32, what: &What, sent: &Sent) -> History
+    /// With a transition of a component at a time, behind all that was told.
+    pub fn and_moved(
+        &self,
+        time: &Time,
+        component: &u32,
+        kind: &Kind,
+        state: &State,
+        sent: &Sent,
+    ) -> History
+        ensures { result.part ≡ record self.now.part {
+          entries = self.now.part.entries ++ entry time.now component.now
+              (what.Transition kind.now state.now) sent.now ∷ [];
+        } }
+    {
+        History {}
+    }
+
+    /// With a fault of a component at a time, behind all that was told.
+    pub fn and_faulted(&self, time: &Time, component: &u32, fault: &Fault, sent: &Sent) -> History
         ensures { result.part ≡ record self.now.part {
           entries = self.now.part.entries
-              ++ entry time.now component.now what.now sent.now ∷ [];
+              ++ entry time.now component.now (what.Fault fault.now) sent.now ∷ [];
         } }
     {
         History {}

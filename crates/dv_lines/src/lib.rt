@@ -48,5 +48,5 @@ pub use line::ComponentWords;
 pub use lines::Lines;
 pub use pieces::{Word, put_byte, put_digits, put_number, put_word};
 pub use text_record::TextRecord;
-pub use told::{entry, faulted, happened};
+pub use told::{faulted, transition};
 pub use words::Words;

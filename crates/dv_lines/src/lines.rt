@@ -74,7 +74,7 @@ impl Lines {
     ///
     /// No memory for it. All is as before.
     #[inline(always)]
-    pub fn happened(
+    pub fn transition(
         &mut self,
         words: &ComponentWords,
         now: Time,

@@ -1,17 +1,16 @@
 //! A record of a run as its text.
 
-ghost use Rattle.std.specs.Prelude.{◌≡◌, ◌||◌, IfOk};
+ghost use Rattle.std.specs.Prelude.{◌≡◌, IfOk};
 ghost use Rattle.dv_text.specs.Names.{tree_names, tree_ports};
 ghost use Rattle.dv_lines.specs.Records.{fresh};
-ghost use Rattle.dv_lines.specs.Tellings.{is_fault};
 
 use crate::faults::KnowsFaults;
 use crate::history::History;
 use crate::leaving::all_left;
 use crate::lines::Lines;
-use crate::told::entry;
+use crate::told::{faulted, transition};
 use crate::words::Words;
-use dv_bag::{Bags, Sent, What};
+use dv_bag::{Bags, Fault, Kind, Sent, State};
 use dv_record::Record;
 use dv_time::Time;
 use dv_tree::Tree;
@@ -69,16 +68,6 @@ impl<'t> Model for TextRecord<'t> {
         }) r.mark };
 }
 
-// Whether there was a fault, or this is one.
-fn is_faulted(what: &What, before: bool) -> bool
-    ensures { result ≡ (is_fault what.now || before) }
-{
-    match what {
-        What::Fault(_) => true,
-        What::Transition { .. } => before,
-    }
-}
-
 impl<'t> TextRecord<'t> {
     /// A record with the names of this tree, to which nothing was told.
     ///
@@ -111,16 +100,38 @@ impl<'t> Record for TextRecord<'t> {
 
     ghost handed = { handed_of };
 
-    fn happened(
+    #[inline]
+    fn moved(
         &mut self,
         time: Time,
         component: u32,
-        what: What,
+        kind: Kind,
+        state: &State,
         sent: &Sent,
     ) -> Result<(), AllocError> {
-        entry(&mut self.lines, &self.words, time, component, &what, sent)?;
-        self.faulted = is_faulted(&what, self.faulted);
-        self.told = self.told.and_happened(&time, &component, &what, sent);
+        transition(
+            &mut self.lines,
+            &self.words,
+            time,
+            component,
+            kind,
+            state,
+            sent,
+        )?;
+        self.told = self.told.and_moved(&time, &component, &kind, state, sent);
+        Ok(())
+    }
+
+    fn faulted(
+        &mut self,
+        time: Time,
+        component: u32,
+        fault: Fault,
+        sent: &Sent,
+    ) -> Result<(), AllocError> {
+        faulted(&mut self.lines, &self.words, time, component, fault, sent)?;
+        self.faulted = true;
+        self.told = self.told.and_faulted(&time, &component, &fault, sent);
         Ok(())
     }
 

@@ -9,7 +9,7 @@ ghost use Rattle.dv_record.specs.Told.{entry};
 use crate::laws::words_say_the_names;
 use crate::lines::Lines;
 use crate::words::Words;
-use dv_bag::{Fault, Kind, Sent, State, What};
+use dv_bag::{Fault, Kind, Sent, State};
 use dv_time::Time;
 use std::alloc::AllocError;
 
@@ -19,7 +19,7 @@ use std::alloc::AllocError;
 ///
 /// No memory for it. All is as before.
 #[inline(always)]
-pub fn happened(
+pub fn transition(
     lines: &mut Lines,
     words: &Words,
     now: Time,
@@ -34,7 +34,7 @@ pub fn happened(
     ensures err { OnErr result (lines.new ≡ lines.old) }
 {
     words_say_the_names();
-    lines.happened(&words.component(component), now, kind, state, sent)
+    lines.transition(&words.component(component), now, kind, state, sent)
 }
 
 /// The line of a fault of a component.
@@ -57,31 +57,4 @@ pub fn faulted(
 {
     words_say_the_names();
     lines.faulted(&words.component(component), now, fault, sent)
-}
-
-/// The line of what happened to a component.
-///
-/// # Errors
-///
-/// No memory for it. All is as before.
-#[inline(always)]
-pub fn entry(
-    lines: &mut Lines,
-    words: &Words,
-    now: Time,
-    component: u32,
-    what: &What,
-    sent: &Sent,
-) -> Result<(), AllocError>
-    ensures ok { (all : List ComponentNames) → rows_found words.now ≡ map decorated all
-        → OnOk result (lines.new ≡ lines.old ++ entry_text (names_at all component)
-        (entry now component what.now sent.now)) }
-    ensures err { OnErr result (lines.new ≡ lines.old) }
-{
-    match what {
-        What::Transition { kind, state } => {
-            happened(lines, words, now, component, *kind, state, sent)
-        }
-        What::Fault(fault) => faulted(lines, words, now, component, *fault, sent),
-    }
 }

@@ -1,12 +1,15 @@
 -- Components that react one after the other.
 use Rattle.std.proofs.Common.{◌≡◌, inl, inr, ℕ, ◌+◌, ◌<◌, Bool, false, List, [], ◌∷◌, ◌++◌, length, get_or, take, Option, Some}
-use Rattle.std.proofs.Common.{Result, refl, sym, ap, ◌∙◌, subst, arith, append-nil}
+use Rattle.std.proofs.Common.{Result, Ok, Err, refl, sym, ap, ◌∙◌, subst, arith, append-nil}
+use Rattle.std.specs.Prelude.{OnErr, OnOk}
 use Rattle.std.specs.List.{All, slice_get, slice_set}
 use Rattle.std.proofs.lemmas.Bool.{cases_lt}
 use Rattle.std.proofs.lemmas.List.{append_assoc, get_or-set_other, get_or-set_same, length-set, map-append, take_more}
 use Rattle.std.proofs.lemmas.List.Elements.{All-push, All-set}
 use Rattle.std.proofs.lemmas.Option.{get_or_from_slice_get, same_Some, slice_get-get_or, slice_get_within}
+use Rattle.dv_time.specs.declared.time.Time.{Time}
 use Rattle.dv_bag.specs.Bag.{Counts}
+use Rattle.dv_bag.specs.Part.{PartOf}
 use Rattle.dv_bag.specs.declared.entry.Entry.{Entry}
 use Rattle.dv_bag.specs.declared.fault.Fault.{Fault}
 use Rattle.dv_bag.specs.declared.state.State.{State}
@@ -15,6 +18,8 @@ use Rattle.dv_devs.specs.Network.{entry_of}
 use Rattle.dv_react.specs.Components.{IsWaitOfRun}
 use Rattle.dv_react.specs.Outcomes.{event_of, happened_in, left_by, sent_of}
 use Rattle.dv_react.specs.declared.running.Running.{Running}
+use Rattle.dv_record.specs.Told.{IsOpenAt, with_entry}
+use Rattle.dv_record.proofs.Open.{still_open}
 use Rattle.dv_share.specs.Commits.{entries_of}
 use Rattle.dv_share.specs.Outcomes.{IsOutcome}
 use Rattle.dv_share.specs.Places.{is_in, places_of}
@@ -124,3 +129,9 @@ module _ {S : Type 0} (behaviour : S → Behaviour) (fits : S → State → Type
               ∙ append_assoc old (entries_of t.limit now t.members.items es h.outcomes) entry
               ∙ ap (λ (ys : List Entry). old ++ ys) (sym (entries_last t.limit now t.members.items es h.outcomes o));
         }
+
+-- with an entry of its time that was told, or without one where it could not be told, the rest of an instant can be told
+pub open_told : {X E : Type 0} (t : Time) (r : Result X E) (old new : PartOf) (e : Entry) → e.time ≡ t → IsOpenAt t old
+    → OnOk r (new ≡ with_entry e old) → OnErr r (new ≡ old) → IsOpenAt t new
+open_told t (Ok x) old new e at h ok err = subst (IsOpenAt t) (sym ok) (still_open t old e at h)
+open_told t (Err x) old new e at h ok err = subst (IsOpenAt t) (sym err) h

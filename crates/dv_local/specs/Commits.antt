@@ -3,6 +3,8 @@ use Rattle.std.specs.Prelude.{◌≡◌, ℕ, List, ◌++◌, slice_get, slice_s
 use Rattle.std.specs.List.{All}
 use Rattle.dv_bag.specs.Bag.{Counts}
 use Rattle.dv_bag.specs.declared.entry.Entry.{Entry}
+use Rattle.dv_bag.specs.declared.entry.What.{What}
+use Rattle.dv_bag.specs.declared.entry.What.TheVariants as what
 use Rattle.dv_bag.specs.declared.fault.Fault.{Fault}
 use Rattle.dv_bag.specs.declared.state.State.{State}
 use Rattle.dv_devs.specs.Behaviour.{Behaviour, emission}
@@ -19,6 +21,9 @@ use Rattle.dv_share.specs.Share.{given_at, left_from}
 use Rattle.dv_share.specs.declared.place.Placed.{Placed}
 use Rattle.dv_share.specs.declared.tables.Member.{Member}
 use Rattle.dv_share.specs.declared.tables.Tables.{Tables}
+use Rattle.dv_local.specs.declared.commit.Cause.{Cause}
+use Rattle.dv_local.specs.declared.commit.Cause.TheVariants as cause
+use Rattle.dv_local.specs.declared.commit.Left.{Left}
 
 -- what was emitted at a place is what the output function of the component there gives
 abbrev pub IsGivenAt : {S : Type 0} → (S → Behaviour) → Tables S → ℕ → List (Placed (Result (List Counts) Fault)) → List Running → ℕ
@@ -46,3 +51,11 @@ pub record HaveReacted {S : Type 0} (behaviour : S → Behaviour) (fits : S → 
   pub right : All (λ (o : Placed Outcome). IsOutcome behaviour fits t now rs es xs o.place o.what) outcomes
   pub components : ss ≡ left_from 0 rs outcomes
   pub entries : new ≡ old ++ entries_of t.limit now t.members.items es outcomes
+
+-- what happened to a component: what changed it, with the state after it
+abbrev pub what_by : Cause → State → What
+what_by (cause.Transition kind) s = what.Transition kind s
+what_by (cause.Fault fault) s = what.Fault fault
+
+abbrev pub what_of : Left → What
+what_of l = what_by l.cause l.after.state

@@ -8,20 +8,20 @@ ghost use Rattle.dv_react.specs.Components.{rank_of};
 ghost use Rattle.dv_react.specs.Outcomes.{happened_in, left_by, sent_of};
 ghost use Rattle.dv_devs.specs.Network.{entry_of};
 ghost use Rattle.dv_record.specs.Told.{IsOpenAt};
-ghost use Rattle.dv_share.specs.Places.{AreRising, places_of};
+ghost use Rattle.dv_share.specs.Places.{AreRising, IsNext, places_of};
 ghost use Rattle.dv_share.specs.Rows.{number_of};
 ghost use Rattle.dv_share.specs.Share.{AreComponents, AreEmitted, AreTables, StandByPlace, given_at};
-ghost use Rattle.dv_local.specs.Commits.{HasReacted, HaveReacted, IsGivenAt};
+ghost use Rattle.dv_local.specs.Commits.{HasReacted, HaveReacted, IsGivenAt, what_of};
 ghost use Rattle.dv_local.specs.Undoing.{AreWithin, undone, waits_of};
 ghost use Rattle.dv_local.specs.declared.commit.Left.{Left};
 
 use crate::components::Components;
 use crate::undo::{push_to_room, time_of};
 use dv_agenda::Agenda;
-use dv_bag::{Bags, Fault, Sent, What};
+use dv_bag::{Bags, Fault, Kind, Sent};
 use dv_react::{Atomic, Instant, Outcome, Running, Wait};
 use dv_record::Record;
-use dv_share::{Placed, Tables, outcome, sent_at};
+use dv_share::{Placed, Tables, next_index, outcome, sent_at};
 use std::alloc::AllocError;
 
 /// What an instant is computed from, beside the components: the tables, the instant itself, what was emitted at it, and
@@ -78,17 +78,20 @@ pub(crate) fn commit<A: Atomic, R: Record>(
     ensures settled { R.settled to.new ≡ R.settled to.old }
     ensures handed { R.handed to.new ≡ R.handed to.old }
 {
+    let mut index = 0;
     for arrival in received {
-        commit_one(moment, work, arrival, components, agenda, to, before)?;
+        index = next_index(moment.emitted, index, arrival.place);
+        commit_one(moment, work, arrival, index, components, agenda, to, before)?;
     }
     Ok(())
 }
 
-// The component at the place of an arrival reacts.
+// The component at the place of an arrival reacts, by the index of the first emission that does not stand before it.
 fn commit_one<A: Atomic, R: Record>(
     moment: &Moment<'_, A>,
     work: &mut A::Work,
     arrival: &Placed<Bags>,
+    index: usize,
     components: &mut Components,
     agenda: &mut Agenda,
     to: &mut R,
@@ -100,6 +103,7 @@ fn commit_one<A: Atomic, R: Record>(
     requires comes { (a : A) (bags : List Counts) → A.comes a bags }
     requires place { arrival.now.place < length moment.now.tables.now.members.items }
     requires rise { AreRising (places_of moment.now.emitted.now) }
+    requires next { IsNext arrival.now.place moment.now.emitted.now index }
     requires given { IsGivenAt A.behaviour moment.now.tables.now (rank_of moment.now.instant.now)
         moment.now.emitted.now components.old.running.items arrival.now.place }
     requires agenda { agenda.old ≡ waits_of components.old.running.items }
@@ -130,27 +134,35 @@ fn commit_one<A: Atomic, R: Record>(
         moment.instant,
         component,
         moment.emitted,
+        index,
         arrival,
     )?;
     let Some(left) = left_by(component, outcome)? else {
         return Ok(());
     };
     before.reserve(1)?;
-    tell(moment, arrival.place, left.what, to)?;
+    tell(moment, arrival.place, index, &left, to)?;
     put_in(components, agenda, before, arrival.place, left.after);
     Ok(())
 }
 
-// What happened to a component, and the component after it.
+// What changed a component.
+#[derive(Clone, Copy)]
+enum Cause {
+    Transition(Kind),
+    Fault(Fault),
+}
+
+// What changed a component, and the component after it.
 #[derive(Drop)]
 struct Left {
-    what: What,
+    cause: Cause,
     after: Running,
 }
 
 // What an outcome leaves, if something happened.
 fn left_by(component: &Running, outcome: Outcome) -> Result<Option<Left>, AllocError>
-    ensures happened { IfOk result (λ left. option_map (λ (l : Left). l.what) left
+    ensures happened { IfOk result (λ left. option_map what_of left
         ≡ happened_in outcome) }
     ensures left { IfOk result (λ left. MatchOption left (left_by component.now outcome
         ≡ component.now)
@@ -159,22 +171,15 @@ fn left_by(component: &Running, outcome: Outcome) -> Result<Option<Left>, AllocE
     match outcome {
         Outcome::Nothing => Ok(None),
         Outcome::Faulted { fault } => Ok(Some(Left {
-            what: What::Fault(fault),
+            cause: Cause::Fault(fault),
             after: Running {
                 state: component.state.clone()?,
                 last: component.last,
                 wait: Wait::Quiet,
             },
         })),
-        Outcome::Changed {
-            kind,
-            entered,
-            after,
-        } => Ok(Some(Left {
-            what: What::Transition {
-                kind,
-                state: entered,
-            },
+        Outcome::Changed { kind, after } => Ok(Some(Left {
+            cause: Cause::Transition(kind),
             after,
         })),
     }
@@ -184,17 +189,19 @@ fn left_by(component: &Running, outcome: Outcome) -> Result<Option<Left>, AllocE
 fn tell<A, R: Record>(
     moment: &Moment<'_, A>,
     place: u32,
-    what: What,
+    index: usize,
+    left: &Left,
     to: &mut R,
 ) -> Result<(), AllocError>
     requires place { place < length moment.now.tables.now.members.items }
     requires rise { AreRising (places_of moment.now.emitted.now) }
+    requires next { IsNext place moment.now.emitted.now index }
     requires nothing { moment.now.nothing.now ≡ [] }
     requires is_open { IsOpenAt moment.now.instant.now.time (R.told to.old) }
     ensures entries { OnOk result ((R.told to.new).entries ≡ (R.told to.old).entries
         ++ entry_of moment.now.instant.now.limit (rank_of moment.now.instant.now)
         (number_of (slice_get moment.now.tables.now.members.items place))
-        (Some (what, sent_of (given_at place moment.now.emitted.now)))) }
+        (Some (what_of left.now, sent_of (given_at place moment.now.emitted.now)))) }
     ensures outer { (R.told to.new).outer ≡ (R.told to.old).outer }
     ensures err { OnErr result (R.told to.new ≡ R.told to.old) }
     ensures is_open { IsOpenAt moment.now.instant.now.time (R.told to.new) }
@@ -202,8 +209,12 @@ fn tell<A, R: Record>(
     ensures handed { R.handed to.new ≡ R.handed to.old }
 {
     let component = moment.tables.members[place as usize].number;
-    let sent = sent_at(moment.emitted, place, moment.nothing);
-    to.happened(moment.instant.time, component, what, sent)
+    let sent = sent_at(moment.emitted, index, place, moment.nothing);
+    let time = moment.instant.time;
+    match left.cause {
+        Cause::Transition(kind) => to.moved(time, component, kind, &left.after.state, sent),
+        Cause::Fault(fault) => to.faulted(time, component, fault, sent),
+    }
 }
 
 // Puts a component in its place, and the one that stood there behind those that stood before, where there is room for it.

@@ -113,7 +113,7 @@ fn react(
 {
     let mut work = alloc;
     let outcome = compute(atom, &mut work, instant, component, received, fault)?;
-    Ok(put_in(component, outcome))
+    put_in(component, outcome)
 }
 
 // The entry of a component, where something happened to it.

@@ -154,7 +154,7 @@ fn routes(alloc: Global, links: &[Link]) -> Result<Routes, AllocError>
     requires { RiseBySource (links_of links.now) }
     ensures { IfOk result (λ found. found ≡ links_of links.now) }
 {
-    Ok(Routes::new(copies(alloc, links)?))
+    Routes::new(alloc, copies(alloc, links)?)
 }
 
 // The items once more.

@@ -1,12 +1,12 @@
 //! A record that keeps a part of a trace.
 
-ghost use Rattle.std.specs.Prelude.{◌≡◌, ◌≤◌, ◌^◌, IfOk, List, OnOk, length, map};
+ghost use Rattle.std.specs.Prelude.{◌≡◌, ◌≤◌, ◌^◌, IfOk, List, OnErr, OnOk, length, map};
 ghost use Rattle.dv_bag.specs.Part.{nothing};
 ghost use Rattle.dv_bag.specs.declared.entry.Outer.{Outer as OuterOfCode};
-ghost use Rattle.dv_record.specs.Told.{lines_from, with_lines};
+ghost use Rattle.dv_record.specs.Told.{entry, lines_from, with_entry, with_lines};
 
 use crate::records::Record;
-use dv_bag::{Bags, Entry, Outer, Part, Sent, What};
+use dv_bag::{Bags, Entry, Fault, Kind, Outer, Part, Sent, State, What};
 use dv_time::Time;
 use std::alloc::{AllocError, Global};
 use std::marker::Model;
@@ -69,20 +69,29 @@ impl Record for PartRecord {
 
     ghost handed = { λ _. no_text };
 
-    fn happened(
+    fn moved(
         &mut self,
         time: Time,
         component: u32,
-        what: What,
+        kind: Kind,
+        state: &State,
         sent: &Sent,
     ) -> Result<(), AllocError> {
-        let sent = sent.clone()?;
-        self.part.push_entry(Entry {
-            time,
-            component,
-            what,
-            sent,
-        })
+        let what = What::Transition {
+            kind,
+            state: state.clone()?,
+        };
+        push(&mut self.part, time, component, what, sent)
+    }
+
+    fn faulted(
+        &mut self,
+        time: Time,
+        component: u32,
+        fault: Fault,
+        sent: &Sent,
+    ) -> Result<(), AllocError> {
+        push(&mut self.part, time, component, What::Fault(fault), sent)
     }
 
     fn left(&mut self, time: Time, values: &Bags) -> Result<(), AllocError> {
@@ -103,6 +112,27 @@ impl Record for PartRecord {
     }
 
     fn let_go(&mut self) {}
+}
+
+// An entry behind those that are there.
+fn push(
+    part: &mut Part,
+    time: Time,
+    component: u32,
+    what: What,
+    sent: &Sent,
+) -> Result<(), AllocError>
+    ensures told { OnOk result
+        (part.new ≡ with_entry (entry time component what sent.now) part.old) }
+    ensures err { OnErr result (part.new ≡ part.old) }
+{
+    let sent = sent.clone()?;
+    part.push_entry(Entry {
+        time,
+        component,
+        what,
+        sent,
+    })
 }
 
 /// The lines of what left at a time, behind those that are there: one for each port with values.

@@ -2,9 +2,10 @@
 
 ghost use Rattle.std.specs.Prelude.{◌≡◌, ◌++◌, ◌≤◌, ◌^◌, OnErr, OnOk, length};
 ghost use Rattle.dv_bag.specs.Part.{PartOf};
+ghost use Rattle.dv_bag.specs.declared.entry.What.TheVariants as what;
 ghost use Rattle.dv_record.specs.Told.{Handed, IsOpenAt, entry, lines_from, with_entry, with_lines};
 
-use dv_bag::{Bags, Sent, What};
+use dv_bag::{Bags, Fault, Kind, Sent, State};
 use dv_time::Time;
 use std::alloc::AllocError;
 
@@ -20,21 +21,41 @@ pub trait Record: Drop {
     /// How it writes what is told as a text, and what of that text was handed over.
     ghost handed: { Self → Handed };
 
-    /// Tells what happened to a component at a time, and what it sent then.
+    /// Tells that a transition of a component took place at a time, with the state after it, and what it sent then.
     ///
     /// # Errors
     ///
     /// No memory for it. What was told is as before.
-    fn happened(
+    fn moved(
         &mut self,
         time: Time,
         component: u32,
-        what: What,
+        kind: Kind,
+        state: &State,
         sent: &Sent,
     ) -> Result<(), AllocError>
         requires is_open { IsOpenAt time (told self.old) }
-        ensures told { OnOk result (told self.new
-            ≡ with_entry (entry time component what sent.now) (told self.old)) }
+        ensures told { OnOk result (told self.new ≡ with_entry
+            (entry time component (what.Transition kind state.now) sent.now) (told self.old)) }
+        ensures err { OnErr result (told self.new ≡ told self.old) }
+        ensures settled { settled self.new ≡ settled self.old }
+        ensures handed { handed self.new ≡ handed self.old };
+
+    /// Tells that a rule of a component had a fault at a time, and what the component sent then.
+    ///
+    /// # Errors
+    ///
+    /// No memory for it. What was told is as before.
+    fn faulted(
+        &mut self,
+        time: Time,
+        component: u32,
+        fault: Fault,
+        sent: &Sent,
+    ) -> Result<(), AllocError>
+        requires is_open { IsOpenAt time (told self.old) }
+        ensures told { OnOk result (told self.new ≡ with_entry
+            (entry time component (what.Fault fault) sent.now) (told self.old)) }
         ensures err { OnErr result (told self.new ≡ told self.old) }
         ensures settled { settled self.new ≡ settled self.old }
         ensures handed { handed self.new ≡ handed self.old };

@@ -1,7 +1,7 @@
 -- What stands between the lists of the code and those of the theory.
 use Rattle.std.specs.Prelude.{ℕ, ◌+◌, ◌≤◌, ◌<◌, Bool, false, ◌&&◌, nat_eq, if◌then◌else◌, length, slice_index_or, ◌≡◌, List, []}
 use Rattle.std.specs.Prelude.{◌∷◌, ◌++◌, filter, slice_get, Option, Some, None, Result, pos}
-use Rattle.std.specs.List.{All}
+use Rattle.std.specs.List.{All, AllWithin}
 use Rattle.std.specs.List.Sorted.{IsNonDecreasingBy}
 use Rattle.std.specs.Ordering.{int_eq, is_lt}
 use Rattle.dv_bag.specs.Bag.{Counts, capped}
@@ -12,6 +12,7 @@ use Rattle.dv_conservative.specs.Links.{Link, Delivery, carried, carried_by}
 use Rattle.dv_share.specs.Links.{delivery_of, leads_from}
 use Rattle.dv_share.specs.Places.{is_in, places_of}
 use Rattle.dv_share.specs.declared.link.Delivery.{Delivery as DeliveryOfCode}
+use Rattle.dv_share.specs.declared.link.Link.{Link as LinkOfCode}
 use Rattle.dv_share.specs.declared.place.Placed.{Placed}
 use Rattle.dv_share.specs.declared.tables.Member.{Member}
 
@@ -66,3 +67,11 @@ joined_before d [] = d ∷ []
 joined_before d (e ∷ es) =
     if same_key d e then record { component = e.component; port = e.port; value = e.value; copies = capped (d.copies + e.copies) } ∷ es
     else d ∷ e ∷ es
+
+-- At each number stands where the links of that component begin, among links in the order of the components that they lead from; each of
+-- these has a start, and behind it where its links end.
+pub record AreStarts (links : List LinkOfCode) (starts : List ℕ) : Type 0 where
+  pub within : (c : ℕ) → c < length starts → slice_index_or starts c 0 ≤ length links
+  pub before : (c : ℕ) → c < length starts → AllWithin (λ (l : LinkOfCode). l.from < c) links 0 (slice_index_or starts c 0)
+  pub from : (c : ℕ) → c < length starts → AllWithin (λ (l : LinkOfCode). c ≤ l.from) links (slice_index_or starts c 0) (length links)
+  pub all : AllWithin (λ (l : LinkOfCode). l.from + 1 < length starts) links 0 (length links)

@@ -1,37 +1,49 @@
 //! Links in the order of the ports that they lead from.
 
-ghost use Rattle.std.specs.Prelude.{◌≡◌, filter, nat_eq};
+ghost use Rattle.std.specs.Prelude.{◌≡◌, ℕ, ◌-◌, ◌<◌, ◌≤◌, IfOk, OnOk, drop, filter, length, nat_eq, slice_index_or, take};
+ghost use Rattle.std.specs.List.Sorted.{IsNonDecreasingBy};
 ghost use Rattle.dv_share.specs.Links.{RiseByPort, RiseBySource, leads_from, links_of};
+ghost use Rattle.dv_share.specs.Rows.{AreStarts};
 
 use crate::link::Link;
-use crate::run::{ByComponent, ByPort, run_of};
+use crate::run::{ByPort, run_of};
+use std::alloc::{AllocError, Global};
 use std::marker::Model;
 
 /// Links in the order of the components that they lead from, and those of one component in the order of its ports.
 #[derive(Drop)]
 pub struct Routes {
     links: Vec<Link>,
+    // Where the links of each component begin, and behind the last of them, where they end.
+    starts: Vec<usize>,
 }
 
 impl Model for Routes {
     ghost use Rattle.std.specs.Prelude.{List};
     ghost use Rattle.dv_conservative.specs.Links.{Link as Meant};
     ghost use Rattle.dv_share.specs.Links.{RiseBySource, links_of};
+    ghost use Rattle.dv_share.specs.Rows.{AreStarts};
 
     ghost Value = { List Meant };
 
     ghost view = { λ r. links_of r.links.items };
 
-    ghost invariant = { λ r. RiseBySource (links_of r.links.items) };
+    ghost invariant = { λ r. RiseBySource (links_of r.links.items)
+        × AreStarts r.links.items r.starts.items };
 }
 
 impl Routes {
     /// The links, in the order that they have.
-    pub fn new(links: Vec<Link>) -> Self
+    ///
+    /// # Errors
+    ///
+    /// No memory for where the links of each component begin.
+    pub fn new(alloc: Global, links: Vec<Link>) -> Result<Self, AllocError>
         requires { RiseBySource (links_of links.items) }
-        ensures { result ≡ links_of links.items }
+        ensures { IfOk result (λ routes. routes ≡ links_of links.items) }
     {
-        Routes { links }
+        let starts = starts_of(alloc, &links)?;
+        Ok(Routes { links, starts })
     }
 
     /// The links stand in order. It does nothing.
@@ -41,13 +53,60 @@ impl Routes {
         let _ = &self.links;
     }
 
-    /// The links that lead from a component, in the order of its ports. By a binary search.
+    /// The links that lead from a component, in the order of its ports.
     pub fn of_component(&self, component: u32) -> &[Link]
         ensures links { links_of result.now ≡ filter (leads_from component) self.now }
         ensures rise { RiseByPort (links_of result.now) }
     {
-        run_of::<ByComponent, Link>(&self.links, component as usize)
+        let (first, end) = span_of(&self.links, &self.starts, component);
+        &self.links[first..end]
     }
+}
+
+// Where the links of a component begin and end.
+#[inline]
+fn span_of(links: &[Link], starts: &[usize], component: u32) -> (usize, usize)
+    requires { AreStarts links.now starts.now }
+    ensures order { result.0 ≤ result.1 }
+    ensures within { result.1 ≤ length links.now }
+    ensures part { take (result.1 - result.0) (drop result.0 links.now)
+        ≡ filter (λ (l : Link). nat_eq l.from component) links.now }
+{
+    let at = component as usize;
+    if at + 1 < starts.len() {
+        (starts[at], starts[at + 1])
+    } else {
+        (0, 0)
+    }
+}
+
+// Where the links of each component begin, up to the last that has some, and where they end.
+fn starts_of(alloc: Global, links: &[Link]) -> Result<Vec<usize>, AllocError>
+    requires { IsNonDecreasingBy (λ (l : Link). l.from) links.now }
+    ensures { IfOk result (λ starts. AreStarts links.now starts.items) }
+{
+    let mut starts = Vec::new(alloc);
+    for (index, link) in links.iter().enumerate() {
+        begin_up_to(&mut starts, link.from as usize, index)?;
+    }
+    starts.push(links.len())?;
+    Ok(starts)
+}
+
+// Lets the links of each component up to one begin at an index, where they have no start yet.
+fn begin_up_to(starts: &mut Vec<usize>, component: usize, index: usize) -> Result<(), AllocError>
+    ensures grown { OnOk result (component < length starts.new.items) }
+    ensures kept { OnOk result (length starts.old.items ≤ length starts.new.items) }
+    ensures same { OnOk result ((c : ℕ) → c < length starts.old.items
+        → slice_index_or starts.new.items c 0 ≡ slice_index_or starts.old.items c 0) }
+    ensures begun { OnOk result ((c : ℕ) → length starts.old.items ≤ c
+        → c < length starts.new.items
+        → (c ≤ component) × (slice_index_or starts.new.items c 0 ≡ index)) }
+{
+    while starts.len() <= component {
+        starts.push(index)?;
+    }
+    Ok(())
 }
 
 /// Links from the outside in the order of its ports.

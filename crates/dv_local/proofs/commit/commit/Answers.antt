@@ -1,7 +1,11 @@
-use Rattle.std.proofs.Common.{◌∙◌, ◌<◌, List, length, refl, sym, subst, arith}
+use Rattle.std.proofs.Common.{◌∙◌, ◌+◌, ◌<◌, List, Result, length, refl, sym, ap, subst, arith}
+use Rattle.std.specs.List.{AllWithin}
+use Rattle.std.proofs.lemmas.List.{get_or_default}
 use Rattle.dv_bag.specs.Bag.{Counts}
+use Rattle.dv_bag.specs.declared.fault.Fault.{Fault}
 use Rattle.dv_react.specs.Components.{rank_of}
 use Rattle.dv_share.specs.declared.place.Placed.{Placed}
+use Rattle.dv_share.proofs.Order.{rise_at}
 use Rattle.dv_local.specs.Commits.{HasReacted, IsGivenAt}
 use Rattle.dv_local.proofs.Commits.{given_now, none_reacted, one_more}
 use Rattle.dv_local.proofs.commit.commit.Goals as goal
@@ -21,7 +25,23 @@ loop-arrival-init g c = record {
   is_open = c.requires.is_open;
   settled = refl;
   handed = refl;
+  index = omega arith;
+  passed = λ d lt k e le less. absurd (omega (arith, le, less));
 }
+
+pub next_index-index-requires : goal.next_index-index-requires
+next_index-index-requires g c =
+    let es = c.args.moment.now.emitted.now in
+    let x = c.arrival-item.result in
+    let inv = c.loop-arrival.invariant in
+    let early : c.loop-arrival.arrival-index < length c.args.received.now = omega arith in
+    record {
+      within = inv.index;
+      before =
+          subst (λ (y : Placed (List Counts)). AllWithin (λ (e : Placed (Result (List Counts) Fault)). e.place < y.place) es 0
+          c.loop-arrival.index)
+          (sym c.arrival-item.is) (inv.passed x early);
+    }
 
 pub commit_one-requires : goal.commit_one-requires
 commit_one-requires g c =
@@ -43,6 +63,7 @@ commit_one-requires g c =
       place = subst (λ (y : Placed (List Counts)). y.place < length t.members.items) (sym c.arrival-item.is)
           (c.requires.received.within i x early);
       rise = c.requires.emitted.places.rise;
+      next = c.next_index-index.ensures;
       given =
           subst (λ (y : Placed (List Counts)). IsGivenAt b t now es c.loop-arrival.components.running.items y.place) (sym c.arrival-item.is)
           (given_now b g.A.Atomic.fits t now rs es xs i x c.loop-arrival.components.running.items (g.R.Record.told c.args.to.now).entries
@@ -86,4 +107,11 @@ loop-arrival-preserved g c =
       is_open = one.is_open;
       settled = one.settled ∙ inv.settled;
       handed = one.handed ∙ inv.handed;
+      index = c.next_index-index.ensures.within;
+      passed = λ d lt k e le less.
+          let before = c.next_index-index.ensures.before k e le less in
+          let place = λ (y : Placed (List Counts)). y.place in
+          let here = ap place (c.arrival-item.is ∙ get_or_default xs i x d early) in
+          let next = rise_at place 0 xs i (i + 1) d c.requires.received.rise (omega arith) lt in
+          omega (arith, before, here, next);
     }

@@ -1,13 +1,17 @@
-use Rattle.std.proofs.Common.{◌≡◌, ◌+◌, length, take}
+use Rattle.std.proofs.Common.{◌≡◌, ◌+◌, ◌<◌, ◌≤◌, List, Result, length, slice_index_or, take}
+use Rattle.std.specs.List.{AllWithin}
+use Rattle.dv_bag.specs.Bag.{Counts}
+use Rattle.dv_bag.specs.declared.fault.Fault.{Fault}
 use Rattle.dv_react.specs.Components.{rank_of}
 use Rattle.dv_record.specs.Told.{IsOpenAt}
 use Rattle.dv_share.specs.Places.{places_of}
 use Rattle.dv_share.specs.Share.{AreComponents}
+use Rattle.dv_share.specs.declared.place.Placed.{Placed}
 use Rattle.dv_local.specs.Commits.{HaveReacted}
 use Rattle.dv_local.specs.Undoing.{AreWithin, undone, waits_of}
 use Rattle.dv_local.proofs.commit.commit.Given as goal
 
--- so far the components of the first arrivals have reacted
+-- So far the components of the first arrivals have reacted, and all emissions before the index stand before the next arrival.
 abbrev pub invariant-loop-arrival : goal.invariant-loop-arrival
 invariant-loop-arrival g l = record {
   reacted :
@@ -26,4 +30,9 @@ invariant-loop-arrival g l = record {
   is_open : IsOpenAt l.moment.instant.now.time (g.R.Record.told l.to);
   settled : g.R.Record.settled l.to ≡ g.R.Record.settled l.fn.to;
   handed : g.R.Record.handed l.to ≡ g.R.Record.handed l.fn.to;
+  index : l.index ≤ length l.moment.emitted.now;
+  passed :
+      (d : Placed (List Counts)) → l.arrival-index < length l.received
+      → AllWithin (λ (e : Placed (Result (List Counts) Fault)). e.place < (slice_index_or l.received l.arrival-index d).place)
+      l.moment.emitted.now 0 l.index;
 }

@@ -12,6 +12,7 @@ use Rattle.dv_react.specs.declared.running.Running.{Running}
 use Rattle.dv_share.specs.Outcomes.{IsOutcomeOf}
 use Rattle.dv_share.specs.Rows.{number_of}
 use Rattle.dv_share.specs.Share.{AreComponents, FitsAt, given_at}
+use Rattle.dv_local.specs.Commits.{what_of}
 use Rattle.dv_local.specs.declared.commit.Left.{Left}
 use Rattle.dv_local.proofs.Commits.{put_stays}
 use Rattle.dv_local.proofs.commit.commit_one.Goals as goal
@@ -29,8 +30,7 @@ returns-in_default-clause-reacted g c =
     let at : slice_get rs p ≡ Some r = slice_get_read rs (length rs) p r refl lt c.index-component.ensures in
     let old = (g.R.Record.told c.args.to.now).entries in
     let k = number_of (slice_get t.members.items p) in
-    let none : happened_in o ≡ None =
-    sym c.in_ok-left.ensures.happened ∙ ap (λ (l : Option Left). option_map (λ (l : Left). l.what) l) c.in_default.is in
+    let none : happened_in o ≡ None = sym c.in_ok-left.ensures.happened ∙ ap (option_map what_of) c.in_default.is in
     let unchanged : left_by r o ≡ r =
     subst (λ (l : Option Left). MatchOption l (left_by r o ≡ r) (λ (l : Left). l.after ≡ left_by r o)) c.in_default.is
     c.in_ok-left.ensures.left in
@@ -59,8 +59,7 @@ returns-clause-reacted g c =
     let old = (g.R.Record.told c.args.to.now).entries in
     let k = number_of (slice_get t.members.items p) in
     let left = c.in-Some.left in
-    let happened : happened_in o ≡ Some left.what =
-    sym c.in_ok-left.ensures.happened ∙ ap (λ (l : Option Left). option_map (λ (l : Left). l.what) l) c.in-Some.is in
+    let happened : happened_in o ≡ Some (what_of left) = sym c.in_ok-left.ensures.happened ∙ ap (option_map what_of) c.in-Some.is in
     let after : left.after ≡ left_by r o =
     subst (λ (l : Option Left). MatchOption l (left_by r o ≡ r) (λ (l : Left). l.after ≡ left_by r o)) c.in-Some.is
     c.in_ok-left.ensures.left in
@@ -75,7 +74,7 @@ returns-clause-reacted g c =
       entries =
           c.in_ok-tell.ensures.entries
           ∙ ap (λ (es : List Entry). old ++ es)
-          (ap (λ limit. entry_of limit now k (Some (left.what, sent_of given))) c.requires.limit
+          (ap (λ limit. entry_of limit now k (Some (what_of left, sent_of given))) c.requires.limit
           ∙ ap (λ (h : Option What). entry_of t.limit now k (event_of h (sent_of given))) (sym happened));
     }
 
