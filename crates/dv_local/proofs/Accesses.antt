@@ -1,7 +1,7 @@
 -- How many components are looked at as they emit, and as they are committed.
-use Rattle.std.proofs.Common.{◌≡◌, ℕ, ◌+◌, ◌-◌, ◌^◌, ◌<◌, ◌≤◌, min, Bool, true, false, not, ◌&&◌, ◌||◌, cond, length, List, []}
-use Rattle.std.proofs.Common.{◌∷◌, Option, Some, None, Result, refl, ap, ap₂, sym, ◌∙◌, subst, arith}
-use Rattle.std.specs.List.{All, count_by, slice_get}
+use Rattle.std.proofs.Common.{◌≡◌, ℕ, ◌+◌, ◌-◌, ◌^◌, ◌≤◌, min, Bool, true, false, not, ◌&&◌, ◌||◌, cond, length, List, []}
+use Rattle.std.proofs.Common.{◌∷◌, Option, Some, None, refl, ap₂, sym, subst, arith}
+use Rattle.std.specs.List.{count_by}
 use Rattle.std.proofs.lemmas.Bool.{and_parts, eqb-true}
 use Rattle.std.proofs.lemmas.List.{length-append}
 use Rattle.std.proofs.lemmas.List.Sums.{sum_by-cons}

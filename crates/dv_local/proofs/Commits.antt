@@ -1,8 +1,8 @@
 -- Components that react one after the other.
-use Rattle.std.proofs.Common.{◌≡◌, inl, inr, ℕ, ◌+◌, ◌<◌, Bool, false, List, [], ◌∷◌, ◌++◌, length, get_or, take, Option, Some}
+use Rattle.std.proofs.Common.{◌≡◌, inl, inr, ℕ, ◌+◌, ◌<◌, false, List, [], ◌∷◌, ◌++◌, length, get_or, take, Some}
 use Rattle.std.proofs.Common.{Result, Ok, Err, refl, sym, ap, ◌∙◌, subst, arith, append-nil}
 use Rattle.std.specs.Prelude.{OnErr, OnOk}
-use Rattle.std.specs.List.{All, slice_get, slice_set}
+use Rattle.std.specs.List.{slice_get, slice_set}
 use Rattle.std.proofs.lemmas.Bool.{cases_lt}
 use Rattle.std.proofs.lemmas.List.{append_assoc, get_or-set_other, get_or-set_same, length-set, map-append, take_more}
 use Rattle.std.proofs.lemmas.List.Elements.{All-push, All-set}
@@ -24,7 +24,7 @@ use Rattle.dv_share.specs.Commits.{entries_of}
 use Rattle.dv_share.specs.Outcomes.{IsOutcome}
 use Rattle.dv_share.specs.Places.{is_in, places_of}
 use Rattle.dv_share.specs.Rows.{number_of}
-use Rattle.dv_share.specs.Share.{AreComponents, AreEmitted, FitsAt, StandByPlace, given_at, left_from}
+use Rattle.dv_share.specs.Share.{AreComponents, AreEmitted, FitsAt, StandByPlace, given_at}
 use Rattle.dv_share.specs.declared.place.Placed.{Placed}
 use Rattle.dv_share.specs.declared.tables.Member.{Member}
 use Rattle.dv_share.specs.declared.tables.Tables.{Tables}

@@ -1,5 +1,5 @@
 -- What comes in at a time is what inputs deliver to the outside.
-use Rattle.std.proofs.Common.{◌≡◌, inl, inr, ℕ, zero, suc, ◌+◌, Bool, true, false, ◌&&◌, cond, nat_eq, List, [], ◌∷◌, ◌++◌}
+use Rattle.std.proofs.Common.{◌≡◌, inl, inr, ℕ, zero, suc, ◌+◌, List, [], ◌∷◌, ◌++◌}
 use Rattle.std.proofs.Common.{filter, map, refl, sym, ap, ◌∙◌}
 use Rattle.std.proofs.lemmas.List.{append-nil, append_assoc}
 use Rattle.dv_time.specs.declared.time.Time.{Time}
@@ -7,7 +7,7 @@ use Rattle.dv_bag.specs.Bag.{Counts}
 use Rattle.dv_bag.specs.Inputs.{bags_from, is_at, values_into}
 use Rattle.dv_bag.specs.declared.inputs.Input.{Input}
 use Rattle.dv_conservative.specs.Links.{Delivery as Meant, delivered, inbox}
-use Rattle.dv_share.specs.Links.{deliveries_of, delivery_of}
+use Rattle.dv_share.specs.Links.{delivery_of}
 use Rattle.dv_share.proofs.Inboxes.{delivered_more}
 use Rattle.dv_share.proofs.Places.{yes_or_no}
 use Rattle.dv_local.specs.Comings.{entered_by}

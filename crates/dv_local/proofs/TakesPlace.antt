@@ -1,7 +1,6 @@
 -- What takes place at an instant is what the theory says, and the components after it are put in.
-use Rattle.std.proofs.Common.{◌≡◌, ℕ, ◌<◌, ◌≤◌, Bool, true, false, cond, nat_eq, List, [], ◌∷◌, ◌++◌, length, map, take, Option}
+use Rattle.std.proofs.Common.{◌≡◌, ℕ, ◌<◌, Bool, false, cond, List, [], ◌∷◌, ◌++◌, length, map, Option}
 use Rattle.std.proofs.Common.{Some, None, refl, sym, ap, ap₂, subst, ◌∙◌, arith}
-use Rattle.std.specs.List.{All}
 use Rattle.dv_time.specs.Time.{IsOfRun, rank, time_of}
 use Rattle.dv_time.specs.declared.time.Time.{Time}
 use Rattle.dv_time.proofs.Ranks.{time_of-rank}
@@ -18,7 +17,7 @@ use Rattle.dv_conservative.specs.Links.{Delivery, carried, inbox, sent_of as sen
 use Rattle.dv_react.specs.Components.{components_of}
 use Rattle.dv_react.specs.declared.outcome.Outcome.{Outcome}
 use Rattle.dv_react.specs.declared.running.Running.{Running}
-use Rattle.dv_agenda.specs.Comings.{Arrivals, arrivals_at}
+use Rattle.dv_agenda.specs.Comings.{arrivals_at}
 use Rattle.dv_share.specs.Places.{places_of}
 use Rattle.dv_share.specs.Share.{AreAmong, AreComponents, AreEmitted, AreOutcomes, AreReceived, StandByPlace, coming, flat_by}
 use Rattle.dv_share.specs.Share.{numbers_of, reactions_by, sent_in}

@@ -21,7 +21,7 @@ use dv_agenda::Agenda;
 use dv_bag::{Bags, Fault, Kind, Sent};
 use dv_react::{Atomic, Instant, Outcome, Running, Wait};
 use dv_record::Record;
-use dv_share::{Placed, Tables, next_index, outcome, sent_at};
+use dv_share::{Placed, Received, Tables, next_index, outcome, sent_at};
 use std::alloc::AllocError;
 
 /// What an instant is computed from, beside the components: the tables, the instant itself, what was emitted at it, and
@@ -44,7 +44,7 @@ pub(crate) struct Moment<'a, A> {
 pub(crate) fn commit<A: Atomic, R: Record>(
     moment: &Moment<'_, A>,
     work: &mut A::Work,
-    received: &[Placed<Bags>],
+    received: &Received,
     components: &mut Components,
     agenda: &mut Agenda,
     to: &mut R,
@@ -56,14 +56,15 @@ pub(crate) fn commit<A: Atomic, R: Record>(
     requires comes { (a : A) (bags : List Counts) → A.comes a bags }
     requires emitted { AreEmitted A.behaviour moment.now.tables.now (rank_of moment.now.instant.now)
         components.old.running.items moment.now.emitted.now }
-    requires received { StandByPlace (length moment.now.tables.now.members.items) received.now }
+    requires received { StandByPlace (length moment.now.tables.now.members.items)
+        received.now.items }
     requires agenda { agenda.old ≡ waits_of components.old.running.items }
     requires within { AreWithin (length components.old.running.items) before.old.items }
     requires nothing { moment.now.nothing.now ≡ [] }
     requires is_open { IsOpenAt moment.now.instant.now.time (R.told to.old) }
     ensures reacted { OnOk result (HaveReacted A.behaviour A.fits moment.now.tables.now
         (rank_of moment.now.instant.now) components.old.running.items moment.now.emitted.now
-        received.now (places_of received.now) components.new.running.items
+        received.now.items (places_of received.now.items) components.new.running.items
         (R.told to.old).entries (R.told to.new).entries) }
     ensures components { AreComponents A.fits moment.now.tables.now components.new.running.items }
     ensures agenda { agenda.new ≡ waits_of components.new.running.items }
@@ -79,7 +80,8 @@ pub(crate) fn commit<A: Atomic, R: Record>(
     ensures handed { R.handed to.new ≡ R.handed to.old }
 {
     let mut index = 0;
-    for arrival in received {
+    for order in 0..received.len() {
+        let arrival = received.at(order);
         index = next_index(moment.emitted, index, arrival.place);
         commit_one(moment, work, arrival, index, components, agenda, to, before)?;
     }

@@ -1,7 +1,6 @@
 //! The lists of an instant.
 
-use dv_bag::Bags;
-use dv_share::{Delivery, Placed};
+use dv_share::{Delivery, Received};
 use std::alloc::Global;
 
 /// Lists that an instant fills anew. Their memory serves again at the next one.
@@ -11,8 +10,8 @@ pub struct Scratch {
     pub due: Vec<u32>,
     /// What comes to components, and what leaves.
     pub carried: Vec<Delivery>,
-    /// The bags of the components that emitted or receive something.
-    pub received: Vec<Placed<Bags>>,
+    /// What comes to the components that emitted or receive something.
+    pub received: Received,
 }
 
 impl Scratch {
@@ -21,7 +20,7 @@ impl Scratch {
         Scratch {
             due: Vec::new(alloc),
             carried: Vec::new(alloc),
-            received: Vec::new(alloc),
+            received: Received::new(alloc),
         }
     }
 }

@@ -276,7 +276,6 @@ impl<A: Atomic, R: Record> LocalState<A, R> {
         let outside = outside_at(self.alloc, &self.share.inputs, self.share.ports, now)?;
         let held = deliveries_of(self.alloc, self.inbox.at(now))?;
         arrivals(
-            self.alloc,
             tables,
             emitted,
             &outside,

@@ -1,15 +1,12 @@
 -- The bags that deliveries make, one delivery after the other.
 use Rattle.std.proofs.Common.{◌≡◌, inl, inr, ℕ, zero, suc, ◌+◌, ◌<◌, ◌≤◌, Bool, true, false, ◌&&◌, cond, nat_eq, List, [], ◌∷◌}
-use Rattle.std.proofs.Common.{◌++◌, length, get_or, set, replicate, ℤ, IsTrue, refl, sym, ap, ◌∙◌, arith}
-use Rattle.std.specs.List.{filter}
+use Rattle.std.proofs.Common.{◌++◌, length, get_or, set, replicate, ℤ, refl, ap, ◌∙◌, arith}
 use Rattle.std.proofs.lemmas.Bool.{eq-eqb, eqb-true}
 use Rattle.dv_bag.specs.Bag.{Counts, union, with_copies}
 use Rattle.dv_bag.proofs.Monoid.{copies_capped}
-use Rattle.dv_devs.specs.Behaviour.{all_empty}
 use Rattle.dv_conservative.specs.Links.{Delivery, delivered, inbox, taken}
 use Rattle.dv_conservative.proofs.Delivered.{delivered-append, delivered_either}
-use Rattle.dv_share.specs.Rows.{NoneFor}
-use Rattle.dv_share.proofs.Places.{all_first, all_rest, differ, yes_or_no}
+use Rattle.dv_share.proofs.Places.{differ, yes_or_no}
 
 pub union_one : (v : ℤ) (n : ℕ) (b : Counts) → union b (with_copies v n []) ≡ with_copies v n b
 union_one v zero b = refl
@@ -79,34 +76,9 @@ inbox_step k ds d a (suc n) (suc i) here at =
     (delivered_more k a ds d ∙ taken_elsewhere k a d (delivered k a ds []) (λ e. absurd (omega (arith, at, e))))
     ∙ ap (λ (bs : List Counts). delivered k a ds [] ∷ bs) (inbox_step k ds d (a + 1) n i here (omega (arith, at)))
 
--- only those for a component matter to it
-pub delivered_filter : (k port : ℕ) (ds : List Delivery) (bag : Counts)
-    → delivered k port (filter (λ (d : Delivery). nat_eq d.component k) ds) bag ≡ delivered k port ds bag
-delivered_filter k port [] bag = refl
-delivered_filter k port (d ∷ ds) bag =
-    let rest : List Delivery = filter (λ (d : Delivery). nat_eq d.component k) ds in
-    elim (yes_or_no (nat_eq d.component k)) [
-      | inl e ↦ ap (λ (t : Bool). delivered k port (cond t (d ∷ rest) rest) bag) e ∙ ap (taken k port d) (delivered_filter k port ds bag)
-      | inr e ↦ ap (λ (t : Bool). delivered k port (cond t (d ∷ rest) rest) bag) e ∙ delivered_filter k port ds bag
-          ∙ sym (passed k port d (delivered k port ds bag) e)
-    ]
-  where
-    passed : (k port : ℕ) (d : Delivery) (b : Counts) → nat_eq d.component k ≡ false → taken k port d b ≡ b
-    passed k port d b e = rw e refl
-
 pub inbox_same : (k : ℕ) (ds es : List Delivery) (a n : ℕ) → ((port : ℕ) → delivered k port ds [] ≡ delivered k port es [])
     → inbox k ds a n ≡ inbox k es a n
 inbox_same k ds es a zero h = refl
 inbox_same k ds es a (suc n) h =
     ap (λ (b : Counts). b ∷ inbox k ds (a + 1) n) (h a) ∙ ap (λ (bs : List Counts). delivered k a es [] ∷ bs)
     (inbox_same k ds es (a + 1) n h)
-
-delivered_none : (k port : ℕ) (ds : List Delivery) → NoneFor k ds → delivered k port ds [] ≡ []
-delivered_none k port [] h = refl
-delivered_none k port (d ∷ ds) h =
-    let e : nat_eq d.component k ≡ false = all_first (λ (d : Delivery). nat_eq d.component k ≡ false) d ds h in
-    rw e (delivered_none k port ds (all_rest (λ (d : Delivery). nat_eq d.component k ≡ false) d ds h))
-
-pub inbox_empty : (k : ℕ) (ds : List Delivery) (a n : ℕ) → NoneFor k ds → IsTrue (all_empty (inbox k ds a n))
-inbox_empty k ds a zero h = refl
-inbox_empty k ds a (suc n) h = rw (delivered_none k a ds h) (inbox_empty k ds (a + 1) n h)

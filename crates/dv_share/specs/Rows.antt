@@ -1,8 +1,7 @@
 -- What stands between the lists of the code and those of the theory.
 use Rattle.std.specs.Prelude.{ℕ, ◌+◌, ◌≤◌, ◌<◌, Bool, false, ◌&&◌, nat_eq, if◌then◌else◌, length, slice_index_or, ◌≡◌, List, []}
-use Rattle.std.specs.Prelude.{◌∷◌, ◌++◌, filter, slice_get, Option, Some, None, Result, pos}
-use Rattle.std.specs.List.{All, AllWithin}
-use Rattle.std.specs.List.Sorted.{IsNonDecreasingBy}
+use Rattle.std.specs.Prelude.{◌∷◌, ◌++◌, filter, slice_get, Option, Some, None, Result}
+use Rattle.std.specs.List.{AllWithin}
 use Rattle.std.specs.Ordering.{int_eq, is_lt}
 use Rattle.dv_bag.specs.Bag.{Counts, capped}
 use Rattle.dv_bag.specs.declared.fault.Fault.{Fault}
@@ -10,7 +9,6 @@ use Rattle.dv_react.specs.Outcomes.{sent_of}
 use Rattle.dv_conservative.specs.Events.{delivery_cmp}
 use Rattle.dv_conservative.specs.Links.{Link, Delivery, carried, carried_by}
 use Rattle.dv_share.specs.Links.{delivery_of, leads_from}
-use Rattle.dv_share.specs.Places.{is_in, places_of}
 use Rattle.dv_share.specs.declared.link.Delivery.{Delivery as DeliveryOfCode}
 use Rattle.dv_share.specs.declared.link.Link.{Link as LinkOfCode}
 use Rattle.dv_share.specs.declared.place.Placed.{Placed}
@@ -31,26 +29,6 @@ abbrev pub rows : List Member → List Link → List (Placed (Result (List Count
 rows ms links [] = []
 rows ms links (e ∷ es) =
     carried (filter (leads_from (number_of (slice_get ms e.place))) links) (λ k. sent_of e.what) ++ rows ms links es
-
--- a delivery without copies, for a component
-abbrev pub mark : ℕ → Delivery
-mark k = record { component = k; port = 0; value = pos 0; copies = 0 }
-
-abbrev pub marks : List Member → List (Placed (Result (List Counts) Fault)) → List Delivery
-marks ms [] = []
-marks ms (e ∷ es) = mark (number_of (slice_get ms e.place)) ∷ marks ms es
-
--- deliveries stand in the order of their components
-abbrev pub RiseByComponent : List DeliveryOfCode → Type 0
-RiseByComponent ds = IsNonDecreasingBy (λ (d : DeliveryOfCode). d.component) ds
-
--- none of the deliveries is for a component
-abbrev pub NoneFor : ℕ → List Delivery → Type 0
-NoneFor k ds = All (λ (d : Delivery). nat_eq d.component k ≡ false) ds
-
--- where nothing stands, nothing is delivered
-abbrev pub AllStand : List Member → List Delivery → List (Placed (List Counts)) → Type 0
-AllStand ms ds xs = (p : ℕ) (m : Member) → slice_get ms p ≡ Some m → is_in p (places_of xs) ≡ false → NoneFor m.number ds
 
 -- no delivery comes before the one in front of it
 abbrev pub AreSorted : List DeliveryOfCode → Type 0

@@ -5,7 +5,7 @@ ghost use Rattle.dv_conservative.specs.Links.{carried, carried_by};
 ghost use Rattle.dv_conservative.specs.Events.{in_order};
 ghost use Rattle.dv_share.specs.Links.{RiseByPort, deliveries_of, delivery_of, link_of, links_of, pairs_of};
 ghost use Rattle.dv_share.specs.Places.{AreRising};
-ghost use Rattle.dv_share.specs.Rows.{AreSorted, carried_each, joined_before, marks, rows};
+ghost use Rattle.dv_share.specs.Rows.{AreSorted, carried_each, joined_before, rows};
 ghost use Rattle.dv_share.specs.Share.{StandByPlace, numbers_of, sent_in};
 
 use crate::link::{Delivery, Link};
@@ -146,32 +146,6 @@ fn carry_bag(deliveries: &mut Vec<Delivery>, link: &Link, bag: &Bag) -> Result<(
 {
     for pair in bag.pairs() {
         deliveries.push(link.delivery(pair.0, pair.1))?;
-    }
-    Ok(())
-}
-
-/// A delivery without copies for each component that emitted, behind what is there.
-///
-/// # Errors
-///
-/// No memory for them.
-pub fn mark(
-    deliveries: &mut Vec<Delivery>,
-    members: &[Member],
-    emitted: &[Placed<Result<Sent, Fault>>],
-) -> Result<(), AllocError>
-    requires { StandByPlace (length members.now) emitted.now }
-    ensures { IfOk result (λ _. deliveries_of deliveries.new.items
-        ≡ deliveries_of deliveries.old.items ++ marks members.now emitted.now) }
-{
-    for emission in emitted {
-        let component = members[emission.place as usize].number;
-        deliveries.push(Delivery {
-            component,
-            port: 0,
-            value: 0,
-            copies: 0,
-        })?;
     }
     Ok(())
 }

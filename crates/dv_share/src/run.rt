@@ -4,7 +4,7 @@ ghost use Rattle.std.specs.Prelude.{◌≡◌, ℕ, ◌<◌, ◌≤◌, filter, 
 ghost use Rattle.std.specs.List.{AllWithin};
 ghost use Rattle.std.specs.List.Sorted.{IsNonDecreasingBy};
 
-use crate::link::{Delivery, Link};
+use crate::link::Link;
 use dv_bag::sent::Sending;
 
 /// By the number of a component.
@@ -21,15 +21,6 @@ pub trait Numbered<By> {
     /// The number.
     fn number(&self) -> usize
         ensures { result ≡ number self.now };
-}
-
-/// A delivery is of the component that it is for.
-impl Numbered<ByComponent> for Delivery {
-    ghost number = { λ d. d.component };
-
-    fn number(&self) -> usize {
-        self.component as usize
-    }
 }
 
 /// A link is of the component that it leads from.

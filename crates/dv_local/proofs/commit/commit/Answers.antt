@@ -1,6 +1,7 @@
-use Rattle.std.proofs.Common.{◌∙◌, ◌+◌, ◌<◌, List, Result, length, refl, sym, ap, subst, arith}
+use Rattle.std.proofs.Common.{◌≡◌, ◌∙◌, ◌+◌, ◌<◌, ℕ, List, Some, Result, length, slice_get, slice_index_or, refl, sym, ap, subst, arith}
 use Rattle.std.specs.List.{AllWithin}
 use Rattle.std.proofs.lemmas.List.{get_or_default}
+use Rattle.std.proofs.lemmas.Option.{get_or_from_slice_get}
 use Rattle.dv_bag.specs.Bag.{Counts}
 use Rattle.dv_bag.specs.declared.fault.Fault.{Fault}
 use Rattle.dv_react.specs.Components.{rank_of}
@@ -10,11 +11,15 @@ use Rattle.dv_local.specs.Commits.{HasReacted, IsGivenAt}
 use Rattle.dv_local.proofs.Commits.{given_now, none_reacted, one_more}
 use Rattle.dv_local.proofs.commit.commit.Goals as goal
 
-pub loop-arrival-init : goal.loop-arrival-init
-loop-arrival-init g c = record {
+-- what stands at an index
+arrival_is : (xs : List (Placed (List Counts))) (i : ℕ) (x : Placed (List Counts)) → slice_get xs i ≡ Some x → x ≡ slice_index_or xs i x
+arrival_is xs i x at = sym (get_or_from_slice_get xs i x x at)
+
+pub loop-order-init : goal.loop-order-init
+loop-order-init g c = record {
   reacted =
       none_reacted g.A.Atomic.behaviour g.A.Atomic.fits c.args.moment.now.tables.now (rank_of c.args.moment.now.instant.now)
-      c.args.components.now.running.items c.args.moment.now.emitted.now c.args.received.now (g.R.Record.told c.args.to.now).entries;
+      c.args.components.now.running.items c.args.moment.now.emitted.now c.args.received.now.items (g.R.Record.told c.args.to.now).entries;
   components = c.requires.components;
   agenda = c.requires.agenda;
   within = c.requires.within;
@@ -32,15 +37,15 @@ loop-arrival-init g c = record {
 pub next_index-index-requires : goal.next_index-index-requires
 next_index-index-requires g c =
     let es = c.args.moment.now.emitted.now in
-    let x = c.arrival-item.result in
-    let inv = c.loop-arrival.invariant in
-    let early : c.loop-arrival.arrival-index < length c.args.received.now = omega arith in
+    let x = c.at-arrival.result.now in
+    let inv = c.loop-order.invariant in
+    let early : c.loop-order.order < length c.args.received.now.items = omega arith in
     record {
       within = inv.index;
       before =
           subst (λ (y : Placed (List Counts)). AllWithin (λ (e : Placed (Result (List Counts) Fault)). e.place < y.place) es 0
-          c.loop-arrival.index)
-          (sym c.arrival-item.is) (inv.passed x early);
+          c.loop-order.index)
+          (sym (arrival_is c.args.received.now.items c.loop-order.order c.at-arrival.result.now c.at-arrival.ensures)) (inv.passed x early);
     }
 
 pub commit_one-requires : goal.commit_one-requires
@@ -50,53 +55,53 @@ commit_one-requires g c =
     let now = rank_of c.args.moment.now.instant.now in
     let rs = c.args.components.now.running.items in
     let es = c.args.moment.now.emitted.now in
-    let xs = c.args.received.now in
-    let i = c.loop-arrival.arrival-index in
-    let x = c.arrival-item.result in
+    let xs = c.args.received.now.items in
+    let i = c.loop-order.order in
+    let x = c.at-arrival.result.now in
     let early : i < length xs = omega arith in
-    let inv = c.loop-arrival.invariant in
+    let inv = c.loop-order.invariant in
     record {
       tables = c.requires.tables;
       limit = c.requires.limit;
       components = inv.components;
       comes = c.requires.comes;
-      place = subst (λ (y : Placed (List Counts)). y.place < length t.members.items) (sym c.arrival-item.is)
+      place = subst (λ (y : Placed (List Counts)). y.place < length t.members.items) (sym (arrival_is c.args.received.now.items c.loop-order.order c.at-arrival.result.now c.at-arrival.ensures))
           (c.requires.received.within i x early);
       rise = c.requires.emitted.places.rise;
       next = c.next_index-index.ensures;
       given =
-          subst (λ (y : Placed (List Counts)). IsGivenAt b t now es c.loop-arrival.components.running.items y.place) (sym c.arrival-item.is)
-          (given_now b g.A.Atomic.fits t now rs es xs i x c.loop-arrival.components.running.items (g.R.Record.told c.args.to.now).entries
-          (g.R.Record.told c.loop-arrival.to).entries c.requires.received c.requires.components.count early inv.reacted c.requires.emitted);
+          subst (λ (y : Placed (List Counts)). IsGivenAt b t now es c.loop-order.components.running.items y.place) (sym (arrival_is c.args.received.now.items c.loop-order.order c.at-arrival.result.now c.at-arrival.ensures))
+          (given_now b g.A.Atomic.fits t now rs es xs i x c.loop-order.components.running.items (g.R.Record.told c.args.to.now).entries
+          (g.R.Record.told c.loop-order.to).entries c.requires.received c.requires.components.count early inv.reacted c.requires.emitted);
       agenda = inv.agenda;
       within = inv.within;
       nothing = c.requires.nothing;
       is_open = inv.is_open;
     }
 
-pub loop-arrival-preserved : goal.loop-arrival-preserved
-loop-arrival-preserved g c =
+pub loop-order-preserved : goal.loop-order-preserved
+loop-order-preserved g c =
     let b = g.A.Atomic.behaviour in
     let fits = g.A.Atomic.fits in
     let t = c.args.moment.now.tables.now in
     let now = rank_of c.args.moment.now.instant.now in
     let rs = c.args.components.now.running.items in
     let es = c.args.moment.now.emitted.now in
-    let xs = c.args.received.now in
-    let i = c.loop-arrival.arrival-index in
-    let x = c.arrival-item.result in
+    let xs = c.args.received.now.items in
+    let i = c.loop-order.order in
+    let x = c.at-arrival.result.now in
     let early : i < length xs = omega arith in
-    let inv = c.loop-arrival.invariant in
+    let inv = c.loop-order.invariant in
     let one = c.in_ok-commit_one.ensures in
-    let ss = c.loop-arrival.components.running.items in
+    let ss = c.loop-order.components.running.items in
     let us = c.commit_one.new.components.running.items in
     let old = (g.R.Record.told c.args.to.now).entries in
-    let mid = (g.R.Record.told c.loop-arrival.to).entries in
+    let mid = (g.R.Record.told c.loop-order.to).entries in
     let new = (g.R.Record.told c.commit_one.new.to).entries in
     record {
       reacted =
           one_more b fits t now rs es xs i x ss old mid c.requires.received c.requires.components.count early inv.reacted us new
-          (subst (λ (y : Placed (List Counts)). HasReacted b fits t now es y ss us mid new) c.arrival-item.is one.reacted);
+          (subst (λ (y : Placed (List Counts)). HasReacted b fits t now es y ss us mid new) (arrival_is c.args.received.now.items c.loop-order.order c.at-arrival.result.now c.at-arrival.ensures) one.reacted);
       components = one.components;
       agenda = one.agenda;
       within = one.within;
@@ -111,7 +116,7 @@ loop-arrival-preserved g c =
       passed = λ d lt k e le less.
           let before = c.next_index-index.ensures.before k e le less in
           let place = λ (y : Placed (List Counts)). y.place in
-          let here = ap place (c.arrival-item.is ∙ get_or_default xs i x d early) in
+          let here = ap place ((arrival_is c.args.received.now.items c.loop-order.order c.at-arrival.result.now c.at-arrival.ensures) ∙ get_or_default xs i x d early) in
           let next = rise_at place 0 xs i (i + 1) d c.requires.received.rise (omega arith) lt in
           omega (arith, before, here, next);
     }

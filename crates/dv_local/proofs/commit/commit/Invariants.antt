@@ -12,11 +12,11 @@ use Rattle.dv_local.specs.Undoing.{AreWithin, undone, waits_of}
 use Rattle.dv_local.proofs.commit.commit.Given as goal
 
 -- So far the components of the first arrivals have reacted, and all emissions before the index stand before the next arrival.
-abbrev pub invariant-loop-arrival : goal.invariant-loop-arrival
-invariant-loop-arrival g l = record {
+abbrev pub invariant-loop-order : goal.invariant-loop-order
+invariant-loop-order g l = record {
   reacted :
       HaveReacted g.A.Atomic.behaviour g.A.Atomic.fits l.moment.tables.now (rank_of l.moment.instant.now) l.fn.components.running.items
-      l.moment.emitted.now l.received (places_of (take l.arrival-index l.received)) l.components.running.items
+      l.moment.emitted.now l.received.items (places_of (take l.order l.received.items)) l.components.running.items
       (g.R.Record.told l.fn.to).entries (g.R.Record.told l.to).entries;
   components : AreComponents g.A.Atomic.fits l.moment.tables.now l.components.running.items;
   agenda : l.agenda ≡ waits_of l.components.running.items;
@@ -32,7 +32,7 @@ invariant-loop-arrival g l = record {
   handed : g.R.Record.handed l.to ≡ g.R.Record.handed l.fn.to;
   index : l.index ≤ length l.moment.emitted.now;
   passed :
-      (d : Placed (List Counts)) → l.arrival-index < length l.received
-      → AllWithin (λ (e : Placed (Result (List Counts) Fault)). e.place < (slice_index_or l.received l.arrival-index d).place)
+      (d : Placed (List Counts)) → l.order < length l.received.items
+      → AllWithin (λ (e : Placed (Result (List Counts) Fault)). e.place < (slice_index_or l.received.items l.order d).place)
       l.moment.emitted.now 0 l.index;
 }

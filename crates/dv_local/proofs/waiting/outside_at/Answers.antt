@@ -1,10 +1,9 @@
-use Rattle.std.proofs.Common.{◌≡◌, ℕ, IsPermutation, List, drop, filter, map, ap, refl, sym, subst, take_while, ◌∙◌}
+use Rattle.std.proofs.Common.{◌≡◌, ℕ, IsPermutation, List, drop, map, ap, refl, sym, subst, take_while, ◌∙◌}
 use Rattle.std.proofs.lemmas.List.{take_rest}
 use Rattle.std.proofs.lemmas.Result.{IfOk-weaker}
 use Rattle.std.proofs.lemmas.Simd.{map-map}
 use Rattle.dv_time.specs.Time.{IsOfRun, rank}
 use Rattle.dv_time.proofs.Ranks.{time_of-rank}
-use Rattle.dv_bag.specs.Bag.{Counts}
 use Rattle.dv_bag.specs.Inputs.{IsByTime, bags_at, inputs_at, is_at}
 use Rattle.dv_bag.specs.declared.inputs.Input.{Input}
 use Rattle.dv_bag.proofs.InputLists.{arriving}

@@ -5,14 +5,14 @@ use Rattle.dv_conservative.specs.Links.{Delivery as Meant, inbox}
 use Rattle.dv_share.specs.Links.{deliveries_of, delivery_of}
 use Rattle.dv_share.specs.declared.link.Delivery.{Delivery}
 use Rattle.dv_share.proofs.Inboxes.{inbox_missed, inbox_length, inbox_nothing, inbox_step}
-use Rattle.dv_share.proofs.arrival.bags_of.Goals.{then-is_for+in_ok-deliver, else-is_for}
+use Rattle.dv_share.proofs.arrival.bags_of.Goals.{then-is_for+in_ok-put, else-is_for}
 use Rattle.dv_share.proofs.arrival.bags_of.Goals as goal
 
 pub loop-delivery-init : goal.loop-delivery-init
 loop-delivery-init c = c.empty-bags.ensures ∙ sym (inbox_nothing c.args.component 0 c.args.ports)
 
-pub deliver-requires : goal.deliver-requires
-deliver-requires c =
+pub put-requires : goal.put-requires
+put-requires c =
     omega (
       arith,
       ap length c.loop-delivery.invariant,
@@ -39,9 +39,9 @@ loop-delivery-preserved c =
     ap deliveries_of (take_more ds i none early) ∙ map-append delivery_of (take i ds) (d ∷ []) in
     let next = ap (λ (es : List Meant). inbox k es 0 c.args.ports) more in
     elim c.if-is_for.branch [
-      | then-is_for+in_ok-deliver w ↦
+      | then-is_for+in_ok-put w ↦
           w.bags-is
-          ∙ w.in_ok-deliver.ensures
+          ∙ w.in_ok-put.ensures
           ∙ ap (λ (bags : List Counts). set bags d.port (with_copies d.value d.copies (get_or bags d.port []))) c.loop-delivery.invariant
           ∙ sym (inbox_step k before (delivery_of d) 0 c.args.ports d.port (c.is_for.ensures.0 w.if-is_for.true).0 (omega arith))
           ∙ sym next

@@ -72,10 +72,8 @@ returns-clause-reacted g c =
     let reacted : HaveReacted b fits t n rs gs xs (places_of xs) put old told_now.entries =
     subst (λ (new : List Entry). HaveReacted b fits t n rs gs xs (places_of xs) put old new)
     (sym (ap (λ (p : PartOf). p.entries) left))
-    (subst (λ (ys : List (Placed (List Counts))). HaveReacted b fits t n rs gs ys (places_of ys) put old (told c.commit.new.to).entries)
-    c.deref-2.ensures.value
-    (subst (λ (fs : List (Placed (Result (List Counts) Fault))). HaveReacted b fits t n rs fs c.deref-2.result.now
-    (places_of c.deref-2.result.now) put old (told c.commit.new.to).entries) same-es c.in_ok-commit.ensures.reacted)) in
+    (subst (λ (fs : List (Placed (Result (List Counts) Fault))). HaveReacted b fits t n rs fs xs (places_of xs) put old
+    (told c.commit.new.to).entries) same-es c.in_ok-commit.ensures.reacted) in
     let outer : told_now.outer ≡ (told x.record).outer ++ lines gs =
     ap (λ (p : PartOf). p.outer) left
     ∙ ap (λ (os : List Outer). os ++ lines es) c.in_ok-commit.ensures.outer

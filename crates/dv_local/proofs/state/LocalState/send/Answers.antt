@@ -2,16 +2,15 @@ use Rattle.std.proofs.Common.{◌≡◌, ◌<◌, ℕ, List, ◌++◌, length, m
 use Rattle.std.specs.List.{slice_get}
 use Rattle.std.proofs.lemmas.Option.{slice_get-get_or}
 use Rattle.dv_conservative.specs.Events.{event_of, in_order}
-use Rattle.dv_conservative.specs.Links.{Delivery as Meant, Link, carried, sent_of as sent_from}
+use Rattle.dv_conservative.specs.Links.{Delivery as Meant, carried, sent_of as sent_from}
 use Rattle.dv_conservative.specs.Process.{Outgoing}
 use Rattle.dv_proc.specs.Local.{carried_away}
 use Rattle.dv_proc.specs.Packets.{meant_events}
 use Rattle.dv_share.specs.Links.{deliveries_of}
-use Rattle.dv_share.specs.Share.{numbers_of, sent_in, sents_by}
+use Rattle.dv_share.specs.Share.{sent_in, sents_by}
 use Rattle.dv_share.specs.declared.link.Delivery.{Delivery}
 use Rattle.dv_share.specs.declared.place.Placed.{Placed}
 use Rattle.dv_share.specs.declared.tables.Member.{Member}
-use Rattle.dv_local.specs.Shares.{outgoing_of}
 use Rattle.dv_local.specs.States.{sent_of, view_by}
 use Rattle.dv_local.specs.declared.share.Way.{Way}
 use Rattle.dv_local.proofs.Sending.{same_numbers, way_at}

@@ -1,0 +1,14 @@
+use Rattle.std.proofs.Common.{◌≡◌, List, take}
+use Rattle.dv_conservative.specs.Links.{Delivery as Meant}
+use Rattle.dv_share.specs.Places.{places_of}
+use Rattle.dv_share.specs.Received.{AreGathered}
+use Rattle.dv_share.specs.Share.{AreAmong}
+use Rattle.dv_share.proofs.received.Received.meet_all.Given as goal
+
+-- the first emissions have their places
+abbrev pub invariant-loop-emission : goal.invariant-loop-emission
+invariant-loop-emission l = record {
+  room : l.self.room ≡ l.fn.self.room;
+  gathered : (ds : List Meant) → AreGathered l.members ds l.fn.self.items → AreGathered l.members ds l.self.items;
+  among : AreAmong (places_of (take l.emission-index l.emitted)) (places_of l.self.items);
+}

@@ -1,0 +1,280 @@
+//! What comes to the components of a share at an instant, by place.
+
+ghost use Rattle.std.specs.Prelude.{◌≡◌, ◌++◌, ◌∷◌, ◌<◌, ◌≤◌, List, [], IsPermutation, IsTrue, OnOk, Some};
+ghost use Rattle.std.specs.Prelude.{length, map, replicate, slice_get};
+ghost use Rattle.std.specs.List.{All};
+ghost use Rattle.dv_conservative.specs.Links.{Delivery as Meant};
+ghost use Rattle.dv_share.specs.Links.{deliveries_of, delivery_of};
+ghost use Rattle.dv_share.specs.Places.{AreRising, is_in, places_of};
+ghost use Rattle.dv_share.specs.Received.{AreGathered, with_delivery_at, with_place};
+ghost use Rattle.dv_share.specs.Share.{AreAmong, AreReceived, StandByPlace, numbers_of};
+
+use crate::link::Delivery;
+use crate::place::Placed;
+use crate::tables::{Member, place_of};
+use crate::tally::Tally;
+use dv_bag::{Bags, Fault, Sent};
+use std::alloc::{AllocError, Global};
+use std::marker::Model;
+
+/// What comes to the component at a place, and whether something comes to it or it emitted something.
+#[derive(Drop)]
+pub(crate) struct Receipt {
+    pub placed: Placed<Bags>,
+    pub is_met: bool,
+}
+
+/// What comes to components at an instant: the bags of those to which something comes and of those that emitted something, in
+/// the order of their places. The memory serves again at the next instant.
+#[derive(Drop)]
+pub struct Received {
+    // By place.
+    receipts: Vec<Receipt>,
+    // Those of the receipts that are met.
+    places: Vec<u32>,
+    tally: Tally,
+    alloc: Global,
+}
+
+impl Model for Received {
+    ghost use Rattle.std.specs.Prelude.{length};
+    ghost use Rattle.dv_share.specs.Received.{AreMet, ReceivedOf, placed_at};
+
+    ghost Value = { ReceivedOf };
+
+    ghost view = { λ r. record {
+      room = length r.receipts.items;
+      items = placed_at r.receipts.items r.places.items;
+    } };
+
+    ghost invariant = { λ r. AreMet r.receipts.items r.places.items };
+}
+
+impl Received {
+    /// Nothing comes. It takes no memory yet.
+    pub fn new(alloc: Global) -> Self
+        ensures { result.items ≡ [] }
+    {
+        Received {
+            receipts: Vec::new(alloc),
+            places: Vec::new(alloc),
+            tally: Tally::new(alloc),
+            alloc,
+        }
+    }
+
+    /// How many components there are to which something comes or which emitted something.
+    #[inline]
+    pub fn len(&self) -> usize
+        ensures { result ≡ length self.now.items }
+    {
+        self.places.len()
+    }
+
+    /// What comes to one of them.
+    #[inline]
+    pub fn at(&self, index: usize) -> &Placed<Bags>
+        requires { index < length self.now.items }
+        ensures { slice_get self.now.items index ≡ Some result.now }
+    {
+        &self.receipts[self.places[index] as usize].placed
+    }
+
+    /// Puts deliveries in order where many come to one component: each value then goes to the end of its bag. Few values
+    /// cost less where they go into its middle.
+    ///
+    /// # Errors
+    ///
+    /// No memory to count them.
+    pub(crate) fn put_many_in_order(
+        &mut self,
+        deliveries: &mut Vec<Delivery>,
+    ) -> Result<(), AllocError>
+        ensures { IsPermutation deliveries.old.items deliveries.new.items }
+    {
+        if !self.tally.are_few(deliveries)? {
+            deliveries.sort_unstable();
+        }
+        Ok(())
+    }
+
+    /// Puts what comes by deliveries in the place of what is there, with a place for each component that emitted something.
+    ///
+    /// # Errors
+    ///
+    /// No memory for it.
+    pub(crate) fn gather(
+        &mut self,
+        members: &[Member],
+        emitted: &[Placed<Result<Sent, Fault>>],
+        deliveries: &[Delivery],
+    ) -> Result<(), AllocError>
+        requires numbers { AreRising (numbers_of members.now) }
+        requires emitted { StandByPlace (length members.now) emitted.now }
+        ensures received { OnOk result
+            (AreReceived members.now (deliveries_of deliveries.now) self.new.items) }
+        ensures among { OnOk result (AreAmong (places_of emitted.now) (places_of self.new.items)) }
+    {
+        self.clear();
+        self.make_room(members)?;
+        self.meet_all(members, emitted)?;
+        self.deliver_all(members, deliveries)?;
+        self.put_in_order();
+        Ok(())
+    }
+
+    // Nothing comes any more. What came stays in memory until something else comes to its place.
+    fn clear(&mut self)
+        ensures { self.new.items ≡ [] }
+    {
+        while let Some(place) = self.places.pop() {
+            self.receipts[place as usize].is_met = false;
+        }
+    }
+
+    // Makes room for what comes to each component of a share.
+    fn make_room(&mut self, members: &[Member]) -> Result<(), AllocError>
+        requires numbers { AreRising (numbers_of members.now) }
+        ensures room { OnOk result (length members.now ≤ self.new.room) }
+        ensures items { self.new.items ≡ self.old.items }
+    {
+        while self.receipts.len() < members.len() {
+            let place = place_as_number(members, self.receipts.len());
+            let what = Bags::empty(self.alloc, 0);
+            self.receipts.push(Receipt {
+                placed: Placed { place, what },
+                is_met: false,
+            })?;
+        }
+        Ok(())
+    }
+
+    // A place for each component that emitted something.
+    fn meet_all(
+        &mut self,
+        members: &[Member],
+        emitted: &[Placed<Result<Sent, Fault>>],
+    ) -> Result<(), AllocError>
+        requires emitted { StandByPlace (length members.now) emitted.now }
+        requires room { length members.now ≤ self.old.room }
+        ensures room { self.new.room ≡ self.old.room }
+        ensures gathered { OnOk result ((ds : List Meant)
+            → AreGathered members.now ds self.old.items
+            → AreGathered members.now ds self.new.items) }
+        ensures among { OnOk result (AreAmong (places_of emitted.now) (places_of self.new.items)) }
+    {
+        for emission in emitted {
+            let inputs = members[emission.place as usize].inputs;
+            self.meet(emission.place, inputs)?;
+        }
+        Ok(())
+    }
+
+    // A place for a component with so many input ports, if it has none yet.
+    #[inline]
+    fn meet(&mut self, place: u32, inputs: u32) -> Result<(), AllocError>
+        requires { place < self.old.room }
+        ensures room { self.new.room ≡ self.old.room }
+        ensures met { OnOk result (self.new.items ≡ with_place place inputs self.old.items) }
+    {
+        if self.receipts[place as usize].is_met {
+            return Ok(());
+        }
+        self.places.push(place)?;
+        let receipt = &mut self.receipts[place as usize];
+        receipt.is_met = true;
+        put_none(self.alloc, inputs as usize, &mut receipt.placed.what);
+        Ok(())
+    }
+
+    // What comes by deliveries, one after the other.
+    fn deliver_all(&mut self, members: &[Member], deliveries: &[Delivery]) -> Result<(), AllocError>
+        requires numbers { AreRising (numbers_of members.now) }
+        requires room { length members.now ≤ self.old.room }
+        requires gathered { (ds : List Meant) × AreGathered members.now ds self.old.items }
+        ensures gathered { OnOk result ((ds : List Meant)
+            → AreGathered members.now ds self.old.items
+            → AreGathered members.now (ds ++ deliveries_of deliveries.now) self.new.items) }
+        ensures among { OnOk result (AreAmong (places_of self.old.items)
+            (places_of self.new.items)) }
+    {
+        for delivery in deliveries {
+            self.deliver(members, delivery)?;
+        }
+        Ok(())
+    }
+
+    // What comes by one delivery. One for no port of these components brings nothing.
+    fn deliver(&mut self, members: &[Member], delivery: &Delivery) -> Result<(), AllocError>
+        requires numbers { AreRising (numbers_of members.now) }
+        requires room { length members.now ≤ self.old.room }
+        requires gathered { (ds : List Meant) × AreGathered members.now ds self.old.items }
+        ensures room { self.new.room ≡ self.old.room }
+        ensures gathered { OnOk result ((ds : List Meant)
+            → AreGathered members.now ds self.old.items
+            → AreGathered members.now (ds ++ delivery_of delivery.now ∷ []) self.new.items) }
+        ensures among { OnOk result (AreAmong (places_of self.old.items)
+            (places_of self.new.items)) }
+    {
+        let Some(place) = place_of(members, delivery.component) else {
+            return Ok(());
+        };
+        let inputs = members[place].inputs;
+        if delivery.port >= inputs {
+            return Ok(());
+        }
+        let place = place_as_number(members, place);
+        self.meet(place, inputs)?;
+        self.put(place, delivery)
+    }
+
+    // A delivery into the bags of a place that is met.
+    #[inline]
+    fn put(&mut self, place: u32, delivery: &Delivery) -> Result<(), AllocError>
+        requires met { IsTrue (is_in place (places_of self.old.items)) }
+        requires ports { All (λ x. x.place ≡ place → delivery.now.port < length x.what)
+            self.old.items }
+        ensures room { self.new.room ≡ self.old.room }
+        ensures put { OnOk result (self.new.items
+            ≡ map (with_delivery_at place (delivery_of delivery.now)) self.old.items) }
+    {
+        delivery.put(&mut self.receipts[place as usize].placed.what)
+    }
+
+    // The places in their order.
+    fn put_in_order(&mut self)
+        ensures rise { AreRising (places_of self.new.items) }
+        ensures same { IsPermutation self.old.items self.new.items }
+    {
+        self.places.sort_unstable();
+    }
+}
+
+// A place as a number, which no place is too great for: no component's number is less than its place.
+#[inline]
+fn place_as_number(members: &[Member], place: usize) -> u32
+    requires numbers { AreRising (numbers_of members.now) }
+    requires within { place < length members.now }
+    ensures { result ≡ place }
+{
+    let greatest = members[place].number;
+    u32::try_from(place).unwrap_or(greatest)
+}
+
+// Empty bags for so many ports, in the place of those that are there.
+#[inline]
+fn put_none(alloc: Global, ports: usize, bags: &mut Bags)
+    ensures { bags.new ≡ replicate ports [] }
+{
+    if !is_blank(bags, ports) {
+        *bags = Bags::empty(alloc, ports);
+    }
+}
+
+// Whether bags are empty, and for so many ports.
+#[inline]
+fn is_blank(bags: &Bags, ports: usize) -> bool
+    ensures { IsTrue result → bags.now ≡ replicate ports [] }
+{
+    bags.len() == ports && bags.is_empty()
+}
