@@ -27,8 +27,8 @@ use Rattle.dv_proc.specs.Channels.{meant_channel}
 use Rattle.dv_core.specs.Answers.{meant_reply, meant_step}
 use Rattle.dv_core.specs.Kept.{Kept, clock_of, world_of}
 use Rattle.dv_core.specs.ProcessState.{ProcessState}
-use Rattle.dv_core.specs.Worlds.{AreTheTrace, HaveAllParts, IsAnswered, IsCut, IsTrueToModel, IsWhole, end_time, kept_by}
-use Rattle.dv_core.specs.Worlds.{outer_of, shown, with_replies}
+use Rattle.dv_core.specs.Worlds.{AreTheTrace, HaveAllParts, IsAnswered, IsCut, IsRunWithProgress, IsTrueToModel, IsWhole, end_time}
+use Rattle.dv_core.specs.Worlds.{kept_by, outer_of, shown, with_replies}
 use Rattle.dv_core.specs.Standing.{Continues, Stands}
 use Rattle.dv_core.specs.declared.step.Step.{Step}
 use Rattle.dv_core.specs.declared.step.Reply.{Reply}
@@ -74,9 +74,14 @@ module _ {J P : Type 0} {means : J → Job} {state : P → ProcessState} (before
     cut_here none =
         was.cut v (inl (subst (λ (r : Reply). IsStep job (meant_step step) (meant_reply r) w v) none the_step))
 
-  pub run_more : (s : List Step) (t : List Reply) (u : World) → IsRun job (with_replies s t) v u →
-      IsRun job (with_replies (step ∷ s) (answer ∷ t)) w u
-  run_more s t u h = (v, the_step, h)
+  pub run_more : (s : List Step) (t : List Reply) (u : World) → IsRunWithProgress job (with_replies s t) v u →
+      IsRunWithProgress job (with_replies (step ∷ s) (answer ∷ t)) w u
+  run_more s t u h = (v, the_step, the_progress, h)
+
+-- where turns progress, it is a run all the same
+pub is_run : (job : Job) (ss : List (theory.Step × theory.Reply)) (w v : World) → IsRunWithProgress job ss w v → IsRun job ss w v
+is_run job [] w v h = h
+is_run job (s ∷ ss) w v h = (h.0, h.1, is_run job ss h.0 v h.3)
 
 pub continues_at_first : (job : Job) (all : List theory.Step) (w : World) → Continues job all all w w
 continues_at_first job all w = record { driven = λ v h. h; cut = λ v h. h }

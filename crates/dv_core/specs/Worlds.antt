@@ -74,6 +74,12 @@ EndsAs job limit ended.Whole w v = (k : ℕ) × (k ≤ limit) × AreRounds job k
 EndsAs job limit ended.Stalled w v = AreRounds job limit w v × (IsWhole job v → ⊥)
 EndsAs job limit ended.Memory w v = (k : ℕ) × (k < limit) × ((u : World) × AreRounds job k w u × IsCut job (round job) u v)
 
+-- a run whose turns, where they are done, make the progress that they must
+abbrev pub IsRunWithProgress : Job → List (theory.Step × theory.Reply) → World → World → Type 0
+IsRunWithProgress job [] w v = v ≡ w
+IsRunWithProgress job (s ∷ ss) w v =
+    (u : World) × IsStep job s.0 s.1 w u × Progressed job s.0 s.1 w u × IsRunWithProgress job ss u v
+
 -- steps with what they were answered
 abbrev pub with_replies : List Step → List Reply → List (theory.Step × theory.Reply)
 with_replies [] rs = []

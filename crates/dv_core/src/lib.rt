@@ -16,6 +16,9 @@ pub mod state;
 /// Logical processes, the links between them, and their steps.
 pub mod world;
 
+/// Runs whose turns make progress.
+pub mod runs;
+
 /// Processes whose records keep what they committed as parts of a trace.
 pub mod parts;
 

@@ -4,9 +4,10 @@ ghost use Rattle.std.specs.Prelude.{◌≡◌, ◌≢◌, ◌+◌, ◌^◌, ◌�
 ghost use Rattle.std.specs.Prelude.{replicate, slice_get, slice_set, Some, vec_len, true, false};
 ghost use Rattle.dv_time.specs.Time.{end_of};
 ghost use Rattle.dv_conservative.specs.Rounds.{IsDriven, moves_from, round};
-ghost use Rattle.dv_conservative.specs.World.{IsRun, new_world};
+ghost use Rattle.dv_conservative.specs.World.{new_world};
 ghost use Rattle.dv_proc.specs.Packets.{meant_packets};
-ghost use Rattle.dv_core.specs.Worlds.{AreMadeFor, AreTheTrace, EndsAs, IsCut, IsTrueToModel, IsWhole, kept_by, shown, with_replies};
+ghost use Rattle.dv_core.specs.Worlds.{AreMadeFor, AreTheTrace, EndsAs, IsCut, IsRunWithProgress, IsTrueToModel, IsWhole};
+ghost use Rattle.dv_core.specs.Worlds.{kept_by, shown, with_replies};
 ghost use Rattle.dv_core.specs.Standing.{Continues, IsStepped, Stands};
 ghost use Rattle.dv_core.specs.declared.step.Ended.TheVariants as ended;
 ghost use Rattle.dv_core.specs.declared.step.Step.TheVariants as step;
@@ -211,8 +212,8 @@ impl<J: PlannedJob, P: LogicalProcess> WorldState<J, P> {
         }
     }
 
-    /// Steps, one after the other, with their replies. In the world that they leave every packet is true, and each process
-    /// has committed its part of the model's trace before its clock.
+    /// Steps, one after the other, with their replies; each turn that is done makes progress. In the world that they leave
+    /// every packet is true, and each process has committed its part of the model's trace before its clock.
     ///
     /// # Errors
     ///
@@ -224,7 +225,7 @@ impl<J: PlannedJob, P: LogicalProcess> WorldState<J, P> {
         steps: &[Step],
     ) -> Result<Vec<Reply>, AllocError>
         requires { Stands J.means P.state P.valid self.old }
-        ensures run { IfOk result (λ replies. IsRun (J.means self.old.job)
+        ensures run { IfOk result (λ replies. IsRunWithProgress (J.means self.old.job)
             (with_replies steps.now replies.items)
             (shown J.means P.state self.old) (shown J.means P.state self.new)) }
         ensures each { IfOk result (λ replies. vec_len replies ≡ length steps.now) }

@@ -30,9 +30,9 @@ impl<J: PlannedJob, P: LogicalProcess> World<J, P> {
     ghost use Rattle.std.specs.Prelude.{◌≡◌, ◌≢◌, ◌+◌, ◌≤◌, ◌<◌, ℕ, ◌↔◌, IsTrue, IfOk, OnErr};
     ghost use Rattle.std.specs.Prelude.{map, length, slice_get, slice_set, Some, vec_len};
     ghost use Rattle.dv_time.specs.Time.{end_of};
-    ghost use Rattle.dv_conservative.specs.World.{IsRun, new_world};
+    ghost use Rattle.dv_conservative.specs.World.{new_world};
     ghost use Rattle.dv_core.specs.Worlds.{AreMadeFor, AreTheTrace, EndsAs, IsAnswered, IsTrueToModel, IsWhole, kept_by, shown};
-    ghost use Rattle.dv_core.specs.Worlds.{with_replies};
+    ghost use Rattle.dv_core.specs.Worlds.{IsRunWithProgress, with_replies};
     ghost use Rattle.dv_core.specs.declared.step.Ended.TheVariants as ended;
 
     /// A new world: no packet is on its way, and nobody is stopped. The links are in the order of their numbers, and so many
@@ -64,8 +64,8 @@ impl<J: PlannedJob, P: LogicalProcess> World<J, P> {
         self.state.step(work, step)
     }
 
-    /// Steps, one after the other, with their replies. In the world that they leave every packet is true, and each process
-    /// has committed its part of the model's trace before its clock.
+    /// Steps, one after the other, with their replies; each turn that is done makes progress. In the world that they leave
+    /// every packet is true, and each process has committed its part of the model's trace before its clock.
     ///
     /// # Errors
     ///
@@ -76,7 +76,7 @@ impl<J: PlannedJob, P: LogicalProcess> World<J, P> {
         work: &mut P::Work,
         steps: &[Step],
     ) -> Result<Vec<Reply>, AllocError>
-        ensures run { IfOk result (λ replies. IsRun (J.means self.old.job)
+        ensures run { IfOk result (λ replies. IsRunWithProgress (J.means self.old.job)
             (with_replies steps.now replies.items)
             (shown J.means P.state self.old) (shown J.means P.state self.new)) }
         ensures each { IfOk result (λ replies. vec_len replies ≡ length steps.now) }

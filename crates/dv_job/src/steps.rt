@@ -20,8 +20,8 @@ use std::alloc::Global;
 
 /// Makes the steps of a list with the processes of the model of a text, from their start, with the inputs that another text
 /// says: turns, deliveries and stops, in any order. Whatever the list and the partition, each process has committed exactly
-/// its components' part, before its clock, of the trace that the text's resultant has. Of the options the horizon, the
-/// microstep limit and the capacity of links are read.
+/// its components' part, before its clock, of the trace that the text's resultant has; and each turn that is done makes
+/// progress. Of the options the horizon, the microstep limit and the capacity of links are read.
 ///
 /// # Errors
 ///

@@ -10,8 +10,8 @@ use Rattle.dv_syntax.specs.Trees.{FileTree}
 use Rattle.dv_devs.specs.Clocks.{least_rank}
 use Rattle.dv_devs.specs.Network.{trace_before}
 use Rattle.dv_devs.specs.Parts.{part_before}
-use Rattle.dv_conservative.specs.World.{IsRun, Job, World, new_world}
-use Rattle.dv_core.specs.Worlds.{EndsAs, end_time, with_replies}
+use Rattle.dv_conservative.specs.World.{Job, World, new_world}
+use Rattle.dv_core.specs.Worlds.{EndsAs, IsRunWithProgress, end_time, with_replies}
 use Rattle.dv_core.specs.declared.step.Step.{Step}
 use Rattle.dv_core.specs.declared.step.Ended.{Ended}
 use Rattle.dv_core.specs.declared.step.Ended.TheVariants.{Stalled, Whole}
@@ -65,12 +65,13 @@ pub record IsCutShort (names : List (List ℕ)) (f : FileTree) (played : List In
   pub within : upto ≤ end_of limit horizon
   pub lines : AppendsBeginning old new (lines_before names f played limit upto)
 
--- The headline. The steps of a list, each with its reply, led from a new world of the text's processes to these clocks; and what each
--- process has committed is exactly its components' part, before its clock, of the trace of the text's resultant with these inputs.
+-- The headline. The steps of a list, each with its reply, led from a new world of the text's processes to these clocks, and each turn
+-- that was done made progress; and what each process has committed is exactly its components' part, before its clock, of the trace of
+-- the text's resultant with these inputs.
 pub record IsStepped (f : FileTree) (played : List Input) (groups : Grouping) (horizon limit capacity : ℕ) (steps : List Step)
     (s : Stepped) : Type 0 where
   pub world : World
-  pub run : IsRun (job_of limit horizon f played groups.processes (owner_of groups)) (with_replies steps s.replies.items)
+  pub run : IsRunWithProgress (job_of limit horizon f played groups.processes (owner_of groups)) (with_replies steps s.replies.items)
       (new_world capacity) world
   pub each : vec_len s.replies ≡ length steps
   pub clocks : (p : ℕ) (t : Time) → slice_get s.clocks.items p ≡ Some t → world.clock p ≡ t

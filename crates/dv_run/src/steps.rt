@@ -20,7 +20,8 @@ use std::alloc::{AllocError, Global};
 
 /// Makes the steps of a list with the processes of a text and its inputs, from their start: turns, deliveries and stops, in any
 /// order. Whatever the list and the partition, each process has committed exactly its components' part, before its clock, of
-/// the trace that the text's resultant has. A link holds so many packets at most.
+/// the trace that the text's resultant has; and each turn that is done makes progress. A link holds so many packets at
+/// most.
 ///
 /// # Errors
 ///

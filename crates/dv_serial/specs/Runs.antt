@@ -7,8 +7,8 @@ use Rattle.dv_bag.specs.Part.{PartOf}
 use Rattle.dv_devs.specs.Parts.{part_before}
 use Rattle.dv_conservative.specs.Flat.{whole}
 use Rattle.dv_conservative.specs.Process.{IsWithin}
-use Rattle.dv_conservative.specs.World.{IsRun, Job, World, new_world, owned, share_of}
-use Rattle.dv_core.specs.Worlds.{EndsAs, with_replies}
+use Rattle.dv_conservative.specs.World.{Job, World, new_world, owned, share_of}
+use Rattle.dv_core.specs.Worlds.{EndsAs, IsRunWithProgress, with_replies}
 use Rattle.dv_core.specs.declared.step.Step.{Step}
 use Rattle.dv_serial.specs.declared.ran.Committed.{Committed}
 use Rattle.dv_serial.specs.declared.ran.Stepped.{Stepped}
@@ -35,9 +35,9 @@ pub record HasRun (job : Job) (capacity rounds : ℕ) (c : Committed) : Type 0 w
   pub ends : EndsAs job rounds c.ended (new_world capacity) world
   pub handed : AreClocksOf job world c.clocks.items
 
--- The steps of a list, each with its reply, led from a new world to what was handed over.
+-- The steps of a list, each with its reply, led from a new world to what was handed over, and each turn that was done made progress.
 pub record HasStepped (job : Job) (capacity : ℕ) (steps : List Step) (s : Stepped) : Type 0 where
   pub world : World
-  pub run : IsRun job (with_replies steps s.replies.items) (new_world capacity) world
+  pub run : IsRunWithProgress job (with_replies steps s.replies.items) (new_world capacity) world
   pub each : vec_len s.replies ≡ length steps
   pub handed : AreOfWorld job world s.parts.items s.clocks.items

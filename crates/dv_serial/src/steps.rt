@@ -14,7 +14,7 @@ use std::alloc::{AllocError, Global};
 
 /// Makes the steps of a list with the processes of a plan, from their start: turns, puts, takes and stops, in any order, with
 /// so many packets on their way on a link at most. Whatever the list, each process has committed its part of the whole run
-/// before its clock.
+/// before its clock, and each turn that is done makes progress.
 ///
 /// # Errors
 ///

@@ -1,7 +1,7 @@
 use Rattle.std.proofs.Common.{◌≡◌, refl, sym, subst, ◌∙◌}
-use Rattle.dv_conservative.specs.World.{IsRun, World, new_world}
+use Rattle.dv_conservative.specs.World.{World, new_world}
 use Rattle.dv_core.specs.Conservative.{state_by}
-use Rattle.dv_core.specs.Worlds.{kept_by, shown, with_replies}
+use Rattle.dv_core.specs.Worlds.{IsRunWithProgress, kept_by, shown, with_replies}
 use Rattle.dv_local.specs.States.{view_by}
 use Rattle.dv_record.specs.Told.{told_of}
 use Rattle.dv_serial.specs.Runs.{HasStepped}
@@ -19,10 +19,11 @@ returns g c =
     let steps = c.args.steps.now in
     let replied = with_replies steps c.in_ok-replies.replies.items in
     let same : after.job ≡ c.args.job = c.run.ensures.job ∙ c.in_ok-world.ensures.job in
-    let at_new : IsRun (means before.job) replied (new_world capacity) (shown means state after) =
-    subst (λ (w : World). IsRun (means before.job) replied w (shown means state after)) c.in_ok-world.ensures.fresh
+    let at_new : IsRunWithProgress (means before.job) replied (new_world capacity) (shown means state after) =
+    subst (λ (w : World). IsRunWithProgress (means before.job) replied w (shown means state after)) c.in_ok-world.ensures.fresh
     c.in_ok-replies.ensures.run in
-    let run = subst (λ j. IsRun (means j) replied (new_world capacity) (shown means state after)) (sym c.run.ensures.job) at_new in
+    let run = subst (λ j. IsRunWithProgress (means j) replied (new_world capacity) (shown means state after)) (sym c.run.ensures.job)
+    at_new in
     let given : Stepped = record {
       parts = c.in_ok-parts.parts;
       clocks = c.in_ok-parts.clocks;

@@ -1,6 +1,5 @@
 use Rattle.std.proofs.Common.{ℕ, ◌+◌, List, [], ◌∷◌, ◌++◌, get_or, drop, append-nil, append_assoc, ap, subst, sym, refl, ◌∙◌}
-use Rattle.dv_conservative.specs.World.{IsRun}
-use Rattle.dv_core.specs.Worlds.{shown, with_replies}
+use Rattle.dv_core.specs.Worlds.{IsRunWithProgress, shown, with_replies}
 use Rattle.dv_core.specs.declared.step.Reply.{Reply}
 use Rattle.dv_core.specs.declared.step.Step.{Step}
 use Rattle.dv_core.specs.declared.step.Step.TheVariants as step
@@ -33,9 +32,9 @@ loop-step-preserved g c =
           let answers = c.step-reply.result in
           let more = run_more c.loop-step.self c.step-reply.new.self made answers c.step-reply.ensures.answered
           job (ap g.J.PlannedJob.means inv.same) (drop (i + 1) steps) t u h in
-          let all = inv.run (answers ∷ t) u (subst (λ (ss : List Step). IsRun job (with_replies ss (answers ∷ t)) now u) (sym first)
-          more) in
-          subst (λ (rs : List Reply). IsRun job (with_replies steps rs) start u)
+          let all = inv.run (answers ∷ t) u
+          (subst (λ (ss : List Step). IsRunWithProgress job (with_replies ss (answers ∷ t)) now u) (sym first) more) in
+          subst (λ (rs : List Reply). IsRunWithProgress job (with_replies steps rs) start u)
           (sym (ap (λ (rs : List Reply). rs ++ t) c.push_reserved.ensures.items
           ∙ append_assoc c.loop-step.replies.items (answers ∷ []) t)) all;
     }
@@ -47,5 +46,5 @@ returns-clause-run g c =
     let job = g.J.PlannedJob.means c.args.self.now.job in
     let start = shown g.J.PlannedJob.means g.P.LogicalProcess.state c.args.self.now in
     let now = shown g.J.PlannedJob.means g.P.LogicalProcess.state c.loop-step.self in
-    subst (λ (rs : List Reply). IsRun job (with_replies c.args.steps.now rs) start now) (append-nil c.loop-step.replies.items)
-    (inv.run [] now (subst (λ (ss : List Step). IsRun job (with_replies ss []) now now) (sym done) refl))
+    subst (λ (rs : List Reply). IsRunWithProgress job (with_replies c.args.steps.now rs) start now) (append-nil c.loop-step.replies.items)
+    (inv.run [] now (subst (λ (ss : List Step). IsRunWithProgress job (with_replies ss []) now now) (sym done) refl))

@@ -1,0 +1,11 @@
+//! Runs whose turns make progress.
+
+ghost use Rattle.std.specs.Prelude.{List};
+ghost use Rattle.dv_conservative.specs.World.{IsRun, Job, Reply, Step, World};
+ghost use Rattle.dv_core.specs.Worlds.{IsRunWithProgress};
+
+/// A run whose turns make progress is a run, so all that is so after every run is so after it.
+pub fn runs_with_progress_are_runs()
+    ensures { (job : Job) (steps : List (Step × Reply)) (w v : World)
+        → IsRunWithProgress job steps w v → IsRun job steps w v }
+{}
