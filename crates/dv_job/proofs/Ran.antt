@@ -78,8 +78,8 @@ RanSo names f played groups o old new r = IsRunOf names f played groups o.horizo
 module _ (names : List (List ℕ)) (f : FileTree) (played : List Input) (groups : Grouping) (o : Options)
     (model inputs : List ℕ) (partition : Partition) (planned : IsPlanned model inputs partition o.limit names f groups played) where
   -- a text that was not written to its end
-  stops : {old new : Option (List ℕ)} (text : List ℕ) → IsTextOf names f played o.horizon o.limit text → StopsShort old new text
-      → PrintsSome model inputs partition o old new
+  stops : {old new : Option (List ℕ)} (text : List ℕ) → IsTextOf names f played groups.processes o.horizon o.limit text
+      → StopsShort old new text → PrintsSome model inputs partition o old new
   stops text is written = record {
     names = names;
     file = f;
@@ -118,7 +118,7 @@ module _ (names : List (List ℕ)) (f : FileTree) (played : List Input) (groups 
       by_error write.Write = short
       by_error write.Memory = inr short
 
-  module _ (r : Ran) (old mid new : Option (List ℕ)) (printed : IsPrinted names f played o.horizon o.limit old mid r) where
+  module _ (r : Ran) (old mid new : Option (List ℕ)) (printed : IsPrinted names f played groups o.horizon o.limit old mid r) where
     abbrev least : ℕ
     least = least_rank o.limit r.clocks.items
 
@@ -127,11 +127,12 @@ module _ (names : List (List ℕ)) (f : FileTree) (played : List Input) (groups 
     lines = lines_before names f played o.limit least
 
     -- with the ending they are a text of the run
-    text_of_it : (at : Ended) → r.ended ≡ at → IsTextOf names f played o.horizon o.limit (lines ++ end_text at o.horizon r.clocks.items)
+    text_of_it : (at : Ended) → r.ended ≡ at
+        → IsTextOf names f played groups.processes o.horizon o.limit (lines ++ end_text at o.horizon r.clocks.items)
     text_of_it ran.Whole at =
         inl (ap (λ (n : ℕ). lines_before names f played o.limit n ++ ending_text (text_end.Whole o.horizon)) (printed.whole at))
-    text_of_it ran.Stalled at = inr (r.clocks.items, printed.some, refl)
-    text_of_it ran.Memory at = inr (r.clocks.items, printed.some, refl)
+    text_of_it ran.Stalled at = inr (r.clocks.items, printed.count, printed.some, refl)
+    text_of_it ran.Memory at = inr (r.clocks.items, printed.count, printed.some, refl)
 
     behind : (text : List ℕ) → Appends mid new text → Appends old new (lines ++ text)
     behind text written = Appends-append old mid new lines text printed.lines written
@@ -164,12 +165,14 @@ module _ (names : List (List ℕ)) (f : FileTree) (played : List Input) (groups 
       played = played;
       planned = planned;
       clocks = r.clocks.items;
+      count = printed.count;
       some = printed.some;
       written = behind (partial_ending r.clocks.items) written;
     }
 
     -- whichever way the writing of the ending failed
-    left_unwritten : (e : JobError) (text : List ℕ) → 0 < length text → IsTextOf names f played o.horizon o.limit (lines ++ text)
+    left_unwritten : (e : JobError) (text : List ℕ) → 0 < length text
+        → IsTextOf names f played groups.processes o.horizon o.limit (lines ++ text)
         → IsUnwritten e text mid new → LeftByRun e model inputs partition o old new
     left_unwritten (error.Text r) text some is unwritten = absurd unwritten
     left_unwritten (error.Partition r) text some is unwritten = absurd unwritten
@@ -230,7 +233,7 @@ module _ (names : List (List ℕ)) (f : FileTree) (played : List Input) (groups 
     if_it_ended (Err e) ending written = tt
 
   -- a run by workers
-  module _ (r : Ran) (old mid new : Option (List ℕ)) (is : IsPrinted names f played o.horizon o.limit old mid r)
+  module _ (r : Ran) (old mid new : Option (List ℕ)) (is : IsPrinted names f played groups o.horizon o.limit old mid r)
       (unstalled : r.ended ≡ ran.Stalled → ⊥) where
     worked_so : (at : Ended) → r.ended ≡ at → Appends mid new (end_text at o.horizon r.clocks.items)
         → EndsByWorkers (ended_at at r.faulted) model inputs partition o old new

@@ -41,11 +41,11 @@ abbrev pub cut_text : List (List ℕ) → FileTree → List Input → (limit : �
 cut_text names f inputs limit clocks =
     partial_text (component_names names f) (root_ports names f) limit (network_of limit f) (outside f limit inputs) clocks
 
--- the whole text of a trace, or one that is cut at the clocks of some processes
-abbrev pub IsTextOf : List (List ℕ) → FileTree → List Input → (horizon limit : ℕ) → List ℕ → Type 0
-IsTextOf names f inputs horizon limit text =
+-- the whole text of a trace, or one that is cut at the clocks of so many processes, one for each; there is at least one
+abbrev pub IsTextOf : List (List ℕ) → FileTree → List Input → (processes horizon limit : ℕ) → List ℕ → Type 0
+IsTextOf names f inputs processes horizon limit text =
     (text ≡ run_text names f inputs horizon limit)
-    ⊎ ((clocks : List Time) × (0 < length clocks) × (text ≡ cut_text names f inputs limit clocks))
+    ⊎ ((clocks : List Time) × (length clocks ≡ processes) × (0 < length clocks) × (text ≡ cut_text names f inputs limit clocks))
 
 -- how many rounds a run has: those of the options, or else one more than there are ranks before the end, which is enough
 abbrev pub granted : Options → ℕ
@@ -67,7 +67,7 @@ abbrev pub ended_for : Why → Ended
 ended_for why.Rounds = Stalled
 ended_for why.Memory = Memory
 
--- All is accepted, and the writer's bytes grew by the text of the trace, cut at the clocks of the processes.
+-- All is accepted, and the writer's bytes grew by the text of the trace, cut at the clocks of the processes, one for each.
 pub record PrintsCutAt (model inputs : List ℕ) (partition : Partition) (o : Options) (old new : Option (List ℕ)) : Type 0 where
   pub names : List (List ℕ)
   pub file : FileTree
@@ -75,6 +75,7 @@ pub record PrintsCutAt (model inputs : List ℕ) (partition : Partition) (o : Op
   pub played : List Input
   pub planned : IsPlanned model inputs partition o.limit names file groups played
   pub clocks : List Time
+  pub count : length clocks ≡ groups.processes
   pub some : 0 < length clocks
   pub written : Appends old new (cut_text names file played o.limit clocks)
 
@@ -94,7 +95,7 @@ pub record PrintsSome (model inputs : List ℕ) (partition : Partition) (o : Opt
   pub played : List Input
   pub planned : IsPlanned model inputs partition o.limit names file groups played
   pub text : List ℕ
-  pub is_text : IsTextOf names file played o.horizon o.limit text
+  pub is_text : IsTextOf names file played groups.processes o.horizon o.limit text
   pub written : StopsShort old new text
 
 -- what an answer says of the writer's bytes

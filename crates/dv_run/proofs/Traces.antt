@@ -101,9 +101,10 @@ module _ (j : TextJob) (text : AreOfOneText j.tree.now.names (file_of j.tree.now
   -- up to the least of the clocks that were reached
   pub is_printed : (w : Written) (r : Ran) → IsWrittenTo (text_job j) j.tree.now old new w
       → rank j.limit w.mark ≡ least_rank j.limit r.clocks.items
-      → r.faulted ≡ w.faulted → 0 < length r.clocks.items → AreAtEnd (text_job j) r.ended r.clocks.items
-      → IsPrinted j.tree.now.names (file_of j.tree.now.file) j.inputs.now j.horizon j.limit old new r
-  is_printed w r written mark fault some at_end = record {
+      → r.faulted ≡ w.faulted → 0 < length r.clocks.items → length r.clocks.items ≡ (text_job j).processes
+      → AreAtEnd (text_job j) r.ended r.clocks.items
+      → IsPrinted j.tree.now.names (file_of j.tree.now.file) j.inputs.now j.groups.now j.horizon j.limit old new r
+  is_printed w r written mark fault some count at_end = record {
     lines =
         subst (λ (n : ℕ). Appends old new (lines_before j.tree.now.names (file_of j.tree.now.file) j.inputs.now j.limit n)) mark
         (subst (Appends old new) (same_lines j.tree.now.names (file_of j.tree.now.file) j.inputs.now j.limit text accepted laws
@@ -114,6 +115,7 @@ module _ (j : TextJob) (text : AreOfOneText j.tree.now.names (file_of j.tree.now
         ∙ ap (λ (n : ℕ). has_fault (trace_before j.limit (network_of j.limit (file_of j.tree.now.file))
         (outside (file_of j.tree.now.file) j.limit j.inputs.now) n)) mark;
     some = some;
+    count = count;
     whole = λ e.
         least_of_same j.limit (end_of j.limit j.horizon) r.clocks.items some
         (λ p t at. ap (rank j.limit) (at_end e p t at) ∙ plus_nothing (end_of j.limit j.horizon));
@@ -137,6 +139,9 @@ module _ (j : TextJob) (capacity rounds : ℕ) (c : Committed) (ran : HasRun (te
 
   pub ran_of_run : AllOfRun j.limit c.clocks.items
   ran_of_run p t at = let h = ran.handed.within p t at in h.0
+
+  pub each_clock : (r : Ran) → r.clocks ≡ c.clocks → length r.clocks.items ≡ ran_job.processes
+  each_clock r same = ap (λ ts. length ts.items) same ∙ ran.handed.count
 
   pub some_clocks : 0 < ran_job.processes → 0 < length c.clocks.items
   some_clocks some = subst (λ (n : ℕ). 0 < n) (sym ran.handed.count) some
@@ -163,7 +168,7 @@ module _ (j : TextJob) (capacity rounds : ℕ) (c : Committed) (ran : HasRun (te
       h.1 (enough_rounds ran_job capacity rounds (new_world capacity) ran.world refl some ends enough h.0)
 
   pub is_run : {old new : Option (List ℕ)} (r : Ran) → r.clocks ≡ c.clocks → r.ended ≡ c.ended
-      → IsPrinted j.tree.now.names (file_of j.tree.now.file) j.inputs.now j.horizon j.limit old new r
+      → IsPrinted j.tree.now.names (file_of j.tree.now.file) j.inputs.now j.groups.now j.horizon j.limit old new r
       → (0 < capacity → end_of j.limit j.horizon + 1 ≤ rounds → c.ended ≢ Stalled)
       → IsRunOf j.tree.now.names (file_of j.tree.now.file) j.inputs.now j.groups.now j.horizon j.limit capacity rounds old new r
   is_run r same ended printed enough = record {
@@ -172,6 +177,7 @@ module _ (j : TextJob) (capacity rounds : ℕ) (c : Committed) (ran : HasRun (te
     led = record {
       world = ran.world;
       ends = subst (λ (x : Ended). EndsAs ran_job rounds x (new_world capacity) ran.world) (sym ended) ran.ends;
+      count = each_clock r same;
       clocks = λ p t at. ran.handed.clocks p t (ap (λ ts. slice_get ts.items p) (sym same) ∙ at);
     };
   }

@@ -25,11 +25,12 @@ use Rattle.dv_text.specs.Texts.{instants_text}
 use Rattle.dv_text.specs.Writing.{AppendsBeginning}
 use Rattle.dv_run.specs.declared.ran.Ran.{Ran}
 
--- Rounds of the processes of a text, so many at most, led from a new world to these clocks, by the numbers of the processes.
+-- Rounds of the processes of a text, so many at most, led from a new world to these clocks, one for each process, by their numbers.
 pub record LedTo (f : FileTree) (played : List Input) (groups : Grouping) (horizon limit capacity rounds : ℕ) (ended : Ended)
     (times : List Time) : Type 0 where
   pub world : World
   pub ends : EndsAs (job_of limit horizon f played groups.processes (owner_of groups)) rounds ended (new_world capacity) world
+  pub count : length times ≡ groups.processes
   pub clocks : (p : ℕ) (t : Time) → slice_get times p ≡ Some t → world.clock p ≡ t
 
 -- where it is whole, all clocks are at the end
@@ -42,19 +43,20 @@ lines_before names f played limit n =
     instants_text (component_names names f) (root_ports names f) limit (network_of limit f) (outside f limit played) n
 
 -- What a writer got of a text that ran: the lines of the trace of its resultant with these inputs, before the least of the clocks to
--- which its processes came. Where the run is whole, that is the end.
-pub record IsPrinted (names : List (List ℕ)) (f : FileTree) (played : List Input) (horizon limit : ℕ) (old new : Option (List ℕ))
-    (ran : Ran) : Type 0 where
+-- which its processes came, one for each. Where the run is whole, that is the end.
+pub record IsPrinted (names : List (List ℕ)) (f : FileTree) (played : List Input) (groups : Grouping) (horizon limit : ℕ)
+    (old new : Option (List ℕ)) (ran : Ran) : Type 0 where
   pub lines : Appends old new (lines_before names f played limit (least_rank limit ran.clocks.items))
   pub faults : ran.faulted ≡ has_fault
       (trace_before limit (network_of limit f) (outside f limit played) (least_rank limit ran.clocks.items))
   pub some : 0 < length ran.clocks.items
+  pub count : length ran.clocks.items ≡ groups.processes
   pub whole : ran.ended ≡ Whole → least_rank limit ran.clocks.items ≡ end_of limit horizon
 
 -- The same of a run in rounds, which led to those clocks: it stalls only where there are no more rounds than ranks before the end.
 pub record IsRunOf (names : List (List ℕ)) (f : FileTree) (played : List Input) (groups : Grouping)
     (horizon limit capacity rounds : ℕ) (old new : Option (List ℕ)) (ran : Ran) : Type 0 where
-  pub printed : IsPrinted names f played horizon limit old new ran
+  pub printed : IsPrinted names f played groups horizon limit old new ran
   pub stalls : ran.ended ≡ Stalled → 0 < capacity → rounds ≤ end_of limit horizon
   pub led : LedTo f played groups horizon limit capacity rounds ran.ended ran.clocks.items
 

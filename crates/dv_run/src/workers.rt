@@ -67,7 +67,8 @@ pub fn compiled_workers<R: Threads + Wait + Sync, G: Watch, W: Write>(
     requires workers { 0 < workers }
     requires capacity { 0 < capacity }
     ensures printed { IfOk result (IsPrinted job.now.tree.now.names
-        (file_of job.now.tree.now.file) job.now.inputs.now job.now.horizon job.now.limit
+        (file_of job.now.tree.now.file) job.now.inputs.now job.now.groups.now
+        job.now.horizon job.now.limit
         (W.contents writer.old) (W.contents writer.new)) }
     ensures ended { IfOk result (λ ran. ran.ended ≢ ended.Stalled) }
     ensures err { OnErr result (IsCutShort job.now.tree.now.names
@@ -129,6 +130,7 @@ fn work_components<R: Threads + Wait + Sync, G: Watch, W: Write>(
     ensures written { IfOk result (λ w. IsWrittenTo (text_job job.now) job.now.tree.now
         (W.contents writer.old) (W.contents writer.new) w.written) }
     ensures some_clocks { IfOk result (λ w. 0 < length w.clocks.items) }
+    ensures count { IfOk result (λ w. length w.clocks.items ≡ (text_job job.now).processes) }
     ensures least { IfOk result (λ w. rank job.now.limit w.written.mark
         ≡ least_rank job.now.limit w.clocks.items) }
     ensures whole { IfOk result (λ w. w.ended ≡ reported.Whole
@@ -165,6 +167,7 @@ fn work_plan<R: Threads + Wait + Sync, G: Watch, W: Write>(
     ensures written { IfOk result (λ w. IsWrittenTo (text_job job.now) job.now.tree.now
         (W.contents writer.old) (W.contents writer.new) w.written) }
     ensures some_clocks { IfOk result (λ w. 0 < length w.clocks.items) }
+    ensures count { IfOk result (λ w. length w.clocks.items ≡ (text_job job.now).processes) }
     ensures least { IfOk result (λ w. rank job.now.limit w.written.mark
         ≡ least_rank job.now.limit w.clocks.items) }
     ensures whole { IfOk result (λ w. w.ended ≡ reported.Whole

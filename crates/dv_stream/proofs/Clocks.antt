@@ -49,6 +49,14 @@ replicated_length : (n : ℕ) (mark : Time) → length (replicate n mark) ≡ n
 replicated_length zero mark = refl
 replicated_length (suc n) mark = ap (λ (k : ℕ). suc k) (replicated_length n mark)
 
+-- as many are told as were reached
+pub told_count : (times : List Time) (mark : Time) → length (told times mark) ≡ length times
+told_count times mark = by_test (is_before (least_time times) mark)
+  where
+    by_test : (t : Bool) → length (if t then replicate (length times) mark else times) ≡ length times
+    by_test true = replicated_length (length times) mark
+    by_test false = refl
+
 module _ (job : Job) (parts : List PartOf) (times : List Time) (reached : AreReached job parts times) (some : 0 < job.processes)
     (from : Time) (of_run : IsOfRun job.limit from) (mark : Time) (is : mark ≡ later from (least_time times)) where
   abbrev least : Time

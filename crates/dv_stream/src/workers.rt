@@ -228,6 +228,7 @@ where
     ensures written { IfOk result (λ w. IsWrittenTo (J.means job.now) tree.now
         (W.contents writer.old) (W.contents writer.new) w.written) }
     ensures some_clocks { IfOk result (λ w. 0 < length w.clocks.items) }
+    ensures count { IfOk result (λ w. length w.clocks.items ≡ (J.means job.now).processes) }
     ensures least { IfOk result (λ w. rank (J.means job.now).limit w.written.mark
         ≡ least_rank (J.means job.now).limit w.clocks.items) }
     ensures whole { IfOk result (λ w. w.ended ≡ Whole
@@ -313,6 +314,7 @@ where
     ensures written { IfOk result (λ w. IsWrittenTo (J.means job.now) tree.now
         (W.contents writer.old) (W.contents writer.new) w.written) }
     ensures some_clocks { IfOk result (λ w. 0 < length w.clocks.items) }
+    ensures count { IfOk result (λ w. length w.clocks.items ≡ (J.means job.now).processes) }
     ensures least { IfOk result (λ w. rank (J.means job.now).limit w.written.mark
         ≡ least_rank (J.means job.now).limit w.clocks.items) }
     ensures whole { IfOk result (λ w. w.ended ≡ Whole

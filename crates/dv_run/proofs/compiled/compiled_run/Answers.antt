@@ -9,7 +9,8 @@ use Rattle.dv_text.proofs.Taking.{OnErr-always}
 use Rattle.dv_serial.proofs.LeastClock.{least_time_rank}
 use Rattle.dv_run.specs.Runs.{AreAtEnd}
 use Rattle.dv_run.proofs.Merging.{Leaves, merges}
-use Rattle.dv_run.proofs.Traces.{Laws, is_cut_short, is_printed, is_run, nothing_printed, ran_at_end, ran_of_run, some_clocks}
+use Rattle.dv_run.proofs.Traces.{Laws, each_clock, is_cut_short, is_printed, is_run, nothing_printed, ran_at_end, ran_of_run}
+use Rattle.dv_run.proofs.Traces.{some_clocks}
 use Rattle.dv_run.proofs.compiled.compiled_run.Goals as goal
 
 pub components_of-requires : goal.components_of-requires
@@ -92,5 +93,5 @@ returns-clause-run g c =
     is_run j capacity rounds s.committed ran {old = g.W.Write.contents c.args.writer.now}
     {new = g.W.Write.contents c.run_components.new.writer} r of.clocks of.ended
     (is_printed j c.requires.text c.requires.accepted laws s.written r c.in_ok-streamed.ensures.written mark of.faults
-    (subst (λ ts. 0 < length ts.items) (sym of.clocks) some) at_end)
+    (subst (λ ts. 0 < length ts.items) (sym of.clocks) some) (each_clock j capacity rounds s.committed ran r of.clocks) at_end)
     c.in_ok-streamed.ensures.enough

@@ -91,4 +91,5 @@ returns-clause-printed g c =
     (c.in_ok-worked.ensures.whole (of.whole e)) in
     is_printed j c.requires.text c.requires.accepted laws {old = g.W.Write.contents c.args.writer.now}
     {new = g.W.Write.contents c.work_components.new.writer} w.written r c.in_ok-worked.ensures.written mark of.faults
-    (subst (λ ts. 0 < length ts.items) (sym of.clocks) c.in_ok-worked.ensures.some_clocks) at_end
+    (subst (λ ts. 0 < length ts.items) (sym of.clocks) c.in_ok-worked.ensures.some_clocks)
+    (ap (λ ts. length ts.items) of.clocks ∙ c.in_ok-worked.ensures.count) at_end

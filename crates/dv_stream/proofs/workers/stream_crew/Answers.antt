@@ -10,7 +10,7 @@ use Rattle.dv_serial.specs.Clocks.{least_time}
 use Rattle.dv_text.proofs.Taking.{OnErr-always}
 use Rattle.dv_stream.specs.Written.{Falters, GoesOn, IsWrittenTo}
 use Rattle.dv_stream.specs.Workers.{IsReportOf, job_of_type}
-use Rattle.dv_stream.proofs.Clocks.{told_end, told_least, told_some}
+use Rattle.dv_stream.proofs.Clocks.{told_count, told_end, told_least, told_some}
 use Rattle.dv_stream.proofs.Made.{made_alike}
 use Rattle.dv_stream.proofs.Writing.{begun_from, begun_to, not_begun, of_ok, written_further}
 use Rattle.dv_stream.proofs.workers.stream_crew.Goals as goal
@@ -90,6 +90,15 @@ returns-clause-some_clocks g c =
     = c.in_ok-written-2.ensures.mark ∙ ap (λ (ts : List Time). later w.mark (least_time ts)) c.deref-2.ensures.value in
     subst (λ (ts : List Time). 0 < length ts) (sym c.clocks_from-clocks.ensures)
     (told_some job r.parts.items r.clocks.items report.reached c.requires.some w.mark written.of_run mark is)
+
+pub returns-clause-count : goal.returns-clause-count
+returns-clause-count g c =
+    let r = c.in_ok-parts.field-0 in
+    let report = subst (λ (j : Job). IsReportOf j r) c.requires.job
+    (of_ok (IsReportOf g.N.OfJob.job) _ r c.in_ok-parts.was c.run_and_write-written.ensures.report) in
+    ap length c.clocks_from-clocks.ensures
+    ∙ told_count r.clocks.items c.in_ok-written-2.written.mark
+    ∙ report.reached.count
 
 pub returns-clause-least : goal.returns-clause-least
 returns-clause-least g c =
