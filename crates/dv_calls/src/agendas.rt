@@ -42,6 +42,29 @@ fn an_agenda_knows_who_is_first(rt: HostRuntime) -> Result<(), Fail> {
 }
 
 #[test]
+fn an_agenda_goes_on_and_back(rt: HostRuntime) -> Result<(), Fail> {
+    let mut agenda = Agenda::new(rt.alloc(), 20)?;
+    let mut due = Vec::new(rt.alloc());
+    agenda.set(0, Some(at(100, 0)));
+    agenda.set(1, Some(at(5_000, 2)));
+    agenda.set(2, Some(at(1_000_000_000_000, 0)));
+    agenda.due(at(100, 0), &mut due)?;
+    agenda.set(0, Some(at(5_000, 1)));
+    same!(rt; agenda.first(), Some(at(5_000, 1)));
+    agenda.due(at(5_000, 1), &mut due)?;
+    agenda.set(0, None);
+    same!(rt; agenda.first(), Some(at(5_000, 2)));
+    agenda.set(1, Some(at(5, 1)));
+    same!(rt; agenda.first(), Some(at(5, 1)));
+    agenda.due(at(5, 1), &mut due)?;
+    agenda.set(1, None);
+    same!(rt; agenda.first(), Some(at(1_000_000_000_000, 0)));
+    agenda.due(at(1_000_000_000_000, 0), &mut due)?;
+    same!(rt; due.as_slice(), [0u32, 0, 1, 2].as_slice());
+    Ok(())
+}
+
+#[test]
 fn an_agenda_of_one_place_or_none(rt: HostRuntime) -> Result<(), Fail> {
     let none = Agenda::new(rt.alloc(), 0)?;
     same!(rt; none.first(), None);

@@ -77,7 +77,7 @@ pub(crate) fn push_to_room(before: &mut Vec<Placed<Running>>, placed: Placed<Run
 ///
 /// # Errors
 ///
-/// No memory for two waits a component, and as many again at most.
+/// No memory for a wait and 641 bits a component, and for 641 waits.
 pub fn agenda_of(alloc: Global, running: &[Running]) -> Result<Agenda, AllocError>
     requires { length running.now < 2 ^ 32 }
     ensures { IfOk result (λ agenda. agenda ≡ waits_of running.now) }

@@ -1,0 +1,22 @@
+use Rattle.std.proofs.Common.{◌≡◌, ℕ, ◌<◌, List, length, set, sym, ap, subst, ◌∙◌}
+use Rattle.std.proofs.lemmas.List.{with_items_is}
+use Rattle.std.specs.Vec.{with_items}
+use Rattle.dv_agenda.specs.Wheel.{IsHeaded, has}
+use Rattle.dv_agenda.proofs.Sets.{headed_taken, others_nil}
+use Rattle.dv_agenda.proofs.set.Set.take_word.Goals as goal
+
+pub invariant_of-self : goal.invariant_of-self
+invariant_of-self c =
+    let words : List ℕ = c.self.inside.words.items in
+    let heads_are : (with_items c.self.inside.heads c.remove.new.words).items ≡ c.remove.new.words =
+    with_items_is c.self.inside.heads c.remove.new.words (c.remove.ensures.size ∙ c.deref_mut.ensures.len) in
+    let lt : c.args.at < length c.self.inside.words.items =
+    subst (λ (ws : List ℕ). c.args.at < length ws) (sym c.self.view_is) c.requires in
+    subst (λ (hs : List ℕ). IsHeaded hs (set words c.args.at 0)) (sym heads_are)
+    (headed_taken c.self.inside.heads.items c.remove.new.words words c.args.at c.self.invariant lt
+    (c.remove.ensures.size ∙ ap length c.deref_mut.ensures.value)
+    (λ q ne. c.remove.ensures.others q ne ∙ ap (λ (hs : List ℕ). has hs q) c.deref_mut.ensures.value))
+
+pub returns-clause-others : goal.returns-clause-others
+returns-clause-others c = λ p ne one.
+    others_nil c.self.inside.words.items c.args.at p ne ∙ ap (λ (ws : List ℕ). has ws p) c.self.view_is ∙ one

@@ -1,0 +1,65 @@
+-- Sets of numbers as bits of words, and the slots of a wheel of times.
+use Rattle.std.specs.Prelude.{◌≡◌, ℕ, zero, suc, ◌+◌, ◌*◌, ◌/◌, ◌%◌, ◌^◌, ◌≤◌, length, nat_eq, if◌then◌else◌, Bool, false, List, Option}
+use Rattle.std.specs.Prelude.{Some, None, slice_index_or}
+use Rattle.std.specs.Int.{bit_at}
+use Rattle.dv_time.specs.declared.time.Time.{Time}
+use Rattle.dv_agenda.specs.Waits.{sooner}
+use Rattle.dv_agenda.specs.declared.least.Least.{Least}
+use Rattle.dv_agenda.specs.declared.least.Least.TheVariants.{Known, Unknown}
+
+-- 1 where a set has a number
+unfoldable pub has : List ℕ → ℕ → ℕ
+has words p = bit_at (slice_index_or words (p / 64) 0) (p % 64)
+
+-- The slot of a tick: 64 for each digit in base 64 above which it is as the present tick is, from a level on, and behind so many
+-- digits one slot for all others.
+unfoldable pub slot_from : ℕ → ℕ → ℕ → ℕ → ℕ
+slot_from zero level tick now = 64 * level
+slot_from (suc levels) level tick now =
+    if nat_eq (tick / 64) (now / 64) then 64 * level + tick % 64 else slot_from levels (level + 1) (tick / 64) (now / 64)
+
+unfoldable pub slot : ℕ → ℕ → ℕ
+slot tick now = slot_from 10 0 tick now
+
+-- a wait does not end before the present tick
+abbrev pub IsFrom : ℕ → Option Time → Type 0
+IsFrom now None = Unit {0}
+IsFrom now (Some t) = now ≤ t.tick
+
+-- what is known of the least wait in a slot
+abbrev pub least_at : List Least → ℕ → Least
+least_at leasts s = slice_index_or leasts s Unknown
+
+-- a wait does not end before the least one, where that is known
+abbrev pub IsLow : Least → Option Time → Type 0
+IsLow Unknown w = Unit {0}
+IsLow (Known least) w = sooner least w ≡ least
+
+-- The place of a wait is in the set of its slot, which is among the slots that are in use, and of which no lesser wait is known.
+abbrev pub IsIn : ℕ → List ℕ → List ℕ → List Least → ℕ → ℕ → Option Time → Type 0
+IsIn now used places leasts span place None = Unit {0}
+IsIn now used places leasts span place (Some t) =
+    (has used (slot t.tick now) ≡ 1) × (has places (slot t.tick now * span + place) ≡ 1)
+    × IsLow (least_at leasts (slot t.tick now)) (Some t)
+
+-- a place of a slot has a wait, if it is one
+abbrev pub IsOfSlot : List (Option Time) → ℕ → ℕ → Option Time → Type 0
+IsOfSlot waits now s None = Unit {0}
+IsOfSlot waits now s (Some t) = (slot t.tick now ≡ s) × ((place : ℕ) × (slice_index_or waits place None ≡ Some t))
+
+-- the least wait in a slot, where it is known, is one of the slot
+abbrev pub IsHeld : List (Option Time) → ℕ → ℕ → Least → Type 0
+IsHeld waits now s Unknown = Unit {0}
+IsHeld waits now s (Known least) = IsOfSlot waits now s least
+
+-- has a wait a slot
+abbrev pub in_slot : ℕ → ℕ → Option Time → Bool
+in_slot now s None = false
+in_slot now s (Some t) = nat_eq (slot t.tick now) s
+
+-- for each word that has a number the heads have its place
+pub record IsHeaded (heads words : List ℕ) : Type 0 where
+  pub room : length words ≤ 64 * length heads
+  pub few : length words ≤ 2 ^ 50
+  pub heads_few : length heads ≤ 2 ^ 50
+  pub headed : (p : ℕ) → has words p ≡ 1 → has heads (p / 64) ≡ 1

@@ -1,0 +1,127 @@
+//! A set of numbers, of which the next is found fast even where there are few.
+
+ghost use Rattle.std.specs.Prelude.{◌≡◌, ◌≢◌, ℕ, ◌+◌, ◌*◌, ◌/◌, ◌^◌, ◌<◌, ◌≤◌, List, length, replicate, slice_index_or, IfOk};
+ghost use Rattle.dv_agenda.specs.Wheel.{has};
+
+use crate::bits;
+use std::alloc::{AllocError, Global};
+use std::marker::Model;
+
+/// A set of numbers as the bits of words.
+#[derive(Drop)]
+pub(crate) struct Set {
+    words: Vec<u64>,
+    /// The words that are not 0.
+    heads: Vec<u64>,
+}
+
+impl Model for Set {
+    ghost use Rattle.std.specs.Prelude.{List, ℕ};
+    ghost use Rattle.dv_agenda.specs.Wheel.{IsHeaded};
+
+    ghost Value = { List ℕ };
+
+    ghost view = { λ s. s.words.items };
+
+    ghost invariant = { λ s. IsHeaded s.heads.items s.words.items };
+}
+
+impl Set {
+    /// An empty set with room for the numbers of so many words.
+    ///
+    /// # Errors
+    ///
+    /// No memory for the words, and for one more for each 64 of them.
+    pub(crate) fn new(alloc: Global, words: usize) -> Result<Set, AllocError>
+        requires { words ≤ 2 ^ 44 }
+        ensures { IfOk result (λ s. s ≡ replicate words 0) }
+    {
+        let mut all = Vec::new(alloc);
+        all.resize(words, 0)?;
+        let mut heads = Vec::new(alloc);
+        heads.resize(words / 64 + 1, 0)?;
+        Ok(Set { words: all, heads })
+    }
+
+    /// Adds a number.
+    #[inline]
+    pub(crate) fn insert(&mut self, number: usize)
+        requires { number < 64 * length self.old }
+        ensures size { length self.new ≡ length self.old }
+        ensures there { has self.new number ≡ 1 }
+        ensures others { (p : ℕ) → has self.old p ≡ 1 → has self.new p ≡ 1 }
+    {
+        bits::insert(&mut self.words, number);
+        bits::insert(&mut self.heads, number / 64);
+    }
+
+    /// Takes a number out.
+    #[inline]
+    pub(crate) fn remove(&mut self, number: usize)
+        requires { number < 64 * length self.old }
+        ensures size { length self.new ≡ length self.old }
+        ensures others { (p : ℕ) → p ≢ number → has self.old p ≡ 1 → has self.new p ≡ 1 }
+    {
+        bits::remove(&mut self.words, number);
+        if self.words[number / 64] == 0 {
+            bits::remove(&mut self.heads, number / 64);
+        }
+    }
+
+    /// The least number from one on and below an end, or else the end.
+    #[inline]
+    pub(crate) fn next(&self, from: usize, end: usize) -> usize
+        requires within { end ≤ 64 * length self.now }
+        requires order { from ≤ end }
+        ensures low { from ≤ result }
+        ensures high { result ≤ end }
+        ensures none { (p : ℕ) → from ≤ p → p < result → has self.now p ≡ 0 }
+    {
+        let mut at = from;
+        while at < end {
+            let after = 64 * (at / 64 + 1);
+            let stop = if after < end { after } else { end };
+            let found = bits::next(&self.words, at, stop);
+            if found < stop || stop == end {
+                return found;
+            }
+            at = 64 * bits::next(&self.heads, at / 64 + 1, (end - 1) / 64 + 1);
+        }
+        end
+    }
+
+    /// The least word that has a number, from one on and below an end, or else the end.
+    #[inline]
+    pub(crate) fn next_word(&self, from: usize, end: usize) -> usize
+        requires within { end ≤ length self.now }
+        requires order { from ≤ end }
+        ensures low { from ≤ result }
+        ensures high { result ≤ end }
+        ensures none { (p : ℕ) → 64 * from ≤ p → p < 64 * result → has self.now p ≡ 0 }
+    {
+        bits::next(&self.heads, from, end)
+    }
+
+    /// The numbers of a word.
+    #[inline]
+    pub(crate) fn word(&self, at: usize) -> u64
+        requires { at < length self.now }
+        ensures { result ≡ slice_index_or self.now at 0 }
+    {
+        self.words[at]
+    }
+
+    /// Takes the numbers of a word out.
+    #[inline]
+    pub(crate) fn take_word(&mut self, at: usize) -> u64
+        requires { at < length self.old }
+        ensures word { result ≡ slice_index_or self.old at 0 }
+        ensures size { length self.new ≡ length self.old }
+        ensures others { (p : ℕ) → p / 64 ≢ at → has self.old p ≡ 1 → has self.new p ≡ 1 }
+    {
+        let word = self.words[at];
+        self.words[at] = 0;
+        bits::remove(&mut self.heads, at);
+        word
+    }
+}

@@ -1,0 +1,465 @@
+//! A wheel of times: each place stands in the set of the slot that its wait has at the present tick.
+
+ghost use Rattle.std.specs.Prelude.{◌≡◌, ◌≢◌, ℕ, None, Some, false, ◌+◌, ◌*◌, ◌/◌, ◌^◌, ◌<◌, ◌≤◌, ◌++◌, Option, OnErr, OnOk, List, length};
+ghost use Rattle.std.specs.Prelude.{slice_index_or, slice_set, take};
+ghost use Rattle.std.specs.Int.{bit_at};
+ghost use Rattle.std.specs.Vec.{vec_capacity, vec_len};
+ghost use Rattle.dv_time.specs.declared.time.Time.{Time};
+ghost use Rattle.dv_agenda.specs.declared.least.Least.{Least};
+ghost use Rattle.dv_agenda.specs.declared.least.Least.TheVariants.{Known};
+ghost use Rattle.dv_agenda.specs.Agendas.{HasRoom, IsKept};
+ghost use Rattle.dv_agenda.specs.Waits.{due_at, ends_at, first_of, sooner};
+ghost use Rattle.dv_agenda.specs.Wheel.{IsFrom, IsHeld, IsIn, IsLow, has, in_slot, least_at, slot};
+
+use crate::bits;
+use crate::least::{Least, entered, left};
+use crate::set::Set;
+use crate::slot::slot_of;
+use crate::wait::{push_due, sooner, wait_at};
+use dv_time::Time;
+use std::alloc::AllocError;
+
+/// Puts a place into the set of the slot of its wait.
+#[inline]
+pub(crate) fn put(
+    used: &mut Set,
+    places: &mut Set,
+    leasts: &mut [Least],
+    span: usize,
+    now: u64,
+    place: usize,
+    wait: Option<Time>,
+)
+    requires room { HasRoom used.old places.old leasts.old span }
+    requires place { place < span }
+    ensures room { HasRoom used.new places.new leasts.new span }
+    ensures there { IsIn now used.new places.new leasts.new span place wait }
+    ensures used { (p : ℕ) → has used.old p ≡ 1 → has used.new p ≡ 1 }
+    ensures others { (p : ℕ) → has places.old p ≡ 1 → has places.new p ≡ 1 }
+    ensures low { (s : ℕ) (w : Option Time) → IsLow (least_at leasts.old s) w
+        → IsLow (least_at leasts.new s) w }
+    ensures held { (ws : List (Option Time)) → slice_index_or ws place None ≡ wait
+        → ((s : ℕ) → IsHeld ws now s (least_at leasts.old s)) → (s : ℕ)
+        → IsHeld ws now s (least_at leasts.new s) }
+{
+    if let Some(time) = wait {
+        let slot = slot_of(time.tick, now);
+        used.insert(slot);
+        places.insert(slot * span + place);
+        entered(leasts, slot, time);
+    }
+}
+
+/// Puts each place into the set of the slot of its wait.
+fn put_all(
+    waits: &[Option<Time>],
+    used: &mut Set,
+    places: &mut Set,
+    leasts: &mut [Least],
+    span: usize,
+    now: u64,
+)
+    requires room { HasRoom used.old places.old leasts.old span }
+    requires fits { length waits.now ≤ span }
+    requires held { (s : ℕ) → IsHeld waits.now now s (least_at leasts.old s) }
+    ensures room { HasRoom used.new places.new leasts.new span }
+    ensures there { (p : ℕ) → IsIn now used.new places.new leasts.new span p
+        (slice_index_or waits.now p None) }
+    ensures held { (s : ℕ) → IsHeld waits.now now s (least_at leasts.new s) }
+{
+    for (place, wait) in waits.iter().enumerate() {
+        put(used, places, leasts, span, now, place, *wait);
+    }
+}
+
+/// Takes each place out of the set of the slot of its wait, and the slot out of use.
+fn take_all(waits: &[Option<Time>], used: &mut Set, places: &mut Set, span: usize, now: u64)
+    requires slots { 641 ≤ 64 * length used.old }
+    requires room { 641 * span ≤ 64 * length places.old }
+    requires fits { length waits.now ≤ span }
+    requires narrow { span ≤ 2 ^ 33 }
+    ensures used { length used.new ≡ length used.old }
+    ensures places { length places.new ≡ length places.old }
+{
+    for (place, wait) in waits.iter().enumerate() {
+        if let Some(time) = *wait {
+            let slot = slot_of(time.tick, now);
+            used.remove(slot);
+            places.remove(slot * span + place);
+        }
+    }
+}
+
+/// The sooner of a wait and the least one among the places of a word.
+#[inline]
+fn least_of_word(
+    waits: &[Option<Time>],
+    word: u64,
+    base: usize,
+    least: Option<Time>,
+) -> Option<Time>
+    requires small { base ≤ 2 ^ 40 }
+    requires above { sooner (first_of waits.now) least ≡ first_of waits.now }
+    ensures above { sooner (first_of waits.now) result ≡ first_of waits.now }
+    ensures below { (p : ℕ) → p < 64 → bit_at word p ≡ 1
+        → sooner result (slice_index_or waits.now (base + p) None) ≡ result }
+    ensures before { (w : Option Time) → sooner least w ≡ least → sooner result w ≡ result }
+{
+    let mut rest = word;
+    let mut found = least;
+    while rest != 0 {
+        let place = base + bits::take_least(&mut rest);
+        found = sooner(found, wait_at(waits, place));
+    }
+    found
+}
+
+/// The least wait of the places in a slot, if there is one.
+#[inline]
+fn least_in(waits: &[Option<Time>], places: &Set, span: usize, slot: usize) -> Option<Time>
+    requires room { 641 * span ≤ 64 * length places.now }
+    requires whole { span ≡ 64 * (span / 64) }
+    requires fits { length waits.now ≤ span }
+    requires narrow { span ≤ 2 ^ 33 }
+    requires slot { slot < 641 }
+    ensures above { sooner (first_of waits.now) result ≡ first_of waits.now }
+    ensures below { (p : ℕ) → p < span → has places.now (slot * span + p) ≡ 1
+        → sooner result (slice_index_or waits.now p None) ≡ result }
+{
+    let base = slot * (span / 64);
+    let end = base + span / 64;
+    let mut least = None;
+    let mut at = places.next_word(base, end);
+    while at < end {
+        least = least_of_word(waits, places.word(at), 64 * (at - base), least);
+        at = places.next_word(at + 1, end);
+    }
+    least
+}
+
+/// The least wait of a slot, which is looked for where it is not known.
+#[inline]
+fn least_of(
+    waits: &[Option<Time>],
+    places: &Set,
+    leasts: &[Least],
+    span: usize,
+    at: usize,
+) -> Option<Time>
+    requires kept { (now : ℕ) × ((used : List ℕ)
+        × IsKept waits.now now used places.now leasts.now span) }
+    requires high { at < 641 }
+    ensures above { sooner (first_of waits.now) result ≡ first_of waits.now }
+    ensures below { (now : ℕ) (used : List ℕ) (p : ℕ) (t : Time)
+        → IsKept waits.now now used places.now leasts.now span
+        → slice_index_or waits.now p None ≡ Some t → slot t.tick now ≡ at
+        → sooner result (Some t) ≡ result }
+{
+    match leasts[at] {
+        Least::Known(least) => least,
+        Least::Unknown => least_in(waits, places, span, at),
+    }
+}
+
+/// Whether a wait has a slot.
+#[inline]
+fn in_slot(wait: Option<Time>, slot: usize, now: u64) -> bool
+    ensures { result ≡ in_slot now slot wait }
+{
+    match wait {
+        Some(time) => slot_of(time.tick, now) == slot,
+        None => false,
+    }
+}
+
+/// The first time that a place waits for.
+pub(crate) fn first(
+    waits: &[Option<Time>],
+    used: &Set,
+    places: &Set,
+    leasts: &[Least],
+    span: usize,
+    now: u64,
+) -> Option<Time>
+    requires { IsKept waits.now now used.now places.now leasts.now span }
+    ensures { result ≡ first_of waits.now }
+{
+    let mut slot = used.next(0, 641);
+    while slot < 641 {
+        let least = least_of(waits, places, leasts, span, slot);
+        if in_slot(least, slot, now) {
+            return least;
+        }
+        slot = used.next(slot + 1, 641);
+    }
+    None
+}
+
+/// The first time that a place waits for, where no slot has to be looked through for it.
+#[inline]
+pub(crate) fn at_hand(used: &Set, leasts: &[Least]) -> Least
+    requires slots { 641 ≤ 64 * length used.now }
+    requires known { 641 ≤ length leasts.now }
+    ensures { (waits : List (Option Time)) (now : ℕ) (places : List ℕ) (span : ℕ)
+        (first : Option Time) → IsKept waits now used.now places leasts.now span
+        → result ≡ Known first → first ≡ first_of waits }
+{
+    let at = used.next(0, 641);
+    if at == 641 {
+        return Least::Known(None);
+    }
+    match leasts[at] {
+        Least::Known(first) => match first {
+            Some(time) => Least::Known(Some(time)),
+            None => Least::Unknown,
+        },
+        Least::Unknown => Least::Unknown,
+    }
+}
+
+/// Keeps the first time that a place waits for as the least wait of its slot.
+#[inline]
+pub(crate) fn keep(leasts: &mut [Least], now: u64, first: Option<Time>)
+    requires { 641 ≤ length leasts.old }
+    ensures { (waits : List (Option Time)) (used places : List ℕ) (span : ℕ)
+        → first ≡ first_of waits → IsKept waits now used places leasts.old span
+        → IsKept waits now used places leasts.new span }
+{
+    if let Some(time) = first {
+        leasts[slot_of(time.tick, now)] = Least::Known(first);
+    }
+}
+
+/// Adds the places of a word that wait for a time to a list, in ascending order.
+#[inline]
+fn gather_word(
+    waits: &[Option<Time>],
+    word: u64,
+    base: usize,
+    time: Time,
+    into: &mut Vec<u32>,
+) -> Result<(), AllocError>
+    requires few { length waits.now ≤ 2 ^ 32 }
+    requires small { base ≤ 2 ^ 40 }
+    requires others { (p : ℕ) → p < 64 → bit_at word p ≡ 0
+        → ends_at time (slice_index_or waits.now (base + p) None) ≡ false }
+    ensures due { (before : List ℕ)
+        → into.old.items ≡ before ++ due_at time (take base waits.now)
+        → OnOk result (into.new.items ≡ before ++ due_at time (take (base + 64) waits.now)) }
+    ensures capacity { vec_capacity into.old ≤ vec_capacity into.new }
+    ensures full { (before : List ℕ)
+        → into.old.items ≡ before ++ due_at time (take base waits.now)
+        → OnErr result (vec_capacity into.old < length before + length (due_at time waits.now)) }
+{
+    let mut rest = word;
+    while rest != 0 {
+        let place = base + bits::take_least(&mut rest);
+        push_due(waits, place, time, into)?;
+    }
+    Ok(())
+}
+
+/// Adds the places that wait for a time to a list, in ascending order.
+pub(crate) fn gather(
+    waits: &[Option<Time>],
+    used: &Set,
+    places: &Set,
+    span: usize,
+    now: u64,
+    time: Time,
+    into: &mut Vec<u32>,
+) -> Result<(), AllocError>
+    requires kept { (leasts : List Least) × IsKept waits.now now used.now places.now leasts span }
+    requires few { length waits.now ≤ 2 ^ 32 }
+    ensures due { OnOk result (into.new.items ≡ into.old.items ++ due_at time waits.now) }
+    ensures capacity { vec_capacity into.old ≤ vec_capacity into.new }
+    ensures full { OnErr result (vec_capacity into.old < vec_len into.old + length
+        (due_at time waits.now)) }
+{
+    if time.tick < now {
+        return Ok(());
+    }
+    let base = slot_of(time.tick, now) * (span / 64);
+    let end = base + span / 64;
+    let mut at = places.next_word(base, end);
+    while at < end {
+        gather_word(waits, places.word(at), 64 * (at - base), time, into)?;
+        at = places.next_word(at + 1, end);
+    }
+    Ok(())
+}
+
+/// Puts each place of a word into the set of the slot of its wait.
+#[inline]
+fn spread_word(
+    waits: &[Option<Time>],
+    used: &mut Set,
+    places: &mut Set,
+    leasts: &mut [Least],
+    span: usize,
+    now: u64,
+    word: u64,
+    base: usize,
+)
+    requires room { HasRoom used.old places.old leasts.old span }
+    requires within { base + 64 ≤ span }
+    requires held { (s : ℕ) → IsHeld waits.now now s (least_at leasts.old s) }
+    ensures room { HasRoom used.new places.new leasts.new span }
+    ensures there { (p : ℕ) → p < 64 → bit_at word p ≡ 1
+        → IsIn now used.new places.new leasts.new span (base + p)
+        (slice_index_or waits.now (base + p) None) }
+    ensures used { (p : ℕ) → has used.old p ≡ 1 → has used.new p ≡ 1 }
+    ensures others { (p : ℕ) → has places.old p ≡ 1 → has places.new p ≡ 1 }
+    ensures low { (s : ℕ) (w : Option Time) → IsLow (least_at leasts.old s) w
+        → IsLow (least_at leasts.new s) w }
+    ensures held { (s : ℕ) → IsHeld waits.now now s (least_at leasts.new s) }
+{
+    let mut rest = word;
+    while rest != 0 {
+        let place = base + bits::take_least(&mut rest);
+        put(
+            used,
+            places,
+            leasts,
+            span,
+            now,
+            place,
+            wait_at(waits, place),
+        );
+    }
+}
+
+/// Puts each place in a slot of the tick before into the set of its slot now.
+fn spread(
+    waits: &[Option<Time>],
+    used: &mut Set,
+    places: &mut Set,
+    leasts: &mut [Least],
+    span: usize,
+    before: u64,
+    now: u64,
+)
+    requires kept { IsKept waits.now before used.old places.old leasts.old span }
+    requires on { before ≤ now }
+    requires from { (p : ℕ) → IsFrom now (slice_index_or waits.now p None) }
+    ensures kept { IsKept waits.now now used.new places.new leasts.new span }
+{
+    let slot = slot_of(now, before);
+    used.remove(slot);
+    leasts[slot] = Least::Known(None);
+    let base = slot * (span / 64);
+    let end = base + span / 64;
+    let mut at = places.next_word(base, end);
+    while at < end {
+        let word = places.take_word(at);
+        spread_word(
+            waits,
+            used,
+            places,
+            leasts,
+            span,
+            now,
+            word,
+            64 * (at - base),
+        );
+        at = places.next_word(at + 1, end);
+    }
+}
+
+/// Lets time go on to a tick before which no place waits for one.
+pub(crate) fn go_on(
+    waits: &[Option<Time>],
+    used: &mut Set,
+    places: &mut Set,
+    leasts: &mut [Least],
+    span: usize,
+    now: u64,
+    tick: u64,
+)
+    requires kept { IsKept waits.now now used.old places.old leasts.old span }
+    requires on { now ≤ tick }
+    requires from { (p : ℕ) → IsFrom tick (slice_index_or waits.now p None) }
+    ensures { IsKept waits.now tick used.new places.new leasts.new span }
+{
+    if slot_of(tick, now) >= 64 {
+        spread(waits, used, places, leasts, span, now, tick);
+    }
+}
+
+/// Takes a place out of the set of the slot of its wait, and the slot out of use where no place is left in it.
+#[inline]
+fn leave(
+    used: &mut Set,
+    places: &mut Set,
+    leasts: &mut [Least],
+    span: usize,
+    now: u64,
+    place: usize,
+    wait: Option<Time>,
+)
+    requires room { HasRoom used.old places.old leasts.old span }
+    requires place { place < span }
+    ensures room { HasRoom used.new places.new leasts.new span }
+    ensures others { (p : ℕ) (w : Option Time) → p < span → p ≢ place
+        → IsIn now used.old places.old leasts.old span p w
+        → IsIn now used.new places.new leasts.new span p w }
+    ensures held { (ws : List (Option Time)) (w : Option Time) → place < length ws
+        → slice_index_or ws place None ≡ wait
+        → ((s : ℕ) → IsHeld ws now s (least_at leasts.old s)) → (s : ℕ)
+        → IsHeld (slice_set ws place w) now s (least_at leasts.new s) }
+{
+    if let Some(time) = wait {
+        let slot = slot_of(time.tick, now);
+        let base = slot * (span / 64);
+        let end = base + span / 64;
+        places.remove(slot * span + place);
+        if places.next_word(base, end) == end {
+            used.remove(slot);
+            leasts[slot] = Least::Known(None);
+        } else {
+            left(leasts, slot, time);
+        }
+    }
+}
+
+/// The present tick, or that of a wait that ends before.
+#[inline]
+fn earlier(now: u64, wait: Option<Time>) -> u64
+    ensures low { result ≤ now }
+    ensures from { IsFrom result wait }
+{
+    match wait {
+        Some(time) => { if time.tick < now { time.tick } else { now } }
+        None => now,
+    }
+}
+
+/// Lets a place wait for another time, or for none, and gives the present tick, which is earlier where the time is.
+#[inline]
+pub(crate) fn replace(
+    waits: &mut [Option<Time>],
+    used: &mut Set,
+    places: &mut Set,
+    leasts: &mut [Least],
+    span: usize,
+    now: u64,
+    place: usize,
+    wait: Option<Time>,
+) -> u64
+    requires kept { IsKept waits.old now used.old places.old leasts.old span }
+    requires place { place < length waits.old }
+    ensures kept { IsKept waits.new result used.new places.new leasts.new span }
+    ensures waits { waits.new ≡ slice_set waits.old place wait }
+{
+    leave(used, places, leasts, span, now, place, waits[place]);
+    waits[place] = wait;
+    let present = earlier(now, wait);
+    if present == now {
+        put(used, places, leasts, span, now, place, wait);
+    } else {
+        take_all(waits, used, places, span, now);
+        leasts.fill(Least::Known(None));
+        put_all(waits, used, places, leasts, span, present);
+    }
+    present
+}
