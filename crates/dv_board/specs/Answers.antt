@@ -1,16 +1,25 @@
--- Why a backlog does not join a piece.
-use Rattle.std.specs.Prelude.{◌≡◌}
+-- Why a backlog does not join a piece, and which one of several it was.
+use Rattle.std.specs.Prelude.{◌≡◌, ℕ, List, slice_get, Some, take}
 use Rattle.dv_time.specs.Time.{IsOfRun}
 use Rattle.dv_conservative.specs.World.{Job}
 use Rattle.dv_board.specs.declared.backlog.Unjoined.{Unjoined}
 use Rattle.dv_board.specs.declared.backlog.Unjoined.TheVariants.{Gap, Memory}
 use Rattle.dv_board.specs.declared.posts.Piece.{Piece}
-use Rattle.dv_board.specs.Backlogs.{BacklogOf, clock_of}
+use Rattle.dv_board.specs.Backlogs.{BacklogOf, clock_of, clocks_with}
 use Rattle.dv_board.specs.Clocks.{IsNoLater, IsSooner}
 
--- the clock that is kept is before the piece, and is told; or memory was wanted, where there was no gap and something to join
+-- the clock that is kept is before the piece, and is told, and the piece comes back; or memory was wanted, where there was no gap and
+-- something to join
 abbrev pub IsRefused : Job → BacklogOf → Piece → Unjoined → Type 0
-IsRefused job b piece (Gap kept) =
-    (kept ≡ clock_of b piece.process) × IsOfRun job.limit kept × IsSooner job kept piece.from
+IsRefused job b piece (Gap kept back) =
+    (back ≡ piece) × (kept ≡ clock_of b piece.process) × IsOfRun job.limit kept × IsSooner job kept piece.from
 IsRefused job b piece Memory =
     IsNoLater job piece.from (clock_of b piece.process) × IsSooner job (clock_of b piece.process) piece.clock
+
+-- of pieces in turn: the one at a place was refused, and the clocks are as those before it make them
+pub record IsCutAt (job : Job) (before after : BacklogOf) (pieces : List Piece) (why : Unjoined) : Type 0 where
+  pub place : ℕ
+  pub piece : Piece
+  pub there : slice_get pieces place ≡ Some piece
+  pub clocks : after.clocks ≡ clocks_with before.clocks (take place pieces)
+  pub refused : IsRefused job after piece why

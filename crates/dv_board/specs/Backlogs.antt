@@ -1,11 +1,12 @@
 -- What a backlog keeps, and what callers see of it.
-use Rattle.std.specs.Prelude.{◌≡◌, ℕ, ◌<◌, ◌≤◌, List, length, slice_get, slice_index_or, Some}
+use Rattle.std.specs.Prelude.{◌≡◌, ℕ, ◌<◌, ◌≤◌, List, [], ◌∷◌, length, set, slice_get, slice_index_or, Some}
 use Rattle.dv_time.specs.Time.{IsOfRun, end_of, rank}
 use Rattle.dv_time.specs.declared.time.Time.{Time}
 use Rattle.dv_conservative.specs.Process.{first_time}
 use Rattle.dv_conservative.specs.World.{Job}
 use Rattle.dv_board.specs.declared.held.Held.{Held}
-use Rattle.dv_board.specs.Clocks.{IsNoLater}
+use Rattle.dv_board.specs.declared.posts.Piece.{Piece}
+use Rattle.dv_board.specs.Clocks.{IsNoLater, later}
 use Rattle.dv_board.specs.Jobs.{IsMergeable, committed}
 
 -- from when on the trace was not written yet, and up to when each process is kept
@@ -16,6 +17,12 @@ pub record BacklogOf : Type 0 where
 -- up to when a process is kept
 abbrev pub clock_of : BacklogOf → ℕ → Time
 clock_of backlog p = slice_index_or backlog.clocks p first_time
+
+-- the clocks of processes after pieces in turn, each of which makes its process's clock the later of that clock and its own
+abbrev pub clocks_with : List Time → List Piece → List Time
+clocks_with clocks [] = clocks
+clocks_with clocks (piece ∷ pieces) =
+    clocks_with (set clocks piece.process (later (slice_index_or clocks piece.process first_time) piece.clock)) pieces
 
 -- what a process commits from a time that is not past the mark, to its clock, which is not past the end
 pub record IsHeld (job : Job) (mark : Time) (p : ℕ) (h : Held) : Type 0 where

@@ -2,5 +2,6 @@ pub mod Answers
 pub mod Backlogs
 pub mod Clocks
 pub mod Jobs
+pub mod Marks
 pub mod Places
 pub mod Posts

@@ -3,11 +3,12 @@
 ghost use Rattle.std.specs.Prelude.{◌≡◌, ◌<◌, ◌≤◌, IfErr, IfNone, IfOk, IfSome, OnErr, OnOk, OnSome, length, map, replicate, set};
 ghost use Rattle.std.specs.List.{All};
 ghost use Rattle.dv_time.specs.Time.{IsOfRun, end_of, rank};
+ghost use Rattle.dv_time.specs.declared.time.Time.{Time as MeantTime};
 ghost use Rattle.dv_bag.specs.Part.{IsByTime, before, nothing, since};
 ghost use Rattle.dv_conservative.specs.Process.{first_time};
 ghost use Rattle.dv_merge.specs.Whole.{ArePartsOf};
-ghost use Rattle.dv_board.specs.Answers.{IsRefused};
-ghost use Rattle.dv_board.specs.Backlogs.{clock_of};
+ghost use Rattle.dv_board.specs.Answers.{IsCutAt, IsRefused};
+ghost use Rattle.dv_board.specs.Backlogs.{clock_of, clocks_with};
 ghost use Rattle.dv_board.specs.Clocks.{IsLeast, IsNoLater, later};
 ghost use Rattle.dv_board.specs.Jobs.{IsMergeable, trace};
 ghost use Rattle.dv_board.specs.Places.{rest_of};
@@ -43,11 +44,11 @@ impl<N: OfJob> Model for Backlog<N> {
 }
 
 /// Why a piece was not joined.
-#[derive(Clone, Copy, Debug, PartialEq, Eq)]
+#[derive(Debug, Drop)]
 pub enum Unjoined {
-    /// That process is kept up to this time, which is before the piece begins.
-    Gap(Time),
-    /// There is no memory for what the piece adds.
+    /// Its process is kept up to a time that is before the piece begins. The piece is handed back.
+    Gap { kept: Time, piece: Piece },
+    /// There is no memory for what the piece adds. The piece is gone.
     Memory,
 }
 
@@ -79,6 +80,17 @@ fn least_clock(held: &[Held]) -> Time
         }
     }
     least
+}
+
+// The clocks of what is kept.
+fn clocks_of(alloc: Global, held: &[Held]) -> Result<Vec<Time>, AllocError>
+    ensures { IfOk result (λ clocks. clocks.items ≡ map (λ h. h.clock) held.now) }
+{
+    let mut clocks = Vec::with_capacity(alloc, held.len())?;
+    for place in held {
+        clocks.push(place.clock)?;
+    }
+    Ok(clocks)
 }
 
 // What each process committed from one time on and before another, where it lies.
@@ -138,12 +150,28 @@ impl<N: OfJob> Backlog<N> {
         self.held[process as usize].clock
     }
 
+    /// Up to when each process is kept, by their numbers.
+    ///
+    /// # Errors
+    ///
+    /// No memory for the list.
+    pub fn clocks(&self, alloc: Global) -> Result<Vec<Time>, AllocError>
+        ensures clocks { IfOk result (λ clocks. clocks.items ≡ self.now.clocks) }
+        ensures count { IfOk result (λ clocks. length clocks.items ≡ N.job.processes) }
+        ensures of_run { IfOk result (λ clocks. All (IsOfRun N.job.limit) clocks.items) }
+        ensures within { IfOk result (λ clocks. All (λ (t : MeantTime).
+            rank N.job.limit t ≤ end_of N.job.limit N.job.horizon) clocks.items) }
+    {
+        let clocks = clocks_of(alloc, &self.held)?;
+        Ok(clocks)
+    }
+
     /// Joins a piece. What is kept already is not joined again, and the clock that is kept becomes the later of the two.
     ///
     /// # Errors
     ///
-    /// `Gap` tells the clock that is kept, where that is before the piece begins. `Memory` comes only where the piece reaches
-    /// past that clock. The backlog is as before, and the piece is gone.
+    /// `Gap` tells the clock that is kept, where that is before the piece begins, and hands the piece back. `Memory` comes only
+    /// where the piece reaches past that clock; the piece is gone. The backlog is as before.
     pub fn extend(&mut self, piece: Piece) -> Result<(), Unjoined>
         requires { IsPiece N.job piece }
         ensures mark { self.new.mark ≡ self.old.mark }
@@ -153,32 +181,33 @@ impl<N: OfJob> Backlog<N> {
         ensures err { OnErr result (self.new ≡ self.old) }
         ensures refused { IfErr result (IsRefused N.job self.old piece) }
     {
-        let Piece {
-            process,
-            from,
-            clock,
-            part,
-        } = piece;
-        let held = &mut self.held[process as usize];
+        let held = &mut self.held[piece.process as usize];
         let kept = held.clock;
-        if kept.is_before(from) {
-            return Err(Unjoined::Gap(kept));
+        if kept.is_before(piece.from) {
+            return Err(Unjoined::Gap { kept, piece });
         }
-        if let Err(_) = held.join(part, clock) {
+        if let Err(_) = held.join(piece.part, piece.clock) {
             return Err(Unjoined::Memory);
         }
         Ok(())
     }
 
-    /// Joins pieces one after the other, as far as memory allows. Once a piece of a process is lost, its later pieces
-    /// are lost too.
-    pub fn extend_all(&mut self, pieces: Vec<Piece>)
+    /// Joins pieces in turn, until one is refused.
+    ///
+    /// # Errors
+    ///
+    /// The first piece that is refused, as `extend` tells it. Those before it were joined, and those after it are gone. What is
+    /// before the clock of its process stays, but nothing past that clock can be written any more.
+    pub fn extend_all(&mut self, pieces: Vec<Piece>) -> Result<(), Unjoined>
         requires { All (IsPiece N.job) pieces.items }
-        ensures { self.new.mark ≡ self.old.mark }
+        ensures mark { self.new.mark ≡ self.old.mark }
+        ensures clocks { OnOk result (self.new.clocks ≡ clocks_with self.old.clocks pieces.items) }
+        ensures refused { IfErr result (IsCutAt N.job self.old self.new pieces.items) }
     {
         for piece in pieces {
-            let _ = self.extend(piece);
+            self.extend(piece)?;
         }
+        Ok(())
     }
 
     /// What each process has committed from the mark on and before the least clock, as slices of what is kept, and that

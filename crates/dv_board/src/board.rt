@@ -1,13 +1,10 @@
 //! The board under its lock.
 
-ghost use Rattle.std.specs.Prelude.{◌≡◌, ◌<◌};
 ghost use Rattle.std.specs.List.{All};
-ghost use Rattle.dv_time.specs.Time.{IsOfRun};
 ghost use Rattle.dv_board.specs.Posts.{IsPiece};
 
 use crate::posts::{Piece, Posts};
 use dv_link::OfJob;
-use dv_time::Time;
 use std::alloc::{AllocError, Global};
 use std::sync::{Mutex, Wait};
 
@@ -21,25 +18,10 @@ pub struct Board<N: OfJob> {
 
 impl<N: OfJob> Board<N> {
     /// A board on which nothing was posted.
-    ///
-    /// # Errors
-    ///
-    /// No memory for the clocks of so many processes.
-    pub fn new(alloc: Global, processes: u32) -> Result<Self, AllocError>
-        requires { processes ≡ N.job.processes }
-    {
-        Ok(Board {
-            posts: Mutex::new(Posts::new(alloc, processes)?),
-        })
-    }
-
-    /// The time up to which a process was posted. A piece that begins there leaves no gap if only one thread posts the
-    /// process; what once found no memory comes with the next piece.
-    pub fn clock<R: Wait>(&self, rt: &R, process: u32) -> Time
-        requires { process < N.job.processes }
-        ensures { IsOfRun N.job.limit result }
-    {
-        self.posts.lock(rt).clock(process)
+    pub fn new(alloc: Global) -> Self {
+        Board {
+            posts: Mutex::new(Posts::new(alloc)),
+        }
     }
 
     /// Posts a piece.

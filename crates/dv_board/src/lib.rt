@@ -8,6 +8,8 @@ pub mod backlog;
 pub mod board;
 /// What a backlog keeps of one process.
 mod held;
+/// Laws of what is written from mark to mark.
+pub mod laws;
 /// What workers posted and nobody has taken yet.
 pub mod posts;
 

@@ -2,8 +2,9 @@
 
 ghost use Rattle.dv_core.specs.Conservative.{IsConservative, state_by};
 
-use crate::process::LogicalProcess;
-use dv_proc::{Local, Packet, Process, Refused, Turned};
+use crate::process::{LogicalProcess, ProcessHandsOver};
+use dv_bag::Part;
+use dv_proc::{Local, LocalHandsOver, Packet, Process, Refused, Turned};
 use dv_time::Time;
 use std::alloc::AllocError;
 
@@ -51,5 +52,11 @@ impl<L: Local + Drop> LogicalProcess for Process<L> {
 
     fn finish(self) -> (L::Record, Time) {
         Process::into_record(self)
+    }
+}
+
+impl<L: LocalHandsOver + Drop> ProcessHandsOver for Process<L> {
+    fn hand_over(&mut self) -> Part {
+        Process::hand_over(self)
     }
 }

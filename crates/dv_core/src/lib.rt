@@ -23,7 +23,7 @@ pub mod runs;
 pub mod parts;
 
 pub use parts::{committed, into_part, into_parts};
-pub use process::{LogicalProcess, PlannedJob};
+pub use process::{LogicalProcess, PlannedJob, ProcessHandsOver};
 pub use state::WorldState;
 pub use step::{Ended, Reply, Step};
 pub use world::World;

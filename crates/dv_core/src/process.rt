@@ -1,6 +1,7 @@
 //! What a world asks of its processes and of their job.
 
 ghost use Rattle.std.specs.Prelude.{◌≡◌, ◌≢◌, ◌≤◌, ℕ, None, Some, IfOk, IfErr, OnErr, OnOk, MatchOption};
+ghost use Rattle.dv_bag.specs.Part.{joined};
 ghost use Rattle.dv_conservative.specs.Process.{refusal_of};
 ghost use Rattle.dv_conservative.specs.World.{Job};
 ghost use Rattle.dv_proc.specs.Packets.{meant_packet};
@@ -10,6 +11,7 @@ ghost use Rattle.dv_proc.specs.Refusals.{meant_refusal};
 ghost use Rattle.dv_record.specs.Told.{Handed};
 ghost use Rattle.dv_time.specs.Limits.{greatest_tick};
 
+use dv_bag::Part;
 use dv_proc::{Packet, Refused, Turned};
 use dv_record::Record;
 use dv_time::Time;
@@ -98,6 +100,18 @@ pub trait LogicalProcess: Drop {
     fn finish(self) -> (Self::Record, Time)
         ensures told { Self.Record.told result.0 ≡ (state self).part }
         ensures clock { result.1 ≡ (state self).position.clock };
+}
+
+/// A logical process of whose record a part is moved out while it commits more.
+pub trait ProcessHandsOver: LogicalProcess {
+    /// Moves out what it committed beyond what was moved out before.
+    fn hand_over(&mut self) -> Part
+        requires { Self.valid self.old }
+        ensures valid { Self.valid self.new }
+        ensures state { Self.state self.new ≡ Self.state self.old }
+        ensures part { (Self.state self.old).part ≡ joined (Self.handed self.old).past result }
+        ensures handed { Self.handed self.new
+            ≡ record (Self.handed self.old) { past = (Self.state self.old).part } };
 }
 
 /// What a plan says of its job: the model that is run in parts, and until when.

@@ -3,6 +3,7 @@
 ghost use Rattle.std.specs.Prelude.{◌≡◌, ◌≢◌, ◌+◌, ◌^◌, ◌≤◌, ◌<◌, ℕ, ◌↔◌, IsTrue, IfOk, OnErr, OnOk, map, [], length};
 ghost use Rattle.std.specs.Prelude.{replicate, slice_get, slice_set, Some, vec_len, true, false};
 ghost use Rattle.dv_time.specs.Time.{end_of};
+ghost use Rattle.dv_bag.specs.Part.{joined};
 ghost use Rattle.dv_conservative.specs.Rounds.{IsDriven, moves_from, round};
 ghost use Rattle.dv_conservative.specs.World.{new_world};
 ghost use Rattle.dv_proc.specs.Packets.{meant_packets};
@@ -12,8 +13,9 @@ ghost use Rattle.dv_core.specs.Standing.{Continues, IsStepped, Stands};
 ghost use Rattle.dv_core.specs.declared.step.Ended.TheVariants as ended;
 ghost use Rattle.dv_core.specs.declared.step.Step.TheVariants as step;
 
-use crate::process::{LogicalProcess, PlannedJob};
+use crate::process::{LogicalProcess, PlannedJob, ProcessHandsOver};
 use crate::step::{Ended, Reply, Step};
+use dv_bag::Part;
 use dv_proc::{Channel, Packet, Refused};
 use dv_time::Time;
 use std::alloc::{AllocError, Global};
@@ -393,6 +395,26 @@ impl<J: PlannedJob, P: LogicalProcess> WorldState<J, P> {
         ensures { result.now ≡ self.now.job }
     {
         &self.job
+    }
+}
+
+impl<J: PlannedJob, P: ProcessHandsOver> WorldState<J, P> {
+    /// Moves out what a process committed beyond what was moved out of it before.
+    pub fn hand_over(&mut self, process: u32) -> Part
+        requires stands { Stands J.means P.state P.valid self.old }
+        requires process { process < vec_len self.old.processes }
+        ensures stands { Stands J.means P.state P.valid self.new }
+        ensures job { self.new.job ≡ self.old.job }
+        ensures kept { kept_by P.state self.new ≡ kept_by P.state self.old }
+        ensures part { (x : P) → slice_get self.old.processes.items process ≡ Some x
+            → (P.state x).part ≡ joined (P.handed x).past result }
+        ensures handed { (x : P) → slice_get self.old.processes.items process ≡ Some x
+            → map P.handed self.new.processes.items
+            ≡ slice_set (map P.handed self.old.processes.items) process
+            (record (P.handed x) { past = (P.state x).part }) }
+    {
+        let owner = &mut self.processes[process as usize];
+        owner.hand_over()
     }
 }
 

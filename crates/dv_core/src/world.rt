@@ -1,8 +1,9 @@
 //! Logical processes, the links between them, and their steps.
 
-use crate::process::{LogicalProcess, PlannedJob};
+use crate::process::{LogicalProcess, PlannedJob, ProcessHandsOver};
 use crate::state::WorldState;
 use crate::step::{Ended, Reply, Step};
+use dv_bag::Part;
 use dv_proc::Channel;
 use dv_time::Time;
 use std::alloc::{AllocError, Global};
@@ -165,5 +166,26 @@ impl<J: PlannedJob, P: LogicalProcess> World<J, P> {
             ≡ map (λ x. (P.state x).position.clock) self.processes.items) }
     {
         self.state.finish(alloc)
+    }
+}
+
+impl<J: PlannedJob, P: ProcessHandsOver> World<J, P> {
+    ghost use Rattle.std.specs.Prelude.{◌≡◌, ◌<◌, Some, map, slice_get, slice_set};
+    ghost use Rattle.dv_bag.specs.Part.{joined};
+    ghost use Rattle.dv_core.specs.Worlds.{kept_by};
+
+    /// Moves out what a process committed beyond what was moved out of it before. Nothing else changes that is seen.
+    pub fn hand_over(&mut self, process: u32) -> Part
+        requires { process < (J.means self.old.job).processes }
+        ensures job { self.new.job ≡ self.old.job }
+        ensures kept { kept_by P.state self.new ≡ kept_by P.state self.old }
+        ensures part { (x : P) → slice_get self.old.processes.items process ≡ Some x
+            → (P.state x).part ≡ joined (P.handed x).past result }
+        ensures handed { (x : P) → slice_get self.old.processes.items process ≡ Some x
+            → map P.handed self.new.processes.items
+            ≡ slice_set (map P.handed self.old.processes.items) process
+            (record (P.handed x) { past = (P.state x).part }) }
+    {
+        self.state.hand_over(process)
     }
 }

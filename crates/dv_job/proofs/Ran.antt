@@ -131,8 +131,8 @@ module _ (names : List (List ℕ)) (f : FileTree) (played : List Input) (groups 
         → IsTextOf names f played groups.processes o.horizon o.limit (lines ++ end_text at o.horizon r.clocks.items)
     text_of_it ran.Whole at =
         inl (ap (λ (n : ℕ). lines_before names f played o.limit n ++ ending_text (text_end.Whole o.horizon)) (printed.whole at))
-    text_of_it ran.Stalled at = inr (r.clocks.items, printed.count, printed.some, refl)
-    text_of_it ran.Memory at = inr (r.clocks.items, printed.count, printed.some, refl)
+    text_of_it ran.Stalled at = inr (r.clocks.items, printed.count, printed.some, printed.within, refl)
+    text_of_it ran.Memory at = inr (r.clocks.items, printed.count, printed.some, printed.within, refl)
 
     behind : (text : List ℕ) → Appends mid new text → Appends old new (lines ++ text)
     behind text written = Appends-append old mid new lines text printed.lines written
@@ -167,6 +167,7 @@ module _ (names : List (List ℕ)) (f : FileTree) (played : List Input) (groups 
       clocks = r.clocks.items;
       count = printed.count;
       some = printed.some;
+      within = printed.within;
       written = behind (partial_ending r.clocks.items) written;
     }
 
@@ -234,20 +235,22 @@ module _ (names : List (List ℕ)) (f : FileTree) (played : List Input) (groups 
 
   -- a run by workers
   module _ (r : Ran) (old mid new : Option (List ℕ)) (is : IsPrinted names f played groups o.horizon o.limit old mid r)
-      (unstalled : r.ended ≡ ran.Stalled → ⊥) where
-    worked_so : (at : Ended) → r.ended ≡ at → Appends mid new (end_text at o.horizon r.clocks.items)
-        → EndsByWorkers (ended_at at r.faulted) model inputs partition o old new
-    worked_so ran.Whole at written =
-        ends_whole r old mid new is (λ (e : JobEnded). EndsByWorkers e model inputs partition o old new) (λ p. p) (λ p. p) at written
-    worked_so ran.Stalled at written = absurd (unstalled at)
-    worked_so ran.Memory at written = prints_cut r old mid new is written
+      (unstalled : r.ended ≡ ran.Stalled → ⊥) (short : (r.ended ≡ ran.Whole → ⊥) → least_rank o.limit r.clocks.items < end_of o.limit o.horizon)
+    where
+      worked_so : (at : Ended) → r.ended ≡ at → Appends mid new (end_text at o.horizon r.clocks.items)
+          → EndsByWorkers (ended_at at r.faulted) model inputs partition o old new
+      worked_so ran.Whole at written =
+          ends_whole r old mid new is (λ (e : JobEnded). EndsByWorkers e model inputs partition o old new) (λ p. p) (λ p. p) at written
+      worked_so ran.Stalled at written = absurd (unstalled at)
+      worked_so ran.Memory at written =
+          record { cut = prints_cut r old mid new is written; short = short (λ whole. absurd (let e = sym at ∙ whole in cc)) }
 
-    pub if_workers_ended : (result : Result JobEnded JobError) → IfOk result (λ (e : JobEnded). e ≡ ended_at r.ended r.faulted)
-        → OnOk result (Appends mid new (end_text r.ended o.horizon r.clocks.items))
-        → IfOk result (λ (e : JobEnded). EndsByWorkers e model inputs partition o old new)
-    if_workers_ended (Ok e) ending written =
-        subst (λ (e : JobEnded). EndsByWorkers e model inputs partition o old new) (sym ending) (worked_so r.ended refl written)
-    if_workers_ended (Err e) ending written = tt
+      pub if_workers_ended : (result : Result JobEnded JobError) → IfOk result (λ (e : JobEnded). e ≡ ended_at r.ended r.faulted)
+          → OnOk result (Appends mid new (end_text r.ended o.horizon r.clocks.items))
+          → IfOk result (λ (e : JobEnded). EndsByWorkers e model inputs partition o old new)
+      if_workers_ended (Ok e) ending written =
+          subst (λ (e : JobEnded). EndsByWorkers e model inputs partition o old new) (sym ending) (worked_so r.ended refl written)
+      if_workers_ended (Err e) ending written = tt
 
 -- a model, its inputs and its groups, all read
 pub planned_tree : (model inputs : List ℕ) (partition : Partition) (limit : ℕ) (tree : Source) (groups : Grouping) (played : List Input)

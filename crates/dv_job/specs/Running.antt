@@ -8,6 +8,7 @@ use Rattle.dv_syntax.specs.Trees.{FileTree}
 use Rattle.dv_inputs.specs.Reading.{reading_of}
 use Rattle.dv_inputs.specs.declared.error.InputRefusal.{InputRefusal}
 use Rattle.dv_core.specs.declared.step.Ended.{Ended}
+use Rattle.dv_devs.specs.Clocks.{least_rank}
 use Rattle.dv_core.specs.declared.step.Ended.TheVariants.{Memory, Stalled}
 use Rattle.dv_flat.specs.Links.{paths_of}
 use Rattle.dv_partition.specs.Answers.{partition_answer}
@@ -16,6 +17,7 @@ use Rattle.dv_partition.specs.declared.choice.Partition.{Partition}
 use Rattle.dv_partition.specs.declared.error.PartitionRefusal.{PartitionRefusal}
 use Rattle.dv_plain.specs.Source.{network_of, outside, trace_of}
 use Rattle.dv_run.specs.Runs.{LedTo}
+use Rattle.dv_stream.specs.Clocks.{AreWithin}
 use Rattle.dv_text.specs.Names.{component_names, root_ports}
 use Rattle.dv_text.specs.Texts.{partial_text}
 use Rattle.dv_text.specs.Writing.{StopsShort}
@@ -41,11 +43,13 @@ abbrev pub cut_text : List (List ℕ) → FileTree → List Input → (limit : �
 cut_text names f inputs limit clocks =
     partial_text (component_names names f) (root_ports names f) limit (network_of limit f) (outside f limit inputs) clocks
 
--- the whole text of a trace, or one that is cut at the clocks of so many processes, one for each; there is at least one
+-- the whole text of a trace, or one that is cut at the clocks of so many processes, one for each, none of which is past the end; there
+-- is at least one
 abbrev pub IsTextOf : List (List ℕ) → FileTree → List Input → (processes horizon limit : ℕ) → List ℕ → Type 0
 IsTextOf names f inputs processes horizon limit text =
     (text ≡ run_text names f inputs horizon limit)
-    ⊎ ((clocks : List Time) × (length clocks ≡ processes) × (0 < length clocks) × (text ≡ cut_text names f inputs limit clocks))
+    ⊎ ((clocks : List Time) × (length clocks ≡ processes) × (0 < length clocks) × AreWithin horizon limit clocks
+    × (text ≡ cut_text names f inputs limit clocks))
 
 -- how many rounds a run has: those of the options, or else one more than there are ranks before the end, which is enough
 abbrev pub granted : Options → ℕ
@@ -67,7 +71,8 @@ abbrev pub ended_for : Why → Ended
 ended_for why.Rounds = Stalled
 ended_for why.Memory = Memory
 
--- All is accepted, and the writer's bytes grew by the text of the trace, cut at the clocks of the processes, one for each.
+-- All is accepted, and the writer's bytes grew by the text of the trace, cut at the clocks of the processes, one for each, none of
+-- which is past the end.
 pub record PrintsCutAt (model inputs : List ℕ) (partition : Partition) (o : Options) (old new : Option (List ℕ)) : Type 0 where
   pub names : List (List ℕ)
   pub file : FileTree
@@ -77,6 +82,7 @@ pub record PrintsCutAt (model inputs : List ℕ) (partition : Partition) (o : Op
   pub clocks : List Time
   pub count : length clocks ≡ groups.processes
   pub some : 0 < length clocks
+  pub within : AreWithin o.horizon o.limit clocks
   pub written : Appends old new (cut_text names file played o.limit clocks)
 
 -- The same of a run in rounds, which led to those clocks. For want of rounds it ends only where there are no more than ranks before
@@ -86,6 +92,11 @@ pub record PrintsCut (model inputs : List ℕ) (partition : Partition) (o : Opti
   pub cut : PrintsCutAt model inputs partition o old new
   pub led : LedTo cut.file cut.played cut.groups o.horizon o.limit o.capacity (granted o) (ended_for reason) cut.clocks
   pub stalls : reason ≡ why.Rounds → granted o ≤ end_of o.limit o.horizon
+
+-- The same of a run by workers: it is cut before the end.
+pub record PrintsCutByWorkers (model inputs : List ℕ) (partition : Partition) (o : Options) (old new : Option (List ℕ)) : Type 0 where
+  pub cut : PrintsCutAt model inputs partition o old new
+  pub short : least_rank o.limit cut.clocks < end_of o.limit o.horizon
 
 -- All is accepted, and the writer's bytes grew by a beginning of such a text, but not by all of it.
 pub record PrintsSome (model inputs : List ℕ) (partition : Partition) (o : Options) (old new : Option (List ℕ)) : Type 0 where
@@ -108,7 +119,7 @@ EndsBy (ended.Partial reason) model inputs partition o old new = PrintsCut model
 abbrev pub EndsByWorkers : JobEnded → (model inputs : List ℕ) → Partition → Options → (old new : Option (List ℕ)) → Type 0
 EndsByWorkers ended.Whole model inputs partition o old new = PrintsWhole model inputs partition o old new ended.Whole
 EndsByWorkers ended.Faulted model inputs partition o old new = PrintsWhole model inputs partition o old new ended.Faulted
-EndsByWorkers (ended.Partial why.Memory) model inputs partition o old new = PrintsCutAt model inputs partition o old new
+EndsByWorkers (ended.Partial why.Memory) model inputs partition o old new = PrintsCutByWorkers model inputs partition o old new
 EndsByWorkers (ended.Partial why.Rounds) model inputs partition o old new = ⊥
 
 -- the model is accepted, and this is the answer to the partition of its components

@@ -5,5 +5,4 @@ pub mod Naming
 pub mod Recording
 pub mod Tables
 pub mod Walks
-pub mod Tokens
 pub mod Views

@@ -26,7 +26,7 @@ abbrev pub settled_of : Recorded → PartOf
 settled_of r = r.settled
 
 abbrev pub handed_of : Recorded → Handed
-handed_of r = record { text_of = part_text r.names r.outputs; text = r.handed }
+handed_of r = record { text_of = part_text r.names r.outputs; text = r.handed; past = nothing }
 
 -- the bytes, behind those that were handed over, are the text of all that was told, and those up to a mark the text of what is
 -- settled

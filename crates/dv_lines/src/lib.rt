@@ -8,9 +8,6 @@ mod pieces;
 /// Values, what a state holds, and what was sent.
 mod values;
 
-/// What was told, kept for contracts alone.
-mod history;
-
 /// Whether a fault was told.
 mod faults;
 
@@ -42,7 +39,6 @@ mod told;
 mod words;
 
 pub use faults::KnowsFaults;
-pub use history::History;
 pub use leaving::all_left;
 pub use line::ComponentWords;
 pub use lines::Lines;

@@ -5,13 +5,12 @@ ghost use Rattle.dv_text.specs.Names.{tree_names, tree_ports};
 ghost use Rattle.dv_lines.specs.Records.{fresh};
 
 use crate::faults::KnowsFaults;
-use crate::history::History;
 use crate::leaving::all_left;
 use crate::lines::Lines;
 use crate::told::{faulted, transition};
 use crate::words::Words;
 use dv_bag::{Bags, Fault, Kind, Sent, State};
-use dv_record::Record;
+use dv_record::{History, Record};
 use dv_time::Time;
 use dv_tree::Tree;
 use std::alloc::{AllocError, Global};

@@ -1,10 +1,10 @@
 //! What a process asks of its components, over what they stand at.
 
 use crate::state::LocalState;
-use dv_bag::Response;
-use dv_proc::{Event, Frame, Local};
+use dv_bag::{Part, Response};
+use dv_proc::{Event, Frame, Local, LocalHandsOver};
 use dv_react::Atomic;
-use dv_record::Record;
+use dv_record::{HandsOver, Record};
 use dv_time::Time;
 use std::alloc::AllocError;
 use std::marker::Model;
@@ -116,5 +116,11 @@ impl<A: Atomic + Drop, R: Record> Local for LocalRun<A, R> {
 
     fn let_go(&mut self) {
         self.state.let_go();
+    }
+}
+
+impl<A: Atomic + Drop, R: HandsOver> LocalHandsOver for LocalRun<A, R> {
+    fn hand_over(&mut self) -> Part {
+        self.state.hand_over()
     }
 }

@@ -10,7 +10,7 @@ ghost use Rattle.dv_proc.specs.Foreseeing.{IsOfHold, IsOfRunIf, rank_if, ticks_o
 ghost use Rattle.dv_proc.specs.Accesses.{CountsInstant, IsAfterEmission};
 ghost use Rattle.dv_proc.specs.Local.{IsAfterEvents, IsAfterInstant, IsFirstInput, are_for_ports, carried_away, sent_at};
 ghost use Rattle.dv_proc.specs.Packets.{meant_events};
-ghost use Rattle.dv_bag.specs.Part.{nothing};
+ghost use Rattle.dv_bag.specs.Part.{joined, nothing};
 ghost use Rattle.dv_react.specs.Components.{components_of};
 ghost use Rattle.dv_bag.specs.Bag.{Counts};
 ghost use Rattle.dv_share.specs.Share.{AreComponents, AreEmitted};
@@ -25,10 +25,10 @@ use crate::share::Share;
 use crate::undo::{Undo, agenda_of, let_go, put_all_back};
 use crate::waiting::{earlier, first_held, first_outside, is_taken, outside_at};
 use dv_agenda::{Agenda, Inbox};
-use dv_bag::{Fault, Response, Sent};
+use dv_bag::{Fault, Part, Response, Sent};
 use dv_proc::{Event, Frame};
 use dv_react::{Atomic, Instant, Running};
-use dv_record::Record;
+use dv_record::{HandsOver, Record};
 use dv_share::tables::place_of;
 use dv_share::{Placed, arrivals, away, emit, outer};
 use dv_time::Time;
@@ -387,5 +387,24 @@ impl<A: Atomic, R: Record> LocalState<A, R> {
         } }
     {
         self.record.let_go();
+    }
+}
+
+impl<A: Atomic, R: HandsOver> LocalState<A, R> {
+    /// Moves out what was committed beyond what was moved out before, when all is settled.
+    pub fn hand_over(&mut self) -> Part
+        requires kept { IsKept A.behaviour A.fits A.comes self.old }
+        requires settled { settled_by A.behaviour R.settled self.old
+            ≡ view_by A.behaviour R.told self.old }
+        ensures kept { IsKept A.behaviour A.fits A.comes self.new }
+        ensures view { view_by A.behaviour R.told self.new ≡ view_by A.behaviour R.told self.old }
+        ensures settled { settled_by A.behaviour R.settled self.new
+            ≡ settled_by A.behaviour R.settled self.old }
+        ensures part { R.told self.old.record ≡ joined (R.handed self.old.record).past result }
+        ensures handed { R.handed self.new.record ≡ record (R.handed self.old.record) {
+          past = R.told self.old.record;
+        } }
+    {
+        self.record.hand_over(self.alloc)
     }
 }

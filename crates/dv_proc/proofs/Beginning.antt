@@ -20,14 +20,14 @@ use Rattle.dv_proc.proofs.Silent.{nothing_away}
 use Rattle.dv_proc.specs.Arriving.{AreApart, AreClocked, AreNewIncoming, incoming_numbers, received_by}
 use Rattle.dv_proc.specs.Leaving.{AreNewOutgoing, ArePending, outgoing_numbers, promised_by, standing_by, standing_on}
 use Rattle.dv_proc.specs.Local.{DeliverAlike, IsLocalRun, View}
-use Rattle.dv_proc.specs.Packets.{meant_events, meant_packets}
+use Rattle.dv_proc.specs.Packets.{meant_events}
 use Rattle.dv_proc.specs.Standing.{IsBegun, IsProcess}
 use Rattle.dv_proc.specs.declared.incoming.Incoming.{Incoming}
 use Rattle.dv_proc.specs.declared.outgoing.Outgoing.{Outgoing}
 use Rattle.dv_proc.specs.declared.packet.Packet.{Packet as PacketOfCode}
 
 push_incoming : (ns : List ℕ) (i : ℕ) (is : List Incoming) (x : Incoming) → i < length ns → x.number ≡ get_or ns i 0
-    → x.packets.items ≡ [] → x.clock ≡ first_time →
+    → x.received.packets ≡ [] → x.clock ≡ first_time →
     AreNewIncoming (take i ns) is → AreNewIncoming (take (suc i) ns) (is ++ x ∷ [])
 push_incoming [] i is x lt e p c h = absurd (omega arith)
 push_incoming (n ∷ ns) zero [] x lt e p c h = (e, p, c, tt)
@@ -36,7 +36,7 @@ push_incoming (n ∷ ns) (suc i) [] x lt e p c h = absurd h
 push_incoming (n ∷ ns) (suc i) (j ∷ is) x lt e p c h = (h.0, h.1, h.2, push_incoming ns i is x (omega arith) e p c h.3)
 
 pub more_incoming : (ns : List ℕ) (i : ℕ) (is : List Incoming) (x : Incoming) → i < length ns → x.number ≡ get_or ns i 0
-    → x.packets.items ≡ [] → x.clock ≡ first_time →
+    → x.received.packets ≡ [] → x.clock ≡ first_time →
     AreNewIncoming (take i ns) is → AreNewIncoming (take (i + 1) ns) (is ++ x ∷ [])
 more_incoming ns i is x lt e p c h =
     let next : suc i ≡ i + 1 = omega arith in
@@ -62,7 +62,7 @@ none_received [] [] h l = refl
 none_received [] (i ∷ is) h l = absurd h
 none_received (n ∷ ns) [] h l = absurd h
 none_received (n ∷ ns) (i ∷ is) h l =
-    ap (λ (ps : List PacketOfCode). cond (nat_eq l i.number) (meant_packets ps) (received_by is l)) h.1
+    ap (λ (ps : List Packet). cond (nat_eq l i.number) ps (received_by is l)) h.1
     ∙ by_test (nat_eq l i.number) (none_received ns is h.3 l)
   where
     by_test : (t : Bool) → received_by is l ≡ [] → cond t [] (received_by is l) ≡ []
@@ -82,7 +82,7 @@ new_clocked limit [] (i ∷ is) h = absurd h
 new_clocked limit (n ∷ ns) [] h = absurd h
 new_clocked limit (n ∷ ns) (i ∷ is) h = (
   (
-    h.2 ∙ sym (ap (λ (ps : List PacketOfCode). channel_clock (meant_packets ps)) h.1),
+    h.2 ∙ sym (ap channel_clock h.1),
     subst (IsOfRun limit) (sym h.2) (omega arith),
   ),
   new_clocked limit ns is h.3,

@@ -20,8 +20,7 @@ use Rattle.dv_conservative.specs.Process.{with_packet}
 use Rattle.dv_conservative.specs.Sound.{AllNumbers, AllReceivedNumbers}
 use Rattle.dv_proc.specs.Arriving.{AreApart, AreClocked, IsClocked, IsPlace, incoming_numbers, least_among, received_by}
 use Rattle.dv_proc.specs.Local.{DeliverAlike}
-use Rattle.dv_proc.specs.Packets.{meant_events, meant_packets}
-use Rattle.dv_proc.specs.declared.packet.Packet.{Packet as PacketOfCode}
+use Rattle.dv_proc.specs.Packets.{meant_events}
 use Rattle.dv_proc.specs.declared.packet.Event.{Event as EventOfCode}
 use Rattle.dv_bag.specs.Bag.{is_number}
 use Rattle.dv_proc.specs.declared.incoming.Incoming.{Incoming}
@@ -32,7 +31,7 @@ eq_sym a b = grind (arith, nat_tests)
 
 -- what is received on the links at their places
 abbrev meant : Incoming → List Packet
-meant i = meant_packets i.packets.items
+meant i = i.received.packets
 
 pub received_here : (n place : ℕ) (is : List Incoming) (x : Incoming) → IsPlace n place is → x ≡ get_or is place x
     → received_by is n ≡ meant x
@@ -251,35 +250,3 @@ pub any_here : (n place : ℕ) (is : List Incoming) → IsPlace n place is → l
 any_here n place [] h = absurd h
 any_here n zero (i ∷ is) h = rw h refl
 any_here n (suc place) (i ∷ is) h = rw h.0 (any_here n place is h.1)
-
--- a link that is the same but for room
-module _ (n : ℕ) (x y : Incoming) (number : y.number ≡ x.number) (clock : y.clock ≡ x.clock) (packets : y.packets.items ≡ x.packets.items)
-  where
-    pub numbers_same : (place : ℕ) (is : List Incoming) → IsPlace n place is → x ≡ get_or is place x
-        → incoming_numbers (slice_set is place y) ≡ incoming_numbers is
-    numbers_same place [] h e = absurd h
-    numbers_same zero (i ∷ is) h e = ap (λ (m : ℕ). m ∷ incoming_numbers is) (number ∙ ap (λ (j : Incoming). j.number) e)
-    numbers_same (suc place) (i ∷ is) h e = ap (λ (ms : List ℕ). i.number ∷ ms) (numbers_same place is h.1 e)
-
-    pub received_same : (place : ℕ) (is : List Incoming) → IsPlace n place is → x ≡ get_or is place x → (l : ℕ) →
-        received_by (slice_set is place y) l ≡ received_by is l
-    received_same place [] h e l = absurd h
-    received_same zero (i ∷ is) h e l =
-        ap (λ (m : ℕ). cond (nat_eq l m) (meant y) (received_by is l)) (number ∙ ap (λ (j : Incoming). j.number) e)
-        ∙ ap (λ (ps : List PacketOfCode). cond (nat_eq l i.number) (meant_packets ps) (received_by is l))
-        (packets ∙ ap (λ (j : Incoming). j.packets.items) e)
-    received_same (suc place) (i ∷ is) h e l = ap (λ (ps : List Packet). cond (nat_eq l i.number) (meant i) ps)
-        (received_same place is h.1 e l)
-
-    pub clocked_same : (limit place : ℕ) (is : List Incoming) → IsPlace n place is → x ≡ get_or is place x → AreClocked limit is
-        → AreClocked limit (slice_set is place y)
-    clocked_same limit place [] h e c = absurd h
-    clocked_same limit zero (i ∷ is) h e c = (
-      (
-        clock ∙ ap (λ (j : Incoming). j.clock) e ∙ c.0.0
-            ∙ ap (λ (ps : List PacketOfCode). channel_clock (meant_packets ps)) (sym (packets ∙ ap (λ (j : Incoming). j.packets.items) e)),
-        subst (IsOfRun limit) (sym (clock ∙ ap (λ (j : Incoming). j.clock) e)) c.0.1,
-      ),
-      c.1,
-    )
-    clocked_same limit (suc place) (i ∷ is) h e c = (c.0, clocked_same limit place is h.1 e c.1)

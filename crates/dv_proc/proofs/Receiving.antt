@@ -19,13 +19,12 @@ use Rattle.dv_conservative.specs.Process.{channel_clock, end_rank, events_by, is
 use Rattle.dv_conservative.specs.Process.{refusal_of, sent_on, with_packet}
 use Rattle.dv_conservative.specs.Links.{Delivery}
 use Rattle.dv_conservative.specs.Sound.{AllNumbers, AllReceivedNumbers}
-use Rattle.dv_proc.proofs.Received.{any_here, clock_last, clocked_here, clocked_same, clocked_with, least_rises, numbers_same}
-use Rattle.dv_proc.proofs.Received.{numbers_stay, numbers_with, received_here, received_same, received_with}
+use Rattle.dv_proc.proofs.Received.{any_here, clock_last, clocked_here, clocked_with, least_rises}
+use Rattle.dv_proc.proofs.Received.{numbers_stay, numbers_with, received_here, received_with}
 use Rattle.dv_proc.proofs.Runs.{run_received}
 use Rattle.dv_proc.specs.Arriving.{AreApart, IsClocked, IsPlace, incoming_numbers, received_by}
 use Rattle.dv_proc.specs.Leaving.{ArePending}
 use Rattle.dv_proc.specs.Local.{IsAfterEvents, IsLocalRun, View, are_for_ports}
-use Rattle.dv_proc.specs.Packets.{meant_packets}
 use Rattle.dv_proc.specs.Standing.{IsAccepted, IsProcess, IsStanding}
 use Rattle.dv_proc.specs.declared.incoming.Incoming.{Incoming}
 use Rattle.dv_proc.specs.declared.outgoing.Outgoing.{Outgoing}
@@ -59,7 +58,7 @@ pending_stays s events also upto (out ∷ outs) (o ∷ os) same h = (
 
 module _ (s : Share) (is : List Incoming) (os : List Outgoing) (clock : Time) (standing : IsStanding s is os clock) (place : ℕ)
     (x y : Incoming) (p : Packet) (at : IsPlace p.link place is) (item : x ≡ get_or is place x) (number : y.number ≡ x.number)
-    (more : meant_packets y.packets.items ≡ meant_packets x.packets.items ++ p ∷ []) (ends : y.clock ≡ p.upto)
+    (more : y.received.packets ≡ x.received.packets ++ p ∷ []) (ends : y.clock ≡ p.upto)
     (of_run : IsOfRun s.limit p.upto)
     (fine : refusal_of s (received_by is) p ≡ None) (some : AllNumbers p.events) where
   pub received_now : received_by (slice_set is place y) ≡ with_packet (received_by is) p
@@ -73,7 +72,7 @@ module _ (s : Share) (is : List Incoming) (os : List Outgoing) (clock : Time) (s
 
   clocked_y : IsClocked s.limit y
   clocked_y = (
-    ends ∙ sym (ap channel_clock more ∙ clock_last _ (meant_packets x.packets.items) p),
+    ends ∙ sym (ap channel_clock more ∙ clock_last _ x.received.packets p),
     subst (IsOfRun s.limit) (sym ends) of_run,
   )
 
@@ -103,7 +102,7 @@ module _ (s : Share) (is : List Incoming) (os : List Outgoing) (clock : Time) (s
 
 module _ (v w : View) (is : List Incoming) (os : List Outgoing) (clock : Time) (process : IsProcess v is os clock) (place : ℕ)
     (x y : Incoming) (p : Packet) (at : IsPlace p.link place is) (item : x ≡ get_or is place x) (number : y.number ≡ x.number)
-    (more : meant_packets y.packets.items ≡ meant_packets x.packets.items ++ p ∷ []) (ends : y.clock ≡ p.upto)
+    (more : y.received.packets ≡ x.received.packets ++ p ∷ []) (ends : y.clock ≡ p.upto)
     (of_run : IsOfRun v.share.limit p.upto)
     (fine : refusal_of v.share (received_by is) p ≡ None) (some : AllNumbers p.events) (kept : IsAfterEvents p.events v w) where
   pub process_with : IsProcess w (slice_set is place y) os clock
@@ -116,34 +115,6 @@ module _ (v w : View) (is : List Incoming) (os : List Outgoing) (clock : Time) (
         (run_received v w (received_by is) p (rank v.share.limit clock) process.run fine process.standing.heard
         (subst AreApart (sym process.standing.linked) process.standing.apart) (there v.share (received_by is) p fine) kept));
   }
-
--- a process one of whose links has more room
-module _ (v : View) (is : List Incoming) (os : List Outgoing) (clock : Time) (process : IsProcess v is os clock) (n place : ℕ)
-    (x y : Incoming) (at : IsPlace n place is) (item : x ≡ get_or is place x) (number : y.number ≡ x.number) (same : y.clock ≡ x.clock)
-    (packets : y.packets.items ≡ x.packets.items) where
-  pub received_still : received_by (slice_set is place y) ≡ received_by is
-  received_still = fun_ext (λ l. received_same n x y number same packets place is at item l)
-
-  pub process_still : IsProcess v (slice_set is place y) os clock
-  process_still =
-      let standing : IsStanding v.share is os clock = process.standing in
-      let stay : incoming_numbers (slice_set is place y) ≡ incoming_numbers is = numbers_same n x y number same packets place is at item in
-      record {
-        standing = record {
-          sound = standing.sound;
-          linked = standing.linked ∙ sym stay;
-          apart = subst AreApart (sym stay) standing.apart;
-          clocked = clocked_same n x y number same packets v.share.limit place is at item standing.clocked;
-          numbers = subst (λ (r : ℕ → List Packet). AllReceivedNumbers r v.share.incoming) (sym received_still) standing.numbers;
-          within = standing.within;
-          heard = subst (λ (r : ℕ → List Packet). rank v.share.limit clock ≤ least_clock v.share r) (sym received_still) standing.heard;
-          away = standing.away;
-          pending = subst (λ (r : ℕ → List Packet).
-              ArePending v.share (events_by r) (min (suc (rank v.share.limit clock)) (end_rank v.share)) v.share.outgoing os)
-              (sym received_still) standing.pending;
-        };
-        run = subst (λ (r : ℕ → List Packet). IsLocalRun v (events_by r) (rank v.share.limit clock)) (sym received_still) process.run;
-      }
 
 -- the tests, by what they find
 module _ (s : Share) (is : List Incoming) (os : List Outgoing) (clock : Time) (standing : IsStanding s is os clock) (p : Packet) where

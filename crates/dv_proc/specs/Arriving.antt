@@ -3,7 +3,6 @@ use Rattle.std.specs.Prelude.{◌≡◌, ℕ, zero, suc, ◌+◌, min, Bool, tru
 use Rattle.std.specs.List.{All, list_any}
 use Rattle.dv_time.specs.Time.{IsOfRun, rank}
 use Rattle.dv_conservative.specs.Process.{Packet, channel_clock, first_time}
-use Rattle.dv_proc.specs.Packets.{meant_packets}
 use Rattle.dv_proc.specs.declared.incoming.Incoming.{Incoming}
 
 abbrev pub incoming_numbers : List Incoming → List ℕ
@@ -12,7 +11,7 @@ incoming_numbers is = map (λ (i : Incoming). i.number) is
 -- the packets received on the link of a number
 abbrev pub received_by : List Incoming → ℕ → List Packet
 received_by [] l = []
-received_by (i ∷ is) l = if nat_eq l i.number then meant_packets i.packets.items else received_by is l
+received_by (i ∷ is) l = if nat_eq l i.number then i.received.packets else received_by is l
 
 -- the place of the first link of a number, counted from one on
 abbrev pub place_from : ℕ → ℕ → List Incoming → Option ℕ
@@ -32,7 +31,7 @@ AreApart (n ∷ ns) = (list_any (nat_eq n) ns ≡ false) × AreApart ns
 
 -- a channel clock is where the window of the last packet ends, a time of the run
 abbrev pub IsClocked : ℕ → Incoming → Type 0
-IsClocked limit i = (i.clock ≡ channel_clock (meant_packets i.packets.items)) × IsOfRun limit i.clock
+IsClocked limit i = (i.clock ≡ channel_clock i.received.packets) × IsOfRun limit i.clock
 
 -- so it is of all links
 abbrev pub AreClocked : ℕ → List Incoming → Type 0
@@ -47,6 +46,6 @@ least_among limit bound (i ∷ is) = min (rank limit i.clock) (least_among limit
 -- links of some numbers on which nothing was received
 abbrev pub AreNewIncoming : List ℕ → List Incoming → Type 0
 AreNewIncoming [] [] = Unit {0}
-AreNewIncoming (n ∷ ns) (i ∷ is) = (i.number ≡ n) × (i.packets.items ≡ []) × (i.clock ≡ first_time) × AreNewIncoming ns is
+AreNewIncoming (n ∷ ns) (i ∷ is) = (i.number ≡ n) × (i.received.packets ≡ []) × (i.clock ≡ first_time) × AreNewIncoming ns is
 AreNewIncoming [] (i ∷ is) = ⊥
 AreNewIncoming (n ∷ ns) [] = ⊥

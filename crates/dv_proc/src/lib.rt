@@ -20,6 +20,9 @@ pub mod outgoing;
 /// Events, and the packets that carry them.
 pub mod packet;
 
+/// What was received on a link, kept for contracts alone.
+pub mod packet_history;
+
 /// One logical process.
 pub mod process;
 
@@ -31,8 +34,9 @@ pub mod window;
 
 pub use channel::Channel;
 pub use incoming::{Incoming, Refused};
-pub use local::Local;
+pub use local::{Local, LocalHandsOver};
 pub use outgoing::Outgoing;
 pub use packet::{Event, Packet};
+pub use packet_history::PacketHistory;
 pub use process::{Process, Turned};
 pub use window::Frame;

@@ -3,6 +3,7 @@
 ghost use Rattle.std.specs.Prelude.{◌≡◌, ◌<◌, ◌++◌, OnErr, OnOk, List, Some, map, slice_get, true};
 ghost use Rattle.dv_time.specs.Time.{IsOfRun, rank};
 ghost use Rattle.dv_bag.specs.Bag.{Counts};
+ghost use Rattle.dv_bag.specs.Part.{joined};
 ghost use Rattle.dv_devs.specs.Cuts.{IsAllBefore};
 ghost use Rattle.dv_devs.specs.NextTimes.{least_next};
 ghost use Rattle.dv_conservative.specs.Events.{event_of};
@@ -15,7 +16,7 @@ ghost use Rattle.dv_record.specs.Told.{Handed};
 
 use crate::packet::Event;
 use crate::window::Frame;
-use dv_bag::Response;
+use dv_bag::{Part, Response};
 use dv_record::Record;
 use dv_time::Time;
 use std::alloc::AllocError;
@@ -159,4 +160,17 @@ pub trait Local {
         ensures handed { handed self.new ≡ record (handed self.old) {
           text = (handed self.old).text_of (view self.old).committed;
         } };
+}
+
+/// Components of whose record a part is moved out while they commit more.
+pub trait LocalHandsOver: Local {
+    /// Moves out what they committed beyond what was moved out before, when all is settled.
+    fn hand_over(&mut self) -> Part
+        requires { Self.settled self.old ≡ Self.view self.old }
+        ensures view { Self.view self.new ≡ Self.view self.old }
+        ensures settled { Self.settled self.new ≡ Self.settled self.old }
+        ensures part { (Self.view self.old).committed
+            ≡ joined (Self.handed self.old).past result }
+        ensures handed { Self.handed self.new
+            ≡ record (Self.handed self.old) { past = (Self.view self.old).committed } };
 }

@@ -11,21 +11,23 @@ ghost use Rattle.dv_proc.specs.Accesses.{CountsTurn};
 ghost use Rattle.dv_proc.specs.Advancing.{HasRoom};
 ghost use Rattle.dv_proc.specs.Arriving.{AreApart, received_by};
 ghost use Rattle.dv_proc.specs.Leaving.{position_by, promised_by, standing_by};
+ghost use Rattle.dv_bag.specs.Part.{joined};
 ghost use Rattle.dv_bag.specs.declared.state.State.{State};
 ghost use Rattle.dv_proc.specs.Midway.{IsMidway, meant_turned};
 ghost use Rattle.dv_proc.specs.declared.outgoing.Outgoing.{Outgoing as OutgoingOfCode};
-ghost use Rattle.dv_proc.specs.Packets.{meant_events, meant_packet, meant_packets};
+ghost use Rattle.dv_proc.specs.Packets.{meant_events, meant_packet};
 ghost use Rattle.dv_proc.specs.Refusals.{IsByTest, meant_refusal};
 ghost use Rattle.dv_proc.specs.Standing.{IsAccepted, IsBegun, IsDue, IsFar, IsProcess, IsStanding};
 
 use crate::advance::{promise_at, step};
-use crate::incoming::{Incoming, Refused, least_clock, new_incoming, place_of, received_on};
-use crate::local::Local;
+use crate::incoming::{Incoming, Refused, least_clock, new_incoming, place_of};
+use crate::local::{Local, LocalHandsOver};
 use crate::outgoing::{
     Outgoing, are_free, can_prepare_any, finish_all, new_outgoing, out_place_of, standing_on,
 };
 use crate::packet::{Event, Packet};
 use crate::window::{Frame, are_in_order, is_same};
+use dv_bag::Part;
 use dv_time::Time;
 use std::alloc::{AllocError, Global};
 
@@ -133,13 +135,6 @@ impl<L: Local> Process<L> {
         }
     }
 
-    /// The packets received on the link of a number, in their order.
-    pub fn received(&self, link: u32) -> &[Packet]
-        ensures { meant_packets result.now ≡ received_by self.now.incoming.items link }
-    {
-        received_on(self.incoming.as_slice(), link)
-    }
-
     /// How many visits of components the code has counted, 0 in a new process; it stays at 2^64-1 once there, and the bounds
     /// hold of each turn that leaves it below that. A refused turn takes back what it added. A turn raises it by at least the
     /// number of entries that it commits, and by at most twice the number of imminent components, plus the number of components
@@ -229,14 +224,10 @@ impl<L: Local> Process<L> {
             Err(refused) => return Err((refused, packet)),
         };
         of_numbers(packet.events.as_slice());
-        let link = &mut self.incoming[place];
-        let Ok(()) = link.make_room() else {
-            return Err((Refused::NoMemory, packet));
-        };
         let Ok(()) = self.local.keep(packet.events.as_slice()) else {
             return Err((Refused::NoMemory, packet));
         };
-        link.take(packet);
+        self.incoming[place].take(packet);
         Ok(())
     }
 
@@ -372,6 +363,29 @@ impl<L: Local> Process<L> {
             return Err(Refused::OtherEvent);
         }
         Ok(place)
+    }
+}
+
+impl<L: LocalHandsOver> Process<L> {
+    /// Moves out what was committed beyond what was moved out before.
+    pub fn hand_over(&mut self) -> Part
+        requires process { IsProcess (L.view self.old.local)
+            self.old.incoming.items self.old.outgoing.items self.old.clock }
+        requires settled { L.settled self.old.local ≡ L.view self.old.local }
+        ensures process { IsProcess (L.view self.new.local)
+            self.new.incoming.items self.new.outgoing.items self.new.clock }
+        ensures settled { L.settled self.new.local ≡ L.view self.new.local }
+        ensures view { L.view self.new.local ≡ L.view self.old.local }
+        ensures incoming { self.new.incoming ≡ self.old.incoming }
+        ensures outgoing { self.new.outgoing ≡ self.old.outgoing }
+        ensures clock { self.new.clock ≡ self.old.clock }
+        ensures part { (L.view self.old.local).committed
+            ≡ joined (L.handed self.old.local).past result }
+        ensures handed { L.handed self.new.local ≡ record (L.handed self.old.local) {
+          past = (L.view self.old.local).committed;
+        } }
+    {
+        self.local.hand_over()
     }
 }
 

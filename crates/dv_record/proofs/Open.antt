@@ -1,12 +1,14 @@
 -- When an instant can be told.
-use Rattle.std.proofs.Common.{◌≡◌, true, false, get_or, ap, ◌∙◌, arith}
+use Rattle.std.proofs.Common.{◌≡◌, suc, true, false, List, [], ◌∷◌, ◌++◌, get_or, ap, ◌∙◌, arith}
+use Rattle.std.specs.List.{All}
 use Rattle.std.specs.Ordering.{is_lt}
 use Rattle.std.proofs.lemmas.Bool.Decides.{nat_tests}
 use Rattle.std.proofs.lemmas.List.Elements.{All-push}
 use Rattle.dv_time.specs.Time.{is_before}
 use Rattle.dv_time.specs.declared.time.Time.{Time}
-use Rattle.dv_bag.specs.Part.{PartOf}
+use Rattle.dv_bag.specs.Part.{PartOf, joined}
 use Rattle.dv_bag.specs.declared.entry.Entry.{Entry}
+use Rattle.dv_bag.specs.declared.entry.Outer.{Outer}
 use Rattle.dv_devs.specs.Cuts.{IsAllBefore}
 use Rattle.dv_record.specs.Told.{IsOpenAt, with_entry}
 
@@ -29,4 +31,16 @@ still_open t p e at h = record {
   entries = All-push (λ (x : Entry). is_before t x.time ≡ false) p.entries e h.entries
       (ap (λ (u : Time). is_before t u) at ∙ not_itself t);
   lines = h.lines;
+}
+
+-- what holds of a list holds of its end
+all_behind : {X : Type 0} (P : X → Type 0) (xs ys : List X) → All P (xs ++ ys) → All P ys
+all_behind P [] ys h = h
+all_behind P (x ∷ xs) ys h = all_behind P xs ys (λ k d lt. h (suc k) d (omega (arith, lt)))
+
+-- where an instant can be told behind two parts, it can behind the second of them
+pub open_behind : (t : Time) (a b : PartOf) → IsOpenAt t (joined a b) → IsOpenAt t b
+open_behind t a b h = record {
+  entries = all_behind (λ (e : Entry). is_before t e.time ≡ false) a.entries b.entries h.entries;
+  lines = all_behind (λ (o : Outer). is_before o.time t ≡ true) a.outer b.outer h.lines;
 }

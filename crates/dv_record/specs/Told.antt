@@ -4,7 +4,7 @@ use Rattle.std.specs.List.{All}
 use Rattle.dv_time.specs.Time.{is_before}
 use Rattle.dv_time.specs.declared.time.Time.{Time}
 use Rattle.dv_bag.specs.Bag.{Counts, size}
-use Rattle.dv_bag.specs.Part.{PartOf}
+use Rattle.dv_bag.specs.Part.{PartOf, nothing}
 use Rattle.dv_bag.specs.declared.entry.Entry.{Entry}
 use Rattle.dv_bag.specs.declared.entry.Outer.{Outer}
 use Rattle.dv_bag.specs.declared.entry.What.{What}
@@ -14,15 +14,20 @@ pub record Told : Type 0 where
   pub told : PartOf
   pub settled : PartOf
 
--- What was handed over of a record's text: how a part is written, and the text that was handed over so far. What is told, settled
--- or taken back leaves it as it is.
+-- What a record has handed over: of its text, how a part is written and what of it was handed over so far; and the part that was
+-- moved out so far. What is told, settled or taken back leaves it as it is.
 pub record Handed : Type 0 where
   pub text_of : PartOf → List ℕ
   pub text : List ℕ
+  pub past : PartOf
 
--- of a record that has no text
+-- of a record that has no text, of which a part was moved out
+abbrev pub no_text_past : PartOf → Handed
+no_text_past past = record { text_of = λ p. []; text = []; past = past }
+
+-- of a record that has no text, of which nothing was moved out
 abbrev pub no_text : Handed
-no_text = record { text_of = λ p. []; text = [] }
+no_text = no_text_past nothing
 
 abbrev pub told_of : Told → PartOf
 told_of x = x.told

@@ -1,10 +1,16 @@
 //! What happens to the components of a process is told to a record, instant after instant.
 #![tactic(auto)]
 
+/// What was told, kept for contracts alone.
+pub mod history;
 /// A record that keeps a part of a trace.
 pub mod parts;
 /// What a record is told.
 pub mod records;
+/// A record of which a part is moved out while more is told.
+pub mod tails;
 
+pub use history::History;
 pub use parts::{PartRecord, parts_of, push_lines};
-pub use records::Record;
+pub use records::{BlankRecord, HandsOver, Record};
+pub use tails::TailRecord;

@@ -5,11 +5,12 @@ ghost use Rattle.dv_bag.specs.Part.{nothing};
 ghost use Rattle.dv_bag.specs.declared.entry.Outer.{Outer as OuterOfCode};
 ghost use Rattle.dv_record.specs.Told.{entry, lines_from, with_entry, with_lines};
 
-use crate::records::Record;
+use crate::records::{BlankRecord, Record};
 use dv_bag::{Bags, Entry, Fault, Kind, Outer, Part, Sent, State, What};
 use dv_time::Time;
 use std::alloc::{AllocError, Global};
 use std::marker::Model;
+use std::mem;
 
 /// All that was told, kept as a part of a trace.
 #[derive(Drop)]
@@ -57,6 +58,17 @@ impl PartRecord {
         ensures { result ≡ self.told }
     {
         self.part
+    }
+
+    /// All that was told, moved out of the record, to which nothing is told then.
+    pub fn take(&mut self, alloc: Global) -> Part
+        ensures part { result ≡ self.old.told }
+        ensures told { self.new.told ≡ nothing }
+        ensures settled { self.new.settled ≡ nothing }
+    {
+        self.entries = 0;
+        self.lines = 0;
+        mem::replace(&mut self.part, Part::new(alloc))
     }
 }
 
@@ -112,6 +124,12 @@ impl Record for PartRecord {
     }
 
     fn let_go(&mut self) {}
+}
+
+impl BlankRecord for PartRecord {
+    fn blank(alloc: Global) -> Self {
+        PartRecord::new(alloc)
+    }
 }
 
 // An entry behind those that are there.

@@ -1,13 +1,13 @@
 //! What a record is told.
 
 ghost use Rattle.std.specs.Prelude.{◌≡◌, ◌++◌, ◌≤◌, ◌^◌, OnErr, OnOk, length};
-ghost use Rattle.dv_bag.specs.Part.{PartOf};
+ghost use Rattle.dv_bag.specs.Part.{PartOf, joined, nothing};
 ghost use Rattle.dv_bag.specs.declared.entry.What.TheVariants as what;
-ghost use Rattle.dv_record.specs.Told.{Handed, IsOpenAt, entry, lines_from, with_entry, with_lines};
+ghost use Rattle.dv_record.specs.Told.{Handed, IsOpenAt, entry, lines_from, no_text, with_entry, with_lines};
 
-use dv_bag::{Bags, Fault, Kind, Sent, State};
+use dv_bag::{Bags, Fault, Kind, Part, Sent, State};
 use dv_time::Time;
-use std::alloc::AllocError;
+use std::alloc::{AllocError, Global};
 
 /// What happens to the components of a process is told to a record, instant after instant: first what happened to each
 /// component, then what left the model. What was told since `settle` can be taken back by `roll_back`, and neither can fail.
@@ -18,7 +18,7 @@ pub trait Record: Drop {
     /// What `roll_back` leaves of it.
     ghost settled: { Self → PartOf };
 
-    /// How it writes what is told as a text, and what of that text was handed over.
+    /// How it writes what is told as a text, what of that text was handed over, and what part of what was told was moved out.
     ghost handed: { Self → Handed };
 
     /// Tells that a transition of a component took place at a time, with the state after it, and what it sent then.
@@ -99,4 +99,25 @@ pub trait Record: Drop {
         ensures handed { handed self.new ≡ record (handed self.old) {
           text = (handed self.old).text_of (told self.old);
         } };
+}
+
+/// A record that can be made with nothing told to it, and that writes no text.
+pub trait BlankRecord: Record {
+    /// Nothing was told, and nothing was handed over.
+    fn blank(alloc: Global) -> Self
+        ensures told { Self.told result ≡ nothing }
+        ensures settled { Self.settled result ≡ nothing }
+        ensures handed { Self.handed result ≡ no_text };
+}
+
+/// A record of which a part is moved out while more is told.
+pub trait HandsOver: Record {
+    /// Moves out what was told beyond what was moved out before, when all that was told is settled.
+    fn hand_over(&mut self, alloc: Global) -> Part
+        requires { Self.settled self.old ≡ Self.told self.old }
+        ensures part { Self.told self.old ≡ joined (Self.handed self.old).past result }
+        ensures told { Self.told self.new ≡ Self.told self.old }
+        ensures settled { Self.settled self.new ≡ Self.settled self.old }
+        ensures handed { Self.handed self.new
+            ≡ record (Self.handed self.old) { past = Self.told self.old } };
 }

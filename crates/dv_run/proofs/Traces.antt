@@ -1,11 +1,12 @@
 -- What was written of a text that ran in processes: the lines of the text's own trace.
 use Rattle.std.proofs.Common.{◌≡◌, ◌≢◌, ℕ, ◌+◌, ◌<◌, ◌≤◌, inl, inr, Bool, true, nat_eq, List, length, Option, Some, None}
-use Rattle.std.proofs.Common.{Result, Ok, Err, IfOk, refl, sym, ap, ◌∙◌, subst, arith}
+use Rattle.std.proofs.Common.{Result, Ok, Err, IfOk, slice_index_or, refl, sym, ap, ◌∙◌, subst, arith}
 use Rattle.std.proofs.lemmas.Bool.{cases_lt}
-use Rattle.std.proofs.lemmas.Option.{slice_get_within}
+use Rattle.std.proofs.lemmas.Option.{slice_get-get_or, slice_get_within}
 use Rattle.std.specs.List.{slice_get}
 use Rattle.std.specs.Io.KnownBytes.{Appends}
-use Rattle.dv_time.specs.Time.{end_of, rank}
+use Rattle.dv_time.specs.Time.{IsOfRun, end_of, rank}
+use Rattle.dv_time.specs.declared.time.Time.{Time}
 use Rattle.dv_bag.specs.Bag.{Counts}
 use Rattle.dv_bag.specs.declared.inputs.Input.{Input}
 use Rattle.dv_check.specs.Refusals.{AreOfOneText, refusal_of}
@@ -16,7 +17,7 @@ use Rattle.dv_devs.specs.NextTimes.{IsReady}
 use Rattle.dv_devs.specs.Parts.{part_before}
 use Rattle.dv_conservative.specs.Flat.{whole}
 use Rattle.dv_conservative.specs.World.{Channel, Job, new_world}
-use Rattle.dv_core.specs.Worlds.{EndsAs, IsWhole}
+use Rattle.dv_core.specs.Worlds.{EndsAs, IsWhole, end_time}
 use Rattle.dv_core.proofs.Driving.{enough_rounds}
 use Rattle.dv_core.specs.declared.step.Step.{Step}
 use Rattle.dv_core.specs.declared.step.Ended.{Ended}
@@ -33,12 +34,15 @@ use Rattle.dv_text.specs.Names.{component_names, root_ports}
 use Rattle.dv_text.specs.Texts.{ComponentNames, instants_text, part_text}
 use Rattle.dv_text.specs.Writing.{AppendsBeginning}
 use Rattle.dv_text.proofs.Taking.{AppendsBeginning-nothing}
+use Rattle.dv_stream.specs.Clocks.{AreWithin}
 use Rattle.dv_stream.specs.Faults.{has_fault}
 use Rattle.dv_stream.specs.Written.{IsBegun, IsWrittenTo}
 use Rattle.dv_stream.specs.declared.rounds.Streamed.{Streamed}
 use Rattle.dv_stream.specs.declared.written.Written.{Written}
 use Rattle.dv_text.specs.declared.writing.WriteError.{WriteError}
-use Rattle.dv_serial.proofs.LeastClock.{AllOfRun, least_of_same}
+use Rattle.dv_serial.proofs.LeastClock.{AllOfRun, least_below, least_of_same}
+use Rattle.dv_stream.proofs.ToldClocks.{same_rank}
+use Rattle.dv_work.proofs.Lists.{at_place}
 use Rattle.dv_run.specs.Runs.{AreAtEnd, IsCutShort, IsPrinted, IsRunOf, IsStepped, lines_before}
 use Rattle.dv_run.specs.declared.ran.Ran.{Ran}
 
@@ -102,9 +106,9 @@ module _ (j : TextJob) (text : AreOfOneText j.tree.now.names (file_of j.tree.now
   pub is_printed : (w : Written) (r : Ran) → IsWrittenTo (text_job j) j.tree.now old new w
       → rank j.limit w.mark ≡ least_rank j.limit r.clocks.items
       → r.faulted ≡ w.faulted → 0 < length r.clocks.items → length r.clocks.items ≡ (text_job j).processes
-      → AreAtEnd (text_job j) r.ended r.clocks.items
+      → AreWithin j.horizon j.limit r.clocks.items → AreAtEnd (text_job j) r.ended r.clocks.items
       → IsPrinted j.tree.now.names (file_of j.tree.now.file) j.inputs.now j.groups.now j.horizon j.limit old new r
-  is_printed w r written mark fault some count at_end = record {
+  is_printed w r written mark fault some count within at_end = record {
     lines =
         subst (λ (n : ℕ). Appends old new (lines_before j.tree.now.names (file_of j.tree.now.file) j.inputs.now j.limit n)) mark
         (subst (Appends old new) (same_lines j.tree.now.names (file_of j.tree.now.file) j.inputs.now j.limit text accepted laws
@@ -116,6 +120,7 @@ module _ (j : TextJob) (text : AreOfOneText j.tree.now.names (file_of j.tree.now
         (outside (file_of j.tree.now.file) j.limit j.inputs.now) n)) mark;
     some = some;
     count = count;
+    within = within;
     whole = λ e.
         least_of_same j.limit (end_of j.limit j.horizon) r.clocks.items some
         (λ p t at. ap (rank j.limit) (at_end e p t at) ∙ plus_nothing (end_of j.limit j.horizon));
@@ -131,6 +136,22 @@ module _ (j : TextJob) (text : AreOfOneText j.tree.now.names (file_of j.tree.now
         begun.upto) begun.text;
   }
 
+-- ---- By workers
+
+-- Where not all clocks are at the end, and none is past it, the least is before it.
+pub cut_before_end : (job : Job) (clocks : List Time) → 0 < length clocks → AreWithin job.horizon job.limit clocks
+    → (((p : ℕ) (t : Time) → slice_get clocks p ≡ Some t → t ≡ end_time job) → ⊥)
+    → least_rank job.limit clocks < end_of job.limit job.horizon
+cut_before_end job clocks some within not_all = elim (cases_lt (least_rank job.limit clocks) (end_of job.limit job.horizon)) [
+  | inl less ↦ less
+  | inr more ↦ absurd (not_all (λ p t at.
+      let is = at_place (λ (u : Time). IsOfRun job.limit u × (rank job.limit u ≤ end_of job.limit job.horizon)) clocks p t within at in
+      let low = least_below job.limit clocks p t at in
+      let end : rank job.limit (end_time job) ≡ end_of job.limit job.horizon = plus_nothing (end_of job.limit job.horizon) in
+      same_rank job.limit t (end_time job) is.0 (omega arith)
+      (let high = is.1 in omega (arith, low, more, high, end))))
+]
+
 -- ---- In rounds
 
 module _ (j : TextJob) (capacity rounds : ℕ) (c : Committed) (ran : HasRun (text_job j) capacity rounds c) where
@@ -142,6 +163,9 @@ module _ (j : TextJob) (capacity rounds : ℕ) (c : Committed) (ran : HasRun (te
 
   pub each_clock : (r : Ran) → r.clocks ≡ c.clocks → length r.clocks.items ≡ ran_job.processes
   each_clock r same = ap (λ ts. length ts.items) same ∙ ran.handed.count
+
+  pub ran_within : AreWithin j.horizon j.limit c.clocks.items
+  ran_within = λ k d lt. ran.handed.within k (slice_index_or c.clocks.items k d) (slice_get-get_or c.clocks.items k d lt)
 
   pub some_clocks : 0 < ran_job.processes → 0 < length c.clocks.items
   some_clocks some = subst (λ (n : ℕ). 0 < n) (sym ran.handed.count) some

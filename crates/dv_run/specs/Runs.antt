@@ -19,6 +19,7 @@ use Rattle.dv_partition.specs.Groups.{Grouping, owner_of}
 use Rattle.dv_plain.specs.Source.{network_of, outside}
 use Rattle.dv_serial.specs.declared.ran.Stepped.{Stepped}
 use Rattle.dv_sound.specs.Jobs.{job_of}
+use Rattle.dv_stream.specs.Clocks.{AreWithin}
 use Rattle.dv_stream.specs.Faults.{has_fault}
 use Rattle.dv_text.specs.Names.{component_names, root_ports}
 use Rattle.dv_text.specs.Texts.{instants_text}
@@ -43,7 +44,7 @@ lines_before names f played limit n =
     instants_text (component_names names f) (root_ports names f) limit (network_of limit f) (outside f limit played) n
 
 -- What a writer got of a text that ran: the lines of the trace of its resultant with these inputs, before the least of the clocks to
--- which its processes came, one for each. Where the run is whole, that is the end.
+-- which its processes came, one for each, none of which is past the end. Where the run is whole, that is the end.
 pub record IsPrinted (names : List (List ℕ)) (f : FileTree) (played : List Input) (groups : Grouping) (horizon limit : ℕ)
     (old new : Option (List ℕ)) (ran : Ran) : Type 0 where
   pub lines : Appends old new (lines_before names f played limit (least_rank limit ran.clocks.items))
@@ -51,6 +52,7 @@ pub record IsPrinted (names : List (List ℕ)) (f : FileTree) (played : List Inp
       (trace_before limit (network_of limit f) (outside f limit played) (least_rank limit ran.clocks.items))
   pub some : 0 < length ran.clocks.items
   pub count : length ran.clocks.items ≡ groups.processes
+  pub within : AreWithin horizon limit ran.clocks.items
   pub whole : ran.ended ≡ Whole → least_rank limit ran.clocks.items ≡ end_of limit horizon
 
 -- The same of a run in rounds, which led to those clocks: it stalls only where there are no more rounds than ranks before the end.

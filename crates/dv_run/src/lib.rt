@@ -11,13 +11,11 @@ mod plan;
 pub mod ran;
 /// The compiled model of a text, run by a list of steps.
 pub mod steps;
-/// Who watches the turns of the processes of a text.
-pub mod watch;
 /// The compiled model of a text, run by workers on threads.
 pub mod workers;
 
 pub use compiled::compiled_run;
+pub use dv_stream::{Unwatched, Watch};
 pub use ran::Ran;
 pub use steps::compiled_steps;
-pub use watch::{Unwatched, Watch};
 pub use workers::compiled_workers;

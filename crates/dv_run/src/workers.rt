@@ -1,38 +1,34 @@
 //! The compiled model of a text, run by workers on threads.
 
-ghost use Rattle.std.specs.Prelude.{◌≢◌, ◌<◌, ◌≡◌, ℕ, None, Some, IfOk, OnErr, length, slice_get};
+ghost use Rattle.std.specs.Prelude.{◌≢◌, ◌↔◌, ◌<◌, ◌≡◌, ℕ, None, Some, IfOk, OnErr, length, slice_get};
 ghost use Rattle.dv_board.specs.Jobs.{IsMergeable};
 ghost use Rattle.dv_check.specs.Refusals.{AreOfOneText, refusal_of};
-ghost use Rattle.dv_coded.specs.Lent.{behaviour_of_lent, lent_takes};
 ghost use Rattle.dv_core.specs.Worlds.{end_time};
 ghost use Rattle.dv_core.specs.declared.step.Ended.TheVariants as ended;
 ghost use Rattle.dv_devs.specs.Clocks.{least_rank};
 ghost use Rattle.dv_planned.specs.Texts.{AreComponentsOf, AreLinksOf, text_job};
 ghost use Rattle.dv_run.specs.Runs.{IsCutShort, IsPrinted};
-ghost use Rattle.dv_serial.specs.Beginning.{CanRun};
 ghost use Rattle.dv_sound.specs.Jobs.{AllInputNumbers};
+ghost use Rattle.dv_stream.specs.Clocks.{AreWithin};
 ghost use Rattle.dv_stream.specs.Written.{IsBegun, IsWrittenTo};
 ghost use Rattle.dv_syntax.specs.Trees.{file_of};
-ghost use Rattle.dv_time.specs.Time.{rank};
+ghost use Rattle.dv_time.specs.Time.{end_of, rank};
 ghost use Rattle.dv_time.specs.declared.time.Time.{Time as MeantTime};
 ghost use Rattle.dv_work.specs.declared.report.Ended.TheVariants as reported;
 
 use crate::plan::plan_of;
 use crate::ran::Ran;
-use crate::watch::{Watch, Watched};
 use dv_bag::Bags;
-use dv_coded::{Bench, Components, Lent, components_of};
+use dv_coded::{Bench, Components, components_of};
 use dv_core::Ended;
 use dv_devs::laws::parts::parts_are_of_the_trace;
 use dv_flat::LinkLists;
 use dv_gen::laws::texts_are_compilable;
 use dv_plain::laws::networks_of_texts;
-use dv_plan::Plan;
 use dv_planned::TextJob;
-use dv_serial::processes::begin_each;
 use dv_sound::jobs::parts_of_the_flat_model_are_those_of_the_text;
 use dv_sound::outside::what_leaves_a_flat_model_is_linear;
-use dv_stream::{Crew, Worked, stream_workers};
+use dv_stream::{Watch, Worked, stream_plan_by_workers};
 use dv_text::WriteError;
 use dv_text::laws::a_trace_is_its_instants;
 use std::alloc::{AllocError, Global};
@@ -44,7 +40,7 @@ use std::thread::Threads;
 /// a horizon in ticks, and writes the lines of the trace before the least clock while it runs, whatever the timing of
 /// the threads. Process p is run by worker p mod `workers`. A link holds at most `capacity` packets. `watch` may watch
 /// each turn and stop the run. If it is stopped, or memory is refused to a worker, or a thread is refused, the lines
-/// are those of what was known then.
+/// are those of what was known then, which is not all of the run.
 ///
 /// # Errors
 ///
@@ -71,6 +67,8 @@ pub fn compiled_workers<R: Threads + Wait + Sync, G: Watch, W: Write>(
         job.now.horizon job.now.limit
         (W.contents writer.old) (W.contents writer.new)) }
     ensures ended { IfOk result (λ ran. ran.ended ≢ ended.Stalled) }
+    ensures partial { IfOk result (λ ran. ran.ended ≢ ended.Whole
+        → least_rank job.now.limit ran.clocks.items < end_of job.now.limit job.now.horizon) }
     ensures err { OnErr result (IsCutShort job.now.tree.now.names
         (file_of job.now.tree.now.file) job.now.inputs.now job.now.horizon job.now.limit
         (W.contents writer.old) (W.contents writer.new)) }
@@ -133,9 +131,10 @@ fn work_components<R: Threads + Wait + Sync, G: Watch, W: Write>(
     ensures count { IfOk result (λ w. length w.clocks.items ≡ (text_job job.now).processes) }
     ensures least { IfOk result (λ w. rank job.now.limit w.written.mark
         ≡ least_rank job.now.limit w.clocks.items) }
-    ensures whole { IfOk result (λ w. w.ended ≡ reported.Whole
-        → (p : ℕ) (t : MeantTime) → slice_get w.clocks.items p ≡ Some t
-        → t ≡ end_time (text_job job.now)) }
+    ensures within { IfOk result (λ w. AreWithin job.now.horizon job.now.limit w.clocks.items) }
+    ensures whole { IfOk result (λ w. (w.ended ≡ reported.Whole)
+        ↔ ((p : ℕ) (t : MeantTime) → slice_get w.clocks.items p ≡ Some t
+        → t ≡ end_time (text_job job.now))) }
     ensures err { OnErr result (IsBegun (text_job job.now) job.now.tree.now
         (W.contents writer.old) (W.contents writer.new)) }
 {
@@ -145,53 +144,15 @@ fn work_components<R: Threads + Wait + Sync, G: Watch, W: Write>(
         responses,
     } = components;
     let plan = plan_of(alloc, job, &models, members, responses, links)?;
-    work_plan(rt, alloc, job, plan, benches, capacity, watch, writer)
-}
-
-// What the processes of a plan commit on threads, written meanwhile.
-fn work_plan<R: Threads + Wait + Sync, G: Watch, W: Write>(
-    rt: &R,
-    alloc: Global,
-    job: &TextJob<'_, '_>,
-    plan: Plan<Lent<'_>>,
-    benches: Vec<Bench>,
-    capacity: usize,
-    watch: &G,
-    writer: &mut W,
-) -> Result<Worked<()>, WriteError>
-    requires run { CanRun text_job behaviour_of_lent lent_takes job.now plan }
-    requires merges { IsMergeable (text_job job.now) }
-    requires some { 0 < (text_job job.now).processes }
-    requires workers { 0 < length benches.items }
-    requires capacity { 0 < capacity }
-    ensures written { IfOk result (λ w. IsWrittenTo (text_job job.now) job.now.tree.now
-        (W.contents writer.old) (W.contents writer.new) w.written) }
-    ensures some_clocks { IfOk result (λ w. 0 < length w.clocks.items) }
-    ensures count { IfOk result (λ w. length w.clocks.items ≡ (text_job job.now).processes) }
-    ensures least { IfOk result (λ w. rank job.now.limit w.written.mark
-        ≡ least_rank job.now.limit w.clocks.items) }
-    ensures whole { IfOk result (λ w. w.ended ≡ reported.Whole
-        → (p : ℕ) (t : MeantTime) → slice_get w.clocks.items p ≡ Some t
-        → t ≡ end_time (text_job job.now)) }
-    ensures err { OnErr result (IsBegun (text_job job.now) job.now.tree.now
-        (W.contents writer.old) (W.contents writer.new)) }
-{
-    let Plan { links, shares } = plan;
-    let processes = begin_each(alloc, shares)?;
-    let crew = Crew {
-        processes,
-        works: benches,
-    };
-    let gate = Watched { watch };
-    stream_workers(
-        rt, alloc, job, &links, crew, capacity, &gate, job.tree, writer,
+    stream_plan_by_workers(
+        rt, alloc, job, plan, benches, capacity, watch, job.tree, writer,
     )
 }
 
-// What is known of a run once its lines are printed. It is whole only where the run is.
+// What is known of a run once its lines are printed. It is whole exactly where the run is.
 fn ran_by_workers(worked: Worked<()>) -> Ran
     ensures clocks { result.clocks ≡ worked.clocks }
-    ensures whole { result.ended ≡ ended.Whole → worked.ended ≡ reported.Whole }
+    ensures whole { (result.ended ≡ ended.Whole) ↔ (worked.ended ≡ reported.Whole) }
     ensures ended { result.ended ≢ ended.Stalled }
     ensures faults { result.faulted ≡ worked.written.faulted }
 {

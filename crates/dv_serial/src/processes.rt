@@ -1,33 +1,35 @@
 //! The processes of a plan, as they begin.
 
-ghost use Rattle.std.specs.Prelude.{IfOk, List, map};
-ghost use Rattle.std.specs.List.{AllByRecursion};
+ghost use Rattle.std.specs.Prelude.{◌≡◌, IfOk, List, map};
+ghost use Rattle.std.specs.List.{All, AllByRecursion};
 ghost use Rattle.dv_bag.specs.Bag.{Counts};
 ghost use Rattle.dv_local.specs.Shares.{share_by};
 ghost use Rattle.dv_local.specs.States.{settled_by, view_by};
-ghost use Rattle.dv_record.specs.Told.{settled_of, told_of};
+ghost use Rattle.dv_record.specs.Told.{no_text};
 ghost use Rattle.dv_serial.specs.Beginning.{AllBegun, CanBegin, HasBegun};
 
 use dv_local::{LocalRun, Share, begin};
 use dv_proc::Process;
 use dv_react::Atomic;
-use dv_record::PartRecord;
+use dv_record::BlankRecord;
 use std::alloc::{AllocError, Global};
 
-/// A process for each share, in their order: nothing came to any, and none has committed or sent anything.
+/// A process for each share, in their order: nothing came to any, and none has committed, sent or handed over anything.
 ///
 /// # Errors
 ///
 /// No memory for the components and the tables of the processes.
-pub fn begin_each<A: Atomic + Drop>(
+pub fn begin_each<A: Atomic + Drop, R: BlankRecord>(
     alloc: Global,
     shares: Vec<Share<A>>,
-) -> Result<Vec<Process<LocalRun<A, PartRecord>>>, AllocError>
+) -> Result<Vec<Process<LocalRun<A, R>>>, AllocError>
     requires comes { (a : A) (bags : List Counts) → A.comes a bags }
     requires begin { AllByRecursion (CanBegin A.behaviour A.fits) shares.items }
-    ensures { IfOk result (λ processes. AllBegun (view_by A.behaviour told_of)
-        (settled_by A.behaviour settled_of)
+    ensures begun { IfOk result (λ processes. AllBegun (view_by A.behaviour R.told)
+        (settled_by A.behaviour R.settled)
         (map (share_by A.behaviour) shares.items) processes.items) }
+    ensures handed { IfOk result (λ processes.
+        All (λ p. R.handed p.local.record ≡ no_text) processes.items) }
 {
     let mut processes = Vec::with_capacity(alloc, shares.len())?;
     for share in shares {
@@ -37,15 +39,16 @@ pub fn begin_each<A: Atomic + Drop>(
 }
 
 // The process of a share, as its run begins.
-fn begin_one<A: Atomic + Drop>(
+fn begin_one<A: Atomic + Drop, R: BlankRecord>(
     alloc: Global,
     share: Share<A>,
-) -> Result<Process<LocalRun<A, PartRecord>>, AllocError>
+) -> Result<Process<LocalRun<A, R>>, AllocError>
     requires comes { (a : A) (bags : List Counts) → A.comes a bags }
     requires begin { CanBegin A.behaviour A.fits share }
-    ensures { IfOk result (HasBegun (view_by A.behaviour told_of)
-        (settled_by A.behaviour settled_of) (share_by A.behaviour share)) }
+    ensures begun { IfOk result (HasBegun (view_by A.behaviour R.told)
+        (settled_by A.behaviour R.settled) (share_by A.behaviour share)) }
+    ensures handed { IfOk result (λ p. R.handed p.local.record ≡ no_text) }
 {
-    let process = begin(alloc, share, PartRecord::new(alloc))?;
+    let process = begin(alloc, share, R::blank(alloc))?;
     Ok(process)
 }

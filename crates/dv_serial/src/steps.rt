@@ -10,6 +10,7 @@ use crate::worlds::world_of;
 use dv_core::{PlannedJob, Step, into_parts};
 use dv_plan::Plan;
 use dv_react::Atomic;
+use dv_record::PartRecord;
 use std::alloc::{AllocError, Global};
 
 /// Makes the steps of a list with the processes of a plan, from their start: turns, puts, takes and stops, in any order, with
@@ -31,7 +32,7 @@ pub fn step_plan<J: PlannedJob, A: Atomic + Drop>(
     requires run { CanRun J.means A.behaviour A.fits job plan }
     ensures { IfOk result (HasStepped (J.means job) capacity steps.now) }
 {
-    let mut world = world_of(alloc, job, plan, capacity)?;
+    let mut world = world_of::<J, A, PartRecord>(alloc, job, plan, capacity)?;
     let replies = world.run(alloc, work, steps)?;
     let (parts, clocks) = into_parts(alloc, world)?;
     Ok(Stepped {

@@ -1,12 +1,13 @@
 //! A world of the processes of a plan.
 
 ghost use Rattle.std.specs.Prelude.{◌≡◌, List, IfOk};
+ghost use Rattle.std.specs.List.{All};
 ghost use Rattle.dv_bag.specs.Bag.{Counts};
 ghost use Rattle.dv_conservative.specs.World.{new_world};
 ghost use Rattle.dv_core.specs.Conservative.{state_by};
 ghost use Rattle.dv_core.specs.Worlds.{shown};
 ghost use Rattle.dv_local.specs.States.{view_by};
-ghost use Rattle.dv_record.specs.Told.{told_of};
+ghost use Rattle.dv_record.specs.Told.{no_text};
 ghost use Rattle.dv_serial.specs.Beginning.{CanRun};
 
 use crate::processes::begin_each;
@@ -15,28 +16,31 @@ use dv_local::LocalRun;
 use dv_plan::Plan;
 use dv_proc::Process;
 use dv_react::Atomic;
-use dv_record::PartRecord;
+use dv_record::BlankRecord;
 use std::alloc::{AllocError, Global};
 
-/// A new world of the processes of a plan: none has committed or sent anything, and no packet is on its way. So many may be
-/// on their way on each link.
+/// A new world of the processes of a plan: none has committed, sent or handed over anything, and no packet is on its way. So many
+/// may be on their way on each link.
 ///
 /// # Errors
 ///
 /// No memory for the processes, or for the links.
-pub fn world_of<J: PlannedJob, A: Atomic + Drop>(
+pub fn world_of<J: PlannedJob, A: Atomic + Drop, R: BlankRecord>(
     alloc: Global,
     job: J,
     plan: Plan<A>,
     capacity: usize,
-) -> Result<World<J, Process<LocalRun<A, PartRecord>>>, AllocError>
+) -> Result<World<J, Process<LocalRun<A, R>>>, AllocError>
     requires comes { (a : A) (bags : List Counts) → A.comes a bags }
     requires run { CanRun J.means A.behaviour A.fits job plan }
-    ensures fresh { IfOk result (λ w. shown J.means (state_by (view_by A.behaviour told_of)) w
+    ensures fresh { IfOk result (λ w. shown J.means (state_by (view_by A.behaviour R.told)) w
         ≡ new_world capacity) }
     ensures job { IfOk result (λ w. w.job ≡ job) }
+    ensures handed { IfOk result (λ w.
+        All (λ p. R.handed p.local.record ≡ no_text) w.processes.items) }
 {
     let Plan { links, shares } = plan;
-    let processes = begin_each(alloc, shares)?;
-    World::new(alloc, job, links, processes, capacity)
+    let processes = begin_each::<A, R>(alloc, shares)?;
+    let world = World::new(alloc, job, links, processes, capacity)?;
+    Ok(world)
 }

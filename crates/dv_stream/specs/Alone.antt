@@ -2,7 +2,7 @@
 use Rattle.std.specs.Prelude.{◌≡◌, ℕ, ◌≤◌, List, [], ◌∷◌, ◌++◌, Option}
 use Rattle.std.specs.Io.KnownBytes.{Appends}
 use Rattle.dv_time.specs.Time.{IsOfRun, end_of, rank}
-use Rattle.dv_bag.specs.Part.{PartOf}
+use Rattle.dv_bag.specs.Part.{PartOf, nothing}
 use Rattle.dv_conservative.specs.Flat.{whole}
 use Rattle.dv_conservative.specs.World.{Job}
 use Rattle.dv_core.specs.Conservative.{state_by}
@@ -30,7 +30,7 @@ handed_in handed p = handed p.local.record
 
 -- of a record that writes parts with the names of a tree, a text was handed over
 abbrev pub by_tree : Source → List ℕ → Handed
-by_tree tree text = record { text_of = part_text (tree_names tree) (tree_ports tree); text = text }
+by_tree tree text = record { text_of = part_text (tree_names tree) (tree_ports tree); text = text; past = nothing }
 
 -- the lines before a mark were handed over, by the one process that there is
 abbrev pub HasHandedTo : Job → Source → Written → List Handed → Type 0

@@ -5,5 +5,10 @@ pub mod Faults
 pub mod Written
 -- What one process without others has written.
 pub mod Alone
+-- Clocks of a run.
+pub mod Clocks
 -- Workers, for whom a job is a type.
 pub mod Workers
+-- ---- What serves proofs
+-- What is joined between rounds.
+pub mod Rounds

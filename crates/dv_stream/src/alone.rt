@@ -12,7 +12,7 @@ ghost use Rattle.dv_serial.specs.Runs.{HasRun};
 ghost use Rattle.dv_stream.specs.Alone.{Breaks, Continues, HasHandedTo, by_tree, handed_in, seen_by};
 ghost use Rattle.dv_stream.specs.Written.{IsBegun, IsWrittenTo};
 
-use crate::pieces::clocks_of;
+use crate::clocks::clocks_of;
 use crate::rounds::{Streamed, is_stalled};
 use crate::written::Written;
 use dv_bag::Bags;

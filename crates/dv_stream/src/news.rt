@@ -1,20 +1,20 @@
 //! What workers post, written while they run.
 
-ghost use Rattle.std.specs.Prelude.{◌≡◌, ◌≤◌, IfNone, IfOk, IfSome, OnErr};
+ghost use Rattle.std.specs.Prelude.{◌≡◌, ◌≤◌, IfNone, IfOk, IfSome, OnErr, length};
 ghost use Rattle.dv_time.specs.Time.{IsOfRun, end_of, rank};
 ghost use Rattle.dv_board.specs.Clocks.{IsLeast};
 ghost use Rattle.dv_stream.specs.Written.{Falters, GoesOn, IsBegun, IsWrittenTo};
 
 use crate::written::{Written, write_piece};
 use dv_bag::Bags;
-use dv_board::{Backlog, Board};
+use dv_board::{Backlog, Board, Piece};
 use dv_link::OfJob;
 use dv_merge::merge;
 use dv_text::laws::a_trace_is_its_pieces;
 use dv_text::{TraceWriter, WriteError};
 use dv_tree::Tree;
-use dv_work::{Bell, Flag};
-use std::alloc::Global;
+use dv_work::{Bell, Flag, Leads, Stream, bells_of};
+use std::alloc::{AllocError, Global};
 use std::io::Write;
 use std::sync::Wait;
 use std::thread::yield_now;
@@ -28,22 +28,58 @@ const LOOKS_FOR_A_BEGINNING: u32 = 1_000_000;
 pub struct Signals {
     /// Is raised once the run has begun.
     pub begun: Flag,
+    /// Is raised once the loop takes what is posted; no process runs away from it then.
+    pub paced: Flag,
     /// Rings after something was posted, and after the run has ended.
     pub news: Bell,
     /// Is raised once the run has ended.
     pub ended: Flag,
-    /// Is raised where nobody writes any more; the workers end then.
+    /// Is raised where nothing more can be written; the workers end then.
     pub stop: Flag,
+    /// The bells of the workers.
+    pub bells: Vec<Bell>,
+    /// How much of each process is posted and not taken yet.
+    pub leads: Leads,
+}
+
+// Rings the bells of all workers.
+fn ring_all<R: Wait>(rt: &R, bells: &[Bell]) {
+    for bell in bells {
+        bell.ring(rt);
+    }
 }
 
 impl Signals {
-    /// Of a run that has not begun.
-    pub fn new() -> Signals {
-        Signals {
+    /// Of a run that has not begun, of so many processes by so many workers.
+    ///
+    /// # Errors
+    ///
+    /// No memory for the bells and the leads.
+    pub fn new(alloc: Global, processes: usize, workers: usize) -> Result<Signals, AllocError>
+        ensures { IfOk result (λ signals. length signals.bells.items ≡ workers) }
+    {
+        Ok(Signals {
             begun: Flag::new(),
+            paced: Flag::new(),
             news: Bell::new(),
             ended: Flag::new(),
             stop: Flag::new(),
+            bells: bells_of(alloc, workers)?,
+            leads: Leads::new(alloc, processes)?,
+        })
+    }
+
+    /// Where workers post, and what they look at.
+    pub fn stream<'a, N: OfJob>(&'a self, board: &'a Board<N>) -> Stream<'a, N>
+        ensures { result.bells.now ≡ self.now.bells.items }
+    {
+        Stream {
+            board,
+            news: &self.news,
+            stop: &self.stop,
+            paced: &self.paced,
+            leads: &self.leads,
+            bells: &self.bells,
         }
     }
 
@@ -61,6 +97,24 @@ impl Signals {
             yield_now();
         }
         false
+    }
+
+    /// Ends the run: nothing more can be written.
+    pub fn stop<R: Wait>(&self, rt: &R) {
+        self.stop.raise(rt, &self.bells);
+    }
+
+    /// Tells the workers that pieces were taken off the board.
+    pub fn note_taken<R: Wait>(&self, rt: &R, pieces: &[Piece]) {
+        let mut may_go_on = false;
+        for piece in pieces {
+            if self.leads.take_off(piece.process, piece.part.entry_count()) {
+                may_go_on = true;
+            }
+        }
+        if may_go_on {
+            ring_all(rt, &self.bells);
+        }
     }
 
     /// Tells the loop that the run has ended.
@@ -103,11 +157,14 @@ fn write_known<N: OfJob, W: Write>(
     Ok(Some(written))
 }
 
-// Takes off a board what was posted, writes what is then known of the trace, and lets go of it.
-fn write_posted<N: OfJob, R: Wait, W: Write>(
-    rt: &R,
+/// Writes what a backlog has of the trace from what was written on, and lets go of it. Where nothing more is known, or there is no
+/// memory to put it together, it goes on as it was.
+///
+/// # Errors
+///
+/// A write failed, or there is no memory for a line. The writer holds a beginning of the lines.
+pub(crate) fn write_joined<N: OfJob, W: Write>(
     alloc: Global,
-    board: &Board<N>,
     backlog: &mut Backlog<N>,
     before: Written,
     lines: &mut TraceWriter<'_>,
@@ -125,7 +182,6 @@ fn write_posted<N: OfJob, R: Wait, W: Write>(
 {
     // What nothing is added to goes on at once.
     a_trace_is_its_pieces::<Bags>();
-    backlog.extend_all(board.take(rt, alloc));
     match write_known(alloc, backlog, before, lines, writer)? {
         Some(written) => {
             backlog.let_go(written.mark);
@@ -133,6 +189,36 @@ fn write_posted<N: OfJob, R: Wait, W: Write>(
         }
         None => Ok(before),
     }
+}
+
+// Takes off a board what was posted, writes what is then known of the trace, and lets go of it. Where a piece is lost the run is to
+// end, since the trace has a gap there.
+fn write_posted<N: OfJob, R: Wait, W: Write>(
+    rt: &R,
+    alloc: Global,
+    board: &Board<N>,
+    backlog: &mut Backlog<N>,
+    signals: &Signals,
+    before: Written,
+    lines: &mut TraceWriter<'_>,
+    writer: &mut W,
+) -> Result<Written, WriteError>
+    requires of_run { IsOfRun N.job.limit before.mark }
+    requires within { rank N.job.limit before.mark ≤ end_of N.job.limit N.job.horizon }
+    ensures tree { lines.new ≡ lines.old }
+    ensures ok { IfOk result (GoesOn N.job lines.old
+        (W.contents writer.old) (W.contents writer.new) before) }
+    ensures within { IfOk result (λ after.
+        rank N.job.limit after.mark ≤ end_of N.job.limit N.job.horizon) }
+    ensures err { OnErr result (Falters N.job lines.old
+        (W.contents writer.old) (W.contents writer.new) before) }
+{
+    let pieces = board.take(rt, alloc);
+    signals.note_taken(rt, &pieces);
+    if backlog.extend_all(pieces).is_err() {
+        signals.stop(rt);
+    }
+    write_joined(alloc, backlog, before, lines, writer)
 }
 
 /// Writes the trace of a job, with the names of a tree, as its workers post it, until their run has ended: at each ring for news
@@ -165,10 +251,13 @@ pub fn write_news<N: OfJob, R: Wait, W: Write>(
     if !signals.has_begun() {
         return Ok(written);
     }
+    signals.paced.raise(rt, &[]);
     for _ in rt.forever() {
         let seen = signals.news.rings(rt);
         let is_last = signals.ended.is_raised();
-        written = write_posted(rt, alloc, board, backlog, written, &mut lines, writer)?;
+        written = write_posted(
+            rt, alloc, board, backlog, signals, written, &mut lines, writer,
+        )?;
         if is_last {
             return Ok(written);
         }

@@ -1,89 +1,93 @@
-//! What workers reached and did not post, written once they are done.
+//! What workers did not post, written once they are done, and how their run ended.
 
-ghost use Rattle.std.specs.Prelude.{◌≡◌, ◌<◌, ◌≤◌, if◌then◌else◌, map, replicate, length, IfOk, OnErr};
-ghost use Rattle.dv_time.specs.Time.{IsOfRun, end_of, is_before, rank};
-ghost use Rattle.dv_bag.specs.Part.{IsByTime, before, since};
-ghost use Rattle.dv_board.specs.Clocks.{later};
-ghost use Rattle.dv_board.specs.Jobs.{IsMergeable};
+ghost use Rattle.std.specs.Prelude.{◌≡◌, ◌↔◌, ◌<◌, ◌≤◌, ℕ, IsTrue, Some, if◌then◌else◌, length, replicate, slice_get, IfOk, OnErr};
+ghost use Rattle.std.specs.List.{All};
+ghost use Rattle.dv_board.specs.Posts.{IsPiece};
+ghost use Rattle.dv_conservative.specs.Events.{same_time};
 ghost use Rattle.dv_serial.specs.Clocks.{least_time};
 ghost use Rattle.dv_stream.specs.Written.{Falters, GoesOn};
-ghost use Rattle.dv_work.specs.Reached.{AreReached};
-ghost use Rattle.std.specs.List.{All};
+ghost use Rattle.dv_time.specs.Time.{IsOfRun, end_of, rank};
+ghost use Rattle.dv_time.specs.declared.time.Time.{Time as MeantTime};
+ghost use Rattle.dv_work.specs.declared.report.Ended.TheVariants.{Whole};
 
-use crate::merged::write_merged;
+use crate::news::write_joined;
 use crate::written::Written;
-use dv_bag::Part;
-use dv_core::PlannedJob;
+use dv_board::{Backlog, Board, Piece};
+use dv_link::OfJob;
+use dv_proc::window::is_same;
 use dv_serial::least::least_clock;
-use dv_slice::PartSlice;
 use dv_text::{TraceWriter, WriteError};
 use dv_time::Time;
-use std::alloc::{AllocError, Global};
+use dv_work::Ended;
+use std::alloc::Global;
 use std::io::Write;
+use std::sync::Wait;
 
-// What each process committed from one time on and before another, where it lies.
-fn cut_each<'p>(
-    alloc: Global,
-    parts: &'p [Part],
-    from: Time,
-    upto: Time,
-) -> Result<Vec<PartSlice<'p>>, AllocError>
-    requires { All IsByTime parts.now }
-    ensures { IfOk result (λ pieces. pieces.items
-        ≡ map (λ x. since from (before upto x)) parts.now) }
-{
-    let mut pieces = Vec::with_capacity(alloc, parts.len())?;
-    for part in parts {
-        pieces.push(PartSlice::between(part, from, upto))?;
-    }
-    Ok(pieces)
-}
-
-/// Writes what the trace has from what was written on and before the least of the clocks that workers report. Where that is not
-/// later there is nothing to write.
+/// Joins what is left on a board and what was never posted, and writes what is then known of the trace.
 ///
 /// # Errors
 ///
-/// A write failed, or there is no memory for a piece of the trace. The writer holds a beginning of the lines.
-pub fn write_rest<J: PlannedJob, W: Write>(
+/// A write failed, or there is no memory for a line. The writer holds a beginning of the lines.
+pub fn write_rest<N: OfJob, R: Wait, W: Write>(
+    rt: &R,
     alloc: Global,
-    job: &J,
-    parts: &[Part],
-    clocks: &[Time],
+    board: &Board<N>,
+    backlog: &mut Backlog<N>,
+    rest: Vec<Piece>,
     before: Written,
     lines: &mut TraceWriter<'_>,
     writer: &mut W,
 ) -> Result<Written, WriteError>
-    requires merges { IsMergeable (J.means job.now) }
-    requires some { 0 < (J.means job.now).processes }
-    requires reached { AreReached (J.means job.now) parts.now clocks.now }
-    requires of_run { IsOfRun (J.means job.now).limit before.mark }
+    requires rest { All (IsPiece N.job) rest.items }
+    requires of_run { IsOfRun N.job.limit before.mark }
+    requires within { rank N.job.limit before.mark ≤ end_of N.job.limit N.job.horizon }
     ensures tree { lines.new ≡ lines.old }
-    ensures ok { IfOk result (GoesOn (J.means job.now) lines.old
+    ensures ok { IfOk result (GoesOn N.job lines.old
         (W.contents writer.old) (W.contents writer.new) before) }
-    ensures mark { IfOk result (λ after.
-        after.mark ≡ later before.mark (least_time clocks.now)) }
-    ensures err { OnErr result (Falters (J.means job.now) lines.old
+    ensures within { IfOk result (λ after.
+        rank N.job.limit after.mark ≤ end_of N.job.limit N.job.horizon) }
+    ensures err { OnErr result (Falters N.job lines.old
         (W.contents writer.old) (W.contents writer.new) before) }
 {
-    let least = least_clock(clocks);
-    if !before.mark.is_before(least) {
-        return Ok(before);
-    }
-    let pieces = cut_each(alloc, parts, before.mark, least)?;
-    write_merged(alloc, job, &pieces, before, least, lines, writer)
+    // Where a piece is lost, the clocks up to which the processes are kept tell it.
+    let _ = backlog.extend_all(board.take(rt, alloc));
+    let _ = backlog.extend_all(rest);
+    write_joined(alloc, backlog, before, lines, writer)
 }
 
-/// The clocks that a run reached whose trace was written up to a mark. If a reported clock is before the mark, each
-/// clock is the mark. Workers post nothing past their clocks, so they report no such clock.
-pub fn clocks_from(clocks: Vec<Time>, mark: Time) -> Vec<Time>
+/// The clocks of processes whose trace was written up to a mark: those up to which they are kept, if the mark is the least of them.
+/// Else more is known than could be written, and each clock is the mark.
+pub fn clocks_at(clocks: Vec<Time>, mark: Time) -> Vec<Time>
     requires { 0 < length clocks.items }
-    ensures { result.items ≡ (if is_before (least_time clocks.items) mark
-        then replicate (length clocks.items) mark else clocks.items) }
+    ensures { result.items ≡ (if same_time (least_time clocks.items) mark then clocks.items
+        else replicate (length clocks.items) mark) }
 {
     let mut clocks = clocks;
-    if least_clock(&clocks).is_before(mark) {
+    if !is_same(least_clock(&clocks), mark) {
         clocks.fill(mark);
     }
     clocks
+}
+
+/// Whether all clocks are at a time.
+pub fn all_are(clocks: &[Time], end: Time) -> bool
+    ensures { IsTrue result ↔ ((p : ℕ) (t : MeantTime) → slice_get clocks.now p ≡ Some t
+        → t ≡ end) }
+{
+    clocks.iter().all(|clock| *clock == end)
+}
+
+/// How a run ended of which the whole trace was written, or not. Workers that came to the end are out of memory where a piece was
+/// lost.
+pub fn ended_as<C: Drop>(ended: Ended<C>, is_whole: bool) -> Ended<C>
+    ensures { (result ≡ Whole) ↔ IsTrue is_whole }
+{
+    if is_whole {
+        return Ended::Whole;
+    }
+    match ended {
+        Ended::Whole | Ended::Memory => Ended::Memory,
+        Ended::Stopped(cause) => Ended::Stopped(cause),
+        Ended::Cancelled => Ended::Cancelled,
+    }
 }

@@ -1,36 +1,41 @@
 //! Rounds on one thread; between them the trace is written.
 
-ghost use Rattle.std.specs.Prelude.{◌≡◌, ◌↔◌, ◌<◌, ℕ, List, IfOk, IsTrue, OnErr, map, slice_get, Some};
+ghost use Rattle.std.specs.Prelude.{◌≡◌, ◌↔◌, ◌<◌, ◌≤◌, List, IfOk, IsTrue, OnErr, OnOk, map, set, slice_get, Some};
+ghost use Rattle.std.specs.List.{All};
 ghost use Rattle.dv_bag.specs.Bag.{Counts};
-ghost use Rattle.dv_board.specs.Clocks.{IsNoLater};
+ghost use Rattle.dv_bag.specs.Part.{nothing};
+ghost use Rattle.dv_board.specs.Clocks.{IsLeast};
 ghost use Rattle.dv_board.specs.Jobs.{IsMergeable};
 ghost use Rattle.dv_core.specs.declared.step.Ended.TheVariants.{Stalled};
 ghost use Rattle.dv_core.specs.Worlds.{EndsAs, IsTrueToModel, kept_by, shown};
 ghost use Rattle.dv_serial.specs.Beginning.{CanRun};
 ghost use Rattle.dv_serial.specs.Clocks.{least_time};
 ghost use Rattle.dv_serial.specs.Runs.{HasRun};
+ghost use Rattle.dv_stream.specs.Rounds.{AreJoined};
 ghost use Rattle.dv_stream.specs.Written.{Falters, GoesOn, IsBegun, IsWrittenTo};
-ghost use Rattle.dv_time.specs.Time.{IsOfRun};
-ghost use Rattle.dv_time.specs.declared.time.Time.{Time as MeantTime};
-ghost use Rattle.dv_work.specs.Reached.{AreReached};
+ghost use Rattle.dv_time.specs.Time.{end_of, rank};
 
 use crate::alone::stream_alone;
+use crate::clocks::clocks_of;
 use crate::merged::write_merged;
-use crate::pieces::{clocks_of, pieces_of};
 use crate::written::Written;
 use dv_bag::Bags;
-use dv_core::{Ended, LogicalProcess, PlannedJob, World};
+use dv_board::{Backlog, Piece};
+use dv_core::{Ended, LogicalProcess, PlannedJob, ProcessHandsOver, World};
 use dv_lines::TextRecord;
+use dv_link::OfJob;
+use dv_local::LocalRun;
 use dv_plan::Plan;
+use dv_proc::Process;
 use dv_react::Atomic;
-use dv_record::PartRecord;
+use dv_record::TailRecord;
 use dv_serial::Committed;
-use dv_serial::least::least_clock;
 use dv_serial::worlds::world_of;
 use dv_text::laws::a_trace_is_its_pieces;
 use dv_text::{TraceWriter, WriteError};
-use std::alloc::Global;
+use std::alloc::{AllocError, Global};
 use std::io::Write;
+use std::marker::Brand;
 
 // The trace is written after each batch of this many rounds. A piece costs an access to each process and a write, which
 // is little compared with the rounds; and a reader waits no longer than the rounds take.
@@ -43,66 +48,136 @@ pub struct Streamed {
     pub written: Written,
 }
 
-// Writes what the processes of a job have committed before their least clock and is not written yet.
-fn write_more<J: PlannedJob, P: LogicalProcess<Record = PartRecord>, W: Write>(
+// Joins to a backlog what a process of a world committed beyond what was joined before.
+fn join_one<N: OfJob, J: PlannedJob, P: ProcessHandsOver>(
+    world: &mut World<J, P>,
+    backlog: &mut Backlog<N>,
+    process: u32,
+) -> Result<(), AllocError>
+    requires job { N.job ≡ J.means world.old.job }
+    requires process { process < N.job.processes }
+    requires true_to_model { IsTrueToModel N.job (kept_by P.state world.old) }
+    requires joined { AreJoined N.job (map P.state world.old.processes.items)
+        (map P.handed world.old.processes.items) backlog.old.clocks }
+    ensures job { world.new.job ≡ world.old.job }
+    ensures kept { kept_by P.state world.new ≡ kept_by P.state world.old }
+    ensures mark { backlog.new.mark ≡ backlog.old.mark }
+    ensures joined { OnOk result (AreJoined N.job (map P.state world.new.processes.items)
+        (map P.handed world.new.processes.items) backlog.new.clocks) }
+    ensures clock { OnOk result ((x : P)
+        → slice_get world.old.processes.items process ≡ Some x
+        → backlog.new.clocks ≡ set backlog.old.clocks process (P.state x).position.clock) }
+{
+    let from = backlog.clock(process);
+    let clock = world.process(process).clock();
+    let part = world.hand_over(process);
+    let piece = Piece {
+        process,
+        from,
+        clock,
+        part,
+    };
+    let Ok(()) = backlog.extend(piece) else {
+        return Err(AllocError);
+    };
+    Ok(())
+}
+
+// Joins to a backlog what each process of a world committed beyond what was joined before.
+fn join_each<N: OfJob, J: PlannedJob, P: ProcessHandsOver>(
+    world: &mut World<J, P>,
+    backlog: &mut Backlog<N>,
+    processes: u32,
+) -> Result<(), AllocError>
+    requires job { N.job ≡ J.means world.old.job }
+    requires processes { processes ≡ N.job.processes }
+    requires true_to_model { IsTrueToModel N.job (kept_by P.state world.old) }
+    requires joined { AreJoined N.job (map P.state world.old.processes.items)
+        (map P.handed world.old.processes.items) backlog.old.clocks }
+    ensures job { world.new.job ≡ world.old.job }
+    ensures kept { kept_by P.state world.new ≡ kept_by P.state world.old }
+    ensures mark { backlog.new.mark ≡ backlog.old.mark }
+    ensures joined { OnOk result (AreJoined N.job (map P.state world.new.processes.items)
+        (map P.handed world.new.processes.items) backlog.new.clocks) }
+    ensures clocks { OnOk result (backlog.new.clocks
+        ≡ map (λ x. (P.state x).position.clock) world.new.processes.items) }
+{
+    for process in 0..processes {
+        join_one(world, backlog, process)?;
+    }
+    Ok(())
+}
+
+// Writes what a backlog has of the trace from what was written on and before the least clock, and lets go of it.
+fn write_all<N: OfJob, J: PlannedJob, W: Write>(
     alloc: Global,
     job: &J,
-    processes: &[P],
+    backlog: &mut Backlog<N>,
     before: Written,
     lines: &mut TraceWriter<'_>,
     writer: &mut W,
 ) -> Result<Written, WriteError>
-    requires merges { IsMergeable (J.means job.now) }
-    requires some { 0 < (J.means job.now).processes }
-    requires reached { AreReached (J.means job.now) (map (λ x. (P.state x).part) processes.now)
-        (map (λ x. (P.state x).position.clock) processes.now) }
-    requires of_run { IsOfRun (J.means job.now).limit before.mark }
-    requires order { (p : ℕ) (t : MeantTime)
-        → slice_get (map (λ x. (P.state x).position.clock) processes.now) p ≡ Some t
-        → IsNoLater (J.means job.now) before.mark t }
+    requires job { N.job ≡ J.means job.now }
+    requires mark { backlog.old.mark ≡ before.mark }
+    requires within { rank N.job.limit before.mark ≤ end_of N.job.limit N.job.horizon }
     ensures tree { lines.new ≡ lines.old }
-    ensures ok { IfOk result (GoesOn (J.means job.now) lines.old
+    ensures clocks { backlog.new.clocks ≡ backlog.old.clocks }
+    ensures ok { IfOk result (GoesOn N.job lines.old
         (W.contents writer.old) (W.contents writer.new) before) }
-    ensures least { IfOk result (λ after. after.mark
-        ≡ least_time (map (λ x. (P.state x).position.clock) processes.now)) }
-    ensures err { OnErr result (Falters (J.means job.now) lines.old
+    ensures mark { IfOk result (λ after. backlog.new.mark ≡ after.mark) }
+    ensures least { IfOk result (λ after. IsLeast after.mark backlog.new.clocks) }
+    ensures within { IfOk result (λ after.
+        rank N.job.limit after.mark ≤ end_of N.job.limit N.job.horizon) }
+    ensures err { OnErr result (Falters N.job lines.old
         (W.contents writer.old) (W.contents writer.new) before) }
 {
-    let clocks = clocks_of(alloc, processes)?;
-    let mark = least_clock(&clocks);
-    let pieces = pieces_of(alloc, processes, before.mark, mark)?;
-    write_merged(alloc, job, &pieces, before, mark, lines, writer)
+    let Some((pieces, mark)) = backlog.known(alloc, before.mark)? else {
+        unreachable!()
+    };
+    let written = write_merged(alloc, job, &pieces, before, mark, lines, writer)?;
+    drop(pieces);
+    backlog.let_go(mark);
+    Ok(written)
 }
 
 // So many rounds, and then what is new of the trace is written.
-fn advance<J: PlannedJob, P: LogicalProcess<Record = PartRecord>, W: Write>(
+fn advance<N: OfJob, J: PlannedJob, P: ProcessHandsOver, W: Write>(
     alloc: Global,
     world: &mut World<J, P>,
     work: &mut P::Work,
+    backlog: &mut Backlog<N>,
+    processes: u32,
     rounds: u64,
     before: Written,
     lines: &mut TraceWriter<'_>,
     writer: &mut W,
 ) -> Result<(Ended, Written), WriteError>
-    requires merges { IsMergeable (J.means world.old.job) }
-    requires some { 0 < (J.means world.old.job).processes }
-    requires true_to_model { IsTrueToModel (J.means world.old.job) (kept_by P.state world.old) }
-    requires least { before.mark
-        ≡ least_time (map (λ x. (P.state x).position.clock) world.old.processes.items) }
+    requires job { N.job ≡ J.means world.old.job }
+    requires processes { processes ≡ N.job.processes }
+    requires joined { AreJoined N.job (map P.state world.old.processes.items)
+        (map P.handed world.old.processes.items) backlog.old.clocks }
+    requires mark { backlog.old.mark ≡ before.mark }
+    requires within { rank N.job.limit before.mark ≤ end_of N.job.limit N.job.horizon }
     ensures job { world.new.job ≡ world.old.job }
     ensures tree { lines.new ≡ lines.old }
-    ensures rounds { IfOk result (λ r. EndsAs (J.means world.old.job) rounds r.0
+    ensures rounds { IfOk result (λ r. EndsAs N.job rounds r.0
         (shown J.means P.state world.old) (shown J.means P.state world.new)) }
-    ensures true_to_model { IsTrueToModel (J.means world.new.job) (kept_by P.state world.new) }
-    ensures written { IfOk result (λ r. GoesOn (J.means world.old.job) lines.old
+    ensures true_to_model { IsTrueToModel N.job (kept_by P.state world.new) }
+    ensures joined { IfOk result (λ _. AreJoined N.job (map P.state world.new.processes.items)
+        (map P.handed world.new.processes.items) backlog.new.clocks) }
+    ensures mark { IfOk result (λ r. backlog.new.mark ≡ r.1.mark) }
+    ensures within { IfOk result (λ r.
+        rank N.job.limit r.1.mark ≤ end_of N.job.limit N.job.horizon) }
+    ensures written { IfOk result (λ r. GoesOn N.job lines.old
         (W.contents writer.old) (W.contents writer.new) before r.1) }
     ensures least { IfOk result (λ r. r.1.mark
         ≡ least_time (map (λ x. (P.state x).position.clock) world.new.processes.items)) }
-    ensures err { OnErr result (Falters (J.means world.old.job) lines.old
+    ensures err { OnErr result (Falters N.job lines.old
         (W.contents writer.old) (W.contents writer.new) before) }
 {
     let ended = world.serial(work, rounds);
-    let written = write_more(alloc, world.job(), world.processes(), before, lines, writer)?;
+    join_each(world, backlog, processes)?;
+    let written = write_all(alloc, world.job(), backlog, before, lines, writer)?;
     Ok((ended, written))
 }
 
@@ -116,21 +191,27 @@ pub(crate) fn is_stalled(ended: Ended) -> bool
     }
 }
 
-// Rounds of the processes of a world, so many at most; the trace is written meanwhile.
-fn stream_rounds<J: PlannedJob, P: LogicalProcess<Record = PartRecord>, W: Write>(
+// Rounds of the processes of a world, so many at most; the trace is written meanwhile. No parameter has the job in its type, so a
+// caller can choose the job.
+fn stream_rounds<N: OfJob, J: PlannedJob, P: ProcessHandsOver, W: Write>(
     alloc: Global,
     world: &mut World<J, P>,
     work: &mut P::Work,
+    processes: u32,
     rounds: u64,
     lines: &mut TraceWriter<'_>,
     writer: &mut W,
 ) -> Result<(Ended, Written), WriteError>
+    requires job { N.job ≡ J.means world.old.job }
+    requires processes { processes ≡ N.job.processes }
+    requires kept { All (λ x. (P.handed x).past ≡ nothing) world.old.processes.items }
     requires merges { IsMergeable (J.means world.old.job) }
     requires some { 0 < (J.means world.old.job).processes }
     ensures job { world.new.job ≡ world.old.job }
     ensures rounds { IfOk result (λ r. EndsAs (J.means world.old.job) rounds r.0
         (shown J.means P.state world.old) (shown J.means P.state world.new)) }
-    ensures true_to_model { IsTrueToModel (J.means world.new.job) (kept_by P.state world.new) }
+    ensures true_to_model { IfOk result (λ _.
+        IsTrueToModel (J.means world.new.job) (kept_by P.state world.new)) }
     ensures written { IfOk result (λ r. IsWrittenTo (J.means world.old.job) lines.old
         (W.contents writer.old) (W.contents writer.new) r.1) }
     ensures least { IfOk result (λ r. r.1.mark
@@ -140,20 +221,32 @@ fn stream_rounds<J: PlannedJob, P: LogicalProcess<Record = PartRecord>, W: Write
 {
     // Lines are continued by those of the next piece.
     a_trace_is_its_pieces::<Bags>();
+    let mut backlog: Backlog<N> = Backlog::new(alloc, processes)?;
     let mut left = rounds;
-    let mut ended = world.serial(work, 0);
-    let nothing = Written::NOTHING;
-    let mut written = write_more(
+    let (mut ended, mut written) = advance(
         alloc,
-        world.job(),
-        world.processes(),
-        nothing,
+        world,
+        work,
+        &mut backlog,
+        processes,
+        0,
+        Written::NOTHING,
         lines,
         writer,
     )?;
     while left > 0 && is_stalled(ended) {
         let batch = left.min(ROUNDS_BETWEEN);
-        (ended, written) = advance(alloc, world, work, batch, written, lines, writer)?;
+        (ended, written) = advance(
+            alloc,
+            world,
+            work,
+            &mut backlog,
+            processes,
+            batch,
+            written,
+            lines,
+            writer,
+        )?;
         left -= batch;
     }
     Ok((ended, written))
@@ -161,8 +254,7 @@ fn stream_rounds<J: PlannedJob, P: LogicalProcess<Record = PartRecord>, W: Write
 
 /// Runs the processes of a plan from their start, in so many rounds at most, with so many packets on their way on a link at
 /// most, and writes the lines of the trace before the least clock while they run. Where memory is refused to a turn or to a
-/// packet the last round is cut; what was committed before is what ran, and is written. Where there is one process, what was
-/// written is let go.
+/// packet the last round is cut; what was committed before is what ran, and is written. What was written is let go.
 ///
 /// # Errors
 ///
@@ -194,8 +286,11 @@ pub fn stream_plan<J: PlannedJob, A: Atomic + Drop, W: Write>(
         let to = TextRecord::new(alloc, tree)?;
         return stream_alone(alloc, job, plan, work, rounds, capacity, to, tree, writer);
     }
-    let mut world = world_of(alloc, job, plan, capacity)?;
-    let (ended, written) = stream_rounds(alloc, &mut world, work, rounds, lines, writer)?;
+    let processes = plan.shares.len() as u32;
+    let mut world = world_of::<J, A, TailRecord>(alloc, job, plan, capacity)?;
+    let (ended, written) = stream_rounds::<Brand, J, Process<LocalRun<A, TailRecord>>, W>(
+        alloc, &mut world, work, processes, rounds, lines, writer,
+    )?;
     let clocks = clocks_of(alloc, world.processes())?;
     let committed = Committed { clocks, ended };
     Ok(Streamed { committed, written })

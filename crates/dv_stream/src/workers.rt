@@ -1,25 +1,28 @@
 //! A run by workers, whose trace is written while they run.
 
-ghost use Rattle.std.specs.Prelude.{◌≡◌, ◌<◌, ◌≤◌, ℕ, Some, slice_get, length, IfOk, IfSome, OnErr};
+ghost use Rattle.std.specs.Prelude.{◌≡◌, ◌↔◌, ◌<◌, ◌≤◌, ℕ, Some, slice_get, length, IfOk, IfSome, OnErr};
+ghost use Rattle.std.specs.List.{All};
+ghost use Rattle.dv_bag.specs.Part.{nothing};
 ghost use Rattle.dv_time.specs.Time.{end_of, rank};
 ghost use Rattle.dv_time.specs.declared.time.Time.{Time as MeantTime};
 ghost use Rattle.dv_board.specs.Jobs.{IsMergeable};
 ghost use Rattle.dv_core.specs.Worlds.{AreMadeFor, end_time};
 ghost use Rattle.dv_devs.specs.Clocks.{least_rank};
+ghost use Rattle.dv_stream.specs.Clocks.{AreWithin};
 ghost use Rattle.dv_stream.specs.Workers.{IsReportOf, job_of_type};
 ghost use Rattle.dv_stream.specs.Written.{IsBegun, IsWrittenTo};
 ghost use Rattle.dv_work.specs.declared.report.Ended.TheVariants.{Whole};
 ghost use Rattle.dv_time.specs.Limits.{greatest_tick};
 
 use crate::news::{Signals, write_news};
-use crate::rest::{clocks_from, write_rest};
+use crate::rest::{all_are, clocks_at, ended_as, write_rest};
+use crate::watch::{Watch, Watched};
 use crate::written::Written;
 use dv_bag::Bags;
 use dv_board::{Backlog, Board};
-use dv_core::{LogicalProcess, PlannedJob};
+use dv_core::{PlannedJob, ProcessHandsOver};
 use dv_link::OfJob;
 use dv_proc::Channel;
-use dv_record::PartRecord;
 use dv_text::laws::a_trace_is_its_pieces;
 use dv_text::{TraceWriter, WriteError};
 use dv_time::Time;
@@ -67,7 +70,7 @@ impl<N: OfJob> PlannedJob for Until<N> {
 // Runs a crew, if it has not run yet, with a board on which it posts. Tells that it has begun, and that it has ended.
 fn run_posting<
     N: OfJob + Send + Sync,
-    P: LogicalProcess<Record = PartRecord> + Send,
+    P: ProcessHandsOver + Send,
     G: Gate<P>,
     R: Threads + Wait + Sync,
 >(
@@ -83,9 +86,14 @@ fn run_posting<
 ) -> Result<Report<G::Cause>, AllocError>
 where
     P::Work: Send + Drop,
+    P::Record: Send,
     requires made { IfSome crew.old (λ c.
         AreMadeFor job_of_type P.state P.valid N.job channels.now c.processes.items) }
+    requires kept { IfSome crew.old (λ c.
+        All (λ x. (P.handed x).past ≡ nothing) c.processes.items) }
     requires workers { IfSome crew.old (λ c. 0 < length c.works.items) }
+    requires bells { IfSome crew.old (λ c.
+        length c.works.items ≤ length signals.now.bells.items) }
     requires capacity { 0 < capacity }
     ensures { IfOk result (IsReportOf N.job) }
 {
@@ -100,9 +108,7 @@ where
             works,
             capacity,
             gate,
-            board,
-            &signals.news,
-            &signals.stop,
+            signals.stream(board),
         ),
         None => Err(AllocError),
     };
@@ -129,7 +135,7 @@ fn write_or_stop<N: OfJob, R: Wait, W: Write>(
 {
     let written = write_news(rt, alloc, board, backlog, signals, tree, writer);
     if written.is_err() {
-        signals.stop.raise(rt, &[]);
+        signals.stop(rt);
     }
     written
 }
@@ -138,7 +144,7 @@ fn write_or_stop<N: OfJob, R: Wait, W: Write>(
 // crew last; nothing is written then, since no run begins.
 fn run_and_write<
     N: OfJob + Send + Sync,
-    P: LogicalProcess<Record = PartRecord> + Send,
+    P: ProcessHandsOver + Send,
     G: Gate<P>,
     R: Threads + Wait + Sync,
     W: Write,
@@ -161,9 +167,12 @@ fn run_and_write<
 )
 where
     P::Work: Send + Drop,
+    P::Record: Send,
     requires made { AreMadeFor job_of_type P.state P.valid N.job channels.now
         crew.processes.items }
+    requires kept { All (λ x. (P.handed x).past ≡ nothing) crew.processes.items }
     requires workers { 0 < length crew.works.items }
+    requires bells { length crew.works.items ≤ length signals.now.bells.items }
     requires capacity { 0 < capacity }
     ensures written { IfOk result.0 (IsWrittenTo N.job tree.now
         (W.contents writer.old) (W.contents writer.new)) }
@@ -177,7 +186,11 @@ where
     let mut run = move || -> Result<Report<G::Cause>, AllocError>
         requires made { IfSome crew (λ c.
             AreMadeFor job_of_type P.state P.valid N.job channels.now c.processes.items) }
+        requires kept { IfSome crew (λ c.
+            All (λ x. (P.handed x).past ≡ nothing) c.processes.items) }
         requires workers { IfSome crew (λ c. 0 < length c.works.items) }
+        requires bells { IfSome crew (λ c.
+            length c.works.items ≤ length signals.now.bells.items) }
         requires capacity { 0 < capacity }
         ensures { IfOk result (IsReportOf N.job) }
     {
@@ -201,7 +214,7 @@ where
 fn stream_crew<
     N: OfJob + Send + Sync,
     J: PlannedJob,
-    P: LogicalProcess<Record = PartRecord> + Send,
+    P: ProcessHandsOver + Send,
     G: Gate<P>,
     R: Threads + Wait + Sync,
     W: Write,
@@ -218,11 +231,13 @@ fn stream_crew<
 ) -> Result<Worked<G::Cause>, WriteError>
 where
     P::Work: Send + Drop,
+    P::Record: Send,
     requires job { N.job ≡ J.means job.now }
     requires made { AreMadeFor J.means P.state P.valid job.now channels.now
         crew.processes.items }
     requires merges { IsMergeable (J.means job.now) }
     requires some { 0 < (J.means job.now).processes }
+    requires kept { All (λ x. (P.handed x).past ≡ nothing) crew.processes.items }
     requires workers { 0 < length crew.works.items }
     requires capacity { 0 < capacity }
     ensures written { IfOk result (λ w. IsWrittenTo (J.means job.now) tree.now
@@ -231,18 +246,20 @@ where
     ensures count { IfOk result (λ w. length w.clocks.items ≡ (J.means job.now).processes) }
     ensures least { IfOk result (λ w. rank (J.means job.now).limit w.written.mark
         ≡ least_rank (J.means job.now).limit w.clocks.items) }
-    ensures whole { IfOk result (λ w. w.ended ≡ Whole
-        → (p : ℕ) (t : MeantTime) → slice_get w.clocks.items p ≡ Some t
-        → t ≡ end_time (J.means job.now)) }
+    ensures within { IfOk result (λ w. AreWithin (J.means job.now).horizon
+        (J.means job.now).limit w.clocks.items) }
+    ensures whole { IfOk result (λ w. (w.ended ≡ Whole)
+        ↔ ((p : ℕ) (t : MeantTime) → slice_get w.clocks.items p ≡ Some t
+        → t ≡ end_time (J.means job.now))) }
     ensures err { OnErr result (IsBegun (J.means job.now) tree.now
         (W.contents writer.old) (W.contents writer.new)) }
 {
     // Lines are continued by those of the next piece.
     a_trace_is_its_pieces::<Bags>();
     let processes = crew.processes.len() as u32;
-    let board: Board<N> = Board::new(alloc, processes)?;
+    let board: Board<N> = Board::new(alloc);
     let mut backlog: Backlog<N> = Backlog::new(alloc, processes)?;
-    let signals = Signals::new();
+    let signals = Signals::new(alloc, crew.processes.len(), crew.works.len())?;
     let until: Until<N> = Until {
         tick: job.horizon(),
         of: PhantomData,
@@ -262,14 +279,25 @@ where
         writer,
     );
     let written = written?;
-    let Report {
-        parts,
-        clocks,
-        ended,
-    } = report?;
+    let Report { rest, ended } = report?;
     let mut lines = TraceWriter::new(alloc, tree);
-    let written = write_rest(alloc, job, &parts, &clocks, written, &mut lines, writer)?;
-    let clocks = clocks_from(clocks, written.mark);
+    let written = write_rest(
+        rt,
+        alloc,
+        &board,
+        &mut backlog,
+        rest,
+        written,
+        &mut lines,
+        writer,
+    )?;
+    let kept = backlog.clocks(alloc)?;
+    let clocks = clocks_at(kept, written.mark);
+    let end = Time {
+        tick: job.horizon() + 1,
+        micro: 0,
+    };
+    let ended = ended_as(ended, all_are(&clocks, end));
     Ok(Worked {
         clocks,
         ended,
@@ -279,8 +307,9 @@ where
 
 /// Runs new processes of a job on threads, a worker for each of the crew's `works`, and writes the trace, with the names of a
 /// tree, while they run. Process p belongs to worker p mod the number of workers. So many packets may be on their way on each link;
-/// one more may be in the hand of its sender. Whatever the gate and the timing of the threads, what was written is the trace
-/// before the least of the clocks, and a run that is told whole has every clock at the end.
+/// one more may be in the hand of its sender. `watch` may watch each turn and stop the run. Whatever it does, and whatever the timing
+/// of the threads, what was written is the trace before the least of the clocks, none of which is past the end, and a run is told
+/// whole exactly where every clock is at the end.
 ///
 /// # Errors
 ///
@@ -288,8 +317,8 @@ where
 /// the writer holds a beginning of the lines.
 pub fn stream_workers<
     J: PlannedJob,
-    P: LogicalProcess<Record = PartRecord> + Send,
-    G: Gate<P>,
+    P: ProcessHandsOver + Send,
+    G: Watch,
     R: Threads + Wait + Sync,
     W: Write,
 >(
@@ -299,16 +328,18 @@ pub fn stream_workers<
     channels: &[Channel],
     crew: Crew<P, P::Work>,
     capacity: usize,
-    gate: &G,
+    watch: &G,
     tree: &Tree,
     writer: &mut W,
-) -> Result<Worked<G::Cause>, WriteError>
+) -> Result<Worked<()>, WriteError>
 where
     P::Work: Send + Drop,
+    P::Record: Send,
     requires made { AreMadeFor J.means P.state P.valid job.now channels.now
         crew.processes.items }
     requires merges { IsMergeable (J.means job.now) }
     requires some { 0 < (J.means job.now).processes }
+    requires kept { All (λ x. (P.handed x).past ≡ nothing) crew.processes.items }
     requires workers { 0 < length crew.works.items }
     requires capacity { 0 < capacity }
     ensures written { IfOk result (λ w. IsWrittenTo (J.means job.now) tree.now
@@ -317,13 +348,16 @@ where
     ensures count { IfOk result (λ w. length w.clocks.items ≡ (J.means job.now).processes) }
     ensures least { IfOk result (λ w. rank (J.means job.now).limit w.written.mark
         ≡ least_rank (J.means job.now).limit w.clocks.items) }
-    ensures whole { IfOk result (λ w. w.ended ≡ Whole
-        → (p : ℕ) (t : MeantTime) → slice_get w.clocks.items p ≡ Some t
-        → t ≡ end_time (J.means job.now)) }
+    ensures within { IfOk result (λ w. AreWithin (J.means job.now).horizon
+        (J.means job.now).limit w.clocks.items) }
+    ensures whole { IfOk result (λ w. (w.ended ≡ Whole)
+        ↔ ((p : ℕ) (t : MeantTime) → slice_get w.clocks.items p ≡ Some t
+        → t ≡ end_time (J.means job.now))) }
     ensures err { OnErr result (IsBegun (J.means job.now) tree.now
         (W.contents writer.old) (W.contents writer.new)) }
 {
-    stream_crew::<Brand, J, P, G, R, W>(
-        rt, alloc, job, channels, crew, capacity, gate, tree, writer,
+    let gate = Watched { watch };
+    stream_crew::<Brand, J, P, Watched<'_, G>, R, W>(
+        rt, alloc, job, channels, crew, capacity, &gate, tree, writer,
     )
 }

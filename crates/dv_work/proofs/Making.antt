@@ -8,10 +8,13 @@ use Rattle.std.specs.declared.alloc.Global.{Global}
 use Rattle.std.specs.declared.vec.Vec.{Vec}
 use Rattle.dv_time.specs.Time.{rank}
 use Rattle.dv_time.specs.declared.time.Time.{Time}
+use Rattle.dv_conservative.specs.Flat.{whole}
 use Rattle.dv_conservative.specs.Process.{IsWithin, Packet, clock_after, first_time, least_clock}
 use Rattle.dv_conservative.specs.True.{AreTrue}
-use Rattle.dv_conservative.specs.World.{Channel, Job, packets_in, share_of}
+use Rattle.dv_conservative.specs.World.{Channel, Job, owned, packets_in, share_of}
 use Rattle.dv_core.specs.ProcessState.{ProcessState}
+use Rattle.dv_devs.specs.Parts.{part_before}
+use Rattle.dv_record.specs.Told.{Handed}
 use Rattle.dv_core.proofs.Answering.{shown_at}
 use Rattle.dv_core.proofs.Lookups.{set_each}
 use Rattle.dv_proc.specs.Channels.{meant_channel}
@@ -88,11 +91,14 @@ apart_more {X} number xs v below apart i j x y ex ey same = by_places (get_snoc 
         absurd (omega arith)
     by_places (inr a) (inr b) = a.0 ∙ sym b.0
 
-module _ {N P : Type 0} (job : Job) (state : P → ProcessState) (IsValid : P → Type 0) where
+zero_rank : (limit : ℕ) → 0 ≡ rank limit first_time
+zero_rank limit = omega arith
+
+module _ {N P : Type 0} (job : Job) (state : P → ProcessState) (handed : P → Handed) (IsValid : P → Type 0) where
   -- a new process, before any link is made
-  pub new_seat : (processes : List P) → AreNew job state IsValid processes → (p : ℕ) (x : P) → slice_get processes p ≡ Some x
+  pub new_seat : (processes : List P) → AreNew job state handed IsValid processes → (p : ℕ) (x : P) → slice_get processes p ≡ Some x
       → (outs : Vec Out Global) (ins : Vec In Global) → outs.items ≡ [] → ins.items ≡ []
-      → IsSeat job state IsValid (no_links {N = N}) 0 0 (let s : Seat P = record { number = p; process = x; outs = outs; ins = ins } in s)
+      → IsSeat job state handed IsValid (no_links {N = N}) 0 0 (let s : Seat P = record { number = p; process = x; outs = outs; ins = ins; posted = first_time } in s)
   new_seat processes new p x at outs ins no_outs no_ins =
       let one = new.shares p x at in
       let fresh = one.1 in
@@ -121,6 +127,11 @@ module _ {N P : Type 0} (job : Job) (state : P → ProcessState) (IsValid : P �
             received = λ i o e. absurd (nothing_there ins.items i o no_ins e);
             apart = λ i j o q e d same. absurd (nothing_there ins.items i o no_ins e);
           };
+          posted = record {
+            of_run = omega arith;
+            order = omega arith;
+            past = new.kept p x at ∙ ap (part_before (owned job p) job.limit (whole job.flat) job.outside) (zero_rank job.limit);
+          };
         };
         new = fresh;
         outs = λ i o e. absurd (nothing_there outs.items i o no_outs e);
@@ -144,8 +155,8 @@ module _ {N P : Type 0} (job : Job) (state : P → ProcessState) (IsValid : P �
     link_is = is.link_is;
   }
 
-  seat_grown : (links : List (Link N)) (l : Link N) (a b : ℕ) (s : Seat P) → IsSeat job state IsValid links a b s
-      → IsSeat job state IsValid (links ++ l ∷ []) a b s
+  seat_grown : (links : List (Link N)) (l : Link N) (a b : ℕ) (s : Seat P) → IsSeat job state handed IsValid links a b s
+      → IsSeat job state handed IsValid (links ++ l ∷ []) a b s
   seat_grown links l a b s is =
       let outs = is.sits.outs in
       let ins = is.sits.ins in record {
@@ -159,14 +170,15 @@ module _ {N P : Type 0} (job : Job) (state : P → ProcessState) (IsValid : P �
             received = ins.received;
             apart = ins.apart;
           };
+          posted = is.sits.posted;
         };
         new = is.new;
         outs = is.outs;
         ins = is.ins;
       }
 
-  pub seats_grown : (links : List (Link N)) (l : Link N) (a b : ℕ) (seats : List (Seat P)) → AreSeated job state IsValid links a b seats
-      → AreSeated job state IsValid (links ++ l ∷ []) a b seats
+  pub seats_grown : (links : List (Link N)) (l : Link N) (a b : ℕ) (seats : List (Seat P)) → AreSeated job state handed IsValid links a b seats
+      → AreSeated job state handed IsValid (links ++ l ∷ []) a b seats
   seats_grown links l a b seats are = record {
     count = are.count;
     numbers = are.numbers;
@@ -177,7 +189,7 @@ module _ {N P : Type 0} (job : Job) (state : P → ProcessState) (IsValid : P �
     abbrev x : ProcessState
     x = state s.process
 
-    new_gives : (b n : ℕ) → IsSeat job state IsValid links n b s → (o : Out) → IsNewOut job links s.number o → Gives job s.number x o
+    new_gives : (b n : ℕ) → IsSeat job state handed IsValid links n b s → (o : Out) → IsNewOut job links s.number o → Gives job s.number x o
     new_gives b n is o new =
         let none : [] ≡ prepared x o
         = ap (λ (t : Option Packet). packets_in t) (sym (is.new.standing o.number))
@@ -190,10 +202,10 @@ module _ {N P : Type 0} (job : Job) (state : P → ProcessState) (IsValid : P �
         }
 
     -- the end of a link that leads away, more
-    pub with_out : (b : ℕ) (o : Out) → IsSeat job state IsValid links o.number b s → IsNewOut job links s.number o
+    pub with_out : (b : ℕ) (o : Out) → IsSeat job state handed IsValid links o.number b s → IsNewOut job links s.number o
         → (outs : Vec Out Global) → outs.items ≡ s.outs.items ++ o ∷ []
-        → IsSeat job state IsValid links (o.number + 1) b
-        (let t : Seat P = record { number = s.number; process = s.process; outs = outs; ins = s.ins } in t)
+        → IsSeat job state handed IsValid links (o.number + 1) b
+        (let t : Seat P = record { number = s.number; process = s.process; outs = outs; ins = s.ins; posted = s.posted } in t)
     with_out b o is new outs items =
         let was = is.sits.outs in
         let ends = λ (i : ℕ) (q : Out) (e : slice_get (s.outs.items ++ o ∷ []) i ≡ Some q). by_end i q (get_snoc s.outs.items o i q e) in
@@ -210,6 +222,7 @@ module _ {N P : Type 0} (job : Job) (state : P → ProcessState) (IsValid : P �
             fed = is.sits.fed;
             outs = subst (AreOuts job links s.number x) (sym items) all;
             ins = is.sits.ins;
+            posted = is.sits.posted;
           };
           new = is.new;
           outs = subst (λ (l : List Out). (i : ℕ) (q : Out) → slice_get l i ≡ Some q → q.number < o.number + 1) (sym items) below;
@@ -230,10 +243,10 @@ module _ {N P : Type 0} (job : Job) (state : P → ProcessState) (IsValid : P �
         by_number i q (inr e) = let same : o.number ≡ q.number = ap (λ (r : Out). r.number) e.1 in omega arith
 
     -- the end of a link that leads here, more
-    pub with_in : (a : ℕ) (d : In) → IsSeat job state IsValid links a d.number s → IsNewIn job links d
+    pub with_in : (a : ℕ) (d : In) → IsSeat job state handed IsValid links a d.number s → IsNewIn job links d
         → (ins : Vec In Global) → ins.items ≡ s.ins.items ++ d ∷ []
-        → IsSeat job state IsValid links a (d.number + 1)
-        (let t : Seat P = record { number = s.number; process = s.process; outs = s.outs; ins = ins } in t)
+        → IsSeat job state handed IsValid links a (d.number + 1)
+        (let t : Seat P = record { number = s.number; process = s.process; outs = s.outs; ins = ins; posted = s.posted } in t)
     with_in a d is new ins items =
         let was = is.sits.ins in
         let ends = λ (i : ℕ) (q : In) (e : slice_get (s.ins.items ++ d ∷ []) i ≡ Some q). by_end i q (get_snoc s.ins.items d i q e) in
@@ -252,6 +265,7 @@ module _ {N P : Type 0} (job : Job) (state : P → ProcessState) (IsValid : P �
             fed = is.sits.fed;
             outs = is.sits.outs;
             ins = subst (AreIns job links x) (sym items) all;
+            posted = is.sits.posted;
           };
           new = is.new;
           outs = is.outs;
@@ -276,8 +290,8 @@ module _ {N P : Type 0} (job : Job) (state : P → ProcessState) (IsValid : P �
         by_number i q (inr e) = let same : d.number ≡ q.number = ap (λ (r : In). r.number) e.1 in omega arith
 
   -- the bounds of numbers may be greater
-  looser : (links : List (Link N)) (a b c d : ℕ) → a ≤ c → b ≤ d → (s : Seat P) → IsSeat job state IsValid links a b s
-      → IsSeat job state IsValid links c d s
+  looser : (links : List (Link N)) (a b c d : ℕ) → a ≤ c → b ≤ d → (s : Seat P) → IsSeat job state handed IsValid links a b s
+      → IsSeat job state handed IsValid links c d s
   looser links a b c d le le' s is = record {
     sits = is.sits;
     new = is.new;
@@ -287,19 +301,19 @@ module _ {N P : Type 0} (job : Job) (state : P → ProcessState) (IsValid : P �
 
   -- one process has an end more
   pub seated_more : (links : List (Link N)) (a b c d : ℕ) → a ≤ c → b ≤ d → (seats : List (Seat P))
-      → AreSeated job state IsValid links a b seats
-      → (p : ℕ) (s t : Seat P) → slice_get seats p ≡ Some s → t.number ≡ s.number → IsSeat job state IsValid links c d t
-      → AreSeated job state IsValid links c d (set seats p t)
+      → AreSeated job state handed IsValid links a b seats
+      → (p : ℕ) (s t : Seat P) → slice_get seats p ≡ Some s → t.number ≡ s.number → IsSeat job state handed IsValid links c d t
+      → AreSeated job state handed IsValid links c d (set seats p t)
   seated_more links a b c d le le' seats are p s t at number is = record {
     count = length-set seats p t ∙ are.count;
     numbers = set_each (λ q z. z.number ≡ q) seats p s t at are.numbers (number ∙ are.numbers p s at);
-    each = set_each (λ q z. IsSeat job state IsValid links c d z) seats p s t at
+    each = set_each (λ q z. IsSeat job state handed IsValid links c d z) seats p s t at
         (λ q z e. looser links a b c d le le' z (are.each q z e)) is;
   }
 
   -- all of them sit at their ends
-  pub all_sit : (links : List (Link N)) (a b : ℕ) (seats : List (Seat P)) → AreSeated job state IsValid links a b seats
-      → All (Sits job state IsValid links) seats
+  pub all_sit : (links : List (Link N)) (a b : ℕ) (seats : List (Seat P)) → AreSeated job state handed IsValid links a b seats
+      → All (Sits job state handed IsValid links) seats
   all_sit links a b seats are k d lt = (are.each k (get_or seats k d) (stands_at seats k d lt)).sits
 
 -- a link of the job, by the channel that stands for it

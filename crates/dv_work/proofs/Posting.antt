@@ -1,56 +1,49 @@
--- What a process posts: what it committed since the board's clock of it.
-use Rattle.std.proofs.Common.{◌≡◌, ◌≤◌, true, sym, ap, subst, ◌∙◌, arith}
-use Rattle.dv_time.specs.Time.{IsOfRun, end_of, is_before, rank}
+-- What a process posts: what it committed beyond what it has handed over.
+use Rattle.std.proofs.Common.{◌≡◌, ℕ, ◌<◌, ◌≤◌, sym, ap, subst, ◌∙◌}
+use Rattle.std.proofs.lemmas.List.{append_cancel_left}
+use Rattle.dv_time.specs.Time.{IsOfRun, end_of, rank}
 use Rattle.dv_time.specs.declared.time.Time.{Time}
-use Rattle.dv_time.proofs.Ranks.{time_of-rank}
-use Rattle.dv_bag.specs.Part.{IsByTime, PartOf, since}
-use Rattle.dv_devs.specs.Parts.{part_before}
-use Rattle.dv_devs.proofs.ByTime.{part_by_time}
-use Rattle.dv_devs.proofs.Cuts.{part_since}
+use Rattle.dv_bag.specs.Part.{PartOf, joined}
+use Rattle.dv_devs.specs.Parts.{part_at, part_before}
+use Rattle.dv_devs.proofs.Cuts.{join_between}
+use Rattle.dv_devs.proofs.Parts.{same_part}
 use Rattle.dv_conservative.specs.Flat.{whole}
-use Rattle.dv_conservative.specs.World.{Job, owned}
+use Rattle.dv_conservative.specs.Process.{IsWithin}
+use Rattle.dv_conservative.specs.World.{Job, owned, share_of}
 use Rattle.dv_board.specs.Clocks.{IsNoLater}
 use Rattle.dv_board.specs.Jobs.{committed}
 use Rattle.dv_board.specs.Posts.{IsPiece}
-use Rattle.dv_board.proofs.Places.{sooner}
 use Rattle.dv_core.specs.ProcessState.{ProcessState}
-use Rattle.dv_work.specs.Seats.{Reports}
-use Rattle.dv_work.specs.declared.seat.Seat.{Seat}
+use Rattle.dv_record.specs.Told.{Handed}
+use Rattle.dv_work.specs.Seats.{HasHandedOver}
 
-module _ {P : Type 0} (job : Job) (state : P → ProcessState) (s : Seat P) (reports : Reports job state s) where
-  abbrev clock : Time
-  clock = (state s.process).position.clock
+-- what stands behind a part is known by the whole
+same_rest : (p a b : PartOf) → joined p a ≡ joined p b → a ≡ b
+same_rest p a b e =
+    same_part a.entries b.entries a.outer b.outer
+    (append_cancel_left p.entries a.entries b.entries (ap (λ (q : PartOf). q.entries) e))
+    (append_cancel_left p.outer a.outer b.outer (ap (λ (q : PartOf). q.outer) e))
 
-  -- what is to be posted is cut where it stands by time
-  pub part_is_by_time : IsByTime (state s.process).part
-  part_is_by_time =
-      subst IsByTime (sym reports.part)
-      (part_by_time job.limit (whole job.flat) job.outside (owned job s.number) (rank job.limit clock))
+module _ (job : Job) (p : ℕ) (x : ProcessState) (h : Handed) (from : Time) (over : HasHandedOver job p x h from)
+    (part : x.part ≡ part_before (owned job p) job.limit (whole job.flat) job.outside (rank job.limit x.position.clock))
+    (rest : PartOf) (is : x.part ≡ joined h.past rest) where
+  -- what was not handed over is what the process commits in between
+  rest_is_committed : rest ≡ committed job p from x.position.clock
+  rest_is_committed =
+      same_rest h.past rest (committed job p from x.position.clock)
+      (sym is ∙ part
+      ∙ sym (join_between (part_at (owned job p) job.limit (whole job.flat) job.outside) (rank job.limit from)
+      (rank job.limit x.position.clock) over.order)
+      ∙ ap (λ (q : PartOf). joined q (committed job p from x.position.clock)) (sym over.past))
 
-  pub rest_is_committed : (kept upto : Time) → upto ≡ clock → IsOfRun job.limit kept → is_before kept upto ≡ true
-      → since kept (state s.process).part ≡ committed job s.number kept upto
-  rest_is_committed kept upto is of_run early =
-      let all : PartOf
-      = part_before (owned job s.number) job.limit (whole job.flat) job.outside (rank job.limit clock) in
-      let low =
-      sooner job kept clock of_run reports.within.0 (subst (λ (t : Time). is_before kept t ≡ true) is early) in
-      ap (since kept) reports.part
-      ∙ ap (λ (t : Time). since t all) (sym (time_of-rank job.limit kept of_run))
-      ∙ part_since job.limit (whole job.flat) job.outside (owned job s.number) (rank job.limit kept)
-      (rank job.limit clock) (omega (arith, low))
-      ∙ ap (committed job s.number kept) (sym is)
-
-  -- it is a piece of the job, from where the process posted last
-  pub posted_is_piece : (kept upto : Time) → upto ≡ clock → IsOfRun job.limit kept → is_before kept upto ≡ true
-      → (part : PartOf) → part ≡ since kept (state s.process).part
-      → IsPiece job (record { process = s.number; from = kept; clock = upto; part = part })
-  posted_is_piece kept upto is of_run early part same =
-      let low = sooner job kept clock of_run reports.within.0 (subst (λ (t : Time). is_before kept t ≡ true) is early) in
-      record {
-        process = reports.there;
-        from_of_run = of_run;
-        of_run = subst (IsOfRun job.limit) (sym is) reports.within.0;
-        within = subst (λ (t : Time). rank job.limit t ≤ end_of job.limit job.horizon) (sym is) reports.within.1;
-        order = subst (IsNoLater job kept) (sym is) (omega (arith, low));
-        part = same ∙ rest_is_committed kept upto is of_run early;
-      }
+  -- it is a piece of the job
+  pub rest_is_piece : p < job.processes → IsWithin (share_of job p) x.position.clock → (upto : Time) → upto ≡ x.position.clock
+      → IsPiece job (record { process = p; from = from; clock = upto; part = rest })
+  rest_is_piece there within upto same = record {
+    process = there;
+    from_of_run = over.of_run;
+    of_run = subst (IsOfRun job.limit) (sym same) within.0;
+    within = subst (λ (t : Time). rank job.limit t ≤ end_of job.limit job.horizon) (sym same) within.1;
+    order = subst (IsNoLater job from) (sym same) over.order;
+    part = rest_is_committed ∙ ap (committed job p from) (sym same);
+  }

@@ -1,16 +1,18 @@
 -- What becomes of a process with its ends when a packet comes or leaves, and when it takes a turn.
-use Rattle.std.proofs.Common.{◌≡◌, ℕ, IfOk, OnErr, Bool, true, false, nat_eq, List, [], ◌∷◌, ◌++◌, Some, refl, sym, ap, subst, ◌∙◌}
-use Rattle.std.specs.List.{slice_get}
+use Rattle.std.proofs.Common.{◌≡◌, ℕ, ◌<◌, ◌≤◌, IfOk, OnErr, Bool, true, false, nat_eq, List, [], ◌∷◌, ◌++◌, length, Some, refl, sym, ap, subst, ◌∙◌, arith}
+use Rattle.std.specs.List.{All, list_any, slice_get}
+use Rattle.std.proofs.lemmas.List.Elements.{All-weaker}
 use Rattle.std.specs.Prelude.{Err, Ok, Result}
 use Rattle.std.proofs.Math.ListN.{set}
 use Rattle.std.specs.declared.alloc.Global.{Global}
 use Rattle.std.specs.declared.vec.Vec.{Vec}
-use Rattle.dv_time.specs.Time.{rank}
+use Rattle.dv_time.specs.Time.{IsOfRun, rank}
+use Rattle.dv_time.specs.declared.time.Time.{Time}
 use Rattle.dv_devs.specs.Parts.{part_before}
 use Rattle.dv_conservative.specs.Flat.{whole}
 use Rattle.dv_conservative.specs.Process.{IsWithin, Packet, first_time}
 use Rattle.dv_conservative.specs.True.{AreTrue}
-use Rattle.dv_conservative.specs.Turn.{Turned}
+use Rattle.dv_conservative.specs.Turn.{Position, Turned}
 use Rattle.dv_conservative.specs.World.{Channel, Job, owned, share_of}
 use Rattle.dv_conservative.proofs.Local.{same_number}
 use Rattle.dv_core.specs.ProcessState.{IsReceived, IsSent, IsTurned, ProcessState}
@@ -18,13 +20,15 @@ use Rattle.dv_core.proofs.Lookups.{number_itself, set_each, set_other, set_same}
 use Rattle.dv_proc.specs.Midway.{meant_turned}
 use Rattle.dv_proc.specs.declared.process.Turned.{Turned as TurnedOfCode}
 use Rattle.dv_link.specs.declared.link.Link.{Link}
+use Rattle.dv_record.specs.Told.{Handed}
 use Rattle.dv_work.specs.Ends.{IsIn, IsOut, given, taken}
-use Rattle.dv_work.specs.Seats.{AreIns, AreOuts, Gives, IsFedTruly, Reports, Sits}
+use Rattle.dv_work.specs.Seats.{AreIns, AreOuts, Gives, HasHandedOver, HasTold, HasToldAll, HoldsNone, IsEmptied, IsFedTruly}
+use Rattle.dv_work.specs.Seats.{Reports, Sits, holds_packet}
 use Rattle.dv_work.specs.declared.seat.In.{In}
 use Rattle.dv_work.specs.declared.seat.Out.{Out}
 use Rattle.dv_work.specs.declared.seat.Seat.{Seat}
 use Rattle.dv_work.proofs.Speaking.{given_the_same, now_received, others_received, received_fed, received_gives, sent_beside}
-use Rattle.dv_work.proofs.Speaking.{sent_fed, sent_here, speaks, turned_fed, turned_gives}
+use Rattle.dv_work.proofs.Speaking.{sent_fed, sent_here, speaks, turned_fed, turned_gives, turned_later}
 
 -- what is so of the other items, and of one that is written, is so of all after the write
 each_after : {X : Type 0} (P : ℕ → X → Type 0) (xs : List X) (i : ℕ) (x y : X) → slice_get xs i ≡ Some x
@@ -96,37 +100,63 @@ module _ {N : Type 0} (job : Job) (links : List (Link N)) where
       → AreOuts job links p x outs → AreOuts job links p y outs
   outs_same p x y outs keeps are = record { ends = are.ends; gives = λ i o at. keeps o (are.gives i o at); apart = are.apart }
 
-module _ {N P : Type 0} (job : Job) (state : P → ProcessState) (IsValid : P → Type 0) (links : List (Link N)) (s : Seat P)
-    (sits : Sits job state IsValid links s) where
+module _ {N P : Type 0} (job : Job) (state : P → ProcessState) (handed : P → Handed) (IsValid : P → Type 0) (links : List (Link N)) (s : Seat P)
+    (sits : Sits job state handed IsValid links s) where
   abbrev x : ProcessState
   x = state s.process
 
-  pub reports : Reports job state s
-  reports = record { there = sits.fed.there; within = sits.fed.within; part = speaks job s.number x sits.fed }
+  pub reports : Reports job state handed IsValid s
+  reports = record {
+    valid = sits.valid;
+    there = sits.fed.there;
+    within = sits.fed.within;
+    part = speaks job s.number x sits.fed;
+    posted = sits.posted;
+  }
+
+  -- what a process has handed over stays so while its clock does not fall
+  posted_later : (process : P) → handed process ≡ handed s.process
+      → rank job.limit x.position.clock ≤ rank job.limit (state process).position.clock
+      → HasHandedOver job s.number (state process) (handed process) s.posted
+  posted_later process kept later = record {
+    of_run = sits.posted.of_run;
+    order = (let low = sits.posted.order in omega (arith, low, later));
+    past = ap (λ (h : Handed). h.past) kept ∙ sits.posted.past;
+  }
+
+  posted_same : (process : P) → handed process ≡ handed s.process → (state process).position.clock ≡ x.position.clock
+      → HasHandedOver job s.number (state process) (handed process) s.posted
+  posted_same process kept same =
+      posted_later process kept (let at = ap (rank job.limit) same in omega (arith, at))
 
   -- where the state of the process is as before, so is what it reports
-  pub reports_same : (process : P) (outs : Vec Out Global) (ins : Vec In Global) → state process ≡ x
-      → Reports job state (let t : Seat P = record { number = s.number; process = process; outs = outs; ins = ins } in t)
-  reports_same process outs ins same = record {
+  pub reports_same : (process : P) (outs : Vec Out Global) (ins : Vec In Global) → IsValid process → handed process ≡ handed s.process
+      → state process ≡ x
+      → Reports job state handed IsValid
+      (let t : Seat P = record { number = s.number; process = process; outs = outs; ins = ins; posted = s.posted } in t)
+  reports_same process outs ins valid kept same = record {
+    valid = valid;
     there = reports.there;
     within = subst (λ (y : ProcessState). IsWithin (share_of job s.number) y.position.clock) (sym same) reports.within;
     part = subst (λ (y : ProcessState). y.part
         ≡ part_before (owned job s.number) job.limit (whole job.flat) job.outside (rank job.limit y.position.clock)) (sym same)
         reports.part;
+    posted = posted_same process kept (ap (λ (y : ProcessState). y.position.clock) same);
   }
 
-  module _ (process : P) (valid : IsValid process) where
+  module _ (process : P) (valid : IsValid process) (kept : handed process ≡ handed s.process) where
     same_sits : state process ≡ x
-        → Sits job state IsValid links (let t : Seat P = record { number = s.number; process = process; outs = s.outs; ins = s.ins } in t)
+        → Sits job state handed IsValid links (let t : Seat P = record { number = s.number; process = process; outs = s.outs; ins = s.ins; posted = s.posted } in t)
     same_sits same = record {
       valid = valid;
       fed = subst (IsFedTruly job s.number) (sym same) sits.fed;
       outs = subst (λ (y : ProcessState). AreOuts job links s.number y s.outs.items) (sym same) sits.outs;
       ins = subst (λ (y : ProcessState). AreIns job links y s.ins.items) (sym same) sits.ins;
+      posted = posted_same process kept (ap (λ (y : ProcessState). y.position.clock) same);
     }
 
     pub turned_sits : (answer : Turned) → IsTurned answer x (state process)
-        → Sits job state IsValid links (let t : Seat P = record { number = s.number; process = process; outs = s.outs; ins = s.ins } in t)
+        → Sits job state handed IsValid links (let t : Seat P = record { number = s.number; process = process; outs = s.outs; ins = s.ins; posted = s.posted } in t)
     turned_sits answer turned = record {
       valid = valid;
       fed = turned_fed job s.number x sits.fed (state process) answer turned;
@@ -138,12 +168,13 @@ module _ {N P : Type 0} (job : Job) (state : P → ProcessState) (IsValid : P �
         received = λ i e at. ap (λ (f : ℕ → List Packet). f e.number) turned.received ∙ sits.ins.received i e at;
         apart = sits.ins.apart;
       };
+      posted = posted_later process kept (turned_later job s.number x sits.fed (state process) answer turned);
     }
 
     -- a turn, or none since memory ran out
     pub after_turn : {E : Type 0} (r : Result TurnedOfCode E) → IfOk r (λ a. IsTurned (meant_turned a) x (state process))
         → OnErr r (state process ≡ x)
-        → Sits job state IsValid links (let t : Seat P = record { number = s.number; process = process; outs = s.outs; ins = s.ins } in t)
+        → Sits job state handed IsValid links (let t : Seat P = record { number = s.number; process = process; outs = s.outs; ins = s.ins; posted = s.posted } in t)
     after_turn (Ok a) made unmade = turned_sits (meant_turned a) made
     after_turn (Err e) made unmade = same_sits unmade
 
@@ -169,9 +200,9 @@ module _ {N P : Type 0} (job : Job) (state : P → ProcessState) (IsValid : P �
           (subst (AreTrue job e.number channel first_time) more
           (subst (λ (n : ℕ). AreTrue job n channel first_time (taken d)) number all))
 
-      pub took_sits : IsValid process → (ins : Vec In Global) → ins.items ≡ set s.ins.items i d
-          → Sits job state IsValid links (let t : Seat P = record { number = s.number; process = process; outs = s.outs; ins = ins } in t)
-      took_sits valid ins is = record {
+      pub took_sits : IsValid process → handed process ≡ handed s.process → (ins : Vec In Global) → ins.items ≡ set s.ins.items i d
+          → Sits job state handed IsValid links (let t : Seat P = record { number = s.number; process = process; outs = s.outs; ins = ins; posted = s.posted } in t)
+      took_sits valid kept ins is = record {
         valid = valid;
         fed = received_fed job s.number x sits.fed (state process) packet got e.number channel at_channel all_true;
         outs = outs_same job links s.number x (state process) s.outs.items
@@ -182,6 +213,7 @@ module _ {N P : Type 0} (job : Job) (state : P → ProcessState) (IsValid : P �
             (now_received job s.number x sits.fed (state process) packet got e.number channel at_channel all_true
             ∙ ap (λ (ps : List Packet). ps ++ packet ∷ []) (sits.ins.received i e there) ∙ sym more)
             (others_received job s.number x sits.fed (state process) packet got e.number channel at_channel all_true));
+        posted = posted_same process kept (ap (λ (q : Position). q.clock) got.position);
       }
 
   -- a packet leaves the process for an end
@@ -192,9 +224,9 @@ module _ {N P : Type 0} (job : Job) (state : P → ProcessState) (IsValid : P �
         (given_the_same job s.number x o q number same (sits.outs.gives i o there)) (λ r gives other. gives)
 
     pub sent_sits : (process : P) (packet : Packet) → IsSent o.number x (state process) → x.position.standing o.number ≡ Some packet
-        → given q ≡ given o ++ packet ∷ [] → IsValid process → (outs : Vec Out Global) → outs.items ≡ set s.outs.items i q
-        → Sits job state IsValid links (let t : Seat P = record { number = s.number; process = process; outs = outs; ins = s.ins } in t)
-    sent_sits process packet sent stood more valid outs is = record {
+        → given q ≡ given o ++ packet ∷ [] → IsValid process → handed process ≡ handed s.process → (outs : Vec Out Global) → outs.items ≡ set s.outs.items i q
+        → Sits job state handed IsValid links (let t : Seat P = record { number = s.number; process = process; outs = outs; ins = s.ins; posted = s.posted } in t)
+    sent_sits process packet sent stood more valid kept outs is = record {
       valid = valid;
       fed = sent_fed job s.number x sits.fed (state process) o.number sent;
       outs = subst (AreOuts job links s.number (state process)) (sym is)
@@ -207,4 +239,46 @@ module _ {N P : Type 0} (job : Job) (state : P → ProcessState) (IsValid : P �
         received = λ j e at. ap (λ (f : ℕ → List Packet). f e.number) sent.received ∙ sits.ins.received j e at;
         apart = sits.ins.apart;
       };
+      posted = posted_same process kept sent.clock;
     }
+
+  -- what a process committed is moved out of it
+  module _ (t : Seat P) (emptied : IsEmptied state handed IsValid s t) where
+    pub emptied_sits : Sits job state handed IsValid links t
+    emptied_sits = record {
+      valid = emptied.valid;
+      fed = subst (λ (n : ℕ). IsFedTruly job n (state t.process)) (sym emptied.number)
+          (subst (IsFedTruly job s.number) (sym emptied.state_is) sits.fed);
+      outs = subst (λ (os : Vec Out Global). AreOuts job links t.number (state t.process) os.items) (sym emptied.outs)
+          (subst (λ (n : ℕ). AreOuts job links n (state t.process) s.outs.items) (sym emptied.number)
+          (subst (λ (y : ProcessState). AreOuts job links s.number y s.outs.items) (sym emptied.state_is) sits.outs));
+      ins = subst (λ (es : Vec In Global). AreIns job links (state t.process) es.items) (sym emptied.ins)
+          (subst (λ (y : ProcessState). AreIns job links y s.ins.items) (sym emptied.state_is) sits.ins);
+      posted = subst (λ (n : ℕ). HasHandedOver job n (state t.process) (handed t.process) t.posted) (sym emptied.number) (record {
+        of_run = subst (IsOfRun job.limit) (sym emptied.posted) sits.fed.within.0;
+        order =
+            (let at = ap (rank job.limit) (emptied.posted ∙ ap (λ (y : ProcessState). y.position.clock) (sym emptied.state_is)) in
+            omega (arith, at));
+        past = emptied.past ∙ reports.part
+            ∙ ap (λ (u : Time). part_before (owned job s.number) job.limit (whole job.flat) job.outside (rank job.limit u))
+            (sym emptied.posted);
+      });
+    }
+
+    abbrev same_outs : t.outs.items ≡ s.outs.items
+    same_outs = ap (λ (os : Vec Out Global). os.items) emptied.outs
+
+    pub emptied_told : HasToldAll state s → HasToldAll state t
+    emptied_told told = λ i o lt at. subst (λ (y : ProcessState). HasTold y o) (sym emptied.state_is)
+        (told i o (subst (λ (os : List Out). i < length os) same_outs lt)
+        (subst (λ (os : List Out). slice_get os i ≡ Some o) same_outs at))
+
+    pub emptied_holds : HoldsNone s → HoldsNone t
+    emptied_holds none = ap (list_any holds_packet) same_outs ∙ none
+
+-- all that sit report
+pub all_report : {N P : Type 0} (job : Job) (state : P → ProcessState) (handed : P → Handed) (IsValid : P → Type 0) (links : List (Link N))
+    (seats : List (Seat P)) → All (Sits job state handed IsValid links) seats → All (Reports job state handed IsValid) seats
+all_report job state handed IsValid links seats all =
+    All-weaker (λ s. Sits job state handed IsValid links s) (λ s. Reports job state handed IsValid s)
+    (λ s sits. reports job state handed IsValid links s sits) seats all

@@ -49,6 +49,10 @@ module _ (job : Job) (p : ℕ) (x : ProcessState) (fed : IsFedTruly job p x) whe
     own_turn : IsTurnOf (share_of job p) x.received x.position y.position
     own_turn = same_turn x.share (share_of job p) fed.alike x.received x.position y.position turned.turn
 
+    -- the clock does not fall
+    pub turned_later : rank job.limit x.position.clock ≤ rank job.limit y.position.clock
+    turned_later = own_turn.may.rises
+
     pub turned_fed : IsFedTruly job p y
     turned_fed = record {
       fits = fed.fits;

@@ -6,13 +6,15 @@ use Rattle.std.specs.declared.alloc.Global.{Global}
 use Rattle.dv_conservative.specs.World.{Job}
 use Rattle.dv_core.specs.ProcessState.{ProcessState}
 use Rattle.dv_link.specs.declared.link.Link.{Link}
+use Rattle.dv_record.specs.Told.{Handed}
 use Rattle.dv_work.specs.Seats.{Reports, Sits}
 use Rattle.dv_work.specs.declared.seat.Seat.{Seat}
 use Rattle.dv_work.specs.declared.worker.Worked.{Worked}
 
-pub record Seated {N P : Type 0} (job : Job) (state : P → ProcessState) (IsValid : P → Type 0) (links : List (Link N))
-    (crew : Vec (Seat P) Global) : Type 0 where
-  pub sits : All (Sits job state IsValid links) crew.items
+pub record Seated {N P : Type 0} (job : Job) (state : P → ProcessState) (handed : P → Handed) (IsValid : P → Type 0)
+    (links : List (Link N)) (crew : Vec (Seat P) Global) : Type 0 where
+  pub sits : All (Sits job state handed IsValid links) crew.items
 
-pub record Reported {P C : Type 0} (job : Job) (state : P → ProcessState) (w : Worked P C) : Type 0 where
-  pub reports : All (Reports job state) w.seats.items
+pub record Reported {P C : Type 0} (job : Job) (state : P → ProcessState) (handed : P → Handed) (IsValid : P → Type 0) (w : Worked P C)
+    : Type 0 where
+  pub reports : All (Reports job state handed IsValid) w.seats.items

@@ -2,7 +2,8 @@
 use Rattle.std.specs.Prelude.{◌≡◌, ℕ, ◌<◌, ◌≤◌, Bool, false, List, [], ◌++◌, length, slice_get, None, Some}
 use Rattle.std.specs.List.{list_any}
 use Rattle.std.specs.Option.{is_some}
-use Rattle.dv_time.specs.Time.{rank}
+use Rattle.dv_time.specs.Time.{IsOfRun, rank}
+use Rattle.dv_time.specs.declared.time.Time.{Time}
 use Rattle.dv_bag.specs.declared.state.State.{State}
 use Rattle.dv_devs.specs.Parts.{part_before}
 use Rattle.dv_conservative.specs.Alike.{AreAlike}
@@ -11,8 +12,10 @@ use Rattle.dv_conservative.specs.Process.{IsWithin, Packet, clock_after, first_t
 use Rattle.dv_conservative.specs.Sound.{IsJob}
 use Rattle.dv_conservative.specs.True.{AreTrue}
 use Rattle.dv_conservative.specs.World.{Channel, Job, owned, packets_in, share_of}
+use Rattle.dv_board.specs.Clocks.{IsNoLater}
 use Rattle.dv_core.specs.ProcessState.{HasCommitted, ProcessState}
 use Rattle.dv_link.specs.declared.link.Link.{Link}
+use Rattle.dv_record.specs.Told.{Handed}
 use Rattle.dv_work.specs.Ends.{IsIn, IsOut, given, taken}
 use Rattle.dv_work.specs.declared.seat.In.{In}
 use Rattle.dv_work.specs.declared.seat.Out.{Out}
@@ -88,17 +91,38 @@ pub record AreIns {N : Type 0} (job : Job) (links : List (Link N)) (x : ProcessS
   pub received : (i : ℕ) (e : In) → slice_get ins i ≡ Some e → x.received e.number ≡ taken e
   pub apart : (i j : ℕ) (e d : In) → slice_get ins i ≡ Some e → slice_get ins j ≡ Some d → e.number ≡ d.number → i ≡ j
 
+-- What a process has handed over is its part of the whole run before a time of the run, which is not past its clock.
+pub record HasHandedOver (job : Job) (p : ℕ) (x : ProcessState) (h : Handed) (upto : Time) : Type 0 where
+  pub of_run : IsOfRun job.limit upto
+  pub order : IsNoLater job upto x.position.clock
+  pub past : h.past ≡ part_before (owned job p) job.limit (whole job.flat) job.outside (rank job.limit upto)
+
 -- a process with its ends
-pub record Sits {N P : Type 0} (job : Job) (state : P → ProcessState) (IsValid : P → Type 0) (links : List (Link N)) (s : Seat P)
-    : Type 0 where
+pub record Sits {N P : Type 0} (job : Job) (state : P → ProcessState) (handed : P → Handed) (IsValid : P → Type 0)
+    (links : List (Link N)) (s : Seat P) : Type 0 where
   pub valid : IsValid s.process
   pub fed : IsFedTruly job s.number (state s.process)
   pub outs : AreOuts job links s.number (state s.process) s.outs.items
   pub ins : AreIns job links (state s.process) s.ins.items
+  pub posted : HasHandedOver job s.number (state s.process) (handed s.process) s.posted
 
 -- what a process has committed is its part of the whole run before its clock
-pub record Reports {P : Type 0} (job : Job) (state : P → ProcessState) (s : Seat P) : Type 0 where
+pub record Reports {P : Type 0} (job : Job) (state : P → ProcessState) (handed : P → Handed) (IsValid : P → Type 0) (s : Seat P)
+    : Type 0 where
+  pub valid : IsValid s.process
   pub there : s.number < job.processes
   pub within : IsWithin (share_of job s.number) (state s.process).position.clock
   pub part : (state s.process).part
       ≡ part_before (owned job s.number) job.limit (whole job.flat) job.outside (rank job.limit (state s.process).position.clock)
+  pub posted : HasHandedOver job s.number (state s.process) (handed s.process) s.posted
+
+-- all that a process committed was moved out of it, and nothing else changed
+pub record IsEmptied {P : Type 0} (state : P → ProcessState) (handed : P → Handed) (IsValid : P → Type 0) (before after : Seat P)
+    : Type 0 where
+  pub valid : IsValid after.process
+  pub number : after.number ≡ before.number
+  pub outs : after.outs ≡ before.outs
+  pub ins : after.ins ≡ before.ins
+  pub state_is : state after.process ≡ state before.process
+  pub posted : after.posted ≡ (state before.process).position.clock
+  pub past : (handed after.process).past ≡ (state before.process).part

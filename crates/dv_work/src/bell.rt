@@ -1,6 +1,9 @@
-//! Bells, and flags at which others end.
+//! Bells, and flags.
+
+ghost use Rattle.std.specs.Prelude.{◌≡◌, IfOk, length};
 
 use crossbeam_utils::Backoff;
+use std::alloc::{AllocError, Global};
 use std::sync::atomic::{AtomicBool, Ordering};
 use std::sync::{Condvar, Mutex, Wait};
 
@@ -58,7 +61,22 @@ impl Bell {
     }
 }
 
-/// A flag at which others end. Once it is raised it stays so.
+/// A bell for each of so many workers.
+///
+/// # Errors
+///
+/// No memory for so many.
+pub fn bells_of(alloc: Global, workers: usize) -> Result<Vec<Bell>, AllocError>
+    ensures { IfOk result (λ bells. length bells.items ≡ workers) }
+{
+    let mut bells = Vec::with_capacity(alloc, workers)?;
+    for _worker in 0..workers {
+        bells.push(Bell::new())?;
+    }
+    Ok(bells)
+}
+
+/// A flag that others look at. Once it is raised it stays so.
 #[derive(Drop)]
 pub struct Flag {
     raised: AtomicBool,

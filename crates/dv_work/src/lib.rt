@@ -4,44 +4,62 @@
 //!
 //! A worker reads the count of its bell, then visits all its processes, and waits only while the count is still the one that it
 //! read. What would give it work is a packet that is put on a link to one of its processes, room on a full link that leads away
-//! from one, or the flag. Whoever puts a packet does so first and rings the receiver's bell after it; whoever takes one rings the
-//! sender's bell after it; the flag is set before all bells ring. So what a visit missed came after the count was read, and its
-//! ring has raised the count or will: the count is read and changed under the bell's lock alone, and the wait begins under it.
+//! from one, a lead of one that was too long and is not any more, or the flag. Whoever puts a packet does so first and rings the
+//! receiver's bell after it; whoever takes one rings the sender's bell after it; whoever takes pieces takes them off the leads
+//! first and rings after it; the flag is set before all bells ring. So what a visit missed came after the count was read, and its ring has raised
+//! the count or will: the count is read and changed under the bell's lock alone, and the wait begins under it.
 //!
 //! If all workers waited with work left, every queue that a visit found empty is empty still, and every one that it found full is
 //! full still. A full queue's receiver takes from it at each visit, so none is full. A worker waits only where on each link that
 //! leads away all that was prepared, null messages too, was put, or a packet is held: so much is proved. A visit tries to put what
 //! is held, so it found its queue full. So all that was prepared was put, and all that was put was taken. Of the processes that
 //! are not at the end, take one with the least clock. Its channel clocks are past it, since each sender's clock is not before it
-//! and a turn promises past the clock that it leaves; so its next turn moves it, and its worker does not wait.
+//! and a turn promises past the clock that it leaves; so its next turn moves it, and its worker does not wait, unless the process
+//! makes no turn since too much of what it posted waits to be taken. That ends, as the next section says.
 //!
-//! The caller of a streamed run may stop it by a flag of its own, which rings no worker's bell. Each worker looks at it before each
-//! turn. Until the run is at its end not all wait, so one sees it, ends, and raises the workers' flag, at which the others wake.
+//! The caller of a streamed run may stop it by a flag of its own, after which it rings all bells. Each worker looks at the flag at
+//! each visit. One that sees it ends and raises the workers' flag, at which the others wake.
+//!
+//! # When a process makes no turn
+//!
+//! Workers commit faster than one thread can merge and write, so what was posted and is not taken would grow with the run. So the
+//! lead of each process is counted: the entries that it has posted and nobody has taken. While somebody takes pieces, a process whose
+//! lead is too long makes no turn. Its worker still takes packets for it and puts what it prepared, and waits at the bell where nothing
+//! else moved.
+//!
+//! No process waits so for ever, if whoever takes pieces looks after each ring of the news, and takes all that is posted off the board
+//! and off the leads before it waits for anything else. For what a worker posts is followed by a ring of the news, and the piece is
+//! taken whatever other processes do. Only the worker of a process adds to its lead, before it posts the piece, and what is taken off
+//! tells in the same step how much there was: so a lead that its worker saw too long falls once, at one call, which tells it, and
+//! after which the bells ring.
 //!
 //! # When a null message is put
 //!
 //! Packets with events are put at once. A null message is put where its process took a packet in the same visit, since who sent that
-//! one may wait for an answer, and where the turn moved nothing. A process that runs ahead by itself would else tell each instant,
+//! one may wait for an answer, and where the process did not move. A process that runs ahead by itself would else tell each instant,
 //! and keep awake whoever can only wait for it: such a null message stays on the process until the next round in which its worker
 //! posts, and the window of the next one begins where that one ends.
 //!
 //! # What is posted
 //!
-//! A piece is what one process has committed since it posted last, and before its clock. Only its own worker posts a process, so no
-//! piece leaves a gap; and where there was no memory for one, the next begins where that one did.
+//! A piece is what one process has committed since it posted last, and before its clock. It is moved out of the process, so that
+//! nothing of it is kept twice. Only its own worker posts a process, so no piece leaves a gap; where the board has no memory for one it
+//! is gone, and the run ends.
 //!
-//! A worker posts all its processes after the rounds 1, 2, 4, .. 64, and then after every 64th; and before it sleeps at its bell or
-//! ends. A worker that finds nothing to do looks at its bell for a moment first, without sleep, and posts nothing then: processes
-//! that answer each other within microseconds would else post at each answer. While a worker sleeps its processes commit nothing.
-//! So all that a sleeping worker knows is on the board, but for what found no memory. The bell for news rings after that: whoever
-//! takes pieces off the board reads the bell's count, takes, and waits past that count, so it wakes for what it missed. No worker
-//! holds the board's lock during a turn, and nobody copies a piece or puts pieces together under it.
+//! A worker posts all its processes after the rounds 1, 2, 4, .. 64, and then after every 64th; and before it sleeps at its bell, and
+//! where they are done. What it did not post when it ends is in the report. A worker that finds nothing to do looks at its bell for a
+//! moment first, without sleep, and posts nothing then: processes that answer each other within microseconds would else post at each
+//! answer. While a worker sleeps its processes commit nothing. So all that a sleeping worker knows is on the board. The bell for news
+//! rings after that: whoever takes pieces off the board reads the bell's count, takes, and waits past that count, so it wakes for what
+//! it missed. No worker holds the board's lock during a turn, and nobody puts pieces together under it.
 #![tactic(auto)]
 
-/// Bells, and flags at which others end.
+/// Bells, and flags.
 pub mod bell;
 /// Who watches the turns.
 pub mod gate;
+/// How much of what processes posted waits to be taken.
+pub mod lead;
 /// What processes committed, posted on a board while the run goes on.
 pub mod post;
 /// What a run reports.
@@ -55,7 +73,9 @@ pub mod setup;
 /// Workers.
 pub mod worker;
 
-pub use bell::{Bell, Flag};
+pub use bell::{Bell, Flag, bells_of};
 pub use gate::{Gate, Open};
+pub use lead::{Lead, Leads};
+pub use post::Stream;
 pub use report::{Ended, Report};
-pub use run::{run_streamed, run_workers};
+pub use run::run_streamed;

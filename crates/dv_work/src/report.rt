@@ -1,8 +1,8 @@
 //! What a run reports in the end.
 
-ghost use Rattle.std.specs.Prelude.{◌≡◌, ◌↔◌, ◌+◌, ℕ, IsTrue, length, IfOk, IfSome, slice_get, Some};
+ghost use Rattle.std.specs.Prelude.{◌≡◌, ◌↔◌, ◌+◌, ◌<◌, ◌^◌, ℕ, IsTrue, length, IfOk, IfSome, slice_get, Some};
 ghost use Rattle.std.specs.List.{All};
-ghost use Rattle.dv_time.specs.declared.time.Time.{Time as MeantTime};
+ghost use Rattle.dv_board.specs.declared.posts.Piece.{Piece as MeantPiece};
 ghost use Rattle.dv_core.specs.Worlds.{end_time};
 ghost use Rattle.dv_work.specs.declared.report.Ended.TheVariants.{Whole};
 ghost use Rattle.dv_work.specs.Crews.{Reported};
@@ -12,9 +12,9 @@ ghost use Rattle.dv_work.specs.Seats.{Reports};
 use crate::seat::Seat;
 use crate::worker::{Halt, Worked};
 use dv_bag::Part;
-use dv_core::{LogicalProcess, PlannedJob, into_part};
+use dv_board::Piece;
+use dv_core::{LogicalProcess, PlannedJob, ProcessHandsOver};
 use dv_link::OfJob;
-use dv_record::PartRecord;
 use dv_time::Time;
 use std::alloc::{AllocError, Global};
 
@@ -31,64 +31,51 @@ pub enum Ended<C> {
     Memory,
 }
 
-/// What the processes of a run committed, each before its clock, by their numbers; and how the run ended.
+/// What the processes of a run committed and did not post, to the clock of each, by their numbers; and how the run ended.
 #[derive(Drop)]
 pub struct Report<C> {
-    pub parts: Vec<Part>,
-    pub clocks: Vec<Time>,
+    pub rest: Vec<Piece>,
     pub ended: Ended<C>,
 }
 
-/// By the numbers of processes, what each has reached.
-#[derive(Drop)]
-pub struct Reached {
-    pub parts: Vec<Part>,
-    pub clocks: Vec<Time>,
-}
-
 // Nothing, of so many processes.
-fn nothing<N: OfJob>(alloc: Global, processes: usize) -> Result<Reached, AllocError>
-    requires { processes ≡ N.job.processes }
-    ensures { IfOk result (λ r. AreReached N.job r.parts.items r.clocks.items) }
+fn nothing<N: OfJob>(alloc: Global, processes: usize) -> Result<Vec<Piece>, AllocError>
+    requires count { processes ≡ N.job.processes }
+    requires few { processes < 2 ^ 32 }
+    ensures { IfOk result (λ rest. AreReached N.job rest.items) }
 {
-    let mut parts = Vec::with_capacity(alloc, processes)?;
-    let mut clocks = Vec::with_capacity(alloc, processes)?;
-    for _process in 0..processes {
-        parts.push(Part::new(alloc))?;
-        clocks.push(Time { tick: 0, micro: 0 })?;
+    let mut rest = Vec::with_capacity(alloc, processes)?;
+    for process in 0..processes {
+        rest.push(Piece {
+            process: process as u32,
+            from: Time::ZERO,
+            clock: Time::ZERO,
+            part: Part::new(alloc),
+        })?;
     }
-    Ok(Reached { parts, clocks })
+    Ok(rest)
 }
 
-// Enters what one process reached.
-fn enter<N: OfJob, P: LogicalProcess<Record = PartRecord>>(reached: &mut Reached, seat: Seat<P>)
-    requires seat { Reports N.job P.state seat }
-    requires reached { AreReached N.job reached.old.parts.items reached.old.clocks.items }
-    ensures { AreReached N.job reached.new.parts.items reached.new.clocks.items }
+// Enters what one process committed and did not post.
+fn enter<N: OfJob, P: ProcessHandsOver>(rest: &mut Vec<Piece>, seat: Seat<P>)
+    requires seat { Reports N.job P.state P.handed P.valid seat }
+    requires rest { AreReached N.job rest.old.items }
+    ensures { AreReached N.job rest.new.items }
 {
-    let Seat {
-        number,
-        process,
-        outs: _,
-        ins: _,
-    } = seat;
-    let (part, clock) = into_part(process);
-    let place = number as usize;
-    reached.parts[place] = part;
-    reached.clocks[place] = clock;
+    let mut seat = seat;
+    let piece = seat.piece::<N>();
+    let place = piece.process as usize;
+    rest[place] = piece;
 }
 
-// Enters what the processes of a worker reached.
-fn enter_all<N: OfJob, P: LogicalProcess<Record = PartRecord>>(
-    reached: &mut Reached,
-    seats: Vec<Seat<P>>,
-)
-    requires seats { All (Reports N.job P.state) seats.items }
-    requires reached { AreReached N.job reached.old.parts.items reached.old.clocks.items }
-    ensures { AreReached N.job reached.new.parts.items reached.new.clocks.items }
+// Enters what the processes of a worker committed and did not post.
+fn enter_all<N: OfJob, P: ProcessHandsOver>(rest: &mut Vec<Piece>, seats: Vec<Seat<P>>)
+    requires seats { All (Reports N.job P.state P.handed P.valid) seats.items }
+    requires rest { AreReached N.job rest.old.items }
+    ensures { AreReached N.job rest.new.items }
 {
     for seat in seats {
-        enter::<N, P>(reached, seat);
+        enter::<N, P>(rest, seat);
     }
 }
 
@@ -96,9 +83,9 @@ fn enter_all<N: OfJob, P: LogicalProcess<Record = PartRecord>>(
 fn last_worked<N: OfJob, P: LogicalProcess, C: Drop>(
     all: &mut Vec<Worked<P, C>>,
 ) -> Option<Worked<P, C>>
-    requires { All (Reported N.job P.state) all.old.items }
-    ensures one { IfSome result (Reported N.job P.state) }
-    ensures rest { All (Reported N.job P.state) all.new.items }
+    requires { All (Reported N.job P.state P.handed P.valid) all.old.items }
+    ensures one { IfSome result (Reported N.job P.state P.handed P.valid) }
+    ensures rest { All (Reported N.job P.state P.handed P.valid) all.new.items }
     ensures count { IfSome result (λ _. length all.new.items + 1 ≡ length all.old.items) }
 {
     all.pop()
@@ -113,12 +100,12 @@ fn keep_halt<C: Drop>(halt: Option<Halt<C>>, memory: &mut bool, cause: &mut Opti
     }
 }
 
-// Whether all clocks are at a time.
-fn all_are(clocks: &[Time], end: Time) -> bool
-    ensures { IsTrue result ↔ ((p : ℕ) (t : MeantTime) → slice_get clocks.now p ≡ Some t
-        → t ≡ end) }
+// Whether all pieces reach to a time.
+fn all_reach(rest: &[Piece], end: Time) -> bool
+    ensures { IsTrue result ↔ ((p : ℕ) (x : MeantPiece) → slice_get rest.now p ≡ Some x
+        → x.clock ≡ end) }
 {
-    clocks.iter().all(|clock| *clock == end)
+    rest.iter().all(|piece| piece.clock == end)
 }
 
 // Whole where it is, else out of memory where a worker was, else stopped by the gate for a cause, or by the caller.
@@ -142,7 +129,7 @@ fn how_ended<C: Drop>(is_whole: bool, memory: bool, cause: Option<C>) -> Ended<C
 /// # Errors
 ///
 /// No memory.
-pub fn report_of<N: OfJob, J: PlannedJob, P: LogicalProcess<Record = PartRecord>, C: Drop>(
+pub fn report_of<N: OfJob, J: PlannedJob, P: ProcessHandsOver, C: Drop>(
     alloc: Global,
     job: &J,
     processes: usize,
@@ -150,29 +137,26 @@ pub fn report_of<N: OfJob, J: PlannedJob, P: LogicalProcess<Record = PartRecord>
 ) -> Result<Report<C>, AllocError>
     requires job { N.job ≡ J.means job.now }
     requires count { processes ≡ N.job.processes }
-    requires reported { All (Reported N.job P.state) all.items }
-    ensures reached { IfOk result (λ r. AreReached N.job r.parts.items r.clocks.items) }
+    requires few { processes < 2 ^ 32 }
+    requires reported { All (Reported N.job P.state P.handed P.valid) all.items }
+    ensures reached { IfOk result (λ r. AreReached N.job r.rest.items) }
     ensures whole { IfOk result (λ r. (r.ended ≡ Whole)
-        ↔ ((p : ℕ) (t : MeantTime) → slice_get r.clocks.items p ≡ Some t → t ≡ end_time N.job)) }
+        ↔ ((p : ℕ) (x : MeantPiece) → slice_get r.rest.items p ≡ Some x
+        → x.clock ≡ end_time N.job)) }
 {
-    let mut reached = nothing::<N>(alloc, processes)?;
+    let mut rest = nothing::<N>(alloc, processes)?;
     let mut memory = false;
     let mut cause = None;
     while let Some(worked) = last_worked::<N, P, C>(&mut all) {
         let Worked { seats, halt } = worked;
-        enter_all::<N, P>(&mut reached, seats);
+        enter_all::<N, P>(&mut rest, seats);
         keep_halt(halt, &mut memory, &mut cause);
     }
-    let Reached { parts, clocks } = reached;
     let end = Time {
         tick: job.horizon() + 1,
         micro: 0,
     };
-    let is_whole = all_are(&clocks, end);
+    let is_whole = all_reach(&rest, end);
     let ended = how_ended(is_whole, memory, cause);
-    Ok(Report {
-        parts,
-        clocks,
-        ended,
-    })
+    Ok(Report { rest, ended })
 }

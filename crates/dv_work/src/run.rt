@@ -2,29 +2,28 @@
 
 ghost use Rattle.std.specs.Prelude.{◌≡◌, ◌<◌, ◌≤◌, ◌↔◌, ◌+◌, ◌^◌, ℕ, length, map, slice_get, IfErr, IfOk, IfSome, Some};
 ghost use Rattle.std.specs.List.{All};
+ghost use Rattle.dv_bag.specs.Part.{nothing};
+ghost use Rattle.dv_board.specs.declared.posts.Piece.{Piece as MeantPiece};
 ghost use Rattle.dv_conservative.specs.World.{Channel as MeantChannel};
 ghost use Rattle.dv_core.specs.Worlds.{AreMadeFor, end_time};
 ghost use Rattle.dv_proc.specs.Channels.{meant_channel};
-ghost use Rattle.dv_time.specs.declared.time.Time.{Time as MeantTime};
 ghost use Rattle.dv_work.specs.declared.report.Ended.TheVariants.{Whole};
 ghost use Rattle.dv_work.specs.Crews.{Reported, Seated};
 ghost use Rattle.dv_work.specs.Making.{AreNew};
 ghost use Rattle.dv_work.specs.Reached.{AreReached};
 
-use crate::bell::{Bell, Flag};
+use crate::bell::Flag;
 use crate::gate::Gate;
 use crate::post::Stream;
 use crate::report::{Report, report_of};
 use crate::seat::{Floor, Seat};
 use crate::setup::{connect, crews_of, seats_of};
 use crate::worker::{Halt, Worked, work_at};
-use dv_board::Board;
-use dv_core::{LogicalProcess, PlannedJob};
+use dv_core::{LogicalProcess, PlannedJob, ProcessHandsOver};
 use dv_link::{Link, OfJob};
 use dv_proc::Channel;
-use dv_record::PartRecord;
 use std::alloc::{AllocError, Global};
-use std::marker::{Brand, PhantomData};
+use std::marker::PhantomData;
 use std::sync::Wait;
 use std::thread;
 use std::thread::{Promise, PromisedHandle, Scope, Threads};
@@ -38,7 +37,7 @@ pub struct Kept<N, P> {
 impl<N: OfJob, P: LogicalProcess, C> Promise<Worked<P, C>> for Kept<N, P> {
     ghost use Rattle.dv_work.specs.Crews.{Reported};
 
-    ghost kept_by = { λ p r. Reported N.job P.state r };
+    ghost kept_by = { λ p r. Reported N.job P.state P.handed P.valid r };
 }
 
 type Handle<N, P, C> = PromisedHandle<Worked<P, C>, Kept<N, P>>;
@@ -49,7 +48,7 @@ fn start<
     's,
     E,
     N: OfJob + Send + Sync + 's,
-    P: LogicalProcess<Record = PartRecord> + Send + 's,
+    P: ProcessHandsOver + Send + 's,
     G: Gate<P>,
     R: Threads + Wait + Sync,
 >(
@@ -63,22 +62,23 @@ fn start<
 ) -> Result<Handle<N, P, G::Cause>, Worked<P, G::Cause>>
 where
     P::Work: Send + Drop + 's,
-    requires seated { Seated N.job P.state P.valid floor.now.links.now crew }
-    requires bells { number < length floor.now.bells.now }
-    ensures { IfErr result (Reported N.job P.state) }
+    P::Record: Send,
+    requires seated { Seated N.job P.state P.handed P.valid floor.now.links.now crew }
+    requires bells { number < length floor.now.stream.bells.now }
+    ensures { IfErr result (Reported N.job P.state P.handed P.valid) }
 {
     let started = scope.spawn_with(
         Kept { of: PhantomData },
         move || -> Worked<P, G::Cause>
-            requires { Seated N.job P.state P.valid floor.now.links.now crew
-                × (number < length floor.now.bells.now) }
-            ensures { Reported N.job P.state result }
+            requires { Seated N.job P.state P.handed P.valid floor.now.links.now crew
+                × (number < length floor.now.stream.bells.now) }
+            ensures { Reported N.job P.state P.handed P.valid result }
         { work_at(rt, floor, gate, number, crew, work) },
     );
     match started {
         Ok(handle) => Ok(handle),
         Err(refused) => {
-            floor.flag.raise(rt, floor.bells);
+            floor.flag.raise(rt, floor.stream.bells);
             let mut worked = (refused.value)();
             worked.halt = Some(Halt::Memory);
             Err(worked)
@@ -91,9 +91,9 @@ fn add_worked<N: OfJob, P: LogicalProcess, C: Drop>(
     all: &mut Vec<Worked<P, C>>,
     worked: Worked<P, C>,
 ) -> Result<(), AllocError>
-    requires worked { Reported N.job P.state worked }
-    requires all { All (Reported N.job P.state) all.old.items }
-    ensures { All (Reported N.job P.state) all.new.items }
+    requires worked { Reported N.job P.state P.handed P.valid worked }
+    requires all { All (Reported N.job P.state P.handed P.valid) all.old.items }
+    ensures { All (Reported N.job P.state P.handed P.valid) all.new.items }
 {
     Ok(all.push(worked)?)
 }
@@ -106,9 +106,9 @@ fn last_crew<N: OfJob, P: LogicalProcess>(
 ) -> Option<(Vec<Seat<P>>, P::Work)>
 where
     P::Work: Drop,
-    requires { All (Seated N.job P.state P.valid links.now) crews.old.items }
-    ensures one { IfSome result (λ r. Seated N.job P.state P.valid links.now r.0) }
-    ensures rest { All (Seated N.job P.state P.valid links.now) crews.new.items }
+    requires { All (Seated N.job P.state P.handed P.valid links.now) crews.old.items }
+    ensures one { IfSome result (λ r. Seated N.job P.state P.handed P.valid links.now r.0) }
+    ensures rest { All (Seated N.job P.state P.handed P.valid links.now) crews.new.items }
     ensures count { IfSome result (λ _. length crews.new.items + 1 ≡ length crews.old.items) }
 {
     let _ = links.len();
@@ -122,7 +122,7 @@ fn join_last<N: OfJob, P: LogicalProcess, C: Drop, R: Threads>(
     rt: &R,
     handles: &mut Vec<Handle<N, P, C>>,
 ) -> Option<Worked<P, C>>
-    ensures one { IfSome result (Reported N.job P.state) }
+    ensures one { IfSome result (Reported N.job P.state P.handed P.valid) }
     ensures count { IfSome result (λ _. length handles.new.items + 1 ≡ length handles.old.items) }
 {
     let handle = handles.pop()?;
@@ -134,7 +134,7 @@ fn start_and_join<
     's,
     E,
     N: OfJob + Send + Sync + 's,
-    P: LogicalProcess<Record = PartRecord> + Send + 's,
+    P: ProcessHandsOver + Send + 's,
     G: Gate<P>,
     R: Threads + Wait + Sync,
 >(
@@ -148,9 +148,10 @@ fn start_and_join<
 ) -> Result<Vec<Worked<P, G::Cause>>, AllocError>
 where
     P::Work: Send + Drop + 's,
-    requires seated { All (Seated N.job P.state P.valid floor.now.links.now) crews.items }
-    requires bells { length crews.items ≤ length floor.now.bells.now }
-    ensures { IfOk result (λ all. All (Reported N.job P.state) all.items) }
+    P::Record: Send,
+    requires seated { All (Seated N.job P.state P.handed P.valid floor.now.links.now) crews.items }
+    requires bells { length crews.items ≤ length floor.now.stream.bells.now }
+    ensures { IfOk result (λ all. All (Reported N.job P.state P.handed P.valid) all.items) }
 {
     let mut handles: Vec<Handle<N, P, G::Cause>> = Vec::with_capacity(alloc, crews.len())?;
     let mut all = Vec::with_capacity(alloc, crews.len())?;
@@ -170,7 +171,7 @@ where
 // Runs the crews of a job, each on a thread of its own.
 fn run_crews<
     N: OfJob + Send + Sync,
-    P: LogicalProcess<Record = PartRecord> + Send,
+    P: ProcessHandsOver + Send,
     G: Gate<P>,
     R: Threads + Wait + Sync,
 >(
@@ -183,37 +184,27 @@ fn run_crews<
 ) -> Result<Vec<Worked<P, G::Cause>>, AllocError>
 where
     P::Work: Send + Drop,
-    requires seated { All (Seated N.job P.state P.valid floor.now.links.now) crews.items }
-    requires bells { length crews.items ≤ length floor.now.bells.now }
-    ensures { IfOk result (λ all. All (Reported N.job P.state) all.items) }
+    P::Record: Send,
+    requires seated { All (Seated N.job P.state P.handed P.valid floor.now.links.now) crews.items }
+    requires bells { length crews.items ≤ length floor.now.stream.bells.now }
+    ensures { IfOk result (λ all. All (Reported N.job P.state P.handed P.valid) all.items) }
 {
     thread::scope(
         thread::scope_env(),
         rt,
         |scope| -> Result<Vec<Worked<P, G::Cause>>, AllocError>
-            requires { All (Seated N.job P.state P.valid floor.now.links.now) crews.items
-                × (length crews.items ≤ length floor.now.bells.now) }
-            ensures { IfOk result (λ all. All (Reported N.job P.state) all.items) }
+            requires { All (Seated N.job P.state P.handed P.valid floor.now.links.now) crews.items
+                × (length crews.items ≤ length floor.now.stream.bells.now) }
+            ensures { IfOk result (λ all. All (Reported N.job P.state P.handed P.valid) all.items) }
         { start_and_join(scope, rt, alloc, floor, gate, crews, works) },
     )
 }
 
-// A bell for each of so many workers.
-fn bells_of(alloc: Global, workers: usize) -> Result<Vec<Bell>, AllocError>
-    ensures { IfOk result (λ bells. length bells.items ≡ workers) }
-{
-    let mut bells = Vec::with_capacity(alloc, workers)?;
-    for _worker in 0..workers {
-        bells.push(Bell::new())?;
-    }
-    Ok(bells)
-}
-
-// Runs the processes of a job, with the links between them, by a worker for each of `works`, and posts if there is a board.
+// Runs the processes of a job, with the links between them, by a worker for each of `works`, and posts what they commit.
 fn run_job<
     N: OfJob + Send + Sync,
     J: PlannedJob,
-    P: LogicalProcess<Record = PartRecord> + Send,
+    P: ProcessHandsOver + Send,
     G: Gate<P>,
     R: Threads + Wait + Sync,
 >(
@@ -225,41 +216,58 @@ fn run_job<
     works: Vec<P::Work>,
     capacity: usize,
     gate: &G,
-    stream: Option<Stream<'_, N>>,
+    stream: Stream<'_, N>,
 ) -> Result<Vec<Worked<P, G::Cause>>, AllocError>
 where
     P::Work: Send + Drop,
+    P::Record: Send,
     requires job { N.job ≡ J.means job.now }
-    requires processes { AreNew N.job P.state P.valid processes.items }
+    requires processes { AreNew N.job P.state P.handed P.valid processes.items }
     requires links { map meant_channel channels.now ≡ N.job.channels }
     requires ends { (l : ℕ) (c : MeantChannel) → slice_get N.job.channels l ≡ Some c
         → (c.source < N.job.processes) × (c.target < N.job.processes) }
     requires few { length channels.now < 2 ^ 32 }
     requires capacity { 0 < capacity }
     requires workers { 0 < length works.items }
-    ensures { IfOk result (λ all. All (Reported N.job P.state) all.items) }
+    requires bells { length works.items ≤ length stream.bells.now }
+    ensures { IfOk result (λ all. All (Reported N.job P.state P.handed P.valid) all.items) }
 {
     let _ = job;
     let workers = works.len();
     let mut seats = seats_of::<N, P>(alloc, processes)?;
     let links = connect::<N, P>(alloc, channels, capacity, workers, &mut seats)?;
     let crews = crews_of(alloc, &links, workers, seats)?;
-    let bells = bells_of(alloc, workers)?;
     let flag = Flag::new();
     let floor = Floor {
         links: &links,
-        bells: &bells,
         flag: &flag,
         stream,
     };
     run_crews(rt, alloc, &floor, gate, crews, works)
 }
 
-// Runs the processes of a job, posts if there is a board, and reports.
-fn run_reported<
+/// Runs new processes of a job on threads, one thread for each of `works`, which is what a worker's turns work with, and posts on the
+/// board of a stream meanwhile. Process p belongs to worker p mod the number of workers, which waits at the bell of its number. So many
+/// packets may be on their way on each link; one more may be in the hand of its sender. Each worker posts what its processes committed,
+/// a piece of each that begins where its last one ended: now and then while it goes on, before it sleeps, and where they are done. It
+/// adds to the lead of a process before it posts its piece, and rings `news` after all of them. What was posted is kept nowhere else;
+/// the rest is in the report. Where the board has no memory for a piece, the piece is gone and the worker ends, out of memory.
+///
+/// Once `paced` is raised, a process whose lead is too long makes no turn until it is not any more, and the gate is not asked for one.
+/// So from then on the caller takes off the leads what it takes off the board, and rings the bells where `take_off` tells it to; else a
+/// run may never return.
+///
+/// Once the caller has raised `stop`, and rung the bells, each worker ends before its next turn, and a run that is not whole, was not out
+/// of memory and was not stopped by the gate is reported cancelled. Whatever the gate, the leads and the timing of the threads, each
+/// piece is what its process commits in between; and the run is reported whole exactly where every clock is at the end.
+///
+/// # Errors
+///
+/// No memory for the links and the threads, or for the report.
+pub fn run_streamed<
     N: OfJob + Send + Sync,
     J: PlannedJob,
-    P: LogicalProcess<Record = PartRecord> + Send,
+    P: ProcessHandsOver + Send,
     G: Gate<P>,
     R: Threads + Wait + Sync,
 >(
@@ -271,156 +279,25 @@ fn run_reported<
     works: Vec<P::Work>,
     capacity: usize,
     gate: &G,
-    stream: Option<Stream<'_, N>>,
+    stream: Stream<'_, N>,
 ) -> Result<Report<G::Cause>, AllocError>
 where
     P::Work: Send + Drop,
+    P::Record: Send,
     requires job { N.job ≡ J.means job.now }
     requires made { AreMadeFor J.means P.state P.valid job.now channels.now processes.items }
+    requires kept { All (λ x. (P.handed x).past ≡ nothing) processes.items }
     requires capacity { 0 < capacity }
     requires workers { 0 < length works.items }
-    ensures reached { IfOk result (λ r.
-        AreReached (J.means job.now) r.parts.items r.clocks.items) }
+    requires bells { length works.items ≤ length stream.bells.now }
+    ensures reached { IfOk result (λ r. AreReached (J.means job.now) r.rest.items) }
     ensures whole { IfOk result (λ r. (r.ended ≡ Whole)
-        ↔ ((p : ℕ) (t : MeantTime) → slice_get r.clocks.items p ≡ Some t
-        → t ≡ end_time (J.means job.now))) }
+        ↔ ((p : ℕ) (x : MeantPiece) → slice_get r.rest.items p ≡ Some x
+        → x.clock ≡ end_time (J.means job.now))) }
 {
     let count = processes.len();
     let all = run_job::<N, J, P, G, R>(
         rt, alloc, job, channels, processes, works, capacity, gate, stream,
     )?;
     report_of::<N, J, P, G::Cause>(alloc, job, count, all)
-}
-
-// Runs the processes of a job with no board, and reports. It names the job in no type, so that a caller can pick it.
-fn run_unposted<
-    'a,
-    N: OfJob + Send + Sync + 'a,
-    J: PlannedJob,
-    P: LogicalProcess<Record = PartRecord> + Send,
-    G: Gate<P>,
-    R: Threads + Wait + Sync,
->(
-    rt: &'a R,
-    alloc: Global,
-    job: &J,
-    channels: &[Channel],
-    processes: Vec<P>,
-    works: Vec<P::Work>,
-    capacity: usize,
-    gate: &G,
-) -> Result<Report<G::Cause>, AllocError>
-where
-    P::Work: Send + Drop,
-    requires job { N.job ≡ J.means job.now }
-    requires made { AreMadeFor J.means P.state P.valid job.now channels.now processes.items }
-    requires capacity { 0 < capacity }
-    requires workers { 0 < length works.items }
-    ensures reached { IfOk result (λ r.
-        AreReached (J.means job.now) r.parts.items r.clocks.items) }
-    ensures whole { IfOk result (λ r. (r.ended ≡ Whole)
-        ↔ ((p : ℕ) (t : MeantTime) → slice_get r.clocks.items p ≡ Some t
-        → t ≡ end_time (J.means job.now))) }
-{
-    let nowhere: Option<Stream<'a, N>> = None;
-    run_reported::<N, J, P, G, R>(
-        rt, alloc, job, channels, processes, works, capacity, gate, nowhere,
-    )
-}
-
-/// Runs new processes of a job on threads, one thread for each of `works`, which is what a worker's turns work with. Process p
-/// belongs to worker p mod the number of workers. So many packets may be on their way on each link; one more may be in the hand
-/// of its sender. Whatever the gate and the timing of the threads, each part in the report is its process's part of the whole run
-/// before its clock; and the run is reported whole exactly where every clock is at the end.
-///
-/// # Errors
-///
-/// No memory for the links and the threads, or for the report.
-pub fn run_workers<
-    J: PlannedJob,
-    P: LogicalProcess<Record = PartRecord> + Send,
-    G: Gate<P>,
-    R: Threads + Wait + Sync,
->(
-    rt: &R,
-    alloc: Global,
-    job: &J,
-    channels: &[Channel],
-    processes: Vec<P>,
-    works: Vec<P::Work>,
-    capacity: usize,
-    gate: &G,
-) -> Result<Report<G::Cause>, AllocError>
-where
-    P::Work: Send + Drop,
-    requires made { AreMadeFor J.means P.state P.valid job.now channels.now processes.items }
-    requires capacity { 0 < capacity }
-    requires workers { 0 < length works.items }
-    ensures reached { IfOk result (λ r.
-        AreReached (J.means job.now) r.parts.items r.clocks.items) }
-    ensures whole { IfOk result (λ r. (r.ended ≡ Whole)
-        ↔ ((p : ℕ) (t : MeantTime) → slice_get r.clocks.items p ≡ Some t
-        → t ≡ end_time (J.means job.now))) }
-{
-    run_unposted::<Brand, J, P, G, R>(rt, alloc, job, channels, processes, works, capacity, gate)
-}
-
-/// Runs as [`run_workers`] does, and posts on a board of the job meanwhile. Each worker posts what its processes committed, a
-/// piece of each that begins where its last one ended: now and then while it goes on, before it sleeps, and before it ends. It rings
-/// `news` after that. A piece for which there is no memory is let go, and comes with the next one of its process; what no piece
-/// brought is in the report. Once the caller has raised `stop`, each worker ends before its next turn, and a run that is not
-/// whole, was not out of memory and was not stopped by the gate is reported cancelled.
-///
-/// # Errors
-///
-/// No memory for the links and the threads, or for the report.
-pub fn run_streamed<
-    'a,
-    N: OfJob + Send + Sync,
-    J: PlannedJob,
-    P: LogicalProcess<Record = PartRecord> + Send,
-    G: Gate<P>,
-    R: Threads + Wait + Sync,
->(
-    rt: &R,
-    alloc: Global,
-    job: &J,
-    channels: &[Channel],
-    processes: Vec<P>,
-    works: Vec<P::Work>,
-    capacity: usize,
-    gate: &G,
-    board: &'a Board<N>,
-    news: &'a Bell,
-    stop: &'a Flag,
-) -> Result<Report<G::Cause>, AllocError>
-where
-    P::Work: Send + Drop,
-    requires job { N.job ≡ J.means job.now }
-    requires made { AreMadeFor J.means P.state P.valid job.now channels.now processes.items }
-    requires capacity { 0 < capacity }
-    requires workers { 0 < length works.items }
-    ensures reached { IfOk result (λ r.
-        AreReached (J.means job.now) r.parts.items r.clocks.items) }
-    ensures whole { IfOk result (λ r. (r.ended ≡ Whole)
-        ↔ ((p : ℕ) (t : MeantTime) → slice_get r.clocks.items p ≡ Some t
-        → t ≡ end_time (J.means job.now))) }
-{
-    let stream = Stream {
-        alloc,
-        board,
-        news,
-        stop,
-    };
-    run_reported::<N, J, P, G, R>(
-        rt,
-        alloc,
-        job,
-        channels,
-        processes,
-        works,
-        capacity,
-        gate,
-        Some(stream),
-    )
 }

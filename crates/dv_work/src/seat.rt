@@ -3,18 +3,21 @@
 ghost use Rattle.std.specs.List.{list_any};
 ghost use Rattle.std.specs.Prelude.{◌≡◌, ◌<◌, ◌+◌, ◌++◌, ◌↔◌, false, if◌then◌else◌, [], ◌∷◌, length, slice_get, None, Some};
 ghost use Rattle.std.specs.Prelude.{IfErr, IsTrue, MatchOption, OnOk, OnErr};
+ghost use Rattle.dv_board.specs.Posts.{IsPiece};
 ghost use Rattle.dv_conservative.specs.Process.{first_time};
 ghost use Rattle.dv_conservative.specs.True.{AreTrue};
 ghost use Rattle.dv_conservative.specs.World.{Channel};
 ghost use Rattle.dv_proc.specs.Packets.{meant_packet};
 ghost use Rattle.dv_work.specs.Ends.{IsIn, IsOut, given, taken};
-ghost use Rattle.dv_work.specs.Seats.{HasNull, HasToldAtFirst, Reports, Sits, holds_packet};
+ghost use Rattle.dv_work.specs.Seats.{HasNull, HasToldAtFirst, IsEmptied, Reports, Sits, holds_packet};
 
 use crate::bell::{Bell, Flag};
 use crate::post::Stream;
-use dv_core::LogicalProcess;
+use dv_board::Piece;
+use dv_core::{LogicalProcess, ProcessHandsOver};
 use dv_link::{Link, OfJob, SendPass, TakePass};
 use dv_proc::{Packet, Turned};
+use dv_time::Time;
 use std::alloc::AllocError;
 use std::sync::Wait;
 
@@ -36,32 +39,22 @@ pub struct In {
     pub sender: usize,
 }
 
-/// A process, by its number, with the ends of its links.
+/// A process, by its number, with the ends of its links, and the time up to which what it committed was moved out of it.
 #[derive(Drop)]
 pub struct Seat<P> {
     pub number: u32,
     pub process: P,
     pub outs: Vec<Out>,
     pub ins: Vec<In>,
+    pub posted: Time,
 }
 
-/// All that a worker's visits need of the others: the links, the bells, the flag, and where they post, if they do.
+/// All that a worker's visits need of the others: the links, the flag, and where they post, with the bells.
 #[derive(Drop)]
 pub struct Floor<'a, N: OfJob> {
     pub links: &'a [Link<N>],
-    pub bells: &'a [Bell],
     pub flag: &'a Flag,
-    pub stream: Option<Stream<'a, N>>,
-}
-
-impl<N: OfJob> Floor<'_, N> {
-    /// Whether the caller of the run stops it.
-    pub fn is_stopped(&self) -> bool {
-        match &self.stream {
-            Some(stream) => stream.stop.is_raised(),
-            None => false,
-        }
-    }
+    pub stream: Stream<'a, N>,
 }
 
 // Rings a worker's bell, if there is one.
@@ -119,17 +112,17 @@ impl<P: LogicalProcess> Seat<P> {
         floor: &Floor<'_, N>,
         place: usize,
     ) -> Result<bool, AllocError>
-        requires sits { Sits N.job P.state P.valid floor.now.links.now self.old }
+        requires sits { Sits N.job P.state P.handed P.valid floor.now.links.now self.old }
         requires place { place < length self.old.ins.items }
-        ensures ok { OnOk result (Sits N.job P.state P.valid floor.now.links.now self.new) }
-        ensures err { OnErr result (Reports N.job P.state self.new) }
+        ensures ok { OnOk result (Sits N.job P.state P.handed P.valid floor.now.links.now self.new) }
+        ensures err { OnErr result (Reports N.job P.state P.handed P.valid self.new) }
         ensures ends { length self.new.ins.items ≡ length self.old.ins.items }
     {
         let end = &mut self.ins[place];
         let Some(packet) = take_from(rt, floor.links, end) else {
             return Ok(false);
         };
-        ring(rt, floor.bells, end.sender);
+        ring(rt, floor.stream.bells, end.sender);
         if let Err(_refused) = self.process.receive(packet) {
             return Err(AllocError);
         }
@@ -146,8 +139,8 @@ impl<P: LogicalProcess> Seat<P> {
         floor: &Floor<'_, N>,
         work: &mut P::Work,
     ) -> Result<Turned, AllocError>
-        requires { Sits N.job P.state P.valid floor.now.links.now self.old }
-        ensures { Sits N.job P.state P.valid floor.now.links.now self.new }
+        requires { Sits N.job P.state P.handed P.valid floor.now.links.now self.old }
+        ensures { Sits N.job P.state P.handed P.valid floor.now.links.now self.new }
     {
         let _ = floor.links.len();
         self.process.turn(work)
@@ -155,9 +148,9 @@ impl<P: LogicalProcess> Seat<P> {
 
     // Holds the packet that stands on the link at a place, if none is held there yet.
     fn hold<N: OfJob>(&mut self, floor: &Floor<'_, N>, place: usize)
-        requires sits { Sits N.job P.state P.valid floor.now.links.now self.old }
+        requires sits { Sits N.job P.state P.handed P.valid floor.now.links.now self.old }
         requires place { place < length self.old.outs.items }
-        ensures sits { Sits N.job P.state P.valid floor.now.links.now self.new }
+        ensures sits { Sits N.job P.state P.handed P.valid floor.now.links.now self.new }
         ensures ends { length self.new.outs.items ≡ length self.old.outs.items }
         ensures told { HasToldAtFirst P.state place self.old
             → HasToldAtFirst P.state (place + 1) self.new }
@@ -192,9 +185,9 @@ impl<P: LogicalProcess> Seat<P> {
     /// Puts the packet that stands on the link at a place, or that is held there, where the link has room. Tells whether it was
     /// put. Where it was not, all that the process prepared there was put, or a packet is held there.
     pub fn put<N: OfJob, R: Wait>(&mut self, rt: &R, floor: &Floor<'_, N>, place: usize) -> bool
-        requires sits { Sits N.job P.state P.valid floor.now.links.now self.old }
+        requires sits { Sits N.job P.state P.handed P.valid floor.now.links.now self.old }
         requires place { place < length self.old.outs.items }
-        ensures sits { Sits N.job P.state P.valid floor.now.links.now self.new }
+        ensures sits { Sits N.job P.state P.handed P.valid floor.now.links.now self.new }
         ensures ends { length self.new.outs.items ≡ length self.old.outs.items }
         ensures told { result ≡ false → HasToldAtFirst P.state place self.old
             → HasToldAtFirst P.state (place + 1) self.new }
@@ -204,7 +197,7 @@ impl<P: LogicalProcess> Seat<P> {
         if !put_held(rt, floor.links, end) {
             return false;
         }
-        ring(rt, floor.bells, end.receiver);
+        ring(rt, floor.stream.bells, end.receiver);
         true
     }
 
@@ -217,9 +210,31 @@ impl<P: LogicalProcess> Seat<P> {
 
     /// What the process has committed is its part of the whole run.
     pub fn account<N: OfJob>(&self, floor: &Floor<'_, N>)
-        requires { Sits N.job P.state P.valid floor.now.links.now self.now }
-        ensures { Reports N.job P.state self.now }
+        requires { Sits N.job P.state P.handed P.valid floor.now.links.now self.now }
+        ensures { Reports N.job P.state P.handed P.valid self.now }
     {
         let _ = floor.links.len();
+    }
+}
+
+impl<P: ProcessHandsOver> Seat<P> {
+    /// Moves out what the process committed since it was moved out last, and before its clock.
+    pub fn piece<N: OfJob>(&mut self) -> Piece
+        requires { Reports N.job P.state P.handed P.valid self.old }
+        ensures piece { IsPiece N.job result }
+        ensures process { result.process ≡ self.old.number }
+        ensures from { result.from ≡ self.old.posted }
+        ensures clock { result.clock ≡ (P.state self.old.process).position.clock }
+        ensures moved { IsEmptied P.state P.handed P.valid self.old self.new }
+    {
+        let clock = self.process.clock();
+        let piece = Piece {
+            process: self.number,
+            from: self.posted,
+            clock,
+            part: self.process.hand_over(),
+        };
+        self.posted = clock;
+        piece
     }
 }

@@ -12,6 +12,7 @@ use crate::seat::{In, Out, Seat};
 use dv_core::LogicalProcess;
 use dv_link::{Link, OfJob};
 use dv_proc::Channel;
+use dv_time::Time;
 use std::alloc::{AllocError, Global};
 
 /// The processes of a job, by their numbers, with no links yet.
@@ -23,8 +24,8 @@ pub fn seats_of<N: OfJob, P: LogicalProcess>(
     alloc: Global,
     processes: Vec<P>,
 ) -> Result<Vec<Seat<P>>, AllocError>
-    requires { AreNew N.job P.state P.valid processes.items }
-    ensures { IfOk result (λ seats. AreSeated N.job P.state P.valid (no_links {N = N}) 0 0
+    requires { AreNew N.job P.state P.handed P.valid processes.items }
+    ensures { IfOk result (λ seats. AreSeated N.job P.state P.handed P.valid (no_links {N = N}) 0 0
         seats.items) }
 {
     let mut seats = Vec::with_capacity(alloc, processes.len())?;
@@ -35,6 +36,7 @@ pub fn seats_of<N: OfJob, P: LogicalProcess>(
             process,
             outs: Vec::new(alloc),
             ins: Vec::new(alloc),
+            posted: Time::ZERO,
         })?;
     }
     Ok(seats)
@@ -46,9 +48,9 @@ fn add_out<N: OfJob, P: LogicalProcess>(
     seat: &mut Seat<P>,
     out: Out,
 ) -> Result<(), AllocError>
-    requires seat { IsSeat N.job P.state P.valid links.now out.number out.number seat.old }
+    requires seat { IsSeat N.job P.state P.handed P.valid links.now out.number out.number seat.old }
     requires out { IsNewOut N.job links.now seat.old.number out }
-    ensures seat { OnOk result (IsSeat N.job P.state P.valid links.now (out.number + 1) out.number
+    ensures seat { OnOk result (IsSeat N.job P.state P.handed P.valid links.now (out.number + 1) out.number
         seat.new) }
     ensures number { seat.new.number ≡ seat.old.number }
 {
@@ -62,9 +64,9 @@ fn add_in<N: OfJob, P: LogicalProcess>(
     seat: &mut Seat<P>,
     end: In,
 ) -> Result<(), AllocError>
-    requires seat { IsSeat N.job P.state P.valid links.now (end.number + 1) end.number seat.old }
+    requires seat { IsSeat N.job P.state P.handed P.valid links.now (end.number + 1) end.number seat.old }
     requires end { IsNewIn N.job links.now end }
-    ensures seat { OnOk result (IsSeat N.job P.state P.valid links.now (end.number + 1)
+    ensures seat { OnOk result (IsSeat N.job P.state P.handed P.valid links.now (end.number + 1)
         (end.number + 1) seat.new) }
     ensures number { seat.new.number ≡ seat.old.number }
 {
@@ -85,14 +87,14 @@ pub fn connect<N: OfJob, P: LogicalProcess>(
     workers: usize,
     seats: &mut Vec<Seat<P>>,
 ) -> Result<Vec<Link<N>>, AllocError>
-    requires seats { AreSeated N.job P.state P.valid (no_links {N = N}) 0 0 seats.old.items }
+    requires seats { AreSeated N.job P.state P.handed P.valid (no_links {N = N}) 0 0 seats.old.items }
     requires links { map meant_channel channels.now ≡ N.job.channels }
     requires ends { (l : ℕ) (c : MeantChannel) → slice_get N.job.channels l ≡ Some c
         → (c.source < N.job.processes) × (c.target < N.job.processes) }
     requires few { length channels.now < 2 ^ 32 }
     requires capacity { 0 < capacity }
     requires workers { 0 < workers }
-    ensures { IfOk result (λ links. (count : ℕ) × AreSeated N.job P.state P.valid links.items
+    ensures { IfOk result (λ links. (count : ℕ) × AreSeated N.job P.state P.handed P.valid links.items
         count count seats.new.items) }
 {
     let mut links = Vec::with_capacity(alloc, channels.len())?;
@@ -124,7 +126,7 @@ fn empty_crews<N: OfJob, P: LogicalProcess>(
     workers: usize,
 ) -> Result<Vec<Vec<Seat<P>>>, AllocError>
     ensures count { IfOk result (λ crews. length crews.items ≡ workers) }
-    ensures seated { IfOk result (λ crews. All (Seated N.job P.state P.valid links.now)
+    ensures seated { IfOk result (λ crews. All (Seated N.job P.state P.handed P.valid links.now)
         crews.items) }
 {
     let _ = links.len();
@@ -141,9 +143,9 @@ fn add_seat<N: OfJob, P: LogicalProcess>(
     crew: &mut Vec<Seat<P>>,
     seat: Seat<P>,
 ) -> Result<(), AllocError>
-    requires crew { Seated N.job P.state P.valid links.now crew.old }
-    requires seat { Sits N.job P.state P.valid links.now seat }
-    ensures { OnOk result (Seated N.job P.state P.valid links.now crew.new) }
+    requires crew { Seated N.job P.state P.handed P.valid links.now crew.old }
+    requires seat { Sits N.job P.state P.handed P.valid links.now seat }
+    ensures { OnOk result (Seated N.job P.state P.handed P.valid links.now crew.new) }
 {
     let _ = links.len();
     Ok(crew.push(seat)?)
@@ -160,10 +162,10 @@ pub fn crews_of<N: OfJob, P: LogicalProcess>(
     workers: usize,
     seats: Vec<Seat<P>>,
 ) -> Result<Vec<Vec<Seat<P>>>, AllocError>
-    requires seats { All (Sits N.job P.state P.valid links.now) seats.items }
+    requires seats { All (Sits N.job P.state P.handed P.valid links.now) seats.items }
     requires workers { 0 < workers }
     ensures count { IfOk result (λ crews. length crews.items ≡ workers) }
-    ensures seated { IfOk result (λ crews. All (Seated N.job P.state P.valid links.now)
+    ensures seated { IfOk result (λ crews. All (Seated N.job P.state P.handed P.valid links.now)
         crews.items) }
 {
     let mut crews = empty_crews(alloc, links, workers)?;

@@ -10,10 +10,9 @@ use crate::bell::Bell;
 use crate::gate::Gate;
 use crate::post::{ROUNDS_TO_A_POST, post_all};
 use crate::seat::{Floor, Seat};
-use dv_core::LogicalProcess;
+use dv_core::{LogicalProcess, ProcessHandsOver};
 use dv_link::OfJob;
 use dv_proc::Turned;
-use dv_record::PartRecord;
 use std::alloc::AllocError;
 use std::sync::Wait;
 
@@ -43,9 +42,9 @@ fn take_all<N: OfJob, P: LogicalProcess, R: Wait>(
     floor: &Floor<'_, N>,
     seat: &mut Seat<P>,
 ) -> Result<bool, AllocError>
-    requires { Sits N.job P.state P.valid floor.now.links.now seat.old }
-    ensures ok { OnOk result (Sits N.job P.state P.valid floor.now.links.now seat.new) }
-    ensures err { OnErr result (Reports N.job P.state seat.new) }
+    requires { Sits N.job P.state P.handed P.valid floor.now.links.now seat.old }
+    ensures ok { OnOk result (Sits N.job P.state P.handed P.valid floor.now.links.now seat.new) }
+    ensures err { OnErr result (Reports N.job P.state P.handed P.valid seat.new) }
 {
     let mut moved = false;
     for place in 0..seat.ins.len() {
@@ -65,9 +64,9 @@ fn put_next<N: OfJob, P: LogicalProcess, R: Wait>(
     place: usize,
     are_nulls_due: bool,
 ) -> bool
-    requires sits { Sits N.job P.state P.valid floor.now.links.now seat.old }
+    requires sits { Sits N.job P.state P.handed P.valid floor.now.links.now seat.old }
     requires place { place < length seat.old.outs.items }
-    ensures sits { Sits N.job P.state P.valid floor.now.links.now seat.new }
+    ensures sits { Sits N.job P.state P.handed P.valid floor.now.links.now seat.new }
     ensures ends { length seat.new.outs.items ≡ length seat.old.outs.items }
     ensures told { are_nulls_due ≡ true → result ≡ false → HasToldAtFirst P.state place seat.old
         → HasToldAtFirst P.state (place + 1) seat.new }
@@ -86,8 +85,8 @@ fn put_all<N: OfJob, P: LogicalProcess, R: Wait>(
     seat: &mut Seat<P>,
     are_nulls_due: bool,
 ) -> bool
-    requires { Sits N.job P.state P.valid floor.now.links.now seat.old }
-    ensures sits { Sits N.job P.state P.valid floor.now.links.now seat.new }
+    requires { Sits N.job P.state P.handed P.valid floor.now.links.now seat.old }
+    ensures sits { Sits N.job P.state P.handed P.valid floor.now.links.now seat.new }
     ensures told { are_nulls_due ≡ true → result ≡ false → HasToldAll P.state seat.new }
 {
     let mut moved = false;
@@ -112,8 +111,36 @@ fn progress(turned: Turned, moved: bool, holds: bool) -> Turned
     }
 }
 
-// Takes, makes one turn if the gate lets it, and puts. Null messages are due where a packet came, since who sent it may wait for an
-// answer, and where the turn did not move the process. One that runs ahead by itself tells its clock in the rounds that tell.
+// One turn of a process, if the gate lets it. Where too much of what it posted waits to be taken there is none, and it waits.
+fn turn_if_near<N: OfJob, P: LogicalProcess, G: Gate<P>>(
+    floor: &Floor<'_, N>,
+    gate: &G,
+    worker: usize,
+    seat: &mut Seat<P>,
+    work: &mut P::Work,
+) -> Result<Turned, Halt<G::Cause>>
+    requires { Sits N.job P.state P.handed P.valid floor.now.links.now seat.old }
+    ensures ok { OnOk result (Sits N.job P.state P.handed P.valid floor.now.links.now seat.new) }
+    ensures err { OnErr result (Reports N.job P.state P.handed P.valid seat.new) }
+{
+    if floor.stream.holds_back(seat.number) {
+        return Ok(Turned::Waiting);
+    }
+    seat.account(floor);
+    if let Some(cause) = gate.before_turn(worker, seat.number, &seat.process) {
+        return Err(Halt::Cause(cause));
+    }
+    let Ok(turned) = seat.turn(floor, work) else {
+        seat.account(floor);
+        return Err(Halt::Memory);
+    };
+    gate.after_turn(worker, seat.number, &seat.process);
+    Ok(turned)
+}
+
+// Takes, makes one turn if the process is near enough and the gate lets it, and puts. Null messages are due where a packet came,
+// since who sent it may wait for an answer, and where the process did not move. One that runs ahead by itself tells its clock in the
+// rounds that tell.
 fn visit<N: OfJob, P: LogicalProcess, G: Gate<P>, R: Wait>(
     rt: &R,
     floor: &Floor<'_, N>,
@@ -123,9 +150,9 @@ fn visit<N: OfJob, P: LogicalProcess, G: Gate<P>, R: Wait>(
     seat: &mut Seat<P>,
     work: &mut P::Work,
 ) -> Result<Turned, Halt<G::Cause>>
-    requires { Sits N.job P.state P.valid floor.now.links.now seat.old }
-    ensures ok { OnOk result (Sits N.job P.state P.valid floor.now.links.now seat.new) }
-    ensures err { OnErr result (Reports N.job P.state seat.new) }
+    requires { Sits N.job P.state P.handed P.valid floor.now.links.now seat.old }
+    ensures ok { OnOk result (Sits N.job P.state P.handed P.valid floor.now.links.now seat.new) }
+    ensures err { OnErr result (Reports N.job P.state P.handed P.valid seat.new) }
     ensures told { IfOk result (λ t. t ≢ Moved → HasToldAll P.state seat.new) }
     ensures done { IfOk result (λ t. t ≡ Done → HoldsNone seat.new) }
 {
@@ -136,17 +163,10 @@ fn visit<N: OfJob, P: LogicalProcess, G: Gate<P>, R: Wait>(
     if floor.flag.is_raised() {
         return Err(Halt::Flag);
     }
-    if floor.is_stopped() {
+    if floor.stream.stop.is_raised() {
         return Err(Halt::Stop);
     }
-    if let Some(cause) = gate.before_turn(worker, seat.number, &seat.process) {
-        return Err(Halt::Cause(cause));
-    }
-    let Ok(turned) = seat.turn(floor, work) else {
-        seat.account(floor);
-        return Err(Halt::Memory);
-    };
-    gate.after_turn(worker, seat.number, &seat.process);
+    let turned = turn_if_near(floor, gate, worker, seat, work)?;
     let runs_ahead = turned == Turned::Moved && !took;
     let put = put_all(rt, floor, seat, tells || !runs_ahead);
     Ok(progress(turned, took || put, seat.holds_packets()))
@@ -162,9 +182,9 @@ fn round<N: OfJob, P: LogicalProcess, G: Gate<P>, R: Wait>(
     seats: &mut [Seat<P>],
     work: &mut P::Work,
 ) -> Result<Turned, Halt<G::Cause>>
-    requires { All (Sits N.job P.state P.valid floor.now.links.now) seats.old }
-    ensures ok { OnOk result (All (Sits N.job P.state P.valid floor.now.links.now) seats.new) }
-    ensures all { All (Reports N.job P.state) seats.new }
+    requires { All (Sits N.job P.state P.handed P.valid floor.now.links.now) seats.old }
+    ensures ok { OnOk result (All (Sits N.job P.state P.handed P.valid floor.now.links.now) seats.new) }
+    ensures all { All (Reports N.job P.state P.handed P.valid) seats.new }
     ensures told { IfOk result (λ t. t ≢ Moved → All (HasToldAll P.state) seats.new) }
     ensures done { IfOk result (λ t. t ≡ Done → All HoldsNone seats.new) }
 {
@@ -199,35 +219,75 @@ fn tells_in(round: u64) -> bool {
     round.is_power_of_two() || round % ROUNDS_TO_A_POST == 0
 }
 
-// Whether a worker posts after a round: where it tells, and always where it ends.
-fn posts_after<C>(tells: bool, ended: &Result<Turned, Halt<C>>) -> bool {
-    match ended {
-        Ok(Turned::Moved | Turned::Waiting) => tells,
-        _ => true,
+// Whether a worker posts after a round: where it tells, and always where it is done.
+fn posts_after(tells: bool, turned: Turned) -> bool {
+    match turned {
+        Turned::Moved | Turned::Waiting => tells,
+        Turned::Done => true,
     }
 }
 
 // Waits until the worker's bell has rung past a count. Its processes have told all that they prepared. If no ring comes
 // soon, the worker posts before it sleeps.
-fn wait_for_work<N: OfJob, P: LogicalProcess<Record = PartRecord>, R: Wait>(
+fn wait_for_work<N: OfJob, P: ProcessHandsOver, R: Wait>(
     rt: &R,
     floor: &Floor<'_, N>,
     bell: &Bell,
     seen: u64,
-    seats: &[Seat<P>],
-)
-    requires reports { All (Reports N.job P.state) seats.now }
-    requires told { All (HasToldAll P.state) seats.now }
+    seats: &mut [Seat<P>],
+) -> Result<(), AllocError>
+    requires sits { All (Sits N.job P.state P.handed P.valid floor.now.links.now) seats.old }
+    requires told { All (HasToldAll P.state) seats.old }
+    ensures { All (Sits N.job P.state P.handed P.valid floor.now.links.now) seats.new }
 {
     if bell.rings_soon(rt, seen) {
-        return;
+        return Ok(());
     }
-    post_all(rt, floor, seats);
+    post_all(rt, floor, seats)?;
     bell.wait_past(rt, seen);
+    Ok(())
+}
+
+// Posts after a round, where that is due.
+fn post_after<N: OfJob, P: ProcessHandsOver, R: Wait>(
+    rt: &R,
+    floor: &Floor<'_, N>,
+    tells: bool,
+    turned: Turned,
+    seats: &mut [Seat<P>],
+) -> Result<(), AllocError>
+    requires { All (Sits N.job P.state P.handed P.valid floor.now.links.now) seats.old }
+    ensures sits { All (Sits N.job P.state P.handed P.valid floor.now.links.now) seats.new }
+    ensures told { All (HasToldAll P.state) seats.old → All (HasToldAll P.state) seats.new }
+    ensures put { All HoldsNone seats.old → All HoldsNone seats.new }
+{
+    if !posts_after(tells, turned) {
+        return Ok(());
+    }
+    post_all(rt, floor, seats)
+}
+
+// Waits after a round in which nothing moved.
+fn wait_after<N: OfJob, P: ProcessHandsOver, R: Wait>(
+    rt: &R,
+    floor: &Floor<'_, N>,
+    bell: &Bell,
+    seen: u64,
+    turned: Turned,
+    seats: &mut [Seat<P>],
+) -> Result<(), AllocError>
+    requires sits { All (Sits N.job P.state P.handed P.valid floor.now.links.now) seats.old }
+    requires told { turned ≢ Moved → All (HasToldAll P.state) seats.old }
+    ensures { All (Sits N.job P.state P.handed P.valid floor.now.links.now) seats.new }
+{
+    match turned {
+        Turned::Moved => Ok(()),
+        Turned::Waiting | Turned::Done => wait_for_work(rt, floor, bell, seen, seats),
+    }
 }
 
 // Makes rounds until all are done, or the worker has to end.
-fn rounds<N: OfJob, P: LogicalProcess<Record = PartRecord>, G: Gate<P>, R: Wait>(
+fn rounds<N: OfJob, P: ProcessHandsOver, G: Gate<P>, R: Wait>(
     rt: &R,
     floor: &Floor<'_, N>,
     gate: &G,
@@ -236,8 +296,8 @@ fn rounds<N: OfJob, P: LogicalProcess<Record = PartRecord>, G: Gate<P>, R: Wait>
     seats: &mut [Seat<P>],
     work: &mut P::Work,
 ) -> Option<Halt<G::Cause>>
-    requires { All (Sits N.job P.state P.valid floor.now.links.now) seats.old }
-    ensures reports { All (Reports N.job P.state) seats.new }
+    requires { All (Sits N.job P.state P.handed P.valid floor.now.links.now) seats.old }
+    ensures reports { All (Reports N.job P.state P.handed P.valid) seats.new }
     ensures told { result ≡ None → All (HasToldAll P.state) seats.new }
     ensures put { result ≡ None → All HoldsNone seats.new }
 {
@@ -246,24 +306,27 @@ fn rounds<N: OfJob, P: LogicalProcess<Record = PartRecord>, G: Gate<P>, R: Wait>
         count = count.wrapping_add(1);
         let tells = tells_in(count);
         let seen = bell.rings(rt);
-        let ended = round(rt, floor, gate, worker, tells, seats, work);
-        if posts_after(tells, &ended) {
-            post_all(rt, floor, seats);
-        }
-        match ended {
-            Ok(Turned::Moved) => {}
-            Ok(Turned::Waiting) => wait_for_work(rt, floor, bell, seen, seats),
-            Ok(Turned::Done) => return None,
+        let turned = match round(rt, floor, gate, worker, tells, seats, work) {
+            Ok(turned) => turned,
             Err(halt) => return Some(halt),
+        };
+        if post_after(rt, floor, tells, turned, seats).is_err() {
+            return Some(Halt::Memory);
+        }
+        if turned == Turned::Done {
+            return None;
+        }
+        if wait_after(rt, floor, bell, seen, turned, seats).is_err() {
+            return Some(Halt::Memory);
         }
     }
     unreachable!()
 }
 
 /// Works until all its processes are done, or it has to end early. If it ends early, it raises the flag, unless the
-/// flag was the reason. What its processes committed is posted before it sleeps and before it ends. If it ends because
+/// flag was the reason. What its processes committed is posted before it sleeps and where they are done. If it ends because
 /// they are done, all packets that they prepared were put.
-pub fn work_at<N: OfJob, P: LogicalProcess<Record = PartRecord>, G: Gate<P>, R: Wait>(
+pub fn work_at<N: OfJob, P: ProcessHandsOver, G: Gate<P>, R: Wait>(
     rt: &R,
     floor: &Floor<'_, N>,
     gate: &G,
@@ -273,13 +336,13 @@ pub fn work_at<N: OfJob, P: LogicalProcess<Record = PartRecord>, G: Gate<P>, R: 
 ) -> Worked<P, G::Cause>
 where
     P::Work: Drop,
-    requires seats { Seated N.job P.state P.valid floor.now.links.now seats }
-    requires bell { worker < length floor.now.bells.now }
-    ensures reported { Reported N.job P.state result }
+    requires seats { Seated N.job P.state P.handed P.valid floor.now.links.now seats }
+    requires bell { worker < length floor.now.stream.bells.now }
+    ensures reported { Reported N.job P.state P.handed P.valid result }
     ensures told { result.halt ≡ None → All (HasToldAll P.state) result.seats.items }
     ensures put { result.halt ≡ None → All HoldsNone result.seats.items }
 {
-    let bell = &floor.bells[worker];
+    let bell = &floor.stream.bells[worker];
     let halt = rounds(
         rt,
         floor,
@@ -291,7 +354,7 @@ where
     );
     match &halt {
         None | Some(Halt::Flag) => {}
-        Some(_) => floor.flag.raise(rt, floor.bells),
+        Some(_) => floor.flag.raise(rt, floor.stream.bells),
     }
     Worked { seats, halt }
 }

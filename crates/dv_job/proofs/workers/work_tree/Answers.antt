@@ -28,7 +28,7 @@ returns-clause-ended g c =
     if_workers_ended _ _ _ _ c.args.options.now _ _ _
     (planned_tree _ _ _ _ c.args.tree.now _ _ c.requires.accepted c.in_ok-groups.ensures c.in_ok-played.ensures.inputs)
     c.in_ok-ran.ran (g.W.Write.contents c.args.writer.now) (g.W.Write.contents c.compiled_workers.new.writer)
-    (g.W.Write.contents c.write_end.new.writer) c.in_ok-ran.ensures.printed c.in_ok-ran.ensures.ended
+    (g.W.Write.contents c.write_end.new.writer) c.in_ok-ran.ensures.printed c.in_ok-ran.ensures.ended c.in_ok-ran.ensures.partial
     c.write_end.result c.write_end.ensures.ending c.write_end.ensures.text
 
 pub returns-clause-error : goal.returns-clause-error

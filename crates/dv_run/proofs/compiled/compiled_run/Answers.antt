@@ -7,10 +7,11 @@ use Rattle.dv_core.specs.declared.step.Ended.{Ended}
 use Rattle.dv_planned.specs.Texts.{text_job}
 use Rattle.dv_text.proofs.Taking.{OnErr-always}
 use Rattle.dv_serial.proofs.LeastClock.{least_time_rank}
+use Rattle.dv_stream.specs.Clocks.{AreWithin}
 use Rattle.dv_run.specs.Runs.{AreAtEnd}
 use Rattle.dv_run.proofs.Merging.{Leaves, merges}
 use Rattle.dv_run.proofs.Traces.{Laws, each_clock, is_cut_short, is_printed, is_run, nothing_printed, ran_at_end, ran_of_run}
-use Rattle.dv_run.proofs.Traces.{some_clocks}
+use Rattle.dv_run.proofs.Traces.{ran_within, some_clocks}
 use Rattle.dv_run.proofs.compiled.compiled_run.Goals as goal
 
 pub components_of-requires : goal.components_of-requires
@@ -93,5 +94,6 @@ returns-clause-run g c =
     is_run j capacity rounds s.committed ran {old = g.W.Write.contents c.args.writer.now}
     {new = g.W.Write.contents c.run_components.new.writer} r of.clocks of.ended
     (is_printed j c.requires.text c.requires.accepted laws s.written r c.in_ok-streamed.ensures.written mark of.faults
-    (subst (λ ts. 0 < length ts.items) (sym of.clocks) some) (each_clock j capacity rounds s.committed ran r of.clocks) at_end)
+    (subst (λ ts. 0 < length ts.items) (sym of.clocks) some) (each_clock j capacity rounds s.committed ran r of.clocks)
+    (subst (λ ts. AreWithin j.horizon j.limit ts.items) (sym of.clocks) (ran_within j capacity rounds s.committed ran)) at_end)
     c.in_ok-streamed.ensures.enough

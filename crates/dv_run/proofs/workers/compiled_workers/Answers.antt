@@ -6,11 +6,12 @@ use Rattle.dv_partition.specs.Groups.{owner_of}
 use Rattle.dv_planned.specs.Texts.{text_job}
 use Rattle.dv_syntax.specs.Trees.{file_of}
 use Rattle.dv_text.proofs.Taking.{OnErr-always}
-use Rattle.dv_time.specs.Time.{rank}
+use Rattle.dv_time.specs.Time.{end_of, rank}
 use Rattle.dv_time.specs.declared.time.Time.{Time}
+use Rattle.dv_stream.specs.Clocks.{AreWithin}
 use Rattle.dv_run.specs.Runs.{AreAtEnd}
 use Rattle.dv_run.proofs.Merging.{Leaves, merges}
-use Rattle.dv_run.proofs.Traces.{Laws, is_cut_short, is_printed, nothing_printed}
+use Rattle.dv_run.proofs.Traces.{Laws, is_cut_short, is_printed, nothing_printed, cut_before_end}
 use Rattle.dv_run.proofs.workers.compiled_workers.Goals as goal
 
 pub components_of-requires : goal.components_of-requires
@@ -88,8 +89,18 @@ returns-clause-printed g c =
     c.in_ok-worked.ensures.least ∙ ap (λ ts. least_rank j.limit ts.items) (sym of.clocks) in
     let at_end : AreAtEnd (text_job j) r.ended r.clocks.items = λ e.
     subst (λ ts. (p : ℕ) (t : Time) → slice_get ts.items p ≡ Some t → t ≡ end_time (text_job j)) (sym of.clocks)
-    (c.in_ok-worked.ensures.whole (of.whole e)) in
+    (c.in_ok-worked.ensures.whole.0 (of.whole.0 e)) in
     is_printed j c.requires.text c.requires.accepted laws {old = g.W.Write.contents c.args.writer.now}
     {new = g.W.Write.contents c.work_components.new.writer} w.written r c.in_ok-worked.ensures.written mark of.faults
     (subst (λ ts. 0 < length ts.items) (sym of.clocks) c.in_ok-worked.ensures.some_clocks)
-    (ap (λ ts. length ts.items) of.clocks ∙ c.in_ok-worked.ensures.count) at_end
+    (ap (λ ts. length ts.items) of.clocks ∙ c.in_ok-worked.ensures.count)
+    (subst (λ ts. AreWithin j.horizon j.limit ts.items) (sym of.clocks) c.in_ok-worked.ensures.within) at_end
+
+pub returns-clause-partial : goal.returns-clause-partial
+returns-clause-partial g c = λ partial.
+    let j = c.args.job.now in
+    let is = c.in_ok-worked.ensures in
+    let of = c.ran_by_workers.ensures in
+    subst (λ ts. least_rank j.limit ts.items < end_of j.limit j.horizon) (sym of.clocks)
+    (cut_before_end (text_job j) c.in_ok-worked.worked.clocks.items is.some_clocks is.within
+    (λ all. partial (of.whole.1 (is.whole.1 all))))

@@ -1,7 +1,7 @@
 use Rattle.dv_serial.proofs.processes.begin_one.Goals as goal
 
-pub returns : goal.returns
-returns g c =
+pub returns-clause-begun : goal.returns-clause-begun
+returns-clause-begun g c =
     let h = c.in_ok-process.ensures in
     record {
       valid = record { process = h.process; at_rest = h.settled };

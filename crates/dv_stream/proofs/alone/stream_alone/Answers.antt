@@ -9,8 +9,7 @@ use Rattle.dv_serial.proofs.Running.{clocks_of_world}
 use Rattle.dv_text.proofs.Taking.{AppendsBeginning-nothing, OnErr-always}
 use Rattle.dv_stream.specs.Alone.{seen_by}
 use Rattle.dv_stream.specs.Written.{IsBegun, IsWrittenTo, lines_before}
-use Rattle.dv_stream.proofs.Between.{least_within}
-use Rattle.dv_stream.proofs.Worlds.{clocks_in, parts_in, reached_in}
+use Rattle.dv_stream.proofs.Worlds.{are_clocks_in, clocks_in, least_within}
 use Rattle.dv_stream.proofs.Writing.{begun_to}
 use Rattle.dv_stream.proofs.alone.stream_alone.Goals as goal
 
@@ -56,8 +55,8 @@ returns-in_err-clocks-clause-err g c =
     = subst (λ j. rank (means j).limit w.mark ≤ end_of (means j).limit (means j).horizon) same
     (subst (λ t. rank (means after.job).limit t ≤ end_of (means after.job).limit (means after.job).horizon)
     (sym c.in_ok-ended.ensures.least)
-    (least_within (means after.job) (parts_in means state after) (clocks_in means state after)
-    (reached_in means state after c.in_ok-ended.ensures.true_to_model) some)) in
+    (least_within (means after.job) (shown means state after) (clocks_in means state after)
+    (are_clocks_in means state after c.in_ok-ended.ensures.true_to_model) some)) in
     OnErr-always _ (begun_to (means c.args.job) tree start now w
     (subst (λ j. IsWrittenTo (means j) tree start now w) first c.in_ok-ended.ensures.written) within)
 

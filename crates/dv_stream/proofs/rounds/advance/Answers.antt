@@ -1,46 +1,110 @@
-use Rattle.std.proofs.Common.{◌≡◌, Some, map, sym, subst, ◌∙◌}
-use Rattle.std.specs.List.{slice_get}
-use Rattle.dv_time.specs.Time.{IsOfRun}
-use Rattle.dv_board.specs.Clocks.{IsNoLater}
-use Rattle.dv_work.specs.Reached.{AreReached}
-use Rattle.dv_stream.specs.Written.{GoesOn}
-use Rattle.dv_stream.proofs.Between.{least_of_run}
-use Rattle.dv_stream.proofs.Worlds.{clocks_in, later_clocks, parts_in, reached_in}
+use Rattle.std.proofs.Common.{◌≡◌, ◌≤◌, List, map, refl, sym, ap, subst, ◌∙◌, arith}
+use Rattle.dv_time.specs.declared.time.Time.{Time}
+use Rattle.dv_board.specs.Clocks.{IsLeast}
+use Rattle.dv_conservative.specs.World.{Job, World}
+use Rattle.dv_core.specs.Worlds.{EndsAs, IsTrueToModel, kept_by, shown}
+use Rattle.dv_serial.specs.Clocks.{least_time}
+use Rattle.dv_text.proofs.Taking.{OnErr-always}
+use Rattle.dv_stream.specs.Rounds.{AreJoined}
+use Rattle.dv_stream.proofs.ToldClocks.{least_is}
+use Rattle.dv_stream.proofs.Joining.{joined_later}
+use Rattle.dv_stream.proofs.Telling.{same_clocks, same_shown, still_true}
+use Rattle.dv_stream.proofs.Worlds.{are_clocks_in, clocks_in}
+use Rattle.dv_stream.proofs.Writing.{falters_at_once}
 use Rattle.dv_stream.proofs.rounds.advance.Goals as goal
 
-pub write_more-requires-clause-reached : goal.write_more-requires-clause-reached
-write_more-requires-clause-reached g c =
+pub join_each-requires-clause-job : goal.join_each-requires-clause-job
+join_each-requires-clause-job g c = c.requires.job ∙ ap g.J.PlannedJob.means (sym c.serial-ended.ensures.job)
+
+pub join_each-requires-clause-true_to_model : goal.join_each-requires-clause-true_to_model
+join_each-requires-clause-true_to_model g c =
+    subst (λ (j : Job). IsTrueToModel j (kept_by g.P.LogicalProcess.state c.serial-ended.new.self))
+    (ap g.J.PlannedJob.means c.serial-ended.ensures.job ∙ sym c.requires.job) c.serial-ended.ensures.true_to_model
+
+pub join_each-requires-clause-joined : goal.join_each-requires-clause-joined
+join_each-requires-clause-joined g c =
     let means = g.J.PlannedJob.means in
     let state = g.P.LogicalProcess.state in
-    let now = c.serial-ended.new.self in
-    subst (λ j. AreReached (means j) (map (λ x. (state x).part) c.processes.result.now)
-    (map (λ x. (state x).position.clock) c.processes.result.now)) (sym c.job.ensures)
-    (subst (λ ps. AreReached (means now.job) (map (λ x. (state x).part) ps) (map (λ x. (state x).position.clock) ps))
-    (sym c.processes.ensures) (reached_in means state now c.serial-ended.ensures.true_to_model))
+    let handed = g.P.LogicalProcess.handed in
+    let w = c.args.world.now in
+    let v = c.serial-ended.new.self in
+    let clocks = c.args.backlog.now.clocks in
+    subst (λ (j : Job). AreJoined j (map state v.processes.items) (map handed v.processes.items) clocks) (sym c.requires.job)
+    (joined_later means state handed w v c.serial-ended.ensures.handed c.args.rounds c.serial-ended.result
+    c.serial-ended.ensures.rounds clocks
+    (subst (λ (j : Job). AreJoined j (map state w.processes.items) (map handed w.processes.items) clocks) c.requires.job
+    c.requires.joined))
 
-pub write_more-requires-clause-of_run : goal.write_more-requires-clause-of_run
-write_more-requires-clause-of_run g c =
+pub returns-in_err-join_each-clause-true_to_model : goal.returns-in_err-join_each-clause-true_to_model
+returns-in_err-join_each-clause-true_to_model g c =
     let means = g.J.PlannedJob.means in
     let state = g.P.LogicalProcess.state in
-    let start = c.args.world.now in
-    subst (λ j. IsOfRun (means j).limit c.args.before.mark) (sym (c.job.ensures ∙ c.serial-ended.ensures.job))
-    (subst (IsOfRun (means start.job).limit) (sym c.requires.least)
-    (least_of_run (means start.job) (parts_in means state start) (clocks_in means state start)
-    (reached_in means state start c.requires.true_to_model) c.requires.some))
+    let v = c.serial-ended.new.self in
+    subst (IsTrueToModel g.N.OfJob.job) (sym c.join_each.ensures.kept)
+    (subst (λ (j : Job). IsTrueToModel j (kept_by state v)) (ap means c.serial-ended.ensures.job ∙ sym c.requires.job)
+    c.serial-ended.ensures.true_to_model)
 
-pub write_more-requires-clause-order : goal.write_more-requires-clause-order
-write_more-requires-clause-order g c = λ p t at.
+pub returns-in_err-join_each-clause-err : goal.returns-in_err-join_each-clause-err
+returns-in_err-join_each-clause-err g c =
+    OnErr-always _ (falters_at_once g.N.OfJob.job c.args.lines.now (g.W.Write.contents c.args.writer.now) c.args.before
+    c.args.before.mark (omega arith) c.requires.within)
+
+pub write_all-requires-clause-job : goal.write_all-requires-clause-job
+write_all-requires-clause-job g c =
+    c.requires.job
+    ∙ ap g.J.PlannedJob.means (sym (c.job.ensures ∙ c.in_ok-join_each.ensures.job ∙ c.serial-ended.ensures.job))
+
+pub returns-in_err-written-clause-true_to_model : goal.returns-in_err-written-clause-true_to_model
+returns-in_err-written-clause-true_to_model g c =
     let means = g.J.PlannedJob.means in
     let state = g.P.LogicalProcess.state in
-    let start = c.args.world.now in
-    let now = c.serial-ended.new.self in
-    subst (λ j. IsNoLater (means j) c.args.before.mark t) (sym (c.job.ensures ∙ c.serial-ended.ensures.job))
-    (later_clocks means state start now c.serial-ended.ensures.job c.requires.true_to_model c.serial-ended.ensures.true_to_model
-    c.requires.some c.args.rounds c.serial-ended.result c.serial-ended.ensures.rounds c.args.before.mark c.requires.least p t
-    (subst (λ ps. slice_get (map (λ x. (state x).position.clock) ps) p ≡ Some t) c.processes.ensures at))
+    let v = c.serial-ended.new.self in
+    subst (IsTrueToModel g.N.OfJob.job) (sym c.in_ok-join_each.ensures.kept)
+    (subst (λ (j : Job). IsTrueToModel j (kept_by state v)) (ap means c.serial-ended.ensures.job ∙ sym c.requires.job)
+    c.serial-ended.ensures.true_to_model)
 
-pub returns-clause-written : goal.returns-clause-written
-returns-clause-written g c =
-    subst (λ j. GoesOn (g.J.PlannedJob.means j) c.args.lines.now (g.W.Write.contents c.args.writer.now)
-    (g.W.Write.contents c.write_more.new.writer) c.args.before c.in_ok-written.written)
-    (c.job.ensures ∙ c.serial-ended.ensures.job) c.in_ok-written.ensures.ok
+pub returns-clause-true_to_model : goal.returns-clause-true_to_model
+returns-clause-true_to_model g c =
+    let means = g.J.PlannedJob.means in
+    let state = g.P.LogicalProcess.state in
+    let v = c.serial-ended.new.self in
+    subst (IsTrueToModel g.N.OfJob.job) (sym c.in_ok-join_each.ensures.kept)
+    (subst (λ (j : Job). IsTrueToModel j (kept_by state v)) (ap means c.serial-ended.ensures.job ∙ sym c.requires.job)
+    c.serial-ended.ensures.true_to_model)
+
+pub returns-clause-rounds : goal.returns-clause-rounds
+returns-clause-rounds g c =
+    let means = g.J.PlannedJob.means in
+    let state = g.P.LogicalProcess.state in
+    let w = c.args.world.now in
+    let v = c.serial-ended.new.self in
+    let u = c.join_each.new.world in
+    subst (λ (x : World). EndsAs g.N.OfJob.job c.args.rounds c.serial-ended.result (shown means state w) x)
+    (sym (same_shown means state v u c.in_ok-join_each.ensures.job c.in_ok-join_each.ensures.kept))
+    (subst (λ (j : Job). EndsAs j c.args.rounds c.serial-ended.result (shown means state w) (shown means state v)) (sym c.requires.job)
+    c.serial-ended.ensures.rounds)
+
+pub returns-clause-joined : goal.returns-clause-joined
+returns-clause-joined g c =
+    let state = g.P.LogicalProcess.state in
+    let handed = g.P.LogicalProcess.handed in
+    let u = c.join_each.new.world in
+    subst (λ (ts : List Time). AreJoined g.N.OfJob.job (map state u.processes.items) (map handed u.processes.items) ts)
+    (sym c.in_ok-written.ensures.clocks) c.in_ok-join_each.ensures.joined
+
+pub returns-clause-least : goal.returns-clause-least
+returns-clause-least g c =
+    let means = g.J.PlannedJob.means in
+    let state = g.P.LogicalProcess.state in
+    let job = g.N.OfJob.job in
+    let v = c.serial-ended.new.self in
+    let u = c.join_each.new.world in
+    let mark = c.in_ok-written.written.mark in
+    let job_is = c.in_ok-join_each.ensures.job in
+    let true_to = still_true means state v u job_is c.in_ok-join_each.ensures.kept c.serial-ended.ensures.true_to_model in
+    let meant = ap means (job_is ∙ c.serial-ended.ensures.job) ∙ sym c.requires.job in
+    let clocks = are_clocks_in means state u true_to in
+    let same = c.in_ok-written.ensures.clocks ∙ c.in_ok-join_each.ensures.clocks in
+    least_is job.limit mark (clocks_in means state u) c.in_ok-written.ensures.ok.of_run
+    (λ p t at. let h = clocks.within p t at in subst (λ (j : Job). t.micro ≤ j.limit) meant h.0)
+    (subst (IsLeast mark) same c.in_ok-written.ensures.least)

@@ -1,17 +1,19 @@
 use Rattle.std.proofs.Common.{◌≡◌, ◌<◌, ◌≤◌, map, refl, sym, ap, subst, ◌∙◌, arith}
+use Rattle.std.proofs.lemmas.List.Elements.{All-weaker}
 use Rattle.dv_time.specs.Time.{end_of, rank}
+use Rattle.dv_bag.specs.Part.{nothing}
 use Rattle.dv_conservative.specs.World.{World, new_world}
 use Rattle.dv_core.specs.Conservative.{state_by}
 use Rattle.dv_core.specs.Worlds.{EndsAs, kept_by, shown}
 use Rattle.dv_local.specs.States.{view_by}
-use Rattle.dv_record.specs.Told.{told_of}
+use Rattle.dv_record.specs.Tails.{handed_of, told_of}
+use Rattle.dv_record.specs.Told.{Handed, no_text}
 use Rattle.dv_serial.specs.Runs.{HasRun}
 use Rattle.dv_serial.specs.declared.ran.Committed.{Committed}
 use Rattle.dv_serial.proofs.Running.{clocks_of_world}
 use Rattle.dv_text.proofs.Taking.{AppendsBeginning-nothing, OnErr-always}
 use Rattle.dv_stream.specs.Written.{IsBegun, IsWrittenTo, lines_before}
-use Rattle.dv_stream.proofs.Between.{least_within}
-use Rattle.dv_stream.proofs.Worlds.{clocks_in, parts_in, reached_in}
+use Rattle.dv_stream.proofs.Worlds.{are_clocks_in, clocks_in, least_within}
 use Rattle.dv_stream.proofs.Writing.{begun_to}
 use Rattle.dv_stream.proofs.rounds.stream_plan.Goals as goal
 
@@ -19,23 +21,28 @@ pub returns-in_err-to-clause-err : goal.returns-in_err-to-clause-err
 returns-in_err-to-clause-err g c =
     let job = g.J.PlannedJob.means c.args.job in
     let known = g.W.Write.contents c.args.writer.now in
-    let nothing : IsBegun job c.args.lines.now known known = record {
+    let none : IsBegun job c.args.lines.now known known = record {
       upto = 0;
       within = omega arith;
       text = AppendsBeginning-nothing known (lines_before job c.args.lines.now 0);
     } in
-    OnErr-always _ nothing
+    OnErr-always _ none
 
 pub returns-in_err-world-clause-err : goal.returns-in_err-world-clause-err
 returns-in_err-world-clause-err g c =
     let job = g.J.PlannedJob.means c.args.job in
     let known = g.W.Write.contents c.args.writer.now in
-    let nothing : IsBegun job c.args.lines.now known known = record {
+    let none : IsBegun job c.args.lines.now known known = record {
       upto = 0;
       within = omega arith;
       text = AppendsBeginning-nothing known (lines_before job c.args.lines.now 0);
     } in
-    OnErr-always _ nothing
+    OnErr-always _ none
+
+pub stream_rounds-requires-clause-kept : goal.stream_rounds-requires-clause-kept
+stream_rounds-requires-clause-kept g c =
+    All-weaker (λ p. handed_of p.local.record ≡ no_text) (λ p. (handed_of p.local.record).past ≡ nothing)
+    (λ p same. ap (λ (h : Handed). h.past) same) c.in_ok-world.world.processes.items c.in_ok-world.ensures.handed
 
 pub returns-in_err-clocks-clause-err : goal.returns-in_err-clocks-clause-err
 returns-in_err-clocks-clause-err g c =
@@ -54,8 +61,8 @@ returns-in_err-clocks-clause-err g c =
     = subst (λ j. rank (means j).limit w.mark ≤ end_of (means j).limit (means j).horizon) same
     (subst (λ t. rank (means after.job).limit t ≤ end_of (means after.job).limit (means after.job).horizon)
     (sym c.in_ok-ended.ensures.least)
-    (least_within (means after.job) (parts_in means state after) (clocks_in means state after)
-    (reached_in means state after c.in_ok-ended.ensures.true_to_model) some)) in
+    (least_within (means after.job) (shown means state after) (clocks_in means state after)
+    (are_clocks_in means state after c.in_ok-ended.ensures.true_to_model) some)) in
     OnErr-always _ (begun_to (means c.args.job) tree start now w
     (subst (λ j. IsWrittenTo (means j) tree start now w) first c.in_ok-ended.ensures.written) within)
 

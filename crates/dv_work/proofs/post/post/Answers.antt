@@ -1,18 +1,32 @@
-use Rattle.std.proofs.Common.{sym, ap, subst, ◌∙◌}
-use Rattle.dv_bag.specs.Part.{IsByTime, since}
-use Rattle.dv_work.proofs.Posting.{part_is_by_time, posted_is_piece}
+use Rattle.dv_work.proofs.Sitting.{emptied_holds, emptied_sits, emptied_told}
 use Rattle.dv_work.proofs.post.post.Goals as goal
 
-pub piece_since-requires : goal.piece_since-requires
-piece_since-requires g c =
-    subst IsByTime (sym c.committed.ensures)
-    (part_is_by_time g.N.OfJob.job g.P.LogicalProcess.state c.args.seat.now c.requires)
+pub returns-in_err-post-clause-sits : goal.returns-in_err-post-clause-sits
+returns-in_err-post-clause-sits g c =
+    emptied_sits g.N.OfJob.job g.P.LogicalProcess.state g.P.LogicalProcess.handed g.P.LogicalProcess.valid c.args.floor.now.links.now
+    c.args.seat.now c.requires c.piece-piece.new.self c.piece-piece.ensures.moved
 
-pub post-requires : goal.post-requires
-post-requires g c =
-    let job = g.N.OfJob.job in
-    let reports = c.requires in
-    let early = sym c.if-not-is_before.ensures.order in
-    posted_is_piece job g.P.LogicalProcess.state c.args.seat.now reports c.clock-kept.result c.clock-clock.result
-    c.clock-clock.ensures c.clock-kept.ensures early c.in-Ok.part
-    (c.in-Ok.ensures ∙ ap (since c.clock-kept.result) c.committed.ensures)
+pub returns-in_err-post-clause-told : goal.returns-in_err-post-clause-told
+returns-in_err-post-clause-told g c =
+    emptied_told g.N.OfJob.job g.P.LogicalProcess.state g.P.LogicalProcess.handed g.P.LogicalProcess.valid c.args.floor.now.links.now
+    c.args.seat.now c.requires c.piece-piece.new.self c.piece-piece.ensures.moved
+
+pub returns-in_err-post-clause-put : goal.returns-in_err-post-clause-put
+returns-in_err-post-clause-put g c =
+    emptied_holds g.N.OfJob.job g.P.LogicalProcess.state g.P.LogicalProcess.handed g.P.LogicalProcess.valid c.args.floor.now.links.now
+    c.args.seat.now c.requires c.piece-piece.new.self c.piece-piece.ensures.moved
+
+pub returns-clause-sits : goal.returns-clause-sits
+returns-clause-sits g c =
+    emptied_sits g.N.OfJob.job g.P.LogicalProcess.state g.P.LogicalProcess.handed g.P.LogicalProcess.valid c.args.floor.now.links.now
+    c.args.seat.now c.requires c.piece-piece.new.self c.piece-piece.ensures.moved
+
+pub returns-clause-told : goal.returns-clause-told
+returns-clause-told g c =
+    emptied_told g.N.OfJob.job g.P.LogicalProcess.state g.P.LogicalProcess.handed g.P.LogicalProcess.valid c.args.floor.now.links.now
+    c.args.seat.now c.requires c.piece-piece.new.self c.piece-piece.ensures.moved
+
+pub returns-clause-put : goal.returns-clause-put
+returns-clause-put g c =
+    emptied_holds g.N.OfJob.job g.P.LogicalProcess.state g.P.LogicalProcess.handed g.P.LogicalProcess.valid c.args.floor.now.links.now
+    c.args.seat.now c.requires c.piece-piece.new.self c.piece-piece.ensures.moved

@@ -1,26 +1,32 @@
-use Rattle.std.proofs.Common.{[], ◌∷◌, length, refl, arith, ap, length-append}
-use Rattle.dv_bag.specs.Part.{nothing}
+use Rattle.std.proofs.Common.{◌≡◌, ◌<◌, [], ◌∷◌, length, sym, ap, arith, length-append}
+use Rattle.dv_board.specs.Posts.{IsPiece}
+use Rattle.dv_board.specs.declared.posts.Piece.{Piece}
 use Rattle.dv_conservative.specs.Process.{first_time}
-use Rattle.dv_work.proofs.Reporting.{all_more, none_reached}
+use Rattle.dv_work.proofs.Making.{snoc_each}
+use Rattle.dv_work.proofs.Reporting.{none_is_piece}
 use Rattle.dv_work.proofs.report.nothing.Goals as goal
 
 pub returns : goal.returns
 returns g c =
     let is = c.loop-process.invariant in
-    none_reached g.N.OfJob.job c.loop-process.parts.items c.loop-process.clocks.items
-    (let e = is.parts in omega (arith, e, c.requires, c.loop-process-test.false, c.loop-process.auto._process-end))
-    (let e = is.clocks in omega (arith, e, c.requires, c.loop-process-test.false, c.loop-process.auto._process-end))
-    is.nothing is.first
+    record {
+      count = (let e = is.count in omega (arith, e, c.requires.count, c.loop-process-test.false, c.loop-process.auto.process-end));
+      numbers = is.numbers;
+      each = is.each;
+    }
 
 pub loop-process-preserved : goal.loop-process-preserved
 loop-process-preserved g c =
     let is = c.loop-process.invariant in
-    let parts = c.in_ok-push.ensures.items in
-    let clocks = c.in_ok-push-2.ensures.items in record {
-      parts = (let e = is.parts in let l = ap length parts in let k = length-append c.loop-process.parts.items (c.new.result ∷ []) in
-          omega arith);
-      clocks = (let e = is.clocks in let l = ap length clocks in let k = length-append c.loop-process.clocks.items (first_time ∷ []) in
-          omega arith);
-      nothing = all_more nothing c.loop-process.parts.items c.push.new.self.items _ parts c.new.ensures is.nothing;
-      first = all_more first_time c.loop-process.clocks.items c.push-in-loop-process.new.self.items _ clocks refl is.first;
+    let job = g.N.OfJob.job in
+    let old = c.loop-process.rest.items in
+    let items = c.in_ok-push.ensures.items in
+    let n = c.loop-process.process in
+    let made : Piece = record { process = n; from = first_time; clock = first_time; part = c.new.result } in
+    let place : n < job.processes = omega (arith, c.requires.count, c.loop-process-test.true, c.loop-process.auto.process-end) in
+    record {
+      count = (let e = is.count in let l = ap length items in let k = length-append old (made ∷ []) in omega arith);
+      numbers = snoc_each (λ p (x : Piece). x.process ≡ p) old c.push.new.self.items made items is.numbers (sym is.count);
+      each = snoc_each (λ p (x : Piece). IsPiece job x) old c.push.new.self.items made items is.each
+          (none_is_piece job n place c.new.result c.new.ensures);
     }

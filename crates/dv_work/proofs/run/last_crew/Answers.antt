@@ -10,12 +10,12 @@ use Rattle.dv_work.proofs.run.last_crew.Goals as goal
 pub returns-clause-one : goal.returns-clause-one
 returns-clause-one g c =
     let S : Vec (Seat g.row.P.Denot) Global → Type 0
-    = λ v. Seated g.N.OfJob.job g.P.LogicalProcess.state g.P.LogicalProcess.valid c.args.links.now v in
+    = λ v. Seated g.N.OfJob.job g.P.LogicalProcess.state g.P.LogicalProcess.handed g.P.LogicalProcess.valid c.args.links.now v in
     subst (λ o. IfSome o S) c.in_ok-crew.was
     (All-pop S c.args.crews.now.items c.pop-2.new.self.items c.pop-2.result c.pop-2.ensures.items c.requires).1
 
 pub returns-clause-rest : goal.returns-clause-rest
 returns-clause-rest g c =
     let S : Vec (Seat g.row.P.Denot) Global → Type 0
-    = λ v. Seated g.N.OfJob.job g.P.LogicalProcess.state g.P.LogicalProcess.valid c.args.links.now v in
+    = λ v. Seated g.N.OfJob.job g.P.LogicalProcess.state g.P.LogicalProcess.handed g.P.LogicalProcess.valid c.args.links.now v in
     (All-pop S c.args.crews.now.items c.pop-2.new.self.items c.pop-2.result c.pop-2.ensures.items c.requires).0

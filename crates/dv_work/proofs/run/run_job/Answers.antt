@@ -14,15 +14,15 @@ crews_of-requires-clause-seats g c =
     let job = g.N.OfJob.job in
     let are = c.in_ok-links.ensures in
     subst (λ (ls : List (Link g.row.N.Denot)).
-    All (λ (s : Seat g.row.P.Denot). Sits job g.P.LogicalProcess.state g.P.LogicalProcess.valid ls s) c.connect.new.seats.items)
+    All (λ (s : Seat g.row.P.Denot). Sits job g.P.LogicalProcess.state g.P.LogicalProcess.handed g.P.LogicalProcess.valid ls s) c.connect.new.seats.items)
     (sym c.deref.ensures.value)
-    (all_sit job g.P.LogicalProcess.state g.P.LogicalProcess.valid c.in_ok-links.links.items are.0 are.0
+    (all_sit job g.P.LogicalProcess.state g.P.LogicalProcess.handed g.P.LogicalProcess.valid c.in_ok-links.links.items are.0 are.0
     c.connect.new.seats.items are.1)
 
 pub run_crews-requires-clause-seated : goal.run_crews-requires-clause-seated
 run_crews-requires-clause-seated g c κs _ =
     let job = g.N.OfJob.job in
     subst (λ (ls : List (Link g.row.N.Denot)).
-    All (λ (v : Vec (Seat g.row.P.Denot) Global). Seated job g.P.LogicalProcess.state g.P.LogicalProcess.valid ls v)
+    All (λ (v : Vec (Seat g.row.P.Denot) Global). Seated job g.P.LogicalProcess.state g.P.LogicalProcess.handed g.P.LogicalProcess.valid ls v)
     c.in_ok-crews.crews.items)
     (c.deref.ensures.value ∙ sym c.deref-2.ensures.value) c.in_ok-crews.ensures.seated

@@ -5,15 +5,15 @@ use Rattle.dv_work.proofs.run.start_and_join.Given as goal
 
 abbrev pub invariant-loop-crew : goal.invariant-loop-crew
 invariant-loop-crew g l =
-    (length l.crews.items ≤ length l.floor.bells.now)
-    × All (Seated g.N.OfJob.job g.P.LogicalProcess.state g.P.LogicalProcess.valid l.floor.links.now) l.crews.items
-    × All (Reported g.N.OfJob.job g.P.LogicalProcess.state) l.all.items
+    (length l.crews.items ≤ length l.floor.stream.bells.now)
+    × All (Seated g.N.OfJob.job g.P.LogicalProcess.state g.P.LogicalProcess.handed g.P.LogicalProcess.valid l.floor.links.now) l.crews.items
+    × All (Reported g.N.OfJob.job g.P.LogicalProcess.state g.P.LogicalProcess.handed g.P.LogicalProcess.valid) l.all.items
 
 abbrev pub decreases-loop-crew : goal.decreases-loop-crew
 decreases-loop-crew g l = vec_len l.crews
 
 abbrev pub invariant-loop-worked : goal.invariant-loop-worked
-invariant-loop-worked g l = All (Reported g.N.OfJob.job g.P.LogicalProcess.state) l.all.items
+invariant-loop-worked g l = All (Reported g.N.OfJob.job g.P.LogicalProcess.state g.P.LogicalProcess.handed g.P.LogicalProcess.valid) l.all.items
 
 abbrev pub decreases-loop-worked : goal.decreases-loop-worked
 decreases-loop-worked g l = vec_len l.handles

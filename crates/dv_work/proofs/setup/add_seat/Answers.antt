@@ -6,7 +6,7 @@ use Rattle.dv_work.proofs.setup.add_seat.Goals as goal
 pub returns : goal.returns
 returns g c =
     let P : Seat g.row.P.Denot → Type 0
-    = λ s. Sits g.N.OfJob.job g.P.LogicalProcess.state g.P.LogicalProcess.valid c.args.links.now s in
+    = λ s. Sits g.N.OfJob.job g.P.LogicalProcess.state g.P.LogicalProcess.handed g.P.LogicalProcess.valid c.args.links.now s in
     record {
       sits = All-same P c.push.new.self.items _ c.in_ok-push.ensures.items
           (All-push P c.args.crew.now.items c.args.seat c.requires.crew.sits c.requires.seat);

@@ -7,7 +7,7 @@ use Rattle.dv_work.proofs.setup.crews_of.Given as goal
 
 abbrev pub invariant-loop-seat : goal.invariant-loop-seat
 invariant-loop-seat g l = record {
-  rest : All (Sits g.N.OfJob.job g.P.LogicalProcess.state g.P.LogicalProcess.valid l.links) (into_iter_items l.seat-iterator);
+  rest : All (Sits g.N.OfJob.job g.P.LogicalProcess.state g.P.LogicalProcess.handed g.P.LogicalProcess.valid l.links) (into_iter_items l.seat-iterator);
   count : length l.crews.items ≡ l.workers;
-  seated : All (Seated g.N.OfJob.job g.P.LogicalProcess.state g.P.LogicalProcess.valid l.links) l.crews.items;
+  seated : All (Seated g.N.OfJob.job g.P.LogicalProcess.state g.P.LogicalProcess.handed g.P.LogicalProcess.valid l.links) l.crews.items;
 }

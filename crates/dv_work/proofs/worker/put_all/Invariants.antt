@@ -4,6 +4,6 @@ use Rattle.dv_work.proofs.worker.put_all.Given as goal
 
 abbrev pub invariant-loop-place : goal.invariant-loop-place
 invariant-loop-place g l =
-    Sits g.N.OfJob.job g.P.LogicalProcess.state g.P.LogicalProcess.valid l.floor.links.now l.seat
+    Sits g.N.OfJob.job g.P.LogicalProcess.state g.P.LogicalProcess.handed g.P.LogicalProcess.valid l.floor.links.now l.seat
     × (length l.seat.outs.items ≡ length l.fn.seat.outs.items)
     × (l.are_nulls_due ≡ true → l.moved ≡ false → HasToldAtFirst g.P.LogicalProcess.state l.place l.seat)

@@ -7,6 +7,6 @@ use Rattle.dv_work.proofs.worker.round.Given as goal
 
 abbrev pub invariant-loop-i : goal.invariant-loop-i
 invariant-loop-i g l =
-    All (Sits g.N.OfJob.job g.P.LogicalProcess.state g.P.LogicalProcess.valid l.floor.links.now) l.seats
+    All (Sits g.N.OfJob.job g.P.LogicalProcess.state g.P.LogicalProcess.handed g.P.LogicalProcess.valid l.floor.links.now) l.seats
     × (l.all ≢ Moved → (k : ℕ) (s : Seat g.row.P.Denot) → k < l.i → HasToldAll g.P.LogicalProcess.state (slice_index_or l.seats k s))
     × (l.all ≡ Done → (k : ℕ) (s : Seat g.row.P.Denot) → k < l.i → HoldsNone (slice_index_or l.seats k s))

@@ -4,5 +4,5 @@ use Rattle.dv_work.proofs.worker.take_all.Given as goal
 
 abbrev pub invariant-loop-place : goal.invariant-loop-place
 invariant-loop-place g l =
-    Sits g.N.OfJob.job g.P.LogicalProcess.state g.P.LogicalProcess.valid l.floor.links.now l.seat
+    Sits g.N.OfJob.job g.P.LogicalProcess.state g.P.LogicalProcess.handed g.P.LogicalProcess.valid l.floor.links.now l.seat
     × (length l.seat.ins.items ≡ length l.fn.seat.ins.items)

@@ -1,4 +1,4 @@
-use Rattle.std.proofs.Common.{◌≡◌, ◌<◌, length, set, Some, sym, ap, subst, ◌∙◌, arith}
+use Rattle.std.proofs.Common.{◌≡◌, ◌<◌, length, set, Some, refl, sym, ap, subst, ◌∙◌, arith}
 use Rattle.std.proofs.lemmas.Option.{slice_get-get_or}
 use Rattle.dv_time.specs.declared.time.Time.{Time}
 use Rattle.dv_board.specs.declared.held.Held.{Held}
@@ -6,6 +6,22 @@ use Rattle.dv_board.specs.Backlogs.{BacklogOf, IsHeld, clock_of}
 use Rattle.dv_board.specs.Clocks.{IsNoLater, IsSooner, later}
 use Rattle.dv_board.proofs.Places.{clock_of_piece, clock_read, clocks_of, clocks_set, held_set, no_later, piece_is_held, sooner}
 use Rattle.dv_board.proofs.backlog.Backlog.extend.Goals as goal
+
+pub returns-then-is_before-clause-refused : goal.returns-then-is_before-clause-refused
+returns-then-is_before-clause-refused g c =
+    let job = g.N.OfJob.job in
+    let held = c.self.inside.held.items in
+    let p = c.args.piece.process in
+    let h = c.index_mut-held.result.now in
+    let many = c.self.invariant.many in
+    let within : p < length held = omega (arith, many, c.requires.process) in
+    let at = c.index_mut-held.ensures.value in
+    let is = c.self.invariant.each p h (slice_get-get_or held p h within ∙ ap Some (sym at)) in (
+      refl,
+      sym (subst (λ (b : BacklogOf). clock_of b p ≡ h.clock) c.self.view_is (clock_read held p h within at)),
+      is.of_run,
+      sooner job h.clock c.args.piece.from is.of_run c.requires.from_of_run (sym c.is_before.ensures.order ∙ c.if-is_before.true),
+    )
 
 pub returns-in-Err-clause-refused : goal.returns-in-Err-clause-refused
 returns-in-Err-clause-refused g c =

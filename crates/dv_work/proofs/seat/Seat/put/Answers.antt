@@ -23,10 +23,11 @@ returns-then-not-put_held-clause-sits g c =
     record {
       valid = sits.valid;
       fed = sits.fed;
-      outs = given_outs g.N.OfJob.job g.P.LogicalProcess.state g.P.LogicalProcess.valid c.args.floor.now.links.now s sits
+      outs = given_outs g.N.OfJob.job g.P.LogicalProcess.state g.P.LogicalProcess.handed g.P.LogicalProcess.valid c.args.floor.now.links.now s sits
           c.args.place c.index_mut-end.result.now c.put_held.new.end read c.put_held.ensures.number c.put_held.ensures.end
           c.put_held.ensures.given;
       ins = sits.ins;
+      posted = sits.posted;
     }
 
 pub returns-clause-sits : goal.returns-clause-sits
@@ -39,8 +40,9 @@ returns-clause-sits g c =
     record {
       valid = sits.valid;
       fed = sits.fed;
-      outs = given_outs g.N.OfJob.job g.P.LogicalProcess.state g.P.LogicalProcess.valid c.args.floor.now.links.now s sits
+      outs = given_outs g.N.OfJob.job g.P.LogicalProcess.state g.P.LogicalProcess.handed g.P.LogicalProcess.valid c.args.floor.now.links.now s sits
           c.args.place c.index_mut-end.result.now c.put_held.new.end read c.put_held.ensures.number c.put_held.ensures.end
           c.put_held.ensures.given;
       ins = sits.ins;
+      posted = sits.posted;
     }

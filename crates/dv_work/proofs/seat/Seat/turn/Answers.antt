@@ -3,5 +3,5 @@ use Rattle.dv_work.proofs.seat.Seat.turn.Goals as goal
 
 pub returns : goal.returns
 returns g c =
-    after_turn g.N.OfJob.job g.P.LogicalProcess.state g.P.LogicalProcess.valid c.args.floor.now.links.now c.args.self.now
-    c.requires c.turn.new.self c.turn.ensures.valid c.turn.result c.turn.ensures.ok c.turn.ensures.err
+    after_turn g.N.OfJob.job g.P.LogicalProcess.state g.P.LogicalProcess.handed g.P.LogicalProcess.valid c.args.floor.now.links.now c.args.self.now
+    c.requires c.turn.new.self c.turn.ensures.valid c.turn.ensures.handed c.turn.result c.turn.ensures.ok c.turn.ensures.err

@@ -1,0 +1,81 @@
+//! What was told of a run, kept for contracts alone. It takes no memory, and its methods do nothing at run time.
+
+ghost use Rattle.std.specs.Prelude.{◌≡◌, ◌∷◌, [], ◌++◌};
+ghost use Rattle.std.specs.Borrow.{ftrue};
+ghost use Rattle.dv_bag.specs.Part.{PartOf, joined, nothing};
+ghost use Rattle.dv_bag.specs.declared.entry.What.TheVariants as what;
+ghost use Rattle.dv_record.specs.Told.{entry, lines_from};
+
+use dv_bag::{Bags, Fault, Kind, Part, Sent, State};
+use dv_time::Time;
+use std::marker::Model;
+
+/// All that was told so far, which a clause reads as `part`. Nothing of it is in memory.
+#[derive(Drop)]
+pub struct History {
+    pub ghost part: { PartOf },
+}
+
+impl Model for History {
+    ghost also_owns = { λ _. ftrue };
+}
+
+impl History {
+    /// Nothing was told.
+    pub fn new() -> History
+        ensures { result.part ≡ nothing }
+    {
+        History {}
+    }
+
+    /// The same once more.
+    pub fn again(&self) -> History
+        ensures { result.part ≡ self.now.part }
+    {
+        History {}
+    }
+
+    /// With a part, behind all that was told.
+    pub fn and_part(&self, more: &Part) -> History
+        ensures { result.part ≡ joined self.now.part more.now }
+    {
+        History {}
+    }
+
+    /// With a transition of a component at a time, behind all that was told.
+    pub fn and_moved(
+        &self,
+        time: &Time,
+        component: &u32,
+        kind: &Kind,
+        state: &State,
+        sent: &Sent,
+    ) -> History
+        ensures { result.part ≡ record self.now.part {
+          entries = self.now.part.entries ++ entry time.now component.now
+              (what.Transition kind.now state.now) sent.now ∷ [];
+        } }
+    {
+        History {}
+    }
+
+    /// With a fault of a component at a time, behind all that was told.
+    pub fn and_faulted(&self, time: &Time, component: &u32, fault: &Fault, sent: &Sent) -> History
+        ensures { result.part ≡ record self.now.part {
+          entries = self.now.part.entries
+              ++ entry time.now component.now (what.Fault fault.now) sent.now ∷ [];
+        } }
+    {
+        History {}
+    }
+
+    /// With what left by the ports at a time, behind all that was told.
+    pub fn and_left(&self, time: &Time, values: &Bags) -> History
+        ensures { result.part ≡ record self.now.part {
+          outer = self.now.part.outer
+              ++ lines_from time.now 0 values.now;
+        } }
+    {
+        History {}
+    }
+}

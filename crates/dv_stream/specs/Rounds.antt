@@ -1,0 +1,13 @@
+-- What is joined of the processes of a world between rounds.
+use Rattle.std.specs.Prelude.{◌≡◌, ℕ, List, length, slice_get, Some}
+use Rattle.dv_time.specs.declared.time.Time.{Time}
+use Rattle.dv_conservative.specs.World.{Job}
+use Rattle.dv_core.specs.ProcessState.{ProcessState}
+use Rattle.dv_record.specs.Told.{Handed}
+use Rattle.dv_work.specs.Seats.{HasHandedOver}
+
+-- by the numbers of processes: each has handed over its part before the clock up to which it is kept
+pub record AreJoined (job : Job) (states : List ProcessState) (handed : List Handed) (clocks : List Time) : Type 0 where
+  pub count : length clocks ≡ job.processes
+  pub each : (p : ℕ) (x : ProcessState) (h : Handed) (t : Time) → slice_get states p ≡ Some x → slice_get handed p ≡ Some h
+      → slice_get clocks p ≡ Some t → HasHandedOver job p x h t
