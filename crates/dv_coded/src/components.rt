@@ -29,7 +29,7 @@ use dv_bag::Response;
 use dv_eval::{Scope, start_state};
 use dv_gen::laws::states_fit_the_tables;
 use dv_react::Running;
-use dv_share::Member;
+use dv_share::{Member, Start};
 use dv_syntax::Atomic;
 use dv_tree::Tree;
 use std::alloc::{AllocError, Global};
@@ -140,7 +140,7 @@ fn member(
         model,
         inputs: programs.code.tables.inputs(),
         outputs: programs.code.tables.outputs(),
-        start,
+        start: Start::new(bench.alloc, start)?,
     })
 }
 

@@ -8,8 +8,8 @@ use Rattle.dv_devs.specs.Network.{components_at, trace_before}
 use Rattle.dv_conservative.specs.Events.{Event, deliveries_at, events_between}
 use Rattle.dv_conservative.specs.Flat.{network, sends_by}
 use Rattle.dv_conservative.specs.Links.{Delivery}
-use Rattle.dv_conservative.specs.Process.{Outgoing, Packet, Share, all_events, at_most, channel_clock, end_rank, events_by}
-use Rattle.dv_conservative.specs.Process.{events_in, first_from, least_clock, least_of, packet_of, part_by, promise, refusal_of}
+use Rattle.dv_conservative.specs.Process.{Outgoing, Packet, Share, all_events, at_most, channel_clock, components_by, end_rank}
+use Rattle.dv_conservative.specs.Process.{events_by, events_in, first_from, least_clock, least_of, packet_of, part_by, promise, refusal_of}
 use Rattle.dv_conservative.specs.Promise.{foreseen}
 use Rattle.dv_conservative.specs.Turn.{AllMayBecome, AllPromised, AllStayOn, IsPromised, IsTurnOf, MayBecome, Position, Prepares, StaysOn}
 
@@ -64,6 +64,9 @@ module _ (s : Share) (f g : ℕ → List Packet) (same : AllReceiveTheSame s.inc
 
   packet_alike : (out : Outgoing) (from upto : Time) → packet_of s (events_by f) out from upto ≡ packet_of s (events_by g) out from upto
   packet_alike out from upto = ap (packet_by s out from upto) events_alike
+
+  pub components_alike : (n : ℕ) → components_by s (events_by f) n ≡ components_by s (events_by g) n
+  components_alike n = ap (λ (events : List Event). components_at s.limit (network s.flat) (inputs_of s events) n) events_alike
 
   pub part_alike : (n : ℕ) → part_by s (events_by f) n ≡ part_by s (events_by g) n
   part_alike n = ap (λ (events : List Event). trace_before s.limit (network s.flat) (inputs_of s events) n) events_alike

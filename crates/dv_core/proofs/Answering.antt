@@ -198,9 +198,9 @@ module _ {J P : Type 0} {IsValid : P → Type 0} {means : J → Job} {state : P 
         (kept_alike w.capacity (map state (set w.processes.items p y)) (set k.states p (state y)) k.stopped k.queued k.queued
         (map_set state w.processes.items p y) refl)
         (step.Turn p) reply.Done
-        (turned_step job k stands.kept p (state x) (state y) seen h.share h.received h.committed h.turn stands.reached free)
-        (turned_progress job k stands.kept p (state x) (state y) seen h.share h.received h.committed h.turn stands.reached)
-        (turned_stands job k stands.kept p (state x) (state y) seen h.share h.received h.committed h.turn)
+        (turned_step job k stands.kept p (state x) (state y) seen h.share h.received h.committed h.components h.turn stands.reached free)
+        (turned_progress job k stands.kept p (state x) (state y) seen h.share h.received h.committed h.components h.turn stands.reached)
+        (turned_stands job k stands.kept p (state x) (state y) seen h.share h.received h.committed h.components h.turn)
 
 -- where a process was changed, and that cannot be seen
 module _ {J P : Type 0} {IsValid : P → Type 0} {means : J → Job} {state : P → ProcessState} (w : WorldState J P)

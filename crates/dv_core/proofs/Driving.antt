@@ -9,19 +9,20 @@ use Rattle.dv_time.specs.Time.{end_of, rank}
 use Rattle.dv_time.specs.declared.time.Time.{Time}
 use Rattle.dv_bag.specs.Part.{PartOf}
 use Rattle.dv_bag.specs.declared.entry.Outer.{Outer}
+use Rattle.dv_devs.specs.Network.{components_at}
 use Rattle.dv_devs.specs.Outside.{union_of_lines}
 use Rattle.dv_devs.specs.Parts.{part_before}
 use Rattle.dv_devs.proofs.Parts.{part_entries}
 use Rattle.dv_conservative.specs.True.{united}
 use Rattle.dv_conservative.proofs.Wholes.{all_united}
-use Rattle.dv_conservative.specs.Flat.{whole}
-use Rattle.dv_conservative.specs.Process.{IsWithin, events_by, least_clock, part_by}
+use Rattle.dv_conservative.specs.Flat.{kept, numbers, whole}
+use Rattle.dv_conservative.specs.Process.{IsWithin, components_by, events_by, least_clock, part_by}
 use Rattle.dv_conservative.specs.Rounds.{AllHaveSources, AreRounds, HadMemory, Progressed, moves_from, turns_from}
 use Rattle.dv_conservative.specs.World.{Channel, IsRun, IsStep, Job, World, Put, Take, Turn, all_of, new_world, owned}
 use Rattle.dv_conservative.specs.World.{received_in, share_of}
 use Rattle.dv_conservative.specs.World as theory
-use Rattle.dv_conservative.proofs.SameRuns.{same_limit, same_part}
-use Rattle.dv_conservative.proofs.Holding.{Holds, holds_after, holds_at_first, part_now}
+use Rattle.dv_conservative.proofs.SameRuns.{same_components, same_limit, same_part}
+use Rattle.dv_conservative.proofs.Holding.{Holds, components_now, holds_after, holds_at_first, part_now}
 use Rattle.dv_conservative.proofs.Rounding.{all_at_end}
 use Rattle.dv_proc.specs.Channels.{meant_channel}
 use Rattle.dv_core.specs.Answers.{meant_reply, meant_step}
@@ -34,7 +35,7 @@ use Rattle.dv_core.specs.declared.step.Step.{Step}
 use Rattle.dv_core.specs.declared.step.Reply.{Reply}
 use Rattle.dv_core.specs.declared.step.Reply.TheVariants as reply
 use Rattle.dv_core.specs.declared.state.WorldState.{WorldState}
-use Rattle.dv_core.proofs.Alike.{part_alike}
+use Rattle.dv_core.proofs.Alike.{components_alike, part_alike}
 use Rattle.dv_core.proofs.Lookups.{drop_all, some_at}
 use Rattle.dv_core.proofs.Standing.{agree_received}
 
@@ -122,6 +123,23 @@ module _ {J P : Type 0} {IsValid : P → Type 0} {means : J → Job} {state : P 
       ∙ part_now stands.reached.fits job stands.reached.sound shown_world holds p
       ∙ ap (λ (t : Time). part_before (owned job p) job.limit (whole job.flat) job.outside (rank job.limit t)) clock
 
+  its_components : (p : ℕ) (x : ProcessState) → slice_get k.states p ≡ Some x →
+      x.components ≡ kept (owned job p) (numbers job.flat.members)
+      (components_at job.limit (whole job.flat) job.outside (rank job.limit x.position.clock))
+  its_components p x there =
+      let clock : shown_world.clock p ≡ x.position.clock = ap clock_of there in
+      stands.kept.components p x there
+      ∙ same_components x.share (share_of job p) (stands.kept.shares p x there) (events_by x.received)
+      (rank x.share.limit x.position.clock)
+      ∙ ap (λ (limit : ℕ). components_by (share_of job p) (events_by x.received) (rank limit x.position.clock))
+      (same_limit x.share (share_of job p) (stands.kept.shares p x there))
+      ∙ components_alike (share_of job p) x.received (received_in shown_world) (agree_received job k p x there)
+      (rank job.limit x.position.clock)
+      ∙ ap (λ (t : Time). components_by (share_of job p) (events_by (received_in shown_world)) (rank job.limit t)) (sym clock)
+      ∙ components_now stands.reached.fits job stands.reached.sound shown_world holds p
+      ∙ ap (λ (t : Time). kept (owned job p) (numbers job.flat.members)
+      (components_at job.limit (whole job.flat) job.outside (rank job.limit t))) clock
+
   pub true_to_model : IsTrueToModel job k
   true_to_model = record {
     count = stands.kept.processes;
@@ -131,6 +149,7 @@ module _ {J P : Type 0} {IsValid : P → Type 0} {means : J → Job} {state : P 
         (holds.clocks p);
     within = λ p x there. subst (IsWithin (share_of job p)) (ap clock_of there) (holds.within p);
     parts = its_part;
+    components = its_components;
   }
 
   pub all_parts : IsWhole job shown_world → HaveAllParts job k.states

@@ -111,6 +111,7 @@ module _ (states : List ProcessState) (new : (p : ℕ) (x : ProcessState) → sl
       ends = ends;
       shares = shares;
       committed = λ p x there. let is_new = new p x there in is_new.committed;
+      components = λ p x there. let is_new = new p x there in is_new.components;
       promised = λ l c x e there. let is_new = new c.source x there in is_new.promised l ∙ ap promised_on (sym (new_link l (Some c)));
     }
 

@@ -5,7 +5,7 @@ use Rattle.std.proofs.Math.ListN.{set, length-set}
 use Rattle.dv_time.specs.Time.{rank}
 use Rattle.dv_time.specs.declared.time.Time.{Time}
 use Rattle.dv_conservative.specs.Alike.{AreAlike}
-use Rattle.dv_conservative.specs.Process.{Packet, Share, clock_after, events_by, first_time, part_by, with_packet}
+use Rattle.dv_conservative.specs.Process.{Packet, Share, clock_after, components_by, events_by, first_time, part_by, with_packet}
 use Rattle.dv_conservative.specs.True.{AreTrue, IsTruePacket}
 use Rattle.dv_conservative.specs.Turn.{Position}
 use Rattle.dv_conservative.specs.World.{Channel, IsMove, IsStop, Job, LinkState, World, after_put, after_take, all_of}
@@ -14,7 +14,7 @@ use Rattle.dv_conservative.proofs.Holding.{holds_after, holds_at_first, put_all,
 use Rattle.dv_conservative.proofs.Local.{same_number}
 use Rattle.dv_core.specs.Kept.{Kept, clock_of, is_stopped, link_of, queue_of, received_of, standing_of, world_of}
 use Rattle.dv_core.specs.Standing.{IsReached, StandsFor}
-use Rattle.dv_core.specs.ProcessState.{HasCommitted, IsReceived, IsSent, ProcessState}
+use Rattle.dv_core.specs.ProcessState.{HasCommitted, IsReceived, IsSent, ProcessState, StandsAtClock}
 use Rattle.dv_core.proofs.Lookups.{number_itself, set_each, set_other, set_same}
 use Rattle.dv_core.proofs.Standing.{link_is}
 use Rattle.dv_core.proofs.Turns.{same_received}
@@ -80,10 +80,10 @@ module _ (job : Job) (k : Kept) (stands : StandsFor job k) (p : ℕ) (x y : Proc
           ∙ sym (link_is job k m (Some d) f)
 
   -- where all packets of each link and what is promised stay, so does what is kept of it
-  kept_stands : y.share ≡ x.share → HasCommitted y → y.position.promised ≡ x.position.promised
+  kept_stands : y.share ≡ x.share → HasCommitted y → StandsAtClock y → y.position.promised ≡ x.position.promised
       → ((m : ℕ) → all_of (v.link m) ≡ all_of (w.link m))
       → StandsFor job after
-  kept_stands share committed promised packets = record {
+  kept_stands share committed components promised packets = record {
     processes = length-set k.states p y ∙ stands.processes;
     flags = stands.flags;
     links = length-set k.queued l next ∙ stands.links;
@@ -91,6 +91,7 @@ module _ (job : Job) (k : Kept) (stands : StandsFor job k) (p : ℕ) (x y : Proc
     shares = set_each (λ q z. AreAlike z.share (share_of job q)) k.states p x y there stands.shares
         (subst (λ (s : Share). AreAlike s (share_of job p)) (sym share) (stands.shares p x there));
     committed = set_each (λ q z. HasCommitted z) k.states p x y there stands.committed committed;
+    components = set_each (λ q z. StandsAtClock z) k.states p x y there stands.components components;
     promised = λ m d z f now.
         set_each (λ q s. (i : ℕ) (g : Channel) → slice_get job.channels i ≡ Some g → g.source ≡ q
         → s.position.promised i ≡ promised_on (link_of k i (Some g)))
@@ -160,9 +161,17 @@ module _ (job : Job) (k : Kept) (stands : StandsFor job k) (x y : ProcessState) 
       ∙ ap (λ (f : ℕ → List Packet). part_by y.share (events_by f) (rank y.share.limit x.position.clock)) (sym sent.received)
       ∙ ap (λ (t : Time). part_by y.share (events_by y.received) (rank y.share.limit t)) (sym sent.clock)
 
+  put_components : StandsAtClock y
+  put_components =
+      sent.components ∙ stands.components c.source x there
+      ∙ ap (λ (s : Share). components_by s (events_by x.received) (rank s.limit x.position.clock)) (sym sent.share)
+      ∙ ap (λ (f : ℕ → List Packet). components_by y.share (events_by f) (rank y.share.limit x.position.clock)) (sym sent.received)
+      ∙ ap (λ (t : Time). components_by y.share (events_by y.received) (rank y.share.limit t)) (sym sent.clock)
+
   pub put_stands : StandsFor job put
   put_stands =
-      kept_stands job k stands c.source x y there l c e queue (queue ++ packet ∷ []) at sent.share put_committed sent.promised
+      kept_stands job k stands c.source x y there l c e queue (queue ++ packet ∷ []) at sent.share put_committed put_components
+      sent.promised
       (packets_stay (world_of job k) (world_of job put) l (ap all_of put_link ∙ put_all ((world_of job k).link l)) put_others)
 
 -- a packet within true ones is of their link
@@ -233,7 +242,7 @@ module _ (job : Job) (k : Kept) (stands : StandsFor job k) (x y : ProcessState) 
 
   pub take_stands : StandsFor job taken
   take_stands =
-      kept_stands job k stands c.target x y there l c e (packet ∷ rest) rest at got.share got.committed
+      kept_stands job k stands c.target x y there l c e (packet ∷ rest) rest at got.share got.committed got.components
       (ap (λ (t : Position). t.promised) got.position)
       (packets_stay (world_of job k) (world_of job taken) l
       (ap all_of take_link ∙ took_all ((world_of job k).link l) ((world_of job k).link l).queued refl) take_others)
@@ -263,5 +272,6 @@ module _ (job : Job) (k : Kept) (stands : StandsFor job k) (p : ℕ) (flag : Boo
     ends = stands.ends;
     shares = stands.shares;
     committed = stands.committed;
+    components = stands.components;
     promised = stands.promised;
   }

@@ -17,7 +17,7 @@ use Rattle.dv_conservative.proofs.Turning.{turn_is_step}
 use Rattle.dv_conservative.proofs.Local.{same_number}
 use Rattle.dv_core.specs.Kept.{Kept, clock_of, link_of, queue_of, received_of, standing_of, world_of}
 use Rattle.dv_core.specs.Standing.{IsReached, StandsFor}
-use Rattle.dv_core.specs.ProcessState.{HasCommitted, ProcessState}
+use Rattle.dv_core.specs.ProcessState.{HasCommitted, ProcessState, StandsAtClock}
 use Rattle.dv_core.proofs.Alike.{turn_alike}
 use Rattle.dv_core.proofs.Lookups.{set_each, set_other, set_same}
 use Rattle.dv_core.proofs.Standing.{agree_position, agree_received, clock_after_last, link_is}
@@ -65,7 +65,7 @@ link_with_state k p x y there same l c =
     (same_received k p x y there same c.target l)
 
 module _ (job : Job) (k : Kept) (stands : StandsFor job k) (p : ℕ) (x y : ProcessState) (there : slice_get k.states p ≡ Some x)
-    (share : y.share ≡ x.share) (received : y.received ≡ x.received) (committed : HasCommitted y)
+    (share : y.share ≡ x.share) (received : y.received ≡ x.received) (committed : HasCommitted y) (components : StandsAtClock y)
     (turn : IsTurnOf x.share x.received x.position y.position) where
   abbrev w : World
   w = world_of job k
@@ -147,6 +147,7 @@ module _ (job : Job) (k : Kept) (stands : StandsFor job k) (p : ℕ) (x y : Proc
     shares = set_each (λ q z. AreAlike z.share (share_of job q)) k.states p x y there stands.shares
         (subst (λ (s : Share). AreAlike s (share_of job p)) (sym share) own_share);
     committed = set_each (λ q z. HasCommitted z) k.states p x y there stands.committed committed;
+    components = set_each (λ q z. StandsAtClock z) k.states p x y there stands.components components;
     promised = λ l c z e at. by_source l c z e at (nat_eq c.source p) refl;
   }
     where

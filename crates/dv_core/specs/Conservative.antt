@@ -11,6 +11,7 @@ use Rattle.dv_core.specs.ProcessState.{ProcessState}
 abbrev pub state_by : {L W R : Type 0} → (L → View) → Process L W R → ProcessState
 state_by view p = record {
   share = (view p.local).share;
+  components = (view p.local).components;
   received = received_by p.incoming.items;
   position = position_by p.clock p.outgoing.items;
   part = (view p.local).committed;

@@ -9,7 +9,7 @@ use Rattle.dv_conservative.specs.World.{Channel, IsRun, Job, World, new_world, p
 use Rattle.dv_conservative.specs.World as theory
 use Rattle.dv_proc.specs.Channels.{meant_channel}
 use Rattle.dv_core.specs.Kept.{Kept, link_of}
-use Rattle.dv_core.specs.ProcessState.{HasCommitted, ProcessState}
+use Rattle.dv_core.specs.ProcessState.{HasCommitted, ProcessState, StandsAtClock}
 use Rattle.dv_core.specs.Worlds.{AllValid, IsAnswered, IsCut, kept_by, shown}
 use Rattle.dv_core.specs.declared.state.WorldState.{WorldState}
 use Rattle.dv_core.specs.declared.step.Step.{Step}
@@ -24,7 +24,8 @@ pub record IsReached (job : Job) (w : World) : Type 0 where
   pub run : IsRun job steps (new_world capacity) w
 
 -- What is kept stands for a world of a job: there are its processes and its links; each process has a share that runs as its
--- share of the job, and has committed its part; and where the last window on a link ends is what its sender has promised.
+-- share of the job, stands at its clock and has committed its part; and where the last window on a link ends is what its sender has
+-- promised.
 pub record StandsFor (job : Job) (k : Kept) : Type 0 where
   pub processes : length k.states ≡ job.processes
   pub flags : length k.stopped ≡ job.processes
@@ -32,6 +33,7 @@ pub record StandsFor (job : Job) (k : Kept) : Type 0 where
   pub ends : (l : ℕ) (c : Channel) → slice_get job.channels l ≡ Some c → (c.source < job.processes) × (c.target < job.processes)
   pub shares : (p : ℕ) (x : ProcessState) → slice_get k.states p ≡ Some x → AreAlike x.share (share_of job p)
   pub committed : (p : ℕ) (x : ProcessState) → slice_get k.states p ≡ Some x → HasCommitted x
+  pub components : (p : ℕ) (x : ProcessState) → slice_get k.states p ≡ Some x → StandsAtClock x
   pub promised : (l : ℕ) (c : Channel) (x : ProcessState)
       → slice_get job.channels l ≡ Some c → slice_get k.states c.source ≡ Some x
       → x.position.promised l ≡ promised_on (link_of k l (Some c))

@@ -8,11 +8,11 @@ use Rattle.dv_bag.specs.declared.state.State.{State}
 use Rattle.dv_bag.specs.declared.entry.Entry.{Entry}
 use Rattle.dv_bag.specs.declared.entry.Outer.{Outer}
 use Rattle.dv_devs.specs.Idle.{LeavesOnlyWhatIsSent}
-use Rattle.dv_devs.specs.Network.{trace_before}
+use Rattle.dv_devs.specs.Network.{components_at, trace_before}
 use Rattle.dv_devs.specs.NextTimes.{IsReady}
 use Rattle.dv_devs.specs.Outside.{LeavesLinearly, SendsBags}
 use Rattle.dv_devs.specs.Parts.{part_before}
-use Rattle.dv_conservative.specs.Flat.{whole}
+use Rattle.dv_conservative.specs.Flat.{kept, numbers, whole}
 use Rattle.dv_conservative.specs.Process.{IsWithin, first_time, least_clock}
 use Rattle.dv_conservative.specs.Sound.{IsJob}
 use Rattle.dv_conservative.specs.True.{AreTrue, united}
@@ -86,9 +86,9 @@ with_replies [] rs = []
 with_replies (s ∷ ss) [] = []
 with_replies (s ∷ ss) (r ∷ rs) = (meant_step s, meant_reply r) ∷ with_replies ss rs
 
--- The headline: all processes are there; every packet that stands, is on its way or was received is true, and the
--- windows of each link join from the start;
--- no clock passes a channel clock or the end; and each process has committed exactly its part of the whole run before its clock.
+-- The headline: all processes are there; every packet that stands, is on its way or was received is true, and the windows of each
+-- link join from the start; no clock passes a channel clock or the end; each process has committed exactly its part of the whole run
+-- before its clock, and its components stand as they do in the whole run just before its clock.
 pub record IsTrueToModel (job : Job) (k : Kept) : Type 0 where
   pub count : length k.states ≡ job.processes
   pub packets : (l : ℕ) (c : Channel) → slice_get job.channels l ≡ Some c → AreTrue job l c first_time (all_of ((world_of job k).link l))
@@ -97,6 +97,9 @@ pub record IsTrueToModel (job : Job) (k : Kept) : Type 0 where
   pub within : (p : ℕ) (x : ProcessState) → slice_get k.states p ≡ Some x → IsWithin (share_of job p) x.position.clock
   pub parts : (p : ℕ) (x : ProcessState) → slice_get k.states p ≡ Some x
       → x.part ≡ part_before (owned job p) job.limit (whole job.flat) job.outside (rank job.limit x.position.clock)
+  pub components : (p : ℕ) (x : ProcessState) → slice_get k.states p ≡ Some x
+      → x.components ≡ kept (owned job p) (numbers job.flat.members)
+      (components_at job.limit (whole job.flat) job.outside (rank job.limit x.position.clock))
 
 -- each process has committed its part of the whole trace
 abbrev pub HaveAllParts : Job → List ProcessState → Type 0

@@ -17,8 +17,8 @@ use dv_record::Record;
 use dv_time::Time;
 use std::alloc::AllocError;
 
-/// A logical process, as a world sees it: its share of the model, the packets that it received, its position and what it has
-/// committed.
+/// A logical process, as a world sees it: its share of the model, the components of it as they stand, the packets that it
+/// received, its position and what it has committed.
 pub trait LogicalProcess: Drop {
     /// What a turn works with and leaves nothing in, as the stack machine; one serves all processes.
     type Work;

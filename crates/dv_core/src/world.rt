@@ -66,7 +66,8 @@ impl<J: PlannedJob, P: LogicalProcess> World<J, P> {
     }
 
     /// Steps, one after the other, with their replies; each turn that is done makes progress. In the world that they leave
-    /// every packet is true, and each process has committed its part of the model's trace before its clock.
+    /// every packet is true, each process has committed its part of the model's trace before its clock, and its components
+    /// stand as they do in the model just before its clock.
     ///
     /// # Errors
     ///

@@ -1,25 +1,36 @@
--- How many components are looked at as they emit, and as they are committed.
-use Rattle.std.proofs.Common.{◌≡◌, ℕ, ◌+◌, ◌-◌, ◌^◌, ◌≤◌, min, Bool, true, false, not, ◌&&◌, ◌||◌, cond, length, List, []}
-use Rattle.std.proofs.Common.{◌∷◌, Option, Some, None, refl, ap₂, sym, subst, arith}
-use Rattle.std.specs.List.{count_by}
+-- How many components are visited as they emit, and as they are committed.
+use Rattle.std.proofs.Common.{◌≡◌, ℕ, ◌+◌, ◌-◌, ◌^◌, ◌<◌, ◌≤◌, min, Bool, true, false, cond, length, List, [], ◌∷◌, ◌++◌, Option}
+use Rattle.std.proofs.Common.{Some, None, Result, refl, ap, ap₂, sym, ◌∙◌, subst, arith}
+use Rattle.std.specs.List.{count_by, slice_get}
 use Rattle.std.proofs.lemmas.Bool.{and_parts, eqb-true}
-use Rattle.std.proofs.lemmas.List.{length-append}
+use Rattle.std.proofs.lemmas.List.{length-append, length-map}
 use Rattle.std.proofs.lemmas.List.Sums.{sum_by-cons}
 use Rattle.dv_time.specs.Time.{rank}
 use Rattle.dv_time.specs.declared.time.Time.{Time}
 use Rattle.dv_bag.specs.Bag.{Counts}
+use Rattle.dv_bag.specs.declared.entry.Entry.{Entry}
 use Rattle.dv_bag.specs.declared.entry.What.{What}
-use Rattle.dv_devs.specs.Behaviour.{Behaviour, Component, Reaction, all_empty, is_at, is_imminent, reaction}
-use Rattle.dv_devs.specs.Behaviour.{reaction_after_output, emission}
-use Rattle.dv_devs.specs.Network.{entries_by, entry_of, reactions}
-use Rattle.dv_conservative.specs.Flat.{network}
+use Rattle.dv_bag.specs.declared.fault.Fault.{Fault}
+use Rattle.dv_bag.specs.declared.state.State.{State}
+use Rattle.dv_devs.specs.Behaviour.{Behaviour, is_at, is_imminent}
+use Rattle.dv_devs.specs.Network.{entry_of}
 use Rattle.dv_react.specs.Components.{component_of, components_of, next_of_wait}
+use Rattle.dv_react.specs.Outcomes.{event_of, happened_in, sent_of}
+use Rattle.dv_react.specs.declared.outcome.Outcome.{Outcome}
 use Rattle.dv_react.specs.declared.running.Running.{Running}
 use Rattle.dv_react.specs.declared.wait.Wait.{Wait}
 use Rattle.dv_react.specs.declared.wait.Wait.TheVariants.{Until, Forever, Quiet}
 use Rattle.dv_agenda.specs.Waits.{due_at, due_from, ends_at}
 use Rattle.dv_proc.specs.Accesses.{CountsInstant, IsAfterEmission, IsCounted, entries_at, imminent_at, receiving_at}
-use Rattle.dv_proc.specs.Local.{View, input_at, sent_at}
+use Rattle.dv_proc.specs.Local.{View}
+use Rattle.dv_proc.proofs.Accesses.{same_but_visits}
+use Rattle.dv_share.specs.Commits.{entries_of}
+use Rattle.dv_share.specs.Places.{places_of}
+use Rattle.dv_share.specs.Rows.{number_of}
+use Rattle.dv_share.specs.Share.{given_at}
+use Rattle.dv_share.specs.declared.place.Placed.{Placed}
+use Rattle.dv_share.specs.declared.tables.Tables.{Tables}
+use Rattle.dv_local.specs.Commits.{HaveReacted}
 use Rattle.dv_local.specs.Undoing.{time_of_wait, waits_of}
 
 -- one more is counted where a test says so
@@ -64,65 +75,81 @@ at_most_one : (limit now k : ℕ) (e : Option (What × List Counts)) → length 
 at_most_one limit now k None = omega arith
 at_most_one limit now k (Some e) = omega arith
 
-by_tests : (limit now k : ℕ) (q d e : Bool) (x : Reaction) (c : Component) →
-    length (entry_of limit now k (cond (not q && (d || not e)) x (record { event = None; component = c })).event)
-    ≤ cond d 1 0 + cond (not e) 1 0
-by_tests limit now k true d e x c = omega arith
-by_tests limit now k false true e x c = omega (arith, at_most_one limit now k x.event)
-by_tests limit now k false false false x c = omega (arith, at_most_one limit now k x.event)
-by_tests limit now k false false true x c = omega arith
+-- an instant has no more entries than components that reacted
+pub reacted_few : {S : Type 0} (behaviour : S → Behaviour) (fits : S → State → Type 0) (t : Tables S) (now : ℕ) (rs : List Running)
+    (es : List (Placed (Result (List Counts) Fault))) (xs : List (Placed (List Counts))) (ss : List Running) (old new : List Entry)
+    → HaveReacted behaviour fits t now rs es xs (places_of xs) ss old new → length new ≤ length old + length xs
+reacted_few behaviour fits t now rs es xs ss old new h =
+    let os = h.outcomes in
+    let many : length os ≡ length xs =
+    sym (length-map os (λ (o : Placed Outcome). o.place)) ∙ ap length h.places ∙ length-map xs (λ (x : Placed (List Counts)). x.place) in
+    omega (
+      arith,
+      ap length h.entries,
+      length-append old (entries_of t.limit now t.members.items es os),
+      few os,
+      many,
+    )
+  where
+    few : (os : List (Placed Outcome)) → length (entries_of t.limit now t.members.items es os) ≤ length os
+    few [] = omega arith
+    few (o ∷ os) =
+        let k = number_of (slice_get t.members.items o.place) in
+        let e = event_of (happened_in o.what) (sent_of (given_at o.place es)) in
+        omega (
+          arith,
+          length-append (entry_of t.limit now k e) (entries_of t.limit now t.members.items es os),
+          at_most_one t.limit now k e,
+          few os,
+        )
 
--- a component that has an entry is imminent or receives a value
-one_entry : (limit now k : ℕ) (b : Behaviour) (c : Component) (bags : List Counts) →
-    length (entry_of limit now k (reaction limit b now c bags).event) ≤ cond (is_imminent now c) 1 0 + cond (not (all_empty bags)) 1 0
-one_entry limit now k b c bags =
-    by_tests limit now k c.quiet (is_imminent now c) (all_empty bags) (reaction_after_output limit b now c bags (emission b now c)) c
+-- nothing was visited
+pub counted_none : (n : ℕ) → IsCounted 0 0 n n
+counted_none n = record { never_falls = omega arith; least = λ low. omega arith; most = omega arith }
 
-abbrev receives : List Counts → Bool
-receives bags = not (all_empty bags)
-
-both_few : (one rest a b m n i r : ℕ) → one ≤ a + b → rest ≤ m + n → i ≡ a + m → r ≡ b + n → one + rest ≤ i + r
-both_few one rest a b m n i r h k e f = omega arith
-
--- an instant has no more entries than components that are imminent or receive a value
-pub entries_few : (limit now : ℕ) (ks : List ℕ) (bs : List Behaviour) (cs : List Component) (received : List (List Counts)) →
-    length (entries_by limit now ks (reactions limit bs now cs received)) ≤ count_by (is_imminent now) cs + count_by receives received
-entries_few limit now [] bs cs received = omega arith
-entries_few limit now (k ∷ ks) [] cs received = omega arith
-entries_few limit now (k ∷ ks) (b ∷ bs) [] received = omega arith
-entries_few limit now (k ∷ ks) (b ∷ bs) (c ∷ cs) [] =
-    let one = entry_of limit now k (reaction limit b now c []).event in
-    let rest = entries_by limit now ks (reactions limit bs now cs []) in
-    subst (λ (n : ℕ). n ≤ count_by (is_imminent now) (c ∷ cs) + count_by receives []) (sym (length-append one rest))
-    (both_few (length one) (length rest) (cond (is_imminent now c) 1 0) (cond (receives []) 1 0) (count_by (is_imminent now) cs)
-    (count_by receives []) (count_by (is_imminent now) (c ∷ cs)) (count_by receives []) (one_entry limit now k b c [])
-    (entries_few limit now ks bs cs []) (one_more (is_imminent now) c cs) refl)
-entries_few limit now (k ∷ ks) (b ∷ bs) (c ∷ cs) (bags ∷ more) =
-    let one = entry_of limit now k (reaction limit b now c bags).event in
-    let rest = entries_by limit now ks (reactions limit bs now cs more) in
-    subst (λ (n : ℕ). n ≤ count_by (is_imminent now) (c ∷ cs) + count_by receives (bags ∷ more)) (sym (length-append one rest))
-    (both_few (length one) (length rest) (cond (is_imminent now c) 1 0) (cond (receives bags) 1 0) (count_by (is_imminent now) cs)
-    (count_by receives more) (count_by (is_imminent now) (c ∷ cs)) (count_by receives (bags ∷ more)) (one_entry limit now k b c bags)
-    (entries_few limit now ks bs cs more) (one_more (is_imminent now) c cs) (one_more receives bags more))
-
--- so many were due and are counted
-pub found_counted : (due imminent before after : ℕ) → due ≤ imminent → before ≤ after → after ≡ min (before + due) (2 ^ 64 - 1) →
-    IsCounted 0 imminent before after
-found_counted due imminent before after few never count = record {
+-- one visit is counted
+pub counted_one : (before after : ℕ) → before ≤ after → after ≡ min (before + 1) (2 ^ 64 - 1) → IsCounted 1 1 before after
+counted_one before after never count = record {
   never_falls = never;
-  least = λ low. omega (arith, never);
-  most = omega (arith, few, count);
+  least = λ low. omega (arith, low, count, never);
+  most = omega (arith, count);
 }
 
--- the instant at a rank: what is sent is found, and each component that has an entry is put in
-pub instant_counted : (n : ℕ) (v x w : View) (put : ℕ) → IsAfterEmission n v x → put ≡ entries_at v n →
-    x.visits ≤ w.visits → w.visits ≡ min (x.visits + put) (2 ^ 64 - 1) → CountsInstant n v w
-instant_counted n v x w put found is never count =
-    let few = entries_few v.share.limit n (network v.share.flat).numbers (network v.share.flat).behaviours v.components
-    ((network v.share.flat).arrives (sent_at v n) (input_at v n)) in
-    let most : put ≤ imminent_at v n + receiving_at v n = omega (arith, few, is) in
-    record {
-      never_falls = omega (arith, never, found.visits.never_falls);
-      least = λ low. omega (arith, low, count, is, found.visits.never_falls);
-      most = omega (arith, count, most, found.visits.most);
-    }
+-- visits add up
+pub counted_both : (m n a b c : ℕ) → IsCounted m m a b → IsCounted n n b c → IsCounted (m + n) (m + n) a c
+counted_both m n a b c one two = record {
+  never_falls = omega (arith, one.never_falls, two.never_falls);
+  least = λ low.
+      let mid : b < 2 ^ 64 - 1 = omega (arith, low, two.never_falls) in
+      omega (arith, one.least mid, two.least low);
+  most = omega (arith, one.most, two.most);
+}
+
+-- so many are at most more
+pub counted_within : (m n a b : ℕ) → m ≤ n → IsCounted m m a b → IsCounted 0 n a b
+counted_within m n a b le one = record {
+  never_falls = one.never_falls;
+  least = λ low. omega (arith, one.never_falls);
+  most = omega (arith, one.most, le);
+}
+
+-- so many were due and were visited, at most
+pub found_counted : (due imminent before after : ℕ) → due ≤ imminent → IsCounted 0 due before after → IsCounted 0 imminent before after
+found_counted due imminent before after few counted = record {
+  never_falls = counted.never_falls;
+  least = λ low. omega (arith, counted.never_falls);
+  most = omega (arith, few, counted.most);
+}
+
+-- what comes at an instant speaks of no visits
+pub receiving_found : (n j : ℕ) (v x : View) → IsAfterEmission j v x → receiving_at x n ≡ receiving_at v n
+receiving_found n j v x found = ap (λ (y : View). receiving_at y n) (same_but_visits j v x found)
+
+-- the instant at a rank: what is sent is found, and each component that emitted or receives a value is visited
+pub instant_counted : (n visited : ℕ) (v x w : View) → IsAfterEmission n v x → entries_at v n ≤ visited
+    → visited ≤ imminent_at v n + receiving_at v n → IsCounted visited visited x.visits w.visits → CountsInstant n v w
+instant_counted n visited v x w found least most counted = record {
+  never_falls = omega (arith, found.visits.never_falls, counted.never_falls);
+  least = λ low. omega (arith, found.visits.never_falls, counted.least low, least);
+  most = omega (arith, counted.most, most, found.visits.most);
+}

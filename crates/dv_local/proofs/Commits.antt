@@ -1,6 +1,6 @@
 -- Components that react one after the other.
 use Rattle.std.proofs.Common.{◌≡◌, inl, inr, ℕ, ◌+◌, ◌<◌, false, List, [], ◌∷◌, ◌++◌, length, get_or, take, Some}
-use Rattle.std.proofs.Common.{Result, Ok, Err, refl, sym, ap, ◌∙◌, subst, arith, append-nil}
+use Rattle.std.proofs.Common.{Result, Ok, Err, refl, sym, ap, ap₂, ◌∙◌, subst, arith, append-nil}
 use Rattle.std.specs.Prelude.{OnErr, OnOk}
 use Rattle.std.specs.List.{slice_get, slice_set}
 use Rattle.std.proofs.lemmas.Bool.{cases_lt}
@@ -32,6 +32,10 @@ use Rattle.dv_share.proofs.Commits.{entries_last, left_last, left_none, left_unt
 use Rattle.dv_share.proofs.Instants.{outcome_one}
 use Rattle.dv_share.proofs.Places.{found_here, there}
 use Rattle.dv_local.specs.Commits.{HasReacted, HaveReacted, IsGivenAt}
+
+-- what stands where a visit went stood there before
+pub seen : (rs ss : List Running) (p q : ℕ) (r : Running) → ss ≡ rs → q ≡ p → slice_get ss q ≡ Some r → slice_get rs p ≡ Some r
+seen rs ss p q r same at here = ap₂ (λ (us : List Running) (k : ℕ). slice_get us k) (sym same) (sym at) ∙ here
 
 -- with another component at a place they are still components, if it waits and fits there
 pub put_stays : {S : Type 0} (fits : S → State → Type 0) (t : Tables S) (rs : List Running) (p : ℕ) (s : Running)

@@ -16,3 +16,4 @@ pub mod TakesPlace
 pub mod Sending
 pub mod Starts
 pub mod Accesses
+pub mod Visited

@@ -41,20 +41,20 @@ use Rattle.dv_local.proofs.Sending.{same_numbers}
 
 module _ {S R : Type 0} (behaviour : S → Behaviour) (x : LocalState S R) (n : ℕ) (outside : List Counts) (ds : List Delivery)
     (os : List (Placed Outcome)) where
-  instant_part : AreEmitted behaviour x.share.tables n x.components.running.items x.emitted.items
-      → AreOutcomes behaviour x.share.tables n x.components.running.items outside ds x.emitted.items os
+  instant_part : AreEmitted behaviour x.share.tables n x.components.running x.emitted.items
+      → AreOutcomes behaviour x.share.tables n x.components.running outside ds x.emitted.items os
       → (es : List Entry) (ls : List Outer)
       → es ≡ entries_by x.share.tables.limit n (numbers_of x.share.tables.members.items)
-      (reactions_by x.share.tables.limit 0 x.components.running.items x.emitted.items os)
+      (reactions_by x.share.tables.limit 0 x.components.running x.emitted.items os)
       → ls ≡ outer_from x.share.tables.limit n 0
       (inbox 0 (carried x.share.tables.exits (sent_in x.share.tables.members.items x.emitted.items)) 0 x.share.tables.outputs)
       → (let p : PartOf = record { entries = es; outer = ls } in p)
       ≡ part_of_instant x.share.tables.limit (network (flat_by behaviour x.share.tables)) n (outside, ds)
-      (components_of x.share.tables.limit x.components.running.items)
+      (components_of x.share.tables.limit x.components.running)
   instant_part emitted outcomes es ls e l =
       let t = x.share.tables in
       let net = network (flat_by behaviour t) in
-      let cs = components_of t.limit x.components.running.items in
+      let cs = components_of t.limit x.components.running in
       let numbers = same_numbers behaviour t.limit t.models.items t.members.items in
       ap₂ (λ (entries : List Entry) (outer : List Outer). let p : PartOf = record { entries = entries; outer = outer } in p)
       (e
@@ -95,7 +95,7 @@ module _ {S R : Type 0} (behaviour : S → Behaviour) (fits : S → State → Ty
   tables = x.share.tables
 
   abbrev standing : List Running
-  standing = x.components.running.items
+  standing = x.components.running
 
   abbrev n : ℕ
   n = rank tables.limit now

@@ -1,5 +1,7 @@
 -- The share of a process.
 pub mod Shares
+-- The components of a process, of which each visit is counted.
+pub mod Components
 -- How components are put back, and what they wait for.
 pub mod Undoing
 -- What events bring to an inbox.

@@ -1,13 +1,14 @@
 -- What the components of a process stand at.
-use Rattle.std.specs.Prelude.{◌≡◌, ℕ, ◌<◌, List, [], map, length, Option, None, Some}
+use Rattle.std.specs.Prelude.{◌≡◌, ℕ, ◌<◌, ◌≤◌, List, [], map, length, count_by, Option, None, Some}
 use Rattle.std.specs.List.{All}
 use Rattle.dv_time.specs.Time.{IsOfRun, rank, time_of}
 use Rattle.dv_time.specs.declared.time.Time.{Time}
 use Rattle.dv_bag.specs.Bag.{Counts}
 use Rattle.dv_bag.specs.Part.{PartOf}
 use Rattle.dv_bag.specs.declared.state.State.{State}
-use Rattle.dv_devs.specs.Behaviour.{Behaviour}
+use Rattle.dv_devs.specs.Behaviour.{Behaviour, is_imminent}
 use Rattle.dv_react.specs.Components.{components_of}
+use Rattle.dv_react.specs.declared.running.Running.{Running}
 use Rattle.dv_conservative.specs.Links.{Delivery}
 use Rattle.dv_agenda.specs.Comings.{Arrivals, arrivals_at}
 use Rattle.dv_agenda.specs.declared.arrival.Arrival.{Arrival}
@@ -30,7 +31,7 @@ held_by limit taken inbox n = map delivery_of (arrivals_but taken (time_of limit
 abbrev pub view_by : {S R : Type 0} → (S → Behaviour) → (R → PartOf) → LocalState S R → View
 view_by behaviour told x = record {
   share = share_by behaviour x.share;
-  components = components_of x.share.tables.limit x.components.running.items;
+  components = components_of x.share.tables.limit x.components.running;
   committed = told x.record;
   held = held_by x.share.tables.limit x.undo.taken x.inbox;
   visits = x.components.visits;
@@ -40,10 +41,10 @@ view_by behaviour told x = record {
 abbrev pub settled_by : {S R : Type 0} → (S → Behaviour) → (R → PartOf) → LocalState S R → View
 settled_by behaviour settled x = record {
   share = share_by behaviour x.share;
-  components = components_of x.share.tables.limit (undone x.undo.before.items x.components.running.items);
+  components = components_of x.share.tables.limit (undone x.undo.before.items x.components.running);
   committed = settled x.record;
   held = held_by x.share.tables.limit None x.inbox;
-  visits = x.undo.visits;
+  visits = x.components.settled;
 }
 
 -- what was sent at the time that was last asked about
@@ -59,23 +60,28 @@ abbrev pub AllArrive : ℕ → List Member → Arrivals → Type 0
 AllArrive limit ms inbox =
     ((t : Time) → All (IsOfPort ms) (arrivals_at t inbox)) × ((t : Time) → 0 < length (arrivals_at t inbox) → IsOfRun limit t)
 
--- what was emitted at a time, if there is one
+-- how many of some components are imminent at a time
+abbrev pub imminent_of : ℕ → Time → List Running → ℕ
+imminent_of limit t rs = count_by (is_imminent (rank limit t)) (components_of limit rs)
+
+-- what was emitted at a time, if there is one: by no more components than are imminent
 abbrev pub AreEmittedIf : {S R : Type 0} → (S → Behaviour) → LocalState S R → Option Time → Type 0
 AreEmittedIf behaviour x None = Unit {0}
 AreEmittedIf behaviour x (Some t) =
     IsOfRun x.share.tables.limit t
-    × AreEmitted behaviour x.share.tables (rank x.share.tables.limit t) x.components.running.items x.emitted.items
+    × AreEmitted behaviour x.share.tables (rank x.share.tables.limit t) x.components.running x.emitted.items
+    × (length x.emitted.items ≤ imminent_of x.share.tables.limit t x.components.running)
 
 -- what is always so
 pub record IsKept {S R : Type 0} (behaviour : S → Behaviour) (fits : S → State → Type 0) (comes : S → List Counts → Type 0)
     (x : LocalState S R) : Type 0 where
   pub share : IsShare fits x.share
   pub all_come : (a : S) (bags : List Counts) → comes a bags
-  pub components : AreComponents fits x.share.tables x.components.running.items
-  pub agenda : x.agenda ≡ waits_of x.components.running.items
+  pub components : AreComponents fits x.share.tables x.components.running
+  pub agenda : x.agenda ≡ waits_of x.components.running
   pub arrive : AllArrive x.share.tables.limit x.share.tables.members.items x.inbox
-  pub within : AreWithin (length x.components.running.items) x.undo.before.items
-  pub before : AreComponents fits x.share.tables (undone x.undo.before.items x.components.running.items)
+  pub within : AreWithin (length x.components.running) x.undo.before.items
+  pub before : AreComponents fits x.share.tables (undone x.undo.before.items x.components.running)
   pub emitted : StandByPlace (length x.share.tables.members.items) x.emitted.items
   pub still : AreEmittedIf behaviour x x.emitted_at
 

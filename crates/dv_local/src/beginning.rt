@@ -87,9 +87,10 @@ fn starts_of(alloc: Global, members: &[Member]) -> Result<Vec<Running>, AllocErr
 fn start_of(member: &Member) -> Result<Running, AllocError>
     ensures { IfOk result (λ r. r ≡ member.now.start) }
 {
+    let start = member.start.as_running();
     Ok(Running {
-        state: member.start.state.clone()?,
-        last: member.start.last,
-        wait: member.start.wait,
+        state: start.state.clone()?,
+        last: start.last,
+        wait: start.wait,
     })
 }

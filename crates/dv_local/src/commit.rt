@@ -8,6 +8,7 @@ ghost use Rattle.dv_react.specs.Components.{rank_of};
 ghost use Rattle.dv_react.specs.Outcomes.{happened_in, left_by, sent_of};
 ghost use Rattle.dv_devs.specs.Network.{entry_of};
 ghost use Rattle.dv_record.specs.Told.{IsOpenAt};
+ghost use Rattle.dv_proc.specs.Accesses.{IsCounted};
 ghost use Rattle.dv_share.specs.Places.{AreRising, IsNext, places_of};
 ghost use Rattle.dv_share.specs.Rows.{number_of};
 ghost use Rattle.dv_share.specs.Share.{AreComponents, AreEmitted, AreTables, StandByPlace, given_at};
@@ -34,8 +35,8 @@ pub(crate) struct Moment<'a, A> {
     pub nothing: &'a Sent,
 }
 
-/// Lets the components that emitted or receive something react, one after the other. What happens is told; a component
-/// that changes is put in its place, and the one that stood there is appended to `before`.
+/// Lets the components that emitted or receive something react, one after the other. Each is visited once. What happens is
+/// told; a component that changes is put in its place, and the one that stood there is appended to `before`.
 ///
 /// # Errors
 ///
@@ -52,28 +53,30 @@ pub(crate) fn commit<A: Atomic, R: Record>(
 ) -> Result<(), AllocError>
     requires tables { AreTables A.fits moment.now.tables.now }
     requires limit { moment.now.instant.now.limit ≡ moment.now.tables.now.limit }
-    requires components { AreComponents A.fits moment.now.tables.now components.old.running.items }
+    requires components { AreComponents A.fits moment.now.tables.now components.old.running }
     requires comes { (a : A) (bags : List Counts) → A.comes a bags }
     requires emitted { AreEmitted A.behaviour moment.now.tables.now (rank_of moment.now.instant.now)
-        components.old.running.items moment.now.emitted.now }
+        components.old.running moment.now.emitted.now }
     requires received { StandByPlace (length moment.now.tables.now.members.items)
         received.now.items }
-    requires agenda { agenda.old ≡ waits_of components.old.running.items }
-    requires within { AreWithin (length components.old.running.items) before.old.items }
+    requires agenda { agenda.old ≡ waits_of components.old.running }
+    requires within { AreWithin (length components.old.running) before.old.items }
     requires nothing { moment.now.nothing.now ≡ [] }
     requires is_open { IsOpenAt moment.now.instant.now.time (R.told to.old) }
     ensures reacted { OnOk result (HaveReacted A.behaviour A.fits moment.now.tables.now
-        (rank_of moment.now.instant.now) components.old.running.items moment.now.emitted.now
-        received.now.items (places_of received.now.items) components.new.running.items
+        (rank_of moment.now.instant.now) components.old.running moment.now.emitted.now
+        received.now.items (places_of received.now.items) components.new.running
         (R.told to.old).entries (R.told to.new).entries) }
-    ensures components { AreComponents A.fits moment.now.tables.now components.new.running.items }
-    ensures agenda { agenda.new ≡ waits_of components.new.running.items }
-    ensures within { AreWithin (length components.new.running.items) before.new.items }
-    ensures before { undone before.new.items components.new.running.items
-        ≡ undone before.old.items components.old.running.items }
-    ensures visits { components.new.visits ≡ components.old.visits }
+    ensures components { AreComponents A.fits moment.now.tables.now components.new.running }
+    ensures agenda { agenda.new ≡ waits_of components.new.running }
+    ensures within { AreWithin (length components.new.running) before.new.items }
+    ensures before { undone before.new.items components.new.running
+        ≡ undone before.old.items components.old.running }
+    ensures visits { OnOk result (IsCounted (length received.now.items) (length received.now.items)
+        components.old.visits components.new.visits) }
     ensures count { length before.new.items + length (R.told to.old).entries
         ≡ length before.old.items + length (R.told to.new).entries }
+    ensures counted { components.new.settled ≡ components.old.settled }
     ensures outer { (R.told to.new).outer ≡ (R.told to.old).outer }
     ensures is_open { IsOpenAt moment.now.instant.now.time (R.told to.new) }
     ensures settled { R.settled to.new ≡ R.settled to.old }
@@ -88,7 +91,7 @@ pub(crate) fn commit<A: Atomic, R: Record>(
     Ok(())
 }
 
-// The component at the place of an arrival reacts, by the index of the first emission that does not stand before it.
+// The component at the place of an arrival is visited and reacts, by the index of the first emission that does not stand before it.
 fn commit_one<A: Atomic, R: Record>(
     moment: &Moment<'_, A>,
     work: &mut A::Work,
@@ -101,35 +104,38 @@ fn commit_one<A: Atomic, R: Record>(
 ) -> Result<(), AllocError>
     requires tables { AreTables A.fits moment.now.tables.now }
     requires limit { moment.now.instant.now.limit ≡ moment.now.tables.now.limit }
-    requires components { AreComponents A.fits moment.now.tables.now components.old.running.items }
+    requires components { AreComponents A.fits moment.now.tables.now components.old.running }
     requires comes { (a : A) (bags : List Counts) → A.comes a bags }
     requires place { arrival.now.place < length moment.now.tables.now.members.items }
     requires rise { AreRising (places_of moment.now.emitted.now) }
     requires next { IsNext arrival.now.place moment.now.emitted.now index }
     requires given { IsGivenAt A.behaviour moment.now.tables.now (rank_of moment.now.instant.now)
-        moment.now.emitted.now components.old.running.items arrival.now.place }
-    requires agenda { agenda.old ≡ waits_of components.old.running.items }
-    requires within { AreWithin (length components.old.running.items) before.old.items }
+        moment.now.emitted.now components.old.running arrival.now.place }
+    requires agenda { agenda.old ≡ waits_of components.old.running }
+    requires within { AreWithin (length components.old.running) before.old.items }
     requires nothing { moment.now.nothing.now ≡ [] }
     requires is_open { IsOpenAt moment.now.instant.now.time (R.told to.old) }
     ensures reacted { OnOk result (HasReacted A.behaviour A.fits moment.now.tables.now
         (rank_of moment.now.instant.now) moment.now.emitted.now arrival.now
-        components.old.running.items
-        components.new.running.items (R.told to.old).entries (R.told to.new).entries) }
-    ensures components { AreComponents A.fits moment.now.tables.now components.new.running.items }
-    ensures agenda { agenda.new ≡ waits_of components.new.running.items }
-    ensures within { AreWithin (length components.new.running.items) before.new.items }
-    ensures before { undone before.new.items components.new.running.items
-        ≡ undone before.old.items components.old.running.items }
-    ensures visits { components.new.visits ≡ components.old.visits }
+        components.old.running
+        components.new.running (R.told to.old).entries (R.told to.new).entries) }
+    ensures components { AreComponents A.fits moment.now.tables.now components.new.running }
+    ensures agenda { agenda.new ≡ waits_of components.new.running }
+    ensures within { AreWithin (length components.new.running) before.new.items }
+    ensures before { undone before.new.items components.new.running
+        ≡ undone before.old.items components.old.running }
+    ensures visits { OnOk result
+        (IsCounted 1 1 components.old.visits components.new.visits) }
     ensures count { length before.new.items + length (R.told to.old).entries
         ≡ length before.old.items + length (R.told to.new).entries }
+    ensures counted { components.new.settled ≡ components.old.settled }
     ensures outer { (R.told to.new).outer ≡ (R.told to.old).outer }
     ensures is_open { IsOpenAt moment.now.instant.now.time (R.told to.new) }
     ensures settled { R.settled to.new ≡ R.settled to.old }
     ensures handed { R.handed to.new ≡ R.handed to.old }
 {
-    let component = &components.running[arrival.place as usize];
+    components.visit(arrival.place);
+    let component = components.visited();
     let outcome = outcome(
         moment.tables,
         work,
@@ -219,7 +225,8 @@ fn tell<A, R: Record>(
     }
 }
 
-// Puts a component in its place, and the one that stood there behind those that stood before, where there is room for it.
+// Puts a component in the place that was visited last, and the one that stood there behind those that stood before, where
+// there is room for it.
 fn put_in(
     components: &mut Components,
     agenda: &mut Agenda,
@@ -227,20 +234,22 @@ fn put_in(
     place: u32,
     component: Running,
 )
-    requires place { place < length components.old.running.items }
-    requires agenda { agenda.old ≡ waits_of components.old.running.items }
-    requires within { AreWithin (length components.old.running.items) before.old.items }
+    requires place { place < length components.old.running }
+    requires visited { components.old.visited ≡ place }
+    requires agenda { agenda.old ≡ waits_of components.old.running }
+    requires within { AreWithin (length components.old.running) before.old.items }
     requires room { vec_len before.old < vec_capacity before.old }
-    ensures components { components.new.running.items
-        ≡ slice_set components.old.running.items place component }
+    ensures components { components.new.running
+        ≡ slice_set components.old.running place component }
     ensures visits { components.new.visits ≡ components.old.visits }
+    ensures counted { components.new.settled ≡ components.old.settled }
     ensures count { length before.new.items ≡ length before.old.items + 1 }
-    ensures agenda { agenda.new ≡ waits_of components.new.running.items }
-    ensures within { AreWithin (length components.new.running.items) before.new.items }
-    ensures before { undone before.new.items components.new.running.items
-        ≡ undone before.old.items components.old.running.items }
+    ensures agenda { agenda.new ≡ waits_of components.new.running }
+    ensures within { AreWithin (length components.new.running) before.new.items }
+    ensures before { undone before.new.items components.new.running
+        ≡ undone before.old.items components.old.running }
 {
     agenda.set(place, time_of(component.wait));
-    let what = components.replace(place, component);
+    let what = components.replace(component);
     push_to_room(before, Placed { place, what });
 }

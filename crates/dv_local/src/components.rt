@@ -1,47 +1,111 @@
-//! The components of a process, with a count of visits: the code adds to it where it looks at one, and no type forces it to.
+//! The components of a process, of which each visit is counted.
 
-ghost use Rattle.std.specs.Prelude.{◌≡◌, ◌<◌, ◌≤◌, ◌+◌, ◌-◌, ◌^◌, length, min, slice_index_or, slice_set};
+ghost use Rattle.std.specs.Prelude.{◌≡◌, ◌<◌, ◌≤◌, ◌+◌, ◌-◌, ◌^◌, Some, length, min, slice_get, slice_index_or, slice_set};
 ghost use Rattle.dv_react.specs.declared.running.Running.{Running as RunningOfCode};
 
 use dv_react::Running;
+use std::marker::Model;
 use std::mem;
 
-/// The components by place, and how many visits of them were counted.
+/// The components by place. A visit goes to one of them and adds one to the count. The one that was visited last can be read
+/// and replaced, and no other. So no code reads or changes a component that was not counted for it.
 #[derive(Drop)]
 pub struct Components {
-    pub running: Vec<Running>,
-    pub visits: u64,
+    running: Vec<Running>,
+    // The place that was visited last.
+    visited: u32,
+    visits: u64,
+    // The count when all was settled.
+    settled: u64,
+}
+
+impl Model for Components {
+    ghost use Rattle.dv_local.specs.Components.{ComponentsOf};
+
+    ghost Value = { ComponentsOf };
+
+    ghost view = { λ c. record {
+      running = c.running.items;
+      visited = c.visited;
+      visits = c.visits;
+      settled = c.settled;
+    } };
 }
 
 impl Components {
-    /// Puts another component at a place, and gives the one that stood there.
-    pub fn replace(&mut self, place: u32, component: Running) -> Running
-        requires { place < length self.old.running.items }
-        ensures before { (d : RunningOfCode)
-            → result ≡ slice_index_or self.old.running.items place d }
-        ensures components { self.new.running.items
-            ≡ slice_set self.old.running.items place component }
-        ensures visits { self.new.visits ≡ self.old.visits }
+    /// Components of which none was visited.
+    pub fn new(running: Vec<Running>) -> Self
+        ensures components { result.running ≡ running.items }
+        ensures visits { result.visits ≡ 0 }
+        ensures settled { result.settled ≡ 0 }
     {
-        mem::replace(&mut self.running[place as usize], component)
+        Components {
+            running,
+            visited: 0,
+            visits: 0,
+            settled: 0,
+        }
     }
 
-    /// Counts so many visits.
-    pub fn count(&mut self, visits: usize)
+    /// Goes to the component at a place, which adds one to the count. The count stays at 2^64 - 1 once there.
+    #[inline]
+    pub fn visit(&mut self, place: u32)
         ensures components { self.new.running ≡ self.old.running }
-        ensures visits { self.new.visits ≡ min (self.old.visits + visits) (2 ^ 64 - 1) }
+        ensures visited { self.new.visited ≡ place }
+        ensures visits { self.new.visits ≡ min (self.old.visits + 1) (2 ^ 64 - 1) }
         ensures never_fall { self.old.visits ≤ self.new.visits }
+        ensures settled { self.new.settled ≡ self.old.settled }
     {
-        self.visits = self.visits.saturating_add(visits as u64);
+        self.visited = place;
+        self.visits = self.visits.saturating_add(1);
     }
 
-    /// Puts a component back where it stood.
-    pub fn put_back(&mut self, place: u32, component: Running)
-        requires { place < length self.old.running.items }
-        ensures components { self.new.running.items
-            ≡ slice_set self.old.running.items place component }
-        ensures visits { self.new.visits ≡ self.old.visits }
+    /// The component that was visited last.
+    #[inline]
+    pub fn visited(&self) -> &Running
+        requires { self.now.visited < length self.now.running }
+        ensures { slice_get self.now.running self.now.visited ≡ Some result.now }
     {
-        self.running[place as usize] = component;
+        &self.running[self.visited as usize]
+    }
+
+    /// Puts another component where one was visited last, and gives the one that stood there.
+    #[inline]
+    pub fn replace(&mut self, component: Running) -> Running
+        requires { self.old.visited < length self.old.running }
+        ensures before { (d : RunningOfCode)
+            → result ≡ slice_index_or self.old.running self.old.visited d }
+        ensures components { self.new.running
+            ≡ slice_set self.old.running self.old.visited component }
+        ensures visited { self.new.visited ≡ self.old.visited }
+        ensures visits { self.new.visits ≡ self.old.visits }
+        ensures settled { self.new.settled ≡ self.old.settled }
+    {
+        mem::replace(&mut self.running[self.visited as usize], component)
+    }
+
+    /// How many visits there were.
+    pub fn visits(&self) -> u64
+        ensures { result ≡ self.now.visits }
+    {
+        self.visits
+    }
+
+    /// The count is not taken back any more.
+    pub fn settle(&mut self)
+        ensures components { self.new.running ≡ self.old.running }
+        ensures visits { self.new.visits ≡ self.old.visits }
+        ensures settled { self.new.settled ≡ self.old.visits }
+    {
+        self.settled = self.visits;
+    }
+
+    /// Takes back what was added to the count since all was settled.
+    pub fn take_back(&mut self)
+        ensures components { self.new.running ≡ self.old.running }
+        ensures visits { self.new.visits ≡ self.old.settled }
+        ensures settled { self.new.settled ≡ self.old.settled }
+    {
+        self.visits = self.settled;
     }
 }

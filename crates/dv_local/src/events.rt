@@ -79,6 +79,9 @@ pub(crate) fn deliveries_of(
 ) -> Result<Vec<Delivery>, AllocError>
     ensures { IfOk result (λ ds. ds.items ≡ map delivered_by arrivals.now) }
 {
+    if arrivals.is_empty() {
+        return Ok(Vec::new(alloc));
+    }
     arrivals
         .iter()
         .map(|arrival| Delivery {

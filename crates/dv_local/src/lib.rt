@@ -6,8 +6,9 @@
 pub mod beginning;
 mod commit;
 
-/// The components, with a count of visits.
+/// The components, of which each visit is counted.
 pub mod components;
+mod emission;
 mod events;
 
 /// What a process asks for.

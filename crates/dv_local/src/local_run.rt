@@ -95,7 +95,7 @@ impl<A: Atomic + Drop, R: Record> Local for LocalRun<A, R> {
     }
 
     fn visits(&self) -> u64 {
-        self.state.components.visits
+        self.state.components.visits()
     }
 
     fn record(&self) -> &R {

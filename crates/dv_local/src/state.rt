@@ -1,6 +1,6 @@
 //! What the components of a process stand at.
 
-ghost use Rattle.std.specs.Prelude.{◌≡◌, ◌++◌, ◌<◌, ◌^◌, ℕ, List, [], IfOk, length, map, None, OnErr, OnOk, Some, slice_get, true};
+ghost use Rattle.std.specs.Prelude.{◌≡◌, ◌++◌, ◌<◌, ◌≤◌, ◌^◌, ℕ, List, [], IfOk, length, map, None, OnErr, OnOk, Some, slice_get, true};
 ghost use Rattle.dv_time.specs.Time.{IsOfRun, rank};
 ghost use Rattle.dv_devs.specs.Cuts.{IsAllBefore};
 ghost use Rattle.dv_devs.specs.NextTimes.{least_next};
@@ -15,10 +15,11 @@ ghost use Rattle.dv_react.specs.Components.{components_of};
 ghost use Rattle.dv_bag.specs.Bag.{Counts};
 ghost use Rattle.dv_share.specs.Share.{AreComponents, AreEmitted};
 ghost use Rattle.dv_local.specs.Shares.{IsShare, share_by};
-ghost use Rattle.dv_local.specs.States.{IsAtRest, IsKept, sent_of, settled_by, view_by};
+ghost use Rattle.dv_local.specs.States.{IsAtRest, IsKept, imminent_of, sent_of, settled_by, view_by};
 
 use crate::commit::{Moment, commit};
 use crate::components::Components;
+use crate::emission::emit_all;
 use crate::events::{add_events, comings_of, deliveries_of};
 use crate::scratch::Scratch;
 use crate::share::Share;
@@ -30,7 +31,7 @@ use dv_proc::{Event, Frame};
 use dv_react::{Atomic, Instant, Running};
 use dv_record::{HandsOver, Record};
 use dv_share::tables::place_of;
-use dv_share::{Placed, arrivals, away, emit, outer};
+use dv_share::{Placed, arrivals, away, outer};
 use dv_time::Time;
 use std::alloc::{AllocError, Global};
 
@@ -81,15 +82,15 @@ impl<A: Atomic + Drop, R: Record> LocalState<A, R> {
         ensures record { IfOk result (λ x. x.record ≡ to) }
     {
         let agenda = agenda_of(alloc, &running)?;
+        let components = Components::new(running);
         Ok(LocalState {
             record: to,
             share,
-            components: Components { running, visits: 0 },
+            components,
             agenda,
             inbox: Inbox::new(alloc),
             undo: Undo {
                 before: Vec::new(alloc),
-                visits: 0,
                 taken: None,
             },
             emitted: Vec::new(alloc),
@@ -211,8 +212,10 @@ impl<A: Atomic, R: Record> LocalState<A, R> {
         ensures at_rest { IsAtRest R.told R.settled self.old → IsAtRest R.told R.settled self.new }
         ensures handed { R.handed self.new.record ≡ R.handed self.old.record }
         ensures emitted { OnOk result (AreEmitted A.behaviour self.new.share.tables
-            (rank self.new.share.tables.limit now) self.new.components.running.items
+            (rank self.new.share.tables.limit now) self.new.components.running
             self.new.emitted.items) }
+        ensures few { OnOk result (length self.new.emitted.items
+            ≤ imminent_of self.new.share.tables.limit now self.new.components.running) }
     {
         if is_taken(self.emitted_at, now) {
             return Ok(());
@@ -224,16 +227,15 @@ impl<A: Atomic, R: Record> LocalState<A, R> {
         self.emitted_at = None;
         self.scratch.due.clear();
         self.agenda.due(now, &mut self.scratch.due)?;
-        emit(
+        emit_all(
             self.alloc,
             &self.share.tables,
             work,
             &instant,
-            self.components.running.as_slice(),
+            &mut self.components,
             &self.scratch.due,
             &mut self.emitted,
         )?;
-        self.components.count(self.scratch.due.len());
         self.emitted_at = Some(now);
         Ok(())
     }
@@ -307,7 +309,6 @@ impl<A: Atomic, R: Record> LocalState<A, R> {
             &mut self.scratch.carried,
             &mut self.record,
         )?;
-        self.components.count(self.undo.before.len());
         self.undo.taken = Some(now);
         Ok(())
     }
@@ -349,7 +350,7 @@ impl<A: Atomic, R: Record> LocalState<A, R> {
         self.undo.taken = None;
         self.undo.before.clear();
         self.record.settle();
-        self.undo.visits = self.components.visits;
+        self.components.settle();
     }
 
     /// Makes them stand again where they were settled.
@@ -367,7 +368,6 @@ impl<A: Atomic, R: Record> LocalState<A, R> {
             &mut self.agenda,
             &mut self.undo.before,
         );
-        self.components.visits = self.undo.visits;
         self.record.roll_back();
         self.emitted_at = None;
         self.undo.taken = None;

@@ -1,6 +1,6 @@
 //! How what was done is taken back.
 
-ghost use Rattle.std.specs.Prelude.{◌≡◌, ◌<◌, ◌≤◌, ◌+◌, ◌-◌, ◌^◌, [], ◌∷◌, ◌++◌, IfOk, length, min, vec_capacity, vec_len};
+ghost use Rattle.std.specs.Prelude.{◌≡◌, ◌<◌, ◌≤◌, ◌+◌, ◌-◌, ◌^◌, [], ◌∷◌, ◌++◌, IfOk, length, slice_set, vec_capacity, vec_len};
 ghost use Rattle.dv_agenda.specs.Comings.{arrivals_at};
 ghost use Rattle.dv_time.specs.declared.time.Time.{Time as TimeOfCode};
 ghost use Rattle.dv_local.specs.Undoing.{AreWithin, arrivals_but, time_of_wait, undone, waits_of};
@@ -12,13 +12,12 @@ use dv_share::Placed;
 use dv_time::Time;
 use std::alloc::{AllocError, Global};
 
-/// What stood when all was settled: the components that were put in since with those that stood there before, how often
-/// components were looked at, and the time whose arrivals are let go when all is settled again. What was told since, the
-/// record knows.
+/// What stood when all was settled: the components that were put in since with those that stood there before, and the time
+/// whose arrivals are let go when all is settled again. What was told since, the record knows, and what was visited the
+/// components.
 #[derive(Drop)]
 pub struct Undo {
     pub before: Vec<Placed<Running>>,
-    pub visits: u64,
     pub taken: Option<Time>,
 }
 
@@ -41,24 +40,38 @@ pub(crate) fn let_go(inbox: &mut Inbox, taken: Option<Time>)
     }
 }
 
-/// Puts the components back that stood before, the last first. It wants no memory.
+/// Puts the components back that stood before, the last first, and takes back what was added to their count of visits. It
+/// wants no memory.
 pub(crate) fn put_all_back(
     components: &mut Components,
     agenda: &mut Agenda,
     before: &mut Vec<Placed<Running>>,
 )
-    requires within { AreWithin (length components.old.running.items) before.old.items }
-    requires agenda { agenda.old ≡ waits_of components.old.running.items }
-    ensures components { components.new.running.items
-        ≡ undone before.old.items components.old.running.items }
-    ensures visits { components.new.visits ≡ components.old.visits }
-    ensures agenda { agenda.new ≡ waits_of components.new.running.items }
+    requires within { AreWithin (length components.old.running) before.old.items }
+    requires agenda { agenda.old ≡ waits_of components.old.running }
+    ensures components { components.new.running
+        ≡ undone before.old.items components.old.running }
+    ensures visits { components.new.visits ≡ components.old.settled }
+    ensures settled { components.new.settled ≡ components.old.settled }
+    ensures agenda { agenda.new ≡ waits_of components.new.running }
     ensures empty { before.new.items ≡ [] }
 {
     while let Some(last) = before.pop() {
         agenda.set(last.place, time_of(last.what.wait));
-        components.put_back(last.place, last.what);
+        put_back(components, last.place, last.what);
     }
+    components.take_back();
+}
+
+// Puts a component back where it stood.
+fn put_back(components: &mut Components, place: u32, component: Running)
+    requires { place < length components.old.running }
+    ensures components { components.new.running
+        ≡ slice_set components.old.running place component }
+    ensures settled { components.new.settled ≡ components.old.settled }
+{
+    components.visit(place);
+    components.replace(component);
 }
 
 /// Pushes where there is room.

@@ -83,6 +83,9 @@ pub(crate) fn outside_at(
         → bags ≡ inputs_at limit ports inputs.now (rank limit now)) }
 {
     let inputs = inputs.as_slice();
+    if inputs.is_empty() {
+        return Ok(Bags::empty(alloc, ports as usize));
+    }
     let place = inputs_before(inputs, now);
     let mut entering = entering_at(alloc, &inputs[place..], now)?;
     entering.sort_unstable();

@@ -2,7 +2,7 @@
 
 ghost use Rattle.std.specs.Prelude.{IfOk};
 
-use dv_bag::{Entry, Fault, What};
+use dv_bag::{Entry, Fault, Kind, What};
 use dv_core::{LogicalProcess, committed};
 use dv_proc::{Event, Packet, Refused};
 use dv_record::PartRecord;
@@ -26,14 +26,17 @@ pub enum Committed {
     Nothing,
     /// One fault of a component.
     Fault(Time, u32, Fault),
+    /// One transition of a component.
+    Transition(Time, u32, Kind),
 }
 
-/// Packets for a new process, one after the other, and what it commits then, up to a clock.
+/// Packets for a new process, one after the other, what it commits then, up to a clock, and how often it visits components.
 pub struct Case {
     pub name: &'static str,
     pub rows: &'static [Row],
     pub committed: Committed,
     pub clock: Time,
+    pub visits: u64,
 }
 
 impl Row {
@@ -65,6 +68,11 @@ impl Committed {
                     && entry.component == *component
                     && entry.what == What::Fault(*fault)
             }
+            Committed::Transition(time, component, kind) => {
+                entry.time == *time
+                    && entry.component == *component
+                    && is_of_kind(&entry.what, *kind)
+            }
         }
     }
 
@@ -72,25 +80,33 @@ impl Committed {
     fn count(&self) -> usize {
         match self {
             Committed::Nothing => 0,
-            Committed::Fault(..) => 1,
+            Committed::Fault(..) | Committed::Transition(..) => 1,
         }
     }
 }
 
-/// Whether a new process does as a case says.
+/// Whether what happened is a transition of a kind.
+fn is_of_kind(what: &What, kind: Kind) -> bool {
+    match what {
+        What::Transition { kind: found, .. } => *found == kind,
+        What::Fault(_) => false,
+    }
+}
+
+/// Whether a new process answers and commits as a case says.
 pub fn does_hold<P: LogicalProcess<Record = PartRecord>>(
     alloc: Global,
-    mut process: P,
+    process: &mut P,
     work: &mut P::Work,
     case: &Case,
 ) -> Result<bool, AllocError>
-    requires { P.valid process }
+    requires { P.valid process.old }
 {
-    if !does_answer(alloc, &mut process, case.rows)? {
+    if !does_answer(alloc, process, case.rows)? {
         return Ok(false);
     }
-    take_turns(&mut process, work)?;
-    let part = committed(&process);
+    take_turns(process, work)?;
+    let part = committed(process);
     let is_count = part.entry_count() == case.committed.count();
     let mut entries = part.entries();
     let are_entries = entries.all(|entry| case.committed.is_entry(entry));

@@ -1,6 +1,6 @@
 //! Hands packets to a process of a model, and compares what it answers and what it commits with tables.
 //!
-//! The word names a file with the model.
+//! The first word names a file with a model of two components, the second one with a clock and a thousand cells.
 #![tactic(auto)]
 
 /// Cases, and whether a process does as they say.
@@ -10,17 +10,34 @@ mod process;
 /// The cases.
 mod table;
 
+use crate::cases::Case;
 use std::io;
 use std::process::ExitCode;
+use std::rt::Files;
 
 fn main(rt: HostRuntime) -> io::Result<ExitCode> {
     let words: Vec<String> = std::env::args(&rt)?.skip(1).collect(rt.alloc())?;
-    let Some(name) = words.first() else {
+    let (Some(two), Some(cells)) = (words.first(), words.get(1)) else {
         return Ok(ExitCode::FAILURE);
     };
-    let text = std::fs::read_to_string(&rt, name.as_str())?;
+    let two = do_all_hold(&rt, two.as_str(), &table::CASES)?;
+    let cells = do_all_hold(&rt, cells.as_str(), &table::CELLS)?;
+    Ok(if two && cells {
+        ExitCode::SUCCESS
+    } else {
+        ExitCode::FAILURE
+    })
+}
+
+/// Tells of each case whether a process of the model in a file does as it says, and answers whether all do.
+fn do_all_hold<R: AllocGlobal + Files + Print>(
+    rt: &R,
+    name: &str,
+    cases: &[Case],
+) -> io::Result<bool> {
+    let text = std::fs::read_to_string(rt, name)?;
     let mut do_all_hold = true;
-    for case in &table::CASES {
+    for case in cases {
         if process::does_hold(rt.alloc(), text.as_str(), case)? {
             println!(rt; "{}: {} packets", case.name, case.rows.len())?;
         } else {
@@ -28,9 +45,5 @@ fn main(rt: HostRuntime) -> io::Result<ExitCode> {
             do_all_hold = false;
         }
     }
-    Ok(if do_all_hold {
-        ExitCode::SUCCESS
-    } else {
-        ExitCode::FAILURE
-    })
+    Ok(do_all_hold)
 }

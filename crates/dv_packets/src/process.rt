@@ -1,6 +1,7 @@
 //! A process of a text, as its run begins.
 
-ghost use Rattle.std.specs.Prelude.{◌≡◌, ◌-◌, ℕ, [], None, Some, IfOk, IfSome, length, slice_get};
+ghost use Rattle.std.specs.Prelude.{◌≡◌, ◌-◌, ◌<◌, ℕ, [], None, Some, IfOk, IfSome, length, slice_get};
+ghost use Rattle.std.specs.List.{AllByRecursion};
 ghost use Rattle.dv_check.specs.Refusals.{AreOfOneText, refusal_of};
 ghost use Rattle.dv_coded.specs.declared.lent.Lent.{Lent};
 ghost use Rattle.dv_coded.specs.Lent.{behaviour_of_lent, lent_takes};
@@ -37,7 +38,10 @@ const HORIZON: u64 = 4;
 
 const LIMIT: u32 = 3;
 
-/// Whether the process of the second component of a text does as a case says. A text that is refused has none.
+/// How many processes a model has.
+const PROCESSES: usize = 2;
+
+/// Whether the process of all components of a text but the first does as a case says. A text that is refused has none.
 pub fn does_hold(alloc: Global, text: &str, case: &Case) -> Result<bool, AllocError> {
     match checked(alloc, text) {
         Ok(checked) => does_hold_of_checked(alloc, &checked, case),
@@ -67,15 +71,15 @@ fn checked(alloc: Global, text: &str) -> Result<Checked, LoadError>
     check(alloc, file, found.names)
 }
 
-// Whether that process of an accepted text does as a case says. Each of two components has a process.
+// Whether that process of an accepted text does as a case says. The first component has a process, and all others have another.
 fn does_hold_of_tree(alloc: Global, tree: &Tree, case: &Case) -> Result<bool, AllocError>
     requires text { AreOfOneText tree.now.names (file_of tree.now.file) }
     requires accepted { refusal_of (file_of tree.now.file) ≡ None }
     requires few { link_refusal (file_of tree.now.file) ≡ None }
 {
     let links = flatten(alloc, tree)?;
-    let owners = vec![in alloc; 0, 1]?;
-    let groups = Groups::new(alloc, owners.len(), owners)?;
+    let owners = owners_of(alloc, tree.component_count())?;
+    let groups = Groups::new(alloc, PROCESSES, owners)?;
     let inputs = Inputs::new(alloc);
     let job = TextJob {
         tree,
@@ -85,6 +89,18 @@ fn does_hold_of_tree(alloc: Global, tree: &Tree, case: &Case) -> Result<bool, Al
         limit: LIMIT,
     };
     does_hold_of_job(alloc, &job, &links, case)
+}
+
+// The process of each of so many components: the first has one, and all others have another.
+fn owners_of(alloc: Global, components: usize) -> Result<Vec<u32>, AllocError>
+    ensures owned { IfOk result (λ owners. AllByRecursion (λ p. p < 2) owners.items) }
+    ensures count { IfOk result (λ owners. length owners.items ≡ components) }
+{
+    let mut owners = Vec::with_capacity(alloc, components)?;
+    for component in 0..components {
+        owners.push(component.min(1) as u32)?;
+    }
+    Ok(owners)
 }
 
 // Whether the last process of a job without inputs does as a case says.
@@ -112,7 +128,10 @@ fn does_hold_of_job(
     } = components_of(&mut bench, job.tree, job.limit)?;
     let plan = plan_text(alloc, job, &models, members, responses, links)?;
     match last_process(alloc, plan)? {
-        Some(process) => cases::does_hold(alloc, process, &mut bench, case),
+        Some(mut process) => {
+            let does_hold = cases::does_hold(alloc, &mut process, &mut bench, case)?;
+            Ok(does_hold && process.visits() == case.visits)
+        }
         None => Ok(false),
     }
 }

@@ -1,7 +1,7 @@
 //! The cases.
 
 use crate::cases::{Case, Committed, Row};
-use dv_bag::Fault;
+use dv_bag::{Fault, Kind};
 use dv_proc::{Event, Refused};
 use dv_time::Time;
 
@@ -74,6 +74,14 @@ const OF_ALL_COPIES: Event = Event {
     port: 0,
     value: 1,
     copies: u64::MAX,
+};
+
+const FOR_A_CELL: Event = Event {
+    time: at!(3, 0),
+    component: 1,
+    port: 0,
+    value: 10,
+    copies: 1,
 };
 
 /// Packets that are refused, and one that is taken.
@@ -180,6 +188,14 @@ const OF_ALL_COPIES_TAKEN: &[Row] = &[Row {
     refusal: None,
 }];
 
+const FOR_ONE_CELL: &[Row] = &[Row {
+    link: 0,
+    from: at!(0, 0),
+    upto: at!(5, 0),
+    events: &[FOR_A_CELL],
+    refusal: None,
+}];
+
 /// The cases. The process has component 1, whose input port 0 leads from the other process.
 pub const CASES: [Case; 3] = [
     Case {
@@ -187,17 +203,29 @@ pub const CASES: [Case; 3] = [
         rows: REFUSALS,
         committed: Committed::Nothing,
         clock: at!(1, 0),
+        visits: 0,
     },
     Case {
         name: "an event without copies",
         rows: WITHOUT_COPIES_TAKEN,
         committed: Committed::Nothing,
         clock: at!(1, 0),
+        visits: 0,
     },
     Case {
         name: "an event of all copies",
         rows: OF_ALL_COPIES_TAKEN,
         committed: Committed::Fault(at!(0, 2), 1, Fault::Flood),
         clock: at!(1, 0),
+        visits: 1,
     },
 ];
+
+/// The case of the process that has components 1 to 1,000: the first of these alone is visited, once.
+pub const CELLS: [Case; 1] = [Case {
+    name: "an event for one of a thousand cells",
+    rows: FOR_ONE_CELL,
+    committed: Committed::Transition(at!(3, 0), 1, Kind::External),
+    clock: at!(5, 0),
+    visits: 1,
+}];

@@ -55,7 +55,7 @@ const LAMP: Outline = Outline {
 
 impl Outline {
     fn of(member: &Member, response: Response) -> Self {
-        let tick = match member.start.wait {
+        let tick = match member.start.as_running().wait {
             Wait::Until(time) => Some(time.tick),
             Wait::Forever | Wait::Quiet => None,
         };
@@ -118,7 +118,7 @@ fn first_beat(bench: &mut Bench, components: &Components) -> Result<Option<Beat>
     let Some(clock) = components.models.get(member.model as usize) else {
         return Ok(None);
     };
-    Ok(Some(beat_of(bench, clock, &member.start.state)?))
+    Ok(Some(beat_of(bench, clock, &member.start.as_running().state)?))
 }
 
 #[test]

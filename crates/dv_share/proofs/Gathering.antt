@@ -45,7 +45,7 @@ one_if t = cond t 1 0
 pub count_push : (p q : ℕ) (ps : List ℕ) → count_in p (ps ++ q ∷ []) ≡ count_in p ps + one_if (nat_eq q p)
 count_push p q ps = sum_by_push (λ (q : ℕ). one_if (nat_eq q p)) ps q
 
-count_cons : (p q : ℕ) (ps : List ℕ) → count_in p (q ∷ ps) ≡ one_if (nat_eq q p) + count_in p ps
+pub count_cons : (p q : ℕ) (ps : List ℕ) → count_in p (q ∷ ps) ≡ one_if (nat_eq q p) + count_in p ps
 count_cons p q ps = sum_by-cons (λ (q : ℕ). one_if (nat_eq q p)) q ps
 
 -- what is in a list is there once and more, and what is not is not there at all

@@ -4,6 +4,7 @@ use Rattle.std.proofs.Common.{◌++◌, length, get_or, set, replicate, ℤ, ref
 use Rattle.std.proofs.lemmas.Bool.{eq-eqb, eqb-true}
 use Rattle.dv_bag.specs.Bag.{Counts, union, with_copies}
 use Rattle.dv_bag.proofs.Monoid.{copies_capped}
+use Rattle.dv_devs.specs.Network.{outer_from}
 use Rattle.dv_conservative.specs.Links.{Delivery, delivered, inbox, taken}
 use Rattle.dv_conservative.proofs.Delivered.{delivered-append, delivered_either}
 use Rattle.dv_share.proofs.Places.{differ, yes_or_no}
@@ -23,6 +24,11 @@ inbox_length k ds a (suc n) = ap suc (inbox_length k ds (a + 1) n)
 pub inbox_nothing : (k a n : ℕ) → inbox k [] a n ≡ replicate n []
 inbox_nothing k a zero = refl
 inbox_nothing k a (suc n) = ap (λ (bs : List Counts). [] ∷ bs) (inbox_nothing k (a + 1) n)
+
+-- where nothing is delivered no line is told
+pub no_lines : (limit now k a n : ℕ) → outer_from limit now a (inbox k [] a n) ≡ []
+no_lines limit now k a zero = refl
+no_lines limit now k a (suc n) = no_lines limit now k (a + 1) n
 
 taken_elsewhere : (k port : ℕ) (d : Delivery) (bag : Counts) → (d.port ≡ port → ⊥) → taken k port d bag ≡ bag
 taken_elsewhere k port d bag apart = rw (differ d.port port apart) (by_test (nat_eq d.component k))

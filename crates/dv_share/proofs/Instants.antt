@@ -97,7 +97,7 @@ same_numbers behaviour limit models (m ∷ ms) = ap (λ (ks : List ℕ). m.numbe
 module _ {S : Type 0} (behaviour : S → Behaviour) (fits : S → State → Type 0) (t : Tables S) (now : ℕ) (rs : List Running)
     (es : List (Placed (Result (List Counts) Fault))) (xs : List (Placed (List Counts))) (os : List (Placed Outcome)) where
   -- what all components receive of what is sent and comes, by the tables
-  received_of : (outside : List Counts) (ds : List Delivery) → AreEmitted behaviour t now rs es →
+  pub received_of : (outside : List Counts) (ds : List Delivery) → AreEmitted behaviour t now rs es →
       (network (flat_by behaviour t)).arrives (emissions (network (flat_by behaviour t)).behaviours now (components_of t.limit rs))
       (outside, ds)
       ≡ received_by (flat_by behaviour t).members (coming t es outside ds)

@@ -26,7 +26,7 @@ met_new = record {
 }
 
 -- no number past those of a list is in it
-count_past : (n p : ℕ) (ps : List ℕ) → All (λ q. q < n) ps → n ≤ p → count_in p ps ≡ 0
+pub count_past : (n p : ℕ) (ps : List ℕ) → All (λ q. q < n) ps → n ≤ p → count_in p ps ≡ 0
 count_past n p ps within past = counted_none p ps (out ps within)
   where
     out : (qs : List ℕ) → All (λ q. q < n) qs → is_in p qs ≡ false

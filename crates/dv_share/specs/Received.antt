@@ -30,6 +30,11 @@ pub record ReceivedOf : Type 0 where
 abbrev pub count_in : ℕ → List ℕ → ℕ
 count_in p ps = sum_by (λ q. if nat_eq q p then 1 else 0) ps
 
+-- the places of the receipts that are met, in the order of the receipts
+abbrev pub met_of : List Receipt → List ℕ
+met_of [] = []
+met_of (r ∷ rs) = if r.is_met then r.placed.place ∷ met_of rs else met_of rs
+
 -- Each receipt stands at its own place. The places are those of the receipts that are met, each once.
 pub record AreMet (receipts : List Receipt) (ps : List ℕ) : Type 0 where
   pub own : (p : ℕ) → p < length receipts → (receipt_at receipts p).placed.place ≡ p

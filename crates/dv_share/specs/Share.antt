@@ -1,5 +1,5 @@
 -- What the tables of a share stand for, and the lists of an instant over them.
-use Rattle.std.specs.Prelude.{◌≡◌, ℕ, suc, ◌<◌, true, false, IsTrue, List, [], ◌∷◌, ◌++◌, map, length, slice_get, unwrap_or}
+use Rattle.std.specs.Prelude.{◌≡◌, ℕ, suc, ◌<◌, ◌||◌, not, true, false, IsTrue, List, [], ◌∷◌, ◌++◌, map, length, slice_get, unwrap_or}
 use Rattle.std.specs.Prelude.{Option, Some, None, Result, Ok}
 use Rattle.std.specs.List.{All}
 use Rattle.dv_bag.specs.Bag.{Counts}
@@ -127,6 +127,10 @@ pub record AreReceived (ms : List MemberOfTables) (ds : List Delivery) (xs : Lis
   pub bags : All (λ (x : Placed (List Counts)). (m : MemberOfTables) → slice_get ms x.place ≡ Some m → x.what ≡ inbox_of m ds) xs
   pub rest : (p : ℕ) (m : MemberOfTables) → slice_get ms p ≡ Some m → is_in p (places_of xs) ≡ false
       → IsTrue (all_empty (inbox_of m ds))
+
+-- at each place something was emitted, or a value comes
+abbrev pub AreTouched : List ℕ → List (Placed (List Counts)) → Type 0
+AreTouched emitted xs = All (λ (x : Placed (List Counts)). IsTrue (is_in x.place emitted || not (all_empty x.what))) xs
 
 -- each place of the first is one of the second
 abbrev pub AreAmong : List ℕ → List ℕ → Type 0

@@ -4,7 +4,7 @@ ghost use Rattle.std.specs.Prelude.{◌≡◌, IfOk, OnOk, length};
 ghost use Rattle.dv_conservative.specs.Links.{inbox};
 ghost use Rattle.dv_share.specs.Links.{deliveries_of};
 ghost use Rattle.dv_share.specs.Places.{places_of};
-ghost use Rattle.dv_share.specs.Share.{AreAmong, AreReceived, AreTables, StandByPlace, coming};
+ghost use Rattle.dv_share.specs.Share.{AreAmong, AreReceived, AreTables, AreTouched, StandByPlace, coming};
 
 use crate::carry::{carry_emitted, carry_outside};
 use crate::link::Delivery;
@@ -16,9 +16,8 @@ use dv_react::Atomic;
 use std::alloc::{AllocError, Global};
 
 /// The bags that come to the components: from outside, from one another by what was emitted, and by deliveries. A place
-/// stands where something comes or something was emitted, and costs nothing elsewhere. What leads to no component or
-/// port of the share is left out. What is there is that of the
-/// instant before, whose memory serves again.
+/// stands where a value comes or something was emitted, and nowhere else. What leads to no component or port of the
+/// share is left out. What is there is that of the instant before, whose memory serves again.
 ///
 /// # Errors
 ///
@@ -38,6 +37,7 @@ pub fn arrivals<A: Atomic>(
         received.new.items) }
     ensures emitted { OnOk result (AreAmong (places_of emitted.now)
         (places_of received.new.items)) }
+    ensures touched { OnOk result (AreTouched (places_of emitted.now) received.new.items) }
 {
     incoming.clear();
     carry_outside(incoming, &tables.entrances, outside)?;

@@ -64,6 +64,9 @@ fn carry_row(deliveries: &mut Vec<Delivery>, links: &[Link], sent: &Sent) -> Res
     ensures { IfOk result (λ _. deliveries_of deliveries.new.items
         ≡ deliveries_of deliveries.old.items ++ carried (links_of links.now) (λ k. sent.now)) }
 {
+    if links.is_empty() {
+        return Ok(());
+    }
     let sendings = sent.as_slice();
     let mut start = 0;
     while start < sendings.len() {

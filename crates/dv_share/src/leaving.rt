@@ -44,6 +44,9 @@ pub fn outer<A, R: Record>(
 {
     leaving.clear();
     carry_emitted(leaving, &tables.members, &tables.exits, emitted)?;
+    if leaving.is_empty() {
+        return Ok(());
+    }
     leaving.sort_unstable();
     let bags = bags_of(alloc, 0, tables.outputs, leaving)?;
     to.left(instant.time, &bags)

@@ -1,13 +1,13 @@
 //! What comes to the components of a share at an instant, by place.
 
-ghost use Rattle.std.specs.Prelude.{◌≡◌, ◌++◌, ◌∷◌, ◌<◌, ◌≤◌, List, [], IsPermutation, IsTrue, OnOk, Some};
+ghost use Rattle.std.specs.Prelude.{◌≡◌, ℕ, ◌++◌, ◌∷◌, ◌<◌, ◌≤◌, List, [], IsPermutation, IsTrue, OnOk, Some};
 ghost use Rattle.std.specs.Prelude.{length, map, replicate, slice_get};
 ghost use Rattle.std.specs.List.{All};
 ghost use Rattle.dv_conservative.specs.Links.{Delivery as Meant};
 ghost use Rattle.dv_share.specs.Links.{deliveries_of, delivery_of};
 ghost use Rattle.dv_share.specs.Places.{AreRising, is_in, places_of};
-ghost use Rattle.dv_share.specs.Received.{AreGathered, with_delivery_at, with_place};
-ghost use Rattle.dv_share.specs.Share.{AreAmong, AreReceived, StandByPlace, numbers_of};
+ghost use Rattle.dv_share.specs.Received.{AreGathered, met_of, with_delivery_at, with_place};
+ghost use Rattle.dv_share.specs.Share.{AreAmong, AreReceived, AreTouched, StandByPlace, numbers_of};
 
 use crate::link::Delivery;
 use crate::place::Placed;
@@ -16,6 +16,10 @@ use crate::tally::Tally;
 use dv_bag::{Bags, Fault, Sent};
 use std::alloc::{AllocError, Global};
 use std::marker::Model;
+use std::mem;
+
+// Where one of so many components is met, many are.
+const DENSE: usize = 8;
 
 /// What comes to the component at a place, and whether something comes to it or it emitted something.
 #[derive(Drop)]
@@ -32,6 +36,8 @@ pub struct Received {
     receipts: Vec<Receipt>,
     // Those of the receipts that are met.
     places: Vec<u32>,
+    // Room for them in another order.
+    spare: Vec<u32>,
     tally: Tally,
     alloc: Global,
 }
@@ -58,6 +64,7 @@ impl Received {
         Received {
             receipts: Vec::new(alloc),
             places: Vec::new(alloc),
+            spare: Vec::new(alloc),
             tally: Tally::new(alloc),
             alloc,
         }
@@ -114,12 +121,13 @@ impl Received {
         ensures received { OnOk result
             (AreReceived members.now (deliveries_of deliveries.now) self.new.items) }
         ensures among { OnOk result (AreAmong (places_of emitted.now) (places_of self.new.items)) }
+        ensures touched { OnOk result (AreTouched (places_of emitted.now) self.new.items) }
     {
         self.clear();
         self.make_room(members)?;
         self.meet_all(members, emitted)?;
         self.deliver_all(members, deliveries)?;
-        self.put_in_order();
+        self.put_in_order()?;
         Ok(())
     }
 
@@ -162,6 +170,8 @@ impl Received {
             → AreGathered members.now ds self.old.items
             → AreGathered members.now ds self.new.items) }
         ensures among { OnOk result (AreAmong (places_of emitted.now) (places_of self.new.items)) }
+        ensures touched { OnOk result (AreTouched (places_of emitted.now) self.old.items
+            → AreTouched (places_of emitted.now) self.new.items) }
     {
         for emission in emitted {
             let inputs = members[emission.place as usize].inputs;
@@ -197,6 +207,8 @@ impl Received {
             → AreGathered members.now (ds ++ deliveries_of deliveries.now) self.new.items) }
         ensures among { OnOk result (AreAmong (places_of self.old.items)
             (places_of self.new.items)) }
+        ensures touched { OnOk result ((ps : List ℕ) → AreTouched ps self.old.items
+            → AreTouched ps self.new.items) }
     {
         for delivery in deliveries {
             self.deliver(members, delivery)?;
@@ -204,7 +216,7 @@ impl Received {
         Ok(())
     }
 
-    // What comes by one delivery. One for no port of these components brings nothing.
+    // What comes by one delivery. One without copies, or for no port of these components, brings nothing.
     fn deliver(&mut self, members: &[Member], delivery: &Delivery) -> Result<(), AllocError>
         requires numbers { AreRising (numbers_of members.now) }
         requires room { length members.now ≤ self.old.room }
@@ -215,7 +227,12 @@ impl Received {
             → AreGathered members.now (ds ++ delivery_of delivery.now ∷ []) self.new.items) }
         ensures among { OnOk result (AreAmong (places_of self.old.items)
             (places_of self.new.items)) }
+        ensures touched { OnOk result ((ps : List ℕ) → AreTouched ps self.old.items
+            → AreTouched ps self.new.items) }
     {
+        if delivery.copies == 0 {
+            return Ok(());
+        }
         let Some(place) = place_of(members, delivery.component) else {
             return Ok(());
         };
@@ -241,13 +258,49 @@ impl Received {
         delivery.put(&mut self.receipts[place as usize].placed.what)
     }
 
-    // The places in their order.
-    fn put_in_order(&mut self)
-        ensures rise { AreRising (places_of self.new.items) }
-        ensures same { IsPermutation self.old.items self.new.items }
-    {
-        self.places.sort_unstable();
+    // Whether a walk over all receipts takes less time than to sort the places: many are met, and not in order.
+    fn is_walk_faster(&self) -> bool {
+        self.places.len() >= self.receipts.len() / DENSE && !are_in_order(&self.places)
     }
+
+    // The places in their order. They stay as they are where there is no memory to order them.
+    fn put_in_order(&mut self) -> Result<(), AllocError>
+        ensures rise { OnOk result (AreRising (places_of self.new.items)) }
+        ensures same { OnOk result (IsPermutation self.old.items self.new.items) }
+    {
+        if !self.is_walk_faster() {
+            self.places.sort_unstable();
+            return Ok(());
+        }
+        put_met(&mut self.spare, &self.receipts)?;
+        mem::swap(&mut self.places, &mut self.spare);
+        Ok(())
+    }
+}
+
+// Whether no place stands before one that is less.
+#[inline]
+fn are_in_order(places: &[u32]) -> bool {
+    for index in 1..places.len() {
+        if places[index] < places[index - 1] {
+            return false;
+        }
+    }
+    true
+}
+
+// The places of the receipts that are met, in the order of the receipts, in the place of those that are there.
+#[inline]
+fn put_met(places: &mut Vec<u32>, receipts: &[Receipt]) -> Result<(), AllocError>
+    ensures { OnOk result (places.new.items ≡ met_of receipts.now) }
+{
+    places.clear();
+    for receipt in receipts {
+        if receipt.is_met {
+            places.push(receipt.placed.place)?;
+        }
+    }
+    Ok(())
 }
 
 // A place as a number, which no place is too great for: no component's number is less than its place.

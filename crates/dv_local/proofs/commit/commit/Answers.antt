@@ -4,10 +4,12 @@ use Rattle.std.proofs.lemmas.List.{get_or_default}
 use Rattle.std.proofs.lemmas.Option.{get_or_from_slice_get}
 use Rattle.dv_bag.specs.Bag.{Counts}
 use Rattle.dv_bag.specs.declared.fault.Fault.{Fault}
+use Rattle.dv_proc.specs.Accesses.{IsCounted}
 use Rattle.dv_react.specs.Components.{rank_of}
 use Rattle.dv_share.specs.declared.place.Placed.{Placed}
 use Rattle.dv_share.proofs.Order.{rise_at}
 use Rattle.dv_local.specs.Commits.{HasReacted, IsGivenAt}
+use Rattle.dv_local.proofs.Accesses.{counted_both, counted_none}
 use Rattle.dv_local.proofs.Commits.{given_now, none_reacted, one_more}
 use Rattle.dv_local.proofs.commit.commit.Goals as goal
 
@@ -19,12 +21,13 @@ pub loop-order-init : goal.loop-order-init
 loop-order-init g c = record {
   reacted =
       none_reacted g.A.Atomic.behaviour g.A.Atomic.fits c.args.moment.now.tables.now (rank_of c.args.moment.now.instant.now)
-      c.args.components.now.running.items c.args.moment.now.emitted.now c.args.received.now.items (g.R.Record.told c.args.to.now).entries;
+      c.args.components.now.running c.args.moment.now.emitted.now c.args.received.now.items (g.R.Record.told c.args.to.now).entries;
   components = c.requires.components;
   agenda = c.requires.agenda;
   within = c.requires.within;
   before = refl;
-  visits = refl;
+  visits = counted_none c.args.components.now.visits;
+  counted = refl;
   count = refl;
   outer = refl;
   is_open = c.requires.is_open;
@@ -53,7 +56,7 @@ commit_one-requires g c =
     let b = g.A.Atomic.behaviour in
     let t = c.args.moment.now.tables.now in
     let now = rank_of c.args.moment.now.instant.now in
-    let rs = c.args.components.now.running.items in
+    let rs = c.args.components.now.running in
     let es = c.args.moment.now.emitted.now in
     let xs = c.args.received.now.items in
     let i = c.loop-order.order in
@@ -70,8 +73,8 @@ commit_one-requires g c =
       rise = c.requires.emitted.places.rise;
       next = c.next_index-index.ensures;
       given =
-          subst (λ (y : Placed (List Counts)). IsGivenAt b t now es c.loop-order.components.running.items y.place) (sym (arrival_is c.args.received.now.items c.loop-order.order c.at-arrival.result.now c.at-arrival.ensures))
-          (given_now b g.A.Atomic.fits t now rs es xs i x c.loop-order.components.running.items (g.R.Record.told c.args.to.now).entries
+          subst (λ (y : Placed (List Counts)). IsGivenAt b t now es c.loop-order.components.running y.place) (sym (arrival_is c.args.received.now.items c.loop-order.order c.at-arrival.result.now c.at-arrival.ensures))
+          (given_now b g.A.Atomic.fits t now rs es xs i x c.loop-order.components.running (g.R.Record.told c.args.to.now).entries
           (g.R.Record.told c.loop-order.to).entries c.requires.received c.requires.components.count early inv.reacted c.requires.emitted);
       agenda = inv.agenda;
       within = inv.within;
@@ -85,7 +88,7 @@ loop-order-preserved g c =
     let fits = g.A.Atomic.fits in
     let t = c.args.moment.now.tables.now in
     let now = rank_of c.args.moment.now.instant.now in
-    let rs = c.args.components.now.running.items in
+    let rs = c.args.components.now.running in
     let es = c.args.moment.now.emitted.now in
     let xs = c.args.received.now.items in
     let i = c.loop-order.order in
@@ -93,8 +96,8 @@ loop-order-preserved g c =
     let early : i < length xs = omega arith in
     let inv = c.loop-order.invariant in
     let one = c.in_ok-commit_one.ensures in
-    let ss = c.loop-order.components.running.items in
-    let us = c.commit_one.new.components.running.items in
+    let ss = c.loop-order.components.running in
+    let us = c.commit_one.new.components.running in
     let old = (g.R.Record.told c.args.to.now).entries in
     let mid = (g.R.Record.told c.loop-order.to).entries in
     let new = (g.R.Record.told c.commit_one.new.to).entries in
@@ -106,7 +109,8 @@ loop-order-preserved g c =
       agenda = one.agenda;
       within = one.within;
       before = one.before ∙ inv.before;
-      visits = one.visits ∙ inv.visits;
+      visits = counted_both i 1 _ _ _ inv.visits one.visits;
+      counted = one.counted ∙ inv.counted;
       count = omega (arith, one.count, inv.count);
       outer = one.outer ∙ inv.outer;
       is_open = one.is_open;
@@ -120,3 +124,8 @@ loop-order-preserved g c =
           let next = rise_at place 0 xs i (i + 1) d c.requires.received.rise (omega arith) lt in
           omega (arith, before, here, next);
     }
+
+pub returns-clause-visits : goal.returns-clause-visits
+returns-clause-visits g c =
+    let all : c.loop-order.order ≡ length c.args.received.now.items = omega arith in
+    subst (λ (n : ℕ). IsCounted n n c.args.components.now.visits c.loop-order.components.visits) all c.loop-order.invariant.visits

@@ -3,6 +3,7 @@ use Rattle.std.specs.List.{AllWithin}
 use Rattle.dv_bag.specs.Bag.{Counts}
 use Rattle.dv_bag.specs.declared.fault.Fault.{Fault}
 use Rattle.dv_react.specs.Components.{rank_of}
+use Rattle.dv_proc.specs.Accesses.{IsCounted}
 use Rattle.dv_record.specs.Told.{IsOpenAt}
 use Rattle.dv_share.specs.Places.{places_of}
 use Rattle.dv_share.specs.Share.{AreComponents}
@@ -15,14 +16,15 @@ use Rattle.dv_local.proofs.commit.commit.Given as goal
 abbrev pub invariant-loop-order : goal.invariant-loop-order
 invariant-loop-order g l = record {
   reacted :
-      HaveReacted g.A.Atomic.behaviour g.A.Atomic.fits l.moment.tables.now (rank_of l.moment.instant.now) l.fn.components.running.items
-      l.moment.emitted.now l.received.items (places_of (take l.order l.received.items)) l.components.running.items
+      HaveReacted g.A.Atomic.behaviour g.A.Atomic.fits l.moment.tables.now (rank_of l.moment.instant.now) l.fn.components.running
+      l.moment.emitted.now l.received.items (places_of (take l.order l.received.items)) l.components.running
       (g.R.Record.told l.fn.to).entries (g.R.Record.told l.to).entries;
-  components : AreComponents g.A.Atomic.fits l.moment.tables.now l.components.running.items;
-  agenda : l.agenda ≡ waits_of l.components.running.items;
-  within : AreWithin (length l.components.running.items) l.before.items;
-  before : undone l.before.items l.components.running.items ≡ undone l.fn.before.items l.fn.components.running.items;
-  visits : l.components.visits ≡ l.fn.components.visits;
+  components : AreComponents g.A.Atomic.fits l.moment.tables.now l.components.running;
+  agenda : l.agenda ≡ waits_of l.components.running;
+  within : AreWithin (length l.components.running) l.before.items;
+  before : undone l.before.items l.components.running ≡ undone l.fn.before.items l.fn.components.running;
+  visits : IsCounted l.order l.order l.fn.components.visits l.components.visits;
+  counted : l.components.settled ≡ l.fn.components.settled;
   count :
       length l.before.items + length (g.R.Record.told l.fn.to).entries
       ≡ length l.fn.before.items + length (g.R.Record.told l.to).entries;

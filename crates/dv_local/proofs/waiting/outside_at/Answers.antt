@@ -1,5 +1,6 @@
-use Rattle.std.proofs.Common.{◌≡◌, ℕ, IsPermutation, List, drop, map, ap, refl, sym, subst, take_while, ◌∙◌}
-use Rattle.std.proofs.lemmas.List.{take_rest}
+use Rattle.std.proofs.Common.{◌≡◌, ℕ, IsPermutation, List, [], length, replicate, drop, map, ap, refl, sym, subst, take_while, ◌∙◌}
+use Rattle.std.proofs.lemmas.Bool.{eqb-true}
+use Rattle.std.proofs.lemmas.List.{nil_from_length, take_rest}
 use Rattle.std.proofs.lemmas.Result.{IfOk-weaker}
 use Rattle.std.proofs.lemmas.Simd.{map-map}
 use Rattle.dv_time.specs.Time.{IsOfRun, rank}
@@ -9,12 +10,24 @@ use Rattle.dv_bag.specs.declared.inputs.Input.{Input}
 use Rattle.dv_bag.proofs.InputLists.{arriving}
 use Rattle.dv_conservative.specs.Links.{Delivery as Meant, inbox}
 use Rattle.dv_share.specs.Links.{deliveries_of, delivery_of}
-use Rattle.dv_share.proofs.Inboxes.{inbox_same}
+use Rattle.dv_share.proofs.Inboxes.{inbox_nothing, inbox_same}
 use Rattle.dv_share.proofs.Sums.{moved_delivers}
 use Rattle.dv_local.specs.Comings.{entered_by}
 use Rattle.dv_local.specs.Shares.{AreOfRun}
 use Rattle.dv_local.proofs.Entering.{all_entered, entered, entered_bags}
 use Rattle.dv_local.proofs.waiting.outside_at.Goals as goal
+
+pub returns-then-is_empty : goal.returns-then-is_empty
+returns-then-is_empty c =
+    let now = c.args.now in
+    let ports = c.args.ports in
+    let all = c.as_slice-inputs.result.now in
+    let inputs = c.args.inputs.now in
+    let none : inputs ≡ [] =
+    sym c.as_slice-inputs.ensures.inputs ∙ nil_from_length all (eqb-true (length all) 0 (sym c.is_empty.ensures ∙ c.if-is_empty.true)) in
+    let bags : replicate ports [] ≡ bags_at ports inputs now =
+    sym (inbox_nothing 0 0 ports) ∙ entered_bags now 0 ports [] ∙ ap (λ (xs : List Input). bags_at ports xs now) (sym none) in
+    λ limit run. c.empty.ensures ∙ bags ∙ ap (bags_at ports inputs) (sym (time_of-rank limit now run))
 
 pub returns : goal.returns
 returns c =

@@ -12,5 +12,6 @@ returns-clause-begun g c =
         standing = h.standing;
         promised = h.promised;
         committed = h.process.run.committed;
+        components = h.process.run.components;
       };
     }

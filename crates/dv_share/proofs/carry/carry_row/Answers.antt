@@ -1,11 +1,13 @@
 use Rattle.std.proofs.Common.{◌≡◌, ◌<◌, ◌++◌, ℕ, List, nat_eq, filter, pos, length, get_or, sym, ap, ◌∙◌, arith}
 use Rattle.std.specs.List.{slice_range}
-use Rattle.std.proofs.lemmas.List.{append-nil, append_assoc}
+use Rattle.std.proofs.lemmas.Bool.{eqb-true}
+use Rattle.std.proofs.lemmas.List.{append-nil, append_assoc, nil_from_length}
 use Rattle.std.proofs.lemmas.Option.{get_or_from_slice_get, slice_get-get_or}
 use Rattle.dv_bag.specs.declared.sent.Sending.{Sending}
-use Rattle.dv_conservative.specs.Links.{Delivery as Meant, Link}
+use Rattle.dv_conservative.specs.Links.{Delivery as Meant, Link, carried}
 use Rattle.dv_share.specs.Links.{deliveries_of, links_of, pairs_of}
 use Rattle.dv_share.specs.Rows.{carried_each}
+use Rattle.dv_share.specs.declared.link.Link.{Link as LinkOfCode}
 use Rattle.dv_share.proofs.Ports.{all_below, carried_below, next_port, no_next, no_pairs, none_below, none_first, parted_on, sent_step}
 use Rattle.dv_share.proofs.Sends.{ports_never_fall}
 use Rattle.dv_share.proofs.carry.carry_row.Goals as goal
@@ -17,6 +19,13 @@ none = record { port = 0; value = pos 0; copies = 0 }
 first_is : (ss : List Sending) (start : ℕ) → start < length ss → (d : Sending) → (get_or ss start d).port ≡ (get_or ss start none).port
 first_is ss start early d =
     ap (λ (s : Sending). s.port) (get_or_from_slice_get ss start (get_or ss start none) d (slice_get-get_or ss start none early))
+
+pub returns-then-is_empty : goal.returns-then-is_empty
+returns-then-is_empty c =
+    let old = deliveries_of c.args.deliveries.now.items in
+    let links = c.args.links.now in
+    let none = nil_from_length links (eqb-true (length links) 0 (sym c.is_empty.ensures ∙ c.if-is_empty.true)) in
+    sym (ap (λ (ls : List LinkOfCode). old ++ carried (links_of ls) (λ k. c.args.sent.now)) none ∙ append-nil old)
 
 pub loop-start-init : goal.loop-start-init
 loop-start-init c =

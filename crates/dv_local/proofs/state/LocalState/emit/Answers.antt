@@ -1,49 +1,114 @@
-use Rattle.std.proofs.Common.{◌≡◌, ℕ, ◌≤◌, List, ◌++◌, length, Option, refl, sym, ap, subst, ◌∙◌}
-use Rattle.std.specs.List.{count_by}
+use Rattle.std.proofs.Common.{◌≡◌, ◌∙◌, ℕ, ◌≤◌, List, ◌++◌, length, Option, Result, refl, sym, ap, subst, arith}
 use Rattle.dv_time.specs.Time.{rank}
 use Rattle.dv_time.specs.declared.time.Time.{Time}
-use Rattle.dv_devs.specs.Behaviour.{is_imminent}
+use Rattle.dv_bag.specs.Bag.{Counts}
+use Rattle.dv_bag.specs.declared.fault.Fault.{Fault}
+use Rattle.dv_proc.specs.Accesses.{IsCounted}
 use Rattle.dv_react.specs.Components.{components_of}
 use Rattle.dv_react.specs.declared.running.Running.{Running}
 use Rattle.dv_agenda.specs.Waits.{due_at}
-use Rattle.dv_share.specs.Share.{AreDue}
-use Rattle.dv_local.specs.Undoing.{waits_of}
+use Rattle.dv_share.specs.Share.{AreComponents, AreDue, AreEmitted, StandByPlace}
+use Rattle.dv_share.specs.declared.place.Placed.{Placed}
+use Rattle.dv_local.specs.States.{imminent_of}
+use Rattle.dv_local.specs.Undoing.{AreWithin, undone, waits_of}
 use Rattle.dv_local.proofs.Accesses.{due_few, found_counted}
 use Rattle.dv_local.proofs.Due.{due_are}
+use Rattle.dv_local.proofs.Visited.{settled_visited}
 use Rattle.dv_local.proofs.state.LocalState.emit.Goals as goal
 
-pub emit-requires-clause-due : goal.emit-requires-clause-due
-emit-requires-clause-due g c =
+pub emit_all-requires-clause-due : goal.emit_all-requires-clause-due
+emit_all-requires-clause-due g c =
     let x = c.args.self.now in
     let now = c.args.now in
     let limit = x.share.tables.limit in
-    let rs = x.components.running.items in
+    let rs = x.components.running in
     let due_is : c.deref.result.now ≡ due_at now (waits_of rs) =
     c.deref.ensures.value ∙ c.in_ok-due.ensures.due
     ∙ ap (λ (ps : List ℕ). ps ++ due_at now x.agenda) c.clear.ensures.items
     ∙ ap (λ (ws : List (Option Time)). due_at now ws) c.requires.kept.agenda in
-    subst (λ (ss : List Running). AreDue limit (rank limit now) ss c.deref.result.now) (sym c.as_slice.ensures.value)
-    (subst (λ (ps : List ℕ). AreDue limit (rank limit now) rs ps) (sym due_is)
-    (due_are limit now rs c.requires.of_run c.requires.kept.components.waits))
+    subst (λ (ps : List ℕ). AreDue limit (rank limit now) rs ps) (sym due_is)
+    (due_are limit now rs c.requires.of_run c.requires.kept.components.waits)
+
+pub returns-in_err-emit_all-clause-found : goal.returns-in_err-emit_all-clause-found
+returns-in_err-emit_all-clause-found g c =
+    let x = c.args.self.now in
+    let now = c.args.now in
+    let limit = x.share.tables.limit in
+    let rs = x.components.running in
+    let due_is : c.deref.result.now ≡ due_at now (waits_of rs) =
+    c.deref.ensures.value ∙ c.in_ok-due.ensures.due
+    ∙ ap (λ (ps : List ℕ). ps ++ due_at now x.agenda) c.clear.ensures.items
+    ∙ ap (λ (ws : List (Option Time)). due_at now ws) c.requires.kept.agenda in
+    let few : length c.deref.result.now ≤ imminent_of limit now rs =
+    subst (λ (ps : List ℕ). length ps ≤ imminent_of limit now rs) (sym due_is) (due_few limit now rs) in
+    record {
+      share = refl;
+      components = ap (λ (ss : List Running). components_of limit ss) c.emit_all.ensures.components;
+      committed = refl;
+      held = refl;
+      visits = found_counted (length c.deref.result.now) (imminent_of limit now rs) _ _ few c.emit_all.ensures.at_most;
+    }
 
 pub returns-clause-found : goal.returns-clause-found
 returns-clause-found g c =
     let x = c.args.self.now in
     let now = c.args.now in
     let limit = x.share.tables.limit in
-    let rs = x.components.running.items in
+    let rs = x.components.running in
     let due_is : c.deref.result.now ≡ due_at now (waits_of rs) =
     c.deref.ensures.value ∙ c.in_ok-due.ensures.due
     ∙ ap (λ (ps : List ℕ). ps ++ due_at now x.agenda) c.clear.ensures.items
     ∙ ap (λ (ws : List (Option Time)). due_at now ws) c.requires.kept.agenda in
-    let imminent : ℕ = count_by (is_imminent (rank limit now)) (components_of limit rs) in
-    let due : c.len.result ≡ length (due_at now (waits_of rs)) = c.len.ensures ∙ sym c.deref.ensures.len ∙ ap length due_is in
-    let few : c.len.result ≤ imminent = subst (λ (n : ℕ). n ≤ imminent) (sym due) (due_few limit now rs) in
+    let few : length c.deref.result.now ≤ imminent_of limit now rs =
+    subst (λ (ps : List ℕ). length ps ≤ imminent_of limit now rs) (sym due_is) (due_few limit now rs) in
     record {
       share = refl;
-      components = ap (λ ss. components_of limit ss.items) c.count.ensures.components;
+      components = ap (λ (ss : List Running). components_of limit ss) c.emit_all.ensures.components;
       committed = refl;
       held = refl;
-      visits = found_counted c.len.result imminent x.components.visits c.count.new.self.visits few c.count.ensures.never_fall
-          c.count.ensures.visits;
+      visits = found_counted (length c.deref.result.now) (imminent_of limit now rs) _ _ few c.emit_all.ensures.at_most;
     }
+
+pub returns-clause-few : goal.returns-clause-few
+returns-clause-few g c =
+    let x = c.args.self.now in
+    let now = c.args.now in
+    let limit = x.share.tables.limit in
+    let rs = x.components.running in
+    let due_is : c.deref.result.now ≡ due_at now (waits_of rs) =
+    c.deref.ensures.value ∙ c.in_ok-due.ensures.due
+    ∙ ap (λ (ps : List ℕ). ps ++ due_at now x.agenda) c.clear.ensures.items
+    ∙ ap (λ (ws : List (Option Time)). due_at now ws) c.requires.kept.agenda in
+    let many : length c.emit_all.new.emitted.items ≡ length (due_at now (waits_of rs)) =
+    c.in_ok-emit_all.ensures.count ∙ ap (λ (ps : List ℕ). length ps) due_is in
+    subst (λ (ss : List Running). length c.emit_all.new.emitted.items ≤ imminent_of limit now ss) (sym c.emit_all.ensures.components)
+    (subst (λ (n : ℕ). n ≤ imminent_of limit now rs) (sym many) (due_few limit now rs))
+
+pub returns-clause-emitted : goal.returns-clause-emitted
+returns-clause-emitted g c =
+    let t = c.args.self.now.share.tables in
+    subst (λ (ss : List Running). AreEmitted g.A.Atomic.behaviour t (rank t.limit c.args.now) ss c.emit_all.new.emitted.items)
+    (sym c.emit_all.ensures.components) c.in_ok-emit_all.ensures.emitted
+
+pub returns-clause-kept : goal.returns-clause-kept
+returns-clause-kept g c =
+    let k = c.requires.kept in
+    let t = c.args.self.now.share.tables in
+    let before = c.args.self.now.undo.before.items in
+    let same = sym c.emit_all.ensures.components in
+    record {
+      share = k.share;
+      all_come = k.all_come;
+      components = subst (λ (ss : List Running). AreComponents g.A.Atomic.fits t ss) same k.components;
+      agenda = c.due.ensures.same ∙ k.agenda ∙ ap (λ (ss : List Running). waits_of ss) same;
+      arrive = k.arrive;
+      within = subst (λ (ss : List Running). AreWithin (length ss) before) same k.within;
+      before = subst (λ (ss : List Running). AreComponents g.A.Atomic.fits t (undone before ss)) same k.before;
+      emitted = subst (λ (n : ℕ). StandByPlace n c.emit_all.new.emitted.items) k.components.count c.emit_all.ensures.places;
+      still = (c.requires.of_run, returns-clause-emitted g c, returns-clause-few g c);
+    }
+
+pub returns-clause-settled : goal.returns-clause-settled
+returns-clause-settled g c =
+    settled_visited g.A.Atomic.behaviour c.args.self.now c.emit_all.new.components c.emit_all.ensures.components g.R.Record.settled
+    c.emit_all.ensures.settled

@@ -13,17 +13,18 @@ use Rattle.dv_local.proofs.state.LocalState.new.Goals as goal
 pub returns-clause-kept : goal.returns-clause-kept
 returns-clause-kept g c =
     let t = c.args.share.tables in
-    let rs = c.args.running.items in
+    let rs = c.new-components.result.running in
+    let same = sym c.new-components.ensures.components in
     record {
       share = c.requires.share;
       all_come = c.requires.comes;
-      components = c.requires.components;
-      agenda = c.in_ok-agenda.ensures ∙ ap (λ (ss : List Running). waits_of ss) c.deref.ensures.value;
+      components = subst (λ (ss : List Running). AreComponents g.A.Atomic.fits t ss) same c.requires.components;
+      agenda = c.in_ok-agenda.ensures ∙ ap (λ (ss : List Running). waits_of ss) (c.deref.ensures.value ∙ same);
       arrive = none_arrive t.limit t.members.items c.new.result c.new.ensures.empty;
       within = subst (λ (xs : List (Placed Running)). AreWithin (length rs) xs) (sym c.new-2.ensures.items)
           (all_none (λ (p : Placed Running). p.place < length rs));
       before = subst (λ (xs : List (Placed Running)). AreComponents g.A.Atomic.fits t (undone xs rs)) (sym c.new-2.ensures.items)
-          c.requires.components;
+          (subst (λ (ss : List Running). AreComponents g.A.Atomic.fits t ss) same c.requires.components);
       emitted = subst (λ (xs : List (Placed _)). StandByPlace (length t.members.items) xs) (sym c.new-3.ensures.items)
           (record { rise = tt; within = all_none _ });
       still = tt;

@@ -9,10 +9,10 @@ pub returns-clause-least : goal.returns-clause-least
 returns-clause-least g c =
     let limit = c.args.self.now.share.tables.limit in
     ap (λ (o : Option Time). rank_if limit o) (c.first.ensures ∙ ap (λ (ws : List (Option Time)). first_of ws) c.requires.agenda)
-    ∙ first_is_least limit c.args.self.now.components.running.items c.requires.components.waits
+    ∙ first_is_least limit c.args.self.now.components.running c.requires.components.waits
 
 pub returns-clause-of_run : goal.returns-clause-of_run
 returns-clause-of_run g c =
     let limit = c.args.self.now.share.tables.limit in
     subst (λ (o : Option Time). IsOfRunIf limit o) (sym (c.first.ensures ∙ ap (λ (ws : List (Option Time)). first_of ws) c.requires.agenda))
-    (first_of_run limit c.args.self.now.components.running.items c.requires.components.waits)
+    (first_of_run limit c.args.self.now.components.running c.requires.components.waits)

@@ -1,4 +1,4 @@
-use Rattle.std.proofs.Common.{◌≡◌, ◌∙◌, ℕ, ◌+◌, ◌-◌, ◌^◌, ◌≤◌, min, ◌++◌, List, Some, Result, length, map, sym, ap, subst, arith}
+use Rattle.std.proofs.Common.{◌≡◌, ◌∙◌, ℕ, ◌+◌, ◌≤◌, ◌++◌, List, Some, Result, length, map, count_by, sym, ap, subst, arith}
 use Rattle.std.proofs.lemmas.List.{length-append}
 use Rattle.dv_time.specs.Time.{IsOfRun, rank}
 use Rattle.dv_bag.specs.Bag.{Counts}
@@ -11,24 +11,26 @@ use Rattle.dv_bag.specs.Part.{PartOf}
 use Rattle.dv_conservative.specs.Flat.{network}
 use Rattle.dv_conservative.specs.Links.{carried, inbox}
 use Rattle.dv_conservative.specs.Process.{Share}
+use Rattle.dv_devs.specs.Behaviour.{Component, is_imminent}
 use Rattle.dv_devs.specs.Cuts.{IsAllBefore}
 use Rattle.dv_devs.specs.Network.{outer_from, part_of_instant}
 use Rattle.dv_react.specs.declared.running.Running.{Running}
 use Rattle.dv_react.specs.Components.{components_of}
 use Rattle.dv_share.specs.Links.{deliveries_of}
 use Rattle.dv_share.specs.Places.{places_of}
-use Rattle.dv_share.specs.Share.{AreAmong, AreReceived, coming, sent_in}
+use Rattle.dv_share.specs.Share.{AreAmong, AreReceived, AreTouched, coming, sent_in}
 use Rattle.dv_share.specs.declared.place.Placed.{Placed}
 use Rattle.dv_record.specs.Told.{with_lines}
 use Rattle.dv_record.proofs.Open.{open_after}
-use Rattle.dv_proc.specs.Accesses.{IsAfterEmission, entries_at}
+use Rattle.dv_proc.specs.Accesses.{IsAfterEmission, entries_at, imminent_at, receiving_at}
 use Rattle.dv_proc.specs.Local.{IsAfterInstant, View, input_at}
 use Rattle.dv_proc.proofs.Accesses.{instant_found}
 use Rattle.dv_local.specs.Comings.{delivered_by}
 use Rattle.dv_local.specs.Commits.{HaveReacted}
 use Rattle.dv_local.specs.Shares.{share_by}
-use Rattle.dv_local.specs.States.{held_by, view_by}
-use Rattle.dv_local.proofs.Accesses.{instant_counted}
+use Rattle.dv_local.specs.States.{held_by, imminent_of, view_by}
+use Rattle.dv_local.proofs.Accesses.{instant_counted, reacted_few, receiving_found}
+use Rattle.dv_local.proofs.Visited.{received_few}
 use Rattle.dv_local.proofs.TakesPlace.{input_is, took_place}
 use Rattle.dv_local.proofs.state.LocalState.react.Goals as goal
 
@@ -51,10 +53,8 @@ returns-clause-reacted g c =
     let ds = c.deref.result.now in
     let meant = deliveries_of ds in
     let xs = c.arrivals.new.received.items in
-    let rs = x.components.running.items in
-    let put = c.commit.new.components.running.items in
-    let ss = c.count.new.self.running.items in
-    let counted : ss ≡ put = ap (λ rs. rs.items) c.count.ensures.components in
+    let rs = x.components.running in
+    let ss = c.commit.new.components.running in
     let n = rank t.limit c.args.now in
     let held : ds ≡ map delivered_by (arrivals_at c.args.now x.inbox) =
     c.deref.ensures.value ∙ c.in_ok-held.ensures ∙ ap (λ (ys : List Arrival). map delivered_by ys) c.at.ensures in
@@ -69,10 +69,10 @@ returns-clause-reacted g c =
     let lines : List (Placed (Result (List Counts) Fault)) → List Outer =
     λ fs. outer_from t.limit n 0 (inbox 0 (carried t.exits (sent_in t.members.items fs)) 0 t.outputs) in
     let left : told_now ≡ with_lines (lines es) (told c.commit.new.to) = c.in_ok-outer.ensures.told in
-    let reacted : HaveReacted b fits t n rs gs xs (places_of xs) put old told_now.entries =
-    subst (λ (new : List Entry). HaveReacted b fits t n rs gs xs (places_of xs) put old new)
+    let reacted : HaveReacted b fits t n rs gs xs (places_of xs) ss old told_now.entries =
+    subst (λ (new : List Entry). HaveReacted b fits t n rs gs xs (places_of xs) ss old new)
     (sym (ap (λ (p : PartOf). p.entries) left))
-    (subst (λ (fs : List (Placed (Result (List Counts) Fault))). HaveReacted b fits t n rs fs xs (places_of xs) put old
+    (subst (λ (fs : List (Placed (Result (List Counts) Fault))). HaveReacted b fits t n rs fs xs (places_of xs) ss old
     (told c.commit.new.to).entries) same-es c.in_ok-commit.ensures.reacted) in
     let outer : told_now.outer ≡ (told x.record).outer ++ lines gs =
     ap (λ (p : PartOf). p.outer) left
@@ -83,15 +83,14 @@ returns-clause-reacted g c =
       components = components_of t.limit ss;
       committed = told c.outer.new.to;
       held = held_by t.limit (Some c.args.now) x.inbox;
-      visits = c.count.new.self.visits;
+      visits = c.commit.new.components.visits;
     } in
     subst (λ (s : Share). IsAfterInstant (rank s.limit c.args.now) v w) found.share
     (instant_found n (rank v.share.limit c.args.now) v (view_by b told x) w found
-    (took_place b fits told x c.args.now outside meant xs ss told_now c.count.new.self.visits of_run
+    (took_place b fits told x c.args.now outside meant xs ss told_now c.commit.new.components.visits of_run
     (input_is b told x c.args.now outside ds of_run taken (c.in_ok-outside.ensures t.limit of_run) held)
     c.emit.ensures.kept.components c.in_ok-emit.ensures.emitted among received
-    (subst (λ (rs' : List Running). HaveReacted b fits t n rs gs xs (places_of xs) rs' old told_now.entries)
-    (sym counted) reacted) outer taken))
+    reacted outer taken))
 
 pub returns-clause-visits : goal.returns-clause-visits
 returns-clause-visits g c =
@@ -104,27 +103,49 @@ returns-clause-visits g c =
     subst (λ (y : View). IsAfterEmission (rank y.share.limit c.args.now) y (view_by b told x)) c.settle.ensures.view c.emit.ensures.found in
     let w : View = record {
       share = share_by b x.share;
-      components = components_of x.share.tables.limit c.count.new.self.running.items;
+      components = components_of x.share.tables.limit c.commit.new.components.running;
       committed = told c.outer.new.to;
       held = held_by x.share.tables.limit (Some c.args.now) x.inbox;
-      visits = c.count.new.self.visits;
+      visits = c.commit.new.components.visits;
     } in
+    let t = x.share.tables in
+    let es = c.as_slice-emitted.result.now in
+    let same-es : es ≡ x.emitted.items = c.as_slice-emitted.ensures.value in
+    let xs = c.arrivals.new.received.items in
+    let rs = x.components.running in
+    let outside = c.in_ok-outside.outside in
+    let ds = c.deref.result.now in
+    let of_run : IsOfRun t.limit c.args.now = subst (λ (s : Share). IsOfRun s.limit c.args.now) (sym found.share) c.requires.of_run in
+    let k = rank t.limit c.args.now in
+    let same-k : k ≡ n = ap (λ (s : Share). rank s.limit c.args.now) found.share in
     let part = part_of_instant v.share.limit (network v.share.flat) n (input_at v n) v.components in
     let after = returns-clause-reacted g c in
     let grown : length (told c.outer.new.to).entries ≡ length (told x.record).entries + entries_at v n =
     ap (λ (p : PartOf). length p.entries) after.committed
     ∙ length-append v.committed.entries part.entries
     ∙ ap (λ (p : PartOf). length p.entries + entries_at v n) (sym found.committed) in
-    let none = ap length (c.emit.ensures.at_rest c.settle.ensures.at_rest).before in
-    let same = ap (λ (p : PartOf). length p.entries) c.in_ok-outer.ensures.told in
-    let put : c.len.result ≡ entries_at v n =
-    omega (arith, c.len.ensures, c.commit.new.before.ok.0, c.in_ok-commit.ensures.count, grown, none, same) in
-    let stood = c.in_ok-commit.ensures.visits in
-    let never : x.components.visits ≤ c.count.new.self.visits = subst (λ (k : ℕ). k ≤ c.count.new.self.visits) stood
-    c.count.ensures.never_fall in
-    let count : c.count.new.self.visits ≡ min (x.components.visits + c.len.result) (2 ^ 64 - 1) =
-    c.count.ensures.visits ∙ ap (λ (k : ℕ). min (k + c.len.result) (2 ^ 64 - 1)) stood in
-    instant_counted n v (view_by b told x) w c.len.result found put never count
+    let told_few : length (told c.commit.new.to).entries ≤ length (told x.record).entries + length xs =
+    reacted_few b g.A.Atomic.fits t k rs es xs c.commit.new.components.running (told x.record).entries (told c.commit.new.to).entries
+    c.in_ok-commit.ensures.reacted in
+    let least : entries_at v n ≤ length xs =
+    omega (arith, grown, told_few, ap (λ (p : PartOf). length p.entries) c.in_ok-outer.ensures.told) in
+    let held : ds ≡ map delivered_by (arrivals_at c.args.now x.inbox) =
+    c.deref.ensures.value ∙ c.in_ok-held.ensures ∙ ap (λ (ys : List Arrival). map delivered_by ys) c.at.ensures in
+    let taken = (c.emit.ensures.at_rest c.settle.ensures.at_rest).taken in
+    let input : (outside, deliveries_of ds) ≡ input_at (view_by b told x) k =
+    input_is b told x c.args.now outside ds of_run taken (c.in_ok-outside.ensures t.limit of_run) held in
+    let visited_few : length xs ≤ imminent_at v n + receiving_at v n =
+    subst (λ (m : ℕ). length xs ≤ imminent_at v m + receiving_at v m) same-k
+    (subst (λ (m : ℕ). length xs ≤ imminent_at v k + m) (receiving_found k n v (view_by b told x) found)
+    (subst (λ (m : ℕ). length xs ≤ m + receiving_at (view_by b told x) k)
+    (ap (λ (cs : List Component). count_by (is_imminent k) cs) found.components)
+    (received_few b g.A.Atomic.fits told x k outside (deliveries_of ds) xs (imminent_of t.limit c.args.now rs) input
+    c.in_ok-emit.ensures.emitted
+    (subst (λ (fs : List (Placed (Result (List Counts) Fault))). AreReceived t.members.items (coming t fs outside (deliveries_of ds)) xs)
+    same-es c.in_ok-arrivals.ensures.received)
+    (subst (λ (fs : List (Placed (Result (List Counts) Fault))). AreTouched (places_of fs) xs) same-es c.in_ok-arrivals.ensures.touched)
+    c.in_ok-emit.ensures.few))) in
+    instant_counted n (length xs) v (view_by b told x) w found least visited_few c.in_ok-commit.ensures.visits
 
 -- inputs are at times of the run
 pub outside_at-requires : goal.outside_at-requires

@@ -6,11 +6,16 @@ use Rattle.dv_bag.specs.Bag.{Counts}
 use Rattle.dv_share.specs.Links.{delivery_of}
 use Rattle.dv_share.specs.Places.{AreRising, is_in, places_of}
 use Rattle.dv_share.specs.Received.{AreGathered, with_delivery_at, with_place}
-use Rattle.dv_share.specs.Share.{numbers_of}
+use Rattle.dv_share.specs.Share.{AreTouched, numbers_of}
 use Rattle.dv_share.specs.declared.place.Placed.{Placed}
 use Rattle.dv_share.specs.declared.tables.Member.{Member}
 use Rattle.dv_share.proofs.Gathering.{among_met, among_put, gathered_met, gathered_missed, gathered_put, is_met, ports_there, same_place}
+use Rattle.dv_share.proofs.Touched.{gathered_none, touched_put}
 use Rattle.dv_share.proofs.received.Received.deliver.Goals as goal
+
+pub returns-then-delivery-eq0-clause-gathered : goal.returns-then-delivery-eq0-clause-gathered
+returns-then-delivery-eq0-clause-gathered c ds h =
+    gathered_none c.args.members.now ds (delivery_of c.args.delivery.now) c.args.self.now.items (omega arith) h
 
 pub returns-in_default-clause-gathered : goal.returns-in_default-clause-gathered
 returns-in_default-clause-gathered c ds h =
@@ -81,4 +86,27 @@ returns-clause-among c =
     ap (λ (ys : List (Placed (List Counts))). is_in q (places_of ys)) put
     ∙ among_put p d c.meet.new.self.items q
     (ap (λ (ys : List (Placed (List Counts))). is_in q (places_of ys)) c.in_ok-meet.ensures.met ∙ among_met p _ xs q here))
+    c.put.ensures.put
+
+pub returns-clause-touched : goal.returns-clause-touched
+returns-clause-touched c =
+    let ms = c.args.members.now in
+    let q = c.in-Some.place in
+    let n = get_or ms q c.index-members-place.result in
+    let at : slice_get ms q ≡ Some n = slice_get-get_or ms q c.index-members-place.result c.in-Some.ensures.0 in
+    let d = delivery_of c.args.delivery.now in
+    let xs = c.args.self.now.items in
+    let ds = c.requires.gathered.0 in
+    let same = c.place_as_number-place.ensures in
+    let items : c.meet.new.self.items ≡ with_place q n.inputs xs =
+    c.in_ok-meet.ensures.met ∙ ap (λ (p : ℕ). with_place p n.inputs xs) same in
+    let some : 0 < d.copies = omega arith in
+    on_ok_weaker c.put.result
+    (λ put ps h.
+    subst (AreTouched ps)
+    (sym (put ∙ ap (λ (p : ℕ). map (with_delivery_at p d) c.meet.new.self.items) same
+    ∙ ap (λ (ys : List (Placed (List Counts))). map (with_delivery_at q d) ys) items))
+    (touched_put ps q n.inputs d xs some
+    (ports_there ms ds q n d.port (with_place q n.inputs xs) at c.if-delivery-inputs.false
+    (gathered_met ms ds q n xs at c.requires.gathered.1)) h))
     c.put.ensures.put

@@ -35,6 +35,7 @@ loop-delivery-preserved c =
           subst (λ (es : List Meant). AreGathered ms es c.deliver.new.self.items) (sym more)
           (one.gathered (ds ++ deliveries_of (take i xs)) (inv.gathered ds h));
       among = λ p here. one.among p (inv.among p here);
+      touched = λ ps h. one.touched ps (inv.touched ps h);
     }
 
 pub returns-clause-gathered : goal.returns-clause-gathered

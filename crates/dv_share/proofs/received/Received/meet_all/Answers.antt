@@ -8,9 +8,11 @@ use Rattle.dv_bag.specs.Bag.{Counts}
 use Rattle.dv_bag.specs.declared.fault.Fault.{Fault}
 use Rattle.dv_share.specs.Places.{is_in, places_of}
 use Rattle.dv_share.specs.Received.{AreGathered, with_place}
+use Rattle.dv_share.specs.Share.{AreTouched}
 use Rattle.dv_share.specs.declared.place.Placed.{Placed}
 use Rattle.dv_share.proofs.Gathering.{among_met, gathered_met, is_met}
 use Rattle.dv_share.proofs.Places.{in_push}
+use Rattle.dv_share.proofs.Touched.{itself_in, touched_met}
 use Rattle.dv_share.proofs.received.Received.meet_all.Goals as goal
 
 -- who is among those in front and one more is among those in front, or is that one
@@ -49,4 +51,8 @@ loop-emission-preserved c =
             | inr same ↦ subst (λ (p : ℕ). is_in p (places_of (with_place e.place m.inputs xs)) ≡ true) (sym last ∙ same)
                 (is_met e.place m.inputs xs)
           ];
+      touched = λ h.
+          subst (AreTouched (places_of es)) (sym met)
+          (touched_met (places_of es) e.place m.inputs xs
+          (subst (λ (p : ℕ). is_in p (places_of es) ≡ true) last (itself_in es i e early)) (inv.touched h));
     }

@@ -1,0 +1,53 @@
+//! What the imminent components send.
+
+ghost use Rattle.std.specs.Prelude.{◌≡◌, OnOk, length};
+ghost use Rattle.dv_proc.specs.Accesses.{IsCounted};
+ghost use Rattle.dv_react.specs.Components.{rank_of};
+ghost use Rattle.dv_share.specs.Share.{AreComponents, AreDue, AreEmitted, AreTables, StandByPlace};
+
+use crate::components::Components;
+use dv_bag::{Fault, Sent};
+use dv_react::{Atomic, Instant};
+use dv_share::{Placed, Tables, emit};
+use std::alloc::{AllocError, Global};
+
+/// Finds what the output functions of the components at the due places give, each of which is visited once. The list is that
+/// of the instant before, whose memory serves again; no component changes.
+///
+/// # Errors
+///
+/// No memory for what is sent. The list has what some of the components send then, and some were visited.
+pub(crate) fn emit_all<A: Atomic>(
+    alloc: Global,
+    tables: &Tables<A>,
+    work: &mut A::Work,
+    instant: &Instant,
+    components: &mut Components,
+    due: &[u32],
+    emitted: &mut Vec<Placed<Result<Sent, Fault>>>,
+) -> Result<(), AllocError>
+    requires tables { AreTables A.fits tables.now }
+    requires limit { instant.now.limit ≡ tables.now.limit }
+    requires components { AreComponents A.fits tables.now components.old.running }
+    requires due { AreDue tables.now.limit (rank_of instant.now) components.old.running due.now }
+    ensures emitted { OnOk result (AreEmitted A.behaviour tables.now (rank_of instant.now)
+        components.old.running emitted.new.items) }
+    ensures places { StandByPlace (length components.old.running) emitted.new.items }
+    ensures count { OnOk result (length emitted.new.items ≡ length due.now) }
+    ensures components { components.new.running ≡ components.old.running }
+    ensures visits { OnOk result (IsCounted (length due.now) (length due.now)
+        components.old.visits components.new.visits) }
+    ensures at_most { IsCounted 0 (length due.now) components.old.visits components.new.visits }
+    ensures settled { components.new.settled ≡ components.old.settled }
+{
+    emitted.clear();
+    for place in due {
+        components.visit(*place);
+        let what = emit(alloc, tables, work, instant, *place, components.visited())?;
+        emitted.push(Placed {
+            place: *place,
+            what,
+        })?;
+    }
+    Ok(())
+}
