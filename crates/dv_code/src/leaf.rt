@@ -87,6 +87,7 @@ fn to_number(value: Result<Value, Fault>) -> Result<i64, Fault>
 }
 
 /// The number in a slot.
+#[inline]
 pub(crate) fn number_at(slot: usize, state: &State) -> i64
     requires { number_in (slice_get state.now.variables slot) ≢ None }
     ensures { number_in (slice_get state.now.variables slot) ≡ Some (Ok (Number result)) }

@@ -76,6 +76,7 @@ impl Tables {
     }
 
     /// What each slot may hold.
+    #[inline]
     pub fn slots(&self) -> &[Slot]
         ensures slots { result.now ≡ self.now.slots }
         ensures small { AreSmall result.now }
@@ -138,6 +139,7 @@ impl Shape {
     }
 
     /// The tables.
+    #[inline]
     pub fn tables(&self) -> &Tables
         ensures { shape_of result.now self.now.sort ≡ self.now }
     {

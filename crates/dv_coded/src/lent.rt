@@ -8,7 +8,7 @@ use crate::bench::Bench;
 use crate::programs::Programs;
 use dv_bag::{Arrivals, RuleError, Sent, State};
 use dv_gen::PhaseCode;
-use dv_react::{Atomic, Change};
+use dv_react::Atomic;
 use std::alloc::{AllocError, Global};
 
 /// The programs of an atomic model, where they lie. A copy is the same programs.
@@ -79,10 +79,10 @@ impl Atomic for Lent<'_> {
     }
 
     #[inline]
-    fn internal(&self, work: &mut Bench, state: State) -> Result<Change, RuleError> {
-        match self.phase(&state) {
+    fn internal(&self, work: &mut Bench, state: &mut State) -> Result<bool, RuleError> {
+        match self.phase(state) {
             Some(code) => work.change(&code.internal, &Arrivals::nothing(), state),
-            None => Ok(Change { state, goes: false }),
+            None => Ok(false),
         }
     }
 
@@ -91,11 +91,11 @@ impl Atomic for Lent<'_> {
         &self,
         work: &mut Bench,
         arrivals: &Arrivals,
-        state: State,
-    ) -> Result<Change, RuleError> {
-        match self.phase(&state) {
+        state: &mut State,
+    ) -> Result<bool, RuleError> {
+        match self.phase(state) {
             Some(code) => work.change(&code.external, arrivals, state),
-            None => Ok(Change { state, goes: false }),
+            None => Ok(false),
         }
     }
 
@@ -104,14 +104,14 @@ impl Atomic for Lent<'_> {
         &self,
         work: &mut Bench,
         arrivals: &Arrivals,
-        state: &State,
-    ) -> Result<Option<Change>, RuleError> {
+        state: &mut State,
+    ) -> Result<Option<bool>, RuleError> {
         let Some(code) = self.phase(state) else {
             return Ok(None);
         };
         match &code.confluent {
             Some(program) => match work.change_at_once(program, arrivals, state) {
-                Ok(change) => Ok(Some(change)),
+                Ok(goes) => Ok(Some(goes)),
                 Err(error) => Err(error),
             },
             None => Ok(None),

@@ -15,7 +15,7 @@ use dv_bag::{Arrivals, RuleError, Sent, State};
 use dv_eval::Scope;
 use dv_gen::laws::programs_stand_over_their_tables;
 use dv_gen::{ModelCode, generate};
-use dv_react::{Atomic, Change};
+use dv_react::Atomic;
 use dv_syntax::Atomic as Model;
 use std::alloc::{AllocError, Global};
 use std::sync::Arc;
@@ -73,7 +73,7 @@ impl Atomic for Programs {
         Lent::of(self).output(work, state)
     }
 
-    fn internal(&self, work: &mut Bench, state: State) -> Result<Change, RuleError> {
+    fn internal(&self, work: &mut Bench, state: &mut State) -> Result<bool, RuleError> {
         Lent::of(self).internal(work, state)
     }
 
@@ -81,8 +81,8 @@ impl Atomic for Programs {
         &self,
         work: &mut Bench,
         arrivals: &Arrivals,
-        state: State,
-    ) -> Result<Change, RuleError> {
+        state: &mut State,
+    ) -> Result<bool, RuleError> {
         Lent::of(self).external(work, arrivals, state)
     }
 
@@ -90,8 +90,8 @@ impl Atomic for Programs {
         &self,
         work: &mut Bench,
         arrivals: &Arrivals,
-        state: &State,
-    ) -> Result<Option<Change>, RuleError> {
+        state: &mut State,
+    ) -> Result<Option<bool>, RuleError> {
         Lent::of(self).confluent(work, arrivals, state)
     }
 

@@ -4,3 +4,5 @@ pub mod Channels
 pub mod Cuts
 -- What each part of the code does.
 pub mod Keys
+-- The text of a plan.
+pub mod Texts

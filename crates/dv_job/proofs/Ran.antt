@@ -19,7 +19,10 @@ use Rattle.dv_plain.specs.Source.{network_of, outside}
 use Rattle.dv_run.specs.Runs.{IsCutShort, IsPrinted, IsRunOf, LedTo, lines_before}
 use Rattle.dv_run.specs.declared.ran.Ran.{Ran}
 use Rattle.dv_core.specs.declared.step.Ended.{Ended}
-use Rattle.dv_core.specs.declared.step.Ended.TheVariants as ran
+use Rattle.dv_core.specs.declared.step.Ended.TheVariants as rounds
+use Rattle.dv_run.specs.declared.ran.RanEnded.{RanEnded}
+use Rattle.dv_run.specs.declared.ran.RanEnded.TheVariants as ran
+use Rattle.dv_run.proofs.Traces.{memory_by_rounds, never_stopped_by_rounds, stalled_by_rounds}
 use Rattle.dv_stream.specs.Faults.{has_fault}
 use Rattle.dv_text.specs.declared.writing.Ending.TheVariants as text_end
 use Rattle.dv_text.specs.declared.writing.WriteError.{WriteError}
@@ -33,11 +36,9 @@ use Rattle.dv_text.proofs.Taking.{StopsShort-from, StopsShort-longer}
 use Rattle.dv_job.specs.Job.{IsModelOf, run_text}
 use Rattle.dv_job.specs.Planned.{AnswersPlan}
 use Rattle.dv_job.specs.Running.{EndsBy, EndsByWorkers, IsPlanned, IsTextOf, LeftByRun, PrintsCutAt, PrintsSome, PrintsWhole}
-use Rattle.dv_job.specs.Running.{ended_for, granted}
+use Rattle.dv_job.specs.Running.{PrintsCut, granted}
 use Rattle.dv_job.specs.Stepping.{AnswersSteps}
 use Rattle.dv_job.specs.Written.{IsUnwritten, end_text, ended_at}
-use Rattle.dv_job.specs.declared.ended.Why.{Why}
-use Rattle.dv_job.specs.declared.ended.Why.TheVariants as why
 use Rattle.dv_job.specs.declared.options.Options.{Options}
 use Rattle.dv_job.specs.declared.ended.JobEnded.{JobEnded}
 use Rattle.dv_job.specs.declared.ended.JobEnded.TheVariants as ended
@@ -127,12 +128,13 @@ module _ (names : List (List ℕ)) (f : FileTree) (played : List Input) (groups 
     lines = lines_before names f played o.limit least
 
     -- with the ending they are a text of the run
-    text_of_it : (at : Ended) → r.ended ≡ at
+    text_of_it : (at : RanEnded) → r.ended ≡ at
         → IsTextOf names f played groups.processes o.horizon o.limit (lines ++ end_text at o.horizon r.clocks.items)
     text_of_it ran.Whole at =
         inl (ap (λ (n : ℕ). lines_before names f played o.limit n ++ ending_text (text_end.Whole o.horizon)) (printed.whole at))
     text_of_it ran.Stalled at = inr (r.clocks.items, printed.count, printed.some, printed.within, refl)
     text_of_it ran.Memory at = inr (r.clocks.items, printed.count, printed.some, printed.within, refl)
+    text_of_it ran.Stopped at = inr (r.clocks.items, printed.count, printed.some, printed.within, refl)
 
     behind : (text : List ℕ) → Appends mid new text → Appends old new (lines ++ text)
     behind text written = Appends-append old mid new lines text printed.lines written
@@ -184,10 +186,11 @@ module _ (names : List (List ℕ)) (f : FileTree) (played : List Input) (groups 
     left_unwritten error.Memory text some is (inr short) =
         inr (stops (lines ++ text) is (StopsShort-behind lines text printed.lines short))
 
-    ending_is_some : (at : Ended) → 0 < length (end_text at o.horizon r.clocks.items)
+    ending_is_some : (at : RanEnded) → 0 < length (end_text at o.horizon r.clocks.items)
     ending_is_some ran.Whole = ending-some (text_end.Whole o.horizon)
     ending_is_some ran.Stalled = ending-some (text_end.Partial r.clocks)
     ending_is_some ran.Memory = ending-some (text_end.Partial r.clocks)
+    ending_is_some ran.Stopped = ending-some (text_end.Partial r.clocks)
 
     -- whatever became of it
     pub if_it_was_left : (result : Result JobEnded JobError)
@@ -211,20 +214,24 @@ module _ (names : List (List ℕ)) (f : FileTree) (played : List Input) (groups 
 
   -- a run in rounds
   module _ (r : Ran) (old mid new : Option (List ℕ)) (is : RanSo names f played groups o old mid r) where
-    ends_at_clocks : (reason : Why) → r.ended ≡ ended_for reason → (reason ≡ why.Rounds → granted o ≤ end_of o.limit o.horizon)
-        → Appends mid new (partial_ending r.clocks.items) → EndsBy (ended.Partial reason) model inputs partition o old new
-    ends_at_clocks reason at few written = record {
+    ends_at_clocks : (at : Ended) → is.ended ≡ at → (at ≡ rounds.Stalled → granted o ≤ end_of o.limit o.horizon)
+        → Appends mid new (partial_ending r.clocks.items) → PrintsCut model inputs partition o old new at
+    ends_at_clocks at so few written = record {
       cut = prints_cut r old mid new is.printed written;
-      led = subst (λ (x : Ended). LedTo f played groups o.horizon o.limit o.capacity (granted o) x r.clocks.items) at is.led;
+      led = subst (λ (x : Ended). LedTo f played groups o.horizon o.limit o.capacity (granted o) x r.clocks.items) so is.led;
       stalls = few;
     }
 
-    ends_so : (at : Ended) → r.ended ≡ at → Appends mid new (end_text at o.horizon r.clocks.items)
+    ends_so : (at : RanEnded) → r.ended ≡ at → Appends mid new (end_text at o.horizon r.clocks.items)
         → EndsBy (ended_at at r.faulted) model inputs partition o old new
     ends_so ran.Whole at written =
         ends_whole r old mid new is.printed (λ (e : JobEnded). EndsBy e model inputs partition o old new) (λ p. p) (λ p. p) at written
-    ends_so ran.Stalled at written = ends_at_clocks why.Rounds at (λ _. is.stalls at o.in_range.some_capacity) written
-    ends_so ran.Memory at written = ends_at_clocks why.Memory at (λ no. absurd (cc)) written
+    ends_so ran.Stalled at written =
+        ends_at_clocks rounds.Stalled (stalled_by_rounds is.ended (sym is.ended_so ∙ at)) (λ _. is.stalls at o.in_range.some_capacity)
+        written
+    ends_so ran.Memory at written =
+        ends_at_clocks rounds.Memory (memory_by_rounds is.ended (sym is.ended_so ∙ at)) (λ no. absurd (cc)) written
+    ends_so ran.Stopped at written = absurd (never_stopped_by_rounds is.ended (sym is.ended_so ∙ at))
 
     pub if_it_ended : (result : Result JobEnded JobError) → IfOk result (λ (e : JobEnded). e ≡ ended_at r.ended r.faulted)
         → OnOk result (Appends mid new (end_text r.ended o.horizon r.clocks.items))
@@ -237,12 +244,14 @@ module _ (names : List (List ℕ)) (f : FileTree) (played : List Input) (groups 
   module _ (r : Ran) (old mid new : Option (List ℕ)) (is : IsPrinted names f played groups o.horizon o.limit old mid r)
       (unstalled : r.ended ≡ ran.Stalled → ⊥) (short : (r.ended ≡ ran.Whole → ⊥) → least_rank o.limit r.clocks.items < end_of o.limit o.horizon)
     where
-      worked_so : (at : Ended) → r.ended ≡ at → Appends mid new (end_text at o.horizon r.clocks.items)
+      worked_so : (at : RanEnded) → r.ended ≡ at → Appends mid new (end_text at o.horizon r.clocks.items)
           → EndsByWorkers (ended_at at r.faulted) model inputs partition o old new
       worked_so ran.Whole at written =
           ends_whole r old mid new is (λ (e : JobEnded). EndsByWorkers e model inputs partition o old new) (λ p. p) (λ p. p) at written
       worked_so ran.Stalled at written = absurd (unstalled at)
       worked_so ran.Memory at written =
+          record { cut = prints_cut r old mid new is written; short = short (λ whole. absurd (let e = sym at ∙ whole in cc)) }
+      worked_so ran.Stopped at written =
           record { cut = prints_cut r old mid new is written; short = short (λ whole. absurd (let e = sym at ∙ whole in cc)) }
 
       pub if_workers_ended : (result : Result JobEnded JobError) → IfOk result (λ (e : JobEnded). e ≡ ended_at r.ended r.faulted)

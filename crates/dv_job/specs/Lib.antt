@@ -4,6 +4,7 @@ pub mod Ending
 pub mod Running
 pub mod Stepping
 pub mod Planned
+pub mod Names
 pub mod Listed
 pub mod Errors
 pub mod Limits

@@ -25,7 +25,6 @@ use Rattle.dv_job.specs.Ending.{IsJob, ending_of}
 use Rattle.dv_job.specs.Job.{IsAnswer, IsModelOf, input_ports, run_text}
 use Rattle.dv_job.specs.declared.ended.JobEnded.{JobEnded}
 use Rattle.dv_job.specs.declared.ended.JobEnded.TheVariants as ended
-use Rattle.dv_job.specs.declared.ended.Why.{Why}
 use Rattle.dv_job.specs.declared.ended.Why.TheVariants as why
 use Rattle.dv_job.specs.declared.options.Options.{Options}
 use Rattle.dv_job.specs.declared.ended.JobError.{JobError}
@@ -66,11 +65,6 @@ pub record PrintsWhole (model inputs : List ℕ) (partition : Partition) (o : Op
   pub ending : e ≡ ending_of (trace_of file played o.horizon o.limit)
   pub written : Appends old new (run_text names file played o.horizon o.limit)
 
--- how the rounds of a run ended that is not whole
-abbrev pub ended_for : Why → Ended
-ended_for why.Rounds = Stalled
-ended_for why.Memory = Memory
-
 -- All is accepted, and the writer's bytes grew by the text of the trace, cut at the clocks of the processes, one for each, none of
 -- which is past the end.
 pub record PrintsCutAt (model inputs : List ℕ) (partition : Partition) (o : Options) (old new : Option (List ℕ)) : Type 0 where
@@ -85,13 +79,13 @@ pub record PrintsCutAt (model inputs : List ℕ) (partition : Partition) (o : Op
   pub within : AreWithin o.horizon o.limit clocks
   pub written : Appends old new (cut_text names file played o.limit clocks)
 
--- The same of a run in rounds, which led to those clocks. For want of rounds it ends only where there are no more than ranks before
--- the end.
-pub record PrintsCut (model inputs : List ℕ) (partition : Partition) (o : Options) (old new : Option (List ℕ)) (reason : Why)
+-- The same of a run in rounds, which ended so and led to those clocks. For want of rounds it ends only where there are no more than
+-- ranks before the end.
+pub record PrintsCut (model inputs : List ℕ) (partition : Partition) (o : Options) (old new : Option (List ℕ)) (rounds : Ended)
     : Type 0 where
   pub cut : PrintsCutAt model inputs partition o old new
-  pub led : LedTo cut.file cut.played cut.groups o.horizon o.limit o.capacity (granted o) (ended_for reason) cut.clocks
-  pub stalls : reason ≡ why.Rounds → granted o ≤ end_of o.limit o.horizon
+  pub led : LedTo cut.file cut.played cut.groups o.horizon o.limit o.capacity (granted o) rounds cut.clocks
+  pub stalls : rounds ≡ Stalled → granted o ≤ end_of o.limit o.horizon
 
 -- The same of a run by workers: it is cut before the end.
 pub record PrintsCutByWorkers (model inputs : List ℕ) (partition : Partition) (o : Options) (old new : Option (List ℕ)) : Type 0 where
@@ -109,17 +103,20 @@ pub record PrintsSome (model inputs : List ℕ) (partition : Partition) (o : Opt
   pub is_text : IsTextOf names file played groups.processes o.horizon o.limit text
   pub written : StopsShort old new text
 
--- what an answer says of the writer's bytes
+-- what an answer says of the writer's bytes; nobody watches the turns of rounds
 abbrev pub EndsBy : JobEnded → (model inputs : List ℕ) → Partition → Options → (old new : Option (List ℕ)) → Type 0
 EndsBy ended.Whole model inputs partition o old new = PrintsWhole model inputs partition o old new ended.Whole
 EndsBy ended.Faulted model inputs partition o old new = PrintsWhole model inputs partition o old new ended.Faulted
-EndsBy (ended.Partial reason) model inputs partition o old new = PrintsCut model inputs partition o old new reason
+EndsBy (ended.Partial why.Rounds) model inputs partition o old new = PrintsCut model inputs partition o old new Stalled
+EndsBy (ended.Partial why.Memory) model inputs partition o old new = PrintsCut model inputs partition o old new Memory
+EndsBy (ended.Partial why.Stopped) model inputs partition o old new = ⊥
 
 -- the same of a run by workers, which has no rounds
 abbrev pub EndsByWorkers : JobEnded → (model inputs : List ℕ) → Partition → Options → (old new : Option (List ℕ)) → Type 0
 EndsByWorkers ended.Whole model inputs partition o old new = PrintsWhole model inputs partition o old new ended.Whole
 EndsByWorkers ended.Faulted model inputs partition o old new = PrintsWhole model inputs partition o old new ended.Faulted
 EndsByWorkers (ended.Partial why.Memory) model inputs partition o old new = PrintsCutByWorkers model inputs partition o old new
+EndsByWorkers (ended.Partial why.Stopped) model inputs partition o old new = PrintsCutByWorkers model inputs partition o old new
 EndsByWorkers (ended.Partial why.Rounds) model inputs partition o old new = ⊥
 
 -- the model is accepted, and this is the answer to the partition of its components

@@ -5,8 +5,8 @@ use Rattle.dv_time.specs.declared.time.Time.{Time}
 use Rattle.dv_text.specs.Texts.{ending_text, partial_ending}
 use Rattle.dv_text.specs.Writing.{StopsShort}
 use Rattle.dv_text.specs.declared.writing.Ending.TheVariants as text_end
-use Rattle.dv_core.specs.declared.step.Ended.{Ended}
-use Rattle.dv_core.specs.declared.step.Ended.TheVariants as ran
+use Rattle.dv_run.specs.declared.ran.RanEnded.{RanEnded}
+use Rattle.dv_run.specs.declared.ran.RanEnded.TheVariants as ran
 use Rattle.dv_job.specs.declared.ended.JobEnded.{JobEnded}
 use Rattle.dv_job.specs.declared.ended.JobEnded.TheVariants as ended
 use Rattle.dv_job.specs.declared.ended.Why.TheVariants as why
@@ -22,13 +22,15 @@ IsUnwritten error.Write text old new = StopsShort old new text
 IsUnwritten error.Memory text old new = Keeps old new ⊎ StopsShort old new text
 
 -- how the text of a run ends that came to this end, at these clocks
-abbrev pub end_text : Ended → (horizon : ℕ) → List Time → List ℕ
+abbrev pub end_text : RanEnded → (horizon : ℕ) → List Time → List ℕ
 end_text ran.Whole horizon clocks = ending_text (text_end.Whole horizon)
 end_text ran.Stalled horizon clocks = partial_ending clocks
 end_text ran.Memory horizon clocks = partial_ending clocks
+end_text ran.Stopped horizon clocks = partial_ending clocks
 
 -- how a run ends, some component of which had a fault or none
-abbrev pub ended_at : Ended → Bool → JobEnded
+abbrev pub ended_at : RanEnded → Bool → JobEnded
 ended_at ran.Whole faulted = if faulted then ended.Faulted else ended.Whole
 ended_at ran.Stalled faulted = ended.Partial why.Rounds
 ended_at ran.Memory faulted = ended.Partial why.Memory
+ended_at ran.Stopped faulted = ended.Partial why.Stopped

@@ -27,9 +27,10 @@ pub enum JobEnded {
 pub enum Why {
     /// The rounds that were granted are used up.
     Rounds,
-    /// An allocation was refused while a process took its turn, or a packet was on its way; or whoever watched the turns stopped
-    /// the run.
+    /// An allocation was refused while a process took its turn, or a packet was on its way; or no thread could be made for a worker.
     Memory,
+    /// Whoever watched the turns of workers stopped the run.
+    Stopped,
 }
 
 /// Why there is no whole trace, or no whole listing.

@@ -1,8 +1,12 @@
 //! The names that a plan prints, of a tree.
 
+ghost use Rattle.std.specs.Prelude.{◌≡◌, IfOk};
+ghost use Rattle.dv_tree.specs.Paths.{name_at, texts_of};
+
 use dv_cut::Names;
 use dv_tree::Tree;
 use std::alloc::{AllocError, Global};
+use std::marker::Model;
 
 /// The names of the components and the ports of a tree.
 #[derive(Drop)]
@@ -11,13 +15,32 @@ pub struct TreeNames<'t> {
     inputs: Vec<String>,
 }
 
+impl<'t> Model for TreeNames<'t> {
+    ghost use Rattle.std.specs.Prelude.{◌≡◌, map, string_bytes};
+    ghost use Rattle.dv_syntax.specs.Trees.{file_of};
+    ghost use Rattle.dv_tree.specs.Instances.{root_inputs};
+    ghost use Rattle.dv_tree.specs.Paths.{texts_of};
+    ghost use Rattle.dv_tree.specs.Tables.{Source, source_code};
+
+    ghost Value = { Source };
+
+    ghost coded = { source_code };
+
+    ghost view = { λ n. n.tree.now };
+
+    ghost invariant = { λ n. map string_bytes n.inputs.items
+        ≡ texts_of n.tree.now.names (root_inputs (file_of n.tree.now.file)) };
+}
+
 impl<'t> TreeNames<'t> {
     /// The names of a tree.
     ///
     /// # Errors
     ///
     /// No memory for those of the root's input ports.
-    pub fn of(alloc: Global, tree: &'t Tree<'t>) -> Result<Self, AllocError> {
+    pub fn of(alloc: Global, tree: &'t Tree<'t>) -> Result<Self, AllocError>
+        ensures { IfOk result (λ names. names ≡ tree.now) }
+    {
         Ok(TreeNames {
             tree,
             inputs: tree.input_names(alloc)?,
@@ -26,6 +49,11 @@ impl<'t> TreeNames<'t> {
 }
 
 impl Names for TreeNames<'_> {
+    ghost use Rattle.dv_syntax.specs.Trees.{file_of};
+    ghost use Rattle.dv_job.specs.Names.{plan_names};
+
+    ghost names = { λ s. plan_names s.names (file_of s.file) };
+
     fn components(&self) -> u32 {
         self.tree.component_count() as u32
     }
@@ -75,7 +103,9 @@ impl Names for TreeNames<'_> {
 }
 
 // The name of the port at a place.
-fn name_at<'t>(tree: &'t Tree<'_>, ports: &[u32], port: u32) -> &'t str {
+fn name_at<'t>(tree: &'t Tree<'_>, ports: &[u32], port: u32) -> &'t str
+    ensures { result.now ≡ name_at (texts_of tree.now.names ports.now) port }
+{
     match ports.get(port as usize) {
         Some(number) => tree.name(*number),
         None => "",

@@ -13,7 +13,7 @@ use dv_bag::Bags;
 use dv_devs::laws::parts::parts_are_by_time;
 use dv_plain::resultant_run;
 use dv_text::laws::a_trace_is_its_instants;
-use dv_text::{Ending, write_trace};
+use dv_text::write_trace;
 use dv_tree::Tree;
 use std::alloc::Global;
 use std::io::Write;
@@ -62,6 +62,6 @@ fn run_tree<W: Write>(
     a_trace_is_its_instants::<Bags>();
     let played = load_inputs(alloc, inputs, tree, options.limit)?;
     let trace = resultant_run(alloc, tree, &played, options.horizon, options.limit)?;
-    write_trace(alloc, &trace, tree, &Ending::Whole(options.horizon), writer)?;
+    write_trace(alloc, &trace, tree, options.horizon, writer)?;
     Ok(ending_of(&trace))
 }

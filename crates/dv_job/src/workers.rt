@@ -50,8 +50,8 @@ pub fn run_by_workers<R: Threads + Wait + Sync, W: Write>(
     )
 }
 
-/// Runs as [`run_by_workers`] does, and lets somebody watch each turn of a process. Where that one stops the run, the answer is
-/// `Partial`, as where memory is refused.
+/// Runs as [`run_by_workers`] does, and lets somebody watch each turn of a process. Where that one stops the run and memory was
+/// refused to no worker, the answer is `Partial(Stopped)`, unless all clocks came to the end.
 ///
 /// # Errors
 ///

@@ -9,8 +9,7 @@ ghost use Rattle.dv_job.specs.declared.ended.JobEnded.TheVariants.{Faulted, Part
 
 use crate::ended::{JobEnded, JobError, Why};
 use crate::faults::whole_ending;
-use dv_core::Ended;
-use dv_run::Ran;
+use dv_run::{Ran, RanEnded};
 use dv_text::{Ending, TraceWriter};
 use dv_tree::Tree;
 use std::alloc::Global;
@@ -36,9 +35,10 @@ pub fn write_end<W: Write>(
         (W.contents writer.old) (W.contents writer.new)) }
 {
     match ran.ended {
-        Ended::Whole => write_whole(alloc, tree, ran, horizon, writer),
-        Ended::Stalled => write_cut(alloc, tree, ran, Why::Rounds, writer),
-        Ended::Memory => write_cut(alloc, tree, ran, Why::Memory, writer),
+        RanEnded::Whole => write_whole(alloc, tree, ran, horizon, writer),
+        RanEnded::Stalled => write_cut(alloc, tree, ran, Why::Rounds, writer),
+        RanEnded::Memory => write_cut(alloc, tree, ran, Why::Memory, writer),
+        RanEnded::Stopped => write_cut(alloc, tree, ran, Why::Stopped, writer),
     }
 }
 

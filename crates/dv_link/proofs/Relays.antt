@@ -1,14 +1,13 @@
 -- Each step of an end keeps the rule of the link.
-use Rattle.std.proofs.Common.{◌≡◌, ◌≢◌, ℕ, zero, suc, Bool, true, false, true≢false, List, [], ◌∷◌, ◌++◌, length, set, map}
-use Rattle.std.proofs.Common.{Some, refl, sym, ap, ◌∙◌, subst, ⊎_elim, append_assoc}
+use Rattle.std.proofs.Common.{◌≡◌, ◌≢◌, ℕ, zero, suc, true, false, true≢false, List, [], ◌∷◌, ◌++◌, length, set}
+use Rattle.std.proofs.Common.{Option, Some, refl, sym, ap, ◌∙◌, subst, ⊎_elim, append_assoc}
 use Rattle.std.proofs.lemmas.List.{map-append}
-use Rattle.std.specs.List.{slice_get}
 use mathlib.Core.Option.{some, some-ne-none}
 use lib.ListN.{get_elem?}
 use Rattle.crossbeam_queue.specs.Fifo.{Pushes, Pops, Forks, Learns}
 use Rattle.crossbeam_queue.proofs.Lists.{at_set, at_snoc}
 use Rattle.dv_conservative.specs.Process.{first_time}
-use Rattle.dv_conservative.specs.True.{AreTrue}
+use Rattle.dv_conservative.specs.True.{AreTrue, IsTruePacket}
 use Rattle.dv_conservative.specs.World.{Channel, Job}
 use Rattle.dv_conservative.proofs.Crossing.{true_first}
 use Rattle.dv_conservative.proofs.Holding.{joins}
@@ -16,7 +15,7 @@ use Rattle.dv_proc.specs.Packets.{meant_packet, meant_packets}
 use Rattle.dv_proc.specs.declared.packet.Packet.{Packet}
 use Rattle.dv_link.specs.declared.rule.EndView.{EndView}
 use Rattle.dv_link.specs.Views.{end_view}
-use Rattle.dv_link.specs.Carries.{AllTrue, Carries, Fits, IsNext}
+use Rattle.dv_link.specs.Carries.{AllTrue, Carries, Fits, IsNextOn}
 
 at_end : (l : List EndView) (a b : EndView) (j : ℕ) → get_elem? l j ≢ some b → get_elem? (l ++ a ∷ []) j ≡ some b → j ≡ length l
 at_end [] a b zero n e = refl
@@ -34,12 +33,16 @@ all_set F views end w mine others j u e =
     (λ (x : (j ≢ end) × (get_elem? views j ≡ some u)). others j u x.0 x.1) (at_set views end j w u e)
 
 -- a next packet joins those that were put
-all_joined : (job : Job) (link : ℕ) (ps : List Packet) (p : Packet) → AllTrue job link ps → IsNext job link ps p
+all_joined : (job : Job) (link : ℕ) (ps : List Packet) (p : Packet) → AllTrue job link ps → IsNextOn job link ps p
     → AllTrue job link (ps ++ p ∷ [])
 all_joined job link ps p all next c e =
-    let one = next c e in
+    let same : next.channel ≡ c = some_same next.there e in
     subst (AreTrue job link c first_time) (sym (map-append meant_packet ps (p ∷ [])))
-    (joins job link c first_time (meant_packets ps) (meant_packet p) (all c e) one.0 one.1)
+    (joins job link c first_time (meant_packets ps) (meant_packet p) (all c e) next.joins
+    (subst (λ (d : Channel). IsTruePacket job link d (meant_packet p)) same next.truth))
+  where
+    some_same : {o : Option Channel} {a b : Channel} → o ≡ Some a → o ≡ Some b → a ≡ b
+    some_same e d = cc
 
 -- the first of them are true
 all_first : (job : Job) (link : ℕ) (ps qs : List Packet) → AllTrue job link (ps ++ qs) → AllTrue job link ps
@@ -100,7 +103,7 @@ module _ (job : Job) where
             )) (at_snoc vs r u j e),
       )
 
-  pub puts : (n end : ℕ) (v : EndView) (p : Packet) → v.puts ≡ true → IsNext job v.link v.put p
+  pub puts : (n end : ℕ) (v : EndView) (p : Packet) → v.puts ≡ true → IsNextOn job v.link v.put p
       → Pushes (Carries job) n end v p (λ w. w ≡ end_view v.link v.puts v.takes (v.put ++ p ∷ []) v.taken)
   puts n end v p may next items views _ h at =
       let w : EndView = end_view v.link v.puts v.takes (v.put ++ p ∷ []) v.taken in
@@ -115,7 +118,7 @@ module _ (job : Job) where
           put,
           h.4,
           ap (λ l. l ++ p ∷ []) h.5 ∙ append_assoc h.4 items (p ∷ []),
-          all_joined job h.2 h.3 p h.6 (subst (λ (y : ℕ × List Packet). IsNext job y.0 y.1 p) (λ i. (me.1 i, me.2 i)) next),
+          all_joined job h.2 h.3 p h.6 (subst (λ (y : ℕ × List Packet). IsNextOn job y.0 y.1 p) (λ i. (me.1 i, me.2 i)) next),
           all_set (Fits h.0 h.1 h.2 put h.4) views end w ((λ _. (me.0, me.1, ap (λ l. l ++ p ∷ []) me.2)), mine.1)
               (λ j u other e. ((λ q. absurd (other (((h.7 j u e).0 q).0 ∙ sym me.0))), (h.7 j u e).1)),
         ),

@@ -1,6 +1,6 @@
 -- What the two ends of a link know, and to which link they belong.
 use Rattle.std.specs.Prelude.{◌≡◌, ℕ, true, false, [], ◌∷◌, ◌++◌}
-use Rattle.crossbeam_queue.specs.Passes.{view, IsPassOf}
+use Rattle.crossbeam_queue.specs.Passes.{view, IsPassOf, ruled_capacity}
 use Rattle.dv_proc.specs.declared.packet.Packet.{Packet}
 use Rattle.dv_link.specs.declared.link.Link.{Link}
 use Rattle.dv_link.specs.declared.link.SendPass.{SendPass}
@@ -26,6 +26,10 @@ after_put v p = end_view v.link v.puts v.takes (v.put ++ p ∷ []) v.taken
 
 abbrev pub after_take : EndView → Packet → EndView
 after_take v p = end_view v.link v.puts v.takes v.put (v.taken ++ p ∷ [])
+
+-- how many packets may be on their way on a link
+abbrev pub capacity : {N : Type 0} → Link N → ℕ
+capacity link = ruled_capacity link.line
 
 -- it is the pass of this link that may put
 pub record IsSendPassOf {N : Type 0} (link : Link N) (s : SendPass) : Type 0 where

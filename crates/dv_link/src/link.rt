@@ -2,9 +2,11 @@
 
 ghost use Rattle.std.specs.Prelude.{◌≡◌, ◌<◌, true, [], IfOk, MatchResult, MatchOption};
 ghost use Rattle.crossbeam_queue.specs.Passes.{view, IsPassOf};
+ghost use Rattle.dv_proc.specs.Packets.{meant_packets};
 ghost use Rattle.dv_link.specs.Views.{end_view};
-ghost use Rattle.dv_link.specs.Carries.{AllTrue, IsNext};
-ghost use Rattle.dv_link.specs.Ends.{IsSendPassOf, IsTakePassOf, after_put, after_take, new_receiver, new_sender, receiver, sender};
+ghost use Rattle.dv_link.specs.Carries.{AreTrueOn, IsLinkOf, IsNextOn};
+ghost use Rattle.dv_link.specs.Ends.{IsSendPassOf, IsTakePassOf, after_put, after_take, capacity as capacity_of};
+ghost use Rattle.dv_link.specs.Ends.{new_receiver, new_sender, receiver, sender};
 
 use crate::job::OfJob;
 use crate::rule::{EndView, Ends, OfLink, Puts, Relay, Takes};
@@ -57,7 +59,8 @@ fn ends<N: OfJob, L: OfLink>(
 }
 
 impl<N: OfJob> Link<N> {
-    /// The link of a number, with room for so many packets, and the passes of its two ends, which have put and taken nothing.
+    /// The link of a number that the job has, with room for so many packets, and the passes of its two ends, which have put and
+    /// taken nothing.
     ///
     /// # Errors
     ///
@@ -67,7 +70,9 @@ impl<N: OfJob> Link<N> {
         link: u32,
         capacity: usize,
     ) -> Result<(Self, SendPass, TakePass), AllocError>
-        requires { 0 < capacity }
+        requires channel { IsLinkOf N.job link }
+        requires capacity { 0 < capacity }
+        ensures capacity { IfOk result (λ r. capacity_of r.0 ≡ capacity) }
         ensures sender { IfOk result (λ r. IsSendPassOf r.0 r.1 × (sender r.1 ≡ new_sender link)) }
         ensures receiver { IfOk result (λ r. IsTakePassOf r.0 r.2
             × (receiver r.2 ≡ new_receiver link)) }
@@ -94,7 +99,7 @@ impl<N: OfJob> Link<N> {
         packet: Packet,
     ) -> Result<(), Full<Packet>>
         requires link { IsSendPassOf self.now pass.old }
-        requires next { IsNext N.job (sender pass.old).link (sender pass.old).put packet }
+        requires next { IsNextOn N.job (sender pass.old).link (sender pass.old).put packet }
         ensures link { IsSendPassOf self.now pass.new }
         ensures put { MatchResult result
             (λ _. sender pass.new ≡ after_put (sender pass.old) packet)
@@ -109,10 +114,12 @@ impl<N: OfJob> Link<N> {
     /// Takes the packet at the front, if there is one. All that was taken is true, and its windows join from the start.
     pub fn take<R: Wait>(&self, rt: &R, pass: &mut TakePass) -> Option<Packet>
         requires link { IsTakePassOf self.now pass.old }
+        requires channel { IsLinkOf N.job (receiver pass.old).link }
         ensures link { IsTakePassOf self.now pass.new }
         ensures taken { MatchOption result (receiver pass.new ≡ receiver pass.old)
             (λ p. receiver pass.new ≡ after_take (receiver pass.old) p) }
-        ensures all_true { AllTrue N.job (receiver pass.new).link (receiver pass.new).taken }
+        ensures all_true { AreTrueOn N.job (receiver pass.new).link
+            (meant_packets (receiver pass.new).taken) }
     {
         self.line.pop_as::<Takes<N>, R>(rt, &mut pass.pass)
     }

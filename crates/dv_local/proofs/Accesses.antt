@@ -1,5 +1,5 @@
 -- How many components are visited as they emit, and as they are committed.
-use Rattle.std.proofs.Common.{◌≡◌, ℕ, ◌+◌, ◌-◌, ◌^◌, ◌<◌, ◌≤◌, min, Bool, true, false, cond, length, List, [], ◌∷◌, ◌++◌, Option}
+use Rattle.std.proofs.Common.{◌≡◌, ℕ, ◌+◌, ◌-◌, ◌^◌, ◌<◌, ◌≤◌, min, Bool, true, false, cond, length, List, [], ◌∷◌, Option}
 use Rattle.std.proofs.Common.{Some, None, Result, refl, ap, ap₂, sym, ◌∙◌, subst, arith}
 use Rattle.std.specs.List.{count_by, slice_get}
 use Rattle.std.proofs.lemmas.Bool.{and_parts, eqb-true}
@@ -16,7 +16,7 @@ use Rattle.dv_devs.specs.Behaviour.{Behaviour, is_at, is_imminent}
 use Rattle.dv_devs.specs.Network.{entry_of}
 use Rattle.dv_react.specs.Components.{component_of, components_of, next_of_wait}
 use Rattle.dv_react.specs.Outcomes.{event_of, happened_in, sent_of}
-use Rattle.dv_react.specs.declared.outcome.Outcome.{Outcome}
+use Rattle.dv_react.specs.Outcomes.{Outcome}
 use Rattle.dv_react.specs.declared.running.Running.{Running}
 use Rattle.dv_react.specs.declared.wait.Wait.{Wait}
 use Rattle.dv_react.specs.declared.wait.Wait.TheVariants.{Until, Forever, Quiet}

@@ -17,3 +17,4 @@ pub mod Sending
 pub mod Starts
 pub mod Accesses
 pub mod Visited
+pub mod Reacted

@@ -15,7 +15,7 @@ use Rattle.dv_devs.specs.Network.{components_after, emissions, entries_by, insta
 use Rattle.dv_conservative.specs.Flat.{network}
 use Rattle.dv_conservative.specs.Links.{Delivery, carried, inbox, sent_of as sent_from}
 use Rattle.dv_react.specs.Components.{components_of}
-use Rattle.dv_react.specs.declared.outcome.Outcome.{Outcome}
+use Rattle.dv_react.specs.Outcomes.{Outcome}
 use Rattle.dv_react.specs.declared.running.Running.{Running}
 use Rattle.dv_agenda.specs.Comings.{arrivals_at}
 use Rattle.dv_share.specs.Places.{places_of}

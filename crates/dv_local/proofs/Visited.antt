@@ -34,7 +34,7 @@ module _ {S R : Type 0} (behaviour : S → Behaviour) (x : LocalState S R) (cs :
       (λ (rs : List Running) (visits : ℕ).
       let v : View = record {
         share = share_by behaviour x.share;
-        components = components_of x.share.tables.limit (undone x.undo.before.items rs);
+        components = components_of x.share.tables.limit (undone x.undo.before rs);
         committed = settled x.record;
         held = held_by x.share.tables.limit None x.inbox;
         visits = visits;

@@ -11,7 +11,9 @@ use Rattle.dv_devs.specs.Behaviour.{Behaviour, emission}
 use Rattle.dv_devs.specs.Network.{entry_of}
 use Rattle.dv_react.specs.Components.{component_of}
 use Rattle.dv_react.specs.Outcomes.{event_of, happened_in, left_by, sent_of}
-use Rattle.dv_react.specs.declared.outcome.Outcome.{Outcome}
+use Rattle.dv_react.specs.Outcomes.{Outcome}
+use Rattle.dv_react.specs.declared.happened.Happened.{Happened}
+use Rattle.dv_react.specs.declared.happened.Happened.TheVariants as happened
 use Rattle.dv_react.specs.declared.running.Running.{Running}
 use Rattle.dv_share.specs.Commits.{entries_of}
 use Rattle.dv_share.specs.Outcomes.{IsOutcome, IsOutcomeOf, behaviour_in}
@@ -21,9 +23,6 @@ use Rattle.dv_share.specs.Share.{given_at, left_from}
 use Rattle.dv_share.specs.declared.place.Placed.{Placed}
 use Rattle.dv_share.specs.declared.tables.Member.{Member}
 use Rattle.dv_share.specs.declared.tables.Tables.{Tables}
-use Rattle.dv_local.specs.declared.commit.Cause.{Cause}
-use Rattle.dv_local.specs.declared.commit.Cause.TheVariants as cause
-use Rattle.dv_local.specs.declared.commit.Left.{Left}
 
 -- what was emitted at a place is what the output function of the component there gives
 abbrev pub IsGivenAt : {S : Type 0} → (S → Behaviour) → Tables S → ℕ → List (Placed (Result (List Counts) Fault)) → List Running → ℕ
@@ -52,10 +51,7 @@ pub record HaveReacted {S : Type 0} (behaviour : S → Behaviour) (fits : S → 
   pub components : ss ≡ left_from 0 rs outcomes
   pub entries : new ≡ old ++ entries_of t.limit now t.members.items es outcomes
 
--- what happened to a component: what changed it, with the state after it
-abbrev pub what_by : Cause → State → What
-what_by (cause.Transition kind) s = what.Transition kind s
-what_by (cause.Fault fault) s = what.Fault fault
-
-abbrev pub what_of : Left → What
-what_of l = what_by l.cause l.after.state
+-- what happened to a component, with the state after it
+abbrev pub what_by : Happened → State → What
+what_by (happened.Transition kind) s = what.Transition kind s
+what_by (happened.Fault fault) s = what.Fault fault

@@ -8,5 +8,6 @@ pub mod Undoing
 pub mod Comings
 -- What the components of a process stand at.
 pub mod States
--- What is committed at an instant.
+-- How a component reacts where it stands, and what is committed at an instant.
+pub mod Reacting
 pub mod Commits

@@ -41,7 +41,7 @@ view_by behaviour told x = record {
 abbrev pub settled_by : {S R : Type 0} → (S → Behaviour) → (R → PartOf) → LocalState S R → View
 settled_by behaviour settled x = record {
   share = share_by behaviour x.share;
-  components = components_of x.share.tables.limit (undone x.undo.before.items x.components.running);
+  components = components_of x.share.tables.limit (undone x.undo.before x.components.running);
   committed = settled x.record;
   held = held_by x.share.tables.limit None x.inbox;
   visits = x.components.settled;
@@ -80,13 +80,13 @@ pub record IsKept {S R : Type 0} (behaviour : S → Behaviour) (fits : S → Sta
   pub components : AreComponents fits x.share.tables x.components.running
   pub agenda : x.agenda ≡ waits_of x.components.running
   pub arrive : AllArrive x.share.tables.limit x.share.tables.members.items x.inbox
-  pub within : AreWithin (length x.components.running) x.undo.before.items
-  pub before : AreComponents fits x.share.tables (undone x.undo.before.items x.components.running)
+  pub within : AreWithin (length x.components.running) x.undo.before
+  pub before : AreComponents fits x.share.tables (undone x.undo.before x.components.running)
   pub emitted : StandByPlace (length x.share.tables.members.items) x.emitted.items
   pub still : AreEmittedIf behaviour x x.emitted_at
 
 -- nothing was put in since all was settled
 pub record IsAtRest {S R : Type 0} (told settled : R → PartOf) (x : LocalState S R) : Type 0 where
-  pub before : x.undo.before.items ≡ []
+  pub before : x.undo.before ≡ []
   pub committed : settled x.record ≡ told x.record
   pub taken : x.undo.taken ≡ None

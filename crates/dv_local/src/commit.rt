@@ -1,42 +1,33 @@
 //! The components to which something happens at an instant react, and what happens is committed.
 
-ghost use Rattle.std.specs.Prelude.{◌≡◌, ◌<◌, ◌+◌, ◌++◌, [], List, Some, IfOk, MatchOption, OnErr, OnOk, length, slice_get, slice_set};
-ghost use Rattle.std.specs.Prelude.{vec_capacity, vec_len};
-ghost use Rattle.std.specs.Option.{option_map};
+ghost use Rattle.std.specs.Prelude.{◌≡◌, ◌<◌, ◌+◌, ◌++◌, ◌∷◌, [], List, Some, OnErr, OnOk, length, slice_get, slice_set};
 ghost use Rattle.dv_bag.specs.Bag.{Counts};
 ghost use Rattle.dv_react.specs.Components.{rank_of};
-ghost use Rattle.dv_react.specs.Outcomes.{happened_in, left_by, sent_of};
+ghost use Rattle.dv_react.specs.Outcomes.{sent_of};
+ghost use Rattle.dv_react.specs.declared.running.Running.{Running as RunningOfCode};
 ghost use Rattle.dv_devs.specs.Network.{entry_of};
 ghost use Rattle.dv_record.specs.Told.{IsOpenAt};
 ghost use Rattle.dv_proc.specs.Accesses.{IsCounted};
 ghost use Rattle.dv_share.specs.Places.{AreRising, IsNext, places_of};
 ghost use Rattle.dv_share.specs.Rows.{number_of};
 ghost use Rattle.dv_share.specs.Share.{AreComponents, AreEmitted, AreTables, StandByPlace, given_at};
-ghost use Rattle.dv_local.specs.Commits.{HasReacted, HaveReacted, IsGivenAt, what_of};
+ghost use Rattle.dv_share.specs.declared.place.Placed.{Placed as PlacedOfCode};
+ghost use Rattle.dv_local.specs.Commits.{HasReacted, HaveReacted, IsGivenAt, what_by};
 ghost use Rattle.dv_local.specs.Undoing.{AreWithin, undone, waits_of};
-ghost use Rattle.dv_local.specs.declared.commit.Left.{Left};
 
 use crate::components::Components;
-use crate::undo::{push_to_room, time_of};
+use crate::former::Former;
+use crate::moment::Moment;
+use crate::undo::time_of;
 use dv_agenda::Agenda;
-use dv_bag::{Bags, Fault, Kind, Sent};
-use dv_react::{Atomic, Instant, Outcome, Running, Wait};
+use dv_bag::{Bags, State};
+use dv_react::{Atomic, Happened};
 use dv_record::Record;
-use dv_share::{Placed, Received, Tables, next_index, outcome, sent_at};
+use dv_share::{Placed, Received, next_index, sent_at};
 use std::alloc::AllocError;
 
-/// What an instant is computed from, beside the components: the tables, the instant itself, what was emitted at it, and
-/// what a component sent that emitted nothing.
-#[derive(Clone, Copy)]
-pub(crate) struct Moment<'a, A> {
-    pub tables: &'a Tables<A>,
-    pub instant: &'a Instant,
-    pub emitted: &'a [Placed<Result<Sent, Fault>>],
-    pub nothing: &'a Sent,
-}
-
 /// Lets the components that emitted or receive something react, one after the other. Each is visited once. What happens is
-/// told; a component that changes is put in its place, and the one that stood there is appended to `before`.
+/// told; what a component was that changed is appended to `before`.
 ///
 /// # Errors
 ///
@@ -49,7 +40,7 @@ pub(crate) fn commit<A: Atomic, R: Record>(
     components: &mut Components,
     agenda: &mut Agenda,
     to: &mut R,
-    before: &mut Vec<Placed<Running>>,
+    before: &mut Former,
 ) -> Result<(), AllocError>
     requires tables { AreTables A.fits moment.now.tables.now }
     requires limit { moment.now.instant.now.limit ≡ moment.now.tables.now.limit }
@@ -60,7 +51,7 @@ pub(crate) fn commit<A: Atomic, R: Record>(
     requires received { StandByPlace (length moment.now.tables.now.members.items)
         received.now.items }
     requires agenda { agenda.old ≡ waits_of components.old.running }
-    requires within { AreWithin (length components.old.running) before.old.items }
+    requires within { AreWithin (length components.old.running) before.old }
     requires nothing { moment.now.nothing.now ≡ [] }
     requires is_open { IsOpenAt moment.now.instant.now.time (R.told to.old) }
     ensures reacted { OnOk result (HaveReacted A.behaviour A.fits moment.now.tables.now
@@ -69,13 +60,13 @@ pub(crate) fn commit<A: Atomic, R: Record>(
         (R.told to.old).entries (R.told to.new).entries) }
     ensures components { AreComponents A.fits moment.now.tables.now components.new.running }
     ensures agenda { agenda.new ≡ waits_of components.new.running }
-    ensures within { AreWithin (length components.new.running) before.new.items }
-    ensures before { undone before.new.items components.new.running
-        ≡ undone before.old.items components.old.running }
+    ensures within { AreWithin (length components.new.running) before.new }
+    ensures before { undone before.new components.new.running
+        ≡ undone before.old components.old.running }
     ensures visits { OnOk result (IsCounted (length received.now.items) (length received.now.items)
         components.old.visits components.new.visits) }
-    ensures count { length before.new.items + length (R.told to.old).entries
-        ≡ length before.old.items + length (R.told to.new).entries }
+    ensures count { length before.new + length (R.told to.old).entries
+        ≡ length before.old + length (R.told to.new).entries }
     ensures counted { components.new.settled ≡ components.old.settled }
     ensures outer { (R.told to.new).outer ≡ (R.told to.old).outer }
     ensures is_open { IsOpenAt moment.now.instant.now.time (R.told to.new) }
@@ -100,7 +91,7 @@ fn commit_one<A: Atomic, R: Record>(
     components: &mut Components,
     agenda: &mut Agenda,
     to: &mut R,
-    before: &mut Vec<Placed<Running>>,
+    before: &mut Former,
 ) -> Result<(), AllocError>
     requires tables { AreTables A.fits moment.now.tables.now }
     requires limit { moment.now.instant.now.limit ≡ moment.now.tables.now.limit }
@@ -112,7 +103,7 @@ fn commit_one<A: Atomic, R: Record>(
     requires given { IsGivenAt A.behaviour moment.now.tables.now (rank_of moment.now.instant.now)
         moment.now.emitted.now components.old.running arrival.now.place }
     requires agenda { agenda.old ≡ waits_of components.old.running }
-    requires within { AreWithin (length components.old.running) before.old.items }
+    requires within { AreWithin (length components.old.running) before.old }
     requires nothing { moment.now.nothing.now ≡ [] }
     requires is_open { IsOpenAt moment.now.instant.now.time (R.told to.old) }
     ensures reacted { OnOk result (HasReacted A.behaviour A.fits moment.now.tables.now
@@ -121,13 +112,13 @@ fn commit_one<A: Atomic, R: Record>(
         components.new.running (R.told to.old).entries (R.told to.new).entries) }
     ensures components { AreComponents A.fits moment.now.tables.now components.new.running }
     ensures agenda { agenda.new ≡ waits_of components.new.running }
-    ensures within { AreWithin (length components.new.running) before.new.items }
-    ensures before { undone before.new.items components.new.running
-        ≡ undone before.old.items components.old.running }
+    ensures within { AreWithin (length components.new.running) before.new }
+    ensures before { undone before.new components.new.running
+        ≡ undone before.old components.old.running }
     ensures visits { OnOk result
         (IsCounted 1 1 components.old.visits components.new.visits) }
-    ensures count { length before.new.items + length (R.told to.old).entries
-        ≡ length before.old.items + length (R.told to.new).entries }
+    ensures count { length before.new + length (R.told to.old).entries
+        ≡ length before.old + length (R.told to.new).entries }
     ensures counted { components.new.settled ≡ components.old.settled }
     ensures outer { (R.told to.new).outer ≡ (R.told to.old).outer }
     ensures is_open { IsOpenAt moment.now.instant.now.time (R.told to.new) }
@@ -135,61 +126,33 @@ fn commit_one<A: Atomic, R: Record>(
     ensures handed { R.handed to.new ≡ R.handed to.old }
 {
     components.visit(arrival.place);
-    let component = components.visited();
-    let outcome = outcome(
-        moment.tables,
-        work,
-        moment.instant,
-        component,
-        moment.emitted,
-        index,
-        arrival,
-    )?;
-    let Some(left) = left_by(component, outcome)? else {
+    let Some(happened) = components.react(moment, work, index, arrival, before)? else {
         return Ok(());
     };
-    before.reserve(1)?;
-    tell(moment, arrival.place, index, &left, to)?;
-    put_in(components, agenda, before, arrival.place, left.after);
-    Ok(())
+    let component = components.visited();
+    let time = time_of(component.wait);
+    match tell(moment, arrival.place, index, happened, &component.state, to) {
+        Ok(()) => {
+            agenda.set(arrival.place, time);
+            Ok(())
+        }
+        Err(error) => {
+            take_back(components, before);
+            Err(error)
+        }
+    }
 }
 
-// What changed a component.
-#[derive(Clone, Copy)]
-enum Cause {
-    Transition(Kind),
-    Fault(Fault),
-}
-
-// What changed a component, and the component after it.
-#[derive(Drop)]
-struct Left {
-    cause: Cause,
-    after: Running,
-}
-
-// What an outcome leaves, if something happened.
-fn left_by(component: &Running, outcome: Outcome) -> Result<Option<Left>, AllocError>
-    ensures happened { IfOk result (λ left. option_map what_of left
-        ≡ happened_in outcome) }
-    ensures left { IfOk result (λ left. MatchOption left (left_by component.now outcome
-        ≡ component.now)
-        (λ l. l.after ≡ left_by component.now outcome)) }
+// Puts the component back that was visited and reacted last.
+fn take_back(components: &mut Components, before: &mut Former)
+    requires { components.old.visited < length components.old.running }
+    ensures back { (xs : List (PlacedOfCode RunningOfCode)) (x : PlacedOfCode RunningOfCode)
+        → before.old ≡ xs ++ x ∷ [] → (before.new ≡ xs) × (components.new.running
+        ≡ slice_set components.old.running components.old.visited x.what) }
+    ensures settled { components.new.settled ≡ components.old.settled }
 {
-    match outcome {
-        Outcome::Nothing => Ok(None),
-        Outcome::Faulted { fault } => Ok(Some(Left {
-            cause: Cause::Fault(fault),
-            after: Running {
-                state: component.state.clone()?,
-                last: component.last,
-                wait: Wait::Quiet,
-            },
-        })),
-        Outcome::Changed { kind, after } => Ok(Some(Left {
-            cause: Cause::Transition(kind),
-            after,
-        })),
+    if let Some(last) = before.pop() {
+        components.replace(last.what);
     }
 }
 
@@ -198,7 +161,8 @@ fn tell<A, R: Record>(
     moment: &Moment<'_, A>,
     place: u32,
     index: usize,
-    left: &Left,
+    happened: Happened,
+    state: &State,
     to: &mut R,
 ) -> Result<(), AllocError>
     requires place { place < length moment.now.tables.now.members.items }
@@ -209,7 +173,7 @@ fn tell<A, R: Record>(
     ensures entries { OnOk result ((R.told to.new).entries ≡ (R.told to.old).entries
         ++ entry_of moment.now.instant.now.limit (rank_of moment.now.instant.now)
         (number_of (slice_get moment.now.tables.now.members.items place))
-        (Some (what_of left.now, sent_of (given_at place moment.now.emitted.now)))) }
+        (Some (what_by happened state.now, sent_of (given_at place moment.now.emitted.now)))) }
     ensures outer { (R.told to.new).outer ≡ (R.told to.old).outer }
     ensures err { OnErr result (R.told to.new ≡ R.told to.old) }
     ensures is_open { IsOpenAt moment.now.instant.now.time (R.told to.new) }
@@ -219,37 +183,8 @@ fn tell<A, R: Record>(
     let component = moment.tables.members[place as usize].number;
     let sent = sent_at(moment.emitted, index, place, moment.nothing);
     let time = moment.instant.time;
-    match left.cause {
-        Cause::Transition(kind) => to.moved(time, component, kind, &left.after.state, sent),
-        Cause::Fault(fault) => to.faulted(time, component, fault, sent),
+    match happened {
+        Happened::Transition(kind) => to.moved(time, component, kind, state, sent),
+        Happened::Fault(fault) => to.faulted(time, component, fault, sent),
     }
-}
-
-// Puts a component in the place that was visited last, and the one that stood there behind those that stood before, where
-// there is room for it.
-fn put_in(
-    components: &mut Components,
-    agenda: &mut Agenda,
-    before: &mut Vec<Placed<Running>>,
-    place: u32,
-    component: Running,
-)
-    requires place { place < length components.old.running }
-    requires visited { components.old.visited ≡ place }
-    requires agenda { agenda.old ≡ waits_of components.old.running }
-    requires within { AreWithin (length components.old.running) before.old.items }
-    requires room { vec_len before.old < vec_capacity before.old }
-    ensures components { components.new.running
-        ≡ slice_set components.old.running place component }
-    ensures visits { components.new.visits ≡ components.old.visits }
-    ensures counted { components.new.settled ≡ components.old.settled }
-    ensures count { length before.new.items ≡ length before.old.items + 1 }
-    ensures agenda { agenda.new ≡ waits_of components.new.running }
-    ensures within { AreWithin (length components.new.running) before.new.items }
-    ensures before { undone before.new.items components.new.running
-        ≡ undone before.old.items components.old.running }
-{
-    agenda.set(place, time_of(component.wait));
-    let what = components.replace(component);
-    push_to_room(before, Placed { place, what });
 }

@@ -1,9 +1,20 @@
 //! The components of a process, of which each visit is counted.
 
-ghost use Rattle.std.specs.Prelude.{◌≡◌, ◌<◌, ◌≤◌, ◌+◌, ◌-◌, ◌^◌, Some, length, min, slice_get, slice_index_or, slice_set};
+ghost use Rattle.std.specs.Prelude.{◌≡◌, ◌<◌, ◌≤◌, ◌+◌, ◌-◌, ◌^◌, IfOk, List, OnErr, Some, length, min, slice_get, slice_index_or, slice_set};
+ghost use Rattle.dv_bag.specs.Bag.{Counts};
+ghost use Rattle.dv_react.specs.Components.{rank_of};
 ghost use Rattle.dv_react.specs.declared.running.Running.{Running as RunningOfCode};
+ghost use Rattle.dv_share.specs.Places.{AreRising, IsNext, places_of};
+ghost use Rattle.dv_share.specs.Share.{AreComponents, AreTables};
+ghost use Rattle.dv_local.specs.Commits.{IsGivenAt};
+ghost use Rattle.dv_local.specs.Reacting.{ReactsAt};
 
-use dv_react::Running;
+use crate::former::Former;
+use crate::moment::Moment;
+use dv_bag::Bags;
+use dv_react::{Atomic, Happened, Running};
+use dv_share::Placed;
+use std::alloc::AllocError;
 use std::marker::Model;
 use std::mem;
 
@@ -82,6 +93,43 @@ impl Components {
         ensures settled { self.new.settled ≡ self.old.settled }
     {
         mem::replace(&mut self.running[self.visited as usize], component)
+    }
+
+    /// Lets the component that was visited last react in place, by the index of the first emission that does not stand before it.
+    /// Tells what happened, if anything did: then what it was is the last of the former ones.
+    ///
+    /// # Errors
+    ///
+    /// No memory. Nothing has changed.
+    pub(crate) fn react<A: Atomic>(
+        &mut self,
+        moment: &Moment<'_, A>,
+        work: &mut A::Work,
+        index: usize,
+        arrival: &Placed<Bags>,
+        former: &mut Former,
+    ) -> Result<Option<Happened>, AllocError>
+        requires tables { AreTables A.fits moment.now.tables.now }
+        requires limit { moment.now.instant.now.limit ≡ moment.now.tables.now.limit }
+        requires components { AreComponents A.fits moment.now.tables.now self.old.running }
+        requires comes { (a : A) (bags : List Counts) → A.comes a bags }
+        requires visited { self.old.visited ≡ arrival.now.place }
+        requires place { arrival.now.place < length moment.now.tables.now.members.items }
+        requires rise { AreRising (places_of moment.now.emitted.now) }
+        requires next { IsNext arrival.now.place moment.now.emitted.now index }
+        requires given { IsGivenAt A.behaviour moment.now.tables.now (rank_of moment.now.instant.now)
+            moment.now.emitted.now self.old.running arrival.now.place }
+        ensures reacted { IfOk result (ReactsAt A.behaviour A.fits moment.now.tables.now
+            (rank_of moment.now.instant.now) moment.now.emitted.now arrival.now
+            self.old.running self.new.running former.old former.new) }
+        ensures same { OnErr result (self.new.running ≡ self.old.running) }
+        ensures none { OnErr result (former.new ≡ former.old) }
+        ensures visited { self.new.visited ≡ self.old.visited }
+        ensures visits { self.new.visits ≡ self.old.visits }
+        ensures settled { self.new.settled ≡ self.old.settled }
+    {
+        let component = &mut self.running[self.visited as usize];
+        former.react(moment, work, component, index, arrival)
     }
 
     /// How many visits there were.

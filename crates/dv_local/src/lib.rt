@@ -11,8 +11,12 @@ pub mod components;
 mod emission;
 mod events;
 
+/// What components were before they reacted.
+pub mod former;
+
 /// What a process asks for.
 pub mod local_run;
+mod moment;
 
 /// The lists of an instant.
 pub mod scratch;
@@ -29,6 +33,7 @@ mod waiting;
 
 pub use beginning::begin;
 pub use components::Components;
+pub use former::Former;
 pub use local_run::LocalRun;
 pub use scratch::Scratch;
 pub use share::{Share, Way};

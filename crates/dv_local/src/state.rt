@@ -17,10 +17,12 @@ ghost use Rattle.dv_share.specs.Share.{AreComponents, AreEmitted};
 ghost use Rattle.dv_local.specs.Shares.{IsShare, share_by};
 ghost use Rattle.dv_local.specs.States.{IsAtRest, IsKept, imminent_of, sent_of, settled_by, view_by};
 
-use crate::commit::{Moment, commit};
+use crate::commit::commit;
 use crate::components::Components;
 use crate::emission::emit_all;
 use crate::events::{add_events, comings_of, deliveries_of};
+use crate::former::Former;
+use crate::moment::Moment;
 use crate::scratch::Scratch;
 use crate::share::Share;
 use crate::undo::{Undo, agenda_of, let_go, put_all_back};
@@ -90,7 +92,7 @@ impl<A: Atomic + Drop, R: Record> LocalState<A, R> {
             agenda,
             inbox: Inbox::new(alloc),
             undo: Undo {
-                before: Vec::new(alloc),
+                before: Former::new(alloc),
                 taken: None,
             },
             emitted: Vec::new(alloc),

@@ -1,23 +1,22 @@
 //! How what was done is taken back.
 
-ghost use Rattle.std.specs.Prelude.{◌≡◌, ◌<◌, ◌≤◌, ◌+◌, ◌-◌, ◌^◌, [], ◌∷◌, ◌++◌, IfOk, length, slice_set, vec_capacity, vec_len};
+ghost use Rattle.std.specs.Prelude.{◌≡◌, ◌<◌, ◌≤◌, ◌+◌, ◌-◌, ◌^◌, [], IfOk, length, slice_set};
 ghost use Rattle.dv_agenda.specs.Comings.{arrivals_at};
 ghost use Rattle.dv_time.specs.declared.time.Time.{Time as TimeOfCode};
 ghost use Rattle.dv_local.specs.Undoing.{AreWithin, arrivals_but, time_of_wait, undone, waits_of};
 
 use crate::components::Components;
+use crate::former::Former;
 use dv_agenda::{Agenda, Inbox};
 use dv_react::{Running, Wait};
-use dv_share::Placed;
 use dv_time::Time;
 use std::alloc::{AllocError, Global};
 
-/// What stood when all was settled: the components that were put in since with those that stood there before, and the time
-/// whose arrivals are let go when all is settled again. What was told since, the record knows, and what was visited the
-/// components.
+/// What stood when all was settled: what the components were that changed since, and the time whose arrivals are let go when
+/// all is settled again. What was told since, the record knows, and what was visited the components.
 #[derive(Drop)]
 pub struct Undo {
-    pub before: Vec<Placed<Running>>,
+    pub before: Former,
     pub taken: Option<Time>,
 }
 
@@ -42,19 +41,15 @@ pub(crate) fn let_go(inbox: &mut Inbox, taken: Option<Time>)
 
 /// Puts the components back that stood before, the last first, and takes back what was added to their count of visits. It
 /// wants no memory.
-pub(crate) fn put_all_back(
-    components: &mut Components,
-    agenda: &mut Agenda,
-    before: &mut Vec<Placed<Running>>,
-)
-    requires within { AreWithin (length components.old.running) before.old.items }
+pub(crate) fn put_all_back(components: &mut Components, agenda: &mut Agenda, before: &mut Former)
+    requires within { AreWithin (length components.old.running) before.old }
     requires agenda { agenda.old ≡ waits_of components.old.running }
     ensures components { components.new.running
-        ≡ undone before.old.items components.old.running }
+        ≡ undone before.old components.old.running }
     ensures visits { components.new.visits ≡ components.old.settled }
     ensures settled { components.new.settled ≡ components.old.settled }
     ensures agenda { agenda.new ≡ waits_of components.new.running }
-    ensures empty { before.new.items ≡ [] }
+    ensures empty { before.new ≡ [] }
 {
     while let Some(last) = before.pop() {
         agenda.set(last.place, time_of(last.what.wait));
@@ -72,18 +67,6 @@ fn put_back(components: &mut Components, place: u32, component: Running)
 {
     components.visit(place);
     components.replace(component);
-}
-
-/// Pushes where there is room.
-pub(crate) fn push_to_room(before: &mut Vec<Placed<Running>>, placed: Placed<Running>)
-    requires { vec_len before.old < vec_capacity before.old }
-    ensures items { before.new.items ≡ before.old.items ++ placed ∷ [] }
-    ensures len { vec_len before.new ≡ vec_len before.old + 1 }
-    ensures capacity { vec_capacity before.old ≤ vec_capacity before.new }
-{
-    if before.push(placed).is_err() {
-        unreachable!("room was made");
-    }
 }
 
 /// The agenda of components: what each of them waits for.

@@ -1,5 +1,5 @@
 -- How far a run has come: the components, the trace and the inputs when every instant before a rank is over.
-use Rattle.std.proofs.Common.{◌≡◌, ℕ, suc, ◌+◌, ◌-◌, ◌<◌, ◌≤◌, List, [], map, length, replicate, unwrap_or, Option, Some, None}
+use Rattle.std.proofs.Common.{◌≡◌, ℕ, suc, ◌-◌, ◌<◌, ◌≤◌, List, [], map, length, replicate, unwrap_or, Option, Some, None}
 use Rattle.std.proofs.Common.{refl, ap, sym, ◌∙◌, subst, arith}
 use Rattle.std.proofs.lemmas.List.{length-map}
 use Rattle.dv_time.specs.Time.{IsOfRun, end_of, rank, succ}

@@ -8,11 +8,11 @@ ghost use Rattle.dv_bag.specs.Outcome.{Gives};
 ghost use Rattle.dv_eval.specs.Scope.{phase_name, rule_of, scope_of};
 ghost use Rattle.dv_tree.specs.Instances.{instances};
 ghost use Rattle.dv_plain.specs.Source.{behaviour_of, change_by, state_by_goto};
-ghost use Rattle.dv_react.specs.Given.{GivesAs, GivesRule, change_of};
+ghost use Rattle.dv_react.specs.Given.{GivesAs, change_to};
 
 use dv_bag::{Arrivals, Fault, RuleError, Sent, State};
 use dv_eval::{Scope, phase_hold, rule_body, rule_of, run_rule};
-use dv_react::{Atomic, Change};
+use dv_react::Atomic;
 use dv_syntax::{Atomic as AtomicModel, RuleSort, Stmt};
 use dv_tree::Tree;
 use std::alloc::Global;
@@ -47,19 +47,20 @@ impl<'m> Atom<'m> {
         rule_of(self.model, RuleSort::Confluent, self.phase_name(state))
     }
 
-    // What statements that may change the state leave.
+    // Changes a state as statements do. Tells whether a `goto` ran.
     fn change_by(
         &self,
         alloc: Global,
         statements: &[Stmt],
         arrivals: &Arrivals,
-        state: &State,
-    ) -> Result<Change, RuleError>
-        ensures { GivesAs change_of result (change_by (atomic_of self.now.model.now)
-            (statements_of statements.now) arrivals.now state.now) }
+        state: &mut State,
+    ) -> Result<bool, RuleError>
+        ensures { GivesAs (change_to state.new) result (change_by (atomic_of self.now.model.now)
+            (statements_of statements.now) arrivals.now state.old) }
     {
         let effect = run_rule(alloc, statements, state, arrivals, self.scope)?;
-        Ok(state_by_goto(effect.state, effect.goto))
+        *state = effect.state;
+        Ok(go_to(state, effect.goto))
     }
 
     // The hold of a state, in ticks, or forever. One below 0 is the fault `Negative`.
@@ -92,27 +93,27 @@ impl Atomic for Atom<'_> {
         Ok(run_rule(*work, statements, state, &Arrivals::nothing(), self.scope)?.sent)
     }
 
-    fn internal(&self, work: &mut Global, state: State) -> Result<Change, RuleError> {
-        let statements = rule_body(self.model, RuleSort::Internal, self.phase_name(&state));
-        self.change_by(*work, statements, &Arrivals::nothing(), &state)
+    fn internal(&self, work: &mut Global, state: &mut State) -> Result<bool, RuleError> {
+        let statements = rule_body(self.model, RuleSort::Internal, self.phase_name(state));
+        self.change_by(*work, statements, &Arrivals::nothing(), state)
     }
 
     fn external(
         &self,
         work: &mut Global,
         arrivals: &Arrivals,
-        state: State,
-    ) -> Result<Change, RuleError> {
-        let statements = rule_body(self.model, RuleSort::External, self.phase_name(&state));
-        self.change_by(*work, statements, arrivals, &state)
+        state: &mut State,
+    ) -> Result<bool, RuleError> {
+        let statements = rule_body(self.model, RuleSort::External, self.phase_name(state));
+        self.change_by(*work, statements, arrivals, state)
     }
 
     fn confluent(
         &self,
         work: &mut Global,
         arrivals: &Arrivals,
-        state: &State,
-    ) -> Result<Option<Change>, RuleError> {
+        state: &mut State,
+    ) -> Result<Option<bool>, RuleError> {
         match self.confluent_rule(state) {
             Some(statements) => Ok(Some(self.change_by(*work, statements, arrivals, state)?)),
             None => Ok(None),
@@ -127,18 +128,15 @@ impl Atomic for Atom<'_> {
     }
 }
 
-// A state in the phase of the last goto, if one ran.
-fn state_by_goto(state: State, goto: Option<u32>) -> Change
-    ensures { change_of result ≡ state_by_goto state goto }
+// Puts a state in the phase of the last `goto`, if one ran. Tells whether one did.
+fn go_to(state: &mut State, goto: Option<u32>) -> bool
+    ensures { change_to state.new result ≡ state_by_goto state.old goto }
 {
     match goto {
-        None => Change { state, goes: false },
-        Some(phase) => Change {
-            state: State {
-                phase,
-                variables: state.variables,
-            },
-            goes: true,
-        },
+        None => false,
+        Some(phase) => {
+            state.phase = phase;
+            true
+        }
     }
 }

@@ -6,16 +6,15 @@ ghost use Rattle.dv_bag.specs.Part.{joined};
 ghost use Rattle.dv_devs.specs.Behaviour.{emission, reaction};
 ghost use Rattle.dv_devs.specs.Network.{components_after, entries_by, entry_of, outer_from, part_of_instant};
 ghost use Rattle.dv_react.specs.Components.{AreWaitsOfRun, IsWaitOfRun, component_of, components_of, rank_of};
-ghost use Rattle.dv_react.specs.Outcomes.{event_of, fault_of, sent_of};
+ghost use Rattle.dv_react.specs.Outcomes.{event_of, fault_of, happened_in, outcome_of, sent_of};
 ghost use Rattle.dv_tree.specs.Instances.{instances};
 ghost use Rattle.dv_plain.specs.Outputs.{outputs_at, reactions_at};
 ghost use Rattle.dv_plain.specs.Source.{behaviour_of, network_of};
 ghost use Rattle.dv_check.specs.Limits.{greatest_names};
 
 use crate::atom::Atom;
-use dv_bag::{Bags, Entry, Fault, Part, Sent, What};
-use dv_react::outcome::put_in;
-use dv_react::{Instant, Running, commit_outer, compute};
+use dv_bag::{Bags, Entry, Fault, Part, Sent, State, Variables, What};
+use dv_react::{Happened, Instant, Running, Wait, commit_outer};
 use dv_tree::Tree;
 use dv_tree::laws::each_component_receives;
 use std::alloc::{AllocError, Global};
@@ -112,8 +111,43 @@ fn react(
     ensures wait { IfOk result (λ what. IsWaitOfRun instant.now.limit component.new.wait) }
 {
     let mut work = alloc;
-    let outcome = compute(atom, &mut work, instant, component, received, fault)?;
-    put_in(component, outcome)
+    let mut before = empty_component(alloc);
+    let happened = dv_react::react(
+        atom,
+        &mut work,
+        instant,
+        component,
+        &mut before,
+        received,
+        fault,
+    )?;
+    what_of(component, happened)
+}
+
+// A component without variables, as the place of what another one was.
+fn empty_component(alloc: Global) -> Running {
+    Running {
+        state: State {
+            phase: 0,
+            variables: Variables::new(alloc),
+        },
+        last: 0,
+        wait: Wait::Quiet,
+    }
+}
+
+// What happened to a component, which stands as it is after it. The state is copied.
+fn what_of(component: &Running, happened: Option<Happened>) -> Result<Option<What>, AllocError>
+    ensures { IfOk result (λ what. what ≡ happened_in (outcome_of component.now happened)) }
+{
+    match happened {
+        None => Ok(None),
+        Some(Happened::Fault(fault)) => Ok(Some(What::Fault(fault))),
+        Some(Happened::Transition(kind)) => {
+            let state = component.state.clone()?;
+            Ok(Some(What::Transition { kind, state }))
+        }
+    }
 }
 
 // The entry of a component, where something happened to it.

@@ -5,8 +5,14 @@
 /// Code that gives the behaviour of an atomic model.
 pub mod atomic;
 
+/// Copies of variables in the place of others.
+mod copying;
+
 /// Faults, separated from errors of memory.
 mod fault;
+
+/// What happens to a component.
+pub mod happened;
 
 /// An instant of a run.
 pub mod instant;
@@ -14,10 +20,7 @@ pub mod instant;
 /// The lines of what leaves the model.
 pub mod leaving;
 
-/// What comes of a component at an instant, before it is put in.
-pub mod outcome;
-
-/// What happens to one component at an instant.
+/// How one component reacts at an instant.
 pub mod reaction;
 
 /// What a component receives.
@@ -32,10 +35,10 @@ mod transition;
 /// When holds run out.
 pub mod wait;
 
-pub use atomic::{Atomic, Change};
+pub use atomic::Atomic;
+pub use happened::Happened;
 pub use instant::Instant;
 pub use leaving::commit_outer;
-pub use outcome::Outcome;
-pub use reaction::compute;
+pub use reaction::react;
 pub use running::Running;
 pub use wait::{Hold, Wait};

@@ -99,11 +99,12 @@ fn beat_of(bench: &mut Bench, clock: &Programs, state: &State) -> Result<Beat, R
     requires { TakesState clock.now state.now }
 {
     let sent = clock.output(bench, state)?;
-    let change = clock.internal(bench, state.clone()?)?;
+    let mut after = state.clone()?;
+    let _goes = clock.internal(bench, &mut after)?;
     Ok(Beat {
         sent: sent.total(),
-        number: number_in(&change.state),
-        hold: clock.hold(bench, &change.state)?,
+        number: number_in(&after),
+        hold: clock.hold(bench, &after)?,
     })
 }
 

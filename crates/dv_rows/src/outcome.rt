@@ -3,7 +3,8 @@
 use dv_cause::{Source, explained};
 use dv_explain::{explanation_of, explanation_text};
 use dv_job::{
-    JobError, Options, check_bytes, list_code, plan_bytes, run_by_workers, run_bytes, status,
+    JobError, Options, check_bytes, list_code, plan_bytes, run_by_workers, run_bytes, run_plain,
+    status,
 };
 use dv_partition::Partition;
 use std::alloc::{AllocError, Global};
@@ -42,6 +43,7 @@ pub fn outcome_of<R: AllocGlobal + Threads + Wait + Sync>(
     match command.split_whitespace().next() {
         Some("check") => checked(alloc, command, texts),
         Some("code") => listed(alloc, command, texts),
+        Some("plain") => ran_plainly(alloc, command, texts),
         Some("plan") => planned(alloc, command, texts),
         Some("run") => ran(rt, command, texts),
         Some("explain") => text_of_code(alloc, command),
@@ -192,6 +194,20 @@ fn ran<R: AllocGlobal + Threads + Wait + Sync>(
             &mut printed,
         ),
     };
+    let status = status(&ended);
+    let ending = match ended {
+        Ok(_) => format!(in alloc; "status {status}")?,
+        Err(error) => error_text(alloc, command, texts, &error)?,
+    };
+    told(alloc, &printed, ending.as_str())
+}
+
+fn ran_plainly(alloc: Global, command: &str, texts: Texts<'_>) -> Result<String, AllocError> {
+    let Some(options) = options_of(command) else {
+        return String::from_str(alloc, "no options");
+    };
+    let mut printed = Vec::new(alloc);
+    let ended = run_plain(alloc, texts.model, texts.inputs, &options, &mut printed);
     let status = status(&ended);
     let ending = match ended {
         Ok(_) => format!(in alloc; "status {status}")?,

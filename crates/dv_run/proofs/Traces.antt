@@ -21,7 +21,9 @@ use Rattle.dv_core.specs.Worlds.{EndsAs, IsWhole, end_time}
 use Rattle.dv_core.proofs.Driving.{enough_rounds}
 use Rattle.dv_core.specs.declared.step.Step.{Step}
 use Rattle.dv_core.specs.declared.step.Ended.{Ended}
-use Rattle.dv_core.specs.declared.step.Ended.TheVariants.{Stalled, Whole}
+use Rattle.dv_core.specs.declared.step.Ended.TheVariants.{Memory, Stalled, Whole}
+use Rattle.dv_run.specs.Endings.{by_rounds}
+use Rattle.dv_run.specs.declared.ran.RanEnded.TheVariants as told
 use Rattle.dv_plain.specs.Source.{network_of, outside}
 use Rattle.dv_planned.specs.Texts.{text_job}
 use Rattle.dv_planned.specs.declared.job.TextJob.{TextJob}
@@ -154,6 +156,27 @@ cut_before_end job clocks some within not_all = elim (cases_lt (least_rank job.l
 
 -- ---- In rounds
 
+-- how rounds ended, by what is told of it
+pub whole_by_rounds : (e : Ended) → by_rounds e ≡ told.Whole → e ≡ Whole
+whole_by_rounds Whole is = refl
+whole_by_rounds Stalled is = absurd (cc)
+whole_by_rounds Memory is = absurd (cc)
+
+pub stalled_by_rounds : (e : Ended) → by_rounds e ≡ told.Stalled → e ≡ Stalled
+stalled_by_rounds Whole is = absurd (cc)
+stalled_by_rounds Stalled is = refl
+stalled_by_rounds Memory is = absurd (cc)
+
+pub memory_by_rounds : (e : Ended) → by_rounds e ≡ told.Memory → e ≡ Memory
+memory_by_rounds Whole is = absurd (cc)
+memory_by_rounds Stalled is = absurd (cc)
+memory_by_rounds Memory is = refl
+
+pub never_stopped_by_rounds : (e : Ended) → by_rounds e ≡ told.Stopped → ⊥
+never_stopped_by_rounds Whole is = absurd (cc)
+never_stopped_by_rounds Stalled is = absurd (cc)
+never_stopped_by_rounds Memory is = absurd (cc)
+
 module _ (j : TextJob) (capacity rounds : ℕ) (c : Committed) (ran : HasRun (text_job j) capacity rounds c) where
   abbrev ran_job : Job
   ran_job = text_job j
@@ -176,11 +199,11 @@ module _ (j : TextJob) (capacity rounds : ℕ) (c : Committed) (ran : HasRun (te
       = subst (λ (x : Ended). EndsAs ran_job rounds x (new_world capacity) ran.world) e ran.ends in
       h.3
 
-  pub ran_at_end : AreAtEnd ran_job c.ended c.clocks.items
+  pub ran_at_end : AreAtEnd ran_job (by_rounds c.ended) c.clocks.items
   ran_at_end e p t at =
       let within = slice_get_within c.clocks.items p t at in
       let count = ran.handed.count in
-      sym (ran.handed.clocks p t at) ∙ is_whole e p (omega (arith, within, count))
+      sym (ran.handed.clocks p t at) ∙ is_whole (whole_by_rounds c.ended e) p (omega (arith, within, count))
 
   -- enough rounds do not stall
   pub unstalled : ((l : ℕ) (ch : Channel) → slice_get ran_job.channels l ≡ Some ch
@@ -191,16 +214,18 @@ module _ (j : TextJob) (capacity rounds : ℕ) (c : Committed) (ran : HasRun (te
       = subst (λ (x : Ended). EndsAs ran_job rounds x (new_world capacity) ran.world) e ran.ends in
       h.1 (enough_rounds ran_job capacity rounds (new_world capacity) ran.world refl some ends enough h.0)
 
-  pub is_run : {old new : Option (List ℕ)} (r : Ran) → r.clocks ≡ c.clocks → r.ended ≡ c.ended
+  pub is_run : {old new : Option (List ℕ)} (r : Ran) → r.clocks ≡ c.clocks → r.ended ≡ by_rounds c.ended
       → IsPrinted j.tree.now.names (file_of j.tree.now.file) j.inputs.now j.groups.now j.horizon j.limit old new r
       → (0 < capacity → end_of j.limit j.horizon + 1 ≤ rounds → c.ended ≢ Stalled)
       → IsRunOf j.tree.now.names (file_of j.tree.now.file) j.inputs.now j.groups.now j.horizon j.limit capacity rounds old new r
   is_run r same ended printed enough = record {
     printed = printed;
-    stalls = λ e holds. few (sym ended ∙ e) holds;
+    stalls = λ e holds. few (stalled_by_rounds c.ended (sym ended ∙ e)) holds;
+    ended = c.ended;
+    ended_so = ended;
     led = record {
       world = ran.world;
-      ends = subst (λ (x : Ended). EndsAs ran_job rounds x (new_world capacity) ran.world) (sym ended) ran.ends;
+      ends = ran.ends;
       count = each_clock r same;
       clocks = λ p t at. ran.handed.clocks p t (ap (λ ts. slice_get ts.items p) (sym same) ∙ at);
     };

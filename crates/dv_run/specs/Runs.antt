@@ -14,7 +14,6 @@ use Rattle.dv_conservative.specs.World.{Job, World, new_world}
 use Rattle.dv_core.specs.Worlds.{EndsAs, IsRunWithProgress, end_time, with_replies}
 use Rattle.dv_core.specs.declared.step.Step.{Step}
 use Rattle.dv_core.specs.declared.step.Ended.{Ended}
-use Rattle.dv_core.specs.declared.step.Ended.TheVariants.{Stalled, Whole}
 use Rattle.dv_partition.specs.Groups.{Grouping, owner_of}
 use Rattle.dv_plain.specs.Source.{network_of, outside}
 use Rattle.dv_serial.specs.declared.ran.Stepped.{Stepped}
@@ -24,7 +23,10 @@ use Rattle.dv_stream.specs.Faults.{has_fault}
 use Rattle.dv_text.specs.Names.{component_names, root_ports}
 use Rattle.dv_text.specs.Texts.{instants_text}
 use Rattle.dv_text.specs.Writing.{AppendsBeginning}
+use Rattle.dv_run.specs.Endings.{by_rounds}
 use Rattle.dv_run.specs.declared.ran.Ran.{Ran}
+use Rattle.dv_run.specs.declared.ran.RanEnded.{RanEnded}
+use Rattle.dv_run.specs.declared.ran.RanEnded.TheVariants.{Stalled, Whole}
 
 -- Rounds of the processes of a text, so many at most, led from a new world to these clocks, one for each process, by their numbers.
 pub record LedTo (f : FileTree) (played : List Input) (groups : Grouping) (horizon limit capacity rounds : ℕ) (ended : Ended)
@@ -35,7 +37,7 @@ pub record LedTo (f : FileTree) (played : List Input) (groups : Grouping) (horiz
   pub clocks : (p : ℕ) (t : Time) → slice_get times p ≡ Some t → world.clock p ≡ t
 
 -- where it is whole, all clocks are at the end
-abbrev pub AreAtEnd : Job → Ended → List Time → Type 0
+abbrev pub AreAtEnd : Job → RanEnded → List Time → Type 0
 AreAtEnd job ended clocks = ended ≡ Whole → (p : ℕ) (t : Time) → slice_get clocks p ≡ Some t → t ≡ end_time job
 
 -- the lines of the instants of a text's resultant, with these inputs, before a rank
@@ -60,7 +62,9 @@ pub record IsRunOf (names : List (List ℕ)) (f : FileTree) (played : List Input
     (horizon limit capacity rounds : ℕ) (old new : Option (List ℕ)) (ran : Ran) : Type 0 where
   pub printed : IsPrinted names f played groups horizon limit old new ran
   pub stalls : ran.ended ≡ Stalled → 0 < capacity → rounds ≤ end_of limit horizon
-  pub led : LedTo f played groups horizon limit capacity rounds ran.ended ran.clocks.items
+  pub ended : Ended
+  pub ended_so : ran.ended ≡ by_rounds ended
+  pub led : LedTo f played groups horizon limit capacity rounds ended ran.clocks.items
 
 -- A writer got a beginning of the lines before some rank, which is not past the end.
 pub record IsCutShort (names : List (List ℕ)) (f : FileTree) (played : List Input) (horizon limit : ℕ) (old new : Option (List ℕ))

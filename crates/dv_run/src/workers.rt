@@ -4,23 +4,23 @@ ghost use Rattle.std.specs.Prelude.{◌≢◌, ◌↔◌, ◌<◌, ◌≡◌, �
 ghost use Rattle.dv_board.specs.Jobs.{IsMergeable};
 ghost use Rattle.dv_check.specs.Refusals.{AreOfOneText, refusal_of};
 ghost use Rattle.dv_core.specs.Worlds.{end_time};
-ghost use Rattle.dv_core.specs.declared.step.Ended.TheVariants as ended;
 ghost use Rattle.dv_devs.specs.Clocks.{least_rank};
 ghost use Rattle.dv_planned.specs.Texts.{AreComponentsOf, AreLinksOf, text_job};
+ghost use Rattle.dv_run.specs.Endings.{by_workers};
 ghost use Rattle.dv_run.specs.Runs.{IsCutShort, IsPrinted};
+ghost use Rattle.dv_run.specs.declared.ran.RanEnded.TheVariants as ended;
 ghost use Rattle.dv_sound.specs.Jobs.{AllInputNumbers};
 ghost use Rattle.dv_stream.specs.Clocks.{AreWithin};
 ghost use Rattle.dv_stream.specs.Written.{IsBegun, IsWrittenTo};
 ghost use Rattle.dv_syntax.specs.Trees.{file_of};
 ghost use Rattle.dv_time.specs.Time.{end_of, rank};
 ghost use Rattle.dv_time.specs.declared.time.Time.{Time as MeantTime};
-ghost use Rattle.dv_work.specs.declared.report.Ended.TheVariants as reported;
+ghost use Rattle.dv_stream.specs.declared.rest.WorkersEnded.TheVariants as reported;
 
 use crate::plan::plan_of;
-use crate::ran::Ran;
+use crate::ran::{Ran, RanEnded};
 use dv_bag::Bags;
 use dv_coded::{Bench, Components, components_of};
-use dv_core::Ended;
 use dv_devs::laws::parts::parts_are_of_the_trace;
 use dv_flat::LinkLists;
 use dv_gen::laws::texts_are_compilable;
@@ -28,7 +28,7 @@ use dv_plain::laws::networks_of_texts;
 use dv_planned::TextJob;
 use dv_sound::jobs::parts_of_the_flat_model_are_those_of_the_text;
 use dv_sound::outside::what_leaves_a_flat_model_is_linear;
-use dv_stream::{Watch, Worked, stream_plan_by_workers};
+use dv_stream::{Watch, Worked, WorkersEnded, stream_plan_by_workers};
 use dv_text::WriteError;
 use dv_text::laws::a_trace_is_its_instants;
 use std::alloc::{AllocError, Global};
@@ -40,7 +40,7 @@ use std::thread::Threads;
 /// a horizon in ticks, and writes the lines of the trace before the least clock while it runs, whatever the timing of
 /// the threads. Process p is run by worker p mod `workers`. A link holds at most `capacity` packets. `watch` may watch
 /// each turn and stop the run. If it is stopped, or memory is refused to a worker, or a thread is refused, the lines
-/// are those of what was known then, which is not all of the run.
+/// are those of what was known then, which is not all of the run, and the ending tells which.
 ///
 /// # Errors
 ///
@@ -149,11 +149,12 @@ fn work_components<R: Threads + Wait + Sync, G: Watch, W: Write>(
     )
 }
 
-// What is known of a run once its lines are printed. It is whole exactly where the run is.
+// What is known of a run once its lines are printed: it ended as its workers did.
 fn ran_by_workers(worked: Worked<()>) -> Ran
     ensures clocks { result.clocks ≡ worked.clocks }
     ensures whole { (result.ended ≡ ended.Whole) ↔ (worked.ended ≡ reported.Whole) }
     ensures ended { result.ended ≢ ended.Stalled }
+    ensures reason { result.ended ≡ by_workers worked.ended }
     ensures faults { result.faulted ≡ worked.written.faulted }
 {
     let Worked {
@@ -162,10 +163,9 @@ fn ran_by_workers(worked: Worked<()>) -> Ran
         written,
     } = worked;
     let ended = match ended {
-        dv_work::Ended::Whole => Ended::Whole,
-        dv_work::Ended::Stopped(_) | dv_work::Ended::Cancelled | dv_work::Ended::Memory => {
-            Ended::Memory
-        }
+        WorkersEnded::Whole => RanEnded::Whole,
+        WorkersEnded::Stopped(_) => RanEnded::Stopped,
+        WorkersEnded::Memory => RanEnded::Memory,
     };
     Ran {
         clocks,

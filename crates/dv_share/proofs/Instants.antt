@@ -11,8 +11,8 @@ use Rattle.dv_devs.specs.Behaviour.{Behaviour, Component, Reaction, all_empty, e
 use Rattle.dv_devs.specs.Network.{emissions, instant, reactions}
 use Rattle.dv_react.specs.Components.{IsWaitOfRun, component_of, components_of}
 use Rattle.dv_react.specs.Outcomes.{left_by, reaction_by, sent_of}
-use Rattle.dv_react.specs.declared.outcome.Outcome.{Outcome}
-use Rattle.dv_react.specs.declared.outcome.Outcome.TheVariants.{Nothing}
+use Rattle.dv_react.specs.Outcomes.{Outcome}
+use Rattle.dv_react.specs.Outcomes.{Nothing}
 use Rattle.dv_react.specs.declared.running.Running.{Running}
 use Rattle.dv_conservative.specs.Flat.{behaviours, network, numbers, received as received_by}
 use Rattle.dv_conservative.specs.Links.{Delivery, carried, sent_of as sent_from}

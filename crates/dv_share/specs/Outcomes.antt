@@ -6,7 +6,7 @@ use Rattle.dv_bag.specs.declared.state.State.{State}
 use Rattle.dv_devs.specs.Behaviour.{Behaviour, reaction}
 use Rattle.dv_react.specs.Components.{IsWaitOfRun, component_of}
 use Rattle.dv_react.specs.Outcomes.{left_by, reaction_by, sent_of}
-use Rattle.dv_react.specs.declared.outcome.Outcome.{Outcome}
+use Rattle.dv_react.specs.Outcomes.{Outcome}
 use Rattle.dv_react.specs.declared.running.Running.{Running}
 use Rattle.dv_share.specs.Places.{found}
 use Rattle.dv_share.specs.Share.{FitsAt, behaviour_of, given_at}

@@ -9,8 +9,8 @@ use Rattle.dv_devs.specs.Behaviour.{Behaviour, Reaction, all_empty, emission, is
 use Rattle.dv_devs.specs.Network.{components_after, emissions, instant}
 use Rattle.dv_react.specs.Components.{AreWaitsOfRun, component_of, components_of}
 use Rattle.dv_react.specs.Outcomes.{left_by, reaction_by, sent_of}
-use Rattle.dv_react.specs.declared.outcome.Outcome.{Outcome}
-use Rattle.dv_react.specs.declared.outcome.Outcome.TheVariants.{Nothing}
+use Rattle.dv_react.specs.Outcomes.{Outcome}
+use Rattle.dv_react.specs.Outcomes.{Nothing}
 use Rattle.dv_react.specs.declared.running.Running.{Running}
 use Rattle.dv_conservative.specs.Flat.{Flat, Member, behaviours, network}
 use Rattle.dv_conservative.specs.Links.{Delivery, carried, inbox, sent_of as sent_from}

@@ -25,6 +25,7 @@ pub mod workers;
 pub mod written;
 
 pub use planned::stream_plan_by_workers;
+pub use rest::WorkersEnded;
 pub use rounds::{Streamed, stream_plan};
 pub use watch::{Unwatched, Watch};
 pub use workers::{Crew, Worked, stream_workers};

@@ -76,7 +76,7 @@ impl Signals {
         Stream {
             board,
             news: &self.news,
-            stop: &self.stop,
+            stop: self.stop.view(),
             paced: &self.paced,
             leads: &self.leads,
             bells: &self.bells,

@@ -10,7 +10,7 @@ ghost use Rattle.dv_stream.specs.Clocks.{AreWithin};
 ghost use Rattle.dv_stream.specs.Written.{IsBegun, IsWrittenTo};
 ghost use Rattle.dv_time.specs.Time.{rank};
 ghost use Rattle.dv_time.specs.declared.time.Time.{Time as MeantTime};
-ghost use Rattle.dv_work.specs.declared.report.Ended.TheVariants.{Whole};
+ghost use Rattle.dv_stream.specs.declared.rest.WorkersEnded.TheVariants.{Whole};
 
 use crate::watch::Watch;
 use crate::workers::{Crew, Worked, stream_workers};

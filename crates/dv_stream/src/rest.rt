@@ -5,10 +5,11 @@ ghost use Rattle.std.specs.List.{All};
 ghost use Rattle.dv_board.specs.Posts.{IsPiece};
 ghost use Rattle.dv_conservative.specs.Events.{same_time};
 ghost use Rattle.dv_serial.specs.Clocks.{least_time};
+ghost use Rattle.dv_stream.specs.Workers.{told_as};
 ghost use Rattle.dv_stream.specs.Written.{Falters, GoesOn};
 ghost use Rattle.dv_time.specs.Time.{IsOfRun, end_of, rank};
 ghost use Rattle.dv_time.specs.declared.time.Time.{Time as MeantTime};
-ghost use Rattle.dv_work.specs.declared.report.Ended.TheVariants.{Whole};
+ghost use Rattle.dv_stream.specs.declared.rest.WorkersEnded.TheVariants.{Whole};
 
 use crate::news::write_joined;
 use crate::written::Written;
@@ -22,6 +23,24 @@ use dv_work::Ended;
 use std::alloc::Global;
 use std::io::Write;
 use std::sync::Wait;
+
+/// How a run by workers ended whose trace was written.
+#[derive(Drop)]
+pub enum WorkersEnded<C> {
+    /// Every clock is at the end.
+    Whole,
+    /// The gate stopped it, for this cause.
+    Stopped(C),
+    /// No memory, or no thread for a worker, or a piece of the trace was lost for want of memory.
+    Memory,
+}
+
+/// What workers left, and how their run ended.
+#[derive(Drop)]
+pub struct Left<C> {
+    pub rest: Vec<Piece>,
+    pub ended: Ended<C>,
+}
 
 /// Joins what is left on a board and what was never posted, and writes what is then known of the trace.
 ///
@@ -77,17 +96,17 @@ pub fn all_are(clocks: &[Time], end: Time) -> bool
     clocks.iter().all(|clock| *clock == end)
 }
 
-/// How a run ended of which the whole trace was written, or not. Workers that came to the end are out of memory where a piece was
-/// lost.
-pub fn ended_as<C: Drop>(ended: Ended<C>, is_whole: bool) -> Ended<C>
-    ensures { (result ≡ Whole) ↔ IsTrue is_whole }
+/// How a run ended of which the whole trace was written, or not. A run that is cancelled or whole, of which not the whole trace was
+/// written, lacked memory for a piece: for that alone the loop that writes stops the workers where no write failed.
+pub fn ended_as<C: Drop>(ended: Ended<C>, is_whole: bool) -> WorkersEnded<C>
+    ensures whole { (result ≡ Whole) ↔ IsTrue is_whole }
+    ensures ended { result ≡ told_as is_whole ended }
 {
     if is_whole {
-        return Ended::Whole;
+        return WorkersEnded::Whole;
     }
     match ended {
-        Ended::Whole | Ended::Memory => Ended::Memory,
-        Ended::Stopped(cause) => Ended::Stopped(cause),
-        Ended::Cancelled => Ended::Cancelled,
+        Ended::Stopped(cause) => WorkersEnded::Stopped(cause),
+        Ended::Whole | Ended::Cancelled | Ended::Memory => WorkersEnded::Memory,
     }
 }

@@ -11,11 +11,11 @@ ghost use Rattle.dv_devs.specs.Clocks.{least_rank};
 ghost use Rattle.dv_stream.specs.Clocks.{AreWithin};
 ghost use Rattle.dv_stream.specs.Workers.{IsReportOf, job_of_type};
 ghost use Rattle.dv_stream.specs.Written.{IsBegun, IsWrittenTo};
-ghost use Rattle.dv_work.specs.declared.report.Ended.TheVariants.{Whole};
+ghost use Rattle.dv_stream.specs.declared.rest.WorkersEnded.TheVariants.{Whole};
 ghost use Rattle.dv_time.specs.Limits.{greatest_tick};
 
 use crate::news::{Signals, write_news};
-use crate::rest::{all_are, clocks_at, ended_as, write_rest};
+use crate::rest::{Left, WorkersEnded, all_are, clocks_at, ended_as, write_rest};
 use crate::watch::{Watch, Watched};
 use crate::written::Written;
 use dv_bag::Bags;
@@ -27,7 +27,7 @@ use dv_text::laws::a_trace_is_its_pieces;
 use dv_text::{TraceWriter, WriteError};
 use dv_time::Time;
 use dv_tree::Tree;
-use dv_work::{Ended, Gate, Report, run_streamed};
+use dv_work::{Gate, Report, run_streamed};
 use std::alloc::{AllocError, Global};
 use std::io::Write;
 use std::marker::{Brand, PhantomData};
@@ -39,7 +39,7 @@ use std::thread::{Threads, join_mut};
 #[derive(Drop)]
 pub struct Worked<C> {
     pub clocks: Vec<Time>,
-    pub ended: Ended<C>,
+    pub ended: WorkersEnded<C>,
     pub written: Written,
 }
 
@@ -83,7 +83,7 @@ fn run_posting<
     gate: &G,
     board: &Board<N>,
     signals: &Signals,
-) -> Result<Report<G::Cause>, AllocError>
+) -> Result<Left<G::Cause>, AllocError>
 where
     P::Work: Send + Drop,
     P::Record: Send,
@@ -98,22 +98,26 @@ where
     ensures { IfOk result (IsReportOf N.job) }
 {
     signals.begin(rt);
-    let report = match crew.take() {
-        Some(Crew { processes, works }) => run_streamed::<N, Until<N>, P, G, R>(
-            rt,
-            alloc,
-            until,
-            channels,
-            processes,
-            works,
-            capacity,
-            gate,
-            signals.stream(board),
-        ),
-        None => Err(AllocError),
+    let Some(Crew { processes, works }) = crew.take() else {
+        signals.end(rt);
+        return Err(AllocError);
     };
+    let report = run_streamed::<N, Until<N>, P, G, R>(
+        rt,
+        alloc,
+        until,
+        channels,
+        processes,
+        works,
+        capacity,
+        gate,
+        signals.stream(board),
+    );
     signals.end(rt);
-    report
+    match report {
+        Ok(Report { rest, ended, .. }) => Ok(Left { rest, ended }),
+        Err(error) => Err(error),
+    }
 }
 
 // Writes what is posted until the run has ended, if it begins. Where it can write no more, the workers are to stop.
@@ -163,7 +167,7 @@ fn run_and_write<
     writer: &mut W,
 ) -> (
     Result<Written, WriteError>,
-    Result<Report<G::Cause>, AllocError>,
+    Result<Left<G::Cause>, AllocError>,
 )
 where
     P::Work: Send + Drop,
@@ -183,7 +187,7 @@ where
     ensures report { IfOk result.1 (IsReportOf N.job) }
 {
     let mut crew = Some(crew);
-    let mut run = move || -> Result<Report<G::Cause>, AllocError>
+    let mut run = move || -> Result<Left<G::Cause>, AllocError>
         requires made { IfSome crew (λ c.
             AreMadeFor job_of_type P.state P.valid N.job channels.now c.processes.items) }
         requires kept { IfSome crew (λ c.
@@ -279,7 +283,7 @@ where
         writer,
     );
     let written = written?;
-    let Report { rest, ended } = report?;
+    let Left { rest, ended } = report?;
     let mut lines = TraceWriter::new(alloc, tree);
     let written = write_rest(
         rt,

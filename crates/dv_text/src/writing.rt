@@ -6,6 +6,7 @@ ghost use Rattle.dv_bag.specs.Part.{IsByTime};
 ghost use Rattle.dv_text.specs.Names.{tree_names, tree_ports};
 ghost use Rattle.dv_text.specs.Texts.{ending_text, part_text};
 ghost use Rattle.dv_text.specs.Writing.{StopsShort};
+ghost use Rattle.dv_text.specs.declared.writing.Ending.TheVariants.{Whole};
 
 use crate::trace_writer::TraceWriter;
 use dv_bag::Trace;
@@ -43,7 +44,8 @@ impl From<AllocError> for WriteError {
     }
 }
 
-/// Writes the text of a trace, whole or cut, that stands by time. A write that failed is not tried again.
+/// Writes the text of a trace that stands by time and reaches the horizon, which is in ticks. A write that failed is not
+/// tried again.
 ///
 /// # Errors
 ///
@@ -53,19 +55,19 @@ pub fn write_trace<W: Write>(
     alloc: Global,
     trace: &Trace,
     tree: &Tree,
-    ending: &Ending,
+    horizon: u64,
     writer: &mut W,
 ) -> Result<(), WriteError>
     ensures ok { IsByTime trace.now
         → OnOk result (Appends (W.contents writer.old) (W.contents writer.new)
         (part_text (tree_names tree.now) (tree_ports tree.now) trace.now
-        ++ ending_text ending.now)) }
+        ++ ending_text (Whole horizon))) }
     ensures err { IsByTime trace.now
         → OnErr result (StopsShort (W.contents writer.old) (W.contents writer.new)
         (part_text (tree_names tree.now) (tree_ports tree.now) trace.now
-        ++ ending_text ending.now)) }
+        ++ ending_text (Whole horizon))) }
 {
     let mut lines = TraceWriter::new(alloc, tree);
     lines.part(&PartSlice::all_of(trace), writer)?;
-    lines.end(ending, writer)
+    lines.end(&Ending::Whole(horizon), writer)
 }

@@ -13,6 +13,8 @@ mod endings;
 mod failing;
 /// A line that is written while the run goes on.
 mod first_line;
+/// Which worker a turn is told of.
+mod owners;
 /// The runs of the models.
 mod runs;
 /// Runs that are stopped before a turn.
@@ -66,6 +68,12 @@ fn holds<R: AllocGlobal + Files + Print + Threads + Wait + Sync>(
         are_beside,
         "both workers are in their first turns at once",
     )?;
+    let are_own = owners::are_own(rt, &model);
+    tell(
+        rt,
+        are_own,
+        "each turn is told of the worker that owns its process",
+    )?;
     let do_stop = stops::do_all_stop(rt, &model);
     tell(
         rt,
@@ -73,7 +81,7 @@ fn holds<R: AllocGlobal + Files + Print + Threads + Wait + Sync>(
         "runs that are stopped before turn 1 to 50 are cut at their clocks",
     )?;
     let do_fail = failing::do_all_end(rt, &model)?;
-    Ok(is_early && are_beside && do_stop && do_fail)
+    Ok(is_early && are_beside && are_own && do_stop && do_fail)
 }
 
 /// Tells whether the plain run of a model with inputs prints its trace, and each failing write ends it.

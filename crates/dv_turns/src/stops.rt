@@ -1,7 +1,7 @@
 //! Runs that are stopped before a turn: what is written is the trace before the least clock, and says that it is partial.
 
 use crate::runs::{Model, PROCESSES, run_by};
-use dv_job::{JobEnded, JobError};
+use dv_job::{JobEnded, JobError, Why};
 use dv_run::Watch;
 use dv_time::Time;
 use std::str;
@@ -87,7 +87,7 @@ fn is_cut(text: &str, trace: &str) -> bool {
     rest.starts_with("process 0 clock ") && rest.ends_with("\npartial\n")
 }
 
-// Whether a run that was to stop before a turn ended as it has to: cut, or whole where it made no turn that was still due.
+// Whether a run that was to stop before a turn ended as it has to: stopped and cut, or whole where it made no turn that was still due.
 fn stops<R: AllocGlobal + Threads + Wait + Sync>(
     rt: &R,
     model: &Model<'_>,
@@ -110,11 +110,11 @@ fn stops<R: AllocGlobal + Threads + Wait + Sync>(
     ) else {
         return false;
     };
-    is_partial(&ended) && is_cut(text, trace)
+    is_stopped(&ended) && is_cut(text, trace)
 }
 
-fn is_partial(ended: &Result<JobEnded, JobError>) -> bool {
-    matches!(ended, Ok(JobEnded::Partial(_)))
+fn is_stopped(ended: &Result<JobEnded, JobError>) -> bool {
+    matches!(ended, Ok(JobEnded::Partial(Why::Stopped)))
 }
 
 /// Whether that is so of each stop, by one, two and three workers.

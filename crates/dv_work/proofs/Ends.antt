@@ -8,7 +8,7 @@ use Rattle.dv_conservative.specs.True.{AreTrue}
 use Rattle.dv_conservative.specs.World.{Channel, Job}
 use Rattle.dv_proc.specs.Packets.{meant_packet, meant_packets}
 use Rattle.dv_proc.specs.declared.packet.Packet.{Packet}
-use Rattle.dv_link.specs.Carries.{AllTrue, IsNext}
+use Rattle.dv_link.specs.Carries.{AreTrueOn, IsNextOn}
 use Rattle.dv_link.specs.Ends.{IsSendPassOf, IsTakePassOf, after_take, receiver, sender}
 use Rattle.dv_link.specs.declared.link.Link.{Link}
 use Rattle.dv_link.specs.declared.link.SendPass.{SendPass}
@@ -48,15 +48,16 @@ module _ {N : Type 0} (links : List (Link N)) where
       }
 
 -- all that was taken is true, by the number of the end
-pub taken_is_true : (job : Job) (l : ℕ) (v : EndView) → v.link ≡ l → AllTrue job v.link v.taken → (c : Channel)
-    → slice_get job.channels l ≡ Some c → AreTrue job l c first_time (meant_packets v.taken)
-taken_is_true job l v is all c e = subst (λ (n : ℕ). AllTrue job n v.taken) is all c e
+pub taken_is_true : (job : Job) (l : ℕ) (v : EndView) → v.link ≡ l → AreTrueOn job v.link (meant_packets v.taken)
+    → AreTrueOn job l (meant_packets v.taken)
+taken_is_true job l v is all = subst (λ (n : ℕ). AreTrueOn job n (meant_packets v.taken)) is all
 
 -- the packet that is held is the next true one
 pub held_is_next : (job : Job) (o : Out) (p : Packet) → (sender o.pass).link ≡ o.number → o.held ≡ Some p
-    → ((c : Channel) → slice_get job.channels o.number ≡ Some c → AreTrue job o.number c first_time (given o))
-    → IsNext job (sender o.pass).link (sender o.pass).put p
+    → AreTrueOn job o.number (given o) → IsNextOn job (sender o.pass).link (sender o.pass).put p
 held_is_next job o p is held all =
-    subst (λ (n : ℕ). IsNext job n (sender o.pass).put p) (sym is)
-    (λ c e. last_of_true job o.number c first_time (meant_packets (sender o.pass).put) (meant_packet p)
-    (subst (λ (h : Option Packet). AreTrue job o.number c first_time (meant_packets (sender o.pass).put ++ packets_held h)) held (all c e)))
+    let put = meant_packets (sender o.pass).put in
+    let last = last_of_true job o.number all.channel first_time put (meant_packet p)
+    (subst (λ (h : Option Packet). AreTrue job o.number all.channel first_time (put ++ packets_held h)) held all.truth) in
+    subst (λ (n : ℕ). IsNextOn job n (sender o.pass).put p) (sym is)
+    (record { channel = all.channel; there = all.there; joins = last.0; truth = last.1 })

@@ -7,3 +7,5 @@ pub mod Ends
 pub mod Making
 pub mod Reporting
 pub mod Posting
+pub mod Crewing
+pub mod Endings

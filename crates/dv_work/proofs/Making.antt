@@ -20,6 +20,7 @@ use Rattle.dv_core.proofs.Lookups.{set_each}
 use Rattle.dv_proc.specs.Channels.{meant_channel}
 use Rattle.dv_proc.specs.Packets.{meant_packets}
 use Rattle.dv_proc.specs.declared.channel.Channel.{Channel as ChannelOfCode}
+use Rattle.dv_link.specs.Carries.{IsLinkOf}
 use Rattle.dv_link.specs.Ends.{IsSendPassOf, IsTakePassOf, new_receiver, new_sender, receiver, sender}
 use Rattle.dv_link.specs.declared.link.SendPass.{SendPass}
 use Rattle.dv_link.specs.declared.link.TakePass.{TakePass}
@@ -27,7 +28,7 @@ use Rattle.dv_link.specs.declared.rule.EndView.{EndView}
 use Rattle.dv_link.specs.declared.link.Link.{Link}
 use Rattle.dv_work.specs.Ends.{IsIn, IsOut, taken}
 use Rattle.dv_work.specs.Making.{AreNew, AreSeated, IsNewIn, IsNewOut, IsSeat, no_links}
-use Rattle.dv_work.specs.Seats.{AreIns, AreOuts, Gives, IsLinkOf, Sits, prepared}
+use Rattle.dv_work.specs.Seats.{AreIns, AreOuts, Gives, Sits, prepared}
 use Rattle.dv_work.specs.declared.seat.In.{In}
 use Rattle.dv_work.specs.declared.seat.Out.{Out}
 use Rattle.dv_work.specs.declared.seat.Seat.{Seat}
@@ -67,7 +68,7 @@ stands_at [] n d lt = absurd (omega arith)
 stands_at (x ∷ xs) zero d lt = refl
 stands_at (x ∷ xs) (suc n) d lt = stands_at xs n d (omega arith)
 
-nothing_there : {X : Type 0} (xs : List X) (k : ℕ) (y : X) → xs ≡ [] → slice_get xs k ≡ Some y → ⊥
+pub nothing_there : {X : Type 0} (xs : List X) (k : ℕ) (y : X) → xs ≡ [] → slice_get xs k ≡ Some y → ⊥
 nothing_there xs k y none e = at_none (ap (λ (l : List _). slice_get l k) (sym none) ∙ e)
   where
     at_none : slice_get [] k ≡ Some y → ⊥

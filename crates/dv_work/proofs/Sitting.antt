@@ -19,6 +19,7 @@ use Rattle.dv_core.specs.ProcessState.{IsReceived, IsSent, IsTurned, ProcessStat
 use Rattle.dv_core.proofs.Lookups.{number_itself, set_each, set_other, set_same}
 use Rattle.dv_proc.specs.Midway.{meant_turned}
 use Rattle.dv_proc.specs.declared.process.Turned.{Turned as TurnedOfCode}
+use Rattle.dv_link.specs.Carries.{AreTrueOn}
 use Rattle.dv_link.specs.declared.link.Link.{Link}
 use Rattle.dv_record.specs.Told.{Handed}
 use Rattle.dv_work.specs.Ends.{IsIn, IsOut, given, taken}
@@ -185,20 +186,20 @@ module _ {N P : Type 0} (job : Job) (state : P → ProcessState) (handed : P →
         ins_after job links x x s.ins.items i e d there sits.ins number end (sits.ins.received i e there ∙ sym same) (λ m other. refl)
 
     module _ (process : P) (packet : Packet) (got : IsReceived packet x (state process)) (more : taken d ≡ taken e ++ packet ∷ [])
-        (truth : (c : Channel) → slice_get job.channels d.number ≡ Some c → AreTrue job d.number c first_time (taken d)) where
+        (truth : AreTrueOn job d.number (taken d)) where
       channel : Channel
-      channel = (sits.ins.channels i e there).channel
+      channel = truth.channel
 
       at_channel : slice_get job.channels e.number ≡ Some channel
       unfolding channel
-      at_channel = (sits.ins.channels i e there).there
+      at_channel = ap (slice_get job.channels) (sym number) ∙ truth.there
 
       all_true : AreTrue job e.number channel first_time (x.received e.number ++ packet ∷ [])
+      unfolding channel
       all_true =
-          let all = truth channel (ap (slice_get job.channels) number ∙ at_channel) in
           subst (λ (ps : List Packet). AreTrue job e.number channel first_time (ps ++ packet ∷ [])) (sym (sits.ins.received i e there))
           (subst (AreTrue job e.number channel first_time) more
-          (subst (λ (n : ℕ). AreTrue job n channel first_time (taken d)) number all))
+          (subst (λ (n : ℕ). AreTrue job n channel first_time (taken d)) number truth.truth))
 
       pub took_sits : IsValid process → handed process ≡ handed s.process → (ins : Vec In Global) → ins.items ≡ set s.ins.items i d
           → Sits job state handed IsValid links (let t : Seat P = record { number = s.number; process = process; outs = s.outs; ins = ins; posted = s.posted } in t)

@@ -25,6 +25,7 @@ use Rattle.dv_conservative.proofs.Turning.{share_is_sound}
 use Rattle.dv_conservative.proofs.Windows.{same_windows}
 use Rattle.dv_core.specs.ProcessState.{IsReceived, IsSent, IsTurned, ProcessState}
 use Rattle.dv_core.proofs.Lookups.{number_itself}
+use Rattle.dv_link.specs.Carries.{AreTrueOn}
 use Rattle.dv_work.specs.Ends.{given}
 use Rattle.dv_work.specs.Seats.{Gives, IsFedTruly, prepared}
 use Rattle.dv_work.specs.declared.seat.Out.{Out}
@@ -264,13 +265,9 @@ given_the_same job p x o q number is gives =
     }
 
 -- what was given to an end is true
-pub given_is_true : (job : Job) (p : ℕ) (x : ProcessState) (o : Out) → Gives job p x o → (c : Channel)
-    → slice_get job.channels o.number ≡ Some c → AreTrue job o.number c first_time (given o)
-given_is_true job p x o gives c e =
-    let there = gives.there in
-    let same : gives.channel ≡ c = some_same there e in
-    subst (λ (d : Channel). AreTrue job o.number d first_time (given o)) same
-    (true_first job o.number gives.channel first_time (given o) (packets_in (x.position.standing o.number)) gives.truth)
-  where
-    some_same : {o : Option Channel} {a b : Channel} → o ≡ Some a → o ≡ Some b → a ≡ b
-    some_same e d = cc
+pub given_is_true : (job : Job) (p : ℕ) (x : ProcessState) (o : Out) → Gives job p x o → AreTrueOn job o.number (given o)
+given_is_true job p x o gives = record {
+  channel = gives.channel;
+  there = gives.there;
+  truth = true_first job o.number gives.channel first_time (given o) (packets_in (x.position.standing o.number)) gives.truth;
+}

@@ -1,5 +1,5 @@
 -- The processes of one worker, and what it leaves.
-use Rattle.std.specs.Prelude.{List}
+use Rattle.std.specs.Prelude.{◌≡◌, ℕ, ◌%◌, List, slice_get, Some}
 use Rattle.std.specs.List.{All}
 use Rattle.std.specs.declared.vec.Vec.{Vec}
 use Rattle.std.specs.declared.alloc.Global.{Global}
@@ -18,3 +18,11 @@ pub record Seated {N P : Type 0} (job : Job) (state : P → ProcessState) (hande
 pub record Reported {P C : Type 0} (job : Job) (state : P → ProcessState) (handed : P → Handed) (IsValid : P → Type 0) (w : Worked P C)
     : Type 0 where
   pub reports : All (Reports job state handed IsValid) w.seats.items
+
+-- whoever is in the crew of a worker has a number that is that of the worker mod so many
+abbrev pub IsCrewOf : {P : Type 0} → (workers worker : ℕ) → List (Seat P) → Type 0
+IsCrewOf {P} workers worker seats = (i : ℕ) (s : Seat P) → slice_get seats i ≡ Some s → s.number % workers ≡ worker
+
+-- so it is in all crews
+abbrev pub AreByWorker : {P : Type 0} → (workers : ℕ) → List (Vec (Seat P) Global) → Type 0
+AreByWorker {P} workers crews = (w : ℕ) (crew : Vec (Seat P) Global) → slice_get crews w ≡ Some crew → IsCrewOf workers w crew.items

@@ -7,3 +7,6 @@ pub mod Crews
 pub mod Making
 -- What a run is made of, and what it reports.
 pub mod Reached
+-- Flags, and how a run ends.
+pub mod Flags
+pub mod Endings

@@ -1,5 +1,5 @@
 -- Processes as they get the ends of their links.
-use Rattle.std.specs.Prelude.{◌≡◌, ℕ, ◌<◌, ◌^◌, Bool, List, [], length, slice_get, Some}
+use Rattle.std.specs.Prelude.{◌≡◌, ℕ, ◌<◌, ◌%◌, ◌^◌, Bool, List, [], length, slice_get, Some}
 use Rattle.dv_bag.specs.Part.{nothing}
 use Rattle.dv_bag.specs.declared.state.State.{State}
 use Rattle.dv_conservative.specs.Alike.{AreAlike}
@@ -7,10 +7,11 @@ use Rattle.dv_conservative.specs.Sound.{IsJob}
 use Rattle.dv_conservative.specs.World.{Channel, Job, share_of}
 use Rattle.dv_core.specs.ProcessState.{IsNew, ProcessState}
 use Rattle.dv_core.specs.Worlds.{AllValid}
+use Rattle.dv_link.specs.Carries.{IsLinkOf}
 use Rattle.dv_link.specs.declared.link.Link.{Link}
 use Rattle.dv_record.specs.Told.{Handed}
 use Rattle.dv_work.specs.Ends.{IsIn, IsOut, given, taken}
-use Rattle.dv_work.specs.Seats.{IsLinkOf, Sits}
+use Rattle.dv_work.specs.Seats.{Sits}
 use Rattle.dv_work.specs.declared.seat.In.{In}
 use Rattle.dv_work.specs.declared.seat.Out.{Out}
 use Rattle.dv_work.specs.declared.seat.Seat.{Seat}
@@ -57,3 +58,20 @@ pub record IsNewIn {N : Type 0} (job : Job) (links : List (Link N)) (e : In) : T
   pub end : IsIn links e
   pub channel : IsLinkOf job e.number
   pub none : taken e ≡ []
+
+-- an end names the worker of the process to which its link leads, or from which it comes, where process p is that of worker p mod
+-- `workers`
+pub record NamesReceiver (job : Job) (workers : ℕ) (o : Out) : Type 0 where
+  pub channel : Channel
+  pub there : slice_get job.channels o.number ≡ Some channel
+  pub receiver : o.receiver ≡ channel.target % workers
+
+pub record NamesSender (job : Job) (workers : ℕ) (e : In) : Type 0 where
+  pub channel : Channel
+  pub there : slice_get job.channels e.number ≡ Some channel
+  pub sender : e.sender ≡ channel.source % workers
+
+-- so does each end of a process
+pub record NamesWorkers {P : Type 0} (job : Job) (workers : ℕ) (s : Seat P) : Type 0 where
+  pub outs : (i : ℕ) (o : Out) → slice_get s.outs.items i ≡ Some o → NamesReceiver job workers o
+  pub ins : (i : ℕ) (e : In) → slice_get s.ins.items i ≡ Some e → NamesSender job workers e

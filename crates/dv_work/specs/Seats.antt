@@ -14,6 +14,7 @@ use Rattle.dv_conservative.specs.True.{AreTrue}
 use Rattle.dv_conservative.specs.World.{Channel, Job, owned, packets_in, share_of}
 use Rattle.dv_board.specs.Clocks.{IsNoLater}
 use Rattle.dv_core.specs.ProcessState.{HasCommitted, ProcessState}
+use Rattle.dv_link.specs.Carries.{IsLinkOf}
 use Rattle.dv_link.specs.declared.link.Link.{Link}
 use Rattle.dv_record.specs.Told.{Handed}
 use Rattle.dv_work.specs.Ends.{IsIn, IsOut, given, taken}
@@ -78,11 +79,6 @@ pub record AreOuts {N : Type 0} (job : Job) (links : List (Link N)) (p : ℕ) (x
   pub ends : (i : ℕ) (o : Out) → slice_get outs i ≡ Some o → IsOut links o
   pub gives : (i : ℕ) (o : Out) → slice_get outs i ≡ Some o → Gives job p x o
   pub apart : (i j : ℕ) (o q : Out) → slice_get outs i ≡ Some o → slice_get outs j ≡ Some q → o.number ≡ q.number → i ≡ j
-
--- there is a link of that number
-pub record IsLinkOf (job : Job) (l : ℕ) : Type 0 where
-  pub channel : Channel
-  pub there : slice_get job.channels l ≡ Some channel
 
 -- the ends of links that lead here, no two of one link: the process received what was taken
 pub record AreIns {N : Type 0} (job : Job) (links : List (Link N)) (x : ProcessState) (ins : List In) : Type 0 where

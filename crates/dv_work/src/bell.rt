@@ -1,11 +1,11 @@
 //! Bells, and flags.
 
-ghost use Rattle.std.specs.Prelude.{◌≡◌, IfOk, length};
+ghost use Rattle.std.specs.Prelude.{◌≡◌, IfOk, IfSome, length};
+ghost use Rattle.dv_work.specs.Flags.{IsOfFlag};
 
 use crossbeam_utils::Backoff;
 use std::alloc::{AllocError, Global};
-use std::sync::atomic::{AtomicBool, Ordering};
-use std::sync::{Condvar, Mutex, Wait};
+use std::sync::{Condvar, Mutex, OnceLock, OnceToken, Wait};
 
 // The most looks that a waiting thread takes before it sleeps: the first ones after some spins, each later one after
 // other threads had the processor. Together they take about as long as falling asleep and being woken.
@@ -79,27 +79,70 @@ pub fn bells_of(alloc: Global, workers: usize) -> Result<Vec<Bell>, AllocError>
 /// A flag that others look at. Once it is raised it stays so.
 #[derive(Drop)]
 pub struct Flag {
-    raised: AtomicBool,
+    raised: OnceLock<()>,
+}
+
+/// What shows that a flag was raised: only looking at a raised flag gives it. It takes no memory.
+#[derive(Drop)]
+pub struct Raised<'a> {
+    token: OnceToken<'a, ()>,
+}
+
+/// A flag for whoever only looks at it, and cannot raise it.
+#[derive(Clone, Copy)]
+pub struct FlagView<'a> {
+    flag: &'a Flag,
 }
 
 impl Flag {
     /// A flag that is not raised.
     pub fn new() -> Flag {
         Flag {
-            raised: AtomicBool::new(false),
+            raised: OnceLock::new(),
         }
+    }
+
+    /// The flag for whoever only looks at it.
+    pub fn view(&self) -> FlagView<'_>
+        ensures { result.flag.now ≡ self.now }
+    {
+        FlagView { flag: self }
+    }
+
+    /// What shows that it was raised, if it was.
+    pub fn raised(&self) -> Option<Raised<'_>>
+        ensures { IfSome result (IsOfFlag self.now) }
+    {
+        let token = self.raised.witness()?;
+        Some(Raised { token })
     }
 
     /// Whether it was raised.
     pub fn is_raised(&self) -> bool {
-        self.raised.load(Ordering::SeqCst)
+        self.raised().is_some()
     }
 
     /// Raises the flag, and rings these bells after it.
     pub fn raise<R: Wait>(&self, rt: &R, bells: &[Bell]) {
-        self.raised.store(true, Ordering::SeqCst);
+        // Where it is raised already, it stays so.
+        let _ = self.raised.set(rt, ());
         for bell in bells {
             bell.ring(rt);
         }
+    }
+}
+
+impl<'a> FlagView<'a> {
+    /// What shows that the flag was raised, if it was.
+    pub fn raised(&self) -> Option<Raised<'a>>
+        ensures { IfSome result (IsOfFlag self.now.flag.now) }
+    {
+        let flag = self.flag;
+        flag.raised()
+    }
+
+    /// Whether the flag was raised.
+    pub fn is_raised(&self) -> bool {
+        self.flag.is_raised()
     }
 }

@@ -73,7 +73,7 @@ pub mod setup;
 /// Workers.
 pub mod worker;
 
-pub use bell::{Bell, Flag, bells_of};
+pub use bell::{Bell, Flag, FlagView, Raised, bells_of};
 pub use gate::{Gate, Open};
 pub use lead::{Lead, Leads};
 pub use post::Stream;

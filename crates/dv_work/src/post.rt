@@ -3,7 +3,7 @@
 ghost use Rattle.std.specs.List.{All};
 ghost use Rattle.dv_work.specs.Seats.{HasToldAll, HoldsNone, Sits};
 
-use crate::bell::{Bell, Flag};
+use crate::bell::{Bell, Flag, FlagView};
 use crate::lead::Leads;
 use crate::seat::{Floor, Seat};
 use dv_board::Board;
@@ -23,7 +23,7 @@ pub struct Stream<'a, N: OfJob> {
     /// Rings after what was posted.
     pub news: &'a Bell,
     /// Once it is raised, the run ends. Whoever raises it rings the bells after it, since workers may wait for the writer.
-    pub stop: &'a Flag,
+    pub stop: FlagView<'a>,
     /// Once it is raised, somebody takes what is posted: processes do not run away from there.
     pub paced: &'a Flag,
     /// What each process has posted and nobody has taken yet. Whoever takes pieces off the board takes them off there, and rings the

@@ -1,14 +1,18 @@
 //! What a run reports in the end.
 
-ghost use Rattle.std.specs.Prelude.{◌≡◌, ◌↔◌, ◌+◌, ◌<◌, ◌^◌, ℕ, IsTrue, length, IfOk, IfSome, slice_get, Some};
+ghost use Rattle.std.specs.Prelude.{◌≡◌, ◌↔◌, ◌+◌, ◌++◌, ◌<◌, ◌||◌, ◌^◌, ℕ, [], ◌∷◌, IsTrue, length, map};
+ghost use Rattle.std.specs.Prelude.{IfNone, IfOk, IfSome, is_some, slice_get, Some};
 ghost use Rattle.std.specs.List.{All};
 ghost use Rattle.dv_board.specs.declared.posts.Piece.{Piece as MeantPiece};
 ghost use Rattle.dv_core.specs.Worlds.{end_time};
 ghost use Rattle.dv_work.specs.declared.report.Ended.TheVariants.{Whole};
 ghost use Rattle.dv_work.specs.Crews.{Reported};
+ghost use Rattle.dv_work.specs.Endings.{EndsFor, cause_of, ended_by, first_of, lacks_memory};
+ghost use Rattle.dv_work.specs.Flags.{IsOfFlag};
 ghost use Rattle.dv_work.specs.Reached.{AreReached};
 ghost use Rattle.dv_work.specs.Seats.{Reports};
 
+use crate::bell::{FlagView, Raised};
 use crate::seat::Seat;
 use crate::worker::{Halt, Worked};
 use dv_bag::Part;
@@ -25,17 +29,19 @@ pub enum Ended<C> {
     Whole,
     /// The gate stopped it, for this cause.
     Stopped(C),
-    /// The caller stopped it.
+    /// The caller raised the flag to stop it.
     Cancelled,
     /// No memory, or no thread for a worker.
     Memory,
 }
 
-/// What the processes of a run committed and did not post, to the clock of each, by their numbers; and how the run ended.
+/// What the processes of a run committed and did not post, to the clock of each, by their numbers; how the run ended; and what shows
+/// that the caller raised the flag to stop it, if that was so when all workers had ended.
 #[derive(Drop)]
-pub struct Report<C> {
+pub struct Report<'a, C> {
     pub rest: Vec<Piece>,
     pub ended: Ended<C>,
+    pub stopped: Option<Raised<'a>>,
 }
 
 // Nothing, of so many processes.
@@ -87,12 +93,17 @@ fn last_worked<N: OfJob, P: LogicalProcess, C: Drop>(
     ensures one { IfSome result (Reported N.job P.state P.handed P.valid) }
     ensures rest { All (Reported N.job P.state P.handed P.valid) all.new.items }
     ensures count { IfSome result (λ _. length all.new.items + 1 ≡ length all.old.items) }
+    ensures items { IfSome result (λ worked. all.old.items ≡ all.new.items ++ worked ∷ []) }
+    ensures none { IfNone result (all.old.items ≡ []) }
 {
     all.pop()
 }
 
-// Keeps why a worker ended: out of memory, or the cause of the last one that has one.
-fn keep_halt<C: Drop>(halt: Option<Halt<C>>, memory: &mut bool, cause: &mut Option<C>) {
+// Keeps why a worker ended that stands before those that were kept: out of memory, or the cause of the first one that has one.
+fn keep_halt<C: Drop>(halt: Option<Halt<C>>, memory: &mut bool, cause: &mut Option<C>)
+    ensures memory { memory.new ≡ (lacks_memory halt || memory.old) }
+    ensures cause { cause.new ≡ first_of (cause_of halt) cause.old }
+{
     match halt {
         Some(Halt::Memory) => *memory = true,
         Some(Halt::Cause(one)) => *cause = Some(one),
@@ -108,9 +119,11 @@ fn all_reach(rest: &[Piece], end: Time) -> bool
     rest.iter().all(|piece| piece.clock == end)
 }
 
-// Whole where it is, else out of memory where a worker was, else stopped by the gate for a cause, or by the caller.
-fn how_ended<C: Drop>(is_whole: bool, memory: bool, cause: Option<C>) -> Ended<C>
-    ensures { (result ≡ Whole) ↔ IsTrue is_whole }
+// Whole where it is, else out of memory where a worker was, else stopped by the gate for a cause, else cancelled where the caller
+// stopped it. Nothing else is known to end a run; if something did, it counts as no memory.
+fn how_ended<C: Drop>(is_whole: bool, memory: bool, cause: Option<C>, is_stopped: bool) -> Ended<C>
+    ensures whole { (result ≡ Whole) ↔ IsTrue is_whole }
+    ensures ended { result ≡ ended_by is_whole memory cause is_stopped }
 {
     if is_whole {
         return Ended::Whole;
@@ -120,21 +133,24 @@ fn how_ended<C: Drop>(is_whole: bool, memory: bool, cause: Option<C>) -> Ended<C
     }
     match cause {
         Some(cause) => Ended::Stopped(cause),
-        None => Ended::Cancelled,
+        None if is_stopped => Ended::Cancelled,
+        None => Ended::Memory,
     }
 }
 
-/// The report of all workers of a job of so many processes.
+/// The report of all workers of a job of so many processes. If it is not whole, it ended for the reason of a worker: out of memory
+/// where one was, else for the cause of the first one that has one, else cancelled where `stop` was raised.
 ///
 /// # Errors
 ///
 /// No memory.
-pub fn report_of<N: OfJob, J: PlannedJob, P: ProcessHandsOver, C: Drop>(
+pub fn report_of<'a, N: OfJob, J: PlannedJob, P: ProcessHandsOver, C: Drop>(
     alloc: Global,
     job: &J,
     processes: usize,
-    mut all: Vec<Worked<P, C>>,
-) -> Result<Report<C>, AllocError>
+    all: Vec<Worked<P, C>>,
+    stop: FlagView<'a>,
+) -> Result<Report<'a, C>, AllocError>
     requires job { N.job ≡ J.means job.now }
     requires count { processes ≡ N.job.processes }
     requires few { processes < 2 ^ 32 }
@@ -143,11 +159,15 @@ pub fn report_of<N: OfJob, J: PlannedJob, P: ProcessHandsOver, C: Drop>(
     ensures whole { IfOk result (λ r. (r.ended ≡ Whole)
         ↔ ((p : ℕ) (x : MeantPiece) → slice_get r.rest.items p ≡ Some x
         → x.clock ≡ end_time N.job)) }
+    ensures ended { IfOk result (λ r. EndsFor N.job (map (λ worked. worked.halt) all.items)
+        (is_some r.stopped) r.rest.items r.ended) }
+    ensures stopped { IfOk result (λ r. IfSome r.stopped (IsOfFlag stop.entry.flag.now)) }
 {
+    let mut left = all;
     let mut rest = nothing::<N>(alloc, processes)?;
     let mut memory = false;
     let mut cause = None;
-    while let Some(worked) = last_worked::<N, P, C>(&mut all) {
+    while let Some(worked) = last_worked::<N, P, C>(&mut left) {
         let Worked { seats, halt } = worked;
         enter_all::<N, P>(&mut rest, seats);
         keep_halt(halt, &mut memory, &mut cause);
@@ -157,6 +177,11 @@ pub fn report_of<N: OfJob, J: PlannedJob, P: ProcessHandsOver, C: Drop>(
         micro: 0,
     };
     let is_whole = all_reach(&rest, end);
-    let ended = how_ended(is_whole, memory, cause);
-    Ok(Report { rest, ended })
+    let stopped = stop.raised();
+    let ended = how_ended(is_whole, memory, cause, stopped.is_some());
+    Ok(Report {
+        rest,
+        ended,
+        stopped,
+    })
 }

@@ -1,14 +1,15 @@
 //! Runs processes by workers.
 
-ghost use Rattle.std.specs.Prelude.{◌≡◌, ◌<◌, ◌≤◌, ◌↔◌, ◌+◌, ◌^◌, ℕ, length, map, slice_get, IfErr, IfOk, IfSome, Some};
+ghost use Rattle.std.specs.Prelude.{◌≡◌, ◌<◌, ◌≤◌, ◌↔◌, ◌+◌, ◌^◌, ℕ, length, map, slice_get, IfErr, IfOk, IfSome, IsSome, Some};
 ghost use Rattle.std.specs.List.{All};
 ghost use Rattle.dv_bag.specs.Part.{nothing};
 ghost use Rattle.dv_board.specs.declared.posts.Piece.{Piece as MeantPiece};
 ghost use Rattle.dv_conservative.specs.World.{Channel as MeantChannel};
 ghost use Rattle.dv_core.specs.Worlds.{AreMadeFor, end_time};
 ghost use Rattle.dv_proc.specs.Channels.{meant_channel};
-ghost use Rattle.dv_work.specs.declared.report.Ended.TheVariants.{Whole};
+ghost use Rattle.dv_work.specs.declared.report.Ended.TheVariants.{Cancelled, Whole};
 ghost use Rattle.dv_work.specs.Crews.{Reported, Seated};
+ghost use Rattle.dv_work.specs.Flags.{IsOfFlag};
 ghost use Rattle.dv_work.specs.Making.{AreNew};
 ghost use Rattle.dv_work.specs.Reached.{AreReached};
 
@@ -259,12 +260,14 @@ where
 ///
 /// Once the caller has raised `stop`, and rung the bells, each worker ends before its next turn, and a run that is not whole, was not out
 /// of memory and was not stopped by the gate is reported cancelled. Whatever the gate, the leads and the timing of the threads, each
-/// piece is what its process commits in between; and the run is reported whole exactly where every clock is at the end.
+/// piece is what its process commits in between; the run is reported whole exactly where every clock is at the end, and cancelled only
+/// with what shows that `stop` was raised, which no worker can do.
 ///
 /// # Errors
 ///
 /// No memory for the links and the threads, or for the report.
 pub fn run_streamed<
+    'a,
     N: OfJob + Send + Sync,
     J: PlannedJob,
     P: ProcessHandsOver + Send,
@@ -279,8 +282,8 @@ pub fn run_streamed<
     works: Vec<P::Work>,
     capacity: usize,
     gate: &G,
-    stream: Stream<'_, N>,
-) -> Result<Report<G::Cause>, AllocError>
+    stream: Stream<'a, N>,
+) -> Result<Report<'a, G::Cause>, AllocError>
 where
     P::Work: Send + Drop,
     P::Record: Send,
@@ -294,10 +297,13 @@ where
     ensures whole { IfOk result (λ r. (r.ended ≡ Whole)
         ↔ ((p : ℕ) (x : MeantPiece) → slice_get r.rest.items p ≡ Some x
         → x.clock ≡ end_time (J.means job.now))) }
+    ensures cancelled { IfOk result (λ r. r.ended ≡ Cancelled → IsSome r.stopped) }
+    ensures stopped { IfOk result (λ r. IfSome r.stopped (IsOfFlag stream.entry.stop.flag.now)) }
 {
     let count = processes.len();
+    let stop = stream.stop;
     let all = run_job::<N, J, P, G, R>(
         rt, alloc, job, channels, processes, works, capacity, gate, stream,
     )?;
-    report_of::<N, J, P, G::Cause>(alloc, job, count, all)
+    report_of::<N, J, P, G::Cause>(alloc, job, count, all, stop)
 }

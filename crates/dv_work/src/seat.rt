@@ -4,9 +4,7 @@ ghost use Rattle.std.specs.List.{list_any};
 ghost use Rattle.std.specs.Prelude.{◌≡◌, ◌<◌, ◌+◌, ◌++◌, ◌↔◌, false, if◌then◌else◌, [], ◌∷◌, length, slice_get, None, Some};
 ghost use Rattle.std.specs.Prelude.{IfErr, IsTrue, MatchOption, OnOk, OnErr};
 ghost use Rattle.dv_board.specs.Posts.{IsPiece};
-ghost use Rattle.dv_conservative.specs.Process.{first_time};
-ghost use Rattle.dv_conservative.specs.True.{AreTrue};
-ghost use Rattle.dv_conservative.specs.World.{Channel};
+ghost use Rattle.dv_link.specs.Carries.{AreTrueOn, IsLinkOf};
 ghost use Rattle.dv_proc.specs.Packets.{meant_packet};
 ghost use Rattle.dv_work.specs.Ends.{IsIn, IsOut, given, taken};
 ghost use Rattle.dv_work.specs.Seats.{HasNull, HasToldAtFirst, IsEmptied, Reports, Sits, holds_packet};
@@ -67,12 +65,12 @@ fn ring<R: Wait>(rt: &R, bells: &[Bell], worker: usize) {
 // Takes the packet at the front of a link, if there is one.
 fn take_from<N: OfJob, R: Wait>(rt: &R, links: &[Link<N>], end: &mut In) -> Option<Packet>
     requires end { IsIn links.now end.old }
+    requires channel { IsLinkOf N.job end.old.number }
     ensures end { IsIn links.now end.new }
     ensures number { end.new.number ≡ end.old.number }
     ensures taken { MatchOption result (taken end.new ≡ taken end.old)
         (λ p. taken end.new ≡ taken end.old ++ meant_packet p ∷ []) }
-    ensures all_true { (c : Channel) → slice_get N.job.channels end.new.number ≡ Some c
-        → AreTrue N.job end.new.number c first_time (taken end.new) }
+    ensures all_true { AreTrueOn N.job end.new.number (taken end.new) }
 {
     links[end.number as usize].take(rt, &mut end.pass)
 }
@@ -81,8 +79,7 @@ fn take_from<N: OfJob, R: Wait>(rt: &R, links: &[Link<N>], end: &mut In) -> Opti
 // Where it was not, it is held as before.
 fn put_held<N: OfJob, R: Wait>(rt: &R, links: &[Link<N>], end: &mut Out) -> bool
     requires end { IsOut links.now end.old }
-    requires all_true { (c : Channel) → slice_get N.job.channels end.old.number ≡ Some c
-        → AreTrue N.job end.old.number c first_time (given end.old) }
+    requires all_true { AreTrueOn N.job end.old.number (given end.old) }
     ensures end { IsOut links.now end.new }
     ensures number { end.new.number ≡ end.old.number }
     ensures given { given end.new ≡ given end.old }

@@ -1,11 +1,12 @@
 //! The processes of each worker, and the links between them.
 
-ghost use Rattle.std.specs.Prelude.{◌≡◌, ◌<◌, ◌+◌, ◌^◌, ℕ, List, [], length, map, slice_get, IfOk, OnOk, Some};
+ghost use Rattle.std.specs.Prelude.{◌≡◌, ◌<◌, ◌+◌, ◌%◌, ◌++◌, ◌^◌, ℕ, [], ◌∷◌, length, map, slice_get, IfOk, OnOk, Some};
 ghost use Rattle.std.specs.List.{All};
 ghost use Rattle.dv_conservative.specs.World.{Channel as MeantChannel};
 ghost use Rattle.dv_proc.specs.Channels.{meant_channel};
-ghost use Rattle.dv_work.specs.Crews.{Seated};
-ghost use Rattle.dv_work.specs.Making.{AreNew, AreSeated, IsNewIn, IsNewOut, IsSeat, no_links};
+ghost use Rattle.dv_work.specs.Crews.{AreByWorker, Seated};
+ghost use Rattle.dv_link.specs.Ends.{capacity as capacity_of};
+ghost use Rattle.dv_work.specs.Making.{AreNew, AreSeated, IsNewIn, IsNewOut, IsSeat, NamesWorkers, no_links};
 ghost use Rattle.dv_work.specs.Seats.{Sits};
 
 use crate::seat::{In, Out, Seat};
@@ -53,6 +54,8 @@ fn add_out<N: OfJob, P: LogicalProcess>(
     ensures seat { OnOk result (IsSeat N.job P.state P.handed P.valid links.now (out.number + 1) out.number
         seat.new) }
     ensures number { seat.new.number ≡ seat.old.number }
+    ensures outs { OnOk result (seat.new.outs.items ≡ seat.old.outs.items ++ out ∷ []) }
+    ensures ins { seat.new.ins ≡ seat.old.ins }
 {
     let _ = links.len();
     Ok(seat.outs.push(out)?)
@@ -69,13 +72,15 @@ fn add_in<N: OfJob, P: LogicalProcess>(
     ensures seat { OnOk result (IsSeat N.job P.state P.handed P.valid links.now (end.number + 1)
         (end.number + 1) seat.new) }
     ensures number { seat.new.number ≡ seat.old.number }
+    ensures ins { OnOk result (seat.new.ins.items ≡ seat.old.ins.items ++ end ∷ []) }
+    ensures outs { seat.new.outs ≡ seat.old.outs }
 {
     let _ = links.len();
     Ok(seat.ins.push(end)?)
 }
 
 /// Makes the links of a job, in the order of their numbers, with room for so many packets on each, and gives their ends to
-/// processes. Process p will be that of worker p mod `workers`.
+/// processes. Process p will be that of worker p mod `workers`, which the ends of its links name.
 ///
 /// # Errors
 ///
@@ -94,8 +99,10 @@ pub fn connect<N: OfJob, P: LogicalProcess>(
     requires few { length channels.now < 2 ^ 32 }
     requires capacity { 0 < capacity }
     requires workers { 0 < workers }
-    ensures { IfOk result (λ links. (count : ℕ) × AreSeated N.job P.state P.handed P.valid links.items
-        count count seats.new.items) }
+    ensures seated { IfOk result (λ links. (count : ℕ) × AreSeated N.job P.state P.handed P.valid
+        links.items count count seats.new.items) }
+    ensures capacity { IfOk result (λ links. All (λ link. capacity_of link ≡ capacity) links.items) }
+    ensures workers { OnOk result (All (NamesWorkers N.job workers) seats.new.items) }
 {
     let mut links = Vec::with_capacity(alloc, channels.len())?;
     for channel in channels {
@@ -128,6 +135,7 @@ fn empty_crews<N: OfJob, P: LogicalProcess>(
     ensures count { IfOk result (λ crews. length crews.items ≡ workers) }
     ensures seated { IfOk result (λ crews. All (Seated N.job P.state P.handed P.valid links.now)
         crews.items) }
+    ensures workers { IfOk result (λ crews. AreByWorker workers crews.items) }
 {
     let _ = links.len();
     let mut crews = Vec::with_capacity(alloc, workers)?;
@@ -145,7 +153,8 @@ fn add_seat<N: OfJob, P: LogicalProcess>(
 ) -> Result<(), AllocError>
     requires crew { Seated N.job P.state P.handed P.valid links.now crew.old }
     requires seat { Sits N.job P.state P.handed P.valid links.now seat }
-    ensures { OnOk result (Seated N.job P.state P.handed P.valid links.now crew.new) }
+    ensures crew { OnOk result (Seated N.job P.state P.handed P.valid links.now crew.new) }
+    ensures items { OnOk result (crew.new.items ≡ crew.old.items ++ seat ∷ []) }
 {
     let _ = links.len();
     Ok(crew.push(seat)?)
@@ -167,6 +176,7 @@ pub fn crews_of<N: OfJob, P: LogicalProcess>(
     ensures count { IfOk result (λ crews. length crews.items ≡ workers) }
     ensures seated { IfOk result (λ crews. All (Seated N.job P.state P.handed P.valid links.now)
         crews.items) }
+    ensures workers { IfOk result (λ crews. AreByWorker workers crews.items) }
 {
     let mut crews = empty_crews(alloc, links, workers)?;
     for seat in seats {

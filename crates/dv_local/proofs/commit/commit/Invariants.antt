@@ -21,13 +21,13 @@ invariant-loop-order g l = record {
       (g.R.Record.told l.fn.to).entries (g.R.Record.told l.to).entries;
   components : AreComponents g.A.Atomic.fits l.moment.tables.now l.components.running;
   agenda : l.agenda ≡ waits_of l.components.running;
-  within : AreWithin (length l.components.running) l.before.items;
-  before : undone l.before.items l.components.running ≡ undone l.fn.before.items l.fn.components.running;
+  within : AreWithin (length l.components.running) l.before;
+  before : undone l.before l.components.running ≡ undone l.fn.before l.fn.components.running;
   visits : IsCounted l.order l.order l.fn.components.visits l.components.visits;
   counted : l.components.settled ≡ l.fn.components.settled;
   count :
-      length l.before.items + length (g.R.Record.told l.fn.to).entries
-      ≡ length l.fn.before.items + length (g.R.Record.told l.to).entries;
+      length l.before + length (g.R.Record.told l.fn.to).entries
+      ≡ length l.fn.before + length (g.R.Record.told l.to).entries;
   outer : (g.R.Record.told l.to).outer ≡ (g.R.Record.told l.fn.to).outer;
   is_open : IsOpenAt l.moment.instant.now.time (g.R.Record.told l.to);
   settled : g.R.Record.settled l.to ≡ g.R.Record.settled l.fn.to;

@@ -1,114 +1,233 @@
-use Rattle.std.proofs.Common.{◌≡◌, ◌∙◌, ◌<◌, ℕ, ◌++◌, List, Option, Some, None, MatchOption, length, slice_get, slice_set}
-use Rattle.std.proofs.Common.{append-nil, refl, sym, ap, subst, arith}
-use Rattle.std.proofs.lemmas.List.{set-get_or}
-use Rattle.std.proofs.lemmas.Option.{get_or_from_slice_get, same_Some}
-use Rattle.std.specs.Option.{option_map}
+use Rattle.std.proofs.Common.{◌≡◌, ◌∙◌, ◌++◌, List, Option, Some, None, slice_get, slice_set, sym, ap, ap₂, subst}
+use Rattle.dv_time.specs.declared.time.Time.{Time}
 use Rattle.dv_bag.specs.declared.entry.Entry.{Entry}
 use Rattle.dv_bag.specs.declared.entry.What.{What}
 use Rattle.dv_devs.specs.Network.{entry_of}
-use Rattle.dv_proc.specs.Accesses.{IsCounted}
-use Rattle.dv_react.specs.Components.{IsWaitOfRun, rank_of}
-use Rattle.dv_react.specs.Outcomes.{event_of, happened_in, left_by, sent_of}
+use Rattle.dv_react.specs.Components.{rank_of}
+use Rattle.dv_react.specs.Outcomes.{event_of, outcome_of, sent_of}
+use Rattle.dv_react.specs.declared.happened.Happened.{Happened}
 use Rattle.dv_react.specs.declared.running.Running.{Running}
-use Rattle.dv_share.specs.Outcomes.{IsOutcomeOf}
 use Rattle.dv_share.specs.Rows.{number_of}
-use Rattle.dv_share.specs.Share.{AreComponents, FitsAt, given_at}
-use Rattle.dv_local.specs.Commits.{what_of}
-use Rattle.dv_local.specs.declared.commit.Left.{Left}
-use Rattle.dv_local.proofs.Accesses.{counted_one}
-use Rattle.dv_local.proofs.Commits.{put_stays, seen}
+use Rattle.dv_share.specs.Share.{AreComponents, given_at}
+use Rattle.dv_share.specs.declared.place.Placed.{Placed}
+use Rattle.dv_local.specs.Commits.{what_by}
+use Rattle.dv_local.specs.Reacting.{ReactsAt}
+use Rattle.dv_local.specs.Undoing.{time_of_wait, undone, waits_of}
+use Rattle.dv_local.proofs.Reacted.{components_after, components_there, happened-what, outcome_there, same_components, same_former}
+use Rattle.dv_local.proofs.Reacted.{stands_there, taken_back, undone_after, waits_after, within_after}
 use Rattle.dv_local.proofs.commit.commit_one.Goals as goal
 
-pub returns-in_default-clause-reacted : goal.returns-in_default-clause-reacted
-returns-in_default-clause-reacted g c =
-    let t = c.args.moment.now.tables.now in
-    let now = rank_of c.args.moment.now.instant.now in
-    let rs = c.args.components.now.running in
-    let p = c.args.arrival.now.place in
-    let r = c.visited-component.result.now in
-    let o = c.in_ok-outcome.outcome in
-    let given = given_at p c.args.moment.now.emitted.now in
-    let lt : p < length rs = omega (arith, c.requires.place, c.requires.components.count) in
-    let at : slice_get rs p ≡ Some r =
-    seen rs c.visit.new.self.running p c.visit.new.self.visited r c.visit.ensures.components c.visit.ensures.visited
-    c.visited-component.ensures in
-    let old = (g.R.Record.told c.args.to.now).entries in
-    let k = number_of (slice_get t.members.items p) in
-    let none : happened_in o ≡ None = sym c.in_ok-left.ensures.happened ∙ ap (option_map what_of) c.in_default.is in
-    let unchanged : left_by r o ≡ r =
-    subst (λ (l : Option Left). MatchOption l (left_by r o ≡ r) (λ (l : Left). l.after ≡ left_by r o)) c.in_default.is
-    c.in_ok-left.ensures.left in
-    record {
-      outcome = o;
-      is = λ s at-s.
-          subst (λ (u : Running). IsOutcomeOf g.A.Atomic.behaviour g.A.Atomic.fits t now u given c.args.arrival.now o)
-          (same_Some r s (sym at ∙ at-s)) c.in_ok-outcome.ensures.outcome;
-      components = λ s at-s.
-          let stays : left_by s o ≡ s = subst (λ (u : Running). left_by u o ≡ u) (same_Some r s (sym at ∙ at-s)) unchanged in
-          c.visit.ensures.components
-          ∙ sym (ap (slice_set rs p) (stays ∙ sym (get_or_from_slice_get rs p s s at-s)) ∙ set-get_or rs p s);
-      entries = sym (ap (λ (h : Option What). old ++ entry_of t.limit now k (event_of h (sent_of given))) none ∙ append-nil old);
-    }
-
-pub returns-clause-reacted : goal.returns-clause-reacted
-returns-clause-reacted g c =
-    let t = c.args.moment.now.tables.now in
-    let now = rank_of c.args.moment.now.instant.now in
-    let rs = c.args.components.now.running in
-    let p = c.args.arrival.now.place in
-    let r = c.visited-component.result.now in
-    let o = c.in_ok-outcome.outcome in
-    let given = given_at p c.args.moment.now.emitted.now in
-    let lt : p < length rs = omega (arith, c.requires.place, c.requires.components.count) in
-    let at : slice_get rs p ≡ Some r =
-    seen rs c.visit.new.self.running p c.visit.new.self.visited r c.visit.ensures.components c.visit.ensures.visited
-    c.visited-component.ensures in
-    let old = (g.R.Record.told c.args.to.now).entries in
-    let k = number_of (slice_get t.members.items p) in
-    let left = c.in-Some.left in
-    let happened : happened_in o ≡ Some (what_of left) = sym c.in_ok-left.ensures.happened ∙ ap (option_map what_of) c.in-Some.is in
-    let after : left.after ≡ left_by r o =
-    subst (λ (l : Option Left). MatchOption l (left_by r o ≡ r) (λ (l : Left). l.after ≡ left_by r o)) c.in-Some.is
-    c.in_ok-left.ensures.left in
-    record {
-      outcome = o;
-      is = λ s at-s.
-          subst (λ (u : Running). IsOutcomeOf g.A.Atomic.behaviour g.A.Atomic.fits t now u given c.args.arrival.now o)
-          (same_Some r s (sym at ∙ at-s)) c.in_ok-outcome.ensures.outcome;
-      components = λ s at-s.
-          c.put_in.ensures.components
-          ∙ ap (λ (ss : List Running). slice_set ss p left.after) c.visit.ensures.components
-          ∙ ap (slice_set rs p) (after ∙ ap (λ (u : Running). left_by u o) (same_Some r s (sym at ∙ at-s)));
-      entries =
-          c.in_ok-tell.ensures.entries
-          ∙ ap (λ (es : List Entry). old ++ es)
-          (ap (λ limit. entry_of limit now k (Some (what_of left, sent_of given))) c.requires.limit
-          ∙ ap (λ (h : Option What). entry_of t.limit now k (event_of h (sent_of given))) (sym happened));
-    }
-
-pub returns-clause-components : goal.returns-clause-components
-returns-clause-components g c =
+pub returns-in_default-clause-agenda : goal.returns-in_default-clause-agenda
+returns-in_default-clause-agenda g c =
+    let b = g.A.Atomic.behaviour in
     let fits = g.A.Atomic.fits in
     let t = c.args.moment.now.tables.now in
+    let now = rank_of c.args.moment.now.instant.now in
+    let es = c.args.moment.now.emitted.now in
+    let x = c.args.arrival.now in
     let rs = c.args.components.now.running in
-    let p = c.args.arrival.now.place in
-    let r = c.visited-component.result.now in
-    let o = c.in_ok-outcome.outcome in
-    let lt : p < length rs = omega (arith, c.requires.place, c.requires.components.count) in
-    let left = c.in-Some.left in
-    let after : left.after ≡ left_by r o =
-    subst (λ (l : Option Left). MatchOption l (left_by r o ≡ r) (λ (l : Left). l.after ≡ left_by r o)) c.in-Some.is
-    c.in_ok-left.ensures.left in
-    subst (AreComponents fits t)
-    (sym (c.put_in.ensures.components ∙ ap (λ (ss : List Running). slice_set ss p left.after) c.visit.ensures.components))
-    (put_stays fits t rs p left.after c.requires.components lt
-    (subst (λ (s : Running). IsWaitOfRun t.limit s.wait) (sym after) c.in_ok-outcome.ensures.outcome.waits)
-    (λ m at. subst (λ (s : Running). FitsAt fits t.models.items m.model s.state) (sym after) (c.in_ok-outcome.ensures.outcome.fit m at)))
+    let ss = c.react.new.self.running in
+    let old = c.args.before.now in
+    let new = c.react.new.former in
+    let reacts : ReactsAt b fits t now es x rs ss old new None =
+    subst (λ (h : Option Happened). ReactsAt b fits t now es x rs ss old new h) c.in_default.is
+    (subst (λ (us : List Running). ReactsAt b fits t now es x us ss old new c.in_ok-happened.field-0) c.visit.ensures.components
+    c.in_ok-happened.ensures.reacted) in
+    c.requires.agenda ∙ ap (λ (us : List Running). waits_of us) (sym (same_components b fits t now es x rs ss old new reacts))
 
-pub returns-in_default-clause-visits : goal.returns-in_default-clause-visits
-returns-in_default-clause-visits g c = counted_one _ _ c.visit.ensures.never_fall c.visit.ensures.visits
+pub returns-in_default-clause-before : goal.returns-in_default-clause-before
+returns-in_default-clause-before g c =
+    let b = g.A.Atomic.behaviour in
+    let fits = g.A.Atomic.fits in
+    let t = c.args.moment.now.tables.now in
+    let now = rank_of c.args.moment.now.instant.now in
+    let es = c.args.moment.now.emitted.now in
+    let x = c.args.arrival.now in
+    let rs = c.args.components.now.running in
+    let ss = c.react.new.self.running in
+    let old = c.args.before.now in
+    let new = c.react.new.former in
+    let reacts : ReactsAt b fits t now es x rs ss old new None =
+    subst (λ (h : Option Happened). ReactsAt b fits t now es x rs ss old new h) c.in_default.is
+    (subst (λ (us : List Running). ReactsAt b fits t now es x us ss old new c.in_ok-happened.field-0) c.visit.ensures.components
+    c.in_ok-happened.ensures.reacted) in
+    ap₂ (λ (ys : List (Placed Running)) (us : List Running). undone ys us) (same_former b fits t now es x rs ss old new reacts) (same_components b fits t now es x rs ss old new reacts)
 
-pub returns-clause-visits : goal.returns-clause-visits
-returns-clause-visits g c =
-    subst (λ (n : ℕ). IsCounted 1 1 c.args.components.now.visits n) (sym c.put_in.ensures.visits)
-    (counted_one _ _ c.visit.ensures.never_fall c.visit.ensures.visits)
+pub returns-in-Err-clause-components : goal.returns-in-Err-clause-components
+returns-in-Err-clause-components g c =
+    let b = g.A.Atomic.behaviour in
+    let fits = g.A.Atomic.fits in
+    let t = c.args.moment.now.tables.now in
+    let now = rank_of c.args.moment.now.instant.now in
+    let es = c.args.moment.now.emitted.now in
+    let x = c.args.arrival.now in
+    let rs = c.args.components.now.running in
+    let ss = c.react.new.self.running in
+    let old = c.args.before.now in
+    let new = c.react.new.former in
+    let reacts : ReactsAt b fits t now es x rs ss old new (Some c.in-Some.happened) =
+    subst (λ (h : Option Happened). ReactsAt b fits t now es x rs ss old new h) c.in-Some.is
+    (subst (λ (us : List Running). ReactsAt b fits t now es x us ss old new c.in_ok-happened.field-0) c.visit.ensures.components
+    c.in_ok-happened.ensures.reacted) in
+    let at : c.react.new.self.visited ≡ x.place = c.react.ensures.visited ∙ c.visit.ensures.visited in
+    let back = c.take_back.ensures.back old (record { place = x.place; what = reacts.before }) reacts.former in
+    let same : c.take_back.new.components.running ≡ rs =
+    back.1 ∙ taken_back b fits t now es x rs ss old new (Some c.in-Some.happened) reacts c.react.new.self.visited at in
+    subst (AreComponents fits t) (sym same) c.requires.components
+
+pub returns-in-Err-clause-agenda : goal.returns-in-Err-clause-agenda
+returns-in-Err-clause-agenda g c =
+    let b = g.A.Atomic.behaviour in
+    let fits = g.A.Atomic.fits in
+    let t = c.args.moment.now.tables.now in
+    let now = rank_of c.args.moment.now.instant.now in
+    let es = c.args.moment.now.emitted.now in
+    let x = c.args.arrival.now in
+    let rs = c.args.components.now.running in
+    let ss = c.react.new.self.running in
+    let old = c.args.before.now in
+    let new = c.react.new.former in
+    let reacts : ReactsAt b fits t now es x rs ss old new (Some c.in-Some.happened) =
+    subst (λ (h : Option Happened). ReactsAt b fits t now es x rs ss old new h) c.in-Some.is
+    (subst (λ (us : List Running). ReactsAt b fits t now es x us ss old new c.in_ok-happened.field-0) c.visit.ensures.components
+    c.in_ok-happened.ensures.reacted) in
+    let at : c.react.new.self.visited ≡ x.place = c.react.ensures.visited ∙ c.visit.ensures.visited in
+    let back = c.take_back.ensures.back old (record { place = x.place; what = reacts.before }) reacts.former in
+    let same : c.take_back.new.components.running ≡ rs =
+    back.1 ∙ taken_back b fits t now es x rs ss old new (Some c.in-Some.happened) reacts c.react.new.self.visited at in
+    c.requires.agenda ∙ ap (λ (us : List Running). waits_of us) (sym same)
+
+pub returns-in-Err-clause-before : goal.returns-in-Err-clause-before
+returns-in-Err-clause-before g c =
+    let b = g.A.Atomic.behaviour in
+    let fits = g.A.Atomic.fits in
+    let t = c.args.moment.now.tables.now in
+    let now = rank_of c.args.moment.now.instant.now in
+    let es = c.args.moment.now.emitted.now in
+    let x = c.args.arrival.now in
+    let rs = c.args.components.now.running in
+    let ss = c.react.new.self.running in
+    let old = c.args.before.now in
+    let new = c.react.new.former in
+    let reacts : ReactsAt b fits t now es x rs ss old new (Some c.in-Some.happened) =
+    subst (λ (h : Option Happened). ReactsAt b fits t now es x rs ss old new h) c.in-Some.is
+    (subst (λ (us : List Running). ReactsAt b fits t now es x us ss old new c.in_ok-happened.field-0) c.visit.ensures.components
+    c.in_ok-happened.ensures.reacted) in
+    let at : c.react.new.self.visited ≡ x.place = c.react.ensures.visited ∙ c.visit.ensures.visited in
+    let back = c.take_back.ensures.back old (record { place = x.place; what = reacts.before }) reacts.former in
+    let same : c.take_back.new.components.running ≡ rs =
+    back.1 ∙ taken_back b fits t now es x rs ss old new (Some c.in-Some.happened) reacts c.react.new.self.visited at in
+    ap₂ (λ (ys : List (Placed Running)) (us : List Running). undone ys us) back.0 same
+
+pub returns-in-Ok-clause-reacted : goal.returns-in-Ok-clause-reacted
+returns-in-Ok-clause-reacted g c =
+    let b = g.A.Atomic.behaviour in
+    let fits = g.A.Atomic.fits in
+    let t = c.args.moment.now.tables.now in
+    let now = rank_of c.args.moment.now.instant.now in
+    let es = c.args.moment.now.emitted.now in
+    let x = c.args.arrival.now in
+    let rs = c.args.components.now.running in
+    let ss = c.react.new.self.running in
+    let old = c.args.before.now in
+    let new = c.react.new.former in
+    let reacts : ReactsAt b fits t now es x rs ss old new (Some c.in-Some.happened) =
+    subst (λ (h : Option Happened). ReactsAt b fits t now es x rs ss old new h) c.in-Some.is
+    (subst (λ (us : List Running). ReactsAt b fits t now es x us ss old new c.in_ok-happened.field-0) c.visit.ensures.components
+    c.in_ok-happened.ensures.reacted) in
+    let at : c.react.new.self.visited ≡ x.place = c.react.ensures.visited ∙ c.visit.ensures.visited in
+    let stands : c.visited-component.result.now ≡ reacts.after =
+    stands_there b fits t now es x rs ss old new (Some c.in-Some.happened) reacts c.react.new.self.visited c.visited-component.result.now at c.visited-component.ensures in
+    let given = given_at x.place es in
+    let k = number_of (slice_get t.members.items x.place) in
+    record {
+      outcome = outcome_of reacts.after (Some c.in-Some.happened);
+      is = outcome_there b fits t now es x rs ss old new (Some c.in-Some.happened) reacts;
+      components = components_there b fits t now es x rs ss old new (Some c.in-Some.happened) reacts;
+      entries =
+          c.in-Ok.ensures.entries
+          ∙ ap (λ (more : List Entry). (g.R.Record.told c.args.to.now).entries ++ more)
+          (ap (λ (r : Running). entry_of c.args.moment.now.instant.now.limit now k (Some (what_by c.in-Some.happened r.state, sent_of given))) stands
+          ∙ ap (λ limit. entry_of limit now k (Some (what_by c.in-Some.happened reacts.after.state, sent_of given))) c.requires.limit
+          ∙ ap (λ (w : Option What). entry_of t.limit now k (event_of w (sent_of given)))
+          (sym (happened-what reacts.after c.in-Some.happened)));
+    }
+
+pub returns-in-Ok-clause-components : goal.returns-in-Ok-clause-components
+returns-in-Ok-clause-components g c =
+    let b = g.A.Atomic.behaviour in
+    let fits = g.A.Atomic.fits in
+    let t = c.args.moment.now.tables.now in
+    let now = rank_of c.args.moment.now.instant.now in
+    let es = c.args.moment.now.emitted.now in
+    let x = c.args.arrival.now in
+    let rs = c.args.components.now.running in
+    let ss = c.react.new.self.running in
+    let old = c.args.before.now in
+    let new = c.react.new.former in
+    let reacts : ReactsAt b fits t now es x rs ss old new (Some c.in-Some.happened) =
+    subst (λ (h : Option Happened). ReactsAt b fits t now es x rs ss old new h) c.in-Some.is
+    (subst (λ (us : List Running). ReactsAt b fits t now es x us ss old new c.in_ok-happened.field-0) c.visit.ensures.components
+    c.in_ok-happened.ensures.reacted) in
+    components_after b fits t now es x rs ss old new (Some c.in-Some.happened) reacts c.requires.components
+
+pub returns-in-Ok-clause-agenda : goal.returns-in-Ok-clause-agenda
+returns-in-Ok-clause-agenda g c =
+    let b = g.A.Atomic.behaviour in
+    let fits = g.A.Atomic.fits in
+    let t = c.args.moment.now.tables.now in
+    let now = rank_of c.args.moment.now.instant.now in
+    let es = c.args.moment.now.emitted.now in
+    let x = c.args.arrival.now in
+    let rs = c.args.components.now.running in
+    let ss = c.react.new.self.running in
+    let old = c.args.before.now in
+    let new = c.react.new.former in
+    let reacts : ReactsAt b fits t now es x rs ss old new (Some c.in-Some.happened) =
+    subst (λ (h : Option Happened). ReactsAt b fits t now es x rs ss old new h) c.in-Some.is
+    (subst (λ (us : List Running). ReactsAt b fits t now es x us ss old new c.in_ok-happened.field-0) c.visit.ensures.components
+    c.in_ok-happened.ensures.reacted) in
+    let at : c.react.new.self.visited ≡ x.place = c.react.ensures.visited ∙ c.visit.ensures.visited in
+    let stands : c.visited-component.result.now ≡ reacts.after =
+    stands_there b fits t now es x rs ss old new (Some c.in-Some.happened) reacts c.react.new.self.visited c.visited-component.result.now at c.visited-component.ensures in
+    c.set.ensures
+    ∙ ap (λ (ws : List (Option Time)). slice_set ws x.place c.time_of-time.result) c.requires.agenda
+    ∙ ap (λ (w : Option Time). slice_set (waits_of rs) x.place w)
+    (c.time_of-time.ensures ∙ ap (λ (r : Running). time_of_wait r.wait) stands)
+    ∙ sym (waits_after b fits t now es x rs ss old new (Some c.in-Some.happened) reacts)
+
+pub returns-in-Ok-clause-within : goal.returns-in-Ok-clause-within
+returns-in-Ok-clause-within g c =
+    let b = g.A.Atomic.behaviour in
+    let fits = g.A.Atomic.fits in
+    let t = c.args.moment.now.tables.now in
+    let now = rank_of c.args.moment.now.instant.now in
+    let es = c.args.moment.now.emitted.now in
+    let x = c.args.arrival.now in
+    let rs = c.args.components.now.running in
+    let ss = c.react.new.self.running in
+    let old = c.args.before.now in
+    let new = c.react.new.former in
+    let reacts : ReactsAt b fits t now es x rs ss old new (Some c.in-Some.happened) =
+    subst (λ (h : Option Happened). ReactsAt b fits t now es x rs ss old new h) c.in-Some.is
+    (subst (λ (us : List Running). ReactsAt b fits t now es x us ss old new c.in_ok-happened.field-0) c.visit.ensures.components
+    c.in_ok-happened.ensures.reacted) in
+    within_after b fits t now es x rs ss old new c.in-Some.happened reacts c.requires.within
+
+pub returns-in-Ok-clause-before : goal.returns-in-Ok-clause-before
+returns-in-Ok-clause-before g c =
+    let b = g.A.Atomic.behaviour in
+    let fits = g.A.Atomic.fits in
+    let t = c.args.moment.now.tables.now in
+    let now = rank_of c.args.moment.now.instant.now in
+    let es = c.args.moment.now.emitted.now in
+    let x = c.args.arrival.now in
+    let rs = c.args.components.now.running in
+    let ss = c.react.new.self.running in
+    let old = c.args.before.now in
+    let new = c.react.new.former in
+    let reacts : ReactsAt b fits t now es x rs ss old new (Some c.in-Some.happened) =
+    subst (λ (h : Option Happened). ReactsAt b fits t now es x rs ss old new h) c.in-Some.is
+    (subst (λ (us : List Running). ReactsAt b fits t now es x us ss old new c.in_ok-happened.field-0) c.visit.ensures.components
+    c.in_ok-happened.ensures.reacted) in
+    undone_after b fits t now es x rs ss old new c.in-Some.happened reacts

@@ -12,7 +12,7 @@ use Rattle.dv_bag.specs.declared.entry.What.TheVariants as what
 use Rattle.dv_record.specs.Told.{entry}
 use Rattle.dv_share.specs.Rows.{number_of}
 use Rattle.dv_share.specs.declared.tables.Member.{Member}
-use Rattle.dv_local.specs.Commits.{what_by, what_of}
+use Rattle.dv_local.specs.Commits.{what_by}
 use Rattle.dv_local.proofs.Commits.{open_told}
 use Rattle.dv_local.proofs.commit.tell.Goals as goal
 
@@ -31,11 +31,11 @@ returns-in-Transition-clause-entries g c =
     let instant = c.args.moment.now.instant.now in
     let ms = c.args.moment.now.tables.now.members.items in
     let p = c.args.place in
-    let left = c.args.left.now in
+    let state = c.args.state.now in
     let at = slice_get_read ms (length ms) p c.index.result.now refl c.requires.place c.index.ensures in
     let same = same_entry instant.limit instant.time instant.of_run ms p c.index.result.now at
-    (what.Transition c.in-Transition.kind left.after.state) (what_of left)
-    (sym (ap (λ q. what_by q left.after.state) c.in-Transition.is)) c.sent_at-sent.result.now _ c.sent_at-sent.ensures in
+    (what.Transition c.in-Transition.kind state) (what_by c.args.happened state)
+    (sym (ap (λ q. what_by q state) c.in-Transition.is)) c.sent_at-sent.result.now _ c.sent_at-sent.ensures in
     on_ok_weaker c.moved.result
     (λ h. ap (λ (q : PartOf). q.entries) h
     ∙ ap (λ (e : Entry). (g.R.Record.told c.args.to.now).entries ++ e ∷ []) same) c.moved.ensures.told
@@ -49,11 +49,11 @@ returns-in-Fault-clause-entries g c =
     let instant = c.args.moment.now.instant.now in
     let ms = c.args.moment.now.tables.now.members.items in
     let p = c.args.place in
-    let left = c.args.left.now in
+    let state = c.args.state.now in
     let at = slice_get_read ms (length ms) p c.index.result.now refl c.requires.place c.index.ensures in
     let same = same_entry instant.limit instant.time instant.of_run ms p c.index.result.now at
-    (what.Fault c.in-Fault.fault) (what_of left)
-    (sym (ap (λ q. what_by q left.after.state) c.in-Fault.is)) c.sent_at-sent.result.now _ c.sent_at-sent.ensures in
+    (what.Fault c.in-Fault.fault) (what_by c.args.happened state)
+    (sym (ap (λ q. what_by q state) c.in-Fault.is)) c.sent_at-sent.result.now _ c.sent_at-sent.ensures in
     on_ok_weaker c.faulted.result
     (λ h. ap (λ (q : PartOf). q.entries) h
     ∙ ap (λ (e : Entry). (g.R.Record.told c.args.to.now).entries ++ e ∷ []) same) c.faulted.ensures.told

@@ -1,13 +1,13 @@
-use Rattle.std.proofs.Common.{◌≡◌, ◌∙◌, ◌+◌, ◌<◌, ◌≤◌, ℕ, ◌++◌, ◌∷◌, [], List, length, take, get_or, slice_get, Some, Result, All, ap}
+use Rattle.std.proofs.Common.{◌≡◌, ◌∙◌, ◌+◌, ◌<◌, ℕ, ◌++◌, ◌∷◌, [], List, length, take, get_or, slice_get, Some, Result, All, ap}
 use Rattle.std.proofs.Common.{sym, subst, arith, refl, rules}
-use Rattle.std.proofs.lemmas.Option.{same_Some, slice_get-get_or}
+use Rattle.std.proofs.lemmas.Option.{same_Some}
 use Rattle.std.proofs.lemmas.List.{length-map, map-append, take_all, take_more}
 use Rattle.std.proofs.lemmas.List.Elements.{All-push}
 use Rattle.dv_bag.specs.Bag.{Counts}
 use Rattle.dv_bag.specs.declared.fault.Fault.{Fault}
 use Rattle.dv_devs.specs.Behaviour.{emission}
 use Rattle.dv_proc.specs.Accesses.{IsCounted}
-use Rattle.dv_react.specs.Components.{IsWaitOfRun, component_of, rank_of}
+use Rattle.dv_react.specs.Components.{component_of, rank_of}
 use Rattle.dv_react.specs.declared.running.Running.{Running}
 use Rattle.dv_share.specs.Outcomes.{behaviour_in}
 use Rattle.dv_share.specs.Places.{places_of}

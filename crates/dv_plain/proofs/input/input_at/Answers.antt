@@ -1,4 +1,4 @@
-use Rattle.std.proofs.Common.{◌≡◌, ap, sym, ◌∙◌, arith}
+use Rattle.std.proofs.Common.{ap, sym, ◌∙◌, arith}
 use Rattle.dv_bag.specs.Inputs.{bags_at, inputs_before}
 use Rattle.dv_time.proofs.Ranks.{time_of-rank}
 use Rattle.dv_plain.proofs.InputWalk.{place-moves}

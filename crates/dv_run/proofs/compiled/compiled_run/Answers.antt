@@ -3,7 +3,7 @@ use Rattle.dv_devs.specs.Clocks.{least_rank}
 use Rattle.dv_time.specs.Time.{rank}
 use Rattle.dv_partition.specs.Groups.{owner_of}
 use Rattle.dv_syntax.specs.Trees.{file_of}
-use Rattle.dv_core.specs.declared.step.Ended.{Ended}
+use Rattle.dv_run.specs.declared.ran.RanEnded.{RanEnded}
 use Rattle.dv_planned.specs.Texts.{text_job}
 use Rattle.dv_text.proofs.Taking.{OnErr-always}
 use Rattle.dv_serial.proofs.LeastClock.{least_time_rank}
@@ -89,7 +89,7 @@ returns-clause-run g c =
     ∙ ap (λ ts. least_rank j.limit ts.items) (sym of.clocks) in
     let at_end : AreAtEnd (text_job j) r.ended r.clocks.items =
     subst (λ ts. AreAtEnd (text_job j) r.ended ts.items) (sym of.clocks)
-    (subst (λ (e : Ended). AreAtEnd (text_job j) e s.committed.clocks.items) (sym of.ended)
+    (subst (λ (e : RanEnded). AreAtEnd (text_job j) e s.committed.clocks.items) (sym of.ended)
     (ran_at_end j capacity rounds s.committed ran)) in
     is_run j capacity rounds s.committed ran {old = g.W.Write.contents c.args.writer.now}
     {new = g.W.Write.contents c.run_components.new.writer} r of.clocks of.ended

@@ -165,7 +165,7 @@ returns-clause-whole g c =
     = ap (λ (n : ℕ). let t : Time = record { tick = n + 1; micro = 0 } in t) c.horizon-2.ensures.is in
     let told = c.clocks_at-clocks.result.items in (
       λ whole. subst (AllAt told) is (subst (λ (ts : List Time). AllAt ts end) c.deref.ensures.value
-          (c.all_are.ensures.0 (c.ended_as-ended.ensures.0 whole))),
-      λ all. c.ended_as-ended.ensures.1 (c.all_are.ensures.1 (subst (λ (ts : List Time). AllAt ts end) (sym c.deref.ensures.value)
+          (c.all_are.ensures.0 (c.ended_as-ended.ensures.whole.0 whole))),
+      λ all. c.ended_as-ended.ensures.whole.1 (c.all_are.ensures.1 (subst (λ (ts : List Time). AllAt ts end) (sym c.deref.ensures.value)
           (subst (AllAt told) (sym is) all))),
     )

@@ -6,6 +6,7 @@ use Rattle.dv_tree.specs.Tables.{Source}
 use Rattle.dv_text.specs.Names.{tree_names, tree_ports}
 use Rattle.dv_text.specs.Texts.{ending_text, part_text}
 use Rattle.dv_text.specs.Writing.{StopsShort}
+use Rattle.dv_text.specs.declared.writing.Ending.TheVariants.{Whole}
 use Rattle.dv_text.proofs.Endings.{ending-some}
 use Rattle.dv_text.proofs.Taking.{Appends-append, AppendsBeginning-text, OnErr-always, StopsShort-behind, StopsShort-longer}
 use Rattle.dv_text.proofs.writing.write_trace.Goals as goal
@@ -19,7 +20,7 @@ same_lines p q s t one other = ap (λ (x : PartOf). lines x s) one ∙ ap (lines
 pub returns-in_err-part-clause-err : goal.returns-in_err-part-clause-err
 returns-in_err-part-clause-err g c = λ by.
     OnErr-always _
-    (StopsShort-longer (ending_text c.args.ending.now) (ending-some c.args.ending.now)
+    (StopsShort-longer (ending_text (Whole c.args.horizon)) (ending-some (Whole c.args.horizon))
     (AppendsBeginning-text (same_lines _ _ _ _ c.all_of.ensures c.new-lines.ensures)
     (c.in_err-part.ensures.err (subst IsByTime (sym c.all_of.ensures) by))))
 
@@ -32,8 +33,8 @@ returns-clause-ok g c = λ by.
     subst (λ (t : List ℕ). Appends before between t) (same_lines _ _ _ _ c.all_of.ensures c.new-lines.ensures)
     (c.in_ok-part.ensures.ok (subst IsByTime (sym c.all_of.ensures) by)) in
     on_ok_weaker c.end.result
-    (λ (p : Appends between after (ending_text c.args.ending.now)). Appends-append before between after
-    (lines c.args.trace.now c.args.tree.now) (ending_text c.args.ending.now) first p) c.end.ensures.ok
+    (λ (p : Appends between after (ending_text (Whole c.args.horizon))). Appends-append before between after
+    (lines c.args.trace.now c.args.tree.now) (ending_text (Whole c.args.horizon)) first p) c.end.ensures.ok
 
 pub returns-clause-err : goal.returns-clause-err
 returns-clause-err g c = λ by.
@@ -44,5 +45,5 @@ returns-clause-err g c = λ by.
     subst (λ (t : List ℕ). Appends before between t) (same_lines _ _ _ _ c.all_of.ensures c.new-lines.ensures)
     (c.in_ok-part.ensures.ok (subst IsByTime (sym c.all_of.ensures) by)) in
     on_err_weaker c.end.result
-    (λ (p : StopsShort between after (ending_text c.args.ending.now)). StopsShort-behind
-    (lines c.args.trace.now c.args.tree.now) (ending_text c.args.ending.now) first p) c.end.ensures.err
+    (λ (p : StopsShort between after (ending_text (Whole c.args.horizon))). StopsShort-behind
+    (lines c.args.trace.now c.args.tree.now) (ending_text (Whole c.args.horizon)) first p) c.end.ensures.err

@@ -12,7 +12,7 @@ use Rattle.dv_work.proofs.run.run_job.Goals as goal
 pub crews_of-requires-clause-seats : goal.crews_of-requires-clause-seats
 crews_of-requires-clause-seats g c =
     let job = g.N.OfJob.job in
-    let are = c.in_ok-links.ensures in
+    let are = c.in_ok-links.ensures.seated in
     subst (λ (ls : List (Link g.row.N.Denot)).
     All (λ (s : Seat g.row.P.Denot). Sits job g.P.LogicalProcess.state g.P.LogicalProcess.handed g.P.LogicalProcess.valid ls s) c.connect.new.seats.items)
     (sym c.deref.ensures.value)

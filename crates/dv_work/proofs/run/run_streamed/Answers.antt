@@ -7,6 +7,7 @@ use Rattle.dv_core.specs.Worlds.{end_time}
 use Rattle.dv_work.specs.Making.{AreNew}
 use Rattle.dv_work.specs.declared.report.Ended.TheVariants.{Whole}
 use Rattle.dv_work.proofs.Lists.{at_place}
+use Rattle.dv_work.proofs.Endings.{cancelled_if_ok}
 use Rattle.dv_work.proofs.run.run_streamed.Goals as goal
 
 pub run_job-requires-clause-processes : goal.run_job-requires-clause-processes
@@ -29,3 +30,6 @@ returns-clause-whole g c =
     subst (λ (job : Job). IfOk c.report_of.result (λ r. (r.ended ≡ Whole)
     ↔ ((p : ℕ) (x : Piece) → slice_get r.rest.items p ≡ Some x → x.clock ≡ end_time job)))
     c.requires.job c.report_of.ensures.whole
+
+pub returns-clause-cancelled : goal.returns-clause-cancelled
+returns-clause-cancelled g c = cancelled_if_ok g.N.OfJob.job _ c.report_of.result c.report_of.ensures.ended

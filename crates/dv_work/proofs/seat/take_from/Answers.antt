@@ -1,7 +1,11 @@
-use Rattle.std.proofs.Common.{◌∙◌}
+use Rattle.std.proofs.Common.{◌∙◌, subst, sym}
+use Rattle.dv_link.specs.Carries.{IsLinkOf}
 use Rattle.dv_link.specs.Ends.{receiver}
 use Rattle.dv_work.proofs.Ends.{in_after, link_after_take, taken_is_true}
 use Rattle.dv_work.proofs.seat.take_from.Goals as goal
+
+pub take-requires-clause-channel : goal.take-requires-clause-channel
+take-requires-clause-channel g c = subst (IsLinkOf g.N.OfJob.job) (sym c.requires.end.link_is) c.requires.channel
 
 pub returns-clause-end : goal.returns-clause-end
 returns-clause-end g c =

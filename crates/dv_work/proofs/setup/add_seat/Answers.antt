@@ -3,8 +3,8 @@ use Rattle.dv_work.specs.Seats.{Sits}
 use Rattle.dv_work.specs.declared.seat.Seat.{Seat}
 use Rattle.dv_work.proofs.setup.add_seat.Goals as goal
 
-pub returns : goal.returns
-returns g c =
+pub returns-clause-crew : goal.returns-clause-crew
+returns-clause-crew g c =
     let P : Seat g.row.P.Denot → Type 0
     = λ s. Sits g.N.OfJob.job g.P.LogicalProcess.state g.P.LogicalProcess.handed g.P.LogicalProcess.valid c.args.links.now s in
     record {

@@ -5,9 +5,39 @@ use Rattle.std.proofs.lemmas.Option.{slice_get_read}
 use Rattle.dv_proc.specs.Channels.{meant_channel}
 use Rattle.dv_proc.specs.declared.channel.Channel.{Channel}
 use Rattle.dv_link.specs.declared.link.Link.{Link}
-use Rattle.dv_work.specs.Making.{AreSeated, IsSeat}
+use Rattle.dv_work.specs.Making.{AreSeated, IsSeat, NamesWorkers, no_links}
+use Rattle.dv_link.specs.Ends.{capacity}
+use Rattle.std.specs.List.{All}
+use Rattle.std.proofs.lemmas.List.Elements.{All-push, All-same, All-set}
+use Rattle.dv_work.specs.declared.seat.Seat.{Seat}
+use Rattle.dv_work.proofs.Crewing.{in_more, names_none, out_more}
+use Rattle.dv_work.proofs.Lists.{at_place}
 use Rattle.dv_work.proofs.Making.{channel_at, new_in, new_out, seated_more, seats_grown}
 use Rattle.dv_work.proofs.setup.connect.Goals as goal
+
+pub loop-channel-init : goal.loop-channel-init
+loop-channel-init g c =
+    let none = c.in_ok-links.ensures.items in (
+      ap length none,
+      subst (λ (ls : List (Link g.row.N.Denot)). AreSeated g.N.OfJob.job g.P.LogicalProcess.state g.P.LogicalProcess.handed
+          g.P.LogicalProcess.valid ls 0 0 c.args.seats.now.items) (sym none) c.requires.seats,
+      (λ k d lt. let z = ap length none in absurd (omega arith)),
+      names_none g.N.OfJob.job c.args.workers g.P.LogicalProcess.state g.P.LogicalProcess.handed g.P.LogicalProcess.valid
+          (no_links {N = g.row.N.Denot}) c.args.seats.now.items c.requires.seats,
+    )
+
+pub new-requires-clause-channel : goal.new-requires-clause-channel
+new-requires-clause-channel g c =
+    let n = c.loop-channel.channel-index in
+    let d : Channel = record { source = 0; target = 0 } in
+    let ch = get_or c.args.channels.now n d in
+    let inv = c.loop-channel.invariant in
+    let there = channel_at g.N.OfJob.job c.args.channels.now c.requires.links n d (omega (arith, c.loop-channel-test.true)) in
+    let number : c.len-number.result ≡ n = omega (arith, c.len-number.ensures, c.loop-channel.links.ok.0, inv.0) in
+    record {
+      channel = meant_channel ch;
+      there = subst (λ (m : ℕ). slice_get g.N.OfJob.job.channels m ≡ Some (meant_channel ch)) (sym number) there;
+    }
 
 pub index_mut-requires : goal.index_mut-requires
 index_mut-requires g c =
@@ -196,9 +226,20 @@ loop-channel-preserved g c =
     let three = seated_more g.N.OfJob.job g.P.LogicalProcess.state g.P.LogicalProcess.handed g.P.LogicalProcess.valid links2 (n + 1) n (n + 1) (n + 1) (omega arith)
     (omega arith) (set seats ch.source t) two ch.target u v
     at2 got2.number second in
+    let W : Seat g.row.P.Denot → Type 0 = λ z. NamesWorkers g.N.OfJob.job c.args.workers z in
+    let C : Link g.row.N.Denot → Type 0 = λ z. capacity z ≡ c.args.capacity in
+    let named_first : All W (set seats ch.source t)
+    = All-set W seats ch.source t
+    (out_more g.N.OfJob.job c.args.workers s t _ got.outs got.ins (record { channel = meant_channel ch; there = named; receiver = refl })
+    (at_place W seats ch.source s inv.3 at)) inv.3 in
     let items = c.in_ok-push.ensures.items in (
       (let e = ap length items in let l = length-append old (link ∷ []) in let h = inv.0 in omega arith),
       subst (λ (ls : List (Link g.row.N.Denot)). AreSeated g.N.OfJob.job g.P.LogicalProcess.state g.P.LogicalProcess.handed g.P.LogicalProcess.valid ls (n + 1)
           (n + 1) (set (set seats ch.source t) ch.target v))
           c.deref-in-loop-channel.ensures.value three,
+      All-same C c.push.new.self.items _ items (All-push C old link inv.2 c.in_ok-link.ensures.capacity),
+      All-set W (set seats ch.source t) ch.target v
+          (in_more g.N.OfJob.job c.args.workers u v _ got2.ins got2.outs
+          (record { channel = meant_channel ch; there = named; sender = refl })
+          (at_place W (set seats ch.source t) ch.target u named_first at2)) named_first,
     )

@@ -1,4 +1,4 @@
-use Rattle.std.proofs.Common.{◌<◌, ◌%◌, List, length, sym, ◌∙◌, subst, arith}
+use Rattle.std.proofs.Common.{◌<◌, ◌%◌, List, length, refl, sym, ◌∙◌, subst, arith}
 use Rattle.std.specs.List.{All}
 use Rattle.std.proofs.lemmas.List.{length-set}
 use Rattle.std.proofs.lemmas.List.Elements.{All-rest, All-set}
@@ -8,6 +8,8 @@ use Rattle.std.specs.declared.vec.Vec.{Vec}
 use Rattle.dv_work.specs.Crews.{Seated}
 use Rattle.dv_work.specs.Seats.{Sits}
 use Rattle.dv_work.specs.declared.seat.Seat.{Seat}
+use Rattle.std.proofs.lemmas.Option.{slice_get_read}
+use Rattle.dv_work.proofs.Crewing.{seat_more}
 use Rattle.dv_work.proofs.setup.crews_of.Goals as goal
 
 pub index_mut-requires : goal.index_mut-requires
@@ -35,9 +37,15 @@ loop-seat-preserved g c =
     let S : Seat g.row.P.Denot → Type 0 = λ s. Sits g.N.OfJob.job g.P.LogicalProcess.state g.P.LogicalProcess.handed g.P.LogicalProcess.valid c.args.links.now s in
     let C : Vec (Seat g.row.P.Denot) Global → Type 0 = λ v. Seated g.N.OfJob.job g.P.LogicalProcess.state g.P.LogicalProcess.handed g.P.LogicalProcess.valid
     c.args.links.now v in
-    let is = c.loop-seat.invariant in record {
+    let is = c.loop-seat.invariant in
+    let crews = c.loop-seat.crews.items in
+    let w = c.in-Some.seat.number % c.args.workers in
+    let below : w < length crews = (let l = is.count in let n = c.requires.workers in omega arith) in
+    let there = slice_get_read crews (length crews) w c.index_mut.result.now refl below c.index_mut.ensures.value in record {
       rest = All-rest S c.in-Some.seat (into_iter_items c.next.new.self) (into_iter_items c.loop-seat.seat-iterator)
           c.in-Some.ensures.steps.0 is.rest;
       count = length-set c.loop-seat.crews.items _ _ ∙ is.count;
-      seated = All-set C c.loop-seat.crews.items _ _ c.in_ok-add_seat.ensures is.seated;
+      workers = seat_more c.args.workers crews w c.index_mut.result.now c.add_seat.new.crew c.in-Some.seat there
+          c.in_ok-add_seat.ensures.items refl is.workers;
+      seated = All-set C c.loop-seat.crews.items _ _ c.in_ok-add_seat.ensures.crew is.seated;
     }

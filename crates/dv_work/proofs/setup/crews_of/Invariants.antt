@@ -1,7 +1,7 @@
 use Rattle.std.proofs.Common.{◌≡◌, length}
 use Rattle.std.specs.List.{All}
 use Rattle.std.specs.Vec.Iter.{into_iter_items}
-use Rattle.dv_work.specs.Crews.{Seated}
+use Rattle.dv_work.specs.Crews.{AreByWorker, Seated}
 use Rattle.dv_work.specs.Seats.{Sits}
 use Rattle.dv_work.proofs.setup.crews_of.Given as goal
 
@@ -9,5 +9,6 @@ abbrev pub invariant-loop-seat : goal.invariant-loop-seat
 invariant-loop-seat g l = record {
   rest : All (Sits g.N.OfJob.job g.P.LogicalProcess.state g.P.LogicalProcess.handed g.P.LogicalProcess.valid l.links) (into_iter_items l.seat-iterator);
   count : length l.crews.items ≡ l.workers;
+  workers : AreByWorker l.workers l.crews.items;
   seated : All (Seated g.N.OfJob.job g.P.LogicalProcess.state g.P.LogicalProcess.handed g.P.LogicalProcess.valid l.links) l.crews.items;
 }

@@ -6,6 +6,7 @@ use Rattle.std.proofs.lemmas.List.Elements.{All-same, All-push}
 use Rattle.dv_work.specs.Crews.{Seated}
 use Rattle.dv_work.specs.Seats.{Sits}
 use Rattle.dv_work.specs.declared.seat.Seat.{Seat}
+use Rattle.dv_work.proofs.Crewing.{nobody_more}
 use Rattle.dv_work.proofs.setup.empty_crews.Goals as goal
 
 pub loop-worker-preserved : goal.loop-worker-preserved
@@ -18,4 +19,5 @@ loop-worker-preserved g c =
     let none : All S c.new.result.items = subst (λ l. All S l) (sym c.new.ensures.items) (λ k d lt. absurd (omega arith)) in (
       (let e = ap length is in let l = length-append xs (c.new.result ∷ []) in let h = c.loop-worker.invariant.0 in omega arith),
       All-same C c.push.new.self.items _ is (All-push C xs c.new.result c.loop-worker.invariant.1 (record { sits = none })),
+      nobody_more c.args.workers xs c.push.new.self.items c.new.result is c.new.ensures.items c.loop-worker.invariant.2,
     )

@@ -1,14 +1,10 @@
-use Rattle.std.proofs.Common.{◌≡◌, ◌∙◌, ℕ, ◌≤◌, List, ◌++◌, length, Option, Result, refl, sym, ap, subst, arith}
+use Rattle.std.proofs.Common.{◌≡◌, ◌∙◌, ℕ, ◌≤◌, List, ◌++◌, length, Option, refl, sym, ap, subst}
 use Rattle.dv_time.specs.Time.{rank}
 use Rattle.dv_time.specs.declared.time.Time.{Time}
-use Rattle.dv_bag.specs.Bag.{Counts}
-use Rattle.dv_bag.specs.declared.fault.Fault.{Fault}
-use Rattle.dv_proc.specs.Accesses.{IsCounted}
 use Rattle.dv_react.specs.Components.{components_of}
 use Rattle.dv_react.specs.declared.running.Running.{Running}
 use Rattle.dv_agenda.specs.Waits.{due_at}
 use Rattle.dv_share.specs.Share.{AreComponents, AreDue, AreEmitted, StandByPlace}
-use Rattle.dv_share.specs.declared.place.Placed.{Placed}
 use Rattle.dv_local.specs.States.{imminent_of}
 use Rattle.dv_local.specs.Undoing.{AreWithin, undone, waits_of}
 use Rattle.dv_local.proofs.Accesses.{due_few, found_counted}
@@ -94,7 +90,7 @@ pub returns-clause-kept : goal.returns-clause-kept
 returns-clause-kept g c =
     let k = c.requires.kept in
     let t = c.args.self.now.share.tables in
-    let before = c.args.self.now.undo.before.items in
+    let before = c.args.self.now.undo.before in
     let same = sym c.emit_all.ensures.components in
     record {
       share = k.share;

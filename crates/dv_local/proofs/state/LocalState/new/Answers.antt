@@ -21,9 +21,9 @@ returns-clause-kept g c =
       components = subst (λ (ss : List Running). AreComponents g.A.Atomic.fits t ss) same c.requires.components;
       agenda = c.in_ok-agenda.ensures ∙ ap (λ (ss : List Running). waits_of ss) (c.deref.ensures.value ∙ same);
       arrive = none_arrive t.limit t.members.items c.new.result c.new.ensures.empty;
-      within = subst (λ (xs : List (Placed Running)). AreWithin (length rs) xs) (sym c.new-2.ensures.items)
+      within = subst (λ (xs : List (Placed Running)). AreWithin (length rs) xs) (sym c.new-2.ensures)
           (all_none (λ (p : Placed Running). p.place < length rs));
-      before = subst (λ (xs : List (Placed Running)). AreComponents g.A.Atomic.fits t (undone xs rs)) (sym c.new-2.ensures.items)
+      before = subst (λ (xs : List (Placed Running)). AreComponents g.A.Atomic.fits t (undone xs rs)) (sym c.new-2.ensures)
           (subst (λ (ss : List Running). AreComponents g.A.Atomic.fits t ss) same c.requires.components);
       emitted = subst (λ (xs : List (Placed _)). StandByPlace (length t.members.items) xs) (sym c.new-3.ensures.items)
           (record { rise = tt; within = all_none _ });

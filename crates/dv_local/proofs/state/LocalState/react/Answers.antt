@@ -14,7 +14,6 @@ use Rattle.dv_conservative.specs.Process.{Share}
 use Rattle.dv_devs.specs.Behaviour.{Component, is_imminent}
 use Rattle.dv_devs.specs.Cuts.{IsAllBefore}
 use Rattle.dv_devs.specs.Network.{outer_from, part_of_instant}
-use Rattle.dv_react.specs.declared.running.Running.{Running}
 use Rattle.dv_react.specs.Components.{components_of}
 use Rattle.dv_share.specs.Links.{deliveries_of}
 use Rattle.dv_share.specs.Places.{places_of}

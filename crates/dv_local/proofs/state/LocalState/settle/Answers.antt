@@ -14,7 +14,7 @@ returns-clause-kept g c =
     let t = x.share.tables in
     let rs = x.components.running in
     let same = sym c.settle-2.ensures.components in
-    let before = c.clear.new.self.items in
+    let before = c.clear.new.self in
     record {
       share = c.requires.share;
       all_come = c.requires.all_come;
@@ -23,11 +23,11 @@ returns-clause-kept g c =
       arrive = still_arrive t.limit t.members.items x.undo.taken x.inbox c.let_go.new.inbox c.let_go.ensures c.requires.arrive;
       within =
           subst (λ (ss : List Running). AreWithin (length ss) before) same
-          (subst (λ (xs : List (Placed Running)). AreWithin (length rs) xs) (sym c.clear.ensures.items)
+          (subst (λ (xs : List (Placed Running)). AreWithin (length rs) xs) (sym c.clear.ensures)
           (all_none (λ (p : Placed Running). p.place < length rs)));
       before =
           subst (λ (ss : List Running). AreComponents g.A.Atomic.fits t (undone before ss)) same
-          (subst (λ (xs : List (Placed Running)). AreComponents g.A.Atomic.fits t (undone xs rs)) (sym c.clear.ensures.items)
+          (subst (λ (xs : List (Placed Running)). AreComponents g.A.Atomic.fits t (undone xs rs)) (sym c.clear.ensures)
           c.requires.components);
       emitted = c.requires.emitted;
       still = still_visited g.A.Atomic.behaviour x c.settle-2.new.self c.settle-2.ensures.components x.emitted_at c.requires.still;

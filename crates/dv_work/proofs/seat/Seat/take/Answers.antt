@@ -4,6 +4,13 @@ use Rattle.dv_proc.specs.Packets.{meant_packet}
 use Rattle.dv_work.proofs.Sitting.{reports_same, took_none, took_sits}
 use Rattle.dv_work.proofs.seat.Seat.take.Goals as goal
 
+pub take_from-requires-clause-channel : goal.take_from-requires-clause-channel
+take_from-requires-clause-channel g c =
+    let s = c.args.self.now in
+    let xs = s.ins.items in
+    let read = slice_get_read xs (length xs) c.args.place c.index_mut-end.result.now refl c.requires.place c.index_mut-end.ensures.value in
+    c.requires.sits.ins.channels c.args.place c.index_mut-end.result.now read
+
 pub returns-in_default-clause-ok : goal.returns-in_default-clause-ok
 returns-in_default-clause-ok g c =
     let s = c.args.self.now in

@@ -1,12 +1,12 @@
 use Rattle.std.proofs.Common.{ap}
 use Rattle.dv_code.specs.Valid.{IsSafe}
 use Rattle.dv_compiled.specs.Behaviours.{change_of as change_of_effect}
-use Rattle.dv_coded.proofs.bench.unchanged.Goals as goal
+use Rattle.dv_coded.proofs.bench.do_nothing.Goals as goal
 
-pub returns-clause-given : goal.returns-clause-given
-returns-clause-given c =
+pub returns : goal.returns
+returns c =
     let p = c.args.program.now in
     let safe : IsSafe p = (c.code-code.ensures.program.valid, c.code-code.ensures.program.small) in
     ap change_of_effect
-    (c.short_programs_do_what_they_say.ensures.nothing p safe c.args.arrivals.now c.are_few.ensures c.args.state c.requires.fits
+    (c.short_programs_do_what_they_say.ensures.nothing p safe c.args.arrivals.now c.are_few.ensures c.args.state.now c.requires.fits
     c.requires.short)

@@ -1,0 +1,58 @@
+-- How a run ends, by why its workers ended.
+use Rattle.std.specs.Prelude.{◌≡◌, ◌↔◌, ℕ, Bool, true, false, IsTrue, List, [], ◌∷◌, slice_get, Option, Some, None}
+use Rattle.std.specs.List.{list_any}
+use Rattle.dv_board.specs.declared.posts.Piece.{Piece}
+use Rattle.dv_conservative.specs.World.{Job}
+use Rattle.dv_core.specs.Worlds.{end_time}
+use Rattle.dv_work.specs.declared.report.Ended.{Ended}
+use Rattle.dv_work.specs.declared.report.Ended.TheVariants as ended
+use Rattle.dv_work.specs.declared.worker.Halt.{Halt}
+use Rattle.dv_work.specs.declared.worker.Halt.TheVariants as halt
+
+module _ {C : Type 0} where
+  -- whether a worker ended for want of memory
+  abbrev pub lacks_memory : Option (Halt C) → Bool
+  lacks_memory None = false
+  lacks_memory (Some halt.Flag) = false
+  lacks_memory (Some halt.Stop) = false
+  lacks_memory (Some halt.Memory) = true
+  lacks_memory (Some (halt.Cause c)) = false
+
+  -- the cause for which the gate stopped a worker
+  abbrev pub cause_of : Option (Halt C) → Option C
+  cause_of None = None
+  cause_of (Some halt.Flag) = None
+  cause_of (Some halt.Stop) = None
+  cause_of (Some halt.Memory) = None
+  cause_of (Some (halt.Cause c)) = Some c
+
+  -- the first one that is there
+  abbrev pub first_of : Option C → Option C → Option C
+  first_of None other = other
+  first_of (Some c) other = Some c
+
+  -- the cause of the first worker that has one
+  abbrev pub first_cause : List (Option (Halt C)) → Option C
+  first_cause [] = None
+  first_cause (h ∷ hs) = first_of (cause_of h) (first_cause hs)
+
+  -- Whole where every clock is at the end; else for want of memory where a worker lacked it; else stopped by the gate where there is a
+  -- cause of it; else cancelled where the caller's flag was raised. What else keeps a clock from the end counts as want of memory, as
+  -- a worker without a thread does.
+  abbrev pub ended_by : (is_whole memory : Bool) → Option C → (is_stopped : Bool) → Ended C
+  ended_by true memory cause is_stopped = ended.Whole
+  ended_by false true cause is_stopped = ended.Memory
+  ended_by false false (Some c) is_stopped = ended.Stopped c
+  ended_by false false None true = ended.Cancelled
+  ended_by false false None false = ended.Memory
+
+  -- how a run ended whose workers ended so, in the order in which they are listed
+  abbrev pub ended_of : (is_whole : Bool) → List (Option (Halt C)) → (is_stopped : Bool) → Ended C
+  ended_of is_whole halts is_stopped = ended_by is_whole (list_any lacks_memory halts) (first_cause halts) is_stopped
+
+-- The run of a job ended so: it is whole exactly where every clock is at the end.
+pub record EndsFor {C : Type 0} (job : Job) (halts : List (Option (Halt C))) (is_stopped : Bool) (rest : List Piece) (ended : Ended C)
+    : Type 0 where
+  pub is_whole : Bool
+  pub whole : IsTrue is_whole ↔ ((p : ℕ) (x : Piece) → slice_get rest p ≡ Some x → x.clock ≡ end_time job)
+  pub is : ended ≡ ended_of is_whole halts is_stopped

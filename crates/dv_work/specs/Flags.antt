@@ -1,0 +1,8 @@
+-- Flags, and what shows that one was raised.
+use Rattle.std.specs.Prelude.{◌≡◌}
+use Rattle.dv_work.specs.declared.bell.Flag.{Flag}
+use Rattle.dv_work.specs.declared.bell.Raised.{Raised}
+
+-- it shows that this flag was raised
+abbrev pub IsOfFlag : Flag → Raised → Type 0
+IsOfFlag flag raised = raised.token.of ≡ flag.raised.id
