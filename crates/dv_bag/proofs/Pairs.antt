@@ -141,6 +141,27 @@ module _ (b : Counts) (bag : IsBag b) (v : ℤ) where
       (λ j le lt. int_ranked _ v _ (sym (apart.1 j (pos 0, 0) le lt))) in
       record { found = tt; absent = (gap.0, within, gap.1) }
 
+-- a value above the last one goes in behind it, and one that is the same stands there
+pub above_last : (v : ℤ) (b : Counts) → IsBag b → 1 ≤ length b → int_cmp (value_at b (length b - 1)) v ≡ Less → IsAbsent v b (length b)
+above_last v b bag some order =
+    let last = length b - 1 in
+    let less : value_at b last <ℤ v = int_ranked (value_at b last) v Less (sym order) in
+    let gap =
+    place_absent v b (length b) (omega arith)
+    (λ j lt.
+    elim (at_most b bag j last (omega (arith, lt, some)) (omega (arith, some))) [
+      | inl before ↦ omega (arith, ints, before, less)
+      | inr same ↦ subst (λ (w : ℤ). w <ℤ v) (sym same) less
+    ])
+    (λ j le lt. absurd (omega (arith, le, lt))) in
+    (gap.0, omega arith, gap.1)
+
+pub at_last : (v : ℤ) (b : Counts) → IsBag b → 1 ≤ length b → int_cmp (value_at b (length b - 1)) v ≡ Equal → IsPresent v b (length b - 1)
+at_last v b bag some order =
+    let same : value_at b (length b - 1) ≡ v = int_ranked (value_at b (length b - 1)) v Equal (sym order) in
+    let here = place_present v b bag (length b - 1) (omega (arith, some)) same in
+    (here.0, omega (arith, some), here.1)
+
 -- the pair at the place of a value that is there
 pub copies_at_place : (v : ℤ) (b : Counts) → 0 < count_of v b → copies_at b (place_of v b) ≡ count_of v b
 copies_at_place v [] h = absurd (omega arith)

@@ -1,13 +1,14 @@
 -- Bags by port, as a list of those with values: where the bag of a port stands, and what an edit does to the bag of each port.
-use Rattle.std.proofs.Common.{◌≡◌, inl, inr, ℕ, zero, suc, ◌+◌, ◌<◌, ◌≤◌, Bool, false, cond, nat_eq}
+use Rattle.std.proofs.Common.{◌≡◌, inl, inr, ℕ, zero, suc, ◌+◌, ◌-◌, ◌<◌, ◌≤◌, Bool, false, cond, nat_eq}
 use Rattle.std.proofs.Common.{List, [], ◌∷◌, Result, Ok, Err, IfOk, IfErr, OnErr, OnOk, ℤ, length, get_or, set, replicate}
 use Rattle.std.proofs.Common.{refl, sym, ap, ◌∙◌, subst, arith}
 use Rattle.std.specs.List.{insert, refill}
 use Rattle.std.specs.List.Sorted.{IsBinarySearchResult, IsSearchInRange}
 use Rattle.std.specs.Ordering.{nat_cmp, ordering_index}
+use Rattle.std.specs.declared.cmp.Ordering.TheVariants.{Less}
 use Rattle.std.proofs.lemmas.Bool.{cases_lt, eq-eqb, eqb-false, ne_eqb}
 use Rattle.std.proofs.lemmas.Cmp.{ranked}
-use Rattle.std.proofs.lemmas.List.{get_or_past}
+use Rattle.std.proofs.lemmas.List.{get_or_default, get_or_past}
 use Rattle.std.proofs.lemmas.List.Sorted.{IsNonDecreasingBy-from_default}
 use Rattle.dv_bag.specs.Bag.{Counts, bag_at, capped, size, size_of_all, total, total_of_all, union, with_copies}
 use Rattle.dv_bag.specs.Bags.{AreWithin, GoesInAt, RiseFrom, StandsAt, bag_in, by_port, from_port}
@@ -132,6 +133,26 @@ searched p hs (Err at) rise within parted =
         λ k d le lt. ranked (get_or hs k d).port p _ (sym (apart.1 k d le lt)),
       );
     }
+
+-- a port above the last one goes in behind it
+pub behind_last : (p : ℕ) (hs : List PortBag) (d : PortBag) → RiseFrom 0 hs → 1 ≤ length hs →
+    nat_cmp (get_or hs (length hs - 1) d).port p ≡ Less → GoesInAt p (length hs) hs
+behind_last p hs d rise some order =
+    let less : (get_or hs (length hs - 1) d).port < p = ranked (get_or hs (length hs - 1) d).port p Less (sym order) in (
+      omega arith,
+      λ k e le lt.
+          let same = ap (λ (h : PortBag). h.port) (get_or_default hs k e d lt) in
+          elim (cases_lt k (length hs - 1)) [
+            | inl early ↦
+                let before = ports_rise 0 k (length hs - 1) hs d rise early (omega (arith, some)) in
+                omega (arith, before, less, same)
+            | inr late ↦
+                let last : length hs - 1 ≡ k = omega (arith, lt, late, some) in
+                let here = ap (λ (i : ℕ). (get_or hs i d).port) last in
+                omega (arith, less, here, same)
+          ],
+      λ k e le lt. absurd (omega (arith, le, lt)),
+    )
 
 -- the bag that stands at a place, or that of a port for which none stands
 pub standing_bag : (low p i : ℕ) (hs : List PortBag) (d : PortBag) → RiseFrom low hs → StandsAt p i hs →

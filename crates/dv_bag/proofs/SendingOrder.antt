@@ -1,5 +1,5 @@
 -- What is sent, in order: where a value at a port stands, and that what goes to a port lies as its bag.
-use Rattle.std.proofs.Common.{◌≡◌, inl, inr, ℕ, zero, suc, ◌+◌, ◌^◌, ◌<◌, ◌≤◌, Bool, true, false, ◌&&◌, cond, nat_eq, List, [], ◌∷◌}
+use Rattle.std.proofs.Common.{◌≡◌, inl, inr, ℕ, zero, suc, ◌+◌, ◌-◌, ◌^◌, ◌<◌, ◌≤◌, Bool, true, false, ◌&&◌, cond, nat_eq, List, [], ◌∷◌}
 use Rattle.std.proofs.Common.{length, get_or, set, ℤ, ◌<ℤ◌, Result, Ok, Err, IfOk, IfErr, refl, sym, ap, ◌∙◌, subst, arith}
 use Rattle.std.specs.Cmp.Lexicographic.{pointwise}
 use Rattle.std.specs.Bool.{Decides}
@@ -12,6 +12,7 @@ use Rattle.std.proofs.lemmas.Bool.{cases_Bool, cases_lt, eq-eqb, eqb-false, eqb-
 use Rattle.std.proofs.lemmas.Bool.Decides.{Decides-and, Decides-eqb, Decides-int_eq, Decides-like, same_from_decides}
 use Rattle.std.proofs.lemmas.Cmp.{int_ranked, ranked}
 use Rattle.std.proofs.lemmas.Int.{ints}
+use Rattle.std.proofs.lemmas.List.{get_or_default}
 use Rattle.std.proofs.lemmas.List.Sorted.{IsNonDecreasingBy-from_default}
 use Rattle.std.proofs.lemmas.Slice.Eq.{slice_eq-Decides}
 use Rattle.dv_bag.specs.Bag.{Counts, IsAbove, IsBag, bag_at, capped, union, with_copies}
@@ -135,6 +136,27 @@ searched_sendings p v ss (Err at) h within parted =
         λ k d le lt. let s = get_or ss k d in sending_ranked s.port p s.value v _ (sym (apart.1 k d le lt)),
       );
     }
+
+-- what comes after the last sending goes in behind it
+pub behind_last : (p : ℕ) (v : ℤ) (ss : List Sending) (d : Sending) → AreInOrder ss → 1 ≤ length ss →
+    sending_cmp (get_or ss (length ss - 1) d).port (get_or ss (length ss - 1) d).value p v ≡ Less → IsPlaceOf p v (length ss) ss
+behind_last p v ss d h some less =
+    let last = get_or ss (length ss - 1) d in
+    let before = sending_ranked last.port p last.value v Less (sym less) in (
+      omega arith,
+      λ k e le lt.
+          subst (λ (s : Sending). ComesBefore s.port s.value p v) (get_or_default ss k d e lt)
+          (elim (cases_lt k (length ss - 1)) [
+            | inl early ↦
+                let s = get_or ss k d in
+                before_later s.port last.port p s.value last.value v
+                (comes_before ss k (length ss - 1) d h early (omega (arith, some))) before
+            | inr late ↦
+                subst (λ (i : ℕ). ComesBefore (get_or ss i d).port (get_or ss i d).value p v)
+                (let here : length ss - 1 ≡ k = omega (arith, lt, late, some) in here) before
+          ]),
+      λ k e le lt. absurd (omega (arith, le, lt)),
+    )
 
 -- a place behind the first is a place in the rest
 place_behind : (p : ℕ) (v : ℤ) (i : ℕ) (s : Sending) (ss : List Sending) → IsPlaceOf p v (suc i) (s ∷ ss) →

@@ -205,6 +205,19 @@ none_or_some ports (s ∷ ss) h =
     ne_eqb (length (s ∷ ss)) 0 (λ e. absurd (omega arith))
     ∙ sym (ne_eqb (size_of_all (by_port ports (s ∷ ss))) 0 (λ e. absurd (omega (arith, h.1))))
 
+-- one value at one of so many ports
+pub one_by_port : (ports port : ℕ) (v : ℤ) → port < ports →
+    by_port ports (sending port v 1 ∷ []) ≡ set (replicate ports []) port (with_copies v 1 [])
+one_by_port ports port v lt =
+    edited [] (sending port v 1 ∷ []) ports port v 1 tt lt (front_same (sending port v 1) [])
+    (λ p apart. front_other p (sending port v 1) [] apart)
+    ∙ ap (λ (b : Counts). set (by_port ports []) port (with_copies v 1 b)) (bag_of_port ports port [] tt)
+    ∙ ap (λ (bags : List Counts). set bags port (with_copies v 1 [])) (nothing_by_port 0 ports)
+
+pub one_in_all : (ports port : ℕ) (v : ℤ) → port < ports → 1 ≡ size_of_all (by_port ports (sending port v 1 ∷ []))
+one_in_all ports port v lt =
+    let all = total_by_port ports (sending port v 1 ∷ []) (lt, omega arith, omega arith, tt) in omega (arith, all)
+
 -- what goes to a port stands between two places
 at_part : (items : List Sending) (a b i : ℕ) (d : Sending) → a ≤ b → b ≤ length items → i < length (slice_range items a b) →
     (a + i < b) × (get_or (slice_range items a b) i d ≡ get_or items (a + i) d)

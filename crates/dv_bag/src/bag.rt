@@ -12,8 +12,10 @@ ghost use Rattle.dv_bag.specs.Limits.{greatest_count};
 
 use crate::fault::Fault;
 use crate::merge::merged;
+use crate::put::put;
 use smallvec::SmallVec;
 use std::alloc::{AllocError, Global};
+use std::cmp::Ordering;
 use std::default::MadeWith;
 use std::marker::Model;
 
@@ -40,6 +42,17 @@ impl Bag {
     {
         Bag {
             pairs: SmallVec::new(alloc),
+        }
+    }
+
+    /// So many copies of a value. It takes no memory.
+    #[inline]
+    pub fn of_copies(alloc: Global, value: i64, copies: u64) -> Self
+        requires { 0 < copies }
+        ensures { result ≡ with_copies value copies [] }
+    {
+        Bag {
+            pairs: SmallVec::from_buf(alloc, [(value, copies)]),
         }
     }
 
@@ -83,6 +96,22 @@ impl Bag {
     {
         let alloc = *self.pairs.allocator();
         self.pairs = merged(alloc, self.pairs.as_slice(), other.pairs.as_slice())?;
+        Ok(())
+    }
+
+    /// Makes it a copy of another bag. The memory that it has serves again.
+    ///
+    /// # Errors
+    ///
+    /// No memory for more values than it had room for. The bag is as before.
+    pub fn copy_from(&mut self, other: &Bag) -> Result<(), AllocError>
+        ensures ok { OnOk result (self.new ≡ other.now) }
+        ensures err { OnErr result (self.new ≡ self.old) }
+    {
+        let more = other.pairs.len().saturating_sub(self.pairs.len());
+        self.pairs.reserve(more)?;
+        self.pairs.clear();
+        self.pairs.extend_from_slice(other.pairs.as_slice())?;
         Ok(())
     }
 
@@ -195,8 +224,27 @@ pub fn copies_of(number: i64, bag: Option<&Bag>) -> i64
     }
 }
 
-// Where a value stands among the pairs, or where it would stand.
+// Where a value stands among the pairs, or where it would stand. Mostly it is the last one or above it.
+#[inline]
 fn search(pairs: &[(i64, u64)], value: i64) -> Result<usize, usize>
+    requires { IsBag pairs.now }
+    ensures found { IfOk result (λ place. (place ≡ place_of value pairs.now)
+        × (place < length pairs.now) × (0 < count_of value pairs.now)) }
+    ensures absent { IfErr result (λ place. (place ≡ place_of value pairs.now)
+        × (place ≤ length pairs.now) × (count_of value pairs.now ≡ 0)) }
+{
+    let [.., last] = pairs else {
+        return Err(0);
+    };
+    match last.0.cmp(&value) {
+        Ordering::Less => Err(pairs.len()),
+        Ordering::Equal => Ok(pairs.len() - 1),
+        Ordering::Greater => search_all(pairs, value),
+    }
+}
+
+// Where a value stands among the pairs, or where it would stand, by a binary search.
+fn search_all(pairs: &[(i64, u64)], value: i64) -> Result<usize, usize>
     requires { IsBag pairs.now }
     ensures found { IfOk result (λ place. (place ≡ place_of value pairs.now)
         × (place < length pairs.now) × (0 < count_of value pairs.now)) }
@@ -225,7 +273,10 @@ fn add_copies(
             pairs[place] = (value, present.saturating_add(copies));
             Ok(())
         }
-        Err(place) => Ok(pairs.insert(place, (value, copies))?),
+        Err(place) => {
+            put(pairs, place, (value, copies))?;
+            Ok(())
+        }
     }
 }
 

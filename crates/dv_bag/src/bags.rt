@@ -11,8 +11,10 @@ ghost use Rattle.dv_bag.specs.Limits.{greatest_count};
 
 use crate::GREATEST_COUNT;
 use crate::bag::Bag;
+use crate::put::put;
 use smallvec::SmallVec;
 use std::alloc::{AllocError, Global};
+use std::cmp::Ordering;
 use std::default::MadeWith;
 use std::marker::Model;
 
@@ -146,9 +148,9 @@ impl Bags {
         match search(self.held.as_slice(), port) {
             Ok(place) => self.held[place].bag.insert_copies(value, copies),
             Err(place) => {
-                let mut bag = Bag::new(*self.held.allocator());
-                bag.insert_copies(value, copies)?;
-                Ok(self.held.insert(place, PortBag { port, bag })?)
+                let bag = Bag::of_copies(*self.held.allocator(), value, copies);
+                put(&mut self.held, place, PortBag { port, bag })?;
+                Ok(())
             }
         }
     }
@@ -185,8 +187,25 @@ fn all_few(held: &[PortBag]) -> bool
     held.iter().all(|held| held.bag.size() <= GREATEST_COUNT)
 }
 
-// The place of the bag of a port, or the place at which it goes in.
+// The place of the bag of a port, or the place at which it goes in. Mostly that is the last one or behind it.
+#[inline]
 fn search(held: &[PortBag], port: usize) -> Result<usize, usize>
+    requires { RiseFrom 0 held.now }
+    ensures found { IfOk result (λ place. StandsAt port place held.now) }
+    ensures absent { IfErr result (λ place. GoesInAt port place held.now) }
+{
+    let [.., last] = held else {
+        return Err(0);
+    };
+    match last.port.cmp(&port) {
+        Ordering::Less => Err(held.len()),
+        Ordering::Equal => Ok(held.len() - 1),
+        Ordering::Greater => search_all(held, port),
+    }
+}
+
+// The place of the bag of a port, or the place at which it goes in, by a binary search.
+fn search_all(held: &[PortBag], port: usize) -> Result<usize, usize>
     requires { RiseFrom 0 held.now }
     ensures found { IfOk result (λ place. StandsAt port place held.now) }
     ensures absent { IfErr result (λ place. GoesInAt port place held.now) }

@@ -3,6 +3,7 @@
 ghost use Rattle.std.specs.Cmp.{decided, partial_equiv_from_equiv};
 ghost use Rattle.std.specs.Prelude.{◌≡◌, ◌<◌, ◌≤◌, true, IfOk, OnErr, OnOk};
 ghost use Rattle.dv_bag.specs.Collections.{count_in, discipline_of, edited, makes_more, without_first};
+ghost use Rattle.dv_bag.specs.declared.collection.Collection.TheVariants as collection;
 ghost use Rattle.dv_bag.specs.Limits.{greatest_count};
 ghost use Rattle.dv_bag.specs.Numbers.{HasNumbers};
 ghost use Rattle.dv_bag.specs.Same.{same_collection, same_collection-decides};
@@ -59,6 +60,49 @@ impl Collection {
             }
             (Collection::Queue(queue), Change::Push) => queue.push(value),
             _ => Ok(()),
+        }
+    }
+
+    /// Makes it a copy of another collection. The memory that it has serves again where both are of one discipline.
+    ///
+    /// # Errors
+    ///
+    /// No memory for the values of the other. The collection is as before.
+    pub fn copy_from(&mut self, other: &Collection) -> Result<(), AllocError>
+        ensures ok { OnOk result (self.new ≡ other.now) }
+        ensures err { OnErr result (self.new ≡ self.old) }
+    {
+        match other {
+            Collection::Bag(bag) => self.copy_bag(bag),
+            Collection::Queue(queue) => self.copy_queue(queue),
+        }
+    }
+
+    // Makes it a copy of a bag.
+    fn copy_bag(&mut self, other: &Bag) -> Result<(), AllocError>
+        ensures ok { OnOk result (self.new ≡ collection.Bag other.now) }
+        ensures err { OnErr result (self.new ≡ self.old) }
+    {
+        match self {
+            Collection::Bag(bag) => bag.copy_from(other),
+            Collection::Queue(_) => {
+                *self = Collection::Bag(other.clone()?);
+                Ok(())
+            }
+        }
+    }
+
+    // Makes it a copy of a queue.
+    fn copy_queue(&mut self, other: &Queue) -> Result<(), AllocError>
+        ensures ok { OnOk result (self.new ≡ collection.Queue other.now) }
+        ensures err { OnErr result (self.new ≡ self.old) }
+    {
+        match self {
+            Collection::Queue(queue) => queue.copy_from(other),
+            Collection::Bag(_) => {
+                *self = Collection::Queue(other.clone()?);
+                Ok(())
+            }
         }
     }
 
@@ -165,6 +209,18 @@ impl Held {
         ensures err { OnErr result (self.new ≡ self.old) }
     {
         self.collection.edit(change, value)
+    }
+
+    /// Makes it a copy of another one, in its own memory.
+    ///
+    /// # Errors
+    ///
+    /// No memory for the values of the other. The collection is as before.
+    pub(crate) fn copy_from(&mut self, other: &Held) -> Result<(), AllocError>
+        ensures ok { OnOk result (self.new ≡ other.now) }
+        ensures err { OnErr result (self.new ≡ self.old) }
+    {
+        self.collection.copy_from(other.collection.as_ref())
     }
 
     /// Without the first value of a queue, where there is one.

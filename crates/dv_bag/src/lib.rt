@@ -27,6 +27,8 @@ pub mod limits;
 mod merge;
 /// Parts of a trace.
 pub mod part;
+/// An element put into a list.
+mod put;
 /// Queues of values.
 pub mod queue;
 /// How soon a hold can end that begins where an external rule goes to a phase.

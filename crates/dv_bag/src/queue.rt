@@ -11,6 +11,7 @@ ghost use Rattle.dv_bag.specs.Same.{same_values, same_values-decides};
 use std::alloc::{AllocError, Global};
 use std::collections::VecDeque;
 use std::marker::Model;
+use std::mem;
 
 /// A list of whole numbers, to which values come last, and from which the first one goes.
 #[derive(Debug, Drop)]
@@ -60,6 +61,27 @@ impl Queue {
         ensures err { OnErr result (self.new ≡ self.old) }
     {
         Ok(self.values.push_back(value)?)
+    }
+
+    /// Makes it a copy of another queue. The memory that it has serves again.
+    ///
+    /// # Errors
+    ///
+    /// No memory for more values than it had room for. The queue is as before.
+    pub fn copy_from(&mut self, other: &Queue) -> Result<(), AllocError>
+        ensures ok { OnOk result (self.new ≡ other.now) }
+        ensures err { OnErr result (self.new ≡ self.old) }
+    {
+        let more = other.len().saturating_sub(self.len());
+        self.values.reserve(more)?;
+        self.values.clear();
+        let nothing = VecDeque::new(*self.values.allocator());
+        let mut values = mem::replace(&mut self.values, nothing).into_vec();
+        let (first, rest) = other.values.as_slices();
+        values.extend_from_slice(first)?;
+        values.extend_from_slice(rest)?;
+        self.values = VecDeque::from_vec(values);
+        Ok(())
     }
 
     /// Without the first value, where there is one.

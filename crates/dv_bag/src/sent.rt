@@ -8,6 +8,7 @@ ghost use Rattle.dv_bag.specs.Same.{same_bags, same_bags-decides};
 ghost use Rattle.dv_bag.specs.Sent.{AreInOrder, AreWithin, HasCopiesAt, IsPlaceOf, RiseFrom, by_port, pairs_at, sending_cmp};
 
 use crate::bag::Bag;
+use crate::put::put;
 use smallvec::SmallVec;
 use std::alloc::{AllocError, Global};
 use std::cmp::Ordering;
@@ -76,6 +77,24 @@ impl Sent {
         }
     }
 
+    /// One value at one of so many ports. It takes no memory.
+    #[inline]
+    pub fn of_one(alloc: Global, ports: usize, port: usize, value: i64) -> Self
+        requires { port < ports }
+        ensures { result ≡ slice_set (replicate ports []) port (with_copies value 1 []) }
+    {
+        let sending = Sending {
+            port,
+            value,
+            copies: 1,
+        };
+        Sent {
+            ports,
+            sendings: SmallVec::from_buf(alloc, [sending]),
+            total: 1,
+        }
+    }
+
     /// The number of ports.
     pub fn len(&self) -> usize
         ensures { result ≡ length self.now }
@@ -136,7 +155,7 @@ impl Sent {
                     value,
                     copies: 1,
                 };
-                self.sendings.insert(place, sending)?;
+                put(&mut self.sendings, place, sending)?;
                 self.total = self.total.saturating_add(1);
                 Ok(())
             }
@@ -175,8 +194,26 @@ fn places_of(sendings: &[Sending], port: usize) -> (usize, usize)
     (first, end)
 }
 
-// The place of copies of a value that go to a port, or the place at which they go in.
+// The place of copies of a value that go to a port, or the place at which they go in. Mostly that is the last one or
+// behind it.
+#[inline]
 fn search(sendings: &[Sending], port: usize, value: i64) -> Result<usize, usize>
+    requires { AreInOrder sendings.now }
+    ensures found { IfOk result (λ place. HasCopiesAt port value place sendings.now) }
+    ensures absent { IfErr result (λ place. IsPlaceOf port value place sendings.now) }
+{
+    let [.., last] = sendings else {
+        return Err(0);
+    };
+    match last.cmp_to(port, value) {
+        Ordering::Less => Err(sendings.len()),
+        Ordering::Equal => Ok(sendings.len() - 1),
+        Ordering::Greater => search_all(sendings, port, value),
+    }
+}
+
+// The place of copies of a value that go to a port, or the place at which they go in, by a binary search.
+fn search_all(sendings: &[Sending], port: usize, value: i64) -> Result<usize, usize>
     requires { AreInOrder sendings.now }
     ensures found { IfOk result (λ place. HasCopiesAt port value place sendings.now) }
     ensures absent { IfErr result (λ place. IsPlaceOf port value place sendings.now) }

@@ -35,6 +35,33 @@ pub enum DatumView<'a> {
 }
 
 impl Datum {
+    // Makes it a copy of another one. A collection stays in its own memory where the other is one too.
+    #[inline]
+    fn copy_from(&mut self, other: &Datum) -> Result<(), AllocError>
+        ensures { OnOk result (self.new ≡ other.now) }
+    {
+        match other {
+            Datum::Number(number) => *self = Datum::Number(*number),
+            Datum::Flag(flag) => *self = Datum::Flag(*flag),
+            Datum::Held(held) => self.copy_held(held)?,
+        }
+        Ok(())
+    }
+
+    // Makes it a copy of a collection, in its own memory where it is one too.
+    #[inline(never)]
+    fn copy_held(&mut self, other: &Held) -> Result<(), AllocError>
+        ensures { OnOk result (self.new ≡ datum.Held other.now) }
+    {
+        match self {
+            Datum::Held(held) => held.copy_from(other),
+            _ => {
+                *self = Datum::Held(other.clone()?);
+                Ok(())
+            }
+        }
+    }
+
     // Each number of the datum is one of the language. It does nothing.
     fn holds_numbers(&self)
         ensures { IsOfNumbers self.now }
@@ -196,6 +223,34 @@ impl Variables {
         }
     }
 
+    /// Makes them a copy of others. The memory that they have serves again, that of a collection where one stands in
+    /// the same place.
+    ///
+    /// # Errors
+    ///
+    /// No memory for more than they had room for. Nothing is known of the variables then.
+    #[inline]
+    pub fn copy_from(&mut self, other: &Variables) -> Result<(), AllocError>
+        ensures { OnOk result (self.new ≡ other.now) }
+    {
+        if self.data.len() == other.data.len() {
+            copy_all(self.data.as_mut_slice(), other.data.as_slice())
+        } else {
+            self.copy_resized(other)
+        }
+    }
+
+    // The same of others that are more or fewer.
+    #[inline(never)]
+    fn copy_resized(&mut self, other: &Variables) -> Result<(), AllocError>
+        ensures { OnOk result (self.new ≡ other.now) }
+    {
+        self.data.truncate(other.data.len());
+        let (first, rest) = other.data.as_slice().split_at(self.data.len());
+        copy_all(self.data.as_mut_slice(), first)?;
+        push_all(&mut self.data, rest)
+    }
+
     /// Each number of the variables, bags and queues is one of the language. It does nothing.
     pub fn holds_numbers(&self)
         ensures { HoldsNumbers self.now }
@@ -204,6 +259,28 @@ impl Variables {
             datum.holds_numbers();
         }
     }
+}
+
+// Makes each datum a copy of the other one in its place.
+#[inline]
+fn copy_all(to: &mut [Datum], from: &[Datum]) -> Result<(), AllocError>
+    requires { length to.old ≡ length from.now }
+    ensures { OnOk result (to.new ≡ from.now) }
+{
+    for place in 0..from.len() {
+        to[place].copy_from(&from[place])?;
+    }
+    Ok(())
+}
+
+// Puts copies of so many data behind the others.
+fn push_all(to: &mut SmallVec<Datum, 2>, more: &[Datum]) -> Result<(), AllocError>
+    ensures { OnOk result (to.new.items ≡ to.old.items ++ more.now) }
+{
+    for datum in more {
+        to.push(datum.clone()?)?;
+    }
+    Ok(())
 }
 
 impl Clone for Variables {

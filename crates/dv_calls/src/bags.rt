@@ -33,6 +33,9 @@ fn bags_unite_and_are_copied(rt: HostRuntime) {
     let copy = bag.clone().expect(&rt, "memory");
     same!(rt; copy == bag, true);
     same!(rt; copy == bag_of(&rt, &[1, 3]), false);
+    let mut other = bag_of(&rt, &[1, 3]);
+    other.copy_from(&bag).expect(&rt, "memory");
+    same!(rt; other == bag, true);
     bag.union(&bag_of(&rt, &[3, 2, 0])).expect(&rt, "memory");
     same!(rt; bag.pairs(), [(0, 1), (1, 1), (2, 2), (3, 1)].as_slice());
 }
@@ -105,6 +108,12 @@ fn what_is_sent_has_a_bag_a_port(rt: HostRuntime) {
     same_at_port(&rt, &sent, 3, &[]);
 }
 
+#[test]
+fn one_value_is_sent_as_it_is(rt: HostRuntime) {
+    same!(rt; Sent::of_one(rt.alloc(), 3, 2, 5) == sent_of(&rt, 3, &[(2, 5)]), true);
+    same!(rt; Sent::of_one(rt.alloc(), 3, 2, 5) == sent_of(&rt, 3, &[(1, 5)]), false);
+}
+
 // A state of a flag, a number and an empty bag.
 fn state_of<R: Abort + AllocGlobal>(rt: &R, number: i64) -> State {
     let bag = Collection::Bag(Bag::new(rt.alloc()));
@@ -134,6 +143,23 @@ fn variables_stand_in_order(rt: HostRuntime) {
     same!(rt; matches!(state.variables.get(2), Some(DatumView::Held(Collection::Bag(_)))), true);
     same!(rt; state.variables.get(3), None);
     same!(rt; state.variables.len(), 3);
+}
+
+#[test]
+fn variables_become_copies(rt: HostRuntime) {
+    let from = state_of(&rt, 7);
+    let mut to = state_of(&rt, 8);
+    to.variables
+        .copy_from(&from.variables)
+        .expect(&rt, "memory");
+    same!(rt; to == from, true);
+    let mut fewer = Variables::new(rt.alloc());
+    fewer.copy_from(&from.variables).expect(&rt, "memory");
+    same!(rt; fewer == from.variables, true);
+    to.variables
+        .copy_from(&Variables::new(rt.alloc()))
+        .expect(&rt, "memory");
+    same!(rt; to.variables.is_empty(), true);
 }
 
 // A part of transitions of three components, and of one value that leaves by port 4.

@@ -41,6 +41,20 @@ fn a_copy_of_a_queue_stays_as_it_was(rt: HostRuntime) {
 }
 
 #[test]
+fn a_queue_becomes_a_copy(rt: HostRuntime) {
+    let mut queue = queue_of(&rt, &[7, 5, 3, 9]);
+    queue.pop();
+    queue.push(1).expect(&rt, "memory");
+    let mut other = queue_of(&rt, &[2]);
+    other.copy_from(&queue).expect(&rt, "memory");
+    same!(rt; other == queue_of(&rt, &[5, 3, 9, 1]), true);
+    let bag = Collection::Bag(Bag::new(rt.alloc()));
+    let mut held = Collection::Queue(other);
+    held.copy_from(&bag).expect(&rt, "memory");
+    same!(rt; held == bag, true);
+}
+
+#[test]
 fn collections_of_two_disciplines_differ(rt: HostRuntime) {
     let queue = Collection::Queue(queue_of(&rt, &[]));
     same!(rt; queue == Collection::Queue(queue_of(&rt, &[])), true);

@@ -1,9 +1,9 @@
 -- What words ask for.
-use Rattle.std.specs.Prelude.{◌≡◌, ◌⊎◌, ℕ, ◌^◌, ◌-◌, Bool, true, false, ◌||◌, ◌&&◌, MatchBool, IsSomeAnd, ⊤, List, [], ◌∷◌, ◌++◌, map}
+use Rattle.std.specs.Prelude.{◌≡◌, ℕ, ◌^◌, ◌-◌, Bool, false, ◌||◌, ◌&&◌, MatchBool, IsSomeAnd, ⊤, List, [], ◌∷◌, ◌++◌}
 use Rattle.std.specs.Prelude.{Option, Some, None, option_map, is_some, string_bytes, bytes_eq, codes}
-use Rattle.std.specs.Char.{to_ascii_uppercase}
 use Rattle.std.specs.declared.string.String.{String}
 use Rattle.dv_time.specs.Limits.{greatest_tick, greatest_limit}
+use Rattle.dv_explain.specs.Codes.{explained_in_any_case}
 use Rattle.dv_command.specs.declared.subcommand.Subcommand.{Subcommand}
 use Rattle.dv_command.specs.declared.subcommand.Subcommand.TheVariants as subcommand
 use Rattle.dv_command.specs.declared.request.Request.{Request}
@@ -133,9 +133,9 @@ pub record AsksStats (said : List Said) (stats : StatsRequest) : Type 0 where
   pub files : AsksTrace said stats.files
   pub csv : flag_in (codes "--csv") said ≡ Some stats.csv
 
--- `CODE`, as it is printed, or in small letters
+-- `CODE`, as it is printed, or in small letters: of a refusal or a fault that is explained
 abbrev pub AsksCode : List Said → List ℕ → Type 0
-AsksCode said code = (values said ≡ code ∷ []) ⊎ ((text : List ℕ) × (values said ≡ text ∷ []) × (code ≡ map to_ascii_uppercase text))
+AsksCode said code = (text : List ℕ) × (values said ≡ text ∷ []) × (explained_in_any_case text ≡ Some code)
 
 -- what is said behind a subcommand asks for this
 abbrev pub AsksBehind : Subcommand → List Said → Request → Type 0
@@ -169,14 +169,9 @@ Asks [] request = ⊥
 Asks (program ∷ []) request = ⊥
 Asks (program ∷ word ∷ words) request = MatchBool (is_version word) (IsVersion request) (AsksWith (subcommand_named word) words request)
 
--- whether a request is an explanation
-abbrev pub is_explanation : Request → Bool
-is_explanation (Explain explanation) = true
-is_explanation _ = false
-
--- what is asked for; or nothing where nothing is, but that no explanation has the code that is asked for is not said
+-- what is asked for; or nothing where nothing is
 abbrev pub IsAnswer : (Request → Type 0) → Option Request → Type 0
-IsAnswer Wanted None = (request : Request) → is_explanation request ≡ false → ¬ (Wanted request)
+IsAnswer Wanted None = (request : Request) → ¬ (Wanted request)
 IsAnswer Wanted (Some request) = Wanted request
 
 -- where the words are no command, they ask for nothing

@@ -225,7 +225,7 @@ fn explanation_in(
     alloc: Global,
     parts: &[Part<'_>],
 ) -> Result<Option<&'static Explanation>, AllocError>
-    ensures { IfOk result (λ r. IfSome r (λ explanation. AsksCode (map said_in parts.now)
+    ensures { IfOk result (IsFitting (λ explanation. AsksCode (map said_in parts.now)
         explanation.now.code.now)) }
 {
     let texts = values(alloc, parts)?;

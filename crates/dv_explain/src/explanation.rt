@@ -1,7 +1,7 @@
 //! Explanations, found by their codes.
 
-ghost use Rattle.std.specs.Char.{to_ascii_uppercase};
-ghost use Rattle.std.specs.Prelude.{◌≡◌, ◌⊎◌, IfOk, IfSome, map};
+ghost use Rattle.std.specs.Prelude.{◌≡◌, IfOk, option_map};
+ghost use Rattle.dv_explain.specs.Codes.{code_found, explained_code, explained_in_any_case, explanation_in};
 
 use crate::words::{faults, input_refusals, partition_refusals, refusals};
 use std::alloc::{AllocError, Global};
@@ -34,12 +34,12 @@ pub struct Example {
 
 /// The explanation of a code: of a refusal's number or a fault's name, as they are printed.
 pub fn explanation_of(code: &str) -> Option<&'static Explanation>
-    ensures { IfSome result (λ explanation. explanation.now.code.now ≡ code.now) }
+    ensures { code_found result ≡ explained_code code.now }
 {
     find(refusals(), code)
-        .or_else(|| find(input_refusals(), code))
-        .or_else(|| find(partition_refusals(), code))
-        .or_else(|| find(faults(), code))
+        .or(find(input_refusals(), code))
+        .or(find(partition_refusals(), code))
+        .or(find(faults(), code))
 }
 
 /// The explanation of a code that may be written in small letters, as `e7`.
@@ -51,9 +51,7 @@ pub fn explanation_in_any_case(
     alloc: Global,
     code: &str,
 ) -> Result<Option<&'static Explanation>, AllocError>
-    ensures { IfOk result (λ found. IfSome found (λ explanation.
-        (explanation.now.code.now ≡ code.now)
-        ⊎ (explanation.now.code.now ≡ map to_ascii_uppercase code.now))) }
+    ensures { IfOk result (λ found. code_found found ≡ explained_in_any_case code.now) }
 {
     let as_written = explanation_of(code);
     if as_written.is_some() {
@@ -63,13 +61,11 @@ pub fn explanation_in_any_case(
     Ok(explanation_of(capitals.as_str()))
 }
 
+/// The first of these explanations that has the code.
 fn find(explanations: &'static [Explanation], code: &str) -> Option<&'static Explanation>
-    ensures { IfSome result (λ explanation. explanation.now.code.now ≡ code.now) }
+    ensures { option_map (λ e. e.now) result ≡ explanation_in explanations.now code.now }
 {
-    for explanation in explanations {
-        if explanation.code == code {
-            return Some(explanation);
-        }
-    }
-    None
+    explanations
+        .iter()
+        .find(|explanation| explanation.code == code)
 }

@@ -1,25 +1,36 @@
 //! What each refusal and each fault means, its cure, and a small text that has it, where there is one. The page of
 //! errors has the same words.
 
+ghost use Rattle.std.specs.Prelude.{◌≡◌};
+ghost use Rattle.dv_explain.specs.Codes.{codes_of, fault_codes, input_codes, partition_codes, refusal_codes};
+
 use crate::{Example, Explanation};
 
 /// The explanations of the refusals of model texts, in the order of their numbers.
-pub fn refusals() -> &'static [Explanation] {
+pub fn refusals() -> &'static [Explanation]
+    ensures { codes_of result.now ≡ refusal_codes }
+{
     REFUSALS
 }
 
 /// The explanations of the refusals of inputs, in the order of their numbers.
-pub fn input_refusals() -> &'static [Explanation] {
+pub fn input_refusals() -> &'static [Explanation]
+    ensures { codes_of result.now ≡ input_codes }
+{
     INPUT_REFUSALS
 }
 
 /// The explanations of the refusals of partitions, in the order of their numbers.
-pub fn partition_refusals() -> &'static [Explanation] {
+pub fn partition_refusals() -> &'static [Explanation]
+    ensures { codes_of result.now ≡ partition_codes }
+{
     PARTITION_REFUSALS
 }
 
 /// The explanations of the faults of rules and holds.
-pub fn faults() -> &'static [Explanation] {
+pub fn faults() -> &'static [Explanation]
+    ensures { codes_of result.now ≡ fault_codes }
+{
     FAULTS
 }
 
@@ -208,7 +219,7 @@ const REFUSALS: &[Explanation] = &[
     },
     Explanation {
         code: "E18",
-        words: "Memory ran out. This is no refusal: no place is named, and of a trace or a listing a beginning may have been printed. Run it where there is more memory, or run a smaller model. A long run keeps its trace until the end.",
+        words: "Memory ran out. This is no refusal: no place is named, and of a trace or a listing a beginning may have been printed. Run it where there is more memory, or run a smaller model. A run lets go of what it has printed; only `plain` keeps its trace until the end.",
         example: None,
     },
 ];

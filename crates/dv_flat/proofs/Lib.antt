@@ -22,6 +22,7 @@ pub mod Ranges
 pub mod Received
 pub mod RootWays
 pub mod Routed
+pub mod Settled
 pub mod Sources
 pub mod Sums
 pub mod Superposed

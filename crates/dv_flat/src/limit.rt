@@ -1,6 +1,6 @@
 //! How many links a text has, counted model by model: neither instances are visited nor ways walked.
 
-ghost use Rattle.std.specs.Prelude.{◌≡◌, ◌<◌, ◌≤◌, None, fold, map, option_copied, replicate, slice_index_or, sum, IfOk, IfErr, OnOk};
+ghost use Rattle.std.specs.Prelude.{◌≡◌, ◌<◌, ◌≤◌, None, fold, map, option_copied, replicate, slice_index_or, sum, IfOk, IfErr, IsTrue, OnOk};
 ghost use Rattle.std.specs.List.{sum_by};
 ghost use Rattle.dv_syntax.specs.Trees.{file_of, model_of};
 ghost use Rattle.dv_bag.specs.Bag.{capped};
@@ -65,6 +65,13 @@ impl Ways {
             outputs: output_ways(alloc, level, below)?,
             inside: inside_ways(level, below),
         })
+    }
+
+    // Are these the same ways as those of another model.
+    fn is_same(&self, other: &Ways) -> bool
+        ensures { IsTrue result → self.now ≡ other.now }
+    {
+        self.inputs == other.inputs && self.outputs == other.outputs && self.inside == other.inside
     }
 
     // All of them together.
@@ -258,7 +265,7 @@ fn ways_over(alloc: Global, tree: &Tree, below: &[Ways]) -> Result<Vec<Ways>, Al
 {
     let scopes = tree.scopes();
     let levels = tree.levels();
-    let mut over = Vec::new(alloc);
+    let mut over = Vec::with_capacity(alloc, scopes.len())?;
     for (place, model) in tree.reached().iter().enumerate() {
         let inputs = own_inputs(model);
         let level = level_at(levels, place);
@@ -267,8 +274,24 @@ fn ways_over(alloc: Global, tree: &Tree, below: &[Ways]) -> Result<Vec<Ways>, Al
     Ok(over)
 }
 
+// Are two lists of ways the same, model by model.
+fn are_same(left: &[Ways], right: &[Ways]) -> bool
+    ensures { IsTrue result → left.now ≡ right.now }
+{
+    if left.len() != right.len() {
+        return false;
+    }
+    for (place, ways) in left.iter().enumerate() {
+        if !ways.is_same(&right[place]) {
+            return false;
+        }
+    }
+    true
+}
+
 /// The ways of the models that the root leads to, whose parts show down to fewer levels than this. Those of one level are
-/// counted from those of the level before: the work is in the length of these models, however many ways there are.
+/// counted from those of the level before: the work is in the length of these models, however many ways there are. Where two
+/// levels have the same ways, so has each deeper one, and no more are counted.
 ///
 /// # Errors
 ///
@@ -279,7 +302,11 @@ pub(crate) fn ways_below(alloc: Global, levels: usize, tree: &Tree) -> Result<Ve
 {
     let mut ways = Vec::new(alloc);
     for _level in 0..levels {
-        ways = ways_over(alloc, tree, &ways)?;
+        let over = ways_over(alloc, tree, &ways)?;
+        if are_same(&over, &ways) {
+            return Ok(over);
+        }
+        ways = over;
     }
     Ok(ways)
 }

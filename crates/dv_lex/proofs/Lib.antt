@@ -1,3 +1,4 @@
+pub mod KeywordLengths
 pub mod TableLemmas
 pub mod Ascii
 pub mod Runs

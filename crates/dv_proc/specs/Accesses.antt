@@ -1,4 +1,4 @@
--- Visits of components, as the code counts them where it looks at one: as it emits, and as it is committed. No type forces it to.
+-- Visits of components, one for each look at one: as it emits, and as it is committed. What keeps the components counts its accesses.
 use Rattle.std.specs.Prelude.{◌≡◌, ℕ, ◌+◌, ◌-◌, ◌*◌, ◌^◌, ◌<◌, ◌≤◌, not, if◌then◌else◌, nat_lt, List, length, count_by}
 use Rattle.dv_bag.specs.Bag.{Counts}
 use Rattle.dv_devs.specs.Behaviour.{all_empty, is_imminent}

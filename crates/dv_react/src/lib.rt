@@ -5,9 +5,6 @@
 /// Code that gives the behaviour of an atomic model.
 pub mod atomic;
 
-/// Copies of variables in the place of others.
-mod copying;
-
 /// Faults, separated from errors of memory.
 mod fault;
 

@@ -3,8 +3,8 @@
 
 /// Entries and lines of a trace, where they lie.
 pub mod part_slice;
-/// Places of times in a part, and copies from there on.
+/// Places of times in a part.
 pub mod places;
 
 pub use part_slice::PartSlice;
-pub use places::{is_mostly_later, piece_since};
+pub use places::is_mostly_later;

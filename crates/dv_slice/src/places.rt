@@ -1,16 +1,15 @@
-//! Places of times in a part, and copies from there on.
+//! Places of times in a part.
 
-ghost use Rattle.std.specs.Prelude.{◌≡◌, ◌≤◌, false, not, IfOk, take, drop, filter, length};
+ghost use Rattle.std.specs.Prelude.{◌≡◌, ◌≤◌, false, not, take, drop, filter, length};
 ghost use Rattle.std.specs.List.{AllPairs};
 ghost use Rattle.dv_time.specs.Time.{is_before};
-ghost use Rattle.dv_bag.specs.Part.{IsByTime, since};
+ghost use Rattle.dv_bag.specs.Part.{IsByTime};
 ghost use Rattle.dv_bag.specs.declared.entry.Entry.{Entry};
 ghost use Rattle.dv_bag.specs.declared.entry.Outer.{Outer};
 ghost use Rattle.dv_slice.specs.Places.{is_mostly_later};
 
 use dv_bag::{Entry, Outer, Part};
 use dv_time::Time;
-use std::alloc::{AllocError, Global};
 
 /// How many entries are before a time.
 pub(crate) fn entries_before(entries: &[Entry], time: Time) -> usize
@@ -44,21 +43,4 @@ pub fn is_mostly_later(part: &Part, time: Time) -> bool
     let entries = part.entries().as_slice();
     let early = entries_before(entries, time);
     early < entries.len() - early
-}
-
-/// A copy of what a part has from a time on, for a part that stands by time, as those of a run do. The place is found by
-/// bisection, so it costs time and memory in proportion to what is copied.
-///
-/// # Errors
-///
-/// No memory for the copy.
-pub fn piece_since(alloc: Global, part: &Part, from: Time) -> Result<Part, AllocError>
-    requires { IsByTime part.now }
-    ensures { IfOk result (λ piece. piece ≡ since from part.now) }
-{
-    let entries = part.entries().as_slice();
-    let lines = part.outer().as_slice();
-    let entries = entries[entries_before(entries, from)..].to_vec(alloc)?;
-    let lines = lines[lines_before(lines, from)..].to_vec(alloc)?;
-    Ok(Part::from_lists(entries, lines))
 }

@@ -1,6 +1,6 @@
 //! The places of names in a list.
 
-ghost use Rattle.std.specs.Prelude.{◌≡◌, ℕ, IfOk, length, nat_eq};
+ghost use Rattle.std.specs.Prelude.{◌≡◌, ℕ, ◌<◌, IfOk, length, nat_eq};
 ghost use Rattle.std.specs.HashMap.{get};
 ghost use Rattle.dv_eval.specs.Scope.{place_of};
 
@@ -8,15 +8,20 @@ use std::alloc::{AllocError, Global};
 use std::collections::HashMap;
 use std::marker::Model;
 
-/// A list of names by their numbers, with the place where each first stands.
+/// The greatest number of names that are looked for one after the other.
+const GREATEST_FEW: usize = 8;
+
+/// A list of names by their numbers, with the place where each first stands. Most lists are short, and a short list is
+/// searched sooner than a table is made for it.
 #[derive(Drop)]
 pub(crate) struct Places {
     numbers: Vec<u32>,
+    /// Empty where there are few names.
     firsts: HashMap<u32, usize>,
 }
 
 impl Model for Places {
-    ghost use Rattle.std.specs.Prelude.{◌≡◌, ℕ, List, nat_eq};
+    ghost use Rattle.std.specs.Prelude.{◌≡◌, ℕ, ◌<◌, List, length, nat_eq};
     ghost use Rattle.std.specs.HashMap.{get};
     ghost use Rattle.dv_eval.specs.Scope.{place_of};
 
@@ -24,7 +29,8 @@ impl Model for Places {
 
     ghost view = { λ p. p.numbers.items };
 
-    ghost invariant = { λ p. (q : ℕ) → get nat_eq p.firsts q ≡ place_of q p.numbers.items };
+    ghost invariant = { λ p. 8 < length p.numbers.items
+        → (q : ℕ) → get nat_eq p.firsts q ≡ place_of q p.numbers.items };
 }
 
 impl Places {
@@ -36,7 +42,7 @@ impl Places {
     pub(crate) fn of(alloc: Global, numbers: Vec<u32>) -> Result<Self, AllocError>
         ensures { IfOk result (λ places. places ≡ numbers.items) }
     {
-        let firsts = firsts(alloc, &numbers)?;
+        let firsts = firsts_of_many(alloc, &numbers)?;
         Ok(Places { numbers, firsts })
     }
 
@@ -44,7 +50,11 @@ impl Places {
     pub(crate) fn place(&self, number: u32) -> Option<usize>
         ensures { result ≡ place_of number self.now }
     {
-        self.firsts.get(&number).copied()
+        if self.numbers.len() > GREATEST_FEW {
+            self.firsts.get(&number).copied()
+        } else {
+            place_among(&self.numbers, number)
+        }
     }
 
     /// The number of names.
@@ -52,6 +62,30 @@ impl Places {
         ensures { result ≡ length self.now }
     {
         self.numbers.len()
+    }
+}
+
+// The place of a name among few.
+fn place_among(numbers: &[u32], number: u32) -> Option<usize>
+    ensures { result ≡ place_of number numbers.now }
+{
+    for (place, other) in numbers.iter().enumerate() {
+        if *other == number {
+            return Some(place);
+        }
+    }
+    None
+}
+
+// Where each of many names first stands. For few names there is no table.
+fn firsts_of_many(alloc: Global, numbers: &[u32]) -> Result<HashMap<u32, usize>, AllocError>
+    ensures { IfOk result (λ firsts. 8 < length numbers.now
+        → (q : ℕ) → get nat_eq firsts q ≡ place_of q numbers.now) }
+{
+    if numbers.len() > GREATEST_FEW {
+        firsts(alloc, numbers)
+    } else {
+        Ok(HashMap::new(alloc))
     }
 }
 

@@ -14,14 +14,14 @@ returns-in-Ok-clause-ok c =
 pub returns-in-Ok-clause-bag : goal.returns-in-Ok-clause-bag
 returns-in-Ok-clause-bag c = subst IsBag (sym (returns-in-Ok-clause-ok c)) (with_copies_bag _ _ _ c.requires.bag)
 
-pub returns-in_ok-insert-in-Err-clause-ok : goal.returns-in_ok-insert-in-Err-clause-ok
-returns-in_ok-insert-in-Err-clause-ok c =
+pub returns-in_ok-put-in-Err-clause-ok : goal.returns-in_ok-put-in-Err-clause-ok
+returns-in_ok-put-in-Err-clause-ok c =
     let items = c.args.pairs.now.items in
     let absent = rw c.as_slice.ensures at c.in-Err.ensures.absent in
     first_copies _ _ items items items items _ (to_z-of_z _ _ c.ranges.value) refl refl refl _ _ c.requires.bag
-    c.ranges.copies.fits absent c.in_ok-insert-in-Err.ensures.ok
+    c.ranges.copies.fits absent c.in_ok-put-in-Err.ensures.ok
     ∙ sym (some_copies c.args.value c.args.copies items c.requires.some)
 
-pub returns-in_ok-insert-in-Err-clause-bag : goal.returns-in_ok-insert-in-Err-clause-bag
-returns-in_ok-insert-in-Err-clause-bag c =
-    subst IsBag (sym (returns-in_ok-insert-in-Err-clause-ok c)) (with_copies_bag _ _ _ c.requires.bag)
+pub returns-in_ok-put-in-Err-clause-bag : goal.returns-in_ok-put-in-Err-clause-bag
+returns-in_ok-put-in-Err-clause-bag c =
+    subst IsBag (sym (returns-in_ok-put-in-Err-clause-ok c)) (with_copies_bag _ _ _ c.requires.bag)

@@ -49,7 +49,7 @@ returns-in-Ok-clause-ok c =
 pub invariant_of-self-in-Err : goal.invariant_of-self-in-Err
 invariant_of-self-in-Err c =
     let fits : SFits w64 c.args.value = c.ranges.value in
-    let done = simp to_z-of_z at c.in_ok-insert_copies-in-Err.ensures.ok in
+    let done = simp to_z-of_z at c.of_copies-bag.ensures in
     let inside = c.self.inside in
     let hs = inside.held.items in
     let port = c.args.port in
@@ -57,13 +57,13 @@ invariant_of-self-in-Err c =
     let long = from_port_length 0 inside.ports (λ port. bag_in port hs) in
     let at = subst (GoesInAt port c.in-Err.place) c.as_slice.ensures c.in-Err.ensures.absent in
     added_well inside.ports port hs c.self.invariant.0 c.self.invariant.1 (omega (arith, c.requires, ports, long))
-    c.in-Err.place c.insert.new.self.items c.insert_copies-in-Err.new.self at c.in_ok-insert-in-Err.ensures.ok
+    c.in-Err.place c.put.new.list.items c.of_copies-bag.result at c.in_ok-put-in-Err.ensures.ok
     (subst (λ b. 0 < total b) (sym done) (some_new c.args.value c.args.copies _ (omega (arith, c.if-copies-eq0.false))))
 
-pub returns-in_ok-insert-in-Err-clause-ok : goal.returns-in_ok-insert-in-Err-clause-ok
-returns-in_ok-insert-in-Err-clause-ok c =
+pub returns-in_ok-put-in-Err-clause-ok : goal.returns-in_ok-put-in-Err-clause-ok
+returns-in_ok-put-in-Err-clause-ok c =
     let fits : SFits w64 c.args.value = c.ranges.value in
-    let done = simp to_z-of_z at c.in_ok-insert_copies-in-Err.ensures.ok in
+    let done = simp to_z-of_z at c.of_copies-bag.ensures in
     let inside = c.self.inside in
     let hs = inside.held.items in
     let port = c.args.port in
@@ -71,11 +71,11 @@ returns-in_ok-insert-in-Err-clause-ok c =
     let long = from_port_length 0 inside.ports (λ port. bag_in port hs) in
     let lt : port < inside.ports = omega (arith, c.requires, ports, long) in
     let at = subst (GoesInAt port c.in-Err.place) c.as_slice.ensures c.in-Err.ensures.absent in
-    let new = c.insert_copies-in-Err.new.self in
-    added inside.ports port hs c.self.invariant.0 c.self.invariant.1 lt c.in-Err.place c.insert.new.self.items new at
-    c.in_ok-insert-in-Err.ensures.ok
+    let new = c.of_copies-bag.result in
+    added inside.ports port hs c.self.invariant.0 c.self.invariant.1 lt c.in-Err.place c.put.new.list.items new at
+    c.in_ok-put-in-Err.ensures.ok
     ∙ ap (set (by_port inside.ports hs) port)
-    (done ∙ ap (with_copies c.args.value c.args.copies) (c.new-bag.ensures
-    ∙ sym (none_before inside.ports port hs c.self.invariant.0 c.self.invariant.1 lt c.in-Err.place c.insert.new.self.items new at
-    c.in_ok-insert-in-Err.ensures.ok)))
+    (done ∙ ap (with_copies c.args.value c.args.copies)
+    (sym (none_before inside.ports port hs c.self.invariant.0 c.self.invariant.1 lt c.in-Err.place c.put.new.list.items new at
+    c.in_ok-put-in-Err.ensures.ok)))
     ∙ ap (λ bags. set bags port (with_copies c.args.value c.args.copies (bag_at bags port))) c.self.view_is

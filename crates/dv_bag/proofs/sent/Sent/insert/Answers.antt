@@ -43,9 +43,9 @@ invariant_of-self-in-Err c =
     let long = from_port_length 0 inside.ports inside.sendings.items in
     let at = rw c.as_slice.ensures at c.in-Err.ensures.absent in
     let both = put_within inside.ports c.args.port c.args.value _ inside.sendings.items (to_z-of_z _ _ c.ranges.value)
-    c.self.invariant.0 (omega arith) c.in-Err.place _ c.in_ok-insert-in-Err.ensures.ok c.self.invariant.1 at in
+    c.self.invariant.0 (omega arith) c.in-Err.place _ c.in_ok-put-in-Err.ensures.ok c.self.invariant.1 at in
     let now = put inside.ports c.args.port c.args.value _ inside.sendings.items (to_z-of_z _ _ c.ranges.value)
-    c.self.invariant.0 (omega arith) c.in-Err.place _ c.in_ok-insert-in-Err.ensures.ok in (
+    c.self.invariant.0 (omega arith) c.in-Err.place _ c.in_ok-put-in-Err.ensures.ok in (
       both.0,
       both.1,
       c.saturating_add-self-inside-in-Err.ensures
@@ -53,11 +53,11 @@ invariant_of-self-in-Err c =
           (omega (arith, ports, long, c.requires)) now c.self.invariant.2,
     )
 
-pub returns-in_ok-insert-in-Err-clause-ok : goal.returns-in_ok-insert-in-Err-clause-ok
-returns-in_ok-insert-in-Err-clause-ok c =
+pub returns-in_ok-put-in-Err-clause-ok : goal.returns-in_ok-put-in-Err-clause-ok
+returns-in_ok-put-in-Err-clause-ok c =
     let inside = c.self.inside in
     let ports = ap length c.self.view_is in
     let long = from_port_length 0 inside.ports inside.sendings.items in
     put inside.ports c.args.port c.args.value _ inside.sendings.items (to_z-of_z _ _ c.ranges.value)
-    c.self.invariant.0 (omega arith) c.in-Err.place _ c.in_ok-insert-in-Err.ensures.ok
+    c.self.invariant.0 (omega arith) c.in-Err.place _ c.in_ok-put-in-Err.ensures.ok
     ∙ ap (λ bags. set bags c.args.port (with_copies c.args.value 1 (bag_at bags c.args.port))) c.self.view_is

@@ -1,5 +1,5 @@
 use Rattle.std.proofs.Common.{◌≡◌, length, take}
-use Rattle.dv_react.proofs.copying.copy_flat.Given as goal
+use Rattle.dv_bag.proofs.state.copy_all.Given as goal
 
 -- so far each datum was copied
 abbrev pub invariant-loop-place : goal.invariant-loop-place

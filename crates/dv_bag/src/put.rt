@@ -1,0 +1,30 @@
+//! An element put into a list.
+
+ghost use Rattle.std.specs.Prelude.{◌≡◌, ◌≤◌, OnErr, OnOk, insert};
+ghost use Rattle.smallvec.specs.SmallVec.{small_vec_len};
+
+use smallvec::SmallVec;
+use std::alloc::{AllocError, Global};
+use std::default::MadeWith;
+
+/// Puts an element in at a place, which mostly is behind the others.
+///
+/// # Errors
+///
+/// No memory for it. The list is as before.
+#[inline]
+pub(crate) fn put<T: MadeWith<Global> + Drop, const N: usize>(
+    list: &mut SmallVec<T, N>,
+    place: usize,
+    element: T,
+) -> Result<(), AllocError>
+    requires { place ≤ small_vec_len list.old }
+    ensures ok { OnOk result (list.new.items ≡ insert list.old.items place element) }
+    ensures err { OnErr result (list.new ≡ list.old) }
+{
+    if place == list.len() {
+        Ok(list.push(element)?)
+    } else {
+        Ok(list.insert(place, element)?)
+    }
+}

@@ -1,0 +1,2 @@
+-- What a reader believes: which explanation has a code.
+pub mod Codes
