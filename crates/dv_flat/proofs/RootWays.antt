@@ -16,10 +16,10 @@ use Rattle.dv_tree.specs.Couplings.{couplings_of_inputs, couplings_of_parts}
 use Rattle.dv_tree.specs.Instances.{Instance, inputs_in, instances, instances_in, outputs_in, root_inputs, root_of, tree_in}
 use Rattle.dv_tree.specs.Routing.{arrives, arrives_in_root, arriving, first_bags, from_parts, leaves_root, leaving, to_parts}
 use Rattle.dv_tree.specs.Tables.{LevelTable, level_of, root_table}
-use Rattle.dv_tree.specs.Reached.{AreReached, HaveModels, text_of_reached}
+use Rattle.dv_tree.specs.Reached.{AreReached, text_of_reached}
 use Rattle.dv_tree.specs.declared.couplings.Coupling.{Coupling}
 use Rattle.dv_tree.proofs.ReachedModels.{HasModels, no_parts, atomic, coupled, own_same, parts_same, root_has, root_same, tree_has}
-use Rattle.dv_tree.proofs.ReachedModels.{tree_same}
+use Rattle.dv_tree.proofs.ReachedModels.{HaveModels, tree_same}
 use Rattle.dv_flat.specs.Ends.{input_count, port_at, ports_from}
 use Rattle.dv_flat.specs.Limit.{link_count}
 use Rattle.dv_flat.specs.Ways.{WayCounts, all_ways, at_port, component_ways, coupled_ways, input_ways, inside_ways, no_ways, output_ways}
@@ -193,3 +193,14 @@ counted_by_ways f reached l inputs below total h root_is inputs_are below_is tot
     ∙ (ways_by_table reached root l root_is
     ∙ (root_ways_same f reached h root refl ∙ ap (root_ways f.models) same))) in
     total_is ∙ (ap (λ w. capped (all_ways w)) ways ∙ sym (links_are_ways f))
+
+-- a text whose root has no table has no links
+pub none_counted : (f : FileTree) (reached : List ModelTree) → AreReached f reached → None ≡ root_table (text_of_reached f reached) →
+    0 ≡ capped (link_count f)
+none_counted f reached h none = at (root_of (text_of_reached f reached)) (root_same f reached h) none
+  where
+    at : (o : Option CoupledTree) → o ≡ root_of f → None ≡ option_map (level_of reached) o → 0 ≡ capped (link_count f)
+    at None is e =
+        let no_links : 0 ≡ capped (all_ways (root_ways f.models None)) = refl in
+        no_links ∙ (ap (λ o. capped (all_ways (root_ways f.models o))) is ∙ sym (links_are_ways f))
+    at (Some m) is e = absurd (cc)

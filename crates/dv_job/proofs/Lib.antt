@@ -1,4 +1,5 @@
 pub mod Counted
 pub mod Loading
+pub mod Plans
 pub mod Printing
 pub mod Ran

@@ -1,7 +1,7 @@
 -- From what ran and what was written of it to what a run of bytes leaves.
 use Rattle.std.proofs.Common.{◌≡◌, ℕ, ◌<◌, ◌≤◌, Bool, true, false, if◌then◌else◌, List, [], ◌++◌, append-nil, length, Option}
 use Rattle.std.proofs.Common.{None, Some, Result, Ok, Err, IfOk, IfErr, refl, ap, ◌∙◌, sym, subst, inl, inr}
-use Rattle.std.specs.Prelude.{OnOk}
+use Rattle.std.specs.Prelude.{◌↔◌, IsSome, OnOk}
 use Rattle.std.specs.Io.KnownBytes.{Appends, Keeps}
 use Rattle.dv_time.specs.Time.{end_of}
 use Rattle.dv_bag.specs.Bag.{Counts}
@@ -42,6 +42,7 @@ use Rattle.dv_job.specs.Written.{IsUnwritten, end_text, ended_at}
 use Rattle.dv_job.specs.declared.options.Options.{Options}
 use Rattle.dv_job.specs.declared.ended.JobEnded.{JobEnded}
 use Rattle.dv_job.specs.declared.ended.JobEnded.TheVariants as ended
+use Rattle.dv_job.specs.declared.ended.Why.TheVariants as why
 use Rattle.dv_job.specs.declared.ended.JobError.{JobError}
 use Rattle.dv_job.specs.declared.ended.JobError.TheVariants as error
 use Rattle.dv_inputs.specs.declared.error.InputRefusal.{InputRefusal}
@@ -260,6 +261,21 @@ module _ (names : List (List ℕ)) (f : FileTree) (played : List Input) (groups 
       if_workers_ended (Ok e) ending written =
           subst (λ (e : JobEnded). EndsByWorkers e model inputs partition o old new) (sym ending) (worked_so r.ended refl written)
       if_workers_ended (Err e) ending written = tt
+
+-- a cause is told exactly where the answer is that the run was stopped
+pub told_where_stopped : {C : Type 0} (r : Ran) (cause : Option C) → IsSome cause ↔ (r.ended ≡ ran.Stopped) → (e : JobEnded)
+    → e ≡ ended_at r.ended r.faulted → IsSome cause ↔ (e ≡ ended.Partial why.Stopped)
+told_where_stopped {C} r cause told e is = (
+  λ some. is ∙ ap (λ (at : RanEnded). ended_at at r.faulted) (told.0 some),
+  λ stopped. told.1 (only_there r.ended r.faulted (sym is ∙ stopped)),
+)
+  where
+    only_there : (at : RanEnded) (faulted : Bool) → ended_at at faulted ≡ ended.Partial why.Stopped → at ≡ ran.Stopped
+    only_there ran.Whole true e = absurd (cc)
+    only_there ran.Whole false e = absurd (cc)
+    only_there ran.Stalled faulted e = absurd (cc)
+    only_there ran.Memory faulted e = absurd (cc)
+    only_there ran.Stopped faulted e = refl
 
 -- a model, its inputs and its groups, all read
 pub planned_tree : (model inputs : List ℕ) (partition : Partition) (limit : ℕ) (tree : Source) (groups : Grouping) (played : List Input)

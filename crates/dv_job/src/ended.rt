@@ -33,6 +33,13 @@ pub enum Why {
     Stopped,
 }
 
+/// How a run by workers ended, and the cause for which whoever watched their turns stopped it, if that is how it ended.
+#[derive(Drop)]
+pub struct EndedByWorkers<C> {
+    pub ended: JobEnded,
+    pub cause: Option<C>,
+}
+
 /// Why there is no whole trace, or no whole listing.
 #[derive(Debug, Drop, Error)]
 pub enum JobError {

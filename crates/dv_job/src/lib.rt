@@ -34,7 +34,7 @@ mod written;
 
 pub use check::check_bytes;
 pub use code::list_code;
-pub use ended::{JobEnded, JobError, Why, status};
+pub use ended::{EndedByWorkers, JobEnded, JobError, Why, status};
 pub use options::{GREATEST_CAPACITY, MOST_WORKERS, Options};
 pub use plain::run_plain;
 pub use planned::plan_bytes;

@@ -1,6 +1,6 @@
 //! The plan of a model, as text.
 
-ghost use Rattle.std.specs.Prelude.{IfErr, OnOk};
+ghost use Rattle.std.specs.Prelude.{string_bytes, IfErr, IfOk};
 ghost use Rattle.dv_syntax.specs.Trees.{file_of};
 ghost use Rattle.dv_job.specs.Job.{IsModelOf};
 ghost use Rattle.dv_job.specs.Planned.{AnswersPlan, HasPlan};
@@ -24,7 +24,8 @@ use std::alloc::Global;
 /// `Text` is the answer to the model's text; `Partition`, where the model is accepted, that to the partition. It is never
 /// `Inputs` or `Write`.
 pub fn plan_bytes(alloc: Global, model: &[u8], groups: Partition<'_>) -> Result<String, JobError>
-    ensures planned { OnOk result (HasPlan model.now groups.entry) }
+    ensures planned { IfOk result
+        (λ text. HasPlan model.now groups.entry (string_bytes text)) }
     ensures error { IfErr result (AnswersPlan model.now groups.entry) }
 {
     let checked = load(alloc, model)?;
@@ -40,7 +41,8 @@ fn plan_tree(
     groups: Partition<'_>,
 ) -> Result<String, JobError>
     requires accepted { IsModelOf model.now tree.now.names (file_of tree.now.file) }
-    ensures planned { OnOk result (HasPlan model.now groups.entry) }
+    ensures planned { IfOk result
+        (λ text. HasPlan model.now groups.entry (string_bytes text)) }
     ensures error { IfErr result (AnswersPlan model.now groups.entry) }
 {
     let flat = flatten(alloc, tree)?;

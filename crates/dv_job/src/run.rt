@@ -81,5 +81,5 @@ fn run_tree<W: Write>(
     let capacity = options.capacity as usize;
     let rounds = granted(options);
     let ran = compiled_run(alloc, &job, &links, rounds, capacity, writer)?;
-    write_end(alloc, tree, &ran, options.horizon, writer)
+    write_end(alloc, &ran, options.horizon, writer)
 }

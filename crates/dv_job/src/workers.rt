@@ -1,11 +1,13 @@
 //! The run of a model in processes on threads.
 
-ghost use Rattle.std.specs.Prelude.{◌<◌, IfOk, IfErr};
+ghost use Rattle.std.specs.Prelude.{◌<◌, ◌≡◌, ◌↔◌, IfOk, IfErr, IsSome};
 ghost use Rattle.dv_syntax.specs.Trees.{file_of};
 ghost use Rattle.dv_job.specs.Job.{IsModelOf};
 ghost use Rattle.dv_job.specs.Running.{EndsByWorkers, LeftByRun};
+ghost use Rattle.dv_job.specs.declared.ended.JobEnded.TheVariants.{Partial};
+ghost use Rattle.dv_job.specs.declared.ended.Why.TheVariants.{Stopped};
 
-use crate::ended::{JobEnded, JobError};
+use crate::ended::{EndedByWorkers, JobEnded, JobError};
 use crate::load::{accept, load, load_groups, load_inputs};
 use crate::options::Options;
 use crate::written::write_end;
@@ -13,7 +15,7 @@ use dv_bag::Bags;
 use dv_flat::flatten;
 use dv_partition::Partition;
 use dv_planned::TextJob;
-use dv_run::{Unwatched, Watch, compiled_workers};
+use dv_run::{RanByWorkers, Unwatched, Watch, compiled_workers};
 use dv_sound::numbers::inputs_are_of_numbers;
 use dv_text::laws::a_trace_is_its_pieces;
 use dv_tree::Tree;
@@ -45,13 +47,15 @@ pub fn run_by_workers<R: Threads + Wait + Sync, W: Write>(
     ensures error { IfErr result (λ e. LeftByRun e model.now inputs.now groups.entry
         options.now (W.contents writer.old) (W.contents writer.new)) }
 {
-    run_watched(
+    let watched = run_watched(
         rt, alloc, model, inputs, groups, options, workers, &Unwatched, writer,
-    )
+    )?;
+    Ok(watched.ended)
 }
 
 /// Runs as [`run_by_workers`] does, and lets somebody watch each turn of a process. Where that one stops the run and memory was
-/// refused to no worker, the answer is `Partial(Stopped)`, unless all clocks came to the end.
+/// refused to no worker, the answer is `Partial(Stopped)`, unless all clocks came to the end. The cause is told exactly where that
+/// is the answer. Of several causes it is that of the worker with the least number.
 ///
 /// # Errors
 ///
@@ -66,10 +70,11 @@ pub fn run_watched<R: Threads + Wait + Sync, G: Watch, W: Write>(
     workers: u32,
     watch: &G,
     writer: &mut W,
-) -> Result<JobEnded, JobError>
+) -> Result<EndedByWorkers<G::Cause>, JobError>
     requires workers { 0 < workers }
-    ensures ended { IfOk result (λ ended. EndsByWorkers ended model.now inputs.now groups.entry
+    ensures ended { IfOk result (λ w. EndsByWorkers w.ended model.now inputs.now groups.entry
         options.now (W.contents writer.old) (W.contents writer.new)) }
+    ensures cause { IfOk result (λ w. IsSome w.cause ↔ (w.ended ≡ Partial Stopped)) }
     ensures error { IfErr result (λ e. LeftByRun e model.now inputs.now groups.entry
         options.now (W.contents writer.old) (W.contents writer.new)) }
 {
@@ -92,11 +97,12 @@ fn work_tree<R: Threads + Wait + Sync, G: Watch, W: Write>(
     workers: u32,
     watch: &G,
     writer: &mut W,
-) -> Result<JobEnded, JobError>
+) -> Result<EndedByWorkers<G::Cause>, JobError>
     requires accepted { IsModelOf model.now tree.now.names (file_of tree.now.file) }
     requires workers { 0 < workers }
-    ensures ended { IfOk result (λ ended. EndsByWorkers ended model.now inputs.now groups.entry
+    ensures ended { IfOk result (λ w. EndsByWorkers w.ended model.now inputs.now groups.entry
         options.now (W.contents writer.old) (W.contents writer.new)) }
+    ensures cause { IfOk result (λ w. IsSome w.cause ↔ (w.ended ≡ Partial Stopped)) }
     ensures error { IfErr result (λ e. LeftByRun e model.now inputs.now groups.entry
         options.now (W.contents writer.old) (W.contents writer.new)) }
 {
@@ -116,6 +122,9 @@ fn work_tree<R: Threads + Wait + Sync, G: Watch, W: Write>(
     };
     let capacity = options.capacity as usize;
     let workers = workers as usize;
-    let ran = compiled_workers(rt, alloc, &job, &links, workers, capacity, watch, writer)?;
-    write_end(alloc, tree, &ran, options.horizon, writer)
+    let RanByWorkers { ran, cause } = compiled_workers(
+        rt, alloc, &job, &links, workers, capacity, watch, writer,
+    )?;
+    let ended = write_end(alloc, &ran, options.horizon, writer)?;
+    Ok(EndedByWorkers { ended, cause })
 }

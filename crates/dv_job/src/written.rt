@@ -10,8 +10,7 @@ ghost use Rattle.dv_job.specs.declared.ended.JobEnded.TheVariants.{Faulted, Part
 use crate::ended::{JobEnded, JobError, Why};
 use crate::faults::whole_ending;
 use dv_run::{Ran, RanEnded};
-use dv_text::{Ending, TraceWriter};
-use dv_tree::Tree;
+use dv_text::{Ending, write_ending};
 use std::alloc::Global;
 use std::io::Write;
 
@@ -22,7 +21,6 @@ use std::io::Write;
 /// `Write` and `Memory`: the writer holds a beginning of the ending that is not all of it, for `Memory` perhaps nothing.
 pub fn write_end<W: Write>(
     alloc: Global,
-    tree: &Tree,
     ran: &Ran,
     horizon: u64,
     writer: &mut W,
@@ -35,17 +33,16 @@ pub fn write_end<W: Write>(
         (W.contents writer.old) (W.contents writer.new)) }
 {
     match ran.ended {
-        RanEnded::Whole => write_whole(alloc, tree, ran, horizon, writer),
-        RanEnded::Stalled => write_cut(alloc, tree, ran, Why::Rounds, writer),
-        RanEnded::Memory => write_cut(alloc, tree, ran, Why::Memory, writer),
-        RanEnded::Stopped => write_cut(alloc, tree, ran, Why::Stopped, writer),
+        RanEnded::Whole => write_whole(alloc, ran, horizon, writer),
+        RanEnded::Stalled => write_cut(alloc, ran, Why::Rounds, writer),
+        RanEnded::Memory => write_cut(alloc, ran, Why::Memory, writer),
+        RanEnded::Stopped => write_cut(alloc, ran, Why::Stopped, writer),
     }
 }
 
 // Writes that the text is whole.
 fn write_whole<W: Write>(
     alloc: Global,
-    tree: &Tree,
     ran: &Ran,
     horizon: u64,
     writer: &mut W,
@@ -56,14 +53,13 @@ fn write_whole<W: Write>(
     ensures error { IfErr result (λ e. IsUnwritten e (ending_text (text_end.Whole horizon))
         (W.contents writer.old) (W.contents writer.new)) }
 {
-    TraceWriter::new(alloc, tree).end(&Ending::Whole(horizon), writer)?;
+    write_ending(alloc, &Ending::Whole(horizon), writer)?;
     Ok(whole_ending(ran.faulted))
 }
 
 // Writes to which clocks the processes came, for this reason.
 fn write_cut<W: Write>(
     alloc: Global,
-    tree: &Tree,
     ran: &Ran,
     why: Why,
     writer: &mut W,
@@ -75,6 +71,6 @@ fn write_cut<W: Write>(
         (W.contents writer.old) (W.contents writer.new)) }
 {
     let clocks = Vec::from_slice(alloc, ran.clocks.as_slice())?;
-    TraceWriter::new(alloc, tree).end(&Ending::Partial(clocks), writer)?;
+    write_ending(alloc, &Ending::Partial(clocks), writer)?;
     Ok(JobEnded::Partial(why))
 }

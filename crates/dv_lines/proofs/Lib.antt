@@ -3,6 +3,7 @@ pub mod Behind
 pub mod LeftLines
 pub mod Naming
 pub mod Recording
+pub mod Rounds
 pub mod Tables
 pub mod Walks
 pub mod Views

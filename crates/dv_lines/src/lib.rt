@@ -35,6 +35,12 @@ mod text_record;
 /// What happens, told to lines by the words of a tree.
 mod told;
 
+/// A trace written as text, part by part.
+mod trace_writer;
+
+/// The words of a tree, by which entries are put into lines.
+mod tree_words;
+
 /// The words of all components of a tree.
 mod words;
 
@@ -45,4 +51,5 @@ pub use lines::Lines;
 pub use pieces::{Word, put_byte, put_digits, put_number, put_word};
 pub use text_record::TextRecord;
 pub use told::{faulted, transition};
+pub use trace_writer::{TraceWriter, write_trace};
 pub use words::Words;

@@ -25,8 +25,8 @@ use dv_planned::TextJob;
 use dv_sound::jobs::parts_of_the_flat_model_are_those_of_the_text;
 use dv_sound::outside::what_leaves_a_flat_model_is_linear;
 use dv_stream::{Streamed, stream_plan};
+use dv_text::WriteError;
 use dv_text::laws::a_trace_is_its_instants;
-use dv_text::{TraceWriter, WriteError};
 use std::alloc::Global;
 use std::io::Write;
 
@@ -111,8 +111,5 @@ fn run_components<W: Write>(
         responses,
     } = components;
     let plan = plan_of(alloc, job, &models, members, responses, links)?;
-    let mut lines = TraceWriter::new(alloc, job.tree);
-    stream_plan(
-        alloc, *job, plan, bench, rounds, capacity, &mut lines, writer,
-    )
+    stream_plan(alloc, *job, plan, bench, rounds, capacity, job.tree, writer)
 }

@@ -16,6 +16,6 @@ pub mod workers;
 
 pub use compiled::compiled_run;
 pub use dv_stream::{Unwatched, Watch};
-pub use ran::{Ran, RanEnded};
+pub use ran::{Ran, RanByWorkers, RanEnded};
 pub use steps::compiled_steps;
 pub use workers::compiled_workers;

@@ -29,6 +29,13 @@ pub struct Ran {
     pub faulted: bool,
 }
 
+/// What ran of a text by workers, and the cause for which whoever watched them stopped it, if that is how it ended.
+#[derive(Drop)]
+pub struct RanByWorkers<C> {
+    pub ran: Ran,
+    pub cause: Option<C>,
+}
+
 /// What is known of a run in rounds once its lines are printed.
 pub fn ran_of(streamed: Streamed) -> Ran
     ensures clocks { result.clocks ≡ streamed.committed.clocks }

@@ -1,12 +1,12 @@
 //! The compiled model of a text, run by workers on threads.
 
-ghost use Rattle.std.specs.Prelude.{◌≢◌, ◌↔◌, ◌<◌, ◌≡◌, ℕ, None, Some, IfOk, OnErr, length, slice_get};
+ghost use Rattle.std.specs.Prelude.{◌≢◌, ◌↔◌, ◌<◌, ◌≡◌, ℕ, None, Some, IfOk, IsSome, OnErr, length, slice_get};
 ghost use Rattle.dv_board.specs.Jobs.{IsMergeable};
 ghost use Rattle.dv_check.specs.Refusals.{AreOfOneText, refusal_of};
 ghost use Rattle.dv_core.specs.Worlds.{end_time};
 ghost use Rattle.dv_devs.specs.Clocks.{least_rank};
 ghost use Rattle.dv_planned.specs.Texts.{AreComponentsOf, AreLinksOf, text_job};
-ghost use Rattle.dv_run.specs.Endings.{by_workers};
+ghost use Rattle.dv_run.specs.Endings.{by_workers, cause_of};
 ghost use Rattle.dv_run.specs.Runs.{IsCutShort, IsPrinted};
 ghost use Rattle.dv_run.specs.declared.ran.RanEnded.TheVariants as ended;
 ghost use Rattle.dv_sound.specs.Jobs.{AllInputNumbers};
@@ -18,7 +18,7 @@ ghost use Rattle.dv_time.specs.declared.time.Time.{Time as MeantTime};
 ghost use Rattle.dv_stream.specs.declared.rest.WorkersEnded.TheVariants as reported;
 
 use crate::plan::plan_of;
-use crate::ran::{Ran, RanEnded};
+use crate::ran::{Ran, RanByWorkers, RanEnded};
 use dv_bag::Bags;
 use dv_coded::{Bench, Components, components_of};
 use dv_devs::laws::parts::parts_are_of_the_trace;
@@ -39,8 +39,9 @@ use std::thread::Threads;
 /// Runs the compiled model of a text by its programs and its links, with inputs, in processes on `workers` threads, to
 /// a horizon in ticks, and writes the lines of the trace before the least clock while it runs, whatever the timing of
 /// the threads. Process p is run by worker p mod `workers`. A link holds at most `capacity` packets. `watch` may watch
-/// each turn and stop the run. If it is stopped, or memory is refused to a worker, or a thread is refused, the lines
-/// are those of what was known then, which is not all of the run, and the ending tells which.
+/// each turn and stop the run for a cause. If it is stopped, or memory is refused to a worker, or a thread is refused, the
+/// lines are those of what was known then, which is not all of the run, and the ending tells which. The cause is told exactly
+/// where it ended so; of several it is that of the worker with the least number.
 ///
 /// # Errors
 ///
@@ -55,20 +56,21 @@ pub fn compiled_workers<R: Threads + Wait + Sync, G: Watch, W: Write>(
     capacity: usize,
     watch: &G,
     writer: &mut W,
-) -> Result<Ran, WriteError>
+) -> Result<RanByWorkers<G::Cause>, WriteError>
     requires text { AreOfOneText job.now.tree.now.names (file_of job.now.tree.now.file) }
     requires accepted { refusal_of (file_of job.now.tree.now.file) ≡ None }
     requires numbers { AllInputNumbers job.now.inputs.now }
     requires links { AreLinksOf (file_of job.now.tree.now.file) links.now }
     requires workers { 0 < workers }
     requires capacity { 0 < capacity }
-    ensures printed { IfOk result (IsPrinted job.now.tree.now.names
+    ensures printed { IfOk result (λ r. IsPrinted job.now.tree.now.names
         (file_of job.now.tree.now.file) job.now.inputs.now job.now.groups.now
         job.now.horizon job.now.limit
-        (W.contents writer.old) (W.contents writer.new)) }
-    ensures ended { IfOk result (λ ran. ran.ended ≢ ended.Stalled) }
-    ensures partial { IfOk result (λ ran. ran.ended ≢ ended.Whole
-        → least_rank job.now.limit ran.clocks.items < end_of job.now.limit job.now.horizon) }
+        (W.contents writer.old) (W.contents writer.new) r.ran) }
+    ensures ended { IfOk result (λ r. r.ran.ended ≢ ended.Stalled) }
+    ensures partial { IfOk result (λ r. r.ran.ended ≢ ended.Whole
+        → least_rank job.now.limit r.ran.clocks.items < end_of job.now.limit job.now.horizon) }
+    ensures cause { IfOk result (λ r. IsSome r.cause ↔ (r.ran.ended ≡ ended.Stopped)) }
     ensures err { OnErr result (IsCutShort job.now.tree.now.names
         (file_of job.now.tree.now.file) job.now.inputs.now job.now.horizon job.now.limit
         (W.contents writer.old) (W.contents writer.new)) }
@@ -115,7 +117,7 @@ fn work_components<R: Threads + Wait + Sync, G: Watch, W: Write>(
     capacity: usize,
     watch: &G,
     writer: &mut W,
-) -> Result<Worked<()>, WriteError>
+) -> Result<Worked<G::Cause>, WriteError>
     requires text { AreOfOneText job.now.tree.now.names (file_of job.now.tree.now.file) }
     requires accepted { refusal_of (file_of job.now.tree.now.file) ≡ None }
     requires numbers { AllInputNumbers job.now.inputs.now }
@@ -149,27 +151,30 @@ fn work_components<R: Threads + Wait + Sync, G: Watch, W: Write>(
     )
 }
 
-// What is known of a run once its lines are printed: it ended as its workers did.
-fn ran_by_workers(worked: Worked<()>) -> Ran
-    ensures clocks { result.clocks ≡ worked.clocks }
-    ensures whole { (result.ended ≡ ended.Whole) ↔ (worked.ended ≡ reported.Whole) }
-    ensures ended { result.ended ≢ ended.Stalled }
-    ensures reason { result.ended ≡ by_workers worked.ended }
-    ensures faults { result.faulted ≡ worked.written.faulted }
+// What is known of a run once its lines are printed: it ended as its workers did, and for that cause.
+fn ran_by_workers<C: Drop>(worked: Worked<C>) -> RanByWorkers<C>
+    ensures clocks { result.ran.clocks ≡ worked.clocks }
+    ensures whole { (result.ran.ended ≡ ended.Whole) ↔ (worked.ended ≡ reported.Whole) }
+    ensures ended { result.ran.ended ≢ ended.Stalled }
+    ensures reason { result.ran.ended ≡ by_workers worked.ended }
+    ensures cause { result.cause ≡ cause_of worked.ended }
+    ensures is_told { IsSome result.cause ↔ (result.ran.ended ≡ ended.Stopped) }
+    ensures faults { result.ran.faulted ≡ worked.written.faulted }
 {
     let Worked {
         clocks,
         ended,
         written,
     } = worked;
-    let ended = match ended {
-        WorkersEnded::Whole => RanEnded::Whole,
-        WorkersEnded::Stopped(_) => RanEnded::Stopped,
-        WorkersEnded::Memory => RanEnded::Memory,
+    let (ended, cause) = match ended {
+        WorkersEnded::Whole => (RanEnded::Whole, None),
+        WorkersEnded::Stopped(cause) => (RanEnded::Stopped, Some(cause)),
+        WorkersEnded::Memory => (RanEnded::Memory, None),
     };
-    Ran {
+    let ran = Ran {
         clocks,
         ended,
         faulted: written.faulted,
-    }
+    };
+    RanByWorkers { ran, cause }
 }

@@ -8,11 +8,11 @@ ghost use Rattle.dv_stream.specs.Written.{Falters, GoesOn, IsBegun, IsWrittenTo}
 use crate::written::{Written, write_piece};
 use dv_bag::Bags;
 use dv_board::{Backlog, Board, Piece};
+use dv_lines::TraceWriter;
 use dv_link::OfJob;
 use dv_merge::merge;
+use dv_text::WriteError;
 use dv_text::laws::a_trace_is_its_pieces;
-use dv_text::{TraceWriter, WriteError};
-use dv_tree::Tree;
 use dv_work::{Bell, Flag, Leads, Stream, bells_of};
 use std::alloc::{AllocError, Global};
 use std::io::Write;
@@ -234,19 +234,19 @@ pub fn write_news<N: OfJob, R: Wait, W: Write>(
     board: &Board<N>,
     backlog: &mut Backlog<N>,
     signals: &Signals,
-    tree: &Tree,
+    lines: &mut TraceWriter<'_>,
     writer: &mut W,
 ) -> Result<Written, WriteError>
-    ensures written { IfOk result (IsWrittenTo N.job tree.now
+    ensures tree { lines.new ≡ lines.old }
+    ensures written { IfOk result (IsWrittenTo N.job lines.old
         (W.contents writer.old) (W.contents writer.new)) }
     ensures within { IfOk result (λ w.
         rank N.job.limit w.mark ≤ end_of N.job.limit N.job.horizon) }
-    ensures err { OnErr result (IsBegun N.job tree.now
+    ensures err { OnErr result (IsBegun N.job lines.old
         (W.contents writer.old) (W.contents writer.new)) }
 {
     // Lines are continued by those of the next piece.
     a_trace_is_its_pieces::<Bags>();
-    let mut lines = TraceWriter::new(alloc, tree);
     let mut written = Written::NOTHING;
     if !signals.has_begun() {
         return Ok(written);
@@ -255,9 +255,7 @@ pub fn write_news<N: OfJob, R: Wait, W: Write>(
     for _ in rt.forever() {
         let seen = signals.news.rings(rt);
         let is_last = signals.ended.is_raised();
-        written = write_posted(
-            rt, alloc, board, backlog, signals, written, &mut lines, writer,
-        )?;
+        written = write_posted(rt, alloc, board, backlog, signals, written, lines, writer)?;
         if is_last {
             return Ok(written);
         }

@@ -30,7 +30,7 @@ use std::thread::Threads;
 
 /// Runs the processes of a plan from their start on threads, a worker for each of `works`, and writes the trace, with the names of
 /// a tree, while they run, as [`stream_workers`] does. So many packets may be on their way on each link. `watch` may watch each
-/// turn and stop the run.
+/// turn and stop the run for a cause.
 ///
 /// # Errors
 ///
@@ -52,7 +52,7 @@ pub fn stream_plan_by_workers<
     watch: &G,
     tree: &Tree,
     writer: &mut W,
-) -> Result<Worked<()>, WriteError>
+) -> Result<Worked<G::Cause>, WriteError>
 where
     A::Work: Send + Drop,
     requires comes { (a : A) (bags : List Counts) → A.comes a bags }

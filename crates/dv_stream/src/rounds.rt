@@ -22,7 +22,7 @@ use crate::written::Written;
 use dv_bag::Bags;
 use dv_board::{Backlog, Piece};
 use dv_core::{Ended, LogicalProcess, PlannedJob, ProcessHandsOver, World};
-use dv_lines::TextRecord;
+use dv_lines::{TextRecord, TraceWriter};
 use dv_link::OfJob;
 use dv_local::LocalRun;
 use dv_plan::Plan;
@@ -31,8 +31,9 @@ use dv_react::Atomic;
 use dv_record::TailRecord;
 use dv_serial::Committed;
 use dv_serial::worlds::world_of;
+use dv_text::WriteError;
 use dv_text::laws::a_trace_is_its_pieces;
-use dv_text::{TraceWriter, WriteError};
+use dv_tree::Tree;
 use std::alloc::{AllocError, Global};
 use std::io::Write;
 use std::marker::Brand;
@@ -267,7 +268,7 @@ pub fn stream_plan<J: PlannedJob, A: Atomic + Drop, W: Write>(
     work: &mut A::Work,
     rounds: u64,
     capacity: usize,
-    lines: &mut TraceWriter<'_>,
+    tree: &Tree<'_>,
     writer: &mut W,
 ) -> Result<Streamed, WriteError>
     requires comes { (a : A) (bags : List Counts) → A.comes a bags }
@@ -275,21 +276,21 @@ pub fn stream_plan<J: PlannedJob, A: Atomic + Drop, W: Write>(
     requires merges { IsMergeable (J.means job) }
     requires some { 0 < (J.means job).processes }
     ensures run { IfOk result (λ s. HasRun (J.means job) capacity rounds s.committed) }
-    ensures written { IfOk result (λ s. IsWrittenTo (J.means job) lines.old
+    ensures written { IfOk result (λ s. IsWrittenTo (J.means job) tree.now
         (W.contents writer.old) (W.contents writer.new) s.written) }
     ensures least { IfOk result (λ s. s.written.mark ≡ least_time s.committed.clocks.items) }
-    ensures err { OnErr result (IsBegun (J.means job) lines.old
+    ensures err { OnErr result (IsBegun (J.means job) tree.now
         (W.contents writer.old) (W.contents writer.new)) }
 {
     if plan.shares.len() == 1 {
-        let tree = lines.tree();
         let to = TextRecord::new(alloc, tree)?;
         return stream_alone(alloc, job, plan, work, rounds, capacity, to, tree, writer);
     }
     let processes = plan.shares.len() as u32;
+    let mut lines = TraceWriter::new(alloc, tree)?;
     let mut world = world_of::<J, A, TailRecord>(alloc, job, plan, capacity)?;
     let (ended, written) = stream_rounds::<Brand, J, Process<LocalRun<A, TailRecord>>, W>(
-        alloc, &mut world, work, processes, rounds, lines, writer,
+        alloc, &mut world, work, processes, rounds, &mut lines, writer,
     )?;
     let clocks = clocks_of(alloc, world.processes())?;
     let committed = Committed { clocks, ended };

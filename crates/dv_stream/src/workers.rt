@@ -21,10 +21,11 @@ use crate::written::Written;
 use dv_bag::Bags;
 use dv_board::{Backlog, Board};
 use dv_core::{PlannedJob, ProcessHandsOver};
+use dv_lines::TraceWriter;
 use dv_link::OfJob;
 use dv_proc::Channel;
+use dv_text::WriteError;
 use dv_text::laws::a_trace_is_its_pieces;
-use dv_text::{TraceWriter, WriteError};
 use dv_time::Time;
 use dv_tree::Tree;
 use dv_work::{Gate, Report, run_streamed};
@@ -127,17 +128,18 @@ fn write_or_stop<N: OfJob, R: Wait, W: Write>(
     board: &Board<N>,
     backlog: &mut Backlog<N>,
     signals: &Signals,
-    tree: &Tree,
+    lines: &mut TraceWriter<'_>,
     writer: &mut W,
 ) -> Result<Written, WriteError>
-    ensures written { IfOk result (IsWrittenTo N.job tree.now
+    ensures tree { lines.new ≡ lines.old }
+    ensures written { IfOk result (IsWrittenTo N.job lines.old
         (W.contents writer.old) (W.contents writer.new)) }
     ensures within { IfOk result (λ w.
         rank N.job.limit w.mark ≤ end_of N.job.limit N.job.horizon) }
-    ensures err { OnErr result (IsBegun N.job tree.now
+    ensures err { OnErr result (IsBegun N.job lines.old
         (W.contents writer.old) (W.contents writer.new)) }
 {
-    let written = write_news(rt, alloc, board, backlog, signals, tree, writer);
+    let written = write_news(rt, alloc, board, backlog, signals, lines, writer);
     if written.is_err() {
         signals.stop(rt);
     }
@@ -163,7 +165,7 @@ fn run_and_write<
     board: &Board<N>,
     backlog: &mut Backlog<N>,
     signals: &Signals,
-    tree: &Tree,
+    lines: &mut TraceWriter<'_>,
     writer: &mut W,
 ) -> (
     Result<Written, WriteError>,
@@ -178,11 +180,12 @@ where
     requires workers { 0 < length crew.works.items }
     requires bells { length crew.works.items ≤ length signals.now.bells.items }
     requires capacity { 0 < capacity }
-    ensures written { IfOk result.0 (IsWrittenTo N.job tree.now
+    ensures tree { lines.new ≡ lines.old }
+    ensures written { IfOk result.0 (IsWrittenTo N.job lines.old
         (W.contents writer.old) (W.contents writer.new)) }
     ensures within { IfOk result.0 (λ w.
         rank N.job.limit w.mark ≤ end_of N.job.limit N.job.horizon) }
-    ensures err { OnErr result.0 (IsBegun N.job tree.now
+    ensures err { OnErr result.0 (IsBegun N.job lines.old
         (W.contents writer.old) (W.contents writer.new)) }
     ensures report { IfOk result.1 (IsReportOf N.job) }
 {
@@ -203,13 +206,14 @@ where
         )
     };
     let mut write = || -> Result<Written, WriteError>
-        ensures written { IfOk result (IsWrittenTo N.job tree.entry.now
+        ensures tree { lines.exit.now ≡ lines.entry.now }
+        ensures written { IfOk result (IsWrittenTo N.job lines.entry.now
             (W.contents writer.entry.now) (W.contents writer.exit.now)) }
         ensures within { IfOk result (λ w.
             rank N.job.limit w.mark ≤ end_of N.job.limit N.job.horizon) }
-        ensures err { OnErr result (IsBegun N.job tree.entry.now
+        ensures err { OnErr result (IsBegun N.job lines.entry.now
             (W.contents writer.entry.now) (W.contents writer.exit.now)) }
-    { write_or_stop(rt, alloc, board, backlog, signals, tree, writer) };
+    { write_or_stop(rt, alloc, board, backlog, signals, lines, writer) };
     let (report, written) = join_mut(rt, &mut run, &mut write);
     (written, report)
 }
@@ -264,6 +268,7 @@ where
     let board: Board<N> = Board::new(alloc);
     let mut backlog: Backlog<N> = Backlog::new(alloc, processes)?;
     let signals = Signals::new(alloc, crew.processes.len(), crew.works.len())?;
+    let mut lines = TraceWriter::new(alloc, tree)?;
     let until: Until<N> = Until {
         tick: job.horizon(),
         of: PhantomData,
@@ -279,12 +284,11 @@ where
         &board,
         &mut backlog,
         &signals,
-        tree,
+        &mut lines,
         writer,
     );
     let written = written?;
     let Left { rest, ended } = report?;
-    let mut lines = TraceWriter::new(alloc, tree);
     let written = write_rest(
         rt,
         alloc,
@@ -311,9 +315,9 @@ where
 
 /// Runs new processes of a job on threads, a worker for each of the crew's `works`, and writes the trace, with the names of a
 /// tree, while they run. Process p belongs to worker p mod the number of workers. So many packets may be on their way on each link;
-/// one more may be in the hand of its sender. `watch` may watch each turn and stop the run. Whatever it does, and whatever the timing
-/// of the threads, what was written is the trace before the least of the clocks, none of which is past the end, and a run is told
-/// whole exactly where every clock is at the end.
+/// one more may be in the hand of its sender. `watch` may watch each turn and stop the run for a cause; of several causes that of the
+/// worker with the least number is told. Whatever it does, and whatever the timing of the threads, what was written is the trace
+/// before the least of the clocks, none of which is past the end, and a run is told whole exactly where every clock is at the end.
 ///
 /// # Errors
 ///
@@ -335,7 +339,7 @@ pub fn stream_workers<
     watch: &G,
     tree: &Tree,
     writer: &mut W,
-) -> Result<Worked<()>, WriteError>
+) -> Result<Worked<G::Cause>, WriteError>
 where
     P::Work: Send + Drop,
     P::Record: Send,

@@ -9,8 +9,9 @@ ghost use Rattle.dv_text.specs.Texts.{part_text};
 ghost use Rattle.dv_text.specs.Writing.{AppendsBeginning};
 
 use crate::faults::has_fault;
+use dv_lines::TraceWriter;
 use dv_slice::PartSlice;
-use dv_text::{TraceWriter, WriteError};
+use dv_text::WriteError;
 use dv_time::Time;
 use std::io::Write;
 

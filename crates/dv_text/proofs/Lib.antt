@@ -2,9 +2,7 @@ pub mod Endings
 pub mod Groups
 pub mod Instants
 pub mod Merging
-pub mod NamesLemmas
 pub mod Places
-pub mod Rounds
 pub mod Sent
 pub mod Taking
 pub mod Times

@@ -6,7 +6,6 @@ use Rattle.dv_tree.specs.Instances.{Instance, instances, root_outputs}
 use Rattle.dv_tree.specs.Tables.{Source}
 use Rattle.dv_tree.specs.Paths.{texts_of, with_dots}
 use Rattle.dv_text.specs.Texts.{ComponentNames}
-use Rattle.dv_text.specs.declared.words.Words.{Words}
 
 abbrev pub instance_names : List (List ℕ) → Instance → ComponentNames
 instance_names names i = record {
@@ -30,12 +29,3 @@ tree_names s = component_names s.names (file_of s.file)
 
 abbrev pub tree_ports : Source → List (List ℕ)
 tree_ports s = root_ports s.names (file_of s.file)
-
--- the names that the code looked up of a component
-abbrev pub names_found : Words → ComponentNames
-names_found w = record {
-  path = with_dots (texts_of w.tree.now.names w.path.now);
-  phases = texts_of w.tree.now.names w.phases.now;
-  variables = texts_of w.tree.now.names w.variables.now;
-  outputs = texts_of w.tree.now.names w.outputs.now;
-}

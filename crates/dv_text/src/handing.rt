@@ -1,13 +1,10 @@
 //! Handing bytes to a writer.
 
-ghost use Rattle.std.specs.Prelude.{◌++◌, ◌<◌, length, IsOk, OnErr, OnOk, replicate, string_bytes};
+ghost use Rattle.std.specs.Prelude.{◌<◌, length, IsOk, OnErr, OnOk, string_bytes};
 ghost use Rattle.std.specs.Io.KnownBytes.{Appends};
-ghost use Rattle.dv_text.specs.Texts.{port_text, values_text};
-ghost use Rattle.dv_text.specs.Writing.{AppendsBeginning, StopsShort, TakesFront, values_from};
+ghost use Rattle.dv_text.specs.Writing.{StopsShort, TakesFront};
 
-use crate::pieces::{push_port_name, push_value};
 use crate::writing::WriteError;
-use dv_bag::Bag;
 use std::io::Write;
 
 // How many bytes are put together before the writer gets them.
@@ -41,62 +38,6 @@ pub fn hand_over_if_long<W: Write>(line: &mut String, writer: &mut W) -> Result<
     if line.len() >= PIECE_LENGTH {
         hand_over(writer, line.as_bytes())?;
         line.clear();
-    }
-    Ok(())
-}
-
-/// A port with its values, unless it has none. So many values can leave at one time that their text is not kept.
-pub fn write_port<W: Write>(
-    line: &mut String,
-    writer: &mut W,
-    name: &str,
-    values: &Bag,
-) -> Result<(), WriteError>
-    ensures ok { OnOk result (TakesFront (W.contents writer.old) (W.contents writer.new)
-        (string_bytes line.old ++ port_text name.now values.now) (string_bytes line.new)) }
-    ensures err { OnErr result (AppendsBeginning (W.contents writer.old) (W.contents writer.new)
-        (string_bytes line.old ++ port_text name.now values.now)) }
-{
-    if values.is_empty() {
-        return Ok(());
-    }
-    push_port_name(line, name)?;
-    write_values(line, writer, values)
-}
-
-fn write_values<W: Write>(line: &mut String, writer: &mut W, values: &Bag) -> Result<(), WriteError>
-    ensures ok { OnOk result (TakesFront (W.contents writer.old) (W.contents writer.new)
-        (string_bytes line.old ++ values_text values.now) (string_bytes line.new)) }
-    ensures err { OnErr result (AppendsBeginning (W.contents writer.old) (W.contents writer.new)
-        (string_bytes line.old ++ values_text values.now)) }
-{
-    let mut is_first = true;
-    for pair in values.pairs() {
-        write_copies(line, writer, is_first, pair.0, pair.1)?;
-        is_first = false;
-    }
-    Ok(())
-}
-
-// Copies of a value, with a comma before each but the first of all.
-fn write_copies<W: Write>(
-    line: &mut String,
-    writer: &mut W,
-    is_first: bool,
-    value: i64,
-    copies: u64,
-) -> Result<(), WriteError>
-    ensures ok { OnOk result (TakesFront (W.contents writer.old) (W.contents writer.new)
-        (string_bytes line.old ++ values_from is_first (replicate copies value))
-        (string_bytes line.new)) }
-    ensures err { OnErr result (AppendsBeginning (W.contents writer.old) (W.contents writer.new)
-        (string_bytes line.old ++ values_from is_first (replicate copies value))) }
-{
-    let mut is_first = is_first;
-    for _copy in 0..copies {
-        push_value(line, is_first, value)?;
-        is_first = false;
-        hand_over_if_long(line, writer)?;
     }
     Ok(())
 }

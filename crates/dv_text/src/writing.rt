@@ -1,18 +1,13 @@
-//! A trace as text.
+//! How a text ends, and why it is not written to its end.
 
-ghost use Rattle.std.specs.Prelude.{◌≡◌, ◌++◌, OnErr, OnOk};
+ghost use Rattle.std.specs.Prelude.{◌≡◌, OnErr, OnOk};
 ghost use Rattle.std.specs.Io.KnownBytes.{Appends};
-ghost use Rattle.dv_bag.specs.Part.{IsByTime};
-ghost use Rattle.dv_text.specs.Names.{tree_names, tree_ports};
-ghost use Rattle.dv_text.specs.Texts.{ending_text, part_text};
+ghost use Rattle.dv_text.specs.Texts.{ending_text};
 ghost use Rattle.dv_text.specs.Writing.{StopsShort};
-ghost use Rattle.dv_text.specs.declared.writing.Ending.TheVariants.{Whole};
 
-use crate::trace_writer::TraceWriter;
-use dv_bag::Trace;
-use dv_slice::PartSlice;
+use crate::ending::push_end;
+use crate::handing::hand_over;
 use dv_time::Time;
-use dv_tree::Tree;
 use std::alloc::{AllocError, Global};
 use std::io::Write;
 
@@ -44,30 +39,23 @@ impl From<AllocError> for WriteError {
     }
 }
 
-/// Writes the text of a trace that stands by time and reaches the horizon, which is in ticks. A write that failed is not
-/// tried again.
+/// Writes how a text ends. A write that failed is not tried again.
 ///
 /// # Errors
 ///
 /// `WriteError::Write` where a write failed or took nothing, `WriteError::Memory` where memory was refused. A
-/// beginning of the text was written then, and not all of it.
-pub fn write_trace<W: Write>(
+/// beginning of the end was written then, and not all of it.
+pub fn write_ending<W: Write>(
     alloc: Global,
-    trace: &Trace,
-    tree: &Tree,
-    horizon: u64,
+    ending: &Ending,
     writer: &mut W,
 ) -> Result<(), WriteError>
-    ensures ok { IsByTime trace.now
-        → OnOk result (Appends (W.contents writer.old) (W.contents writer.new)
-        (part_text (tree_names tree.now) (tree_ports tree.now) trace.now
-        ++ ending_text (Whole horizon))) }
-    ensures err { IsByTime trace.now
-        → OnErr result (StopsShort (W.contents writer.old) (W.contents writer.new)
-        (part_text (tree_names tree.now) (tree_ports tree.now) trace.now
-        ++ ending_text (Whole horizon))) }
+    ensures ok { OnOk result (Appends (W.contents writer.old) (W.contents writer.new)
+        (ending_text ending.now)) }
+    ensures err { OnErr result (StopsShort (W.contents writer.old) (W.contents writer.new)
+        (ending_text ending.now)) }
 {
-    let mut lines = TraceWriter::new(alloc, tree);
-    lines.part(&PartSlice::all_of(trace), writer)?;
-    lines.end(&Ending::Whole(horizon), writer)
+    let mut text = String::new(alloc);
+    push_end(&mut text, ending)?;
+    hand_over(writer, text.as_bytes())
 }

@@ -7,6 +7,7 @@ pub mod Kept
 pub mod Limits
 pub mod Linear
 pub mod Links
+pub mod Markings
 pub mod Mirrors
 pub mod Named
 pub mod Onward

@@ -3,23 +3,22 @@ use Rattle.std.proofs.Common.{◌≡◌, ℕ, zero, suc, Bool, true, false, cond
 use Rattle.std.proofs.Common.{◌+◌, ◌<◌, get_or, refl, ap, sym, ◌∙◌, subst}
 use Rattle.std.proofs.lemmas.List.{append_assoc, drop_more}
 use Rattle.std.specs.Borrow.{Bor}
-use Rattle.std.specs.Prelude.{◌&&◌, Option, Some, None, option_map, slice_get}
+use Rattle.std.specs.Prelude.{Option, Some, None, option_map, slice_get}
 use Rattle.std.proofs.lemmas.Option.{slice_get-map, slice_get-get_or}
-use Rattle.std.specs.List.{cons_option, filter_map, list_all, range_with_len}
+use Rattle.std.specs.List.{cons_option, filter_map, range_with_len}
 use Rattle.dv_syntax.specs.Trees.{ModelTree, AtomicModel, CoupledModel, CoupledTree, FileTree, model_of}
 use Rattle.dv_syntax.specs.declared.tree.Model.{Model}
 use Rattle.dv_syntax.specs.declared.tree.Name.{Name}
 use Rattle.dv_syntax.specs.declared.tree.Part.{Part}
 use Rattle.dv_eval.specs.Scope.{place_of}
 use Rattle.dv_bag.specs.Bag.{Counts}
-use Rattle.dv_check.specs.Names.{model_named, name_of_model, numbers_of}
+use Rattle.dv_check.specs.Names.{model_named, name_of_model}
 use Rattle.dv_check.specs.Limits.{greatest_depth}
 use Rattle.dv_check.specs.Tree.{PartTree, NoParts, AtomicPart, CoupledPart, component_count, parts_by, parts_to, tree_of, with_part}
 use Rattle.dv_tree.specs.Couplings.{Shown, couplings_of_inputs, couplings_of_parts, own_couplings, part_couplings, placed_link}
-use Rattle.dv_tree.specs.Couplings.{placed_links, shown_by, shown_of, shown_parts}
+use Rattle.dv_tree.specs.Couplings.{shown_by, shown_of, shown_parts}
 use Rattle.dv_tree.specs.Instances.{coupled_model, root_of, tree_in}
-use Rattle.dv_tree.specs.Reached.{AreReached, HaveModels, MeansTheSame, are_marked, has_marked_parts, is_marked, marked, parts_inside}
-use Rattle.dv_tree.specs.Reached.{borrowed_models, text_of_reached}
+use Rattle.dv_tree.specs.Reached.{AreReached, AsPart, AsRoot, borrowed_models, has_mark, marked, model_place, parts_inside, text_of_reached}
 use Rattle.dv_tree.specs.Routing.{Arrived, along, along_all, arrives_in_root, arriving, first_bags, from_parts, leaves_root, leaving}
 use Rattle.dv_tree.specs.Routing.{to_parts}
 use Rattle.dv_tree.specs.Tables.{model_names}
@@ -27,10 +26,24 @@ use Rattle.dv_tree.proofs.PlaceLemmas.{place_of-cons}
 
 -- ---- Models with marks
 
-both : (a b : Bool) → (a && b) ≡ true → (a ≡ true) × (b ≡ true)
-both true true e = (refl, refl)
-both true false e = absurd (cc)
-both false b e = absurd (cc)
+-- a name stands for the same model among these models as among all
+abbrev pub MeansTheSame : List ModelTree → List ModelTree → ℕ → Type 0
+MeansTheSame models reached n = model_named n reached ≡ model_named n models
+
+-- the models of these parts are the same
+abbrev pub HaveModels : List ModelTree → List ModelTree → List Part → Type 0
+HaveModels models reached [] = Unit {0}
+HaveModels models reached (p ∷ parts) = MeansTheSame models reached p.model.number × HaveModels models reached parts
+
+-- models of a text among which are the root and whatever a coupled one of them has as a part
+pub record AreEnough (f : FileTree) (reached : List ModelTree) : Type 0 where
+  pub root : MeansTheSame f.models reached f.root.number
+  pub parts : (n : ℕ) (m : CoupledTree) → model_named n reached ≡ Some (CoupledModel m) → HaveModels f.models reached m.parts
+
+-- whether the model at a place has a mark; where there is no place there is nothing to mark
+abbrev is_marked : List Bool → Option ℕ → Bool
+is_marked marks None = true
+is_marked marks (Some place) = has_mark marks place
 
 -- nothing is named where no place is
 none_named : (n : ℕ) (models : List ModelTree) → is_marked [] (place_of n (model_names models)) ≡ true → None ≡ model_named n models
@@ -74,58 +87,48 @@ means_the_same (mark ∷ marks) (m ∷ models) n e =
     (model_named n (marked marks models)) (model_named n models) (means_the_same marks models n)
     (subst At (place_of-cons n (name_of_model m).number (model_names models)) e)
 
--- where all have marks, all are there
-pub all_marked : (models : List ModelTree) → marked (replicate (length models) true) models ≡ models
-all_marked [] = refl
-all_marked (m ∷ models) = ap (λ ms. m ∷ ms) (all_marked models)
+is_marked_at : (marks : List Bool) (o : Option ℕ) → ((q : ℕ) → o ≡ Some q → has_mark marks q ≡ true) → is_marked marks o ≡ true
+is_marked_at marks None each = refl
+is_marked_at marks (Some q) each = each q refl
 
-have_models : (marks : List Bool) (models : List ModelTree) (parts : List Part) → are_marked (model_names models) marks parts ≡ true →
-    HaveModels models (marked marks models) parts
-have_models marks models [] e = tt
-have_models marks models (p ∷ parts) e =
-    let b = both (is_marked marks (place_of p.model.number (model_names models))) (are_marked (model_names models) marks parts) e in
-    (means_the_same marks models p.model.number b.0, have_models marks models parts b.1)
+-- parts whose models have marks
+have_models : (marks : List Bool) (models : List ModelTree) (parts : List Part) →
+    ((k : ℕ) (p : Part) (q : ℕ) → slice_get parts k ≡ Some p → place_of p.model.number (model_names models) ≡ Some q →
+    has_mark marks q ≡ true) → HaveModels models (marked marks models) parts
+have_models marks models [] each = tt
+have_models marks models (p ∷ parts) each = (
+  means_the_same marks models p.model.number
+      (is_marked_at marks (place_of p.model.number (model_names models)) (λ q is. each zero p q refl is)),
+  have_models marks models parts (λ k. each (suc k)),
+)
 
--- what passes among all passes by its name
-passes_by_name : (test : ModelTree → Bool) (models : List ModelTree) (n : ℕ) (m : ModelTree) → list_all test models ≡ true →
-    model_named n models ≡ Some m → test m ≡ true
-passes_by_name test [] n m all named = absurd (cc)
-passes_by_name test (x ∷ models) n m all named =
-    let b = both (test x) (list_all test models) all in
-    named_in (eqb (name_of_model x).number n) (model_named n models) b.0 (passes_by_name test models n m b.1) named
+-- what is so of each model with a mark is so of the one that a name stands for among these
+named_marked : (P : ModelTree → Type 0) (marks : List Bool) (models : List ModelTree) (n : ℕ) (m : ModelTree) →
+    ((q : ℕ) (x : ModelTree) → has_mark marks q ≡ true → slice_get models q ≡ Some x → P x) →
+    model_named n (marked marks models) ≡ Some m → P m
+named_marked P marks [] n m each e = absurd (cc)
+named_marked P [] (x ∷ models) n m each e = absurd (cc)
+named_marked P (mark ∷ marks) (x ∷ models) n m each e =
+    at mark (eqb (name_of_model x).number n) (model_named n (marked marks models)) (λ is. each zero x is refl)
+    (named_marked P marks models n m (λ q. each (suc q))) (sym (marked_first mark marks x models n) ∙ e)
   where
-    named_in : (b : Bool) (rest : Option ModelTree) → test x ≡ true → (rest ≡ Some m → test m ≡ true) → cond b (Some x) rest ≡ Some m →
-        test m ≡ true
-    named_in true rest first later e = let same : x ≡ m = cc in subst (λ v. test v ≡ true) same first
-    named_in false rest first later e = later e
+    at : (mark b : Bool) (rest : Option ModelTree) → (mark ≡ true → P x) → (rest ≡ Some m → P m) →
+        cond mark (cond b (Some x) rest) rest ≡ Some m → P m
+    at true true rest first later e = let same : x ≡ m = cc in subst P same (first refl)
+    at true false rest first later e = later e
+    at false b rest first later e = later e
 
--- models with marks that have marked parts are those that the root leads to
-pub are_reached : (f : FileTree) (marks : List Bool) (reached : List ModelTree) → reached ≡ marked marks f.models →
-    is_marked marks (place_of f.root.number (model_names f.models)) ≡ true →
-    list_all (has_marked_parts (model_names f.models) marks) reached ≡ true → AreReached f reached
-are_reached f marks reached are root parts =
-    subst (AreReached f) (sym are) (record {
-      root = means_the_same marks f.models f.root.number root;
-      parts = λ n m named. have_models marks f.models m.parts
-          (passes_by_name (has_marked_parts (model_names f.models) marks) (marked marks f.models) n (CoupledModel m)
-          (ap (list_all (has_marked_parts (model_names f.models) marks)) (sym are) ∙ parts) named);
+-- the models that the root leads to are such models
+pub are_enough : (f : FileTree) (reached : List ModelTree) → AreReached f reached → AreEnough f reached
+are_enough f reached h =
+    subst (AreEnough f) (sym h.are) (record {
+      root = means_the_same h.marks f.models f.root.number
+          (is_marked_at h.marks (model_place f f.root.number) (λ q is. (h.exactly q).1 (AsRoot is)));
+      parts = λ n m named. named_marked (λ x. HaveModels f.models (marked h.marks f.models) (parts_inside x))
+          h.marks f.models n (CoupledModel m)
+          (λ q x has there. have_models h.marks f.models (parts_inside x)
+          (λ k p r part is. (h.exactly r).1 (AsPart x k p ((h.exactly q).0 has) there part is))) named;
     })
-
-same_models : (models : List ModelTree) (parts : List Part) → HaveModels models models parts
-same_models models [] = tt
-same_models models (p ∷ parts) = (refl, same_models models parts)
-
--- and so are all models
-pub all_are_reached : (f : FileTree) (reached : List ModelTree) → reached ≡ marked (replicate (length f.models) true) f.models →
-    AreReached f reached
-all_are_reached f reached are =
-    subst (AreReached f) (sym (are ∙ all_marked f.models)) (record { root = refl; parts = λ n m named. same_models f.models m.parts })
-
--- where models that are borrowed have marked parts
-pub all_borrowed : (test : ModelTree → Bool) (models : List (Bor Model)) →
-    list_all test (borrowed_models models) ≡ list_all (λ m. test (model_of m.now)) models
-all_borrowed test [] = refl
-all_borrowed test (m ∷ models) = ap (λ b. test (model_of m.now) && b) (all_borrowed test models)
 
 -- the loop that takes those with a mark, at one model more
 pub marked_more : (marks : List Bool) (models : List Model) (i : ℕ) (mark d : Bool) (m e : Model) (found next all : List ModelTree) →
@@ -253,13 +256,16 @@ coupled_is (Some (AtomicModel a)) m e = absurd (cc)
 coupled_is (Some (CoupledModel c)) m e = cc
 
 module _ (f : FileTree) (reached : List ModelTree) (h : AreReached f reached) where
+  enough : AreEnough f reached
+  enough = are_enough f reached h
+
   module _ (depth : ℕ)
       (below : (m : CoupledTree) → HaveModels f.models reached m.parts → parts_to depth reached m ≡ parts_to depth f.models m) where
     part_same : (n : ℕ) (name : Name) (rest : PartTree) (o : Option ModelTree) → model_named n reached ≡ o →
         with_part (parts_to depth reached) name o rest ≡ with_part (parts_to depth f.models) name o rest
     part_same n name rest None e = refl
     part_same n name rest (Some (AtomicModel m)) e = refl
-    part_same n name rest (Some (CoupledModel m)) e = ap (λ t. CoupledPart name m t rest) (below m (h.parts n m e))
+    part_same n name rest (Some (CoupledModel m)) e = ap (λ t. CoupledPart name m t rest) (below m (enough.parts n m e))
 
     all_same : (parts : List Part) → HaveModels f.models reached parts →
         parts_by (parts_to depth reached) reached parts ≡ parts_by (parts_to depth f.models) f.models parts
@@ -280,7 +286,7 @@ module _ (f : FileTree) (reached : List ModelTree) (h : AreReached f reached) wh
         HasModels f.models reached rest → HasModels f.models reached (with_part (parts_to depth reached) name o rest)
     part_has n name rest None e others = others
     part_has n name rest (Some (AtomicModel m)) e others = atomic m others
-    part_has n name rest (Some (CoupledModel m)) e others = coupled m (h.parts n m e) (below m (h.parts n m e)) others
+    part_has n name rest (Some (CoupledModel m)) e others = coupled m (enough.parts n m e) (below m (enough.parts n m e)) others
 
     all_have : (parts : List Part) → HaveModels f.models reached parts →
         HasModels f.models reached (parts_by (parts_to depth reached) reached parts)
@@ -295,10 +301,10 @@ module _ (f : FileTree) (reached : List ModelTree) (h : AreReached f reached) wh
 
   -- the root and its parts
   pub root_same : root_of (text_of_reached f reached) ≡ root_of f
-  root_same = ap coupled_model h.root
+  root_same = ap coupled_model enough.root
 
   pub root_has : (m : CoupledTree) → root_of (text_of_reached f reached) ≡ Some m → HaveModels f.models reached m.parts
-  root_has m e = h.parts f.root.number m (coupled_is (model_named f.root.number reached) m e)
+  root_has m e = enough.parts f.root.number m (coupled_is (model_named f.root.number reached) m e)
 
   tree_at : (o : Option CoupledTree) → root_of (text_of_reached f reached) ≡ o → tree_in reached o ≡ tree_in f.models o
   tree_at None e = refl

@@ -1,26 +1,13 @@
 -- The models that the root of a text leads to. A tree keeps tables of these alone, however many others the text has.
-use Rattle.std.specs.Prelude.{◌≡◌, ℕ, Bool, true, false, List, [], ◌∷◌, map, slice_index_or, Option, Some, None}
-use Rattle.std.specs.List.{list_all}
+use Rattle.std.specs.Prelude.{◌≡◌, ◌↔◌, ℕ, Bool, true, false, if◌then◌else◌, List, [], ◌∷◌, ◌++◌, map, slice_get, slice_index_or, slice_set}
+use Rattle.std.specs.Prelude.{Option, Some, None}
 use Rattle.std.specs.Borrow.{Bor}
-use Rattle.dv_syntax.specs.Trees.{ModelTree, AtomicModel, CoupledModel, CoupledTree, FileTree, model_of}
+use Rattle.dv_syntax.specs.Trees.{ModelTree, AtomicModel, CoupledModel, FileTree, model_of}
 use Rattle.dv_syntax.specs.declared.tree.Model.{Model}
 use Rattle.dv_syntax.specs.declared.tree.Part.{Part}
 use Rattle.dv_eval.specs.Scope.{place_of}
-use Rattle.dv_check.specs.Names.{model_named}
-
--- a name stands for the same model among these models as among all
-abbrev pub MeansTheSame : List ModelTree → List ModelTree → ℕ → Type 0
-MeansTheSame models reached n = model_named n reached ≡ model_named n models
-
--- the models of these parts are the same
-abbrev pub HaveModels : List ModelTree → List ModelTree → List Part → Type 0
-HaveModels models reached [] = Unit {0}
-HaveModels models reached (p ∷ parts) = MeansTheSame models reached p.model.number × HaveModels models reached parts
-
--- models of a text among which are the root and whatever a coupled one of them has as a part
-pub record AreReached (f : FileTree) (reached : List ModelTree) : Type 0 where
-  pub root : MeansTheSame f.models reached f.root.number
-  pub parts : (n : ℕ) (m : CoupledTree) → model_named n reached ≡ Some (CoupledModel m) → HaveModels f.models reached m.parts
+use Rattle.dv_tree.specs.Tables.{model_names}
+use Rattle.dv_tree.specs.declared.reached.Walk.{Walk}
 
 -- the text of these models, with the same root
 abbrev pub text_of_reached : FileTree → List ModelTree → FileTree
@@ -45,15 +32,46 @@ marked [] (m ∷ models) = []
 marked (true ∷ marks) (m ∷ models) = m ∷ marked marks models
 marked (false ∷ marks) (m ∷ models) = marked marks models
 
--- whether the model at a place has a mark; where there is no place there is nothing to mark
-abbrev pub is_marked : List Bool → Option ℕ → Bool
-is_marked marks None = true
-is_marked marks (Some place) = slice_index_or marks place false
+-- whether the model at a place has a mark
+abbrev pub has_mark : List Bool → ℕ → Bool
+has_mark marks place = slice_index_or marks place false
 
--- whether the models of these parts do, by the names of all models
-abbrev pub are_marked : List ℕ → List Bool → List Part → Bool
-are_marked names marks parts = list_all (λ (p : Part). is_marked marks (place_of p.model.number names)) parts
+-- the place of the model that a name stands for
+abbrev pub model_place : FileTree → ℕ → Option ℕ
+model_place f name = place_of name (model_names f.models)
 
--- whether the models of the parts of a model do
-abbrev pub has_marked_parts : List ℕ → List Bool → ModelTree → Bool
-has_marked_parts names marks m = are_marked names marks (parts_inside m)
+-- The root leads to the model at a place: that is the root, or the model of a part of a model that the root leads to.
+pub data IsReached (f : FileTree) : ℕ → Type 0 where
+  AsRoot : {place : ℕ} → model_place f f.root.number ≡ Some place → IsReached f place
+  AsPart : {outer place : ℕ} (m : ModelTree) (k : ℕ) (p : Part) → IsReached f outer → slice_get f.models outer ≡ Some m →
+      slice_get (parts_inside m) k ≡ Some p → model_place f p.model.number ≡ Some place → IsReached f place
+
+-- the models with a mark are those that the root leads to, and no others
+abbrev pub AreMarks : FileTree → List Bool → Type 0
+AreMarks f marks = (place : ℕ) → (has_mark marks place ≡ true) ↔ IsReached f place
+
+-- the models of a text that its root leads to and no others, in the order of the text
+pub record AreReached (f : FileTree) (reached : List ModelTree) : Type 0 where
+  pub marks : List Bool
+  pub are : reached ≡ marked marks f.models
+  pub exactly : AreMarks f marks
+
+-- marks so far, and the places of marked models whose parts are still to be marked
+pub record Marking : Type 0 where
+  pub marks : List Bool
+  pub waiting : List ℕ
+
+abbrev pub marking_of : Walk → Marking
+marking_of w = record { marks = w.marks.items; waiting = w.waiting.items }
+
+-- with a mark for the model at a place, where there is one that has none, and its parts still to be marked
+abbrev pub with_mark : Option ℕ → Marking → Marking
+with_mark None m = m
+with_mark (Some place) m =
+    if slice_index_or m.marks place true then m else
+    record { marks = slice_set m.marks place true; waiting = m.waiting ++ place ∷ [] }
+
+-- with marks for the models of these parts, by the names of all models
+abbrev pub with_marks : List ℕ → List Part → Marking → Marking
+with_marks names [] m = m
+with_marks names (p ∷ parts) m = with_marks names parts (with_mark (place_of p.model.number names) m)

@@ -1,14 +1,12 @@
 //! The models that the root of a text leads to. A text may have very many others, of which a tree keeps nothing.
 
-ghost use Rattle.std.specs.Prelude.{◌≡◌, length, map, slice_get, Some, IfOk};
-ghost use Rattle.std.specs.List.{list_all};
+ghost use Rattle.std.specs.Prelude.{◌≡◌, length, map, slice_get, Some, IfOk, OnOk};
 ghost use Rattle.dv_syntax.specs.Trees.{file_of, model_of};
-ghost use Rattle.dv_tree.specs.Reached.{AreReached, are_marked, borrowed_models, has_marked_parts, is_marked, marked};
+ghost use Rattle.dv_tree.specs.Reached.{AreMarks, AreReached, borrowed_models, marked, marking_of, with_mark, with_marks};
 ghost use Rattle.dv_tree.specs.Tables.{model_names};
 
 use crate::places::Places;
 use crate::tables::{model_numbers, parts_inside};
-use dv_check::GREATEST_DEPTH;
 use dv_syntax::{File, Model, Part};
 use std::alloc::{AllocError, Global};
 
@@ -20,11 +18,11 @@ pub(crate) struct Reached<'c> {
 }
 
 impl<'c> Reached<'c> {
-    /// The models that the root leads to.
+    /// The models that the root leads to, and no others.
     ///
     /// # Errors
     ///
-    /// No memory for the list of them, or for the names of all models.
+    /// No memory for the list of them, or for the names and the marks of all models.
     pub(crate) fn of(alloc: Global, file: &'c File) -> Result<Self, AllocError>
         ensures reached { IfOk result (λ r. AreReached (file_of file.now)
             (borrowed_models r.models.items)) }
@@ -32,14 +30,8 @@ impl<'c> Reached<'c> {
             ≡ map Some (borrowed_models r.models.items)) }
     {
         let names = Places::of(alloc, model_numbers(alloc, &file.models)?)?;
-        let root = names.place(file.root.number);
-        let marks = marks_from(alloc, &file.models, &names, root)?;
-        let reached = Reached::marked(alloc, &file.models, &marks)?;
-        if is_marked(&marks, root) && have_marked_parts(&reached.models, &marks, &names) {
-            return Ok(reached);
-        }
-        let all = vec![in alloc; true; file.models.len()]?;
-        Reached::marked(alloc, &file.models, &all)
+        let marks = marks_of(alloc, file, &names)?;
+        Reached::marked(alloc, &file.models, &marks)
     }
 
     // Those with a mark.
@@ -65,86 +57,55 @@ impl<'c> Reached<'c> {
     }
 }
 
-// Marks for the models that the root leads to within so many levels as a tree may have. That these are all of them is
-// tested afterwards, so nothing rests on how they are found but memory.
-fn marks_from(
-    alloc: Global,
-    models: &[Model],
-    names: &Places,
-    root: Option<usize>,
-) -> Result<Vec<bool>, AllocError>
-    ensures { IfOk result (λ marks. length marks.items ≡ length models.now) }
-{
-    let mut marks = vec![in alloc; false; models.len()]?;
-    mark(&mut marks, root);
-    for _level in 0..GREATEST_DEPTH {
-        mark_below(&mut marks, models, names);
-    }
-    Ok(marks)
+// The marks of models, of which those have one that were reached so far, and the places of those whose parts are still to
+// be marked. These are never more than there are models, since a model is put among them once, with its mark.
+#[derive(Drop)]
+struct Walk {
+    marks: Vec<bool>,
+    waiting: Vec<usize>,
 }
 
-// Marks the models of the parts of those that have a mark.
-fn mark_below(marks: &mut [bool], models: &[Model], names: &Places)
-    ensures { length marks.new ≡ length marks.old }
-{
-    for (place, model) in models.iter().enumerate() {
-        if is_marked(marks, Some(place)) {
-            mark_parts(marks, parts_inside(model), names);
-        }
-    }
-}
-
-fn mark_parts(marks: &mut [bool], parts: &[Part], names: &Places)
-    ensures { length marks.new ≡ length marks.old }
-{
-    for part in parts {
-        mark(marks, names.place(part.model.number));
-    }
-}
-
-fn mark(marks: &mut [bool], place: Option<usize>)
-    ensures { length marks.new ≡ length marks.old }
-{
-    if let Some(place) = place
-        && place < marks.len()
+impl Walk {
+    // Marks the model at a place, where there is one without a mark. Its parts are then to be marked.
+    fn mark(&mut self, place: Option<usize>) -> Result<(), AllocError>
+        ensures { OnOk result (marking_of self.new ≡ with_mark place (marking_of self.old)) }
     {
-        marks[place] = true;
+        if let Some(place) = place
+            && place < self.marks.len()
+            && !self.marks[place]
+        {
+            self.waiting.push(place)?;
+            self.marks[place] = true;
+        }
+        Ok(())
+    }
+
+    // Marks the models of these parts.
+    fn mark_parts(&mut self, parts: &[Part], names: &Places) -> Result<(), AllocError>
+        ensures { OnOk result (marking_of self.new
+            ≡ with_marks names.now parts.now (marking_of self.old)) }
+    {
+        for part in parts {
+            self.mark(names.place(part.model.number))?;
+        }
+        Ok(())
     }
 }
 
-// Whether the model at a place has a mark, where there is one.
-fn is_marked(marks: &[bool], place: Option<usize>) -> bool
-    ensures { result ≡ is_marked marks.now place }
+// Marks for the models that the root leads to, from the names of all models. Each marked model is visited once.
+fn marks_of(alloc: Global, file: &File, names: &Places) -> Result<Vec<bool>, AllocError>
+    requires names { names.now ≡ model_names (file_of file.now).models }
+    ensures one_each { IfOk result
+        (λ marks. length marks.items ≡ length (file_of file.now).models) }
+    ensures reached { IfOk result (λ marks. AreMarks (file_of file.now) marks.items) }
 {
-    match place {
-        None => true,
-        Some(place) => match marks.get(place) {
-            Some(mark) => *mark,
-            None => false,
-        },
+    let mut walk = Walk {
+        marks: vec![in alloc; false; file.models.len()]?,
+        waiting: Vec::new(alloc),
+    };
+    walk.mark(names.place(file.root.number))?;
+    while let Some(place) = walk.waiting.pop() {
+        walk.mark_parts(parts_inside(&file.models[place]), names)?;
     }
-}
-
-fn are_marked(parts: &[Part], marks: &[bool], names: &Places) -> bool
-    ensures { result ≡ are_marked names.now marks.now parts.now }
-{
-    parts
-        .iter()
-        .all(|part| is_marked(marks, names.place(part.model.number)))
-}
-
-fn has_marked_parts(model: &Model, marks: &[bool], names: &Places) -> bool
-    ensures { result ≡ has_marked_parts names.now marks.now (model_of model.now) }
-{
-    are_marked(parts_inside(model), marks, names)
-}
-
-// Whether the models of all parts of these models have marks.
-fn have_marked_parts(models: &[&Model], marks: &[bool], names: &Places) -> bool
-    ensures { result ≡ list_all
-        (λ m. has_marked_parts names.now marks.now (model_of m.now)) models.now }
-{
-    models
-        .iter()
-        .all(|model| has_marked_parts(model, marks, names))
+    Ok(walk.marks)
 }

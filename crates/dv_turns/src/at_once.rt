@@ -5,6 +5,7 @@ use crate::first_line::comes;
 use crate::runs::{Model, run_by};
 use dv_run::Watch;
 use dv_time::Time;
+use std::convert::Infallible;
 use std::sync::Wait;
 use std::sync::atomic::{AtomicBool, Ordering};
 use std::thread::Threads;
@@ -50,21 +51,23 @@ impl Meeting {
 }
 
 impl Watch for Meeting {
-    fn before_turn(&self, worker: usize, _process: u32, clock: Time) -> bool {
+    type Cause = Infallible;
+
+    fn before_turn(&self, worker: usize, _process: u32, clock: Time) -> Option<Infallible> {
         let came = if worker == 0 {
             &self.first_came
         } else {
             &self.second_came
         };
         if came.swap(true, Ordering::SeqCst) {
-            return true;
+            return None;
         }
         if worker == 0 {
             self.meet_second(clock);
         } else {
             self.meet_first(clock);
         }
-        true
+        None
     }
 
     fn after_turn(&self, _worker: usize, process: u32, clock: Time) {

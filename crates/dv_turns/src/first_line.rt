@@ -4,6 +4,7 @@ use crate::runs::{Model, run_by};
 use crate::writers::Telling;
 use dv_run::Watch;
 use dv_time::Time;
+use std::convert::Infallible;
 use std::sync::Wait;
 use std::sync::atomic::{AtomicBool, AtomicU64, Ordering};
 use std::thread::{Threads, yield_now};
@@ -18,9 +19,11 @@ struct Counter {
 }
 
 impl Watch for Counter {
-    fn before_turn(&self, _worker: usize, _process: u32, _clock: Time) -> bool {
+    type Cause = Infallible;
+
+    fn before_turn(&self, _worker: usize, _process: u32, _clock: Time) -> Option<Infallible> {
         self.turns.fetch_add(1, Ordering::SeqCst);
-        true
+        None
     }
 
     fn after_turn(&self, _worker: usize, _process: u32, _clock: Time) {}
@@ -36,12 +39,14 @@ struct Holding<'f> {
 }
 
 impl<'f> Watch for Holding<'f> {
-    fn before_turn(&self, _worker: usize, _process: u32, _clock: Time) -> bool {
+    type Cause = Infallible;
+
+    fn before_turn(&self, _worker: usize, _process: u32, _clock: Time) -> Option<Infallible> {
         let turn = self.turns.fetch_add(1, Ordering::SeqCst).wrapping_add(1);
         if turn == self.held && !comes(self.told) {
             self.gave_up.store(true, Ordering::SeqCst);
         }
-        true
+        None
     }
 
     fn after_turn(&self, _worker: usize, _process: u32, _clock: Time) {}

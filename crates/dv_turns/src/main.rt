@@ -7,6 +7,8 @@
 
 /// Workers that make their first turns at once.
 mod at_once;
+/// The causes for which runs are stopped.
+mod causes;
 /// How endings are told.
 mod endings;
 /// Writes that fail.
@@ -80,8 +82,14 @@ fn holds<R: AllocGlobal + Files + Print + Threads + Wait + Sync>(
         do_stop,
         "runs that are stopped before turn 1 to 50 are cut at their clocks",
     )?;
+    let are_told = causes::are_told(rt, &model);
+    tell(
+        rt,
+        are_told,
+        "the cause is told for which a worker is stopped, and of two that of worker 0",
+    )?;
     let do_fail = failing::do_all_end(rt, &model)?;
-    Ok(is_early && are_beside && are_own && do_stop && do_fail)
+    Ok(is_early && are_beside && are_own && do_stop && are_told && do_fail)
 }
 
 /// Tells whether the plain run of a model with inputs prints its trace, and each failing write ends it.

@@ -4,6 +4,7 @@
 use crate::runs::{Model, PROCESSES, run_by};
 use dv_run::Watch;
 use dv_time::Time;
+use std::convert::Infallible;
 use std::sync::Wait;
 use std::sync::atomic::{AtomicBool, AtomicU32, Ordering};
 use std::thread::Threads;
@@ -29,10 +30,12 @@ impl Owners {
 }
 
 impl Watch for Owners {
-    fn before_turn(&self, worker: usize, process: u32, _clock: Time) -> bool {
+    type Cause = Infallible;
+
+    fn before_turn(&self, worker: usize, process: u32, _clock: Time) -> Option<Infallible> {
         self.turns.fetch_add(1, Ordering::SeqCst);
         self.look(worker, process);
-        true
+        None
     }
 
     fn after_turn(&self, worker: usize, process: u32, _clock: Time) {

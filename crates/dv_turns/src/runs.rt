@@ -1,6 +1,6 @@
 //! The runs of the models.
 
-use dv_job::{JobEnded, JobError, Options, run_bytes, run_plain, run_watched};
+use dv_job::{EndedByWorkers, JobEnded, JobError, Options, run_bytes, run_plain, run_watched};
 use dv_partition::Partition;
 use dv_run::Watch;
 use std::alloc::Global;
@@ -53,6 +53,18 @@ pub fn run_by<R: AllocGlobal + Threads + Wait + Sync, G: Watch, W: Write>(
     watch: &G,
     writer: &mut W,
 ) -> Result<JobEnded, JobError> {
+    let ended = run_to_a_cause(rt, model, workers, watch, writer)?;
+    Ok(ended.ended)
+}
+
+/// Runs the model as [`run_by`] does, and tells the cause for which the run was stopped, too.
+pub fn run_to_a_cause<R: AllocGlobal + Threads + Wait + Sync, G: Watch, W: Write>(
+    rt: &R,
+    model: &Model<'_>,
+    workers: u32,
+    watch: &G,
+    writer: &mut W,
+) -> Result<EndedByWorkers<G::Cause>, JobError> {
     let Some(options) = options_to(HORIZON) else {
         return Err(JobError::Memory);
     };

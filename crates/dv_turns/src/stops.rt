@@ -1,7 +1,8 @@
-//! Runs that are stopped before a turn: what is written is the trace before the least clock, and says that it is partial.
+//! Runs that are stopped before a turn: what is written is the trace before the least clock, and says that it is partial; and the cause
+//! is told, which is the number of that turn.
 
-use crate::runs::{Model, PROCESSES, run_by};
-use dv_job::{JobEnded, JobError, Why};
+use crate::runs::{Model, PROCESSES, run_to_a_cause};
+use dv_job::{EndedByWorkers, JobEnded, JobError, Why};
 use dv_run::Watch;
 use dv_time::Time;
 use std::str;
@@ -15,7 +16,7 @@ const LAST_STOP: u64 = 50;
 /// No run is whole before so many turns: each process takes one to leave 0.0.
 const FIRST_TURNS: u64 = 3;
 
-/// Stops a run before one of its turns, and counts them.
+/// Stops a run before one of its turns, for its number, and counts them.
 #[derive(Drop)]
 struct Stopping {
     turns: AtomicU64,
@@ -23,8 +24,15 @@ struct Stopping {
 }
 
 impl Watch for Stopping {
-    fn before_turn(&self, _worker: usize, _process: u32, _clock: Time) -> bool {
-        self.turns.fetch_add(1, Ordering::SeqCst).wrapping_add(1) != self.before
+    type Cause = u64;
+
+    fn before_turn(&self, _worker: usize, _process: u32, _clock: Time) -> Option<u64> {
+        let turn = self.turns.fetch_add(1, Ordering::SeqCst).wrapping_add(1);
+        if turn == self.before {
+            Some(turn)
+        } else {
+            None
+        }
     }
 
     fn after_turn(&self, _worker: usize, _process: u32, _clock: Time) {}
@@ -99,10 +107,10 @@ fn stops<R: AllocGlobal + Threads + Wait + Sync>(
         before,
     };
     let mut bytes = Vec::new(rt.alloc());
-    let ended = run_by(rt, model, workers, &stopping, &mut bytes);
+    let ended = run_to_a_cause(rt, model, workers, &stopping, &mut bytes);
     let was_asked = before <= stopping.turns.load(Ordering::SeqCst);
-    if !was_asked || before > FIRST_TURNS && model.is_trace(&ended, &bytes) {
-        return model.is_trace(&ended, &bytes);
+    if !was_asked || before > FIRST_TURNS && is_whole(model, &ended, &bytes) {
+        return is_whole(model, &ended, &bytes);
     }
     let (Ok(text), Ok(trace)) = (
         str::from_utf8(bytes.as_slice()),
@@ -110,11 +118,32 @@ fn stops<R: AllocGlobal + Threads + Wait + Sync>(
     ) else {
         return false;
     };
-    is_stopped(&ended) && is_cut(text, trace)
+    is_stopped(&ended, before) && is_cut(text, trace)
 }
 
-fn is_stopped(ended: &Result<JobEnded, JobError>) -> bool {
-    matches!(ended, Ok(JobEnded::Partial(Why::Stopped)))
+// Whether a run is whole, and no cause is told.
+fn is_whole(
+    model: &Model<'_>,
+    ended: &Result<EndedByWorkers<u64>, JobError>,
+    bytes: &[u8],
+) -> bool {
+    match ended {
+        Ok(EndedByWorkers { ended, cause: None }) => model.is_trace(&Ok(*ended), bytes),
+        _ => false,
+    }
+}
+
+// Whether a run is stopped for the turn of this number.
+fn is_stopped(ended: &Result<EndedByWorkers<u64>, JobError>, before: u64) -> bool {
+    match ended {
+        Ok(
+            EndedByWorkers {
+                ended: JobEnded::Partial(Why::Stopped),
+                cause: Some(turn),
+            },
+        ) => *turn == before,
+        _ => false,
+    }
 }
 
 /// Whether that is so of each stop, by one, two and three workers.

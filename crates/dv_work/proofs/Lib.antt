@@ -9,3 +9,4 @@ pub mod Reporting
 pub mod Posting
 pub mod Crewing
 pub mod Endings
+pub mod Keeping

@@ -1,5 +1,5 @@
 -- What is known of a process that a worker owns, and of what it reports in the end.
-use Rattle.std.specs.Prelude.{◌≡◌, ℕ, ◌<◌, ◌≤◌, Bool, false, List, [], ◌++◌, length, slice_get, None, Some}
+use Rattle.std.specs.Prelude.{⊤, ◌≡◌, ◌≢◌, ℕ, ◌<◌, ◌≤◌, nat_eq, Bool, true, false, List, [], ◌++◌, length, slice_get, None, Some}
 use Rattle.std.specs.List.{list_any}
 use Rattle.std.specs.Option.{is_some}
 use Rattle.dv_time.specs.Time.{IsOfRun, rank}
@@ -73,6 +73,47 @@ holds_packet o = is_some o.held
 -- no end of a process holds one
 abbrev pub HoldsNone : {P : Type 0} → Seat P → Type 0
 HoldsNone s = list_any holds_packet s.outs.items ≡ false
+
+-- the end of the same link, which was at that place, held a packet
+pub record HeldAt {P : Type 0} (before : Seat P) (place : ℕ) (o : Out) : Type 0 where
+  pub end : Out
+  pub there : slice_get before.outs.items place ≡ Some end
+  pub same_link : end.number ≡ o.number
+  pub holds : holds_packet end ≡ true
+
+-- kinds of packets: any, a null message, and one with events
+abbrev pub IsAny : Packet → Type 0
+IsAny p = ⊤
+
+abbrev pub IsNull : Packet → Type 0
+IsNull p = p.events ≡ []
+
+abbrev pub HasEvents : Packet → Type 0
+HasEvents p = p.events ≢ []
+
+-- No packet of a kind is kept back at a place: where one stands afterwards, the end there held a packet before.
+abbrev pub KeepsNoneBackAt : {P : Type 0} → (Packet → Type 0) → (P → ProcessState) → ℕ → (before after : Seat P) → Type 0
+KeepsNoneBackAt IsOfKind state place before after =
+    (o : Out) (p : Packet) → slice_get after.outs.items place ≡ Some o → (state after.process).position.standing o.number ≡ Some p
+    → IsOfKind p → HeldAt before place o
+
+-- nor at any place
+abbrev pub KeepsNoneBack : {P : Type 0} → (Packet → Type 0) → (P → ProcessState) → (before after : Seat P) → Type 0
+KeepsNoneBack IsOfKind state before after = (i : ℕ) → KeepsNoneBackAt IsOfKind state i before after
+
+-- so it is of each of several processes
+abbrev pub EachKeepsNoneBack : {P : Type 0} → (Packet → Type 0) → (P → ProcessState) → (before after : List (Seat P)) → Type 0
+EachKeepsNoneBack {P} IsOfKind state before after =
+    (k : ℕ) (s t : Seat P) → slice_get before k ≡ Some s → slice_get after k ≡ Some t → KeepsNoneBack IsOfKind state s t
+
+-- the ends at other places are as before
+abbrev pub OthersStay : {P : Type 0} → ℕ → (before after : Seat P) → Type 0
+OthersStay place before after = (i : ℕ) → nat_eq i place ≡ false → slice_get after.outs.items i ≡ slice_get before.outs.items i
+
+-- no packet stands for a link that did not stand for it before
+abbrev pub NoneIsNew : (before after : ProcessState) → Type 0
+NoneIsNew before after =
+    (l : ℕ) (p : Packet) → after.position.standing l ≡ Some p → before.position.standing l ≡ Some p
 
 -- the ends of links that lead away, no two of one link
 pub record AreOuts {N : Type 0} (job : Job) (links : List (Link N)) (p : ℕ) (x : ProcessState) (outs : List Out) : Type 0 where

@@ -8,6 +8,7 @@ ghost use Rattle.dv_link.specs.Carries.{AreTrueOn, IsLinkOf};
 ghost use Rattle.dv_proc.specs.Packets.{meant_packet};
 ghost use Rattle.dv_work.specs.Ends.{IsIn, IsOut, given, taken};
 ghost use Rattle.dv_work.specs.Seats.{HasNull, HasToldAtFirst, IsEmptied, Reports, Sits, holds_packet};
+ghost use Rattle.dv_work.specs.Seats.{IsAny, KeepsNoneBackAt, NoneIsNew, OthersStay};
 
 use crate::bell::{Bell, Flag};
 use crate::post::Stream;
@@ -114,6 +115,7 @@ impl<P: LogicalProcess> Seat<P> {
         ensures ok { OnOk result (Sits N.job P.state P.handed P.valid floor.now.links.now self.new) }
         ensures err { OnErr result (Reports N.job P.state P.handed P.valid self.new) }
         ensures ends { length self.new.ins.items ≡ length self.old.ins.items }
+        ensures outs { self.new.outs ≡ self.old.outs }
     {
         let end = &mut self.ins[place];
         let Some(packet) = take_from(rt, floor.links, end) else {
@@ -137,7 +139,8 @@ impl<P: LogicalProcess> Seat<P> {
         work: &mut P::Work,
     ) -> Result<Turned, AllocError>
         requires { Sits N.job P.state P.handed P.valid floor.now.links.now self.old }
-        ensures { Sits N.job P.state P.handed P.valid floor.now.links.now self.new }
+        ensures sits { Sits N.job P.state P.handed P.valid floor.now.links.now self.new }
+        ensures outs { self.new.outs ≡ self.old.outs }
     {
         let _ = floor.links.len();
         self.process.turn(work)
@@ -151,6 +154,9 @@ impl<P: LogicalProcess> Seat<P> {
         ensures ends { length self.new.outs.items ≡ length self.old.outs.items }
         ensures told { HasToldAtFirst P.state place self.old
             → HasToldAtFirst P.state (place + 1) self.new }
+        ensures others { OthersStay place self.old self.new }
+        ensures standing { NoneIsNew (P.state self.old.process) (P.state self.new.process) }
+        ensures kept { KeepsNoneBackAt IsAny P.state place self.old self.new }
     {
         let _ = floor.links.len();
         let end = &mut self.outs[place];
@@ -180,7 +186,8 @@ impl<P: LogicalProcess> Seat<P> {
     }
 
     /// Puts the packet that stands on the link at a place, or that is held there, where the link has room. Tells whether it was
-    /// put. Where it was not, all that the process prepared there was put, or a packet is held there.
+    /// put. Where it was not, all that the process prepared there was put, or a packet is held there. One still stands there only
+    /// behind a packet that was held before.
     pub fn put<N: OfJob, R: Wait>(&mut self, rt: &R, floor: &Floor<'_, N>, place: usize) -> bool
         requires sits { Sits N.job P.state P.handed P.valid floor.now.links.now self.old }
         requires place { place < length self.old.outs.items }
@@ -188,6 +195,9 @@ impl<P: LogicalProcess> Seat<P> {
         ensures ends { length self.new.outs.items ≡ length self.old.outs.items }
         ensures told { result ≡ false → HasToldAtFirst P.state place self.old
             → HasToldAtFirst P.state (place + 1) self.new }
+        ensures others { OthersStay place self.old self.new }
+        ensures standing { NoneIsNew (P.state self.old.process) (P.state self.new.process) }
+        ensures kept { KeepsNoneBackAt IsAny P.state place self.old self.new }
     {
         self.hold(floor, place);
         let end = &mut self.outs[place];

@@ -4,7 +4,8 @@ ghost use Rattle.std.specs.Prelude.{◌≡◌, ◌≢◌, ◌<◌, ◌+◌, ◌�
 ghost use Rattle.std.specs.List.{All};
 ghost use Rattle.dv_proc.specs.declared.process.Turned.TheVariants.{Done, Moved};
 ghost use Rattle.dv_work.specs.Crews.{Reported, Seated};
-ghost use Rattle.dv_work.specs.Seats.{HasToldAll, HasToldAtFirst, HoldsNone, Reports, Sits};
+ghost use Rattle.dv_work.specs.Seats.{HasEvents, HasToldAll, HasToldAtFirst, HoldsNone, IsNull, Reports, Sits};
+ghost use Rattle.dv_work.specs.Seats.{EachKeepsNoneBack, KeepsNoneBack, KeepsNoneBackAt, NoneIsNew, OthersStay};
 
 use crate::bell::Bell;
 use crate::gate::Gate;
@@ -45,6 +46,7 @@ fn take_all<N: OfJob, P: LogicalProcess, R: Wait>(
     requires { Sits N.job P.state P.handed P.valid floor.now.links.now seat.old }
     ensures ok { OnOk result (Sits N.job P.state P.handed P.valid floor.now.links.now seat.new) }
     ensures err { OnErr result (Reports N.job P.state P.handed P.valid seat.new) }
+    ensures outs { seat.new.outs ≡ seat.old.outs }
 {
     let mut moved = false;
     for place in 0..seat.ins.len() {
@@ -70,6 +72,10 @@ fn put_next<N: OfJob, P: LogicalProcess, R: Wait>(
     ensures ends { length seat.new.outs.items ≡ length seat.old.outs.items }
     ensures told { are_nulls_due ≡ true → result ≡ false → HasToldAtFirst P.state place seat.old
         → HasToldAtFirst P.state (place + 1) seat.new }
+    ensures others { OthersStay place seat.old seat.new }
+    ensures standing { NoneIsNew (P.state seat.old.process) (P.state seat.new.process) }
+    ensures nulls { are_nulls_due ≡ true → KeepsNoneBackAt IsNull P.state place seat.old seat.new }
+    ensures events { KeepsNoneBackAt HasEvents P.state place seat.old seat.new }
 {
     if !are_nulls_due && seat.has_null(place) {
         return false;
@@ -88,6 +94,8 @@ fn put_all<N: OfJob, P: LogicalProcess, R: Wait>(
     requires { Sits N.job P.state P.handed P.valid floor.now.links.now seat.old }
     ensures sits { Sits N.job P.state P.handed P.valid floor.now.links.now seat.new }
     ensures told { are_nulls_due ≡ true → result ≡ false → HasToldAll P.state seat.new }
+    ensures nulls { are_nulls_due ≡ true → KeepsNoneBack IsNull P.state seat.old seat.new }
+    ensures events { KeepsNoneBack HasEvents P.state seat.old seat.new }
 {
     let mut moved = false;
     for place in 0..seat.outs.len() {
@@ -122,6 +130,7 @@ fn turn_if_near<N: OfJob, P: LogicalProcess, G: Gate<P>>(
     requires { Sits N.job P.state P.handed P.valid floor.now.links.now seat.old }
     ensures ok { OnOk result (Sits N.job P.state P.handed P.valid floor.now.links.now seat.new) }
     ensures err { OnErr result (Reports N.job P.state P.handed P.valid seat.new) }
+    ensures outs { seat.new.outs ≡ seat.old.outs }
 {
     if floor.stream.holds_back(seat.number) {
         return Ok(Turned::Waiting);
@@ -136,6 +145,14 @@ fn turn_if_near<N: OfJob, P: LogicalProcess, G: Gate<P>>(
     };
     gate.after_turn(worker, seat.number, &seat.process);
     Ok(turned)
+}
+
+// All null messages are due in a round that tells, and else where the process does not run ahead.
+fn nulls_are_due(tells: bool, runs_ahead: bool) -> bool
+    ensures tells { tells ≡ true → result ≡ true }
+    ensures near { runs_ahead ≡ false → result ≡ true }
+{
+    tells || !runs_ahead
 }
 
 // Takes, makes one turn if the process is near enough and the gate lets it, and puts. Null messages are due where a packet came,
@@ -155,6 +172,9 @@ fn visit<N: OfJob, P: LogicalProcess, G: Gate<P>, R: Wait>(
     ensures err { OnErr result (Reports N.job P.state P.handed P.valid seat.new) }
     ensures told { IfOk result (λ t. t ≢ Moved → HasToldAll P.state seat.new) }
     ensures done { IfOk result (λ t. t ≡ Done → HoldsNone seat.new) }
+    ensures nulls { tells ≡ true
+        → IfOk result (λ _. KeepsNoneBack IsNull P.state seat.old seat.new) }
+    ensures events { IfOk result (λ _. KeepsNoneBack HasEvents P.state seat.old seat.new) }
 {
     let Ok(took) = take_all(rt, floor, seat) else {
         return Err(Halt::Memory);
@@ -168,7 +188,7 @@ fn visit<N: OfJob, P: LogicalProcess, G: Gate<P>, R: Wait>(
     }
     let turned = turn_if_near(floor, gate, worker, seat, work)?;
     let runs_ahead = turned == Turned::Moved && !took;
-    let put = put_all(rt, floor, seat, tells || !runs_ahead);
+    let put = put_all(rt, floor, seat, nulls_are_due(tells, runs_ahead));
     Ok(progress(turned, took || put, seat.holds_packets()))
 }
 
@@ -187,6 +207,9 @@ fn round<N: OfJob, P: LogicalProcess, G: Gate<P>, R: Wait>(
     ensures all { All (Reports N.job P.state P.handed P.valid) seats.new }
     ensures told { IfOk result (λ t. t ≢ Moved → All (HasToldAll P.state) seats.new) }
     ensures done { IfOk result (λ t. t ≡ Done → All HoldsNone seats.new) }
+    ensures nulls { tells ≡ true
+        → IfOk result (λ _. EachKeepsNoneBack IsNull P.state seats.old seats.new) }
+    ensures events { IfOk result (λ _. EachKeepsNoneBack HasEvents P.state seats.old seats.new) }
 {
     let mut all = Turned::Done;
     for i in 0..seats.len() {

@@ -83,7 +83,7 @@ returns-clause-printed g c =
       ready = c.networks_of_texts.ensures.ready j.limit f;
     } in
     let w = c.in_ok-worked.worked in
-    let r = c.ran_by_workers.result in
+    let r = c.ran_by_workers.result.ran in
     let of = c.ran_by_workers.ensures in
     let mark : rank j.limit w.written.mark ≡ least_rank j.limit r.clocks.items =
     c.in_ok-worked.ensures.least ∙ ap (λ ts. least_rank j.limit ts.items) (sym of.clocks) in

@@ -21,10 +21,21 @@ pub returns-in_err-to-clause-err : goal.returns-in_err-to-clause-err
 returns-in_err-to-clause-err g c =
     let job = g.J.PlannedJob.means c.args.job in
     let known = g.W.Write.contents c.args.writer.now in
-    let none : IsBegun job c.args.lines.now known known = record {
+    let none : IsBegun job c.args.tree.now known known = record {
       upto = 0;
       within = omega arith;
-      text = AppendsBeginning-nothing known (lines_before job c.args.lines.now 0);
+      text = AppendsBeginning-nothing known (lines_before job c.args.tree.now 0);
+    } in
+    OnErr-always _ none
+
+pub returns-in_err-lines-clause-err : goal.returns-in_err-lines-clause-err
+returns-in_err-lines-clause-err g c =
+    let job = g.J.PlannedJob.means c.args.job in
+    let known = g.W.Write.contents c.args.writer.now in
+    let none : IsBegun job c.args.tree.now known known = record {
+      upto = 0;
+      within = omega arith;
+      text = AppendsBeginning-nothing known (lines_before job c.args.tree.now 0);
     } in
     OnErr-always _ none
 
@@ -32,10 +43,10 @@ pub returns-in_err-world-clause-err : goal.returns-in_err-world-clause-err
 returns-in_err-world-clause-err g c =
     let job = g.J.PlannedJob.means c.args.job in
     let known = g.W.Write.contents c.args.writer.now in
-    let none : IsBegun job c.args.lines.now known known = record {
+    let none : IsBegun job c.args.tree.now known known = record {
       upto = 0;
       within = omega arith;
-      text = AppendsBeginning-nothing known (lines_before job c.args.lines.now 0);
+      text = AppendsBeginning-nothing known (lines_before job c.args.tree.now 0);
     } in
     OnErr-always _ none
 
@@ -50,7 +61,7 @@ returns-in_err-clocks-clause-err g c =
     let state = state_by (view_by g.A.Atomic.behaviour told_of) in
     let contents = g.W.Write.contents in
     let after = c.stream_rounds.new.world in
-    let tree = c.args.lines.now in
+    let tree = c.args.tree.now in
     let start = contents c.args.writer.now in
     let now = contents c.stream_rounds.new.writer in
     let first : c.in_ok-world.world.job ≡ c.args.job = c.in_ok-world.ensures.job in
@@ -64,7 +75,8 @@ returns-in_err-clocks-clause-err g c =
     (least_within (means after.job) (shown means state after) (clocks_in means state after)
     (are_clocks_in means state after c.in_ok-ended.ensures.true_to_model) some)) in
     OnErr-always _ (begun_to (means c.args.job) tree start now w
-    (subst (λ j. IsWrittenTo (means j) tree start now w) first c.in_ok-ended.ensures.written) within)
+    (subst (λ j. IsWrittenTo (means j) tree start now w) first
+    (subst (λ t. IsWrittenTo (means c.in_ok-world.world.job) t start now w) c.in_ok-lines.ensures c.in_ok-ended.ensures.written)) within)
 
 pub returns-clause-run : goal.returns-clause-run
 returns-clause-run g c =

@@ -23,6 +23,10 @@ pub returns-in_err-signals-clause-err : goal.returns-in_err-signals-clause-err
 returns-in_err-signals-clause-err g c =
     OnErr-always _ (not_begun (g.J.PlannedJob.means c.args.job.now) c.args.tree.now (g.W.Write.contents c.args.writer.now))
 
+pub returns-in_err-lines-clause-err : goal.returns-in_err-lines-clause-err
+returns-in_err-lines-clause-err g c =
+    OnErr-always _ (not_begun (g.J.PlannedJob.means c.args.job.now) c.args.tree.now (g.W.Write.contents c.args.writer.now))
+
 pub run_and_write-written-requires-clause-made : goal.run_and_write-written-requires-clause-made
 run_and_write-written-requires-clause-made g c κs _ =
     made_alike g.J.PlannedJob.means job_of_type g.P.LogicalProcess.state g.P.LogicalProcess.valid c.args.job.now g.N.OfJob.job
@@ -37,7 +41,8 @@ returns-in_err-rest-clause-err g c =
     let job = g.J.PlannedJob.means c.args.job.now in
     let w = c.in_ok-written.written in
     let written = subst (λ (j : Job). IsWrittenTo j tree old mid w) c.requires.job
-    (of_ok (IsWrittenTo g.N.OfJob.job tree old mid) _ w c.in_ok-written.was c.run_and_write-written.ensures.written) in
+    (subst (λ t. IsWrittenTo g.N.OfJob.job t old mid w) c.in_ok-lines.ensures
+    (of_ok (IsWrittenTo g.N.OfJob.job c.in_ok-lines.lines old mid) _ w c.in_ok-written.was c.run_and_write-written.ensures.written)) in
     let within = subst (λ (j : Job). rank j.limit w.mark ≤ end_of j.limit j.horizon) c.requires.job
     (of_ok (λ v. rank g.N.OfJob.job.limit v.mark ≤ end_of g.N.OfJob.job.limit g.N.OfJob.job.horizon) _ w c.in_ok-written.was
     c.run_and_write-written.ensures.within) in
@@ -52,10 +57,9 @@ write_rest-requires-clause-rest g c =
 pub write_rest-requires-clause-of_run : goal.write_rest-requires-clause-of_run
 write_rest-requires-clause-of_run g c =
     let contents = g.W.Write.contents in
-    let tree = c.args.tree.now in
     let old = contents c.args.writer.now in
     let mid = contents c.run_and_write-written.new.writer in
-    (of_ok (IsWrittenTo g.N.OfJob.job tree old mid) _ c.in_ok-written.written c.in_ok-written.was
+    (of_ok (IsWrittenTo g.N.OfJob.job c.in_ok-lines.lines old mid) _ c.in_ok-written.written c.in_ok-written.was
     c.run_and_write-written.ensures.written).of_run
 
 pub write_rest-requires-clause-within : goal.write_rest-requires-clause-within
@@ -72,11 +76,12 @@ returns-in_err-written-2-clause-err g c =
     let job = g.J.PlannedJob.means c.args.job.now in
     let w = c.in_ok-written.written in
     let written = subst (λ (j : Job). IsWrittenTo j tree old mid w) c.requires.job
-    (of_ok (IsWrittenTo g.N.OfJob.job tree old mid) _ w c.in_ok-written.was c.run_and_write-written.ensures.written) in
+    (subst (λ t. IsWrittenTo g.N.OfJob.job t old mid w) c.in_ok-lines.ensures
+    (of_ok (IsWrittenTo g.N.OfJob.job c.in_ok-lines.lines old mid) _ w c.in_ok-written.was c.run_and_write-written.ensures.written)) in
     let new = contents c.write_rest.new.writer in
     OnErr-always _ (begun_from job tree c.a_trace_is_its_pieces.ensures.lines {a = old} {b = mid} {c = new} w written
     (subst (λ (j : Job). Falters j tree mid new w) c.requires.job
-    (subst (λ t. Falters g.N.OfJob.job t mid new w) c.new-lines.ensures c.in_err-written-2.ensures.err)))
+    (subst (λ t. Falters g.N.OfJob.job t mid new w) (c.run_and_write-written.ensures.tree ∙ c.in_ok-lines.ensures) c.in_err-written-2.ensures.err)))
 
 pub returns-in_err-kept-clause-err : goal.returns-in_err-kept-clause-err
 returns-in_err-kept-clause-err g c =
@@ -87,10 +92,11 @@ returns-in_err-kept-clause-err g c =
     let job = g.J.PlannedJob.means c.args.job.now in
     let w = c.in_ok-written.written in
     let written = subst (λ (j : Job). IsWrittenTo j tree old mid w) c.requires.job
-    (of_ok (IsWrittenTo g.N.OfJob.job tree old mid) _ w c.in_ok-written.was c.run_and_write-written.ensures.written) in
+    (subst (λ t. IsWrittenTo g.N.OfJob.job t old mid w) c.in_ok-lines.ensures
+    (of_ok (IsWrittenTo g.N.OfJob.job c.in_ok-lines.lines old mid) _ w c.in_ok-written.was c.run_and_write-written.ensures.written)) in
     let new = contents c.write_rest.new.writer in
     let next = c.in_ok-written-2.written in
-    let on = subst (λ t. GoesOn g.N.OfJob.job t mid new w next) c.new-lines.ensures c.in_ok-written-2.ensures.ok in
+    let on = subst (λ t. GoesOn g.N.OfJob.job t mid new w next) (c.run_and_write-written.ensures.tree ∙ c.in_ok-lines.ensures) c.in_ok-written-2.ensures.ok in
     let more = written_further job tree c.a_trace_is_its_pieces.ensures.lines {a = old} {b = mid} {c = new} w written next
     (subst (λ (j : Job). GoesOn j tree mid new w next) c.requires.job on) in
     OnErr-always _ (begun_to job tree old new next more
@@ -111,10 +117,11 @@ returns-clause-written g c =
     let job = g.J.PlannedJob.means c.args.job.now in
     let w = c.in_ok-written.written in
     let written = subst (λ (j : Job). IsWrittenTo j tree old mid w) c.requires.job
-    (of_ok (IsWrittenTo g.N.OfJob.job tree old mid) _ w c.in_ok-written.was c.run_and_write-written.ensures.written) in
+    (subst (λ t. IsWrittenTo g.N.OfJob.job t old mid w) c.in_ok-lines.ensures
+    (of_ok (IsWrittenTo g.N.OfJob.job c.in_ok-lines.lines old mid) _ w c.in_ok-written.was c.run_and_write-written.ensures.written)) in
     let new = contents c.write_rest.new.writer in
     let next = c.in_ok-written-2.written in
-    let on = subst (λ t. GoesOn g.N.OfJob.job t mid new w next) c.new-lines.ensures c.in_ok-written-2.ensures.ok in
+    let on = subst (λ t. GoesOn g.N.OfJob.job t mid new w next) (c.run_and_write-written.ensures.tree ∙ c.in_ok-lines.ensures) c.in_ok-written-2.ensures.ok in
     let more = written_further job tree c.a_trace_is_its_pieces.ensures.lines {a = old} {b = mid} {c = new} w written next
     (subst (λ (j : Job). GoesOn j tree mid new w next) c.requires.job on) in
     more

@@ -6,3 +6,4 @@ abbrev pub invariant-loop-place : goal.invariant-loop-place
 invariant-loop-place g l =
     Sits g.N.OfJob.job g.P.LogicalProcess.state g.P.LogicalProcess.handed g.P.LogicalProcess.valid l.floor.links.now l.seat
     × (length l.seat.ins.items ≡ length l.fn.seat.ins.items)
+    × (l.seat.outs ≡ l.fn.seat.outs)

@@ -1,4 +1,4 @@
-use Rattle.std.proofs.Common.{◌≡◌, ap, sym, ◌∙◌, map, arith, true, false}
+use Rattle.std.proofs.Common.{ap, sym, ◌∙◌, map, arith, true, false}
 use Rattle.std.specs.Prelude.{Some, slice_get}
 use Rattle.dv_syntax.specs.Trees.{model_of}
 use Rattle.dv_tree.specs.Reached.{borrowed_models, marked}

@@ -1,5 +1,7 @@
-use Rattle.std.proofs.Common.{◌<◌, length, refl, arith}
+use Rattle.std.proofs.Common.{◌<◌, ◌∙◌, length, refl, arith}
 use Rattle.std.proofs.lemmas.Option.{slice_get_read}
+use Rattle.dv_core.proofs.Lookups.{set_other}
+use Rattle.dv_work.proofs.Keeping.{kept_at_end}
 use Rattle.dv_work.proofs.Sitting.{given_outs}
 use Rattle.dv_work.proofs.Speaking.{given_is_true}
 use Rattle.dv_work.proofs.seat.Seat.put.Goals as goal
@@ -46,3 +48,29 @@ returns-clause-sits g c =
       ins = sits.ins;
       posted = sits.posted;
     }
+
+pub returns-then-not-put_held-clause-others : goal.returns-then-not-put_held-clause-others
+returns-then-not-put_held-clause-others g c = λ i other.
+    set_other c.hold.new.self.outs.items c.args.place i c.put_held.new.end other ∙ c.hold.ensures.others i other
+
+pub returns-then-not-put_held-clause-kept : goal.returns-then-not-put_held-clause-kept
+returns-then-not-put_held-clause-kept g c =
+    let s = c.hold.new.self in
+    let xs = s.outs.items in
+    let inside : c.args.place < length xs = omega (arith, c.requires.place, c.hold.ensures.ends) in
+    let read = slice_get_read xs (length xs) c.args.place c.index_mut-end.result.now refl inside c.index_mut-end.ensures.value in
+    kept_at_end s c.args.place c.index_mut-end.result.now c.put_held.new.end read c.put_held.ensures.number g.P.LogicalProcess.state
+    c.args.self.now c.hold.ensures.kept
+
+pub returns-clause-others : goal.returns-clause-others
+returns-clause-others g c = λ i other.
+    set_other c.hold.new.self.outs.items c.args.place i c.put_held.new.end other ∙ c.hold.ensures.others i other
+
+pub returns-clause-kept : goal.returns-clause-kept
+returns-clause-kept g c =
+    let s = c.hold.new.self in
+    let xs = s.outs.items in
+    let inside : c.args.place < length xs = omega (arith, c.requires.place, c.hold.ensures.ends) in
+    let read = slice_get_read xs (length xs) c.args.place c.index_mut-end.result.now refl inside c.index_mut-end.ensures.value in
+    kept_at_end s c.args.place c.index_mut-end.result.now c.put_held.new.end read c.put_held.ensures.number g.P.LogicalProcess.state
+    c.args.self.now c.hold.ensures.kept

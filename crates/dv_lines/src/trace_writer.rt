@@ -1,0 +1,234 @@
+//! A trace written as text, part by part, with the words of a tree.
+
+ghost use Rattle.std.specs.Prelude.{◌≡◌, ◌++◌, ◌-◌, ◌≤◌, length, OnErr, OnOk, IfOk};
+ghost use Rattle.std.specs.Io.KnownBytes.{Appends};
+ghost use Rattle.std.specs.List.{flat_map};
+ghost use Rattle.std.specs.Ordering.{is_eq};
+ghost use Rattle.dv_time.specs.Time.{time_cmp};
+ghost use Rattle.dv_bag.specs.Part.{IsByTime};
+ghost use Rattle.dv_text.specs.Merging.{first_text, group_text, groups_before, groups_from, groups_of, other_groups, trace_text};
+ghost use Rattle.dv_text.specs.Names.{tree_names, tree_ports};
+ghost use Rattle.dv_text.specs.Texts.{ending_text, part_text};
+ghost use Rattle.dv_text.specs.Writing.{AppendsBeginning, StopsShort, TakesFront};
+ghost use Rattle.dv_text.specs.declared.writing.Ending.TheVariants.{Whole};
+
+use crate::lines::Lines;
+use crate::tree_words::TreeWords;
+use dv_bag::{Outer, Trace};
+use dv_slice::PartSlice;
+use dv_text::{Ending, WriteError, hand_over, write_ending};
+use dv_time::Time;
+use dv_tree::Tree;
+use std::alloc::{AllocError, Global};
+use std::io::Write;
+use std::marker::Model;
+
+// How many bytes are put together before the writer gets them.
+const PIECE_LENGTH: usize = 65_536;
+
+/// What writes a trace as text, part by part, with the words of a tree. One buffer serves all parts.
+#[derive(Drop)]
+pub struct TraceWriter<'t> {
+    words: TreeWords<'t>,
+    lines: Lines,
+}
+
+impl<'t> Model for TraceWriter<'t> {
+    ghost use Rattle.dv_tree.specs.Tables.{Source, source_code};
+
+    ghost Value = { Source };
+
+    ghost coded = { source_code };
+
+    ghost view = { λ w. w.words };
+}
+
+impl<'t> TraceWriter<'t> {
+    /// With the words of this tree.
+    ///
+    /// # Errors
+    ///
+    /// No memory for the words of its components.
+    pub fn new(alloc: Global, tree: &'t Tree<'t>) -> Result<Self, AllocError>
+        ensures { IfOk result (λ writer. writer ≡ tree.now) }
+    {
+        Ok(TraceWriter {
+            words: TreeWords::of(alloc, tree)?,
+            lines: Lines::new(alloc),
+        })
+    }
+
+    /// The tree whose names it writes.
+    pub fn tree(&self) -> &'t Tree<'t>
+        ensures { result.now ≡ self.now }
+    {
+        self.words.tree()
+    }
+
+    /// Writes the lines of a part of a trace that stands by time. All of them are with the writer afterwards. A write
+    /// that failed is not tried again.
+    ///
+    /// # Errors
+    ///
+    /// `WriteError::Write` where a write failed or took nothing, `WriteError::Memory` where memory was refused. A
+    /// beginning of the lines was written then, and what was not written is forgotten.
+    pub fn part<W: Write>(&mut self, part: &PartSlice<'_>, writer: &mut W) -> Result<(), WriteError>
+        ensures tree { self.new ≡ self.old }
+        ensures ok { IsByTime part.now
+            → OnOk result (Appends (W.contents writer.old) (W.contents writer.new)
+            (part_text (tree_names self.old) (tree_ports self.old) part.now)) }
+        ensures err { IsByTime part.now
+            → OnErr result (AppendsBeginning (W.contents writer.old) (W.contents writer.new)
+            (part_text (tree_names self.old) (tree_ports self.old) part.now)) }
+    {
+        write_merged(&mut self.lines, writer, &self.words, part)
+    }
+}
+
+/// Writes the text of a trace that stands by time and reaches the horizon, which is in ticks. A write that failed is not
+/// tried again.
+///
+/// # Errors
+///
+/// `WriteError::Write` where a write failed or took nothing, `WriteError::Memory` where memory was refused. A
+/// beginning of the text was written then, and not all of it.
+pub fn write_trace<W: Write>(
+    alloc: Global,
+    trace: &Trace,
+    tree: &Tree,
+    horizon: u64,
+    writer: &mut W,
+) -> Result<(), WriteError>
+    ensures ok { IsByTime trace.now
+        → OnOk result (Appends (W.contents writer.old) (W.contents writer.new)
+        (part_text (tree_names tree.now) (tree_ports tree.now) trace.now
+        ++ ending_text (Whole horizon))) }
+    ensures err { IsByTime trace.now
+        → OnErr result (StopsShort (W.contents writer.old) (W.contents writer.new)
+        (part_text (tree_names tree.now) (tree_ports tree.now) trace.now
+        ++ ending_text (Whole horizon))) }
+{
+    let mut lines = TraceWriter::new(alloc, tree)?;
+    lines.part(&PartSlice::all_of(trace), writer)?;
+    write_ending(alloc, &Ending::Whole(horizon), writer)
+}
+
+// Writes the lines of a part, merged by time.
+fn write_merged<W: Write>(
+    lines: &mut Lines,
+    writer: &mut W,
+    words: &TreeWords,
+    part: &PartSlice<'_>,
+) -> Result<(), WriteError>
+    ensures ok { OnOk result (Appends (W.contents writer.old) (W.contents writer.new)
+        (trace_text (tree_names words.now) (tree_ports words.now) part.now)) }
+    ensures err { OnErr result (AppendsBeginning (W.contents writer.old) (W.contents writer.new)
+        (trace_text (tree_names words.now) (tree_ports words.now) part.now)) }
+{
+    lines.clear();
+    let mut outer = part.outer();
+    for place in 0..part.entry_count() {
+        let entry = part.entry(place);
+        outer = write_before(lines, writer, words, entry.time, outer)?;
+        words.put_entry(lines, entry)?;
+        hand_over_if_long(lines, writer)?;
+    }
+    write_groups(lines, writer, words, outer)?;
+    hand_over(writer, lines.as_bytes())
+}
+
+// Gives a writer the lines so far, once there is a piece of them.
+fn hand_over_if_long<W: Write>(lines: &mut Lines, writer: &mut W) -> Result<(), WriteError>
+    ensures ok { OnOk result (TakesFront (W.contents writer.old) (W.contents writer.new)
+        lines.old lines.new) }
+    ensures err { OnErr result (StopsShort (W.contents writer.old) (W.contents writer.new)
+        lines.old) }
+{
+    if lines.len() >= PIECE_LENGTH {
+        hand_over(writer, lines.as_bytes())?;
+        lines.clear();
+    }
+    Ok(())
+}
+
+// The lines of what left before a time. What left from then on is returned.
+fn write_before<'o, W: Write>(
+    lines: &mut Lines,
+    writer: &mut W,
+    words: &TreeWords,
+    time: Time,
+    outer: &'o [Outer],
+) -> Result<&'o [Outer], WriteError>
+    ensures ok { OnOk result (TakesFront (W.contents writer.old) (W.contents writer.new)
+        (lines.old ++ groups_before time (groups_of (tree_ports words.now) outer.now))
+        lines.new) }
+    ensures left { IfOk result (λ left. groups_of (tree_ports words.now) left.now
+        ≡ groups_from time (groups_of (tree_ports words.now) outer.now)) }
+    ensures err { OnErr result (AppendsBeginning (W.contents writer.old) (W.contents writer.new)
+        (lines.old ++ groups_before time (groups_of (tree_ports words.now) outer.now))) }
+{
+    let mut rest = outer;
+    while let Some((first, _)) = rest.split_first()
+        && first.time.is_before(time)
+    {
+        rest = put_group(lines, words, rest)?;
+        hand_over_if_long(lines, writer)?;
+    }
+    Ok(rest)
+}
+
+// The lines of all that left.
+fn write_groups<W: Write>(
+    lines: &mut Lines,
+    writer: &mut W,
+    words: &TreeWords,
+    outer: &[Outer],
+) -> Result<(), WriteError>
+    ensures ok { OnOk result (TakesFront (W.contents writer.old) (W.contents writer.new)
+        (lines.old ++ flat_map group_text (groups_of (tree_ports words.now) outer.now))
+        lines.new) }
+    ensures err { OnErr result (AppendsBeginning (W.contents writer.old) (W.contents writer.new)
+        (lines.old ++ flat_map group_text (groups_of (tree_ports words.now) outer.now))) }
+{
+    let mut rest = outer;
+    while !rest.is_empty() {
+        rest = put_group(lines, words, rest)?;
+        hand_over_if_long(lines, writer)?;
+    }
+    Ok(())
+}
+
+// Whether two times are the same.
+fn is_same(first: Time, second: Time) -> bool
+    ensures { result ≡ is_eq (time_cmp first second) }
+{
+    first == second
+}
+
+// The line of what left first, all at one time, behind those that are there. What left later is returned.
+fn put_group<'o>(
+    lines: &mut Lines,
+    words: &TreeWords,
+    outer: &'o [Outer],
+) -> Result<&'o [Outer], AllocError>
+    ensures line { OnOk result (lines.new ≡ lines.old
+        ++ first_text (groups_of (tree_ports words.now) outer.now)) }
+    ensures left { IfOk result (λ left. groups_of (tree_ports words.now) left.now
+        ≡ other_groups (groups_of (tree_ports words.now) outer.now)) }
+    ensures fewer { IfOk result (λ left. length left.now ≤ length outer.now - 1) }
+{
+    let Some((first, after)) = outer.split_first() else {
+        return Ok(outer);
+    };
+    lines.begin_left(first.time)?;
+    words.put_port(lines, first.port, &first.values)?;
+    let mut rest = after;
+    while let Some((next, after)) = rest.split_first()
+        && is_same(first.time, next.time)
+    {
+        words.put_port(lines, next.port, &next.values)?;
+        rest = after;
+    }
+    lines.end_left()?;
+    Ok(rest)
+}

@@ -1,0 +1,95 @@
+//! The words of a tree, by which entries and what leaves are put into lines.
+
+ghost use Rattle.std.specs.Prelude.{◌≡◌, ◌++◌, IfOk, OnErr, OnOk};
+ghost use Rattle.dv_tree.specs.Paths.{name_at};
+ghost use Rattle.dv_text.specs.Names.{tree_names, tree_ports};
+ghost use Rattle.dv_text.specs.Texts.{entry_text, names_at, port_text};
+
+use crate::laws::words_say_the_names;
+use crate::lines::Lines;
+use crate::told::{faulted, transition};
+use crate::words::Words;
+use dv_bag::{Bag, Entry, What};
+use dv_tree::Tree;
+use std::alloc::{AllocError, Global};
+use std::marker::Model;
+
+/// The words of a tree. A contract reads the tree.
+#[derive(Drop)]
+pub struct TreeWords<'t> {
+    tree: &'t Tree<'t>,
+    words: Words,
+}
+
+impl<'t> Model for TreeWords<'t> {
+    ghost use Rattle.std.specs.Prelude.{◌≡◌, ◌∷◌, [], map};
+    ghost use Rattle.dv_tree.specs.Tables.{Source, source_code};
+    ghost use Rattle.dv_text.specs.Names.{tree_names, tree_ports};
+    ghost use Rattle.dv_lines.specs.Tables.{decorated, ports_found, rows_found, with_ends};
+
+    ghost Value = { Source };
+
+    ghost coded = { source_code };
+
+    ghost view = { λ w. w.tree.now };
+
+    ghost invariant = { λ w.
+        (rows_found w.words ≡ map decorated (tree_names w.tree.now))
+        × (ports_found w.words ≡ map (with_ends (58 ∷ [])) (tree_ports w.tree.now)) };
+}
+
+impl<'t> TreeWords<'t> {
+    /// The words of a tree, looked up once.
+    ///
+    /// # Errors
+    ///
+    /// No memory for them.
+    pub fn of(alloc: Global, tree: &'t Tree<'t>) -> Result<Self, AllocError>
+        ensures { IfOk result (λ words. words ≡ tree.now) }
+    {
+        let words = Words::of(alloc, tree)?;
+        Ok(TreeWords { tree, words })
+    }
+
+    /// The tree whose words they are.
+    pub fn tree(&self) -> &'t Tree<'t>
+        ensures { result.now ≡ self.now }
+    {
+        self.tree
+    }
+
+    /// The line of an entry, behind those that are there.
+    ///
+    /// # Errors
+    ///
+    /// No memory for it. All is as before.
+    pub fn put_entry(&self, lines: &mut Lines, entry: &Entry) -> Result<(), AllocError>
+        ensures ok { OnOk result (lines.new ≡ lines.old
+            ++ entry_text (names_at (tree_names self.now) entry.now.component) entry.now) }
+        ensures err { OnErr result (lines.new ≡ lines.old) }
+    {
+        let (time, component) = (entry.time, entry.component);
+        let sent = &entry.sent;
+        match &entry.what {
+            What::Transition { kind, state } => {
+                transition(lines, &self.words, time, component, *kind, state, sent)
+            }
+            What::Fault(fault) => faulted(lines, &self.words, time, component, *fault, sent),
+        }
+    }
+
+    /// What leaves at a port, in the line of what leaves at its time.
+    ///
+    /// # Errors
+    ///
+    /// No memory for it. All is as before.
+    pub fn put_port(&self, lines: &mut Lines, port: u32, values: &Bag) -> Result<(), AllocError>
+        ensures ok { OnOk result (lines.new ≡ lines.old
+            ++ port_text (name_at (tree_ports self.now) port) values.now) }
+        ensures err { OnErr result (lines.new ≡ lines.old) }
+    {
+        words_say_the_names();
+        let (bytes, word) = self.words.port(port as usize);
+        lines.left(bytes, word, values)
+    }
+}

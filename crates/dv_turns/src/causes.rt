@@ -1,0 +1,116 @@
+//! The cause that is told of a run that is stopped: that of the one worker that was given one, and of two the one of worker 0.
+
+use crate::first_line::comes;
+use crate::runs::{Model, run_to_a_cause};
+use dv_job::{EndedByWorkers, JobEnded, JobError, Why};
+use dv_run::Watch;
+use dv_time::Time;
+use std::sync::Wait;
+use std::sync::atomic::{AtomicBool, Ordering};
+use std::thread::Threads;
+
+/// Where a run is stopped: before a turn of this process, at this clock.
+#[derive(Clone, Copy, PartialEq, Eq)]
+struct Place {
+    process: u32,
+    clock: Time,
+}
+
+/// Stops a run at one place.
+#[derive(Drop)]
+struct StopsAt {
+    place: Place,
+}
+
+impl Watch for StopsAt {
+    type Cause = Place;
+
+    fn before_turn(&self, _worker: usize, process: u32, clock: Time) -> Option<Place> {
+        let here = Place { process, clock };
+        if here == self.place { Some(here) } else { None }
+    }
+
+    fn after_turn(&self, _worker: usize, _process: u32, _clock: Time) {}
+}
+
+/// Stops two workers before their first turns, once both have come there.
+#[derive(Drop)]
+struct StopsBoth {
+    first_came: AtomicBool,
+    second_came: AtomicBool,
+    failed: AtomicBool,
+}
+
+impl StopsBoth {
+    // A worker has come to its first turn, and waits until the other has, too.
+    fn meet(&self, own: &AtomicBool, other: &AtomicBool) {
+        own.store(true, Ordering::SeqCst);
+        if !comes(other) {
+            self.failed.store(true, Ordering::SeqCst);
+        }
+    }
+}
+
+impl Watch for StopsBoth {
+    type Cause = Place;
+
+    fn before_turn(&self, worker: usize, process: u32, clock: Time) -> Option<Place> {
+        if worker == 0 {
+            self.meet(&self.first_came, &self.second_came);
+        } else {
+            self.meet(&self.second_came, &self.first_came);
+        }
+        Some(Place { process, clock })
+    }
+
+    fn after_turn(&self, _worker: usize, _process: u32, _clock: Time) {}
+}
+
+// Whether a run was stopped at a place.
+fn is_stopped_at(ended: &Result<EndedByWorkers<Place>, JobError>, place: Place) -> bool {
+    match ended {
+        Ok(
+            EndedByWorkers {
+                ended: JobEnded::Partial(Why::Stopped),
+                cause: Some(cause),
+            },
+        ) => *cause == place,
+        _ => false,
+    }
+}
+
+// Whether a run by two workers that is stopped at a place tells it.
+fn tells_place<R: AllocGlobal + Threads + Wait + Sync>(
+    rt: &R,
+    model: &Model<'_>,
+    place: Place,
+) -> bool {
+    let mut bytes = Vec::new(rt.alloc());
+    let ended = run_to_a_cause(rt, model, 2, &StopsAt { place }, &mut bytes);
+    is_stopped_at(&ended, place)
+}
+
+// Whether a run by two workers, both of which are stopped, tells the place of worker 0, whose first process is 0.
+fn tells_first<R: AllocGlobal + Threads + Wait + Sync>(rt: &R, model: &Model<'_>) -> bool {
+    let both = StopsBoth {
+        first_came: AtomicBool::new(false),
+        second_came: AtomicBool::new(false),
+        failed: AtomicBool::new(false),
+    };
+    let mut bytes = Vec::new(rt.alloc());
+    let ended = run_to_a_cause(rt, model, 2, &both, &mut bytes);
+    let place = Place {
+        process: 0,
+        clock: Time::ZERO,
+    };
+    !both.failed.load(Ordering::SeqCst) && is_stopped_at(&ended, place)
+}
+
+/// Whether that is so: worker 0 owns the processes 0 and 2, and worker 1 owns process 1. The processes 0 and 1 come to tick 5 by their
+/// first turns, since nothing comes to them.
+pub fn are_told<R: AllocGlobal + Threads + Wait + Sync>(rt: &R, model: &Model<'_>) -> bool {
+    let clock = Time { tick: 5, micro: 0 };
+    let of_first = tells_place(rt, model, Place { process: 0, clock });
+    let of_second = tells_place(rt, model, Place { process: 1, clock });
+    of_first && of_second && tells_first(rt, model)
+}
