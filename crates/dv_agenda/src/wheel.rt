@@ -1,7 +1,7 @@
 //! A wheel of times: each place stands in the set of the slot that its wait has at the present tick.
 
-ghost use Rattle.std.specs.Prelude.{◌≡◌, ◌≢◌, ℕ, None, Some, false, ◌+◌, ◌*◌, ◌/◌, ◌^◌, ◌<◌, ◌≤◌, ◌++◌, Option, OnErr, OnOk, List, length};
-ghost use Rattle.std.specs.Prelude.{slice_index_or, slice_set, take};
+ghost use Rattle.std.specs.Prelude.{◌≡◌, ◌≢◌, ℕ, None, Some, false, ◌+◌, ◌*◌, ◌/◌, ◌^◌, ◌<◌, ◌≤◌, ◌++◌, IsTrue, Option, OnErr, OnOk, List};
+ghost use Rattle.std.specs.Prelude.{length, slice_index_or, slice_set, take};
 ghost use Rattle.std.specs.Int.{bit_at};
 ghost use Rattle.std.specs.Vec.{vec_capacity, vec_len};
 ghost use Rattle.dv_time.specs.declared.time.Time.{Time};
@@ -20,7 +20,7 @@ use dv_time::Time;
 use std::alloc::AllocError;
 
 /// Puts a place into the set of the slot of its wait.
-#[inline]
+#[inline(always)]
 pub(crate) fn put(
     used: &mut Set,
     places: &mut Set,
@@ -386,6 +386,24 @@ pub(crate) fn go_on(
     }
 }
 
+/// Whether a slot has no place. Its word of a place is looked at first, since it mostly has others.
+#[inline]
+fn is_empty(places: &Set, span: usize, slot: usize, place: usize) -> bool
+    requires room { 641 * span ≤ 64 * length places.now }
+    requires whole { span ≡ 64 * (span / 64) }
+    requires narrow { span ≤ 2 ^ 33 }
+    requires slot { slot < 641 }
+    requires place { place < span }
+    ensures { IsTrue result → (p : ℕ) → p < span → has places.now (slot * span + p) ≡ 0 }
+{
+    if places.word((slot * span + place) / 64) != 0 {
+        return false;
+    }
+    let base = slot * (span / 64);
+    let end = base + span / 64;
+    places.next_word(base, end) == end
+}
+
 /// Takes a place out of the set of the slot of its wait, and the slot out of use where no place is left in it.
 #[inline]
 fn leave(
@@ -410,10 +428,8 @@ fn leave(
 {
     if let Some(time) = wait {
         let slot = slot_of(time.tick, now);
-        let base = slot * (span / 64);
-        let end = base + span / 64;
         places.remove(slot * span + place);
-        if places.next_word(base, end) == end {
+        if is_empty(places, span, slot, place) {
             used.remove(slot);
             leasts[slot] = Least::Known(None);
         } else {
@@ -432,6 +448,43 @@ fn earlier(now: u64, wait: Option<Time>) -> u64
         Some(time) => { if time.tick < now { time.tick } else { now } }
         None => now,
     }
+}
+
+/// Whether a wait does not end before a tick.
+#[inline]
+fn is_from(wait: Option<Time>, tick: u64) -> bool
+    ensures { IsTrue result → IsFrom tick wait }
+{
+    match wait {
+        Some(time) => time.tick >= tick,
+        None => true,
+    }
+}
+
+/// Puts all places into the sets of their slots anew, and gives the present tick, which is that of a wait where it ends before.
+fn put_anew(
+    waits: &[Option<Time>],
+    used: &mut Set,
+    places: &mut Set,
+    leasts: &mut [Least],
+    span: usize,
+    now: u64,
+    wait: Option<Time>,
+) -> u64
+    requires room { HasRoom used.old places.old leasts.old span }
+    requires fits { length waits.now ≤ span }
+    ensures low { result ≤ now }
+    ensures from { IsFrom result wait }
+    ensures room { HasRoom used.new places.new leasts.new span }
+    ensures there { (p : ℕ) → IsIn result used.new places.new leasts.new span p
+        (slice_index_or waits.now p None) }
+    ensures held { (s : ℕ) → IsHeld waits.now result s (least_at leasts.new s) }
+{
+    take_all(waits, used, places, span, now);
+    leasts.fill(Least::Known(None));
+    let present = earlier(now, wait);
+    put_all(waits, used, places, leasts, span, present);
+    present
 }
 
 /// Lets a place wait for another time, or for none, and gives the present tick, which is earlier where the time is.
@@ -453,13 +506,9 @@ pub(crate) fn replace(
 {
     leave(used, places, leasts, span, now, place, waits[place]);
     waits[place] = wait;
-    let present = earlier(now, wait);
-    if present == now {
+    if is_from(wait, now) {
         put(used, places, leasts, span, now, place, wait);
-    } else {
-        take_all(waits, used, places, span, now);
-        leasts.fill(Least::Known(None));
-        put_all(waits, used, places, leasts, span, present);
+        return now;
     }
-    present
+    put_anew(waits, used, places, leasts, span, now, wait)
 }

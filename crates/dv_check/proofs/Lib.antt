@@ -1,4 +1,5 @@
 pub mod Lists
+pub mod Holds
 pub mod Firsts
 pub mod Tables
 pub mod Found

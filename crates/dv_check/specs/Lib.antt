@@ -19,3 +19,4 @@ pub mod Nests
 pub mod Findings
 pub mod Tables
 pub mod Sizes
+pub mod Holds

@@ -1,12 +1,13 @@
 //! The checks of an atomic model.
 
-ghost use Rattle.std.specs.Prelude.{◌≡◌, map, Some, None, IfOk, OnOk};
+ghost use Rattle.std.specs.Prelude.{◌≡◌, map, Some, None, IfOk, IsTrue, OnOk};
 ghost use Rattle.dv_syntax.specs.Trees.{atomic_of, phases_of, rule_of, ticks_of};
 ghost use Rattle.std.specs.Option.{option_copied};
 ghost use Rattle.dv_eval.specs.Scope.{hold_ticks, scope_of, start_state, state_variables_in, ticks_found};
 ghost use Rattle.dv_eval.specs.Meaning.{hold_of};
 ghost use Rattle.dv_lex.specs.declared.error.RefusalNumber.TheVariants.{E6, E10};
 ghost use Rattle.dv_check.specs.Findings.{with_refusals};
+ghost use Rattle.dv_check.specs.Holds.{NeverFaults};
 ghost use Rattle.dv_check.specs.Names.{excess, refusal_if, repeats};
 ghost use Rattle.dv_check.specs.Tables.{has};
 ghost use Rattle.dv_check.specs.Rules.{atomic_refusals, can_ask_hold, holds_once_refusals, is_fault, is_hold_fine};
@@ -23,7 +24,7 @@ use crate::repeats::{find_excess, find_repeats, within_limit};
 use crate::starts::Starts;
 use dv_eval::{Scope, phase_hold, phase_ticks, start_state};
 use dv_lex::RefusalNumber;
-use dv_syntax::{Atomic, Declaration, Name, Phases, Rule, RuleSort, Start, Ticks};
+use dv_syntax::{Atomic, Declaration, Expr, Name, Phases, Rule, RuleSort, Start, Ticks};
 use std::alloc::{AllocError, Global};
 
 /// Tests an atomic model.
@@ -74,7 +75,8 @@ fn check_declared(
     )
 }
 
-// Too many ports.
+// Too many ports. Few declarations have no more of them.
+#[tactic(auto, using(crate::proofs::Lists::few_ports))]
 fn check_ports(
     alloc: Global,
     declarations: &[Declaration],
@@ -83,11 +85,14 @@ fn check_ports(
     ensures { OnOk result (found.new ≡ with_refusals found.old
         (excess (ports_in declarations.now))) }
 {
-    find_excess(&names::ports(alloc, declarations)?, found);
+    if declarations.len() > GREATEST_NAMES {
+        find_excess(&names::ports(alloc, declarations)?, found);
+    }
     Ok(())
 }
 
-// Too many variables, flags and bags.
+// Too many variables, flags and bags. Few declarations have no more of them.
+#[tactic(auto, using(crate::proofs::Lists::few_variables))]
 fn check_state_variables(
     alloc: Global,
     declarations: &[Declaration],
@@ -96,12 +101,15 @@ fn check_state_variables(
     ensures { OnOk result (found.new ≡ with_refusals found.old
         (excess (map name_of_state_variable (state_variables_in declarations.now)))) }
 {
-    let variables = names::state_variables(alloc, declarations)?;
-    find_excess(&names::names_of_state_variables(alloc, &variables)?, found);
+    if declarations.len() > GREATEST_NAMES {
+        let variables = names::state_variables(alloc, declarations)?;
+        find_excess(&names::names_of_state_variables(alloc, &variables)?, found);
+    }
     Ok(())
 }
 
 // Two rules of one sort for one phase.
+#[tactic(auto, using(crate::proofs::Lists::no_ruled_repeats))]
 fn check_ruled(
     alloc: Global,
     sort: RuleSort,
@@ -111,6 +119,9 @@ fn check_ruled(
     ensures { OnOk result (found.new ≡ with_refusals found.old
         (repeats E6 (ruled_phases sort (map rule_of rules.now)))) }
 {
+    if rules.len() < 2 {
+        return Ok(());
+    }
     find_repeats(
         alloc,
         RefusalNumber::E6,
@@ -232,10 +243,24 @@ fn is_start_fault(
     ensures { IfOk result (λ faults. faults ≡ is_start_fault (known_by declarations.now)
         (atomic_of model.now) phase.now) }
 {
+    if are_constant(phase_ticks(model, phase.number)) {
+        return Ok(false);
+    }
     if can_ask_hold(alloc, declarations, model, phase)? {
         faults_at_start(alloc, model, phase)
     } else {
         Ok(false)
+    }
+}
+
+// Whether the ticks of a hold are the same in each state: forever, or a number as it stands. No such hold faults, so
+// no start state is made for it.
+fn are_constant(ticks: Option<&Ticks>) -> bool
+    ensures { IsTrue result → NeverFaults (ticks_found (option_copied ticks.entry)) }
+{
+    match ticks {
+        None | Some(Ticks::Forever) => true,
+        Some(Ticks::After(expression)) => matches!(expression, Expr::Literal(_)),
     }
 }
 

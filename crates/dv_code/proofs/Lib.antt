@@ -1,6 +1,8 @@
 pub mod Endings
 pub mod Fitting
+pub mod Fusing
 pub mod Innermost
+pub mod Operating
 pub mod Outcomes
 pub mod Remaining
 pub mod Running

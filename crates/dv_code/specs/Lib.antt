@@ -14,3 +14,4 @@ pub mod Rows
 pub mod Performing
 pub mod Turns
 pub mod Short
+pub mod Decoded

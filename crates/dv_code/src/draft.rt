@@ -66,6 +66,7 @@ impl<'a> Draft<'a> {
     /// # Errors
     ///
     /// No memory for a state of its own.
+    #[inline]
     pub(crate) fn set_number(&mut self, slot: usize, number: i64) -> Result<(), AllocError>
         ensures { OnOk result (self.new ≡ storing self.old slot (datum.Number number)) }
     {
@@ -183,6 +184,7 @@ impl<'a> Draft<'a> {
 }
 
 // A copy of a lent state in its place.
+#[inline]
 fn own(state: &mut Cow<State>) -> Result<(), AllocError>
     ensures owned { OnOk result (IsOwned state.new) }
     ensures same { cow_value state.new ≡ cow_value state.old }

@@ -5,8 +5,12 @@
 mod actions;
 /// What short programs give at once.
 pub mod at_once;
+/// How programs are decoded.
+mod decode;
 /// What a run has done so far.
 mod draft;
+/// What operations do.
+mod fused;
 /// The instructions.
 pub mod instruction;
 /// Laws of valid programs.
@@ -21,6 +25,8 @@ mod loops;
 pub mod machine;
 /// One open loop.
 mod open_loop;
+/// What some instructions do together.
+mod operation;
 /// What operators make of values.
 mod operators;
 /// Worked rows.

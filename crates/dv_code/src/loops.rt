@@ -11,6 +11,7 @@ use dv_bag::Arrivals;
 
 impl Stack<OpenLoop> {
     /// Moves the innermost loop to its next value if there is one, and ends it otherwise.
+    #[inline]
     pub(crate) fn advance(&mut self, arrivals: &Arrivals) -> bool
         requires { 0 < length self.old }
         ensures { AdvanceInnermost (turns_of arrivals.now self.old) result
@@ -25,6 +26,7 @@ impl Stack<OpenLoop> {
     }
 
     /// The value at which a loop is. The outermost loop is number 0.
+    #[inline]
     pub(crate) fn item(&self, number: usize) -> i64
         requires { number < length self.now }
         ensures { item_of (items_in self.now) number ≡ Some (Ok (Number result)) }

@@ -39,6 +39,7 @@ impl OpenLoop {
     }
 
     /// Goes on to the next value, if there is one.
+    #[inline]
     pub(crate) fn next(&mut self, arrivals: &Arrivals) -> bool
         ensures { Advances (turn_of arrivals.now self.old).rest result
             (turn_of arrivals.now self.new) }
@@ -57,6 +58,7 @@ impl OpenLoop {
     }
 
     /// The value at which the loop is.
+    #[inline]
     pub(crate) fn item(&self) -> i64
         ensures { result ≡ self.now.item }
     {

@@ -1,6 +1,6 @@
 //! Stacks.
 
-ghost use Rattle.std.specs.Prelude.{◌≡◌, ◌<◌, [], ◌∷◌, length, OnErr, OnOk};
+ghost use Rattle.std.specs.Prelude.{◌≡◌, ◌<◌, [], ◌∷◌, length, IfSome, None, OnErr, OnOk};
 
 use std::alloc::{AllocError, Global};
 use std::marker::Model;
@@ -62,5 +62,14 @@ impl<T: Drop> Stack<T> {
             Some(value) => value,
             None => unreachable!(),
         }
+    }
+
+    /// What is on top, which goes, if there is something.
+    #[inline]
+    pub(crate) fn take(&mut self) -> Option<T>
+        ensures some { IfSome result (λ top. self.old ≡ top ∷ self.new) }
+        ensures none { result ≡ None → self.new ≡ self.old }
+    {
+        self.values.pop()
     }
 }

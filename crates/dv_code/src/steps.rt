@@ -5,7 +5,7 @@ ghost use Rattle.std.specs.Prelude.{◌≡◌, ◌+◌, ◌<◌};
 use std::marker::Model;
 use std::sync::ledger::{Blank, Book, Ledger, Share};
 
-/// How many instructions were performed. It takes no bytes, and `tick` alone changes it.
+/// How many instructions were performed. It takes no bytes, and `tick` and `add` alone change it.
 #[derive(Drop)]
 pub struct Steps<L: Ledger> {
     book: Book<L>,
@@ -39,5 +39,13 @@ impl<L: Ledger> Steps<L> {
         ensures { self.new ≡ self.old + 1 }
     {
         self.book.add(&mut self.share, 1);
+    }
+
+    /// So many more.
+    #[inline]
+    pub(crate) fn add(&mut self, more: u64)
+        ensures { self.new ≡ self.old + more }
+    {
+        self.book.add(&mut self.share, more);
     }
 }

@@ -1,6 +1,6 @@
 //! The run of a model in processes on threads.
 
-ghost use Rattle.std.specs.Prelude.{◌<◌, ◌≡◌, ◌↔◌, IfOk, IfErr, IsSome};
+ghost use Rattle.std.specs.Prelude.{◌<◌, ◌≡◌, ◌≢◌, ◌↔◌, IfOk, IfErr, IsSome};
 ghost use Rattle.dv_syntax.specs.Trees.{file_of};
 ghost use Rattle.dv_job.specs.Job.{IsModelOf};
 ghost use Rattle.dv_job.specs.Running.{EndsByWorkers, LeftByRun};
@@ -26,7 +26,7 @@ use std::thread::Threads;
 
 /// Runs the model of a text in processes, as `run_bytes` does, by so many workers on threads of their own: process p is run by
 /// worker p mod `workers`. Whatever the timing of the threads, a run that is reported whole prints exactly the trace to the
-/// horizon; its lines are written as they become known. Rounds that the options have are not read.
+/// horizon; its lines are written as they become known. Rounds that the options have are not read, and nobody stops the run.
 ///
 /// # Errors
 ///
@@ -44,6 +44,7 @@ pub fn run_by_workers<R: Threads + Wait + Sync, W: Write>(
     requires workers { 0 < workers }
     ensures ended { IfOk result (λ ended. EndsByWorkers ended model.now inputs.now groups.entry
         options.now (W.contents writer.old) (W.contents writer.new)) }
+    ensures unstopped { IfOk result (λ ended. ended ≢ Partial Stopped) }
     ensures error { IfErr result (λ e. LeftByRun e model.now inputs.now groups.entry
         options.now (W.contents writer.old) (W.contents writer.new)) }
 {

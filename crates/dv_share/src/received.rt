@@ -180,8 +180,8 @@ impl Received {
         Ok(())
     }
 
-    // A place for a component with so many input ports, if it has none yet.
-    #[inline]
+    // A place for a component with so many input ports, if it has none yet. It is asked for each value, and mostly has one.
+    #[inline(always)]
     fn meet(&mut self, place: u32, inputs: u32) -> Result<(), AllocError>
         requires { place < self.old.room }
         ensures room { self.new.room ≡ self.old.room }

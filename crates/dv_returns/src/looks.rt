@@ -1,0 +1,47 @@
+//! Pauses, and looks that come to an end.
+
+use std::sync::atomic::{AtomicBool, AtomicU64, Ordering};
+use std::thread::sleep;
+use std::time::{Clock, Duration};
+
+// So often who looks for a return looks at most. Together that takes more than twenty seconds, many times what a run here does.
+const MOST_LOOKS_FOR_A_RETURN: u32 = 4_000;
+
+// So often who looks for rest looks at most.
+const MOST_LOOKS_FOR_REST: u32 = 100;
+
+// Sleeps for so many thousandths of a second. Where others want the processor it may take longer.
+fn rest<R: Clock>(rt: &R, milliseconds: u64) {
+    sleep(rt, Duration::from_millis(milliseconds));
+}
+
+/// Waits for longer than it takes a worker that has nothing to do to fall asleep.
+pub fn pause<R: Clock>(rt: &R) {
+    rest(rt, 3);
+}
+
+/// Looks until a flag is raised, and tells whether it was.
+pub fn comes<R: Clock>(rt: &R, flag: &AtomicBool) -> bool {
+    for _look in 0..MOST_LOOKS_FOR_A_RETURN {
+        if flag.load(Ordering::SeqCst) {
+            return true;
+        }
+        rest(rt, 5);
+    }
+    false
+}
+
+/// Looks until no turn begins for a while, and tells how many began before.
+pub fn turns_before_rest<R: Clock>(rt: &R, begun: &AtomicU64) -> u64 {
+    let first = begun.load(Ordering::SeqCst);
+    let mut before = first;
+    for _look in 0..MOST_LOOKS_FOR_REST {
+        rest(rt, 50);
+        let now = begun.load(Ordering::SeqCst);
+        if now == before {
+            break;
+        }
+        before = now;
+    }
+    before.wrapping_sub(first)
+}

@@ -1,0 +1,47 @@
+//! The models.
+
+/// A value goes from one to the next without end. Who has it not can only wait, and where all have a worker of their own each
+/// packet has to wake one. Where a link holds one packet, a null message before it has to leave it room.
+pub const RING: &str = "
+atomic First {
+    in x; out y; phases rest, carry; start carry; hold rest: forever; hold carry: 1;
+    external rest { goto carry; } output carry { send y 1; } internal carry { goto rest; }
+}
+atomic Relay {
+    in x; out y; phases rest, carry; start rest; hold rest: forever; hold carry: 1;
+    external rest { goto carry; } output carry { send y 1; } internal carry { goto rest; }
+}
+coupled Top {
+    part a: First; part b: Relay; part c: Relay;
+    link a.y -> b.x; link b.y -> c.x; link c.y -> a.x;
+}
+root Top;
+";
+
+/// Sixteen clocks, and fifteen times as many who do nothing. In sixteen processes the first one has all clocks, so that some hundred
+/// ticks of it are as much as may wait for the writer.
+pub const CLOCKS: &str = "
+atomic Clock { phases go; start go; hold go: 1; }
+atomic Idle { phases rest; start rest; hold rest: forever; }
+coupled FourClocks { part a: Clock; part b: Clock; part c: Clock; part d: Clock; }
+coupled Clocks { part a: FourClocks; part b: FourClocks; part c: FourClocks; part d: FourClocks; }
+coupled Three { part a: Idle; part b: Idle; part c: Idle; }
+coupled Fifteen { part a: Three; part b: Three; part c: Three; part d: Three; part e: Three; }
+coupled Sixty { part a: Fifteen; part b: Fifteen; part c: Fifteen; part d: Fifteen; }
+coupled Top { part clocks: Clocks; part a: Sixty; part b: Sixty; part c: Sixty; part d: Sixty; }
+root Top;
+";
+
+/// A clock that may send to another, which never hears of it but by null messages.
+pub const AHEAD: &str = "
+atomic First {
+    out y; var n: 0..1 = 0; phases go; start go; hold go: 1;
+    output go { if n = 1 { send y n; } }
+}
+atomic Second {
+    in x; var n: 0..1 = 0; phases go; start go; hold go: 1;
+    external go { n := 0; }
+}
+coupled Top { part a: First; part b: Second; link a.y -> b.x; }
+root Top;
+";

@@ -1,0 +1,110 @@
+//! A run beside a thread that looks whether it returns.
+
+use crate::looks::comes;
+use dv_job::{EndedByWorkers, JobError, Options, run_plain, run_watched};
+use dv_partition::Partition;
+use dv_run::Watch;
+use std::alloc::Global;
+use std::io::Write;
+use std::process::Abort;
+use std::sync::Wait;
+use std::sync::atomic::{AtomicBool, Ordering};
+use std::thread::{Threads, join_mut};
+use std::time::Clock;
+
+/// A model, until when it runs, in how many processes by how many workers, and how many packets a link holds.
+#[derive(Clone, Copy)]
+pub struct Run {
+    pub model: &'static str,
+    pub horizon: u64,
+    pub processes: u32,
+    pub workers: u32,
+    pub capacity: u32,
+}
+
+impl Run {
+    fn options(&self) -> Option<Options> {
+        Options::new(self.horizon, 20, None, None, self.capacity)
+    }
+
+    /// The text of its trace, by the plain run.
+    pub fn trace(&self, alloc: Global) -> Vec<u8> {
+        let mut trace = Vec::new(alloc);
+        if let Some(options) = self.options() {
+            let _ended = run_plain(alloc, self.model.as_bytes(), b"", &options, &mut trace);
+        }
+        trace
+    }
+
+    // Runs it by its workers.
+    fn work<R: AllocGlobal + Threads + Wait + Sync, G: Watch, W: Write>(
+        &self,
+        rt: &R,
+        watch: &G,
+        writer: &mut W,
+    ) -> Result<EndedByWorkers<G::Cause>, JobError> {
+        let Some(options) = self.options() else {
+            return Err(JobError::Memory);
+        };
+        if self.workers == 0 {
+            return Err(JobError::Memory);
+        }
+        run_watched(
+            rt,
+            rt.alloc(),
+            self.model.as_bytes(),
+            b"",
+            Partition::Count(self.processes),
+            &options,
+            self.workers,
+            watch,
+            writer,
+        )
+    }
+
+    /// Runs it by its workers. Where that does not return, the test fails.
+    pub fn returns<R: AllocGlobal + Abort + Clock + Threads + Wait + Sync, G: Watch, W: Write>(
+        &self,
+        rt: &R,
+        watch: &G,
+        writer: &mut W,
+    ) -> Result<EndedByWorkers<G::Cause>, JobError> {
+        let returned = AtomicBool::new(false);
+        work_beside(rt, *self, &returned, watch, writer)
+    }
+}
+
+// Fails the test where a flag is not raised.
+fn look_for<R: Abort + Clock>(rt: &R, returned: &AtomicBool, workers: u32) {
+    assert!(rt; comes(rt, returned), "no return by {workers} workers");
+}
+
+// Runs it by its workers, and raises a flag then.
+fn work_and_tell<R: AllocGlobal + Threads + Wait + Sync, G: Watch, W: Write>(
+    rt: &R,
+    run: Run,
+    returned: &AtomicBool,
+    watch: &G,
+    writer: &mut W,
+) -> Result<EndedByWorkers<G::Cause>, JobError> {
+    let ended = run.work(rt, watch, writer);
+    returned.store(true, Ordering::SeqCst);
+    ended
+}
+
+// Runs it by its workers beside a thread that looks whether that returns.
+fn work_beside<R: AllocGlobal + Abort + Clock + Threads + Wait + Sync, G: Watch, W: Write>(
+    rt: &R,
+    run: Run,
+    returned: &AtomicBool,
+    watch: &G,
+    writer: &mut W,
+) -> Result<EndedByWorkers<G::Cause>, JobError> {
+    let workers = run.workers;
+    let mut look = || look_for(rt, returned, workers);
+    let mut work = || -> Result<EndedByWorkers<G::Cause>, JobError> {
+        work_and_tell(rt, run, returned, watch, writer)
+    };
+    let ((), ended) = join_mut(rt, &mut look, &mut work);
+    ended
+}
