@@ -33,21 +33,22 @@ same_places (x ∷ xs) [] len same = absurd (omega arith)
 same_places {X} (x ∷ xs) (y ∷ ys) len same =
     ap₂ (λ (z : X) (zs : List X). z ∷ zs) (same 0 x y refl refl) (same_places xs ys (omega arith) (λ k. same (suc k)))
 
-module _ (job : Job) (mark : Time) (held : List Held) (all : AreHeld job mark held) where
+module _ {N : Type 0} (job : Job) (mark : Time) (held : List (Held N)) (all : AreHeld job mark held) where
   -- a fact of each place
-  each_place : (P : Held → Type 0) → ((p : ℕ) (h : Held) → IsHeld job mark p h → P h) → All P held
+  each_place : (P : Held N → Type 0) → ((p : ℕ) (h : Held N) → IsHeld job mark p h → P h) → All P held
   each_place P f k d lt = f k (slice_index_or held k d) (all.each k (slice_index_or held k d) (slice_get-get_or held k d lt))
 
-  pub all_by_time : All (λ (h : Held). IsByTime h.part) held
-  all_by_time = each_place (λ (h : Held). IsByTime h.part) (λ p h is.
+  pub all_by_time : All (λ (h : Held N). IsByTime h.part) held
+  all_by_time = each_place (λ (h : Held N). IsByTime h.part) (λ p h is.
       let early = is.early in
       let order = is.order in
       subst IsByTime (sym is.part) (committed_by_time job p h.from h.clock (omega (arith, early, order))))
 
   module _ (least : Time) (is_least : IsLeast least (clocks_of held)) where
-    of_a_clock : (P : Time → Type 0) → ((p : ℕ) (h : Held) → IsHeld job mark p h → P h.clock) → P least
+    of_a_clock : (P : Time → Type 0) → ((p : ℕ) (h : Held N) → IsHeld job mark p h → P h.clock) → P least
     of_a_clock P f =
-        All-contains P (clocks_of held) least (All-map P (λ (h : Held). h.clock) held (each_place (λ (h : Held). P h.clock) f)) is_least.is
+        All-contains P (clocks_of held) least
+        (All-map P (λ (h : Held N). h.clock) held (each_place (λ (h : Held N). P h.clock) f)) is_least.is
 
     pub least_of_run : IsOfRun job.limit least
     least_of_run = of_a_clock (IsOfRun job.limit) (λ p h is. is.of_run)
@@ -58,12 +59,13 @@ module _ (job : Job) (mark : Time) (held : List Held) (all : AreHeld job mark he
     pub mark_no_later : IsNoLater job mark least
     mark_no_later = of_a_clock (IsNoLater job mark) (λ p h is. is.order)
 
-    least_no_later : (p : ℕ) (h : Held) → slice_get held p ≡ Some h → IsNoLater job least h.clock
+    least_no_later : (p : ℕ) (h : Held N) → slice_get held p ≡ Some h → IsNoLater job least h.clock
     least_no_later p h at =
         let lt = slice_get_within held p h at in
-        let many = length-map held (λ (g : Held). g.clock) in
+        let many = length-map held (λ (g : Held N). g.clock) in
         let read : slice_index_or (clocks_of held) p first_time ≡ h.clock
-        = get_or-map (λ (g : Held). g.clock) held p h first_time lt ∙ ap (λ (g : Held). g.clock) (get_or_from_slice_get held p h h at) in
+        = get_or-map (λ (g : Held N). g.clock) held p h first_time lt
+        ∙ ap (λ (g : Held N). g.clock) (get_or_from_slice_get held p h h at) in
         no_later job h.clock least (all.each p h at).of_run least_of_run
         (subst (λ (c : Time). is_before c least ≡ false) read
         (All-get_or (λ (c : Time). is_before c least ≡ false) (clocks_of held) p first_time (subst (λ (n : ℕ). p < n) (sym many) lt)
@@ -84,7 +86,7 @@ module _ (job : Job) (mark : Time) (held : List Held) (all : AreHeld job mark he
     }
 
     -- what is drained, of each process
-    abbrev pub drained_of : Held → PartOf
+    abbrev pub drained_of : Held N → PartOf
     drained_of h = since mark (before least h.part)
 
     abbrev pub pieces : List PartOf
@@ -109,7 +111,7 @@ module _ (job : Job) (mark : Time) (held : List Held) (all : AreHeld job mark he
         let other = get_map (since mark) parts k y also in
         sym one.2 ∙ (piece_at k one.0 one.1 ∙ (ap (since mark) (sym (part_at_place job end k other.0 other.1)) ∙ other.2)))
       where
-        piece_at : (p : ℕ) (h : Held) → slice_get held p ≡ Some h → drained_of h ≡ since mark (part_of_process job end p)
+        piece_at : (p : ℕ) (h : Held N) → slice_get held p ≡ Some h → drained_of h ≡ since mark (part_of_process job end p)
         piece_at p h at =
             let is = all.each p h at in
             let early = is.early in

@@ -18,7 +18,7 @@ use Rattle.dv_board.specs.declared.held.Held.{Held}
 use Rattle.dv_board.specs.Backlogs.{AreHeld, IsHeld}
 use Rattle.dv_board.specs.Clocks.{IsLeast, IsNoLater, IsSooner, later}
 use Rattle.dv_board.specs.Jobs.{committed}
-use Rattle.dv_slice.specs.Places.{is_mostly_later}
+use Rattle.dv_merge.specs.Places.{is_mostly_later}
 use Rattle.dv_board.specs.Places.{rest_of, with_piece}
 use Rattle.dv_board.proofs.Between.{committed_joined, committed_since}
 
@@ -39,47 +39,50 @@ module _ (job : Job) (a b : Time) (h : IsOfRun job.limit a) (k : IsOfRun job.lim
 
 -- ---- the least clock
 
-abbrev pub clocks_of : List Held → List Time
-clocks_of held = map (λ (h : Held). h.clock) held
+abbrev pub clocks_of : {N : Type 0} → List (Held N) → List Time
+clocks_of {N} held = map (λ (h : Held N). h.clock) held
 
 -- the least clock of the first places, which is that of a place
-pub record IsLeastOf (held : List Held) (k : ℕ) (least : Time) : Type 0 where
+pub record IsLeastOf {N : Type 0} (held : List (Held N)) (k : ℕ) (least : Time) : Type 0 where
   pub is : Contains (clocks_of held) least
-  pub none_before : All (λ (h : Held). is_before h.clock least ≡ false) (take k held)
+  pub none_before : All (λ (h : Held N). is_before h.clock least ≡ false) (take k held)
 
-clock_is_in : (held : List Held) (k : ℕ) (h : Held) → k < length held → h ≡ slice_index_or held k h → Contains (clocks_of held) h.clock
-clock_is_in held k h lt at = (
+clock_is_in : {N : Type 0} (held : List (Held N)) (k : ℕ) (h : Held N) → k < length held → h ≡ slice_index_or held k h
+    → Contains (clocks_of held) h.clock
+clock_is_in {N} held k h lt at = (
   k,
-  subst (λ (n : ℕ). k < n) (sym (length-map held (λ (h : Held). h.clock))) lt,
-  get_or-map (λ (h : Held). h.clock) held k h h.clock lt ∙ ap (λ (h : Held). h.clock) (sym at),
+  subst (λ (n : ℕ). k < n) (sym (length-map held (λ (h : Held N). h.clock))) lt,
+  get_or-map (λ (h : Held N). h.clock) held k h h.clock lt ∙ ap (λ (h : Held N). h.clock) (sym at),
 )
 
-pub first_least : (held : List Held) (h : Held) → 0 < length held → h ≡ slice_index_or held 0 h → IsLeastOf held 0 h.clock
+pub first_least : {N : Type 0} (held : List (Held N)) (h : Held N) → 0 < length held → h ≡ slice_index_or held 0 h
+    → IsLeastOf held 0 h.clock
 first_least held h lt at = record { is = clock_is_in held 0 h lt at; none_before = λ k d none. absurd (omega arith) }
 
-module _ (held : List Held) (k : ℕ) (least : Time) (h : Held) (lt : k < length held) (at : h ≡ slice_index_or held k h)
+module _ {N : Type 0} (held : List (Held N)) (k : ℕ) (least : Time) (h : Held N) (lt : k < length held) (at : h ≡ slice_index_or held k h)
     (so_far : IsLeastOf held k least) where
   pub least_falls : is_before h.clock least ≡ true → IsLeastOf held (k + 1) h.clock
   least_falls e = record {
     is = clock_is_in held k h lt at;
-    none_before = All-more (λ (g : Held). is_before g.clock h.clock ≡ false) held k h lt
-        (All-weaker (λ (g : Held). is_before g.clock least ≡ false) (λ (g : Held). is_before g.clock h.clock ≡ false)
+    none_before = All-more (λ (g : Held N). is_before g.clock h.clock ≡ false) held k h lt
+        (All-weaker (λ (g : Held N). is_before g.clock least ≡ false) (λ (g : Held N). is_before g.clock h.clock ≡ false)
         (λ g f. not_before_sooner h.clock least g.clock e f) (take k held) so_far.none_before)
-        (subst (λ (g : Held). is_before g.clock h.clock ≡ false) at (not_before_itself h.clock));
+        (subst (λ (g : Held N). is_before g.clock h.clock ≡ false) at (not_before_itself h.clock));
   }
 
   pub least_stays : is_before h.clock least ≡ false → IsLeastOf held (k + 1) least
   least_stays e = record {
     is = so_far.is;
-    none_before = All-more (λ (g : Held). is_before g.clock least ≡ false) held k h lt so_far.none_before
-        (subst (λ (g : Held). is_before g.clock least ≡ false) at e);
+    none_before = All-more (λ (g : Held N). is_before g.clock least ≡ false) held k h lt so_far.none_before
+        (subst (λ (g : Held N). is_before g.clock least ≡ false) at e);
   }
 
-pub least_of_all : (held : List Held) (k : ℕ) (least : Time) → length held ≤ k → IsLeastOf held k least → IsLeast least (clocks_of held)
-least_of_all held k least le so_far = record {
+pub least_of_all : {N : Type 0} (held : List (Held N)) (k : ℕ) (least : Time) → length held ≤ k → IsLeastOf held k least
+    → IsLeast least (clocks_of held)
+least_of_all {N} held k least le so_far = record {
   is = so_far.is;
-  none_before = All-map (λ (c : Time). is_before c least ≡ false) (λ (h : Held). h.clock) held
-      (subst (All (λ (h : Held). is_before h.clock least ≡ false)) (take_all k held le) so_far.none_before);
+  none_before = All-map (λ (c : Time). is_before c least ≡ false) (λ (h : Held N). h.clock) held
+      (subst (All (λ (h : Held N). is_before h.clock least ≡ false)) (take_all k held le) so_far.none_before);
 }
 
 -- ---- one place
@@ -93,26 +96,26 @@ each_set P (z ∷ zs) zero y all new (suc p) x at = all (suc p) x at
 each_set P (z ∷ zs) (suc k) y all new zero x at = all 0 x at
 each_set P (z ∷ zs) (suc k) y all new (suc p) x at = each_set (λ (q : ℕ). P (suc q)) zs k y (λ q w e. all (suc q) w e) new p x at
 
-pub held_set : (job : Job) (mark : Time) (held : List Held) (p : ℕ) (y : Held) → AreHeld job mark held → IsHeld job mark p y
-    → AreHeld job mark (set held p y)
-held_set job mark held p y all new = record {
+pub held_set : {N : Type 0} (job : Job) (mark : Time) (held : List (Held N)) (p : ℕ) (y : Held N) → AreHeld job mark held
+    → IsHeld job mark p y → AreHeld job mark (set held p y)
+held_set {N} job mark held p y all new = record {
   merges = all.merges;
   some = all.some;
   of_run = all.of_run;
   many = length-set held p y ∙ all.many;
-  each = each_set (λ (k : ℕ) (h : Held). IsHeld job mark k h) held p y all.each new;
+  each = each_set (λ (k : ℕ) (h : Held N). IsHeld job mark k h) held p y all.each new;
 }
 
 -- a clock, read and written
-pub clock_read : (held : List Held) (p : ℕ) (h : Held) → p < length held → h ≡ slice_index_or held p h
+pub clock_read : {N : Type 0} (held : List (Held N)) (p : ℕ) (h : Held N) → p < length held → h ≡ slice_index_or held p h
     → slice_index_or (clocks_of held) p first_time ≡ h.clock
-clock_read held p h lt at = get_or-map (λ (h : Held). h.clock) held p h first_time lt ∙ ap (λ (h : Held). h.clock) (sym at)
+clock_read {N} held p h lt at = get_or-map (λ (h : Held N). h.clock) held p h first_time lt ∙ ap (λ (h : Held N). h.clock) (sym at)
 
-pub clocks_set : (held : List Held) (p : ℕ) (y : Held) → clocks_of (set held p y) ≡ set (clocks_of held) p y.clock
-clocks_set = map-set (λ (h : Held). h.clock)
+pub clocks_set : {N : Type 0} (held : List (Held N)) (p : ℕ) (y : Held N) → clocks_of (set held p y) ≡ set (clocks_of held) p y.clock
+clocks_set {N} = map-set (λ (h : Held N). h.clock)
 
 -- the clocks of a new board, and those that stay where it is drained
-pub clocks_new : (n : ℕ) (h : Held) → clocks_of (replicate n h) ≡ replicate n h.clock
+pub clocks_new : {N : Type 0} (n : ℕ) (h : Held N) → clocks_of (replicate n h) ≡ replicate n h.clock
 clocks_new zero h = refl
 clocks_new (suc n) h = ap (λ (cs : List Time). h.clock ∷ cs) (clocks_new n h)
 
@@ -128,21 +131,21 @@ at_places_to_come f old now k d lt is =
     ∙ (get_or-drop k old (k - k) d ∙ ap (λ (n : ℕ). slice_index_or old n d) here))
 
 -- of a place that is made anew or stays
-clock_of_rest : (t : Bool) (time : Time) (h : Held) (part : PartOf)
+clock_of_rest : {N : Type 0} (t : Bool) (time : Time) (h : Held N) (part : PartOf)
     → (cond t h (record { from = time; clock = h.clock; part = part })).clock ≡ h.clock
 clock_of_rest true time h part = refl
 clock_of_rest false time h part = refl
 
-pub clocks_stay : (time : Time) (held : List Held) → clocks_of (map (rest_of time) held) ≡ clocks_of held
+pub clocks_stay : {N : Type 0} (time : Time) (held : List (Held N)) → clocks_of (map (rest_of time) held) ≡ clocks_of held
 clocks_stay time [] = refl
 clocks_stay time (h ∷ hs) =
     ap₂ (λ (c : Time) (cs : List Time). c ∷ cs)
     (clock_of_rest (is_mostly_later h.part time) time h (since time h.part)) (clocks_stay time hs)
 
-pub clock_of_piece : (h : Held) (piece : PartOf) (clock : Time) → (with_piece h piece clock).clock ≡ later h.clock clock
-clock_of_piece h piece clock = by_test (is_before h.clock clock)
+pub clock_of_piece : {N : Type 0} (h : Held N) (piece : PartOf) (clock : Time) → (with_piece h piece clock).clock ≡ later h.clock clock
+clock_of_piece {N} h piece clock = by_test (is_before h.clock clock)
   where
-    more : Held
+    more : Held N
     more = record { from = h.from; clock = clock; part = joined h.part (since h.clock piece) }
 
     by_test : (t : Bool) → (cond t more h).clock ≡ cond t clock h.clock
@@ -150,11 +153,11 @@ clock_of_piece h piece clock = by_test (is_before h.clock clock)
     by_test false = refl
 
 -- a piece that begins no later than the clock is joined
-pub piece_is_held : (job : Job) (mark : Time) (p : ℕ) (h : Held) (piece : PartOf) (from clock : Time)
+pub piece_is_held : {N : Type 0} (job : Job) (mark : Time) (p : ℕ) (h : Held N) (piece : PartOf) (from clock : Time)
     → IsHeld job mark p h → IsOfRun job.limit clock → rank job.limit clock ≤ end_of job.limit job.horizon → IsNoLater job from h.clock
     → piece ≡ committed job p from clock → IsHeld job mark p (with_piece h piece clock)
-piece_is_held job mark p h piece from clock held of_run within low is =
-    let more : Held = record { from = h.from; clock = clock; part = joined h.part (since h.clock piece) } in
+piece_is_held {N} job mark p h piece from clock held of_run within low is =
+    let more : Held N = record { from = h.from; clock = clock; part = joined h.part (since h.clock piece) } in
     ⊎_elim
     (λ yes.
     let high = sooner job h.clock clock held.of_run of_run yes in
@@ -172,10 +175,10 @@ piece_is_held job mark p h piece from clock held of_run within low is =
     (cases_Bool (is_before h.clock clock))
 
 -- what is before a time that is no later than the clock goes, or stays for a while
-pub rest_is_held : (job : Job) (mark time : Time) (p : ℕ) (h : Held) → IsHeld job mark p h → IsOfRun job.limit time
+pub rest_is_held : {N : Type 0} (job : Job) (mark time : Time) (p : ℕ) (h : Held N) → IsHeld job mark p h → IsOfRun job.limit time
     → IsNoLater job mark time → IsNoLater job time h.clock → IsHeld job time p (rest_of time h)
-rest_is_held job mark time p h held of_run low high =
-    let less : Held = record { from = time; clock = h.clock; part = since time h.part } in
+rest_is_held {N} job mark time p h held of_run low high =
+    let less : Held N = record { from = time; clock = h.clock; part = since time h.part } in
     let early = held.early in
     ⊎_elim
     (λ yes. subst (IsHeld job time p) (sym (cond-true (is_mostly_later h.part time) h less yes)) (record {

@@ -10,16 +10,16 @@ use Rattle.dv_board.specs.Clocks.{IsNoLater, IsSooner}
 
 -- the clock that is kept is before the piece, and is told, and the piece comes back; or memory was wanted, where there was no gap and
 -- something to join
-abbrev pub IsRefused : Job → BacklogOf → Piece → Unjoined → Type 0
+abbrev pub IsRefused : {N : Type 0} → Job → BacklogOf → Piece N → Unjoined N → Type 0
 IsRefused job b piece (Gap kept back) =
     (back ≡ piece) × (kept ≡ clock_of b piece.process) × IsOfRun job.limit kept × IsSooner job kept piece.from
 IsRefused job b piece Memory =
     IsNoLater job piece.from (clock_of b piece.process) × IsSooner job (clock_of b piece.process) piece.clock
 
 -- of pieces in turn: the one at a place was refused, and the clocks are as those before it make them
-pub record IsCutAt (job : Job) (before after : BacklogOf) (pieces : List Piece) (why : Unjoined) : Type 0 where
+pub record IsCutAt {N : Type 0} (job : Job) (before after : BacklogOf) (pieces : List (Piece N)) (why : Unjoined N) : Type 0 where
   pub place : ℕ
-  pub piece : Piece
+  pub piece : Piece N
   pub there : slice_get pieces place ≡ Some piece
   pub clocks : after.clocks ≡ clocks_with before.clocks (take place pieces)
   pub refused : IsRefused job after piece why

@@ -19,13 +19,13 @@ abbrev pub clock_of : BacklogOf → ℕ → Time
 clock_of backlog p = slice_index_or backlog.clocks p first_time
 
 -- the clocks of processes after pieces in turn, each of which makes its process's clock the later of that clock and its own
-abbrev pub clocks_with : List Time → List Piece → List Time
+abbrev pub clocks_with : {N : Type 0} → List Time → List (Piece N) → List Time
 clocks_with clocks [] = clocks
 clocks_with clocks (piece ∷ pieces) =
     clocks_with (set clocks piece.process (later (slice_index_or clocks piece.process first_time) piece.clock)) pieces
 
 -- what a process commits from a time that is not past the mark, to its clock, which is not past the end
-pub record IsHeld (job : Job) (mark : Time) (p : ℕ) (h : Held) : Type 0 where
+pub record IsHeld {N : Type 0} (job : Job) (mark : Time) (p : ℕ) (h : Held N) : Type 0 where
   pub of_run : IsOfRun job.limit h.clock
   pub within : rank job.limit h.clock ≤ end_of job.limit job.horizon
   pub early : IsNoLater job h.from mark
@@ -33,9 +33,9 @@ pub record IsHeld (job : Job) (mark : Time) (p : ℕ) (h : Held) : Type 0 where
   pub part : h.part ≡ committed job p h.from h.clock
 
 -- a place for each process
-pub record AreHeld (job : Job) (mark : Time) (held : List Held) : Type 0 where
+pub record AreHeld {N : Type 0} (job : Job) (mark : Time) (held : List (Held N)) : Type 0 where
   pub merges : IsMergeable job
   pub some : 0 < job.processes
   pub of_run : IsOfRun job.limit mark
   pub many : length held ≡ job.processes
-  pub each : (p : ℕ) (h : Held) → slice_get held p ≡ Some h → IsHeld job mark p h
+  pub each : (p : ℕ) (h : Held N) → slice_get held p ≡ Some h → IsHeld job mark p h

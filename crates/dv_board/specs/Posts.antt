@@ -7,11 +7,11 @@ use Rattle.dv_board.specs.Clocks.{IsNoLater}
 use Rattle.dv_board.specs.Jobs.{committed}
 
 -- the pieces that nobody has taken yet
-pub record PostsOf : Type 0 where
-  pub pieces : List Piece
+pub record PostsOf (N : Type 0) : Type 0 where
+  pub pieces : List (Piece N)
 
 -- what one process of a job commits from one time on and before another, which is not past the end
-pub record IsPiece (job : Job) (piece : Piece) : Type 0 where
+pub record IsPiece {N : Type 0} (job : Job) (piece : Piece N) : Type 0 where
   pub process : piece.process < job.processes
   pub from_of_run : IsOfRun job.limit piece.from
   pub of_run : IsOfRun job.limit piece.clock

@@ -16,20 +16,18 @@ ghost use Rattle.dv_board.specs.Posts.{IsPiece};
 
 use crate::held::Held;
 use crate::posts::Piece;
-use dv_bag::Part;
-use dv_link::OfJob;
-use dv_slice::PartSlice;
+use dv_merge::PartSlice;
 use dv_time::Time;
+use dv_written::{OfJob, WrittenPart};
 use std::alloc::{AllocError, Global};
-use std::marker::{Model, PhantomData};
+use std::marker::Model;
 
 /// What the processes of a job have committed from a mark on, each before its clock. It lends the pieces of the trace up to the
 /// least clock. Whoever has it needs no lock.
 #[derive(Drop)]
 pub struct Backlog<N: OfJob> {
     mark: Time,
-    held: Vec<Held>,
-    of: PhantomData<N>,
+    held: Vec<Held<N>>,
 }
 
 impl<N: OfJob> Model for Backlog<N> {
@@ -44,16 +42,16 @@ impl<N: OfJob> Model for Backlog<N> {
 }
 
 /// Why a piece was not joined.
-#[derive(Debug, Drop)]
-pub enum Unjoined {
+#[derive(Drop)]
+pub enum Unjoined<N: OfJob> {
     /// Its process is kept up to a time that is before the piece begins. The piece is handed back.
-    Gap { kept: Time, piece: Piece },
+    Gap { kept: Time, piece: Piece<N> },
     /// There is no memory for what the piece adds. The piece is gone.
     Memory,
 }
 
 // So many processes at 0.0, which have committed nothing.
-fn none_held(alloc: Global, processes: u32) -> Result<Vec<Held>, AllocError>
+fn none_held<N: OfJob>(alloc: Global, processes: u32) -> Result<Vec<Held<N>>, AllocError>
     ensures { IfOk result (λ held. held.items
         ≡ replicate processes (record { from = first_time; clock = first_time; part = nothing })) }
 {
@@ -62,14 +60,14 @@ fn none_held(alloc: Global, processes: u32) -> Result<Vec<Held>, AllocError>
         held.push(Held {
             from: Time::ZERO,
             clock: Time::ZERO,
-            part: Part::new(alloc),
+            part: WrittenPart::new(alloc),
         })?;
     }
     Ok(held)
 }
 
 // No clock is before it.
-fn least_clock(held: &[Held]) -> Time
+fn least_clock<N: OfJob>(held: &[Held<N>]) -> Time
     requires { 0 < length held.now }
     ensures { IsLeast result (map (λ h. h.clock) held.now) }
 {
@@ -83,7 +81,7 @@ fn least_clock(held: &[Held]) -> Time
 }
 
 // The clocks of what is kept.
-fn clocks_of(alloc: Global, held: &[Held]) -> Result<Vec<Time>, AllocError>
+fn clocks_of<N: OfJob>(alloc: Global, held: &[Held<N>]) -> Result<Vec<Time>, AllocError>
     ensures { IfOk result (λ clocks. clocks.items ≡ map (λ h. h.clock) held.now) }
 {
     let mut clocks = Vec::with_capacity(alloc, held.len())?;
@@ -94,12 +92,12 @@ fn clocks_of(alloc: Global, held: &[Held]) -> Result<Vec<Time>, AllocError>
 }
 
 // What each process committed from one time on and before another, where it lies.
-fn pieces_between<'h>(
+fn pieces_between<'h, N: OfJob>(
     alloc: Global,
-    held: &'h [Held],
+    held: &'h [Held<N>],
     from: Time,
     upto: Time,
-) -> Result<Vec<PartSlice<'h>>, AllocError>
+) -> Result<Vec<PartSlice<'h, N>>, AllocError>
     requires { All (λ h. IsByTime h.part) held.now }
     ensures { IfOk result (λ pieces. pieces.items
         ≡ map (λ h. since from (before upto h.part)) held.now) }
@@ -112,7 +110,7 @@ fn pieces_between<'h>(
 }
 
 // Removes what is before a time, but only from a process of which that is at least as much as what stays.
-fn let_go_all(held: &mut Vec<Held>, time: Time)
+fn let_go_all<N: OfJob>(held: &mut Vec<Held<N>>, time: Time)
     requires { All (λ h. IsByTime h.part) held.old.items }
     ensures { held.new.items ≡ map (rest_of time) held.old.items }
 {
@@ -137,7 +135,6 @@ impl<N: OfJob> Backlog<N> {
         Ok(Backlog {
             mark: Time::ZERO,
             held: none_held(alloc, processes)?,
-            of: PhantomData,
         })
     }
 
@@ -172,7 +169,7 @@ impl<N: OfJob> Backlog<N> {
     ///
     /// `Gap` tells the clock that is kept, where that is before the piece begins, and hands the piece back. `Memory` comes only
     /// where the piece reaches past that clock; the piece is gone. The backlog is as before.
-    pub fn extend(&mut self, piece: Piece) -> Result<(), Unjoined>
+    pub fn extend(&mut self, piece: Piece<N>) -> Result<(), Unjoined<N>>
         requires { IsPiece N.job piece }
         ensures mark { self.new.mark ≡ self.old.mark }
         ensures joins { OnOk result (IsNoLater N.job piece.from (clock_of self.old piece.process)) }
@@ -198,7 +195,7 @@ impl<N: OfJob> Backlog<N> {
     ///
     /// The first piece that is refused, as `extend` tells it. Those before it were joined, and those after it are gone. What is
     /// before the clock of its process stays, but nothing past that clock can be written any more.
-    pub fn extend_all(&mut self, pieces: Vec<Piece>) -> Result<(), Unjoined>
+    pub fn extend_all(&mut self, pieces: Vec<Piece<N>>) -> Result<(), Unjoined<N>>
         requires { All (IsPiece N.job) pieces.items }
         ensures mark { self.new.mark ≡ self.old.mark }
         ensures clocks { OnOk result (self.new.clocks ≡ clocks_with self.old.clocks pieces.items) }
@@ -220,7 +217,7 @@ impl<N: OfJob> Backlog<N> {
         &self,
         alloc: Global,
         from: Time,
-    ) -> Result<Option<(Vec<PartSlice<'_>>, Time)>, AllocError>
+    ) -> Result<Option<(Vec<PartSlice<'_, N>>, Time)>, AllocError>
         ensures none { IfOk result (λ known. IfNone known (self.now.mark ≡ from → ⊥)) }
         ensures at { IfOk result (λ known. OnSome known (self.now.mark ≡ from)) }
         ensures pieces { IfOk result (λ known. IfSome known (λ k.

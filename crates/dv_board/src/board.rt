@@ -4,7 +4,7 @@ ghost use Rattle.std.specs.List.{All};
 ghost use Rattle.dv_board.specs.Posts.{IsPiece};
 
 use crate::posts::{Piece, Posts};
-use dv_link::OfJob;
+use dv_written::OfJob;
 use std::alloc::{AllocError, Global};
 use std::sync::{Mutex, Wait};
 
@@ -29,14 +29,14 @@ impl<N: OfJob> Board<N> {
     /// # Errors
     ///
     /// No memory. Nothing is posted, and the piece is gone.
-    pub fn post<R: Wait>(&self, rt: &R, piece: Piece) -> Result<(), AllocError>
+    pub fn post<R: Wait>(&self, rt: &R, piece: Piece<N>) -> Result<(), AllocError>
         requires { IsPiece N.job piece }
     {
         self.posts.lock(rt).post(piece)
     }
 
     /// Takes off all pieces, in the order in which they were posted.
-    pub fn take<R: Wait>(&self, rt: &R, alloc: Global) -> Vec<Piece>
+    pub fn take<R: Wait>(&self, rt: &R, alloc: Global) -> Vec<Piece<N>>
         ensures { All (IsPiece N.job) result.items }
     {
         self.posts.lock(rt).take(alloc)

@@ -5,26 +5,26 @@ ghost use Rattle.dv_time.specs.Time.{is_before};
 ghost use Rattle.dv_bag.specs.Part.{IsByTime};
 ghost use Rattle.dv_board.specs.Places.{rest_of, with_piece};
 
-use dv_bag::Part;
-use dv_slice::is_mostly_later;
+use dv_merge::is_mostly_later;
 use dv_time::Time;
+use dv_written::{OfJob, WrittenPart};
 use std::alloc::AllocError;
 
 /// What one process committed from one time on and before its clock.
 #[derive(Drop)]
-pub struct Held {
+pub struct Held<N: OfJob> {
     pub from: Time,
     pub clock: Time,
-    pub part: Part,
+    pub part: WrittenPart<N>,
 }
 
-impl Held {
+impl<N: OfJob> Held<N> {
     /// Joins what a piece has from the clock on, and the clock becomes the later of the two.
     ///
     /// # Errors
     ///
     /// No memory for what is joined. Nothing has changed.
-    pub fn join(&mut self, piece: Part, clock: Time) -> Result<(), AllocError>
+    pub fn join(&mut self, piece: WrittenPart<N>, clock: Time) -> Result<(), AllocError>
         ensures ok { OnOk result (self.new ≡ with_piece self.old piece clock) }
         ensures err { OnErr result (self.new ≡ self.old) }
         ensures more { OnErr result (is_before self.old.clock clock ≡ true) }

@@ -4,34 +4,32 @@ ghost use Rattle.std.specs.Prelude.{◌≡◌, ◌++◌, [], ◌∷◌, OnErr, O
 ghost use Rattle.std.specs.List.{All};
 ghost use Rattle.dv_board.specs.Posts.{IsPiece};
 
-use dv_bag::Part;
-use dv_link::OfJob;
 use dv_time::Time;
+use dv_written::{OfJob, WrittenPart};
 use std::alloc::{AllocError, Global};
-use std::marker::{Model, PhantomData};
+use std::marker::Model;
 use std::mem;
 
 /// What one process committed from one time on and before its clock.
-#[derive(Debug, Drop)]
-pub struct Piece {
+#[derive(Drop)]
+pub struct Piece<N: OfJob> {
     pub process: u32,
     pub from: Time,
     pub clock: Time,
-    pub part: Part,
+    pub part: WrittenPart<N>,
 }
 
 /// Pieces of what the processes of a job committed, in the order in which they were posted.
 #[derive(Drop)]
 pub struct Posts<N: OfJob> {
-    pieces: Vec<Piece>,
-    of: PhantomData<N>,
+    pieces: Vec<Piece<N>>,
 }
 
 impl<N: OfJob> Model for Posts<N> {
     ghost use Rattle.std.specs.List.{All};
     ghost use Rattle.dv_board.specs.Posts.{IsPiece, PostsOf};
 
-    ghost Value = { PostsOf };
+    ghost Value = { PostsOf N };
 
     ghost view = { λ p. record { pieces = p.pieces.items } };
 
@@ -45,7 +43,6 @@ impl<N: OfJob> Posts<N> {
     {
         Posts {
             pieces: Vec::new(alloc),
-            of: PhantomData,
         }
     }
 
@@ -54,7 +51,7 @@ impl<N: OfJob> Posts<N> {
     /// # Errors
     ///
     /// No memory. Nothing has changed, and the piece is gone.
-    pub fn post(&mut self, piece: Piece) -> Result<(), AllocError>
+    pub fn post(&mut self, piece: Piece<N>) -> Result<(), AllocError>
         requires { IsPiece N.job piece }
         ensures ok { OnOk result (self.new.pieces ≡ self.old.pieces ++ piece ∷ []) }
         ensures err { OnErr result (self.new ≡ self.old) }
@@ -63,7 +60,7 @@ impl<N: OfJob> Posts<N> {
     }
 
     /// Gives out all pieces.
-    pub fn take(&mut self, alloc: Global) -> Vec<Piece>
+    pub fn take(&mut self, alloc: Global) -> Vec<Piece<N>>
         ensures pieces { result.items ≡ self.old.pieces }
         ensures none { self.new.pieces ≡ [] }
         ensures each { All (IsPiece N.job) result.items }

@@ -1,8 +1,8 @@
 //! The links between the processes of a model.
 
 use crate::compare::same;
-use dv_cut::{Cut, Links};
 use dv_partition::{Groups, PartitionError, counted_groups};
+use dv_plan::{Cut, Links};
 use dv_proc::Channel;
 use dv_share::Link;
 use std::alloc::Global;

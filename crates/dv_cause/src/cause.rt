@@ -1,10 +1,10 @@
 //! From an error of a job to what is told of it.
 
 use crate::inputs::cause_in_inputs;
-use crate::model::{start_cause, what_is_missing};
-use dv_explain::{excerpt, explanation_of, nesting_at, slip_at, unexpected_at, unseen_at};
+use dv_explain::{Spot, explanation_of, pointed};
+use dv_hints::hint_on;
 use dv_job::JobError;
-use dv_lex::{RefusalNumber, TextError};
+use dv_lex::TextError;
 use std::alloc::{AllocError, Global};
 
 /// A file that was read: its name, as the words of the command line have it, and its bytes.
@@ -43,8 +43,8 @@ fn code_of(alloc: Global, error: &JobError) -> Result<String, AllocError> {
     }
 }
 
-/// The place and the line of the model or of the inputs at which an error was found, and sentences on which case of its number
-/// it is, as far as that is known. Nothing where no line is at fault.
+/// The place of the model or of the inputs at which an error was found and which case of its number it is, as
+/// `FILE:LINE:COLUMN: CODE: SUMMARY`, the line with a mark, and sentences on it. Nothing where no line is at fault.
 ///
 /// # Errors
 ///
@@ -67,24 +67,13 @@ fn cause_in_model(
     model: Source<'_>,
     refusal: &TextError,
 ) -> Result<String, AllocError> {
-    let place = refusal.place as usize;
-    let shown = excerpt(alloc, model.name, model.bytes, refusal.line, place)?;
-    let sentences = sentences_on(alloc, model.bytes, refusal)?;
-    format!(in alloc; "{shown}{sentences}")
-}
-
-/// Sentences on which case of its number a refusal is.
-fn sentences_on(alloc: Global, text: &[u8], refusal: &TextError) -> Result<String, AllocError> {
-    let place = refusal.place as usize;
-    match refusal.number {
-        RefusalNumber::E2 => {
-            let unseen = unseen_at(alloc, text, place)?;
-            format!(in alloc; "{unseen}{}", slip_at(text, place))
-        }
-        RefusalNumber::E4 => unexpected_at(alloc, text, place),
-        RefusalNumber::E5 => String::from_str(alloc, nesting_at(text, place)),
-        RefusalNumber::E10 => what_is_missing(alloc, text, refusal.place),
-        RefusalNumber::E11 => start_cause(alloc, text, refusal.place),
-        _ => Ok(String::new(alloc)),
-    }
+    let cause = hint_on(alloc, model.bytes, refusal)?;
+    let code = format!(in alloc; "{}", refusal.number)?;
+    let spot = Spot {
+        name: model.name,
+        text: model.bytes,
+        line: refusal.line,
+        place: refusal.place as usize,
+    };
+    pointed(alloc, &spot, code.as_str(), &cause)
 }

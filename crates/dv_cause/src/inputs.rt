@@ -1,7 +1,7 @@
 //! Which field of a line of inputs is wrong.
 
 use crate::cause::Source;
-use dv_explain::excerpt;
+use dv_explain::{Cause, Quoted, Spot, pointed};
 use dv_inputs::{InputRefusal, InputRefusalNumber};
 use std::alloc::{AllocError, Global};
 
@@ -12,11 +12,11 @@ struct Field<'a> {
     bytes: &'a [u8],
 }
 
-/// What is wrong in a line: its place in the line, and sentences on it, each with a line feed.
+/// What is wrong in a line: its place in the line, and the words on it.
 #[derive(Drop)]
 struct Flaw {
     place: usize,
-    sentences: String,
+    cause: Cause,
 }
 
 /// The place and the line of inputs that are refused, with a mark under the field that is wrong, and sentences on it.
@@ -32,9 +32,14 @@ pub fn cause_in_inputs(
     let start = place_of_line(inputs.bytes, refusal.line);
     let line = without_return(first_line(inputs.bytes.get(start..).unwrap_or(&[])));
     let flaw = flaw_in(alloc, line, refusal.number)?;
-    let place = start.saturating_add(flaw.place);
-    let shown = excerpt(alloc, inputs.name, inputs.bytes, refusal.line, place)?;
-    format!(in alloc; "{shown}{}", flaw.sentences)
+    let code = format!(in alloc; "{}", refusal.number)?;
+    let spot = Spot {
+        name: inputs.name,
+        text: inputs.bytes,
+        line: refusal.line,
+        place: start.saturating_add(flaw.place),
+    };
+    pointed(alloc, &spot, code.as_str(), &flaw.cause)
 }
 
 /// How many bytes come before a line.
@@ -67,26 +72,46 @@ fn without_return(line: &[u8]) -> &[u8] {
 /// What is wrong in a line that is refused with a number.
 fn flaw_in(alloc: Global, line: &[u8], number: InputRefusalNumber) -> Result<Flaw, AllocError> {
     let fields = fields_of(alloc, line)?;
-    let nothing = String::new(alloc);
-    Ok(match number {
+    let (index, summary) = match number {
         InputRefusalNumber::I1 => return malformed(alloc, line, &fields),
-        InputRefusalNumber::I2 => Flaw {
-            place: place_of_field(&fields, 1),
-            sentences: nothing,
-        },
-        InputRefusalNumber::I3 => Flaw {
-            place: place_of_field(&fields, 0),
-            sentences: nothing,
-        },
-        InputRefusalNumber::I4 => Flaw {
-            place: place_of_field(&fields, 2),
-            sentences: nothing,
-        },
-        InputRefusalNumber::I5 => Flaw {
-            place: place_of_field(&fields, 0),
-            sentences: nothing,
+        InputRefusalNumber::I2 => (
+            1,
+            format!(in alloc; "the root has no input port {}", quoted(&fields, 1))?,
+        ),
+        InputRefusalNumber::I3 => (
+            0,
+            format!(in alloc;
+                "the time {} is before that of the input before",
+                quoted(&fields, 0)
+            )?,
+        ),
+        InputRefusalNumber::I4 => (
+            2,
+            format!(in alloc; "{} is no whole number of 64 bits", quoted(&fields, 2))?,
+        ),
+        InputRefusalNumber::I5 => (
+            0,
+            format!(in alloc;
+                "the microstep of {} is above the limit of the run",
+                quoted(&fields, 0)
+            )?,
+        ),
+    };
+    Ok(Flaw {
+        place: place_of_field(&fields, index),
+        cause: Cause {
+            summary,
+            sentences: String::new(alloc),
         },
     })
+}
+
+/// A field as it is shown.
+fn quoted<'a>(fields: &[Field<'a>], number: usize) -> Quoted<'a> {
+    match fields.get(number) {
+        Some(field) => Quoted(str::from_utf8(field.bytes).unwrap_or("")),
+        None => Quoted(""),
+    }
 }
 
 fn place_of_field(fields: &[Field<'_>], number: usize) -> usize {
@@ -117,10 +142,9 @@ fn is_blank(byte: u8) -> bool {
 /// What is wrong in a line that is no `TICK PORT VALUE` and no `TICK.MICRO PORT VALUE`.
 fn malformed(alloc: Global, line: &[u8], fields: &[Field<'_>]) -> Result<Flaw, AllocError> {
     if let Err(error) = str::from_utf8(line) {
-        let sentence = "The line is not UTF-8: a byte belongs to no whole character.\n";
         return Ok(Flaw {
             place: error.valid_up_to(),
-            sentences: String::from_str(alloc, sentence)?,
+            cause: Cause::of(alloc, "a byte belongs to no whole character", "")?,
         });
     }
     let mut flaw = if fields.len() == 3 {
@@ -129,7 +153,7 @@ fn malformed(alloc: Global, line: &[u8], fields: &[Field<'_>]) -> Result<Flaw, A
         wrong_count(alloc, fields)?
     };
     if line.iter().any(|byte| *byte == b'#') {
-        flaw.sentences.push_str(
+        flaw.cause.sentences.push_str(
             "A comment is a line of its own: nothing stands before its `#`.\n",
         )?;
     }
@@ -137,36 +161,41 @@ fn malformed(alloc: Global, line: &[u8], fields: &[Field<'_>]) -> Result<Flaw, A
 }
 
 fn wrong_time(alloc: Global, fields: &[Field<'_>]) -> Result<Flaw, AllocError> {
-    let time = match fields.first() {
-        Some(field) => str::from_utf8(field.bytes).unwrap_or(""),
-        None => "",
-    };
+    let summary = format!(in alloc;
+        "the time {} is no `TICK` or `TICK.MICRO` in decimal digits, with a tick up to 10^15 and a microstep up to 1,000",
+        quoted(fields, 0)
+    )?;
     Ok(Flaw {
         place: place_of_field(fields, 0),
-        sentences: format!(in alloc;
-            "The time `{time}` is no `TICK` or `TICK.MICRO` in decimal digits, with a tick up to 10^15 and a microstep up to 1,000.\n"
-        )?,
+        cause: Cause {
+            summary,
+            sentences: String::new(alloc),
+        },
     })
 }
 
 /// The flaw of a wrong number of fields: too few are marked behind the last field, too many at the fourth.
 fn wrong_count(alloc: Global, fields: &[Field<'_>]) -> Result<Flaw, AllocError> {
     if let Some(fourth) = fields.get(3) {
-        let sentence = "The line has more than the three fields `TICK PORT VALUE`.\n";
+        let summary = "the line has more than the three fields `TICK PORT VALUE`";
         return Ok(Flaw {
             place: fourth.place,
-            sentences: String::from_str(alloc, sentence)?,
+            cause: Cause::of(alloc, summary, "")?,
         });
     }
     let place = match fields.last() {
         Some(last) => last.place.saturating_add(last.bytes.len()),
         None => 0,
     };
+    let summary = format!(in alloc;
+        "the line has {} of the three fields `TICK PORT VALUE`",
+        fields.len()
+    )?;
     Ok(Flaw {
         place,
-        sentences: format!(in alloc;
-            "The line has {} of the three fields `TICK PORT VALUE`.\n",
-            fields.len()
-        )?,
+        cause: Cause {
+            summary,
+            sentences: String::new(alloc),
+        },
     })
 }

@@ -6,7 +6,5 @@
 pub mod cause;
 /// Refused lines of inputs.
 mod inputs;
-/// Refused atomic models.
-mod model;
 
 pub use cause::{Source, cause_of, explained};

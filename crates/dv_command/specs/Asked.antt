@@ -1,13 +1,13 @@
 -- What words ask for.
-use Rattle.std.specs.Prelude.{◌≡◌, ℕ, ◌^◌, ◌-◌, Bool, false, ◌||◌, ◌&&◌, MatchBool, IsSomeAnd, ⊤, List, [], ◌∷◌, ◌++◌}
-use Rattle.std.specs.Prelude.{Option, Some, None, option_map, is_some, string_bytes, bytes_eq, codes}
+use Rattle.std.specs.Prelude.{◌≡◌, ℕ, ◌^◌, ◌-◌, Bool, true, false, ◌||◌, ◌&&◌, MatchBool, IsSomeAnd, ⊤, List, [], ◌∷◌, ◌++◌}
+use Rattle.std.specs.Prelude.{Option, Some, None, option_map, is_some, nat_le, string_bytes, bytes_eq, codes}
 use Rattle.std.specs.declared.string.String.{String}
 use Rattle.dv_time.specs.Limits.{greatest_tick, greatest_limit}
 use Rattle.dv_explain.specs.Codes.{explained_in_any_case}
 use Rattle.dv_command.specs.declared.subcommand.Subcommand.{Subcommand}
 use Rattle.dv_command.specs.declared.subcommand.Subcommand.TheVariants as subcommand
 use Rattle.dv_command.specs.declared.request.Request.{Request}
-use Rattle.dv_command.specs.declared.request.Request.TheVariants.{Check, Run, Code, Plan, Graph, Vcd, Stats, Explain, Version}
+use Rattle.dv_command.specs.declared.request.Request.TheVariants.{Check, Run, Code, Plan, Graph, Vcd, Stats, Table, Explain, Version}
 use Rattle.dv_command.specs.declared.request.ModelFile.{ModelFile}
 use Rattle.dv_command.specs.declared.request.PartitionChoice.{PartitionChoice}
 use Rattle.dv_command.specs.declared.request.PartitionChoice.TheVariants.{File, Count}
@@ -16,10 +16,13 @@ use Rattle.dv_command.specs.Subcommands.{subcommand_named}
 use Rattle.dv_command.specs.Words.{Said, Ready, at_most_one, given, said_by, values}
 use Rattle.dv_command.specs.declared.request.RequestError.{RequestError}
 use Rattle.dv_command.specs.declared.request.RequestError.TheVariants.{Memory, Usage}
+use Rattle.dv_command.specs.declared.request.Check.{Check as CheckRequest}
 use Rattle.dv_command.specs.declared.request.Plan.{Plan as PlanRequest}
 use Rattle.dv_command.specs.declared.request.Run.{Run as RunRequest}
 use Rattle.dv_command.specs.declared.request.Stats.{Stats as StatsRequest}
+use Rattle.dv_command.specs.declared.request.Table.{Table as TableRequest}
 use Rattle.dv_command.specs.declared.request.TraceFiles.{TraceFiles}
+use Rattle.dv_command.specs.declared.request.Waves.{Waves}
 
 -- what fits, or nothing where nothing fits
 abbrev pub IsFitting : {A : Type 0} → (A → Type 0) → Option A → Type 0
@@ -89,15 +92,20 @@ pub record AsksModel (said : List Said) (file : ModelFile) : Type 0 where
   pub model : values said ≡ string_bytes file.model ∷ []
   pub explained : flag_in (codes "--explain") said ≡ Some file.explained
 
+-- `MODEL [--warn] [--explain]`
+pub record AsksCheck (said : List Said) (check : CheckRequest) : Type 0 where
+  pub file : AsksModel said check.file
+  pub warned : flag_in (codes "--warn") said ≡ Some check.warned
+
 -- `MODEL [--partition F | --processes N] [--explain]`
 pub record AsksPlan (said : List Said) (plan : PlanRequest) : Type 0 where
   pub model : values said ≡ string_bytes plan.model ∷ []
   pub partition : AsksPartition said plan.partition
   pub explained : flag_in (codes "--explain") said ≡ Some plan.explained
 
--- `--inputs F`
-abbrev pub AsksInputs : {Z : Type 0} → List Said → Option (String Z) → Type 0
-AsksInputs said inputs = text_in (codes "--inputs") said ≡ Some (option_map string_bytes inputs)
+-- an option whose value is a text, and which need not stand
+abbrev pub AsksText : {Z : Type 0} → List ℕ → List Said → Option (String Z) → Type 0
+AsksText name said text = text_in name said ≡ Some (option_map string_bytes text)
 
 -- `--horizon H`, which has to stand
 abbrev pub AsksHorizon : List Said → ℕ → Type 0
@@ -117,21 +125,49 @@ pub record AsksDriving (said : List Said) (rounds workers : Option ℕ) : Type 0
 pub record AsksRun (said : List Said) (run : RunRequest) : Type 0 where
   pub model : values said ≡ string_bytes run.model ∷ []
   pub partition : AsksPartition said run.partition
-  pub inputs : AsksInputs said run.inputs
+  pub inputs : AsksText (codes "--inputs") said run.inputs
   pub horizon : AsksHorizon said run.horizon
   pub microsteps : AsksMicrosteps said run.microsteps
   pub driving : AsksDriving said run.rounds run.workers
   pub explained : flag_in (codes "--explain") said ≡ Some run.explained
 
--- `MODEL TRACE [--explain]`
+-- `MODEL TRACE [--partial] [--explain]`
 pub record AsksTrace (said : List Said) (files : TraceFiles) : Type 0 where
   pub names : values said ≡ string_bytes files.model ∷ (string_bytes files.trace ∷ [])
+  pub partial : flag_in (codes "--partial") said ≡ Some files.partial
   pub explained : flag_in (codes "--explain") said ≡ Some files.explained
 
--- `MODEL TRACE [--csv] [--explain]`
+-- `MODEL TRACE [--inputs F] [--hold-ports] [--timescale T] [--partial] [--explain]`
+pub record AsksWaves (said : List Said) (waves : Waves) : Type 0 where
+  pub files : AsksTrace said waves.files
+  pub inputs : AsksText (codes "--inputs") said waves.inputs
+  pub holds_ports : flag_in (codes "--hold-ports") said ≡ Some waves.holds_ports
+  pub timescale : AsksText (codes "--timescale") said waves.timescale
+
+-- whether the last tick is not before the first one, where both are given
+abbrev pub are_in_order : Option ℕ → Option ℕ → Bool
+are_in_order (Some first) (Some last) = nat_le first last
+are_in_order _ _ = true
+
+-- `--from T`, `--to T`, each of which need not stand
+pub record AsksWindow (said : List Said) (first last : Option ℕ) : Type 0 where
+  pub first_given : count_in 0 greatest_tick (codes "--from") said ≡ Some first
+  pub last_given : count_in 0 greatest_tick (codes "--to") said ≡ Some last
+  pub in_order : are_in_order first last ≡ true
+
+-- `MODEL TRACE [--from T] [--to T] [--only PATH] [--quantiles] [--csv] [--partial] [--explain]`
 pub record AsksStats (said : List Said) (stats : StatsRequest) : Type 0 where
   pub files : AsksTrace said stats.files
+  pub window : AsksWindow said stats.from stats.to
+  pub only : AsksText (codes "--only") said stats.only
+  pub quantiles : flag_in (codes "--quantiles") said ≡ Some stats.quantiles
   pub csv : flag_in (codes "--csv") said ≡ Some stats.csv
+
+-- `MODEL TRACE [--inputs F] [--json] [--partial] [--explain]`
+pub record AsksTable (said : List Said) (table : TableRequest) : Type 0 where
+  pub files : AsksTrace said table.files
+  pub inputs : AsksText (codes "--inputs") said table.inputs
+  pub json : flag_in (codes "--json") said ≡ Some table.json
 
 -- `CODE`, as it is printed, or in small letters: of a refusal or a fault that is explained
 abbrev pub AsksCode : List Said → List ℕ → Type 0
@@ -139,14 +175,15 @@ AsksCode said code = (text : List ℕ) × (values said ≡ text ∷ []) × (expl
 
 -- what is said behind a subcommand asks for this
 abbrev pub AsksBehind : Subcommand → List Said → Request → Type 0
-AsksBehind subcommand.Check said (Check file) = AsksModel said file
+AsksBehind subcommand.Check said (Check check) = AsksCheck said check
 AsksBehind subcommand.Code said (Code file) = AsksModel said file
 AsksBehind subcommand.Explain said (Explain explanation) = AsksCode said explanation.now.code.now
 AsksBehind subcommand.Graph said (Graph plan) = AsksPlan said plan
 AsksBehind subcommand.Plan said (Plan plan) = AsksPlan said plan
 AsksBehind subcommand.Run said (Run run) = AsksRun said run
 AsksBehind subcommand.Stats said (Stats stats) = AsksStats said stats
-AsksBehind subcommand.Vcd said (Vcd files) = AsksTrace said files
+AsksBehind subcommand.Table said (Table table) = AsksTable said table
+AsksBehind subcommand.Vcd said (Vcd waves) = AsksWaves said waves
 AsksBehind _ _ _ = ⊥
 
 -- the words behind the name of a subcommand ask for this

@@ -1,7 +1,7 @@
 -- The subcommands by their names, and the options of each.
 use Rattle.std.specs.Prelude.{ℕ, Bool, ◌||◌, false, if◌then◌else◌, List, Option, Some, None, bytes_eq, codes}
 use Rattle.dv_command.specs.declared.subcommand.Subcommand.{Subcommand}
-use Rattle.dv_command.specs.declared.subcommand.Subcommand.TheVariants.{Check, Code, Explain, Graph, Plan, Run, Stats, Vcd}
+use Rattle.dv_command.specs.declared.subcommand.Subcommand.TheVariants.{Check, Code, Explain, Graph, Plan, Run, Stats, Table, Vcd}
 
 -- the subcommand of this name
 abbrev pub subcommand_named : List ℕ → Option Subcommand
@@ -13,6 +13,7 @@ subcommand_named word =
     else if bytes_eq word (codes "plan") then Some Plan
     else if bytes_eq word (codes "run") then Some Run
     else if bytes_eq word (codes "stats") then Some Stats
+    else if bytes_eq word (codes "table") then Some Table
     else if bytes_eq word (codes "vcd") then Some Vcd
     else None
 
@@ -27,6 +28,14 @@ run_takes_value name =
 abbrev pub plan_takes_value : List ℕ → Bool
 plan_takes_value name = bytes_eq name (codes "--partition") || bytes_eq name (codes "--processes")
 
+-- the options of numbers: which ticks count, and which components
+abbrev pub stats_takes_value : List ℕ → Bool
+stats_takes_value name = bytes_eq name (codes "--from") || bytes_eq name (codes "--only") || bytes_eq name (codes "--to")
+
+-- the options of a value change dump
+abbrev pub vcd_takes_value : List ℕ → Bool
+vcd_takes_value name = bytes_eq name (codes "--inputs") || bytes_eq name (codes "--timescale")
+
 -- whether a subcommand has an option of this name to which a value belongs
 abbrev pub takes_value : Subcommand → List ℕ → Bool
 takes_value Run name = run_takes_value name
@@ -35,16 +44,33 @@ takes_value Graph name = plan_takes_value name
 takes_value Check name = false
 takes_value Code name = false
 takes_value Explain name = false
-takes_value Stats name = false
-takes_value Vcd name = false
+takes_value Stats name = stats_takes_value name
+takes_value Table name = bytes_eq name (codes "--inputs")
+takes_value Vcd name = vcd_takes_value name
+
+-- the flags of numbers
+abbrev pub stats_has_flag : List ℕ → Bool
+stats_has_flag name =
+    bytes_eq name (codes "--csv") || bytes_eq name (codes "--explain") || bytes_eq name (codes "--partial")
+    || bytes_eq name (codes "--quantiles")
+
+-- the flags of a table
+abbrev pub table_has_flag : List ℕ → Bool
+table_has_flag name = bytes_eq name (codes "--explain") || bytes_eq name (codes "--json") || bytes_eq name (codes "--partial")
+
+-- the flags of a value change dump
+abbrev pub vcd_has_flag : List ℕ → Bool
+vcd_has_flag name =
+    bytes_eq name (codes "--explain") || bytes_eq name (codes "--hold-ports") || bytes_eq name (codes "--partial")
 
 -- whether a subcommand has a flag of this name: an option without a value
 abbrev pub is_flag : Subcommand → List ℕ → Bool
 is_flag Explain name = false
-is_flag Stats name = bytes_eq name (codes "--explain") || bytes_eq name (codes "--csv")
-is_flag Check name = bytes_eq name (codes "--explain")
+is_flag Check name = bytes_eq name (codes "--explain") || bytes_eq name (codes "--warn")
 is_flag Code name = bytes_eq name (codes "--explain")
 is_flag Graph name = bytes_eq name (codes "--explain")
 is_flag Plan name = bytes_eq name (codes "--explain")
 is_flag Run name = bytes_eq name (codes "--explain")
-is_flag Vcd name = bytes_eq name (codes "--explain")
+is_flag Stats name = stats_has_flag name
+is_flag Table name = table_has_flag name
+is_flag Vcd name = vcd_has_flag name

@@ -1,20 +1,19 @@
 //! Requests, read from what words say.
 
 ghost use Rattle.std.specs.Prelude.{◌≡◌, ◌≤◌, ◌∷◌, [], IfOk, IfSome, map, string_bytes};
-ghost use Rattle.dv_command.specs.Asked.{Asks, AsksBehind, AsksCode, AsksDriving, AsksHorizon, AsksInputs, AsksMicrosteps};
-ghost use Rattle.dv_command.specs.Asked.{AsksModel, AsksPartition, AsksPlan, AsksRun, AsksStats, AsksTrace, AsksWith, IsAnswer};
+ghost use Rattle.dv_command.specs.Asked.{Asks, AsksBehind, AsksCheck, AsksCode, AsksDriving, AsksHorizon, AsksMicrosteps};
+ghost use Rattle.dv_command.specs.Asked.{AsksModel, AsksPartition, AsksPlan, AsksRun, AsksWith, IsAnswer};
 ghost use Rattle.dv_command.specs.Asked.{IsFitting, IsVersion, is_version};
 ghost use Rattle.dv_command.specs.Subcommands.{subcommand_named};
 ghost use Rattle.dv_command.specs.Steps.{said_in};
 ghost use Rattle.dv_command.specs.Words.{values};
 ghost use Rattle.dv_time.specs.Limits.{greatest_limit, greatest_tick};
 
-use crate::given::{count_in, flag_in, text_in, values};
+use crate::given::{count_in, flag_in, owned_text_in, text_in, values};
 use crate::part::{Part, said_by};
-use crate::request::{
-    ModelFile, PartitionChoice, Plan, Request, Run, Stats, TraceFiles, USUAL_LIMIT,
-};
+use crate::request::{Check, ModelFile, PartitionChoice, Plan, Request, Run, USUAL_LIMIT};
 use crate::subcommand::{Subcommand, subcommand_named};
+use crate::viewed::{stats_in, table_in, waves_in};
 use dv_explain::{Explanation, explanation_in_any_case};
 use dv_time::{GREATEST_LIMIT, GREATEST_TICK};
 use std::alloc::{AllocError, Global};
@@ -48,6 +47,18 @@ fn model_in(alloc: Global, parts: &[Part<'_>]) -> Result<Option<ModelFile>, Allo
         return Ok(None);
     };
     Ok(Some(ModelFile { model, explained }))
+}
+
+fn check_in(alloc: Global, parts: &[Part<'_>]) -> Result<Option<Check>, AllocError>
+    ensures { IfOk result (IsFitting (AsksCheck (map said_in parts.now))) }
+{
+    let Some(file) = model_in(alloc, parts)? else {
+        return Ok(None);
+    };
+    let Some(warned) = flag_in(alloc, "--warn", parts)? else {
+        return Ok(None);
+    };
+    Ok(Some(Check { file, warned }))
 }
 
 /// How the components are divided, where that is given.
@@ -92,48 +103,6 @@ fn plan_in(alloc: Global, parts: &[Part<'_>]) -> Result<Option<Plan>, AllocError
         partition,
         explained,
     }))
-}
-
-fn trace_in(alloc: Global, parts: &[Part<'_>]) -> Result<Option<TraceFiles>, AllocError>
-    ensures { IfOk result (IsFitting (AsksTrace (map said_in parts.now))) }
-{
-    let Some(explained) = flag_in(alloc, "--explain", parts)? else {
-        return Ok(None);
-    };
-    let texts = values(alloc, parts)?;
-    match texts.as_slice() {
-        [model, trace] => Ok(Some(TraceFiles {
-            model: String::from_str(alloc, model)?,
-            trace: String::from_str(alloc, trace)?,
-            explained,
-        })),
-        [] => Ok(None),
-        [_] => Ok(None),
-        [_, _, _, ..] => Ok(None),
-    }
-}
-
-fn stats_in(alloc: Global, parts: &[Part<'_>]) -> Result<Option<Stats>, AllocError>
-    ensures { IfOk result (IsFitting (AsksStats (map said_in parts.now))) }
-{
-    let Some(files) = trace_in(alloc, parts)? else {
-        return Ok(None);
-    };
-    let Some(csv) = flag_in(alloc, "--csv", parts)? else {
-        return Ok(None);
-    };
-    Ok(Some(Stats { files, csv }))
-}
-
-/// The file of the inputs, where one is given.
-fn inputs_in(alloc: Global, parts: &[Part<'_>]) -> Result<Option<Option<String>>, AllocError>
-    ensures { IfOk result (IsFitting (AsksInputs (map said_in parts.now))) }
-{
-    match text_in(alloc, "--inputs", parts)? {
-        None => Ok(None),
-        Some(None) => Ok(Some(None)),
-        Some(Some(name)) => Ok(Some(Some(String::from_str(alloc, name)?))),
-    }
 }
 
 /// The last tick of a run.
@@ -193,7 +162,7 @@ fn run_in(alloc: Global, parts: &[Part<'_>]) -> Result<Option<Run>, AllocError>
     let Some(partition) = partition_in(alloc, parts)? else {
         return Ok(None);
     };
-    let Some(inputs) = inputs_in(alloc, parts)? else {
+    let Some(inputs) = owned_text_in(alloc, "--inputs", parts)? else {
         return Ok(None);
     };
     let Some(horizon) = horizon_in(alloc, parts)? else {
@@ -245,8 +214,8 @@ fn asked_behind(
     ensures { IfOk result (IsAnswer (AsksBehind subcommand (map said_in parts.now))) }
 {
     match subcommand {
-        Subcommand::Check => match model_in(alloc, parts)? {
-            Some(file) => Ok(Some(Request::Check(file))),
+        Subcommand::Check => match check_in(alloc, parts)? {
+            Some(check) => Ok(Some(Request::Check(check))),
             None => Ok(None),
         },
         Subcommand::Code => match model_in(alloc, parts)? {
@@ -273,8 +242,12 @@ fn asked_behind(
             Some(stats) => Ok(Some(Request::Stats(stats))),
             None => Ok(None),
         },
-        Subcommand::Vcd => match trace_in(alloc, parts)? {
-            Some(files) => Ok(Some(Request::Vcd(files))),
+        Subcommand::Table => match table_in(alloc, parts)? {
+            Some(table) => Ok(Some(Request::Table(table))),
+            None => Ok(None),
+        },
+        Subcommand::Vcd => match waves_in(alloc, parts)? {
+            Some(waves) => Ok(Some(Request::Vcd(waves))),
             None => Ok(None),
         },
     }

@@ -2,7 +2,7 @@
 
 ghost use Rattle.std.specs.Prelude.{◌≡◌, ◌≤◌, List, ℕ, map, option_map, filter_map, IfOk, is_some, IfSome};
 ghost use Rattle.dv_command.specs.Words.{at_most_one, given, named_in, value_in, values};
-ghost use Rattle.dv_command.specs.Asked.{count_in, flag_in, number_of, text_in};
+ghost use Rattle.dv_command.specs.Asked.{AsksText, IsFitting, count_in, flag_in, number_of, text_in};
 ghost use Rattle.dv_command.specs.Steps.{said_in};
 
 use crate::number::number_in;
@@ -79,6 +79,21 @@ pub(crate) fn text_in<'a>(
 {
     let texts = given(alloc, name, parts)?;
     Ok(at_most_one(&texts))
+}
+
+/// The value of an option that need not stand, as a text of its own; nothing where it stands more than once.
+pub(crate) fn owned_text_in(
+    alloc: Global,
+    name: &str,
+    parts: &[Part<'_>],
+) -> Result<Option<Option<String>>, AllocError>
+    ensures { IfOk result (IsFitting (AsksText name.now (map said_in parts.now))) }
+{
+    match text_in(alloc, name, parts)? {
+        None => Ok(None),
+        Some(None) => Ok(Some(None)),
+        Some(Some(text)) => Ok(Some(Some(String::from_str(alloc, text)?))),
+    }
 }
 
 /// Whether a flag stands; nothing where it stands more than once.

@@ -1,5 +1,9 @@
 //! What the help says of each subcommand and of its words, as a table.
 
+use crate::asked::MOST_WORKERS;
+use crate::number::number_in;
+use dv_time::{GREATEST_LIMIT, GREATEST_TICK};
+
 /// A subcommand: its name, what it does, and the words that it takes.
 pub(crate) struct SubcommandHelp {
     pub(crate) name: &'static str,
@@ -22,23 +26,62 @@ pub(crate) enum Form {
     /// By its place.
     Plain(&'static str),
     /// Behind the word's name.
-    Option(&'static str),
+    Option(&'static str, Value),
     /// By the word's name alone.
     Flag,
 }
+
+/// What may stand behind the name of an option.
+#[derive(Clone, Copy)]
+pub(crate) struct Value {
+    /// What it is, as it is told where something else stands.
+    pub(crate) words: &'static str,
+    /// The numbers of which it is one; every text may stand where there are none.
+    numbers: Option<Numbers>,
+}
+
+/// The numbers from a least to a greatest one.
+#[derive(Clone, Copy)]
+struct Numbers {
+    least: u64,
+    greatest: u64,
+}
+
+impl Value {
+    /// Whether a text may stand behind the name of the option.
+    pub(crate) fn takes(self, text: &str) -> bool {
+        match self.numbers {
+            Some(numbers) => number_in(numbers.least, numbers.greatest, text).is_some(),
+            None => true,
+        }
+    }
+}
+
+const FILE: Value = Value {
+    words: "a file",
+    numbers: None,
+};
+
+const TICK: Value = Value {
+    words: "a tick, 0 to 10^15",
+    numbers: Some(Numbers {
+        least: 0,
+        greatest: GREATEST_TICK,
+    }),
+};
 
 const MODEL: WordHelp = WordHelp {
     name: "model",
     form: Form::Plain("MODEL"),
     is_required: true,
-    help: "the file of the model",
+    help: "the file of the model, or - for standard input",
 };
 
 const TRACE: WordHelp = WordHelp {
     name: "trace",
     form: Form::Plain("TRACE"),
     is_required: true,
-    help: "the file of the trace, as run printed it",
+    help: "the file of the trace, as run printed it, or - for standard input",
 };
 
 const CODE: WordHelp = WordHelp {
@@ -62,51 +105,163 @@ const CSV: WordHelp = WordHelp {
     help: "prints comma-separated values",
 };
 
+const JSON: WordHelp = WordHelp {
+    name: "json",
+    form: Form::Flag,
+    is_required: false,
+    help: "prints a line of JSON for each row",
+};
+
+const WARN: WordHelp = WordHelp {
+    name: "warn",
+    form: Form::Flag,
+    is_required: false,
+    help: "prints a warning for what is never used, never runs or is lost in silence",
+};
+
+const PARTIAL: WordHelp = WordHelp {
+    name: "partial",
+    form: Form::Flag,
+    is_required: false,
+    help: "takes a trace that stops before its end, and tells how far it reaches",
+};
+
+const HOLD_PORTS: WordHelp = WordHelp {
+    name: "hold-ports",
+    form: Form::Flag,
+    is_required: false,
+    help: "shows the last value of a port until the next one",
+};
+
+const TIMESCALE: WordHelp = WordHelp {
+    name: "timescale",
+    form: Form::Option(
+        "T",
+        Value {
+            words: "a count and a unit, as 1ns, 10us or 100ms",
+            numbers: None,
+        },
+    ),
+    is_required: false,
+    help: "what a tick is: 1, 10 or 100, and s, ms, us, ns, ps or fs (1s)",
+};
+
+const FROM: WordHelp = WordHelp {
+    name: "from",
+    form: Form::Option("T", TICK),
+    is_required: false,
+    help: "the first tick that counts, 0 to 10^15 (0)",
+};
+
+const TO: WordHelp = WordHelp {
+    name: "to",
+    form: Form::Option("T", TICK),
+    is_required: false,
+    help: "the last tick that counts, 0 to 10^15 (the end of the trace)",
+};
+
+const ONLY: WordHelp = WordHelp {
+    name: "only",
+    form: Form::Option(
+        "PATH",
+        Value {
+            words: "a path",
+            numbers: None,
+        },
+    ),
+    is_required: false,
+    help: "the path of what counts: a component, or a part with all that is in it (all)",
+};
+
+const QUANTILES: WordHelp = WordHelp {
+    name: "quantiles",
+    form: Form::Flag,
+    is_required: false,
+    help: "prints quantiles, too",
+};
+
 const HORIZON: WordHelp = WordHelp {
     name: "horizon",
-    form: Form::Option("H"),
+    form: Form::Option("H", TICK),
     is_required: true,
     help: "the last tick of the run, 0 to 10^15",
 };
 
 const MICROSTEPS: WordHelp = WordHelp {
     name: "microsteps",
-    form: Form::Option("L"),
+    form: Form::Option(
+        "L",
+        Value {
+            words: "a microstep, 1 to 1000",
+            numbers: Some(Numbers {
+                least: 1,
+                greatest: GREATEST_LIMIT as u64,
+            }),
+        },
+    ),
     is_required: false,
     help: "the greatest microstep of a tick, 1 to 1000 (20)",
 };
 
 const INPUTS: WordHelp = WordHelp {
     name: "inputs",
-    form: Form::Option("F"),
+    form: Form::Option("F", FILE),
     is_required: false,
     help: "the file of the inputs, with a line TICK PORT VALUE or TICK.MICRO PORT VALUE for each",
 };
 
 const PARTITION: WordHelp = WordHelp {
     name: "partition",
-    form: Form::Option("F"),
+    form: Form::Option("F", FILE),
     is_required: false,
     help: "the file that says which components each process has",
 };
 
 const PROCESSES: WordHelp = WordHelp {
     name: "processes",
-    form: Form::Option("N"),
+    form: Form::Option(
+        "N",
+        // A number past 256 is refused for the model, as Q4.
+        Value {
+            words: "a number of processes, 1 to 256",
+            numbers: Some(Numbers {
+                least: 0,
+                greatest: u32::MAX as u64,
+            }),
+        },
+    ),
     is_required: false,
     help: "the number of processes, 1 to 256, and no more than the components (1)",
 };
 
 const ROUNDS: WordHelp = WordHelp {
     name: "rounds",
-    form: Form::Option("N"),
+    form: Form::Option(
+        "N",
+        Value {
+            words: "a number of rounds, 0 to 2^64-1",
+            numbers: Some(Numbers {
+                least: 0,
+                greatest: u64::MAX,
+            }),
+        },
+    ),
     is_required: false,
     help: "the most rounds of turns and packets (as many as it takes)",
 };
 
 const WORKERS: WordHelp = WordHelp {
     name: "workers",
-    form: Form::Option("N"),
+    form: Form::Option(
+        "N",
+        Value {
+            words: "a number of threads, 1 to 256",
+            numbers: Some(Numbers {
+                least: 1,
+                greatest: MOST_WORKERS,
+            }),
+        },
+    ),
     is_required: false,
     help: "the threads that run the processes, 1 to 256; not with --rounds (none but the program's own)",
 };
@@ -116,7 +271,7 @@ const SUBCOMMANDS: &[SubcommandHelp] = &[
     SubcommandHelp {
         name: "check",
         about: "Checks a model and prints the number of its components",
-        words: &[MODEL, EXPLAIN],
+        words: &[MODEL, WARN, EXPLAIN],
     },
     SubcommandHelp {
         name: "run",
@@ -143,12 +298,21 @@ const SUBCOMMANDS: &[SubcommandHelp] = &[
     SubcommandHelp {
         name: "vcd",
         about: "Prints a trace as a value change dump, for wave viewers",
-        words: &[MODEL, TRACE, EXPLAIN],
+        words: &[
+            MODEL, TRACE, INPUTS, HOLD_PORTS, TIMESCALE, PARTIAL, EXPLAIN,
+        ],
     },
     SubcommandHelp {
         name: "stats",
         about: "Prints what a trace says of each component, in numbers",
-        words: &[MODEL, TRACE, CSV, EXPLAIN],
+        words: &[
+            MODEL, TRACE, FROM, TO, ONLY, QUANTILES, CSV, PARTIAL, EXPLAIN,
+        ],
+    },
+    SubcommandHelp {
+        name: "table",
+        about: "Prints a trace as a table: transitions, values that were sent and values that came",
+        words: &[MODEL, TRACE, INPUTS, JSON, PARTIAL, EXPLAIN],
     },
     SubcommandHelp {
         name: "explain",

@@ -3,7 +3,9 @@
 
 /// Requests, read from what words say.
 mod asked;
-/// The words, read; and the help of the program.
+/// The command line, as its help shows it.
+mod command;
+/// From words to what they ask for.
 mod command_line;
 /// What parts say for an option.
 mod given;
@@ -17,8 +19,13 @@ mod part;
 pub mod request;
 /// The subcommands, their names and their options.
 mod subcommand;
+/// Why words ask for nothing.
+mod usage;
+/// Requests for what a trace says, read from what words say.
+mod viewed;
 
 pub use command_line::request_of;
 pub use request::{
-    ModelFile, PartitionChoice, Plan, Request, RequestError, Run, Stats, TraceFiles, Usage,
+    Check, ModelFile, PartitionChoice, Plan, Request, RequestError, Run, Stats, Table, TraceFiles,
+    Usage, Waves,
 };

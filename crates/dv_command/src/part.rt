@@ -36,7 +36,7 @@ pub(crate) struct Read<'a> {
 }
 
 /// Whether a word is no option.
-fn is_value(word: &str) -> bool
+pub(crate) fn is_value(word: &str) -> bool
     ensures { result ≡ is_value word.now }
 {
     match word.as_bytes() {

@@ -13,7 +13,7 @@ pub(crate) const USUAL_LIMIT: u32 = 20;
 #[derive(Debug, Drop)]
 pub enum Request {
     /// Check a model and print the number of its components.
-    Check(ModelFile),
+    Check(Check),
     Run(Run),
     /// Print the programs of a model.
     Code(ModelFile),
@@ -22,9 +22,11 @@ pub enum Request {
     /// Print a model as a graph in the DOT language.
     Graph(Plan),
     /// Print a trace as a value change dump.
-    Vcd(TraceFiles),
+    Vcd(Waves),
     /// Print what a trace says of each component, in numbers.
     Stats(Stats),
+    /// Print a trace as a table.
+    Table(Table),
     /// Print what a refusal or a fault means.
     Explain(&'static Explanation),
     /// Print the program's name and version, which is this text.
@@ -40,6 +42,14 @@ pub struct ModelFile {
     pub explained: bool,
 }
 
+/// A model to check.
+#[derive(Debug, Drop)]
+pub struct Check {
+    pub file: ModelFile,
+    /// Whether the warnings are printed.
+    pub warned: bool,
+}
+
 /// A model with a trace of it.
 #[derive(Debug, Drop)]
 pub struct TraceFiles {
@@ -47,16 +57,48 @@ pub struct TraceFiles {
     pub model: String,
     /// The file of the trace, as `run` printed it.
     pub trace: String,
+    /// Whether the trace may stop before its end.
+    pub partial: bool,
     /// Whether a refusal is explained.
     pub explained: bool,
 }
 
-/// Count what a trace says of each component.
+/// A trace as a value change dump.
+#[derive(Debug, Drop)]
+pub struct Waves {
+    pub files: TraceFiles,
+    /// The file of the inputs of the run, where it is given.
+    pub inputs: Option<String>,
+    /// Whether a port has the last value that left it until the next one.
+    pub holds_ports: bool,
+    /// What a tick is, as text, where that is given. Whether it is a timescale is not asked here.
+    pub timescale: Option<String>,
+}
+
+/// Count what a trace says of each component. The last tick is not before the first one.
 #[derive(Debug, Drop)]
 pub struct Stats {
     pub files: TraceFiles,
+    /// The first tick that counts, 0 to 10^15, where that is given.
+    pub from: Option<u64>,
+    /// The last tick that counts, 0 to 10^15, where that is given.
+    pub to: Option<u64>,
+    /// The path of what is counted alone, where that is given.
+    pub only: Option<String>,
+    /// Whether quantiles are printed.
+    pub quantiles: bool,
     /// Whether the numbers are printed with commas between them.
     pub csv: bool,
+}
+
+/// A trace as a table.
+#[derive(Debug, Drop)]
+pub struct Table {
+    pub files: TraceFiles,
+    /// The file of the inputs of the run, where it is given.
+    pub inputs: Option<String>,
+    /// Whether rows are printed as JSON, and not with commas between values.
+    pub json: bool,
 }
 
 /// How the components of a model are divided into processes.

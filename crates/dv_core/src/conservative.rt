@@ -3,9 +3,9 @@
 ghost use Rattle.dv_core.specs.Conservative.{IsConservative, state_by};
 
 use crate::process::{LogicalProcess, ProcessHandsOver};
-use dv_bag::Part;
 use dv_proc::{Local, LocalHandsOver, Packet, Process, Refused, Turned};
 use dv_time::Time;
+use dv_written::{OfJob, WrittenPart};
 use std::alloc::AllocError;
 
 impl<L: Local + Drop> LogicalProcess for Process<L> {
@@ -55,8 +55,8 @@ impl<L: Local + Drop> LogicalProcess for Process<L> {
     }
 }
 
-impl<L: LocalHandsOver + Drop> ProcessHandsOver for Process<L> {
-    fn hand_over(&mut self) -> Part {
+impl<N: OfJob, L: LocalHandsOver<N> + Drop> ProcessHandsOver<N> for Process<L> {
+    fn hand_over(&mut self) -> WrittenPart<N> {
         Process::hand_over(self)
     }
 }

@@ -11,10 +11,10 @@ ghost use Rattle.dv_proc.specs.Refusals.{meant_refusal};
 ghost use Rattle.dv_record.specs.Told.{Handed};
 ghost use Rattle.dv_time.specs.Limits.{greatest_tick};
 
-use dv_bag::Part;
 use dv_proc::{Packet, Refused, Turned};
 use dv_record::Record;
 use dv_time::Time;
+use dv_written::{OfJob, WrittenPart};
 use std::alloc::AllocError;
 
 /// A logical process, as a world sees it: its share of the model, the components of it as they stand, the packets that it
@@ -103,9 +103,9 @@ pub trait LogicalProcess: Drop {
 }
 
 /// A logical process of whose record a part is moved out while it commits more.
-pub trait ProcessHandsOver: LogicalProcess {
-    /// Moves out what it committed beyond what was moved out before.
-    fn hand_over(&mut self) -> Part
+pub trait ProcessHandsOver<N: OfJob>: LogicalProcess {
+    /// Moves out what it committed beyond what was moved out before, as the lines that its entries print.
+    fn hand_over(&mut self) -> WrittenPart<N>
         requires { Self.valid self.old }
         ensures valid { Self.valid self.new }
         ensures state { Self.state self.new ≡ Self.state self.old }

@@ -15,9 +15,9 @@ ghost use Rattle.dv_core.specs.declared.step.Step.TheVariants as step;
 
 use crate::process::{LogicalProcess, PlannedJob, ProcessHandsOver};
 use crate::step::{Ended, Reply, Step};
-use dv_bag::Part;
 use dv_proc::{Channel, Packet, Refused};
 use dv_time::Time;
+use dv_written::{OfJob, WrittenPart};
 use std::alloc::{AllocError, Global};
 use std::collections::VecDeque;
 
@@ -399,9 +399,11 @@ impl<J: PlannedJob, P: LogicalProcess> WorldState<J, P> {
     }
 }
 
-impl<J: PlannedJob, P: ProcessHandsOver> WorldState<J, P> {
-    /// Moves out what a process committed beyond what was moved out of it before.
-    pub fn hand_over(&mut self, process: u32) -> Part
+impl<J: PlannedJob, P: LogicalProcess> WorldState<J, P> {
+    /// Moves out what a process committed beyond what was moved out of it before, as the lines that its entries print.
+    pub fn hand_over<N: OfJob>(&mut self, process: u32) -> WrittenPart<N>
+    where
+        P: ProcessHandsOver<N>,
         requires stands { Stands J.means P.state P.valid self.old }
         requires process { process < vec_len self.old.processes }
         ensures stands { Stands J.means P.state P.valid self.new }

@@ -3,9 +3,9 @@
 use crate::process::{LogicalProcess, PlannedJob, ProcessHandsOver};
 use crate::state::WorldState;
 use crate::step::{Ended, Reply, Step};
-use dv_bag::Part;
 use dv_proc::Channel;
 use dv_time::Time;
+use dv_written::{OfJob, WrittenPart};
 use std::alloc::{AllocError, Global};
 use std::marker::Model;
 
@@ -170,13 +170,16 @@ impl<J: PlannedJob, P: LogicalProcess> World<J, P> {
     }
 }
 
-impl<J: PlannedJob, P: ProcessHandsOver> World<J, P> {
+impl<J: PlannedJob, P: LogicalProcess> World<J, P> {
     ghost use Rattle.std.specs.Prelude.{◌≡◌, ◌<◌, Some, map, slice_get, slice_set};
     ghost use Rattle.dv_bag.specs.Part.{joined};
     ghost use Rattle.dv_core.specs.Worlds.{kept_by};
 
-    /// Moves out what a process committed beyond what was moved out of it before. Nothing else changes that is seen.
-    pub fn hand_over(&mut self, process: u32) -> Part
+    /// Moves out what a process committed beyond what was moved out of it before, as the lines that its entries print. Nothing else
+    /// changes that is seen.
+    pub fn hand_over<N: OfJob>(&mut self, process: u32) -> WrittenPart<N>
+    where
+        P: ProcessHandsOver<N>,
         requires { process < (J.means self.old.job).processes }
         ensures job { self.new.job ≡ self.old.job }
         ensures kept { kept_by P.state self.new ≡ kept_by P.state self.old }

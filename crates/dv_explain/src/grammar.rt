@@ -61,7 +61,8 @@ const CLOSE_PAREN: Part = Part::Sign(Symbol::CloseParen, ")");
 /// A semicolon.
 pub const SEMICOLON: Part = Part::Sign(Symbol::Semicolon, ";");
 
-const COLON: Part = Part::Sign(Symbol::Colon, ":");
+/// A colon.
+pub const COLON: Part = Part::Sign(Symbol::Colon, ":");
 
 const COMMA: Part = Part::Sign(Symbol::Comma, ",");
 
@@ -70,7 +71,8 @@ pub const DOT: Part = Part::Sign(Symbol::Dot, ".");
 
 const RANGE: Part = Part::Sign(Symbol::Range, "..");
 
-const EQUAL: Part = Part::Sign(Symbol::Equal, "=");
+/// What stands before a start value.
+pub const EQUAL: Part = Part::Sign(Symbol::Equal, "=");
 
 /// What stands between a variable and its value in a statement.
 pub const ASSIGN: Part = Part::Sign(Symbol::Assign, ":=");

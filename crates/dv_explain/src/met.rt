@@ -1,10 +1,8 @@
 //! What stands at a place of a text.
 
+use crate::quoted::Quoted;
 use dv_lex::{Names, Symbol, Token, TokenKind};
 use std::fmt;
-
-/// The most characters that are shown of a name.
-const SHOWN: usize = 60;
 
 /// What stands at a place of a text.
 #[derive(Clone, Copy, Debug, PartialEq, Eq)]
@@ -55,23 +53,10 @@ fn length_of(symbol: Symbol) -> usize {
 impl fmt::Display for Met<'_> {
     fn fmt<W: fmt::Write>(&self, f: &mut fmt::Formatter<W>) -> fmt::Result {
         match self {
-            Met::Name(text) => write!(f, "the name `{}`", Shortened(text)),
+            Met::Name(text) => write!(f, "the name {}", Quoted(text)),
             Met::Number(number) => write!(f, "the number {number}"),
             Met::Fixed(text) => write!(f, "`{text}`"),
             Met::End => f.write_str("the end of the text"),
-        }
-    }
-}
-
-/// A name, of which a long rest is left out.
-#[derive(Clone, Copy)]
-struct Shortened<'a>(&'a str);
-
-impl fmt::Display for Shortened<'_> {
-    fn fmt<W: fmt::Write>(&self, f: &mut fmt::Formatter<W>) -> fmt::Result {
-        match self.0.char_indices().nth(SHOWN) {
-            Some((end, _)) => write!(f, "{}…", self.0.get(..end).unwrap_or("")),
-            None => f.write_str(self.0),
         }
     }
 }

@@ -1,15 +1,14 @@
 //! What is nested too deeply.
 
-/// A sentence, with a line feed, that says which limit a token passes that is nested too deeply. `place` is the number
-/// of bytes before the token.
+/// Which limit a token passes that is nested too deeply. `place` is the number of bytes before the token.
 pub fn nesting_at(text: &[u8], place: usize) -> &'static str {
     let (_, token) = text.split_at(place.min(text.len()));
     if begins_with_word(token, b"if") {
-        "Blocks nest at most 16 deep, that of the rule counted: this `if` has one more.\n"
+        "blocks nest at most 16 deep, that of the rule counted"
     } else if begins_with_word(token, b"for") {
-        "Loops nest at most 3 deep, and blocks at most 16, that of the rule counted.\n"
+        "loops nest at most 3 deep, and blocks at most 16, that of the rule counted"
     } else {
-        "An expression nests at most 64 deep.\n"
+        "an expression nests at most 64 deep"
     }
 }
 

@@ -1,5 +1,8 @@
 //! The line of a text that a refusal points at, with a mark under the token.
 
+use crate::cause::Cause;
+use crate::explanation::explanation_of;
+use crate::position::last_line;
 use crate::unseen::unseen_name;
 use std::alloc::{AllocError, Global};
 
@@ -9,36 +12,55 @@ const SHOWN: usize = 60;
 /// Stands where a line is cut.
 const CUT: char = '…';
 
-/// Where a place is, as `FILE:LINE:COLUMN`; then the line of the text around it, and below that a mark under the place.
-/// `name` is that of the file, `line` is the number of the line, and `place` is the number of bytes before the token.
-/// Columns count characters from 1. Of a long line the 60 characters before the place and the 60 behind it are shown,
-/// with a `…` on a side where it is cut, and no bytes that are not UTF-8.
+/// A place of a file: the name and the bytes of the file, the number of the line, and how many bytes come before the place.
+#[derive(Clone, Copy)]
+pub struct Spot<'a> {
+    pub name: &'a str,
+    pub text: &'a [u8],
+    pub line: u64,
+    pub place: usize,
+}
+
+/// Where a refusal is and its case, as `FILE:LINE:COLUMN: CODE: SUMMARY`; then the line of the text around the place, a mark
+/// below it, and the sentences of the cause. Columns count characters from 1. A cause without a summary has the first sentence
+/// of what the code means. Of a long line the 60 characters before the place and the 60 behind it are shown, with a `…` on a
+/// side where it is cut, and no bytes that are not UTF-8.
 ///
 /// # Errors
 ///
-/// No memory for the three lines.
-pub fn excerpt(
+/// No memory for the lines.
+pub fn pointed(
     alloc: Global,
-    name: &str,
-    text: &[u8],
-    line: u64,
-    place: usize,
+    spot: &Spot<'_>,
+    code: &str,
+    cause: &Cause,
 ) -> Result<String, AllocError> {
-    let (before, after) = text.split_at(place.min(text.len()));
+    let (before, after) = spot.text.split_at(spot.place.min(spot.text.len()));
     let before = str::from_utf8(last_line(before)).unwrap_or("");
     let after = str::from_utf8(first_line(after)).unwrap_or("");
-    marked(alloc, name, line, before, after)
+    let column = before.chars().count().saturating_add(1);
+    let summary = if cause.summary.is_empty() {
+        first_sentence(code)
+    } else {
+        cause.summary.as_str()
+    };
+    let (name, line) = (spot.name, spot.line);
+    let mut told = format!(in alloc; "{name}:{line}:{column}: {code}: {summary}\n")?;
+    let number = format!(in alloc; "{line} ")?;
+    push_marked(&mut told, number.as_str(), before, after)?;
+    told.push_str(cause.sentences.as_str())?;
+    Ok(told)
 }
 
-/// What stands behind the last line feed.
-fn last_line(bytes: &[u8]) -> &[u8] {
-    let mut start = 0;
-    for (place, byte) in bytes.iter().enumerate() {
-        if *byte == b'\n' {
-            start = place + 1;
-        }
+/// The first sentence of what a code means, without its full stop.
+fn first_sentence(code: &str) -> &'static str {
+    match explanation_of(code) {
+        Some(explanation) => match explanation.words.split_once(". ") {
+            Some((sentence, _)) => sentence,
+            None => explanation.words,
+        },
+        None => "",
     }
-    bytes.get(start..).unwrap_or(&[])
 }
 
 /// What stands before the first line feed.
@@ -50,23 +72,18 @@ fn first_line(bytes: &[u8]) -> &[u8] {
     bytes.get(..end).unwrap_or(bytes)
 }
 
-/// The three lines, out of what stands on the line before the place and from it on.
-fn marked(
-    alloc: Global,
-    name: &str,
-    line: u64,
+/// The line with its number and the mark below it, out of what stands on the line before the place and from it on.
+fn push_marked(
+    text: &mut String,
+    number: &str,
     before: &str,
     after: &str,
-) -> Result<String, AllocError> {
-    let column = before.chars().count().saturating_add(1);
-    let hidden = column.saturating_sub(SHOWN.saturating_add(1));
-    let number = format!(in alloc; "{line} ")?;
-    let margin = number.len();
-    let mut text = format!(in alloc; "{name}:{line}:{column}\n{number}| ")?;
-    push_before(&mut text, before, hidden)?;
-    push_after(&mut text, after)?;
-    push_mark(&mut text, margin, before, hidden)?;
-    Ok(text)
+) -> Result<(), AllocError> {
+    let hidden = before.chars().count().saturating_sub(SHOWN);
+    write!(text, "{number}| ")?;
+    push_before(text, before, hidden)?;
+    push_after(text, after)?;
+    push_mark(text, number.len(), before, hidden)
 }
 
 /// What is shown of a line before the place, behind so many hidden characters.

@@ -14,6 +14,15 @@ pub fn slip_at(text: &[u8], place: usize) -> &'static str {
     if is_decimal(before, after) {
         return "There are no decimals: numbers are whole, so count in smaller units.\n";
     }
+    if is_decimal_alone(before, after) {
+        return "Numbers are written in decimal digits alone.\n";
+    }
+    if is_unit(before, after) {
+        return "Times are whole numbers of ticks, and numbers have no unit.\n";
+    }
+    if begins_with_digit(before, after) {
+        return "A name begins with a letter or `_`.\n";
+    }
     if is_hyphen(before, after) {
         return "A name has letters, digits and `_`, and no `-`.\n";
     }
@@ -47,6 +56,41 @@ fn is_at(slip: &Slip, before: &[u8], after: &[u8]) -> bool {
 /// The slips that are told by the characters around the place.
 fn slips() -> &'static [Slip] {
     &[
+        Slip {
+            before: "",
+            after: "[",
+            words: "There are no lists and no indices: several numbers are held by a bag, as `bag b 10;`.\n",
+        },
+        Slip {
+            before: "",
+            after: "?",
+            words: "There is no `? :`: write `if n > 0 { .. } else { .. }`.\n",
+        },
+        Slip {
+            before: "",
+            after: "'",
+            words: "A model has numbers and truth values, and no texts.\n",
+        },
+        Slip {
+            before: "",
+            after: "^",
+            words: "There is no power: write `n * n`.\n",
+        },
+        Slip {
+            before: "*",
+            after: "*",
+            words: "There is no power: write `n * n`.\n",
+        },
+        Slip {
+            before: "",
+            after: "--",
+            words: "A comment begins with `#`, and a variable is changed by `n := n - 1`.\n",
+        },
+        Slip {
+            before: "<",
+            after: ">",
+            words: "Unequal is written `!=`.\n",
+        },
         Slip {
             before: "",
             after: "&&",
@@ -149,6 +193,38 @@ fn slips() -> &'static [Slip] {
 fn is_decimal(before: &[u8], after: &[u8]) -> bool {
     match (before.last(), after) {
         (Some(left), [b'.', right, ..]) => left.is_ascii_digit() && right.is_ascii_digit(),
+        _ => false,
+    }
+}
+
+/// Whether letters that no decimal number has continue a number, as in `0xff`, `1e3` and `1_000`.
+fn is_decimal_alone(before: &[u8], after: &[u8]) -> bool {
+    match (before.last(), after) {
+        (Some(b'0'), [b'x' | b'X' | b'b' | b'o', ..]) => true,
+        (Some(left), [b'e' | b'E', right, ..]) => left.is_ascii_digit() && right.is_ascii_digit(),
+        (Some(left), [b'_', ..]) => left.is_ascii_digit(),
+        _ => false,
+    }
+}
+
+/// Whether a name continues a number, as in `5s`.
+fn is_unit(before: &[u8], after: &[u8]) -> bool {
+    match (before.last(), after.first()) {
+        (Some(left), Some(right)) => left.is_ascii_digit() && right.is_ascii_alphabetic(),
+        _ => false,
+    }
+}
+
+/// Whether digits stand before a letter, as in `2nd`, where no number is continued.
+fn begins_with_digit(before: &[u8], after: &[u8]) -> bool {
+    let digits = after
+        .iter()
+        .take_while(|byte| byte.is_ascii_digit())
+        .count();
+    match (before.last(), after.get(digits)) {
+        (Some(left), Some(right)) => {
+            digits > 0 && is_blank(left) && (right.is_ascii_alphabetic() || *right == b'_')
+        }
         _ => false,
     }
 }

@@ -1,100 +1,105 @@
 //! A token that can't stand where it stands: what may stand there, what was met, and what seems to be meant.
 
+use crate::cause::Cause;
 use crate::expectations::{Expectations, expectations_at};
-use crate::grammar::{ASSIGN, DOT, Part, SEMICOLON, is_comparison};
+use crate::foreign::{foreign_at, name_at, symbol_at};
+use crate::grammar::{ASSIGN, COLON, DOT, EQUAL, Part, SEMICOLON, is_comparison};
 use crate::met::met_at;
+use crate::quoted::Quoted;
 use crate::slips::{begins_line, slip_at};
-use dv_lex::{Keyword, Symbol, Token, TokenKind, Tokens, tokens};
+use dv_lex::{Keyword, Symbol, TokenKind, Tokens, tokens};
 use std::alloc::{AllocError, Global};
 
-/// Sentences on the first token with which no text goes on, each with a line feed: what may stand at its place and what was
-/// met, and what seems to be meant, where that is known. `place` is the number of bytes before the token. Nothing where the
-/// text has no tokens.
+/// The first token with which no text goes on: what may stand at its place and what was met, and what seems to be meant,
+/// where that is known. `place` is the number of bytes before the token. Nothing is said where the text has no tokens.
 ///
 /// # Errors
 ///
-/// No memory for the tokens or the sentences.
-pub fn unexpected_at(alloc: Global, text: &[u8], place: usize) -> Result<String, AllocError> {
+/// No memory for the tokens or the words.
+pub fn unexpected_at(alloc: Global, text: &[u8], place: usize) -> Result<Cause, AllocError> {
     let Ok(read) = tokens(alloc, text) else {
-        return Ok(String::new(alloc));
+        return Cause::of(alloc, "", "");
     };
     let expected = expectations_at(alloc, &read.tokens, place)?;
-    let mut behind = read
+    let number = read
         .tokens
         .iter()
-        .skip_while(|token| (token.place as usize) < place);
-    let token = behind.next();
-    let met = met_at(str::from_utf8(text).unwrap_or(""), &read.names, token);
+        .take_while(|token| (token.place as usize) < place)
+        .count();
+    let met = met_at(
+        str::from_utf8(text).unwrap_or(""),
+        &read.names,
+        read.tokens.get(number),
+    );
+    Ok(Cause {
+        summary: format!(in alloc; "expected {expected}, but met {met}")?,
+        sentences: meant_at(alloc, text, place, &read, number, &expected)?,
+    })
+}
+
+/// A sentence on what seems to be meant, with a line feed, or nothing. So many tokens come before the one that is met.
+fn meant_at(
+    alloc: Global,
+    text: &[u8],
+    place: usize,
+    read: &Tokens,
+    number: usize,
+    expected: &Expectations,
+) -> Result<String, AllocError> {
     let slip = slip_at(text, place);
-    let hint = if !slip.is_empty() {
-        slip
-    } else if lacks_version(&expected, &read, place) {
-        WITHOUT_QUEUES
+    if !slip.is_empty() {
+        String::from_str(alloc, slip)
+    } else if lacks_version(expected, read, number) {
+        String::from_str(alloc, WITHOUT_QUEUES)
+    } else if expected.have(SEMICOLON) && begins_line(text, place) {
+        String::from_str(
+            alloc,
+            "It begins a line: the line before may lack its `;`.\n",
+        )
+    } else if expected.have(DOT) {
+        end_of_link(alloc, name_at(read, number.saturating_sub(1)))
     } else {
-        hint_at(text, place, &expected, token, behind.next())
-    };
-    format!(in alloc; "Expected {expected}, but met {met}.\n{hint}")
+        String::from_str(alloc, hint_at(read, number, expected))
+    }
+}
+
+/// A sentence on an end of a link that has no dot behind its first name.
+fn end_of_link(alloc: Global, name: &str) -> Result<String, AllocError> {
+    if name.is_empty() {
+        String::from_str(alloc, "An end of a link is `PART.PORT` or `self.PORT`.\n")
+    } else {
+        format!(in alloc;
+            "An end of a link is `PART.PORT`: the port {} of the model itself is written `self.{name}`.\n",
+            Quoted(name)
+        )
+    }
 }
 
 /// What is told of a word of queues in a text that does not know it.
 const WITHOUT_QUEUES: &str =
     "Queues are known in a text that begins with `version 2;`: in others `queue`, `push`, `pop` and `front` are names.\n";
 
-/// Whether a name that stands at the place, or just before it, seems to be meant as a word of queues.
-fn lacks_version(expected: &Expectations, read: &Tokens, place: usize) -> bool {
-    let number = read
-        .tokens
-        .iter()
-        .take_while(|token| (token.place as usize) < place)
-        .count();
-    let before = number.saturating_sub(1);
+/// Whether a name that stands at the place, or just before it, seems to be meant as a word of queues. So many tokens come
+/// before the place.
+fn lacks_version(expected: &Expectations, read: &Tokens, number: usize) -> bool {
+    let before = name_at(read, number.saturating_sub(1));
     if expected.have(Part::Items) {
-        is_name(read, number, "queue")
+        name_at(read, number) == "queue"
     } else if expected.have(ASSIGN) {
-        is_name(read, before, "push") || is_name(read, before, "pop")
+        before == "push" || before == "pop"
     } else {
-        opens_parenthesis(read, number) && is_name(read, before, "front")
+        symbol_at(read, number) == Some(Symbol::OpenParen) && before == "front"
     }
 }
 
-/// Whether the token with so many before it is a name that is so written.
-fn is_name(read: &Tokens, number: usize, text: &str) -> bool {
+/// A sentence on what seems to be meant by the token with so many before it, with a line feed, or nothing.
+fn hint_at(read: &Tokens, number: usize, expected: &Expectations) -> &'static str {
+    let foreign = foreign_at(read, number, expected);
+    if !foreign.is_empty() {
+        return foreign;
+    }
+    let is_assigned = symbol_at(read, number.saturating_add(1)) == Some(Symbol::Assign);
     match read.tokens.get(number) {
-        Some(token) => match token.kind {
-            TokenKind::Name(name) => read.names.text(name).unwrap_or("") == text,
-            _ => false,
-        },
-        None => false,
-    }
-}
-
-/// Whether the token with so many before it is an opening parenthesis.
-fn opens_parenthesis(read: &Tokens, number: usize) -> bool {
-    match read.tokens.get(number) {
-        Some(token) => token.kind == TokenKind::Symbol(Symbol::OpenParen),
-        None => false,
-    }
-}
-
-/// A sentence on what seems to be meant, with a line feed, or nothing.
-fn hint_at(
-    text: &[u8],
-    place: usize,
-    expected: &Expectations,
-    token: Option<&Token>,
-    next: Option<&Token>,
-) -> &'static str {
-    if expected.have(SEMICOLON) && begins_line(text, place) {
-        return "It begins a line: the line before may lack its `;`.\n";
-    }
-    if expected.have(DOT) {
-        return "An end of a link is `PART.PORT`, or `self.PORT` for a port of the model itself.\n";
-    }
-    let is_assigned = match next {
-        Some(next) => next.kind == TokenKind::Symbol(Symbol::Assign),
-        None => false,
-    };
-    match token {
         Some(token) => hint_on(expected, token.kind, is_assigned),
         None => hint_on_end(expected),
     }
@@ -179,8 +184,22 @@ fn hint_on_sign(expected: &Expectations, symbol: Symbol) -> &'static str {
         "It may be one `}` too many.\n"
     } else if symbol == Symbol::Assign {
         "`:=` assigns in a statement; conditions and start values are written with `=`.\n"
+    } else if symbol == Symbol::Star && expected.have(Part::Name) {
+        "`*` stands for no names: write a rule for each phase, and a link for each port.\n"
+    } else if symbol == Symbol::Comma && !expected.have(Part::Operators) {
+        hint_on_comma(expected)
+    } else if symbol == Symbol::Semicolon && expected.have(ASSIGN) {
+        "The next phase is chosen by `goto z;`.\n"
     } else if symbol == Symbol::Semicolon && expects_brace(expected) {
         "No `;` stands behind `}` or behind another `;`.\n"
+    } else {
+        ""
+    }
+}
+
+fn hint_on_comma(expected: &Expectations) -> &'static str {
+    if expected.have(SEMICOLON) || expected.have(COLON) || expected.have(EQUAL) {
+        "Each name has an item of its own, as `in x; in z;`.\n"
     } else {
         ""
     }

@@ -65,7 +65,7 @@ const REFUSALS: &[Explanation] = &[
     },
     Explanation {
         code: "E4",
-        words: "This token can't stand here. It is the first one with which no text goes on; where a text ends too early, its end is named. Look just before it, too: a missing `;`, `:` or `}` is found at the token after it. A reserved word can't be a name; `queue`, `push`, `pop` and `front` are reserved in a text that begins with `version 2;`, and names in all others. A text may begin with `version 1;` or `version 2;`, and no other version is known. `--explain` says what may stand there, and the grammar is in `docs/REFERENCE.md`.",
+        words: "This token can't stand here. It is the first one with which no text goes on; where a text ends too early, its end is named. Look just before it, too: a missing `;`, `:` or `}` is found at the token after it. A reserved word can't be a name; `queue`, `push`, `pop` and `front` are reserved in a text that begins with `version 2;`, and names in all others. A text may begin with `version 1;` or `version 2;`, and no other version is known. The grammar is in `docs/REFERENCE.md`.",
         example: Some(Example {
             model: "coupled T { part a A; }\nroot T;\n",
             inputs: "",

@@ -23,7 +23,7 @@ use Rattle.dv_core.specs.declared.step.Ended.TheVariants as rounds
 use Rattle.dv_run.specs.declared.ran.RanEnded.{RanEnded}
 use Rattle.dv_run.specs.declared.ran.RanEnded.TheVariants as ran
 use Rattle.dv_run.proofs.Traces.{memory_by_rounds, never_stopped_by_rounds, stalled_by_rounds}
-use Rattle.dv_stream.specs.Faults.{has_fault}
+use Rattle.dv_written.specs.Faults.{has_fault}
 use Rattle.dv_text.specs.declared.writing.Ending.TheVariants as text_end
 use Rattle.dv_text.specs.declared.writing.WriteError.{WriteError}
 use Rattle.dv_text.specs.declared.writing.WriteError.TheVariants as write

@@ -8,7 +8,7 @@ use Rattle.dv_inputs.specs.Reading.{reading_of}
 use Rattle.dv_inputs.specs.declared.error.InputRefusal.{InputRefusal}
 use Rattle.dv_tree.specs.Instances.{instances}
 use Rattle.dv_plain.specs.Source.{trace_of}
-use Rattle.dv_stream.specs.Faults.{has_fault}
+use Rattle.dv_written.specs.Faults.{has_fault}
 use Rattle.dv_text.specs.Writing.{StopsShort}
 use Rattle.dv_job.specs.Job.{IsAnswer, IsModelOf, input_ports, run_text}
 use Rattle.dv_job.specs.declared.ended.JobEnded.{JobEnded}

@@ -1,6 +1,6 @@
 -- The names that the plan of a text prints.
 use Rattle.std.specs.Prelude.{ℕ, List, [], length, map, Option, Some, None, slice_get}
-use Rattle.dv_cut.specs.Texts.{PlanNames}
+use Rattle.dv_plan.specs.Texts.{PlanNames}
 use Rattle.dv_eval.specs.Scope.{Scope, scope_of}
 use Rattle.dv_syntax.specs.Trees.{FileTree}
 use Rattle.dv_tree.specs.Instances.{Instance, instances, root_inputs, root_outputs}

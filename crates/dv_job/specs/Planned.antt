@@ -10,7 +10,7 @@ use Rattle.dv_sound.specs.Members.{direct_of, entry_of, exit_of}
 use Rattle.dv_partition.specs.Answers.{partition_answer}
 use Rattle.dv_partition.specs.Groups.{Grouping, owner_of}
 use Rattle.dv_partition.specs.declared.choice.Partition.{Partition}
-use Rattle.dv_cut.specs.Texts.{PlanLinks, plan_text}
+use Rattle.dv_plan.specs.Texts.{PlanLinks, plan_text}
 use Rattle.dv_job.specs.Job.{IsAnswer, IsModelOf}
 use Rattle.dv_job.specs.Names.{plan_names}
 use Rattle.dv_job.specs.Running.{IsAnswerToPartition}

@@ -6,7 +6,7 @@ use Rattle.dv_syntax.specs.Trees.{FileTree}
 use Rattle.dv_partition.specs.Groups.{Grouping}
 use Rattle.dv_partition.specs.declared.choice.Partition.{Partition}
 use Rattle.dv_run.specs.Runs.{IsStepped}
-use Rattle.dv_serial.specs.declared.ran.Stepped.{Stepped}
+use Rattle.dv_plan.specs.declared.ran.Stepped.{Stepped}
 use Rattle.dv_job.specs.Job.{IsAnswer}
 use Rattle.dv_job.specs.Running.{IsAnswerToPartition, IsLastAnswer, IsPlanned}
 use Rattle.dv_job.specs.declared.ended.JobError.{JobError}

@@ -2,18 +2,33 @@
 
 ghost use Rattle.std.specs.Prelude.{◌≡◌, if◌then◌else◌};
 ghost use Rattle.dv_job.specs.Ending.{ending_of};
+ghost use Rattle.dv_written.specs.Faults.{has_fault, is_fault};
 ghost use Rattle.dv_job.specs.declared.ended.JobEnded.TheVariants.{Faulted, Whole};
 
 use crate::ended::JobEnded;
-use dv_bag::Trace;
-use dv_slice::PartSlice;
-use dv_stream::faults::has_fault;
+use dv_bag::{Trace, What};
 
 /// How a run with this whole trace ended.
 pub fn ending_of(trace: &Trace) -> JobEnded
     ensures { result ≡ ending_of trace.now }
 {
-    whole_ending(has_fault(&PartSlice::all_of(trace)))
+    whole_ending(has_fault(trace))
+}
+
+// Whether some component had a fault.
+fn has_fault(trace: &Trace) -> bool
+    ensures { result ≡ has_fault trace.now }
+{
+    trace.entries().any(|entry| is_fault(&entry.what))
+}
+
+fn is_fault(what: &What) -> bool
+    ensures { result ≡ is_fault what.now }
+{
+    match what {
+        What::Fault(_) => true,
+        What::Transition { .. } => false,
+    }
 }
 
 /// How a whole run ended in which some component had a fault, or none.

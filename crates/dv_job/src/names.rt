@@ -3,7 +3,7 @@
 ghost use Rattle.std.specs.Prelude.{◌≡◌, IfOk};
 ghost use Rattle.dv_tree.specs.Paths.{name_at, texts_of};
 
-use dv_cut::Names;
+use dv_plan::Names;
 use dv_tree::Tree;
 use std::alloc::{AllocError, Global};
 use std::marker::Model;

@@ -8,11 +8,10 @@ ghost use Rattle.dv_job.specs.Planned.{AnswersPlan, HasPlan};
 use crate::ended::JobError;
 use crate::load::{accept, load, load_groups};
 use crate::names::TreeNames;
-use dv_cut::plan_json;
 use dv_flat::flatten;
-use dv_links::links_of;
 use dv_partition::Partition;
-use dv_planned::least_responses;
+use dv_plan::plan_json;
+use dv_planned::{least_responses, links_of};
 use dv_tree::Tree;
 use std::alloc::Global;
 

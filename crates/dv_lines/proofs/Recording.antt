@@ -19,7 +19,7 @@ use Rattle.dv_devs.proofs.ByTime.{pairs_after}
 use Rattle.dv_text.specs.Texts.{ComponentNames, entry_text, names_at, outers_text, part_text}
 use Rattle.dv_lines.specs.Records.{IsText, Recorded, fresh}
 use Rattle.dv_record.specs.Told.{IsOpenAt, lines_from}
-use Rattle.dv_lines.specs.Tellings.{has_fault, is_fault}
+use Rattle.dv_written.specs.Faults.{has_fault, is_fault}
 use Rattle.dv_lines.proofs.Appending.{entry_appended, outers_appended}
 use Rattle.dv_lines.proofs.LeftLines.{left_then}
 

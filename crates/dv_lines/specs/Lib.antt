@@ -1,6 +1,6 @@
 -- What a reader believes: what it is to put a text into a room, and the words of a component.
-pub mod Tellings
 pub mod Records
 pub mod Rooms
 pub mod Words
 pub mod Tables
+pub mod Entries

@@ -1,7 +1,7 @@
 //! Whether a fault was told.
 
 ghost use Rattle.std.specs.Prelude.{◌≡◌};
-ghost use Rattle.dv_lines.specs.Tellings.{has_fault};
+ghost use Rattle.dv_written.specs.Faults.{has_fault};
 
 use dv_record::Record;
 

@@ -44,6 +44,12 @@ mod tree_words;
 /// The words of all components of a tree.
 mod words;
 
+/// A part of a trace as written entries.
+mod written_part;
+
+/// A record of a run as written entries.
+mod written_record;
+
 pub use faults::KnowsFaults;
 pub use leaving::all_left;
 pub use line::ComponentWords;
@@ -52,4 +58,6 @@ pub use pieces::{Word, put_byte, put_digits, put_number, put_word};
 pub use text_record::TextRecord;
 pub use told::{faulted, transition};
 pub use trace_writer::{TraceWriter, write_trace};
+pub use tree_words::TreeWords;
 pub use words::Words;
+pub use written_record::{WrittenRecord, WrittenRecords};

@@ -136,6 +136,19 @@ impl Lines {
         self.room.left(bytes, word, values)
     }
 
+    /// A line that stands already, with its end.
+    ///
+    /// # Errors
+    ///
+    /// No memory for it. All is as before.
+    #[inline]
+    pub fn put(&mut self, line: &[u8]) -> Result<(), AllocError>
+        ensures ok { OnOk result (self.new ≡ self.old ++ line.now) }
+        ensures err { OnErr result (self.new ≡ self.old) }
+    {
+        self.room.put(line)
+    }
+
     /// The end of the line of what leaves at a time.
     ///
     /// # Errors

@@ -7,7 +7,7 @@ ghost use Rattle.dv_lines.specs.Rooms.{IsPut};
 ghost use Rattle.dv_lines.specs.Words.{line_words, port_words, word_text, words_found};
 
 use crate::line::{ComponentWords, put_fault, put_left, put_out, put_transition};
-use crate::pieces::{Word, put_byte};
+use crate::pieces::{Word, put_byte, put_bytes};
 use crate::stamp::Stamp;
 use dv_bag::{Bag, Fault, Kind, Sent, State};
 use std::alloc::{AllocError, Global};
@@ -173,6 +173,24 @@ impl Room {
         Err(AllocError)
     }
 
+    /// A text, as it is.
+    ///
+    /// # Errors
+    ///
+    /// No memory for it. All is as before.
+    pub fn put(&mut self, text: &[u8]) -> Result<(), AllocError>
+        ensures ok { OnOk result (self.new ≡ self.old ++ text.now) }
+        ensures err { OnErr result (self.new ≡ self.old) }
+    {
+        for _doubling in 0..DOUBLINGS {
+            if self.try_text(text) {
+                return Ok(());
+            }
+            self.grow()?;
+        }
+        Err(AllocError)
+    }
+
     /// The end of the line of what leaves at a time.
     ///
     /// # Errors
@@ -239,6 +257,19 @@ impl Room {
             ++ port_words (word_text bytes.now word) values.now else self.old) }
     {
         match put_left_behind(self.bytes.as_mut_slice(), self.at, bytes, word, values) {
+            Some(end) => {
+                self.at = end;
+                true
+            }
+            None => false,
+        }
+    }
+
+    // A text, if there is room for it.
+    fn try_text(&mut self, text: &[u8]) -> bool
+        ensures { self.new ≡ (if result then self.old ++ text.now else self.old) }
+    {
+        match put_text_behind(self.bytes.as_mut_slice(), self.at, text) {
             Some(end) => {
                 self.at = end;
                 true
@@ -358,6 +389,16 @@ fn put_left_behind(
         (port_words (word_text bytes.now word) values.now)) }
 {
     let end = put_left(&mut room[at..], bytes, word, values)?;
+    Some(at + end)
+}
+
+fn put_text_behind(room: &mut [u8], at: usize, text: &[u8]) -> Option<usize>
+    requires { at ≤ length room.old }
+    ensures size { length room.new ≡ length room.old }
+    ensures before { take at room.new ≡ take at room.old }
+    ensures text { IfSome result (λ end. IsPut room.old at room.new end text.now) }
+{
+    let end = put_bytes(&mut room[at..], 0, text)?;
     Some(at + end)
 }
 

@@ -39,7 +39,7 @@ impl<'t> Model for TextRecord<'t> {
     ghost use Rattle.dv_text.specs.Texts.{part_text};
     ghost use Rattle.dv_lines.specs.Records.{IsText, Recorded};
     ghost use Rattle.dv_lines.specs.Tables.{decorated, ports_found, rows_found, with_ends};
-    ghost use Rattle.dv_lines.specs.Tellings.{has_fault};
+    ghost use Rattle.dv_written.specs.Faults.{has_fault};
 
     ghost Value = { Recorded };
 

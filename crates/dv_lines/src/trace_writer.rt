@@ -9,31 +9,40 @@ ghost use Rattle.dv_bag.specs.Part.{IsByTime};
 ghost use Rattle.dv_text.specs.Merging.{first_text, group_text, groups_before, groups_from, groups_of, other_groups, trace_text};
 ghost use Rattle.dv_text.specs.Names.{tree_names, tree_ports};
 ghost use Rattle.dv_text.specs.Texts.{ending_text, part_text};
+ghost use Rattle.dv_bag.specs.declared.entry.Entry.{Entry as MeantEntry};
+ghost use Rattle.dv_lines.specs.Entries.{line_of};
 ghost use Rattle.dv_text.specs.Writing.{AppendsBeginning, StopsShort, TakesFront};
 ghost use Rattle.dv_text.specs.declared.writing.Ending.TheVariants.{Whole};
 
 use crate::lines::Lines;
 use crate::tree_words::TreeWords;
+use crate::written_part::written_part;
 use dv_bag::{Outer, Trace};
-use dv_slice::PartSlice;
+use dv_merge::PartSlice;
 use dv_text::{Ending, WriteError, hand_over, write_ending};
 use dv_time::Time;
 use dv_tree::Tree;
+use dv_written::{OfJob, WrittenPart};
 use std::alloc::{AllocError, Global};
 use std::io::Write;
-use std::marker::Model;
+use std::marker::{Brand, Model, PhantomData};
 
 // How many bytes are put together before the writer gets them.
 const PIECE_LENGTH: usize = 65_536;
 
 /// What writes a trace as text, part by part, with the words of a tree. One buffer serves all parts.
 #[derive(Drop)]
-pub struct TraceWriter<'t> {
+pub struct TraceWriter<'t, N: OfJob> {
     words: TreeWords<'t>,
     lines: Lines,
+    of: PhantomData<N>,
 }
 
-impl<'t> Model for TraceWriter<'t> {
+impl<'t, N: OfJob> Model for TraceWriter<'t, N> {
+    ghost use Rattle.std.specs.Prelude.{◌≡◌};
+    ghost use Rattle.dv_bag.specs.declared.entry.Entry.{Entry};
+    ghost use Rattle.dv_lines.specs.Entries.{line_of};
+    ghost use Rattle.dv_text.specs.Names.{tree_names};
     ghost use Rattle.dv_tree.specs.Tables.{Source, source_code};
 
     ghost Value = { Source };
@@ -41,20 +50,25 @@ impl<'t> Model for TraceWriter<'t> {
     ghost coded = { source_code };
 
     ghost view = { λ w. w.words };
+
+    ghost invariant = { λ w. (e : Entry) → line_of (tree_names w.words) e ≡ N.line e };
 }
 
-impl<'t> TraceWriter<'t> {
-    /// With the words of this tree.
+impl<'t, N: OfJob> TraceWriter<'t, N> {
+    /// With the words of the tree that these words are of, for a job whose entries print the lines with the names of the tree. It has
+    /// words of its own, so it may be used beside records that share these.
     ///
     /// # Errors
     ///
-    /// No memory for the words of its components.
-    pub fn new(alloc: Global, tree: &'t Tree<'t>) -> Result<Self, AllocError>
-        ensures { IfOk result (λ writer. writer ≡ tree.now) }
+    /// No memory for them.
+    pub fn new(alloc: Global, words: &TreeWords<'t>) -> Result<Self, AllocError>
+        requires { (e : MeantEntry) → line_of (tree_names words.now) e ≡ N.line e }
+        ensures { IfOk result (λ writer. writer ≡ words.now) }
     {
         Ok(TraceWriter {
-            words: TreeWords::of(alloc, tree)?,
+            words: TreeWords::of(alloc, words.tree())?,
             lines: Lines::new(alloc),
+            of: PhantomData,
         })
     }
 
@@ -72,7 +86,11 @@ impl<'t> TraceWriter<'t> {
     ///
     /// `WriteError::Write` where a write failed or took nothing, `WriteError::Memory` where memory was refused. A
     /// beginning of the lines was written then, and what was not written is forgotten.
-    pub fn part<W: Write>(&mut self, part: &PartSlice<'_>, writer: &mut W) -> Result<(), WriteError>
+    pub fn part<W: Write>(
+        &mut self,
+        part: &PartSlice<'_, N>,
+        writer: &mut W,
+    ) -> Result<(), WriteError>
         ensures tree { self.new ≡ self.old }
         ensures ok { IsByTime part.now
             → OnOk result (Appends (W.contents writer.old) (W.contents writer.new)
@@ -108,18 +126,39 @@ pub fn write_trace<W: Write>(
         (part_text (tree_names tree.now) (tree_ports tree.now) trace.now
         ++ ending_text (Whole horizon))) }
 {
-    let mut lines = TraceWriter::new(alloc, tree)?;
-    lines.part(&PartSlice::all_of(trace), writer)?;
+    let words = TreeWords::of(alloc, tree)?;
+    write_lines::<Brand, W>(alloc, trace, &words, writer)?;
     write_ending(alloc, &Ending::Whole(horizon), writer)
 }
 
+// Writes the lines of a trace that stands by time. No parameter has the job in its type, so a caller can choose how entries are printed.
+fn write_lines<N: OfJob, W: Write>(
+    alloc: Global,
+    trace: &Trace,
+    words: &TreeWords,
+    writer: &mut W,
+) -> Result<(), WriteError>
+    requires { (e : MeantEntry) → line_of (tree_names words.now) e ≡ N.line e }
+    ensures ok { IsByTime trace.now
+        → OnOk result (Appends (W.contents writer.old) (W.contents writer.new)
+        (part_text (tree_names words.now) (tree_ports words.now) trace.now)) }
+    ensures err { IsByTime trace.now
+        → OnErr result (AppendsBeginning (W.contents writer.old) (W.contents writer.new)
+        (part_text (tree_names words.now) (tree_ports words.now) trace.now)) }
+{
+    let written: WrittenPart<N> = written_part(alloc, trace, words)?;
+    let mut lines = Lines::new(alloc);
+    write_merged(&mut lines, writer, words, &PartSlice::all_of(&written))
+}
+
 // Writes the lines of a part, merged by time.
-fn write_merged<W: Write>(
+fn write_merged<N: OfJob, W: Write>(
     lines: &mut Lines,
     writer: &mut W,
     words: &TreeWords,
-    part: &PartSlice<'_>,
+    part: &PartSlice<'_, N>,
 ) -> Result<(), WriteError>
+    requires { (e : MeantEntry) → line_of (tree_names words.now) e ≡ N.line e }
     ensures ok { OnOk result (Appends (W.contents writer.old) (W.contents writer.new)
         (trace_text (tree_names words.now) (tree_ports words.now) part.now)) }
     ensures err { OnErr result (AppendsBeginning (W.contents writer.old) (W.contents writer.new)
@@ -129,8 +168,8 @@ fn write_merged<W: Write>(
     let mut outer = part.outer();
     for place in 0..part.entry_count() {
         let entry = part.entry(place);
-        outer = write_before(lines, writer, words, entry.time, outer)?;
-        words.put_entry(lines, entry)?;
+        outer = write_before(lines, writer, words, entry.time(), outer)?;
+        lines.put(entry.line())?;
         hand_over_if_long(lines, writer)?;
     }
     write_groups(lines, writer, words, outer)?;

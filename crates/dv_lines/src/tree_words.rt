@@ -4,13 +4,17 @@ ghost use Rattle.std.specs.Prelude.{◌≡◌, ◌++◌, IfOk, OnErr, OnOk};
 ghost use Rattle.dv_tree.specs.Paths.{name_at};
 ghost use Rattle.dv_text.specs.Names.{tree_names, tree_ports};
 ghost use Rattle.dv_text.specs.Texts.{entry_text, names_at, port_text};
+ghost use Rattle.dv_bag.specs.declared.entry.Entry.{Entry as MeantEntry};
+ghost use Rattle.dv_lines.specs.Entries.{line_of};
 
 use crate::laws::words_say_the_names;
 use crate::lines::Lines;
 use crate::told::{faulted, transition};
 use crate::words::Words;
+use crate::written_record::WrittenRecords;
 use dv_bag::{Bag, Entry, What};
 use dv_tree::Tree;
+use dv_written::OfJob;
 use std::alloc::{AllocError, Global};
 use std::marker::Model;
 
@@ -56,6 +60,14 @@ impl<'t> TreeWords<'t> {
         ensures { result.now ≡ self.now }
     {
         self.tree
+    }
+
+    /// What makes records by these words, for a job whose entries print the lines with the names of the tree.
+    pub fn records<N: OfJob>(&self) -> WrittenRecords<'_, N>
+        requires { (e : MeantEntry) → line_of (tree_names self.now) e ≡ N.line e }
+    {
+        words_say_the_names();
+        WrittenRecords::new(&self.words)
     }
 
     /// The line of an entry, behind those that are there.

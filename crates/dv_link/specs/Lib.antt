@@ -1,5 +1,3 @@
--- The job that a mark has before a call picks one.
-pub mod Jobs
 -- What an end of a link knows, and the rule of its queue.
 pub mod Views
 pub mod Carries

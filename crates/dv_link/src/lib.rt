@@ -2,13 +2,10 @@
 //! and what is queued is what was put, and that what was put are true packets whose windows join.
 #![tactic(auto)]
 
-/// Which job it is, for contracts.
-pub mod job;
 /// A link and its two passes.
 pub mod link;
 /// The rule of a link's queue.
 mod rule;
 
-pub use job::OfJob;
 pub use link::{Full, Link, SendPass, TakePass};
 pub use rule::EndView;

@@ -8,10 +8,10 @@ ghost use Rattle.dv_link.specs.Carries.{AreTrueOn, IsLinkOf, IsNextOn};
 ghost use Rattle.dv_link.specs.Ends.{IsSendPassOf, IsTakePassOf, after_put, after_take, capacity as capacity_of};
 ghost use Rattle.dv_link.specs.Ends.{new_receiver, new_sender, receiver, sender};
 
-use crate::job::OfJob;
 use crate::rule::{EndView, Ends, OfLink, Puts, Relay, Takes};
 use crossbeam_queue::{Pass, RuledArrayQueue};
 use dv_proc::Packet;
+use dv_written::OfJob;
 use std::alloc::{AllocError, Global};
 use std::marker::Brand;
 use std::sync::Wait;

@@ -4,9 +4,9 @@ ghost use Rattle.std.specs.Prelude.{◌≡◌, ⊤, true, false, [], ◌∷◌, 
 ghost use Rattle.dv_link.specs.Views.{end_view};
 ghost use Rattle.dv_link.specs.Carries.{AllTrue, Carries};
 
-use crate::job::OfJob;
 use crossbeam_queue::protocol::{Lesson, Outcome, Protocol, Split};
 use dv_proc::Packet;
+use dv_written::OfJob;
 use std::collections::LinkedList;
 use std::marker::{Brand, PhantomData};
 

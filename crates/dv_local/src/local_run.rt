@@ -1,11 +1,12 @@
 //! What a process asks of its components, over what they stand at.
 
 use crate::state::LocalState;
-use dv_bag::{Part, Response};
+use dv_bag::Response;
 use dv_proc::{Event, Frame, Local, LocalHandsOver};
 use dv_react::Atomic;
-use dv_record::{HandsOver, Record};
+use dv_record::Record;
 use dv_time::Time;
+use dv_written::{HandsOver, OfJob, WrittenPart};
 use std::alloc::AllocError;
 use std::marker::Model;
 
@@ -119,8 +120,8 @@ impl<A: Atomic + Drop, R: Record> Local for LocalRun<A, R> {
     }
 }
 
-impl<A: Atomic + Drop, R: HandsOver> LocalHandsOver for LocalRun<A, R> {
-    fn hand_over(&mut self) -> Part {
+impl<N: OfJob, A: Atomic + Drop, R: HandsOver<N>> LocalHandsOver<N> for LocalRun<A, R> {
+    fn hand_over(&mut self) -> WrittenPart<N> {
         self.state.hand_over()
     }
 }

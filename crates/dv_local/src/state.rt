@@ -28,13 +28,14 @@ use crate::share::Share;
 use crate::undo::{Undo, agenda_of, let_go, put_all_back};
 use crate::waiting::{earlier, first_held, first_outside, is_taken, outside_at};
 use dv_agenda::{Agenda, Inbox};
-use dv_bag::{Fault, Part, Response, Sent};
+use dv_bag::{Fault, Response, Sent};
 use dv_proc::{Event, Frame};
 use dv_react::{Atomic, Instant, Running};
-use dv_record::{HandsOver, Record};
+use dv_record::Record;
 use dv_share::tables::place_of;
 use dv_share::{Placed, arrivals, away, outer};
 use dv_time::Time;
+use dv_written::{HandsOver, OfJob, WrittenPart};
 use std::alloc::{AllocError, Global};
 
 /// The components of one process with the links between them, what came for them, and the record that is told what happens
@@ -392,9 +393,11 @@ impl<A: Atomic, R: Record> LocalState<A, R> {
     }
 }
 
-impl<A: Atomic, R: HandsOver> LocalState<A, R> {
-    /// Moves out what was committed beyond what was moved out before, when all is settled.
-    pub fn hand_over(&mut self) -> Part
+impl<A: Atomic, R: Record> LocalState<A, R> {
+    /// Moves out what was committed beyond what was moved out before, as the lines that its entries print, when all is settled.
+    pub fn hand_over<N: OfJob>(&mut self) -> WrittenPart<N>
+    where
+        R: HandsOver<N>,
         requires kept { IsKept A.behaviour A.fits A.comes self.old }
         requires settled { settled_by A.behaviour R.settled self.old
             ≡ view_by A.behaviour R.told self.old }

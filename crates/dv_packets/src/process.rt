@@ -11,7 +11,7 @@ ghost use Rattle.dv_local.specs.declared.share.Share.{Share};
 ghost use Rattle.dv_local.specs.States.{settled_by, view_by};
 ghost use Rattle.dv_planned.specs.Texts.{AreLinksOf};
 ghost use Rattle.dv_record.specs.Told.{settled_of, told_of};
-ghost use Rattle.dv_serial.specs.Beginning.{CanBegin};
+ghost use Rattle.dv_plan.specs.Beginning.{CanBegin};
 ghost use Rattle.dv_syntax.specs.Trees.{file_of};
 
 use crate::cases;

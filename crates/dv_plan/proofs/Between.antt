@@ -3,7 +3,7 @@ use Rattle.std.proofs.Common.{◌≡◌, ℕ, ◌<◌, ◌≤◌, Bool, true, fa
 use Rattle.std.proofs.lemmas.Bool.{ne_eqb}
 use Rattle.dv_conservative.specs.Links.{Link, links_between}
 use Rattle.dv_partition.specs.Groups.{owner_of}
-use Rattle.dv_cut.specs.Cuts.{CutOf, between, owned_by}
+use Rattle.dv_plan.specs.Cuts.{CutOf, between, owned_by}
 
 nothing_to : (from to : ℕ → Bool) (ls : List Link) → ((k : ℕ) → to k ≡ false) → links_between from to ls ≡ []
 nothing_to from to [] h = refl

@@ -14,3 +14,25 @@ pub mod Few
 pub mod KeptInputs
 -- Links to a process that is not there.
 pub mod Between
+-- Lists that grow in a loop.
+pub mod Loops
+-- The links of a key.
+pub mod Kept
+-- The links between processes.
+pub mod Sent
+-- The links that lead to a process and away from it.
+pub mod Leading
+-- The responses of processes.
+pub mod Responded
+-- The order of the links.
+pub mod Rising
+-- Places among models.
+pub mod Placing
+-- The text of a plan.
+pub mod Texts
+-- Processes as they begin, and a world that is made of them.
+pub mod Beginning
+-- What the processes of a world hand over.
+pub mod Running
+-- The least of clocks.
+pub mod LeastClock

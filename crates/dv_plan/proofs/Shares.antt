@@ -25,9 +25,9 @@ use Rattle.dv_proc.specs.Foreseeing.{ticks_of}
 use Rattle.dv_local.specs.Shares.{AreOfRun, IsLed, IsShare, IsPortOf, outgoing_of, share_by}
 use Rattle.dv_local.specs.declared.share.Share.{Share}
 use Rattle.dv_partition.specs.Groups.{Grouping, owner_of}
-use Rattle.dv_cut.specs.Channels.{away_of}
-use Rattle.dv_cut.specs.declared.channels.Away.{Away}
-use Rattle.dv_cut.specs.Cuts.{CutOf, between, entrances_to, exits_from, owned_by}
+use Rattle.dv_plan.specs.Channels.{away_of}
+use Rattle.dv_plan.specs.declared.channels.Away.{Away}
+use Rattle.dv_plan.specs.Cuts.{CutOf, between, entrances_to, exits_from, owned_by}
 use Rattle.dv_conservative.specs.Alike.{with_outside}
 use Rattle.dv_plan.specs.Plans.{IsShareOf}
 use Rattle.dv_plan.specs.Steps.{AreMade, IsCommonOf, IsMadeOf, comes_here, is_led, is_port, leads, led_inputs, members_of, way_of}

@@ -14,8 +14,8 @@ use Rattle.dv_local.specs.Shares.{outgoing_of}
 use Rattle.dv_local.specs.declared.share.Share.{Share}
 use Rattle.dv_partition.specs.Groups.{Grouping, owner_of}
 use Rattle.dv_proc.specs.Channels.{meant_channel}
-use Rattle.dv_cut.specs.Cuts.{CutOf, between, entrances_to, exits_from, owned_by}
-use Rattle.dv_cut.specs.declared.channels.Away.{Away}
+use Rattle.dv_plan.specs.Cuts.{CutOf, between, entrances_to, exits_from, owned_by}
+use Rattle.dv_plan.specs.declared.channels.Away.{Away}
 use Rattle.dv_plan.specs.declared.share.Common.{Common}
 use Rattle.dv_plan.specs.declared.whole.Whole.{Whole}
 

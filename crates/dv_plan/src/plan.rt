@@ -7,11 +7,11 @@ ghost use Rattle.dv_partition.specs.Groups.{owner_of};
 ghost use Rattle.dv_plan.specs.Steps.{members_of};
 ghost use Rattle.dv_partition.specs.Limits.{greatest_processes};
 
+use crate::cut::Cut;
+use crate::responses::responses;
 use crate::share::{Common, shares};
 use crate::whole::Whole;
 use dv_bag::Inputs;
-use dv_cut::Cut;
-use dv_cut::responses::responses;
 use dv_local::Share;
 use dv_partition::Groups;
 use dv_partition::by_key::by_key;

@@ -7,14 +7,14 @@ ghost use Rattle.dv_share.specs.Places.{AreRising};
 ghost use Rattle.dv_share.specs.Share.{numbers_of};
 ghost use Rattle.dv_share.specs.declared.tables.Member.{Member as MemberOfCode};
 ghost use Rattle.dv_local.specs.Shares.{outgoing_of};
-ghost use Rattle.dv_cut.specs.Cuts.{between};
+ghost use Rattle.dv_plan.specs.Cuts.{between};
 ghost use Rattle.dv_partition.specs.Limits.{greatest_processes};
 ghost use Rattle.dv_plan.specs.Steps.{AreMade, IsMadeOf, Rises, way_of};
 
+use crate::channels::{Away, incoming, outgoing};
+use crate::cut::Cut;
 use crate::led::led_inputs;
 use dv_bag::{Inputs, Response};
-use dv_cut::channels::{incoming, outgoing};
-use dv_cut::{Away, Cut};
 use dv_local::{Share, Way};
 use dv_proc::Channel;
 use dv_share::{Entrances, Link, Member, Routes, Tables};

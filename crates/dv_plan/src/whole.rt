@@ -1,7 +1,7 @@
 //! What is planned: a flat model.
 
+use crate::links::Links;
 use dv_bag::Response;
-use dv_cut::Links;
 use dv_share::Member;
 
 /// A flat model to be run in processes.

@@ -4,3 +4,5 @@ pub mod Lent
 pub mod Lists
 -- What is planned of a text is the text's job.
 pub mod Jobs
+-- The order of the links.
+pub mod Rising

@@ -8,12 +8,12 @@ ghost use Rattle.dv_planned.specs.Texts.{AreComponentsOf, AreLinksOf, text_job};
 ghost use Rattle.dv_syntax.specs.Trees.{file_of};
 
 use crate::job::TextJob;
+use crate::laws::links_rise;
+use crate::links::links_of;
 use dv_bag::Response;
 use dv_check::laws::checked_files;
 use dv_coded::{Lent, Programs, lend};
 use dv_flat::LinkLists;
-use dv_links::laws::links_rise;
-use dv_links::links_of;
 use dv_plan::{Plan, Whole};
 use dv_share::Member;
 use std::alloc::{AllocError, Global};

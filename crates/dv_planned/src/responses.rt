@@ -14,9 +14,9 @@ ghost use Rattle.dv_tree.specs.Instances.{instances};
 use dv_bag::Response;
 use dv_check::laws::checked_files;
 use dv_coded::{Bench, Components, components_of};
-use dv_cut::responses::responses;
 use dv_gen::laws::texts_are_compilable;
 use dv_partition::Groups;
+use dv_plan::responses::responses;
 use dv_tree::Tree;
 use std::alloc::{AllocError, Global};
 

@@ -16,9 +16,10 @@ ghost use Rattle.dv_record.specs.Told.{Handed};
 
 use crate::packet::Event;
 use crate::window::Frame;
-use dv_bag::{Part, Response};
+use dv_bag::Response;
 use dv_record::Record;
 use dv_time::Time;
+use dv_written::{OfJob, WrittenPart};
 use std::alloc::AllocError;
 
 /// The components of one process, the links between them and away, what came for them, and the record that is told what
@@ -162,10 +163,10 @@ pub trait Local {
         } };
 }
 
-/// Components of whose record a part is moved out while they commit more.
-pub trait LocalHandsOver: Local {
+/// Components of whose record a part is moved out while they commit more, as the lines that its entries print.
+pub trait LocalHandsOver<N: OfJob>: Local {
     /// Moves out what they committed beyond what was moved out before, when all is settled.
-    fn hand_over(&mut self) -> Part
+    fn hand_over(&mut self) -> WrittenPart<N>
         requires { Self.settled self.old ≡ Self.view self.old }
         ensures view { Self.view self.new ≡ Self.view self.old }
         ensures settled { Self.settled self.new ≡ Self.settled self.old }

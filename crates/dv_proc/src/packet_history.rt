@@ -18,6 +18,9 @@ impl Model for PacketHistory {
     ghost also_owns = { λ _. ftrue };
 }
 
+// It owns nothing.
+unsafe impl Send for PacketHistory {}
+
 impl PacketHistory {
     /// Nothing was received.
     pub fn new() -> PacketHistory

@@ -27,8 +27,8 @@ use crate::outgoing::{
 };
 use crate::packet::{Event, Packet};
 use crate::window::{Frame, are_in_order, is_same};
-use dv_bag::Part;
 use dv_time::Time;
+use dv_written::{OfJob, WrittenPart};
 use std::alloc::{AllocError, Global};
 
 /// What a turn answers.
@@ -366,9 +366,11 @@ impl<L: Local> Process<L> {
     }
 }
 
-impl<L: LocalHandsOver> Process<L> {
-    /// Moves out what was committed beyond what was moved out before.
-    pub fn hand_over(&mut self) -> Part
+impl<L: Local> Process<L> {
+    /// Moves out what was committed beyond what was moved out before, as the lines that its entries print.
+    pub fn hand_over<N: OfJob>(&mut self) -> WrittenPart<N>
+    where
+        L: LocalHandsOver<N>,
         requires process { IsProcess (L.view self.old.local)
             self.old.incoming.items self.old.outgoing.items self.old.clock }
         requires settled { L.settled self.old.local ≡ L.view self.old.local }

@@ -2,11 +2,11 @@
 
 ghost use Rattle.std.specs.Prelude.{◌≡◌, ◌∷◌, [], ◌++◌};
 ghost use Rattle.std.specs.Borrow.{ftrue};
-ghost use Rattle.dv_bag.specs.Part.{PartOf, joined, nothing};
+ghost use Rattle.dv_bag.specs.Part.{PartOf, nothing};
 ghost use Rattle.dv_bag.specs.declared.entry.What.TheVariants as what;
 ghost use Rattle.dv_record.specs.Told.{entry, lines_from};
 
-use dv_bag::{Bags, Fault, Kind, Part, Sent, State};
+use dv_bag::{Bags, Fault, Kind, Sent, State};
 use dv_time::Time;
 use std::marker::Model;
 
@@ -20,6 +20,9 @@ impl Model for History {
     ghost also_owns = { λ _. ftrue };
 }
 
+// It owns nothing.
+unsafe impl Send for History {}
+
 impl History {
     /// Nothing was told.
     pub fn new() -> History
@@ -31,13 +34,6 @@ impl History {
     /// The same once more.
     pub fn again(&self) -> History
         ensures { result.part ≡ self.now.part }
-    {
-        History {}
-    }
-
-    /// With a part, behind all that was told.
-    pub fn and_part(&self, more: &Part) -> History
-        ensures { result.part ≡ joined self.now.part more.now }
     {
         History {}
     }

@@ -7,10 +7,7 @@ pub mod history;
 pub mod parts;
 /// What a record is told.
 pub mod records;
-/// A record of which a part is moved out while more is told.
-pub mod tails;
 
 pub use history::History;
 pub use parts::{PartRecord, parts_of, push_lines};
-pub use records::{BlankRecord, HandsOver, Record};
-pub use tails::TailRecord;
+pub use records::{BlankRecord, Record};

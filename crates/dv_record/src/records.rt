@@ -1,11 +1,11 @@
 //! What a record is told.
 
 ghost use Rattle.std.specs.Prelude.{◌≡◌, ◌++◌, ◌≤◌, ◌^◌, OnErr, OnOk, length};
-ghost use Rattle.dv_bag.specs.Part.{PartOf, joined, nothing};
+ghost use Rattle.dv_bag.specs.Part.{PartOf, nothing};
 ghost use Rattle.dv_bag.specs.declared.entry.What.TheVariants as what;
 ghost use Rattle.dv_record.specs.Told.{Handed, IsOpenAt, entry, lines_from, no_text, with_entry, with_lines};
 
-use dv_bag::{Bags, Fault, Kind, Part, Sent, State};
+use dv_bag::{Bags, Fault, Kind, Sent, State};
 use dv_time::Time;
 use std::alloc::{AllocError, Global};
 
@@ -108,16 +108,4 @@ pub trait BlankRecord: Record {
         ensures told { Self.told result ≡ nothing }
         ensures settled { Self.settled result ≡ nothing }
         ensures handed { Self.handed result ≡ no_text };
-}
-
-/// A record of which a part is moved out while more is told.
-pub trait HandsOver: Record {
-    /// Moves out what was told beyond what was moved out before, when all that was told is settled.
-    fn hand_over(&mut self, alloc: Global) -> Part
-        requires { Self.settled self.old ≡ Self.told self.old }
-        ensures part { Self.told self.old ≡ joined (Self.handed self.old).past result }
-        ensures told { Self.told self.new ≡ Self.told self.old }
-        ensures settled { Self.settled self.new ≡ Self.settled self.old }
-        ensures handed { Self.handed self.new
-            ≡ record (Self.handed self.old) { past = Self.told self.old } };
 }

@@ -24,7 +24,7 @@ use Rattle.dv_proc.specs.Arriving.{AreApart}
 use Rattle.dv_proc.specs.Local.{DeliverAlike, View}
 use Rattle.dv_proc.specs.Standing.{IsBegun}
 use Rattle.dv_react.specs.Components.{components_of}
-use Rattle.dv_serial.specs.Beginning.{CanBegin}
+use Rattle.dv_plan.specs.Beginning.{CanBegin}
 use Rattle.dv_share.specs.Share.{starts_of}
 use Rattle.dv_sound.specs.Jobs.{AllInputNumbers, fits_number, job_of}
 use Rattle.dv_sound.proofs.Jobbing.{numbers_at}

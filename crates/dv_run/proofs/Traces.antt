@@ -27,9 +27,9 @@ use Rattle.dv_run.specs.declared.ran.RanEnded.TheVariants as told
 use Rattle.dv_plain.specs.Source.{network_of, outside}
 use Rattle.dv_planned.specs.Texts.{text_job}
 use Rattle.dv_planned.specs.declared.job.TextJob.{TextJob}
-use Rattle.dv_serial.specs.Runs.{HasRun, HasStepped}
-use Rattle.dv_serial.specs.declared.ran.Committed.{Committed}
-use Rattle.dv_serial.specs.declared.ran.Stepped.{Stepped}
+use Rattle.dv_plan.specs.Runs.{HasRun, HasStepped}
+use Rattle.dv_plan.specs.declared.ran.Committed.{Committed}
+use Rattle.dv_plan.specs.declared.ran.Stepped.{Stepped}
 use Rattle.dv_sound.specs.Members.{flat_of}
 use Rattle.dv_partition.specs.Groups.{owner_of}
 use Rattle.dv_text.specs.Names.{component_names, root_ports}
@@ -37,12 +37,12 @@ use Rattle.dv_text.specs.Texts.{ComponentNames, instants_text, part_text}
 use Rattle.dv_text.specs.Writing.{AppendsBeginning}
 use Rattle.dv_text.proofs.Taking.{AppendsBeginning-nothing}
 use Rattle.dv_stream.specs.Clocks.{AreWithin}
-use Rattle.dv_stream.specs.Faults.{has_fault}
+use Rattle.dv_written.specs.Faults.{has_fault}
 use Rattle.dv_stream.specs.Written.{IsBegun, IsWrittenTo}
 use Rattle.dv_stream.specs.declared.rounds.Streamed.{Streamed}
 use Rattle.dv_stream.specs.declared.written.Written.{Written}
 use Rattle.dv_text.specs.declared.writing.WriteError.{WriteError}
-use Rattle.dv_serial.proofs.LeastClock.{AllOfRun, least_below, least_of_same}
+use Rattle.dv_plan.proofs.LeastClock.{AllOfRun, least_below, least_of_same}
 use Rattle.dv_stream.proofs.ToldClocks.{same_rank}
 use Rattle.dv_work.proofs.Lists.{at_place}
 use Rattle.dv_run.specs.Runs.{AreAtEnd, IsCutShort, IsPrinted, IsRunOf, IsStepped, lines_before}

@@ -16,10 +16,10 @@ use Rattle.dv_core.specs.declared.step.Step.{Step}
 use Rattle.dv_core.specs.declared.step.Ended.{Ended}
 use Rattle.dv_partition.specs.Groups.{Grouping, owner_of}
 use Rattle.dv_plain.specs.Source.{network_of, outside}
-use Rattle.dv_serial.specs.declared.ran.Stepped.{Stepped}
+use Rattle.dv_plan.specs.declared.ran.Stepped.{Stepped}
 use Rattle.dv_sound.specs.Jobs.{job_of}
 use Rattle.dv_stream.specs.Clocks.{AreWithin}
-use Rattle.dv_stream.specs.Faults.{has_fault}
+use Rattle.dv_written.specs.Faults.{has_fault}
 use Rattle.dv_text.specs.Names.{component_names, root_ports}
 use Rattle.dv_text.specs.Texts.{instants_text}
 use Rattle.dv_text.specs.Writing.{AppendsBeginning}

@@ -4,7 +4,7 @@ ghost use Rattle.std.specs.Prelude.{◌<◌, ◌≡◌, None, IfOk};
 ghost use Rattle.dv_check.specs.Refusals.{AreOfOneText, refusal_of};
 ghost use Rattle.dv_coded.specs.Lent.{behaviour_of_lent, lent_takes};
 ghost use Rattle.dv_planned.specs.Texts.{AreComponentsOf, AreLinksOf, text_job};
-ghost use Rattle.dv_serial.specs.Beginning.{CanRun};
+ghost use Rattle.dv_plan.specs.Beginning.{CanRun};
 ghost use Rattle.dv_sound.specs.Jobs.{AllInputNumbers};
 ghost use Rattle.dv_syntax.specs.Trees.{file_of};
 

@@ -4,6 +4,8 @@ ghost use Rattle.std.specs.Prelude.{◌≡◌};
 ghost use Rattle.dv_stats.specs.Counting.{with_kind};
 
 use crate::port::PortCount;
+use crate::span::{Side, Span};
+use crate::tally::{PortTallies, tallies_of};
 use crate::variable::VariableCount;
 use dv_bag::{Fault, Kind};
 use dv_eval::Scope;
@@ -39,69 +41,156 @@ impl Transitions {
     }
 }
 
+/// What is counted of a phase.
+#[derive(Clone, Copy)]
+pub(crate) struct PhaseCount {
+    /// How often the component came to it from another one; where the span begins in it, that is one more.
+    pub(crate) visits: u64,
+    pub(crate) ticks: u64,
+}
+
+impl PhaseCount {
+    /// A phase in which the component was never.
+    const NOTHING: PhaseCount = PhaseCount {
+        visits: 0,
+        ticks: 0,
+    };
+}
+
 /// What is counted of a component up to a tick.
 #[derive(Drop)]
 pub(crate) struct ComponentCount {
     pub(crate) transitions: Transitions,
     /// The fault, and when it happened.
     pub(crate) fault: Option<(Fault, Time)>,
-    /// The ticks in each phase, by place.
-    pub(crate) phases: Vec<u64>,
+    /// By place.
+    pub(crate) phases: Vec<PhaseCount>,
     /// The ticks behind the fault.
     pub(crate) faulted: u64,
     pub(crate) variables: Vec<VariableCount>,
     pub(crate) ports: Vec<PortCount>,
+    /// By port, where quantiles are wanted.
+    pub(crate) tallies: Vec<PortTallies>,
     phase: usize,
     tick: u64,
 }
 
 impl ComponentCount {
-    /// A component at the start, in this phase.
-    pub(crate) fn new(alloc: Global, scope: &Scope, phase: u32) -> Result<Self, AllocError> {
+    /// A component at the start of the model, in this phase.
+    pub(crate) fn new(
+        alloc: Global,
+        scope: &Scope,
+        phase: u32,
+        span: Span,
+        has_tallies: bool,
+    ) -> Result<Self, AllocError> {
         let mut variables = Vec::with_capacity(alloc, scope.domains().len())?;
         for domain in scope.domains() {
             variables.push(VariableCount::new(*domain))?;
         }
-        Ok(ComponentCount {
+        let mut count = ComponentCount {
             transitions: Transitions::NONE,
             fault: None,
-            phases: vec![in alloc; 0; scope.phases().len()]?,
+            phases: vec![in alloc; PhaseCount::NOTHING; scope.phases().len()]?,
             faulted: 0,
             variables,
             ports: vec![in alloc; PortCount::NOTHING; scope.output_count()]?,
+            tallies: tallies_of(alloc, scope.output_count(), has_tallies)?,
             phase: phase as usize,
-            tick: 0,
-        })
+            tick: span.from,
+        };
+        count.set_visits(1);
+        Ok(count)
     }
 
     /// Time passes up to a tick. The ticks behind a fault count for no phase and no variable.
     pub(crate) fn pass(&mut self, tick: u64) {
         let ticks = tick.saturating_sub(self.tick);
+        if ticks == 0 {
+            return;
+        }
         self.tick = tick;
         if self.fault.is_some() {
             self.faulted = self.faulted.saturating_add(ticks);
             return;
         }
         if let Some(count) = self.phases.get_mut(self.phase) {
-            *count = count.saturating_add(ticks);
+            count.ticks = count.ticks.saturating_add(ticks);
         }
         for variable in &mut self.variables {
             variable.pass(ticks);
         }
     }
 
-    /// What a line says of the component.
-    pub(crate) fn add(&mut self, entry: &Entry<'_>) {
+    /// What a line says of the component, where only a span counts.
+    pub(crate) fn add(&mut self, entry: &Entry<'_>, span: Span) -> Result<(), AllocError> {
+        match span.side_of(entry.time.tick) {
+            Side::Before => {
+                self.stand(entry);
+                Ok(())
+            }
+            Side::Within => self.count(entry),
+            Side::Behind => Ok(()),
+        }
+    }
+
+    // What a line before the span says: where the component stands from then on.
+    fn stand(&mut self, entry: &Entry<'_>) {
+        self.set_visits(0);
+        match &entry.happening {
+            Happening::Transition { phase, state, .. } => {
+                self.phase = *phase as usize;
+                self.set_visits(1);
+                stand_all(&mut self.variables, state);
+            }
+            Happening::Fault(fault) => {
+                self.fault = Some((*fault, entry.time));
+                cease_all(&mut self.variables);
+            }
+        }
+    }
+
+    // What a line within the span says.
+    fn count(&mut self, entry: &Entry<'_>) -> Result<(), AllocError> {
         self.pass(entry.time.tick);
         match &entry.happening {
             Happening::Transition { kind, phase, state } => {
                 self.transitions.add(*kind);
-                self.phase = *phase as usize;
+                self.enter(*phase as usize);
                 hold_all(&mut self.variables, state);
             }
             Happening::Fault(fault) => self.fault = Some((*fault, entry.time)),
         }
         send_all(&mut self.ports, &entry.sent);
+        tally_all(&mut self.tallies, entry.time.tick, &entry.sent)
+    }
+
+    fn enter(&mut self, phase: usize) {
+        if phase != self.phase {
+            self.phase = phase;
+            if let Some(count) = self.phases.get_mut(phase) {
+                count.visits = count.visits.saturating_add(1);
+            }
+        }
+    }
+
+    // Of the phase in which the component is.
+    fn set_visits(&mut self, visits: u64) {
+        if let Some(count) = self.phases.get_mut(self.phase) {
+            count.visits = visits;
+        }
+    }
+}
+
+fn stand_all(variables: &mut [VariableCount], state: &[Datum<'_>]) {
+    for (variable, datum) in variables.iter_mut().zip(state) {
+        variable.stand(*datum);
+    }
+}
+
+fn cease_all(variables: &mut [VariableCount]) {
+    for variable in variables {
+        variable.cease();
     }
 }
 
@@ -114,7 +203,21 @@ fn hold_all(variables: &mut [VariableCount], state: &[Datum<'_>]) {
 fn send_all(ports: &mut [PortCount], sent: &[Sending<'_>]) {
     for sending in sent {
         if let Some(port) = ports.get_mut(sending.port) {
-            port.send(sending.values.count);
+            port.send(sending.values);
         }
     }
+}
+
+/// Values are sent by ports at a tick.
+pub(crate) fn tally_all(
+    tallies: &mut [PortTallies],
+    tick: u64,
+    sent: &[Sending<'_>],
+) -> Result<(), AllocError> {
+    for sending in sent {
+        if let Some(port) = tallies.get_mut(sending.port) {
+            port.send(tick, sending.values)?;
+        }
+    }
+    Ok(())
 }

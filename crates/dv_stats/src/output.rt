@@ -1,10 +1,11 @@
 //! What is counted of an output of the root.
 
 use crate::port::PortCount;
+use dv_trace::Values;
 
 /// The instants at which something left, as ticks, and the ticks between one and the next.
 #[derive(Clone, Copy)]
-pub(crate) struct Span {
+pub(crate) struct Instants {
     pub(crate) first: u64,
     pub(crate) last: u64,
     /// The least and the greatest number of ticks between one instant and the next, where there were two.
@@ -14,23 +15,23 @@ pub(crate) struct Span {
 /// What left by an output of the root.
 #[derive(Clone, Copy)]
 pub(crate) struct OutputCount {
-    pub(crate) sent: PortCount,
-    pub(crate) span: Option<Span>,
+    pub(crate) port: PortCount,
+    pub(crate) instants: Option<Instants>,
 }
 
 impl OutputCount {
     /// An output by which nothing has left.
     pub(crate) const NOTHING: OutputCount = OutputCount {
-        sent: PortCount::NOTHING,
-        span: None,
+        port: PortCount::NOTHING,
+        instants: None,
     };
 
-    /// So many values leave at a tick.
-    pub(crate) fn send(&mut self, tick: u64, values: u64) {
-        self.sent.send(values);
-        self.span = Some(match self.span {
-            Some(span) => span.to(tick),
-            None => Span {
+    /// Values leave at a tick.
+    pub(crate) fn send(&mut self, tick: u64, values: Values<'_>) {
+        self.port.send(values);
+        self.instants = Some(match self.instants {
+            Some(instants) => instants.to(tick),
+            None => Instants {
                 first: tick,
                 last: tick,
                 gaps: None,
@@ -39,11 +40,11 @@ impl OutputCount {
     }
 }
 
-impl Span {
+impl Instants {
     // With one more instant.
-    fn to(self, tick: u64) -> Span {
+    fn to(self, tick: u64) -> Instants {
         let gap = tick.saturating_sub(self.last);
-        Span {
+        Instants {
             first: self.first,
             last: tick,
             gaps: Some(match self.gaps {

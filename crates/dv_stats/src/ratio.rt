@@ -1,9 +1,8 @@
-//! Means and rates as text, in thousandths, rounded to the nearest; halves are rounded away from 0.
+//! Means, rates and shares as text, in thousandths, rounded to the nearest; halves are rounded to the even one.
 
 use std::alloc::{AllocError, Global};
 
-/// A sum divided by a count, as `0.846`. It is empty where the count is 0, and `overflow` where there is no sum or it has too
-/// many bits.
+/// A sum divided by a count, as `0.846`. It is empty where the count is 0, and `overflow` where there is no sum.
 pub(crate) fn ratio_text(
     alloc: Global,
     sum: Option<i128>,
@@ -15,20 +14,32 @@ pub(crate) fn ratio_text(
     let Some(sum) = sum else {
         return String::from_str(alloc, "overflow");
     };
-    let Some(thousandths) = thousandths_of(sum.unsigned_abs(), u128::from(count)) else {
-        return String::from_str(alloc, "overflow");
-    };
-    let sign = if sum < 0 && thousandths > 0 { "-" } else { "" };
-    let whole = thousandths / 1000;
-    let rest = (thousandths % 1000) as u32;
-    format!(in alloc; "{sign}{whole}.{rest:03}")
+    let (whole, thousandths) = rounded(sum.unsigned_abs(), u128::from(count));
+    let is_nothing = whole == 0 && thousandths == 0;
+    let sign = if sum < 0 && !is_nothing { "-" } else { "" };
+    format!(in alloc; "{sign}{whole}.{thousandths:03}")
 }
 
-// A sum divided by a count, in thousandths.
-fn thousandths_of(sum: u128, count: u128) -> Option<u128> {
+// A sum divided by a count: the whole ones, and the thousandths of the rest. A rest is less than the count, which has 64 bits, so
+// that nothing is lost.
+fn rounded(sum: u128, count: u128) -> (u128, u128) {
     if count == 0 {
-        return None;
+        return (0, 0);
     }
-    let half = count / 2;
-    Some(sum.checked_mul(1000)?.checked_add(half)? / count)
+    let rest = (sum % count).saturating_mul(1000);
+    let thousandths = nearest(rest / count, (rest % count).saturating_mul(2), count);
+    if thousandths < 1000 {
+        (sum / count, thousandths)
+    } else {
+        ((sum / count).saturating_add(1), 0)
+    }
+}
+
+// A number, or the next one, by twice the rest that is left of a count.
+fn nearest(number: u128, twice: u128, count: u128) -> u128 {
+    if twice > count || (twice == count && number % 2 == 1) {
+        number.saturating_add(1)
+    } else {
+        number
+    }
 }

@@ -1,6 +1,6 @@
 //! Sections as text: in aligned columns, or as comma-separated values.
 
-use crate::sections::{Kind, Row, Section};
+use crate::section::{Kind, Named, Row, Section};
 use dv_tree::Tree;
 use std::alloc::{AllocError, Global};
 
@@ -98,10 +98,10 @@ fn push_names(
     name: &str,
     widths: &Widths,
 ) -> Result<(), AllocError> {
-    match kind {
-        Kind::Component => push_left(text, component, widths.component),
-        Kind::Output => push_left(text, name, widths.name),
-        Kind::Phase | Kind::Variable | Kind::Port => {
+    match kind.named() {
+        Named::ByComponent => push_left(text, component, widths.component),
+        Named::ByName => push_left(text, name, widths.name),
+        Named::ByBoth => {
             push_left(text, component, widths.component)?;
             text.push_str("  ")?;
             push_left(text, name, widths.name)
@@ -146,7 +146,7 @@ fn push_right(
     text.push_str(word)
 }
 
-/// A section as comma-separated values: a line for each value. No name has a comma or a quote.
+/// A section as comma-separated values: a line for each value, and one for each bin. No name has a comma or a quote.
 pub(crate) fn push_csv(
     alloc: Global,
     text: &mut String,
@@ -154,7 +154,15 @@ pub(crate) fn push_csv(
 ) -> Result<(), AllocError> {
     for row in &section.rows {
         let path = path_text(alloc, section.tree, row)?;
-        push_row(text, section.kind, path.as_str(), row)?;
+        match section.kind {
+            Kind::Bins(_) => push_bin(text, section.kind, path.as_str(), row)?,
+            Kind::Component
+            | Kind::Phase
+            | Kind::Variable
+            | Kind::Port
+            | Kind::Output
+            | Kind::Quantiles(_) => push_row(text, section.kind, path.as_str(), row)?,
+        }
     }
     Ok(())
 }
@@ -167,4 +175,15 @@ fn push_row(text: &mut String, kind: Kind, path: &str, row: &Row<'_>) -> Result<
         }
     }
     Ok(())
+}
+
+// The measure of a bin is its range.
+fn push_bin(text: &mut String, kind: Kind, path: &str, row: &Row<'_>) -> Result<(), AllocError> {
+    match row.values.as_slice() {
+        [from, to, count] => {
+            let kind = kind.word();
+            writeln!(text, "{kind},{path},{},{from}..{to},{count}", row.name)
+        }
+        [] | [_] | [_, _] | [_, _, _, _, ..] => Ok(()),
+    }
 }

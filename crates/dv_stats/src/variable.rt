@@ -1,5 +1,6 @@
 //! What is counted of a variable.
 
+use crate::summary::Summary;
 use dv_eval::Domain;
 use dv_trace::Datum;
 
@@ -7,48 +8,53 @@ use dv_trace::Datum;
 #[derive(Clone, Copy)]
 pub(crate) struct VariableCount {
     now: i64,
-    pub(crate) least: i64,
-    pub(crate) greatest: i64,
-    /// The sum over all ticks of what the variable held; nothing where it has more than 128 bits.
-    pub(crate) sum: Option<i128>,
+    /// The least and the greatest of what it held, and the sum over all ticks.
+    pub(crate) held: Summary,
 }
 
 impl VariableCount {
     /// A variable at the start.
     pub(crate) fn new(domain: Domain) -> Self {
-        let start = match domain {
+        VariableCount::standing(match domain {
             Domain::Number(range) => range.start,
             Domain::Flag { start } => i64::from(start),
             Domain::Held { .. } => 0,
-        };
-        VariableCount {
-            now: start,
-            least: start,
-            greatest: start,
-            sum: Some(0),
-        }
+        })
+    }
+
+    // A variable that holds a value where the span begins.
+    fn standing(now: i64) -> Self {
+        let mut held = Summary::NOTHING;
+        held.meet(now);
+        VariableCount { now, held }
+    }
+
+    /// It holds something before the span: what it held until then does not count.
+    pub(crate) fn stand(&mut self, datum: Datum<'_>) {
+        *self = VariableCount::standing(number_of(datum));
+    }
+
+    /// It holds nothing more before the span.
+    pub(crate) fn cease(&mut self) {
+        self.held = Summary::NOTHING;
     }
 
     /// So many ticks pass.
     pub(crate) fn pass(&mut self, ticks: u64) {
-        self.sum = more(self.sum, self.now, ticks);
+        self.held.weigh(self.now, ticks);
     }
 
-    /// The variable holds something from now on.
+    /// It holds something from now on.
     pub(crate) fn hold(&mut self, datum: Datum<'_>) {
-        let now = match datum {
-            Datum::Number(number) => number,
-            Datum::Flag(flag) => i64::from(flag),
-            Datum::Held(values) => i64::try_from(values.count).unwrap_or(i64::MAX),
-        };
-        self.now = now;
-        self.least = now.min(self.least);
-        self.greatest = now.max(self.greatest);
+        self.now = number_of(datum);
+        self.held.meet(self.now);
     }
 }
 
-// A sum with so many copies of a value more.
-fn more(sum: Option<i128>, value: i64, copies: u64) -> Option<i128> {
-    let added = i128::from(value).checked_mul(i128::from(copies))?;
-    sum?.checked_add(added)
+fn number_of(datum: Datum<'_>) -> i64 {
+    match datum {
+        Datum::Number(number) => number,
+        Datum::Flag(flag) => i64::from(flag),
+        Datum::Held(values) => i64::try_from(values.count).unwrap_or(i64::MAX),
+    }
 }

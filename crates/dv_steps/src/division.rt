@@ -5,7 +5,7 @@ use dv_core::Step;
 use dv_job::{Options, run_steps};
 use dv_partition::Partition;
 use dv_plain::resultant_run;
-use dv_serial::Stepped;
+use dv_plan::Stepped;
 use dv_time::Time;
 use dv_tree::Tree;
 use std::alloc::{AllocError, Global};

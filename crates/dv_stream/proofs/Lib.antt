@@ -14,5 +14,3 @@ pub mod Rising
 pub mod Worlds
 -- What was written, mark after mark.
 pub mod Writing
--- Histories may go to another thread.
-pub mod Sending

@@ -23,7 +23,7 @@ use Rattle.dv_core.specs.ProcessState.{ProcessState}
 use Rattle.dv_core.specs.Worlds.{IsTrueToModel, kept_by, shown}
 use Rattle.dv_core.specs.declared.state.WorldState.{WorldState}
 use Rattle.dv_devs.specs.Network.{Network, trace_before}
-use Rattle.dv_lines.specs.Tellings.{has_fault as has_fault_told, is_fault as is_fault_told}
+use Rattle.dv_written.specs.Faults.{has_fault as has_fault_told, is_fault as is_fault_told}
 use Rattle.dv_merge.specs.Whole.{ArePartsOf}
 use Rattle.dv_record.specs.Told.{Handed}
 use Rattle.dv_text.specs.Names.{tree_names, tree_ports}
@@ -31,7 +31,7 @@ use Rattle.dv_text.specs.Texts.{ComponentNames, instants_text, part_text}
 use Rattle.dv_text.proofs.Taking.{Appends-append, Appends-nothing, AppendsBeginning-behind, AppendsBeginning-text}
 use Rattle.dv_tree.specs.Tables.{Source}
 use Rattle.dv_stream.specs.Alone.{Breaks, Continues, by_tree}
-use Rattle.dv_stream.specs.Faults.{has_fault, is_fault}
+use Rattle.dv_written.specs.Faults.{has_fault, is_fault}
 use Rattle.dv_stream.specs.Written.{IsBegun, IsWrittenTo, lines_before}
 use Rattle.dv_stream.specs.declared.written.Written.{Written}
 use Rattle.dv_stream.proofs.Between.{alone_is_whole, map_twice}

@@ -11,8 +11,8 @@ use Rattle.dv_board.specs.Clocks.{IsLeast, later}
 use Rattle.dv_conservative.specs.Events.{same_time}
 use Rattle.dv_conservative.proofs.Told.{same_times}
 use Rattle.dv_devs.specs.Clocks.{least_rank}
-use Rattle.dv_serial.specs.Clocks.{least_time}
-use Rattle.dv_serial.proofs.LeastClock.{AllOfRun, least_above, least_below, least_of_same, least_time_of_run, least_time_rank}
+use Rattle.dv_plan.specs.Clocks.{least_time}
+use Rattle.dv_plan.proofs.LeastClock.{AllOfRun, least_above, least_below, least_of_same, least_time_of_run, least_time_rank}
 use Rattle.dv_work.proofs.Lists.{at_place}
 
 -- times of the run at one rank are the same

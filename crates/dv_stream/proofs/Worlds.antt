@@ -7,10 +7,10 @@ use Rattle.dv_core.specs.ProcessState.{ProcessState}
 use Rattle.dv_core.specs.Worlds.{IsTrueToModel, kept_by, shown}
 use Rattle.dv_core.specs.declared.state.WorldState.{WorldState}
 use Rattle.dv_core.proofs.Lookups.{some_at}
-use Rattle.dv_serial.specs.Clocks.{least_time}
-use Rattle.dv_serial.specs.Runs.{AreClocksOf}
-use Rattle.dv_serial.proofs.LeastClock.{least_below, least_time_rank}
-use Rattle.dv_serial.proofs.Running.{clocks_of_world}
+use Rattle.dv_plan.specs.Clocks.{least_time}
+use Rattle.dv_plan.specs.Runs.{AreClocksOf}
+use Rattle.dv_plan.proofs.LeastClock.{least_below, least_time_rank}
+use Rattle.dv_plan.proofs.Running.{clocks_of_world}
 
 module _ {J P : Type 0} (means : J → Job) (state : P → ProcessState) where
   abbrev pub clocks_in : WorldState J P → List Time

@@ -24,7 +24,7 @@ use Rattle.dv_text.specs.Writing.{AppendsBeginning}
 use Rattle.dv_text.proofs.Taking.{Appends-append, Appends-nothing, AppendsBeginning-behind, AppendsBeginning-from}
 use Rattle.dv_text.proofs.Taking.{AppendsBeginning-nothing, AppendsBeginning-text, TakesFront-all}
 use Rattle.dv_text.specs.declared.writing.WriteError.{WriteError}
-use Rattle.dv_stream.specs.Faults.{has_fault, is_fault}
+use Rattle.dv_written.specs.Faults.{has_fault, is_fault}
 use Rattle.dv_stream.specs.Written.{Falters, GoesOn, IsBegun, IsWrittenTo, lines_before, lines_between}
 use Rattle.dv_stream.specs.declared.written.Written.{Written}
 

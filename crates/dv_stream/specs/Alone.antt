@@ -13,7 +13,7 @@ use Rattle.dv_local.specs.States.{view_by}
 use Rattle.dv_local.specs.declared.state.LocalState.{LocalState}
 use Rattle.dv_proc.specs.declared.process.Process.{Process}
 use Rattle.dv_record.specs.Told.{Handed}
-use Rattle.dv_stream.specs.Faults.{has_fault}
+use Rattle.dv_written.specs.Faults.{has_fault}
 use Rattle.dv_stream.specs.Written.{lines_before}
 use Rattle.dv_stream.specs.declared.written.Written.{Written}
 use Rattle.dv_text.specs.Names.{tree_names, tree_ports}

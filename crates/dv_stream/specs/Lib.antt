@@ -1,6 +1,4 @@
 -- ---- What a reader believes
--- Whether a trace holds a fault.
-pub mod Faults
 -- What was written of the trace of a job.
 pub mod Written
 -- What one process without others has written.

@@ -16,9 +16,9 @@ job_of_type job = job
 
 -- What workers leave of a job: what each process committed and did not post, and that the run is whole exactly where every clock is
 -- at the end.
-pub record IsReportOf {C : Type 0} (job : Job) (r : Left C) : Type 0 where
+pub record IsReportOf {N C : Type 0} (job : Job) (r : Left N C) : Type 0 where
   pub reached : AreReached job r.rest.items
-  pub whole : (r.ended ≡ Whole) ↔ ((p : ℕ) (x : Piece) → slice_get r.rest.items p ≡ Some x → x.clock ≡ end_time job)
+  pub whole : (r.ended ≡ Whole) ↔ ((p : ℕ) (x : Piece N) → slice_get r.rest.items p ≡ Some x → x.clock ≡ end_time job)
 
 -- how a run by workers is told of which the whole trace was written, or not
 abbrev pub told_as : {C : Type 0} → (is_whole : Bool) → Ended C → WorkersEnded C

@@ -8,7 +8,7 @@ use Rattle.dv_board.specs.Jobs.{trace}
 use Rattle.dv_conservative.specs.Flat.{whole}
 use Rattle.dv_conservative.specs.World.{Job}
 use Rattle.dv_devs.specs.Network.{trace_before}
-use Rattle.dv_stream.specs.Faults.{has_fault}
+use Rattle.dv_written.specs.Faults.{has_fault}
 use Rattle.dv_stream.specs.declared.written.Written.{Written}
 use Rattle.dv_text.specs.Names.{tree_names, tree_ports}
 use Rattle.dv_text.specs.Texts.{instants_text, part_text}

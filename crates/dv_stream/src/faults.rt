@@ -1,28 +1,19 @@
 //! Whether a part of a trace holds a fault.
 
 ghost use Rattle.std.specs.Prelude.{◌≡◌};
-ghost use Rattle.dv_stream.specs.Faults.{has_fault, is_fault};
+ghost use Rattle.dv_written.specs.Faults.{has_fault};
 
-use dv_bag::What;
-use dv_slice::PartSlice;
+use dv_merge::PartSlice;
+use dv_written::OfJob;
 
 /// Whether some entry is a fault.
-pub fn has_fault(part: &PartSlice<'_>) -> bool
+pub fn has_fault<N: OfJob>(part: &PartSlice<'_, N>) -> bool
     ensures { result ≡ has_fault part.now }
 {
     for place in 0..part.entry_count() {
-        if is_fault(&part.entry(place).what) {
+        if part.entry(place).is_fault() {
             return true;
         }
     }
     false
-}
-
-fn is_fault(what: &What) -> bool
-    ensures { result ≡ is_fault what.now }
-{
-    match what {
-        What::Fault(_) => true,
-        What::Transition { .. } => false,
-    }
 }

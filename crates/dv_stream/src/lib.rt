@@ -28,5 +28,5 @@ pub use planned::stream_plan_by_workers;
 pub use rest::WorkersEnded;
 pub use rounds::{Streamed, stream_plan};
 pub use watch::{Unwatched, Watch};
-pub use workers::{Crew, Worked, stream_workers};
+pub use workers::Worked;
 pub use written::Written;

@@ -11,11 +11,11 @@ use crate::written::{Written, write_piece};
 use dv_bag::Bags;
 use dv_core::PlannedJob;
 use dv_lines::TraceWriter;
-use dv_merge::merge;
-use dv_slice::PartSlice;
+use dv_merge::{PartSlice, merge};
 use dv_text::WriteError;
 use dv_text::laws::a_trace_is_its_pieces;
 use dv_time::Time;
+use dv_written::OfJob;
 use std::alloc::Global;
 use std::io::Write;
 
@@ -25,13 +25,13 @@ use std::io::Write;
 /// # Errors
 ///
 /// A write failed, or there is no memory to put the pieces together. The writer holds a beginning of the lines.
-pub fn write_merged<J: PlannedJob, W: Write>(
+pub fn write_merged<N: OfJob, J: PlannedJob, W: Write>(
     alloc: Global,
     job: &J,
-    pieces: &[PartSlice<'_>],
+    pieces: &[PartSlice<'_, N>],
     before: Written,
     mark: Time,
-    lines: &mut TraceWriter<'_>,
+    lines: &mut TraceWriter<'_, N>,
     writer: &mut W,
 ) -> Result<Written, WriteError>
     requires pieces { ArePartsOf (J.means job.now).owner

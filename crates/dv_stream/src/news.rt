@@ -9,11 +9,11 @@ use crate::written::{Written, write_piece};
 use dv_bag::Bags;
 use dv_board::{Backlog, Board, Piece};
 use dv_lines::TraceWriter;
-use dv_link::OfJob;
 use dv_merge::merge;
 use dv_text::WriteError;
 use dv_text::laws::a_trace_is_its_pieces;
 use dv_work::{Bell, Flag, Leads, Stream, bells_of};
+use dv_written::OfJob;
 use std::alloc::{AllocError, Global};
 use std::io::Write;
 use std::sync::Wait;
@@ -105,7 +105,7 @@ impl Signals {
     }
 
     /// Tells the workers that pieces were taken off the board.
-    pub fn note_taken<R: Wait>(&self, rt: &R, pieces: &[Piece]) {
+    pub fn note_taken<N: OfJob, R: Wait>(&self, rt: &R, pieces: &[Piece<N>]) {
         let mut may_go_on = false;
         for piece in pieces {
             if self.leads.take_off(piece.process, piece.part.entry_count()) {
@@ -130,7 +130,7 @@ fn write_known<N: OfJob, W: Write>(
     alloc: Global,
     backlog: &Backlog<N>,
     before: Written,
-    lines: &mut TraceWriter<'_>,
+    lines: &mut TraceWriter<'_, N>,
     writer: &mut W,
 ) -> Result<Option<Written>, WriteError>
     ensures tree { lines.new ≡ lines.old }
@@ -167,7 +167,7 @@ pub(crate) fn write_joined<N: OfJob, W: Write>(
     alloc: Global,
     backlog: &mut Backlog<N>,
     before: Written,
-    lines: &mut TraceWriter<'_>,
+    lines: &mut TraceWriter<'_, N>,
     writer: &mut W,
 ) -> Result<Written, WriteError>
     requires of_run { IsOfRun N.job.limit before.mark }
@@ -200,7 +200,7 @@ fn write_posted<N: OfJob, R: Wait, W: Write>(
     backlog: &mut Backlog<N>,
     signals: &Signals,
     before: Written,
-    lines: &mut TraceWriter<'_>,
+    lines: &mut TraceWriter<'_, N>,
     writer: &mut W,
 ) -> Result<Written, WriteError>
     requires of_run { IsOfRun N.job.limit before.mark }
@@ -234,7 +234,7 @@ pub fn write_news<N: OfJob, R: Wait, W: Write>(
     board: &Board<N>,
     backlog: &mut Backlog<N>,
     signals: &Signals,
-    lines: &mut TraceWriter<'_>,
+    lines: &mut TraceWriter<'_, N>,
     writer: &mut W,
 ) -> Result<Written, WriteError>
     ensures tree { lines.new ≡ lines.old }

@@ -4,7 +4,7 @@ ghost use Rattle.std.specs.Prelude.{◌≡◌, ◌↔◌, ◌<◌, ◌≤◌, �
 ghost use Rattle.std.specs.List.{All};
 ghost use Rattle.dv_board.specs.Posts.{IsPiece};
 ghost use Rattle.dv_conservative.specs.Events.{same_time};
-ghost use Rattle.dv_serial.specs.Clocks.{least_time};
+ghost use Rattle.dv_plan.specs.Clocks.{least_time};
 ghost use Rattle.dv_stream.specs.Workers.{told_as};
 ghost use Rattle.dv_stream.specs.Written.{Falters, GoesOn};
 ghost use Rattle.dv_time.specs.Time.{IsOfRun, end_of, rank};
@@ -15,12 +15,12 @@ use crate::news::write_joined;
 use crate::written::Written;
 use dv_board::{Backlog, Board, Piece};
 use dv_lines::TraceWriter;
-use dv_link::OfJob;
+use dv_plan::least::least_clock;
 use dv_proc::window::is_same;
-use dv_serial::least::least_clock;
 use dv_text::WriteError;
 use dv_time::Time;
 use dv_work::Ended;
+use dv_written::OfJob;
 use std::alloc::Global;
 use std::io::Write;
 use std::sync::Wait;
@@ -38,8 +38,8 @@ pub enum WorkersEnded<C> {
 
 /// What workers left, and how their run ended.
 #[derive(Drop)]
-pub struct Left<C> {
-    pub rest: Vec<Piece>,
+pub struct Left<N: OfJob, C> {
+    pub rest: Vec<Piece<N>>,
     pub ended: Ended<C>,
 }
 
@@ -53,9 +53,9 @@ pub fn write_rest<N: OfJob, R: Wait, W: Write>(
     alloc: Global,
     board: &Board<N>,
     backlog: &mut Backlog<N>,
-    rest: Vec<Piece>,
+    rest: Vec<Piece<N>>,
     before: Written,
-    lines: &mut TraceWriter<'_>,
+    lines: &mut TraceWriter<'_, N>,
     writer: &mut W,
 ) -> Result<Written, WriteError>
     requires rest { All (IsPiece N.job) rest.items }

@@ -4,15 +4,18 @@ ghost use Rattle.std.specs.Prelude.{◌≡◌, ◌↔◌, ◌<◌, ◌≤◌, Li
 ghost use Rattle.std.specs.List.{All};
 ghost use Rattle.dv_bag.specs.Bag.{Counts};
 ghost use Rattle.dv_bag.specs.Part.{nothing};
+ghost use Rattle.dv_bag.specs.declared.entry.Entry.{Entry as MeantEntry};
 ghost use Rattle.dv_board.specs.Clocks.{IsLeast};
 ghost use Rattle.dv_board.specs.Jobs.{IsMergeable};
 ghost use Rattle.dv_core.specs.declared.step.Ended.TheVariants.{Stalled};
 ghost use Rattle.dv_core.specs.Worlds.{EndsAs, IsTrueToModel, kept_by, shown};
-ghost use Rattle.dv_serial.specs.Beginning.{CanRun};
-ghost use Rattle.dv_serial.specs.Clocks.{least_time};
-ghost use Rattle.dv_serial.specs.Runs.{HasRun};
+ghost use Rattle.dv_lines.specs.Entries.{line_of};
+ghost use Rattle.dv_plan.specs.Beginning.{CanRun};
+ghost use Rattle.dv_plan.specs.Clocks.{least_time};
+ghost use Rattle.dv_plan.specs.Runs.{HasRun};
 ghost use Rattle.dv_stream.specs.Rounds.{AreJoined};
 ghost use Rattle.dv_stream.specs.Written.{Falters, GoesOn, IsBegun, IsWrittenTo};
+ghost use Rattle.dv_text.specs.Names.{tree_names};
 ghost use Rattle.dv_time.specs.Time.{end_of, rank};
 
 use crate::alone::stream_alone;
@@ -22,18 +25,16 @@ use crate::written::Written;
 use dv_bag::Bags;
 use dv_board::{Backlog, Piece};
 use dv_core::{Ended, LogicalProcess, PlannedJob, ProcessHandsOver, World};
-use dv_lines::{TextRecord, TraceWriter};
-use dv_link::OfJob;
+use dv_lines::{TextRecord, TraceWriter, TreeWords, WrittenRecord, WrittenRecords};
 use dv_local::LocalRun;
-use dv_plan::Plan;
+use dv_plan::worlds::world_of;
+use dv_plan::{Committed, Plan};
 use dv_proc::Process;
 use dv_react::Atomic;
-use dv_record::TailRecord;
-use dv_serial::Committed;
-use dv_serial::worlds::world_of;
 use dv_text::WriteError;
 use dv_text::laws::a_trace_is_its_pieces;
 use dv_tree::Tree;
+use dv_written::{HandsOver, MakesRecord, OfJob};
 use std::alloc::{AllocError, Global};
 use std::io::Write;
 use std::marker::Brand;
@@ -50,7 +51,7 @@ pub struct Streamed {
 }
 
 // Joins to a backlog what a process of a world committed beyond what was joined before.
-fn join_one<N: OfJob, J: PlannedJob, P: ProcessHandsOver>(
+fn join_one<N: OfJob, J: PlannedJob, P: ProcessHandsOver<N>>(
     world: &mut World<J, P>,
     backlog: &mut Backlog<N>,
     process: u32,
@@ -85,7 +86,7 @@ fn join_one<N: OfJob, J: PlannedJob, P: ProcessHandsOver>(
 }
 
 // Joins to a backlog what each process of a world committed beyond what was joined before.
-fn join_each<N: OfJob, J: PlannedJob, P: ProcessHandsOver>(
+fn join_each<N: OfJob, J: PlannedJob, P: ProcessHandsOver<N>>(
     world: &mut World<J, P>,
     backlog: &mut Backlog<N>,
     processes: u32,
@@ -115,7 +116,7 @@ fn write_all<N: OfJob, J: PlannedJob, W: Write>(
     job: &J,
     backlog: &mut Backlog<N>,
     before: Written,
-    lines: &mut TraceWriter<'_>,
+    lines: &mut TraceWriter<'_, N>,
     writer: &mut W,
 ) -> Result<Written, WriteError>
     requires job { N.job ≡ J.means job.now }
@@ -142,7 +143,7 @@ fn write_all<N: OfJob, J: PlannedJob, W: Write>(
 }
 
 // So many rounds, and then what is new of the trace is written.
-fn advance<N: OfJob, J: PlannedJob, P: ProcessHandsOver, W: Write>(
+fn advance<N: OfJob, J: PlannedJob, P: ProcessHandsOver<N>, W: Write>(
     alloc: Global,
     world: &mut World<J, P>,
     work: &mut P::Work,
@@ -150,7 +151,7 @@ fn advance<N: OfJob, J: PlannedJob, P: ProcessHandsOver, W: Write>(
     processes: u32,
     rounds: u64,
     before: Written,
-    lines: &mut TraceWriter<'_>,
+    lines: &mut TraceWriter<'_, N>,
     writer: &mut W,
 ) -> Result<(Ended, Written), WriteError>
     requires job { N.job ≡ J.means world.old.job }
@@ -194,13 +195,13 @@ pub(crate) fn is_stalled(ended: Ended) -> bool
 
 // Rounds of the processes of a world, so many at most; the trace is written meanwhile. No parameter has the job in its type, so a
 // caller can choose the job.
-fn stream_rounds<N: OfJob, J: PlannedJob, P: ProcessHandsOver, W: Write>(
+fn stream_rounds<N: OfJob, J: PlannedJob, P: ProcessHandsOver<N>, W: Write>(
     alloc: Global,
     world: &mut World<J, P>,
     work: &mut P::Work,
     processes: u32,
     rounds: u64,
-    lines: &mut TraceWriter<'_>,
+    lines: &mut TraceWriter<'_, N>,
     writer: &mut W,
 ) -> Result<(Ended, Written), WriteError>
     requires job { N.job ≡ J.means world.old.job }
@@ -286,10 +287,77 @@ pub fn stream_plan<J: PlannedJob, A: Atomic + Drop, W: Write>(
         let to = TextRecord::new(alloc, tree)?;
         return stream_alone(alloc, job, plan, work, rounds, capacity, to, tree, writer);
     }
+    let words = TreeWords::of(alloc, tree)?;
+    stream_with_words::<Brand, J, A, W>(alloc, job, plan, work, rounds, capacity, &words, writer)
+}
+
+// Makes the records by the words, and runs the processes of a plan with them. No parameter has the job in its type, so a caller can choose
+// the job.
+fn stream_with_words<'w, N: OfJob, J: PlannedJob, A: Atomic + Drop, W: Write>(
+    alloc: Global,
+    job: J,
+    plan: Plan<A>,
+    work: &mut A::Work,
+    rounds: u64,
+    capacity: usize,
+    words: &'w TreeWords<'w>,
+    writer: &mut W,
+) -> Result<Streamed, WriteError>
+    requires job { N.job ≡ J.means job }
+    requires lines { (e : MeantEntry) → line_of (tree_names words.now) e ≡ N.line e }
+    requires comes { (a : A) (bags : List Counts) → A.comes a bags }
+    requires run { CanRun J.means A.behaviour A.fits job plan }
+    requires merges { IsMergeable (J.means job) }
+    requires some { 0 < (J.means job).processes }
+    ensures run { IfOk result (λ s. HasRun (J.means job) capacity rounds s.committed) }
+    ensures written { IfOk result (λ s. IsWrittenTo (J.means job) words.now
+        (W.contents writer.old) (W.contents writer.new) s.written) }
+    ensures least { IfOk result (λ s. s.written.mark ≡ least_time s.committed.clocks.items) }
+    ensures err { OnErr result (IsBegun (J.means job) words.now
+        (W.contents writer.old) (W.contents writer.new)) }
+{
+    let records: WrittenRecords<'w, N> = words.records();
+    stream_several::<N, J, A, WrittenRecord<'w, N>, WrittenRecords<'w, N>, W>(
+        alloc, job, plan, work, rounds, capacity, &records, words, writer,
+    )
+}
+
+// Runs the processes of a plan, each with a record that is made for it.
+fn stream_several<
+    N: OfJob,
+    J: PlannedJob,
+    A: Atomic + Drop,
+    K: HandsOver<N>,
+    M: MakesRecord<K>,
+    W: Write,
+>(
+    alloc: Global,
+    job: J,
+    plan: Plan<A>,
+    work: &mut A::Work,
+    rounds: u64,
+    capacity: usize,
+    records: &M,
+    words: &TreeWords<'_>,
+    writer: &mut W,
+) -> Result<Streamed, WriteError>
+    requires job { N.job ≡ J.means job }
+    requires lines { (e : MeantEntry) → line_of (tree_names words.now) e ≡ N.line e }
+    requires comes { (a : A) (bags : List Counts) → A.comes a bags }
+    requires run { CanRun J.means A.behaviour A.fits job plan }
+    requires merges { IsMergeable (J.means job) }
+    requires some { 0 < (J.means job).processes }
+    ensures run { IfOk result (λ s. HasRun (J.means job) capacity rounds s.committed) }
+    ensures written { IfOk result (λ s. IsWrittenTo (J.means job) words.now
+        (W.contents writer.old) (W.contents writer.new) s.written) }
+    ensures least { IfOk result (λ s. s.written.mark ≡ least_time s.committed.clocks.items) }
+    ensures err { OnErr result (IsBegun (J.means job) words.now
+        (W.contents writer.old) (W.contents writer.new)) }
+{
     let processes = plan.shares.len() as u32;
-    let mut lines = TraceWriter::new(alloc, tree)?;
-    let mut world = world_of::<J, A, TailRecord>(alloc, job, plan, capacity)?;
-    let (ended, written) = stream_rounds::<Brand, J, Process<LocalRun<A, TailRecord>>, W>(
+    let mut lines = TraceWriter::new(alloc, words)?;
+    let mut world = world_of::<J, A, K, M>(alloc, job, plan, records, capacity)?;
+    let (ended, written) = stream_rounds::<N, J, Process<LocalRun<A, K>>, W>(
         alloc, &mut world, work, processes, rounds, &mut lines, writer,
     )?;
     let clocks = clocks_of(alloc, world.processes())?;

@@ -3,6 +3,10 @@
 ghost use Rattle.std.specs.Prelude.{◌≡◌, ◌↔◌, ◌<◌, ◌≤◌, ℕ, Some, slice_get, length, IfOk, IfSome, OnErr};
 ghost use Rattle.std.specs.List.{All};
 ghost use Rattle.dv_bag.specs.Part.{nothing};
+ghost use Rattle.dv_bag.specs.declared.entry.Entry.{Entry as MeantEntry};
+ghost use Rattle.dv_lines.specs.Entries.{line_of};
+ghost use Rattle.dv_text.specs.Names.{tree_names};
+ghost use Rattle.dv_tree.specs.Tables.{Source};
 ghost use Rattle.dv_time.specs.Time.{end_of, rank};
 ghost use Rattle.dv_time.specs.declared.time.Time.{Time as MeantTime};
 ghost use Rattle.dv_board.specs.Jobs.{IsMergeable};
@@ -21,17 +25,16 @@ use crate::written::Written;
 use dv_bag::Bags;
 use dv_board::{Backlog, Board};
 use dv_core::{PlannedJob, ProcessHandsOver};
-use dv_lines::TraceWriter;
-use dv_link::OfJob;
+use dv_lines::{TraceWriter, TreeWords};
 use dv_proc::Channel;
 use dv_text::WriteError;
 use dv_text::laws::a_trace_is_its_pieces;
 use dv_time::Time;
-use dv_tree::Tree;
 use dv_work::{Gate, Report, run_streamed};
+use dv_written::OfJob;
 use std::alloc::{AllocError, Global};
 use std::io::Write;
-use std::marker::{Brand, PhantomData};
+use std::marker::PhantomData;
 use std::sync::Wait;
 use std::thread::{Threads, join_mut};
 
@@ -71,7 +74,7 @@ impl<N: OfJob> PlannedJob for Until<N> {
 // Runs a crew, if it has not run yet, with a board on which it posts. Tells that it has begun, and that it has ended.
 fn run_posting<
     N: OfJob + Send + Sync,
-    P: ProcessHandsOver + Send,
+    P: ProcessHandsOver<N> + Send,
     G: Gate<P>,
     R: Threads + Wait + Sync,
 >(
@@ -84,7 +87,7 @@ fn run_posting<
     gate: &G,
     board: &Board<N>,
     signals: &Signals,
-) -> Result<Left<G::Cause>, AllocError>
+) -> Result<Left<N, G::Cause>, AllocError>
 where
     P::Work: Send + Drop,
     P::Record: Send,
@@ -121,38 +124,58 @@ where
     }
 }
 
-// Writes what is posted until the run has ended, if it begins. Where it can write no more, the workers are to stop.
-fn write_or_stop<N: OfJob, R: Wait, W: Write>(
-    rt: &R,
-    alloc: Global,
-    board: &Board<N>,
-    backlog: &mut Backlog<N>,
-    signals: &Signals,
-    lines: &mut TraceWriter<'_>,
-    writer: &mut W,
-) -> Result<Written, WriteError>
-    ensures tree { lines.new ≡ lines.old }
-    ensures written { IfOk result (IsWrittenTo N.job lines.old
-        (W.contents writer.old) (W.contents writer.new)) }
-    ensures within { IfOk result (λ w.
-        rank N.job.limit w.mark ≤ end_of N.job.limit N.job.horizon) }
-    ensures err { OnErr result (IsBegun N.job lines.old
-        (W.contents writer.old) (W.contents writer.new)) }
-{
-    let written = write_news(rt, alloc, board, backlog, signals, lines, writer);
-    if written.is_err() {
-        signals.stop(rt);
+// What writes what is posted to a board. A closure that knows of it by this trait alone has no lifetime of words in its type.
+trait WritesPosts<N: OfJob> {
+    // The tree whose names it writes.
+    ghost tree: { Self → Source };
+
+    // Writes what is posted until the run is through. A write that failed stops the run.
+    fn write_posts<R: Wait, W: Write>(
+        &mut self,
+        rt: &R,
+        alloc: Global,
+        board: &Board<N>,
+        backlog: &mut Backlog<N>,
+        signals: &Signals,
+        writer: &mut W,
+    ) -> Result<Written, WriteError>
+        ensures tree { tree self.new ≡ tree self.old }
+        ensures written { IfOk result (IsWrittenTo N.job (tree self.old)
+            (W.contents writer.old) (W.contents writer.new)) }
+        ensures within { IfOk result (λ w.
+            rank N.job.limit w.mark ≤ end_of N.job.limit N.job.horizon) }
+        ensures err { OnErr result (IsBegun N.job (tree self.old)
+            (W.contents writer.old) (W.contents writer.new)) };
+}
+
+impl<'t, N: OfJob> WritesPosts<N> for TraceWriter<'t, N> {
+    ghost tree = { λ w. w };
+
+    fn write_posts<R: Wait, W: Write>(
+        &mut self,
+        rt: &R,
+        alloc: Global,
+        board: &Board<N>,
+        backlog: &mut Backlog<N>,
+        signals: &Signals,
+        writer: &mut W,
+    ) -> Result<Written, WriteError> {
+        let written = write_news(rt, alloc, board, backlog, signals, self, writer);
+        if written.is_err() {
+            signals.stop(rt);
+        }
+        written
     }
-    written
 }
 
 // Runs a crew in another thread, and writes in this one what it posts. Where no thread can be made for that, `join_mut` runs the
 // crew last; nothing is written then, since no run begins.
 fn run_and_write<
     N: OfJob + Send + Sync,
-    P: ProcessHandsOver + Send,
+    P: ProcessHandsOver<N> + Send,
     G: Gate<P>,
     R: Threads + Wait + Sync,
+    L: WritesPosts<N>,
     W: Write,
 >(
     rt: &R,
@@ -165,11 +188,11 @@ fn run_and_write<
     board: &Board<N>,
     backlog: &mut Backlog<N>,
     signals: &Signals,
-    lines: &mut TraceWriter<'_>,
+    lines: &mut L,
     writer: &mut W,
 ) -> (
     Result<Written, WriteError>,
-    Result<Left<G::Cause>, AllocError>,
+    Result<Left<N, G::Cause>, AllocError>,
 )
 where
     P::Work: Send + Drop,
@@ -180,17 +203,17 @@ where
     requires workers { 0 < length crew.works.items }
     requires bells { length crew.works.items ≤ length signals.now.bells.items }
     requires capacity { 0 < capacity }
-    ensures tree { lines.new ≡ lines.old }
-    ensures written { IfOk result.0 (IsWrittenTo N.job lines.old
+    ensures tree { L.tree lines.new ≡ L.tree lines.old }
+    ensures written { IfOk result.0 (IsWrittenTo N.job (L.tree lines.old)
         (W.contents writer.old) (W.contents writer.new)) }
     ensures within { IfOk result.0 (λ w.
         rank N.job.limit w.mark ≤ end_of N.job.limit N.job.horizon) }
-    ensures err { OnErr result.0 (IsBegun N.job lines.old
+    ensures err { OnErr result.0 (IsBegun N.job (L.tree lines.old)
         (W.contents writer.old) (W.contents writer.new)) }
     ensures report { IfOk result.1 (IsReportOf N.job) }
 {
     let mut crew = Some(crew);
-    let mut run = move || -> Result<Left<G::Cause>, AllocError>
+    let mut run = move || -> Result<Left<N, G::Cause>, AllocError>
         requires made { IfSome crew (λ c.
             AreMadeFor job_of_type P.state P.valid N.job channels.now c.processes.items) }
         requires kept { IfSome crew (λ c.
@@ -206,23 +229,83 @@ where
         )
     };
     let mut write = || -> Result<Written, WriteError>
-        ensures tree { lines.exit.now ≡ lines.entry.now }
-        ensures written { IfOk result (IsWrittenTo N.job lines.entry.now
+        ensures tree { L.tree lines.exit.now ≡ L.tree lines.entry.now }
+        ensures written { IfOk result (IsWrittenTo N.job (L.tree lines.entry.now)
             (W.contents writer.entry.now) (W.contents writer.exit.now)) }
         ensures within { IfOk result (λ w.
             rank N.job.limit w.mark ≤ end_of N.job.limit N.job.horizon) }
-        ensures err { OnErr result (IsBegun N.job lines.entry.now
+        ensures err { OnErr result (IsBegun N.job (L.tree lines.entry.now)
             (W.contents writer.entry.now) (W.contents writer.exit.now)) }
-    { write_or_stop(rt, alloc, board, backlog, signals, lines, writer) };
+    { lines.write_posts(rt, alloc, board, backlog, signals, writer) };
     let (report, written) = join_mut(rt, &mut run, &mut write);
     (written, report)
 }
 
-// Runs a crew and writes its trace while it runs. No parameter has the job in its type, so a caller can choose the job.
+/// Runs a crew of new processes of a job on threads, each turn watched, and writes the trace, with the words of a tree, while they run. So
+/// many packets may be on their way on each link; one more may be in the hand of its sender. What was written is the trace before the
+/// least of the clocks, none of which is past the end, and a run is told whole exactly where every clock is at the end.
+///
+/// # Errors
+///
+/// A write failed, or there is no memory for the links and the threads, or for a piece of the trace. All threads have ended, and
+/// the writer holds a beginning of the lines.
+pub(crate) fn stream_watched<
+    N: OfJob + Send + Sync,
+    J: PlannedJob,
+    P: ProcessHandsOver<N> + Send,
+    G: Watch,
+    R: Threads + Wait + Sync,
+    W: Write,
+>(
+    rt: &R,
+    alloc: Global,
+    job: &J,
+    channels: &[Channel],
+    crew: Crew<P, P::Work>,
+    capacity: usize,
+    gate: &Watched<'_, G>,
+    words: &TreeWords,
+    writer: &mut W,
+) -> Result<Worked<G::Cause>, WriteError>
+where
+    P::Work: Send + Drop,
+    P::Record: Send,
+    requires job { N.job ≡ J.means job.now }
+    requires lines { (e : MeantEntry) → line_of (tree_names words.now) e ≡ N.line e }
+    requires made { AreMadeFor J.means P.state P.valid job.now channels.now
+        crew.processes.items }
+    requires merges { IsMergeable (J.means job.now) }
+    requires some { 0 < (J.means job.now).processes }
+    requires kept { All (λ x. (P.handed x).past ≡ nothing) crew.processes.items }
+    requires workers { 0 < length crew.works.items }
+    requires capacity { 0 < capacity }
+    ensures written { IfOk result (λ w. IsWrittenTo (J.means job.now) words.now
+        (W.contents writer.old) (W.contents writer.new) w.written) }
+    ensures some_clocks { IfOk result (λ w. 0 < length w.clocks.items) }
+    ensures count { IfOk result (λ w. length w.clocks.items ≡ (J.means job.now).processes) }
+    ensures least { IfOk result (λ w. rank (J.means job.now).limit w.written.mark
+        ≡ least_rank (J.means job.now).limit w.clocks.items) }
+    ensures within { IfOk result (λ w. AreWithin (J.means job.now).horizon
+        (J.means job.now).limit w.clocks.items) }
+    ensures whole { IfOk result (λ w. (w.ended ≡ Whole)
+        ↔ ((p : ℕ) (t : MeantTime) → slice_get w.clocks.items p ≡ Some t
+        → t ≡ end_time (J.means job.now))) }
+    ensures err { OnErr result (IsBegun (J.means job.now) words.now
+        (W.contents writer.old) (W.contents writer.new)) }
+{
+    stream_crew::<N, J, P, Watched<'_, G>, R, W>(
+        rt, alloc, job, channels, crew, capacity, gate, words, writer,
+    )
+}
+
+// Runs a crew of new processes of a job on threads behind a gate, and writes the trace, with the words of a tree, while they run. So many
+// packets may be on their way on each link; one more may be in the hand of its sender. What was written is the trace before the least of
+// the clocks, none of which is past the end, and a run is told whole exactly where every clock is at the end. Where a write failed, or
+// memory is refused, all threads have ended, and the writer holds a beginning of the lines.
 fn stream_crew<
     N: OfJob + Send + Sync,
     J: PlannedJob,
-    P: ProcessHandsOver + Send,
+    P: ProcessHandsOver<N> + Send,
     G: Gate<P>,
     R: Threads + Wait + Sync,
     W: Write,
@@ -234,13 +317,14 @@ fn stream_crew<
     crew: Crew<P, P::Work>,
     capacity: usize,
     gate: &G,
-    tree: &Tree,
+    words: &TreeWords,
     writer: &mut W,
 ) -> Result<Worked<G::Cause>, WriteError>
 where
     P::Work: Send + Drop,
     P::Record: Send,
     requires job { N.job ≡ J.means job.now }
+    requires lines { (e : MeantEntry) → line_of (tree_names words.now) e ≡ N.line e }
     requires made { AreMadeFor J.means P.state P.valid job.now channels.now
         crew.processes.items }
     requires merges { IsMergeable (J.means job.now) }
@@ -248,7 +332,7 @@ where
     requires kept { All (λ x. (P.handed x).past ≡ nothing) crew.processes.items }
     requires workers { 0 < length crew.works.items }
     requires capacity { 0 < capacity }
-    ensures written { IfOk result (λ w. IsWrittenTo (J.means job.now) tree.now
+    ensures written { IfOk result (λ w. IsWrittenTo (J.means job.now) words.now
         (W.contents writer.old) (W.contents writer.new) w.written) }
     ensures some_clocks { IfOk result (λ w. 0 < length w.clocks.items) }
     ensures count { IfOk result (λ w. length w.clocks.items ≡ (J.means job.now).processes) }
@@ -259,7 +343,7 @@ where
     ensures whole { IfOk result (λ w. (w.ended ≡ Whole)
         ↔ ((p : ℕ) (t : MeantTime) → slice_get w.clocks.items p ≡ Some t
         → t ≡ end_time (J.means job.now))) }
-    ensures err { OnErr result (IsBegun (J.means job.now) tree.now
+    ensures err { OnErr result (IsBegun (J.means job.now) words.now
         (W.contents writer.old) (W.contents writer.new)) }
 {
     // Lines are continued by those of the next piece.
@@ -268,7 +352,7 @@ where
     let board: Board<N> = Board::new(alloc);
     let mut backlog: Backlog<N> = Backlog::new(alloc, processes)?;
     let signals = Signals::new(alloc, crew.processes.len(), crew.works.len())?;
-    let mut lines = TraceWriter::new(alloc, tree)?;
+    let mut lines = TraceWriter::new(alloc, words)?;
     let until: Until<N> = Until {
         tick: job.horizon(),
         of: PhantomData,
@@ -311,61 +395,4 @@ where
         ended,
         written,
     })
-}
-
-/// Runs new processes of a job on threads, a worker for each of the crew's `works`, and writes the trace, with the names of a
-/// tree, while they run. Process p belongs to worker p mod the number of workers. So many packets may be on their way on each link;
-/// one more may be in the hand of its sender. `watch` may watch each turn and stop the run for a cause; of several causes that of the
-/// worker with the least number is told. Whatever it does, and whatever the timing of the threads, what was written is the trace
-/// before the least of the clocks, none of which is past the end, and a run is told whole exactly where every clock is at the end.
-///
-/// # Errors
-///
-/// A write failed, or there is no memory for the links and the threads, or for a piece of the trace. All threads have ended, and
-/// the writer holds a beginning of the lines.
-pub fn stream_workers<
-    J: PlannedJob,
-    P: ProcessHandsOver + Send,
-    G: Watch,
-    R: Threads + Wait + Sync,
-    W: Write,
->(
-    rt: &R,
-    alloc: Global,
-    job: &J,
-    channels: &[Channel],
-    crew: Crew<P, P::Work>,
-    capacity: usize,
-    watch: &G,
-    tree: &Tree,
-    writer: &mut W,
-) -> Result<Worked<G::Cause>, WriteError>
-where
-    P::Work: Send + Drop,
-    P::Record: Send,
-    requires made { AreMadeFor J.means P.state P.valid job.now channels.now
-        crew.processes.items }
-    requires merges { IsMergeable (J.means job.now) }
-    requires some { 0 < (J.means job.now).processes }
-    requires kept { All (λ x. (P.handed x).past ≡ nothing) crew.processes.items }
-    requires workers { 0 < length crew.works.items }
-    requires capacity { 0 < capacity }
-    ensures written { IfOk result (λ w. IsWrittenTo (J.means job.now) tree.now
-        (W.contents writer.old) (W.contents writer.new) w.written) }
-    ensures some_clocks { IfOk result (λ w. 0 < length w.clocks.items) }
-    ensures count { IfOk result (λ w. length w.clocks.items ≡ (J.means job.now).processes) }
-    ensures least { IfOk result (λ w. rank (J.means job.now).limit w.written.mark
-        ≡ least_rank (J.means job.now).limit w.clocks.items) }
-    ensures within { IfOk result (λ w. AreWithin (J.means job.now).horizon
-        (J.means job.now).limit w.clocks.items) }
-    ensures whole { IfOk result (λ w. (w.ended ≡ Whole)
-        ↔ ((p : ℕ) (t : MeantTime) → slice_get w.clocks.items p ≡ Some t
-        → t ≡ end_time (J.means job.now))) }
-    ensures err { OnErr result (IsBegun (J.means job.now) tree.now
-        (W.contents writer.old) (W.contents writer.new)) }
-{
-    let gate = Watched { watch };
-    stream_crew::<Brand, J, P, Watched<'_, G>, R, W>(
-        rt, alloc, job, channels, crew, capacity, &gate, tree, writer,
-    )
 }

@@ -3,16 +3,17 @@
 ghost use Rattle.std.specs.Prelude.{◌≡◌, ◌||◌, IfOk, OnErr, OnOk};
 ghost use Rattle.std.specs.Io.KnownBytes.{Appends};
 ghost use Rattle.dv_bag.specs.Part.{IsByTime};
-ghost use Rattle.dv_stream.specs.Faults.{has_fault};
+ghost use Rattle.dv_written.specs.Faults.{has_fault};
 ghost use Rattle.dv_text.specs.Names.{tree_names, tree_ports};
 ghost use Rattle.dv_text.specs.Texts.{part_text};
 ghost use Rattle.dv_text.specs.Writing.{AppendsBeginning};
 
 use crate::faults::has_fault;
 use dv_lines::TraceWriter;
-use dv_slice::PartSlice;
+use dv_merge::PartSlice;
 use dv_text::WriteError;
 use dv_time::Time;
+use dv_written::OfJob;
 use std::io::Write;
 
 /// Up to when the trace was written: all that is before the mark, and nothing since it.
@@ -36,11 +37,11 @@ impl Written {
 /// # Errors
 ///
 /// A write failed, or there is no memory for a line. The writer holds a beginning of the lines.
-pub fn write_piece<W: Write>(
+pub fn write_piece<N: OfJob, W: Write>(
     before: Written,
-    piece: &PartSlice<'_>,
+    piece: &PartSlice<'_, N>,
     mark: Time,
-    lines: &mut TraceWriter<'_>,
+    lines: &mut TraceWriter<'_, N>,
     writer: &mut W,
 ) -> Result<Written, WriteError>
     requires by_time { IsByTime piece.now }

@@ -9,6 +9,8 @@ mod names;
 mod numbers;
 /// The pieces of a line.
 mod pieces;
+/// How far a trace reaches.
+pub mod reach;
 /// The reader.
 pub mod reader;
 /// Why a trace is refused.
@@ -17,5 +19,6 @@ pub mod refusal;
 mod values;
 
 pub use line::{Datum, Entry, Happening, Outside, Sending, TraceLine, Values};
+pub use reach::{End, Reach, read_part};
 pub use reader::{TraceReader, check_trace};
 pub use refusal::{TraceError, TraceReason, TraceRefusal};

@@ -4,6 +4,7 @@ use crate::line::{Entry, Happening, Outside, TraceLine};
 use crate::names::Directory;
 use crate::numbers::{number_in, tick_in, time_in};
 use crate::pieces::{Sender, sendings_in, sent_behind, split_state, split_word};
+use crate::reach::{End, Reach, read_part};
 use crate::refusal::{LineError, TraceError, TraceReason, TraceRefusal};
 use dv_bag::{Fault, Kind};
 use dv_eval::Scope;
@@ -17,8 +18,9 @@ enum Last {
     Nothing,
     Entry(Time, u32),
     Outside(Time),
-    Clock,
-    End,
+    // A clock: the least one so far, and the time of the last line before the clocks, where there is one.
+    Clock { least: Time, before: Option<Time> },
+    End(Reach),
 }
 
 /// Reads the lines of a trace of a model, one after the other. Besides the names of the model it keeps of the lines
@@ -63,15 +65,16 @@ impl<'t> TraceReader<'t> {
         }
     }
 
-    /// The trace ends behind the last line.
+    /// The trace ends behind the last line. How far it reaches is returned.
     ///
     /// # Errors
     ///
-    /// `Refused` where that line is no end.
-    pub fn end(&self) -> Result<(), TraceError> {
-        match self.last {
-            Last::End => Ok(()),
-            _ => Err(self.refused(TraceReason::NoEnd)),
+    /// `Refused` where that line is no end, and one is required.
+    pub fn end(&self, end: End) -> Result<Reach, TraceError> {
+        match (self.last, end) {
+            (Last::End(reach), _) => Ok(reach),
+            (_, End::Required) => Err(self.refused(TraceReason::NoEnd)),
+            (last, End::Optional) => Ok(Reach::NoEnd(last.time())),
         }
     }
 
@@ -91,8 +94,10 @@ impl<'t> TraceReader<'t> {
             return Ok(TraceLine::Empty);
         }
         match self.last {
-            Last::End => Err(LineError::Refused(TraceReason::AfterEnd)),
-            Last::Nothing | Last::Entry(..) | Last::Outside(_) | Last::Clock => self.text_of(text),
+            Last::End(_) => Err(LineError::Refused(TraceReason::AfterEnd)),
+            Last::Nothing | Last::Entry(..) | Last::Outside(_) | Last::Clock { .. } => {
+                self.text_of(text)
+            }
         }
     }
 
@@ -113,7 +118,7 @@ impl<'t> TraceReader<'t> {
         if !self.last.is_within(horizon) {
             return Err(LineError::Refused(TraceReason::Order));
         }
-        self.last = Last::End;
+        self.last = Last::End(Reach::Whole(horizon));
         Ok(TraceLine::Whole(horizon))
     }
 
@@ -121,7 +126,7 @@ impl<'t> TraceReader<'t> {
         if !rest.is_empty() {
             return Err(LineError::Refused(TraceReason::Form));
         }
-        self.last = Last::End;
+        self.last = Last::End(Reach::Partial(self.last.clock()));
         Ok(TraceLine::Partial)
     }
 
@@ -137,7 +142,13 @@ impl<'t> TraceReader<'t> {
         let Some(clock) = time_in(clock, GREATEST_TICK + 1) else {
             return Err(LineError::Refused(TraceReason::Time));
         };
-        self.last = Last::Clock;
+        self.last = Last::Clock {
+            least: match self.last.clock() {
+                Some(least) if least.is_before(clock) => least,
+                Some(_) | None => clock,
+            },
+            before: self.last.time(),
+        };
         Ok(TraceLine::Clock(clock))
     }
 
@@ -250,6 +261,23 @@ impl<'t> TraceReader<'t> {
 }
 
 impl Last {
+    // The least clock so far.
+    fn clock(self) -> Option<Time> {
+        match self {
+            Last::Clock { least, .. } => Some(least),
+            Last::Nothing | Last::Entry(..) | Last::Outside(_) | Last::End(_) => None,
+        }
+    }
+
+    // The time of the last line that has one: all that happened before it has been read.
+    fn time(self) -> Option<Time> {
+        match self {
+            Last::Entry(time, _) | Last::Outside(time) => Some(time),
+            Last::Clock { before, .. } => before,
+            Last::Nothing | Last::End(_) => None,
+        }
+    }
+
     // Whether the line of a component may be next.
     fn is_before_entry(self, time: Time, component: u32) -> bool {
         match self {
@@ -258,7 +286,7 @@ impl Last {
                 last.is_before(time) || (last == time && other < component)
             }
             Last::Outside(last) => last.is_before(time),
-            Last::Clock | Last::End => false,
+            Last::Clock { .. } | Last::End(_) => false,
         }
     }
 
@@ -268,7 +296,7 @@ impl Last {
             Last::Nothing => true,
             Last::Entry(last, _) => last.is_before(time) || last == time,
             Last::Outside(last) => last.is_before(time),
-            Last::Clock | Last::End => false,
+            Last::Clock { .. } | Last::End(_) => false,
         }
     }
 
@@ -277,24 +305,30 @@ impl Last {
         match self {
             Last::Nothing => true,
             Last::Entry(last, _) | Last::Outside(last) => last.tick <= horizon,
-            Last::Clock | Last::End => false,
+            Last::Clock { .. } | Last::End(_) => false,
         }
     }
 }
 
-/// Reads a trace of the model of a tree to its end.
+/// Reads a trace of the model of a tree to its end, or up to its last line feed where it need not have one. How far it reaches is
+/// returned.
 ///
 /// # Errors
 ///
-/// `Refused` at the first line that `TraceReader::read_line` refuses, or where the trace has no end. `Memory`: no memory for
-/// the names or a line.
-pub fn check_trace(alloc: Global, tree: &Tree<'_>, trace: &[u8]) -> Result<(), TraceError> {
+/// `Refused` at the first line that `TraceReader::read_line` refuses, or where the trace has no end and one is required.
+/// `Memory`: no memory for the names or a line.
+pub fn check_trace(
+    alloc: Global,
+    tree: &Tree<'_>,
+    trace: &[u8],
+    end: End,
+) -> Result<Reach, TraceError> {
     let mut reader = TraceReader::new(alloc, tree)?;
-    for line in trace.split(|byte| *byte == b'\n') {
+    for line in read_part(trace, end).split(|byte| *byte == b'\n') {
         match reader.read_line(line) {
             Ok(_) => {}
             Err(error) => return Err(error),
         }
     }
-    reader.end()
+    reader.end(end)
 }

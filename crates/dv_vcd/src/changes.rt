@@ -1,14 +1,18 @@
 //! The changes of values, line after line of a trace.
 
-use crate::shown::{Shown, Standing};
-use crate::values::{push_datum, push_standing, push_string};
-use dv_trace::{Datum, Entry, Happening, Outside, Sending};
+use crate::arrivals::arrivals_of;
+use crate::forms::Form;
+use crate::ports::Ports;
+use crate::shown::{AllShown, Shown, Standing};
+use crate::survey::tick_behind;
+use crate::values::{
+    push_count, push_datum, push_integer, push_nothing, push_standing, push_string, push_unknown,
+};
+use dv_bag::Input;
+use dv_trace::{Datum, Entry, Happening, Outside, Reach, Sending};
 use dv_tree::Tree;
 use indexmap::IndexMap;
 use std::alloc::{AllocError, Global};
-
-/// What stands for a port at which nothing leaves. No values are written so.
-const NOTHING: &str = "-";
 
 /// The text of the changes so far, as far as the writer has it not yet, and what is shown behind them.
 #[derive(Drop)]
@@ -16,12 +20,14 @@ pub(crate) struct Changes<'a> {
     pub(crate) text: String,
     alloc: Global,
     tree: &'a Tree<'a>,
-    components: Vec<Shown<'a>>,
-    // The code of the root's first output port.
-    outputs: u64,
+    shown: AllShown<'a>,
+    ports: Ports,
+    // The inputs, where they are shown, and how many of them have arrived.
+    inputs: Option<&'a [Input]>,
+    arrived: usize,
     // The tick at which the text is.
     tick: u64,
-    // What left by ports in this tick, by the codes of the ports.
+    // What passed in this tick by ports that are texts, by their codes.
     marks: IndexMap<u64, String>,
 }
 
@@ -31,15 +37,18 @@ impl<'a> Changes<'a> {
         alloc: Global,
         tree: &'a Tree<'a>,
         text: String,
-        components: Vec<Shown<'a>>,
-        outputs: u64,
+        shown: AllShown<'a>,
+        ports: Ports,
+        inputs: Option<&'a [Input]>,
     ) -> Self {
         Changes {
             text,
             alloc,
             tree,
-            components,
-            outputs,
+            shown,
+            ports,
+            inputs,
+            arrived: 0,
             tick: 0,
             marks: IndexMap::new(alloc),
         }
@@ -48,25 +57,67 @@ impl<'a> Changes<'a> {
     /// What everything shows at the start.
     pub(crate) fn start(&mut self) -> Result<(), AllocError> {
         self.text.push_str("#0\n$dumpvars\n")?;
-        for port in 0..self.tree.output_count() {
-            let code = self.outputs.saturating_add(port as u64);
-            push_string(&mut self.text, NOTHING, code)?;
+        if self.inputs.is_some() {
+            let count = self.tree.input_count();
+            push_ports(&mut self.text, &self.ports, self.shown.inputs, count)?;
         }
-        for (component, shown) in self.components.iter().enumerate() {
-            let ports = output_count(self.tree, component);
-            push_start(&mut self.text, shown, ports)?;
+        let count = self.tree.output_count();
+        push_ports(&mut self.text, &self.ports, self.shown.outputs, count)?;
+        for (component, shown) in self.shown.components.iter().enumerate() {
+            push_start(&mut self.text, shown)?;
+            let count = output_count(self.tree, component);
+            push_ports(&mut self.text, &self.ports, shown.port(0), count)?;
         }
         self.text.push_str("$end\n")
     }
 
-    /// Goes on to a tick. What left by ports before is shown no longer than its tick.
+    /// Goes on to a tick, by the inputs that arrive up to it.
     pub(crate) fn advance(&mut self, tick: u64) -> Result<(), AllocError> {
+        self.take_inputs(tick)?;
+        self.go_to(tick)
+    }
+
+    /// Goes on behind a trace that reaches so far, by the inputs that arrive before its end.
+    pub(crate) fn finish(&mut self, reach: Reach) -> Result<(), AllocError> {
+        let behind = tick_behind(reach, self.tick);
+        self.take_inputs(behind.saturating_sub(1))?;
+        self.go_to(behind)
+    }
+
+    // The inputs that arrive up to a tick.
+    fn take_inputs(&mut self, tick: u64) -> Result<(), AllocError> {
+        let Some(inputs) = self.inputs else {
+            return Ok(());
+        };
+        let rest = inputs.get(self.arrived..).unwrap_or(&[]);
+        match rest.first() {
+            Some(next) if next.time.tick <= tick => self.arrive(rest, tick),
+            Some(_) | None => Ok(()),
+        }
+    }
+
+    // The inputs that arrive up to a tick, of those that have not arrived yet.
+    fn arrive(&mut self, rest: &[Input], tick: u64) -> Result<(), AllocError> {
+        for together in rest.chunk_by(|input, next| input.time == next.time) {
+            match together.first() {
+                Some(first) if first.time.tick <= tick => self.go_to(first.time.tick)?,
+                Some(_) | None => break,
+            }
+            self.arrived = self.arrived.saturating_add(together.len());
+            for arrival in arrivals_of(self.alloc, together)? {
+                let code = self.shown.inputs.saturating_add(u64::from(arrival.port));
+                self.pass(code, arrival.values.as_str())?;
+            }
+        }
+        Ok(())
+    }
+
+    // Goes on to a tick. What passed by ports before that are marked is shown no longer than its tick.
+    fn go_to(&mut self, tick: u64) -> Result<(), AllocError> {
         if tick <= self.tick {
             return Ok(());
         }
         if !self.marks.is_empty() {
-            self.tick = self.tick.saturating_add(1);
-            writeln!(self.text, "#{}", self.tick)?;
             self.clear_marks()?;
         }
         if tick > self.tick {
@@ -76,14 +127,13 @@ impl<'a> Changes<'a> {
         Ok(())
     }
 
-    /// Goes on to the first tick behind the trace, and at least one tick.
-    pub(crate) fn finish(&mut self, tick: u64) -> Result<(), AllocError> {
-        self.advance(tick.max(self.tick.saturating_add(1)))
-    }
-
     fn clear_marks(&mut self) -> Result<(), AllocError> {
-        for code in self.marks.keys() {
-            push_string(&mut self.text, NOTHING, *code)?;
+        if !self.ports.are_held() {
+            self.tick = self.tick.saturating_add(1);
+            writeln!(self.text, "#{}", self.tick)?;
+            for code in self.marks.keys() {
+                push_nothing(&mut self.text, *code)?;
+            }
         }
         self.marks.clear();
         Ok(())
@@ -99,7 +149,7 @@ impl<'a> Changes<'a> {
         } = entry;
         self.advance(time.tick)?;
         let component = component as usize;
-        let Some(shown) = self.components.get_mut(component) else {
+        let Some(shown) = self.shown.components.get_mut(component) else {
             return Ok(());
         };
         match happening {
@@ -118,19 +168,30 @@ impl<'a> Changes<'a> {
     /// What leaves the model.
     pub(crate) fn outside(&mut self, outside: &Outside<'a>) -> Result<(), AllocError> {
         self.advance(outside.time.tick)?;
-        self.sent(self.outputs, &outside.sent)
+        self.sent(self.shown.outputs, &outside.sent)
     }
 
     // What leaves by ports whose codes are from a first one on.
     fn sent(&mut self, first: u64, sent: &[Sending<'_>]) -> Result<(), AllocError> {
         for sending in sent {
             let code = first.saturating_add(sending.port as u64);
-            self.mark(code, sending.values.text)?;
+            self.pass(code, sending.values.text)?;
         }
         Ok(())
     }
 
-    // Values that leave by a port, behind those that left in the same tick.
+    // Values of one time that pass by a port.
+    fn pass(&mut self, code: u64, values: &str) -> Result<(), AllocError> {
+        match self.ports.form(code) {
+            Form::Text | Form::Wire => self.mark(code, values),
+            Form::Integer => match values.parse::<i64>() {
+                Ok(value) => push_integer(&mut self.text, value, code),
+                Err(_) => push_unknown(&mut self.text, code),
+            },
+        }
+    }
+
+    // Values that pass by a port that is a text, behind those that passed in the same tick.
     fn mark(&mut self, code: u64, values: &str) -> Result<(), AllocError> {
         match self.marks.get_mut(&code) {
             Some(mark) => {
@@ -156,14 +217,31 @@ fn output_count(tree: &Tree, component: usize) -> usize {
     }
 }
 
-// What a component shows at the start.
-fn push_start(text: &mut String, shown: &Shown<'_>, ports: usize) -> Result<(), AllocError> {
+// What so many ports show at the start, of which the first has this code.
+fn push_ports(
+    text: &mut String,
+    ports: &Ports,
+    first: u64,
+    count: usize,
+) -> Result<(), AllocError> {
+    for port in 0..count {
+        let code = first.saturating_add(port as u64);
+        match ports.form(code) {
+            Form::Text => push_nothing(text, code)?,
+            Form::Integer | Form::Wire => push_unknown(text, code)?,
+        }
+    }
+    Ok(())
+}
+
+// What a component shows at the start, but for its ports.
+fn push_start(text: &mut String, shown: &Shown<'_>) -> Result<(), AllocError> {
     push_standing(text, shown.standing, shown.first)?;
     for (place, datum) in shown.state.iter().enumerate() {
-        push_datum(text, *datum, shown.variable(place))?;
-    }
-    for port in 0..ports {
-        push_string(text, NOTHING, shown.port(port))?;
+        push_datum(text, shown.form(place), *datum, shown.variable(place))?;
+        if let Datum::Held(values) = datum {
+            push_count(text, values.count, shown.size(place))?;
+        }
     }
     Ok(())
 }
@@ -196,8 +274,26 @@ fn push_state(text: &mut String, shown: &Shown<'_>, state: &[Datum<'_>]) -> Resu
     for (place, datum) in state.iter().enumerate() {
         match shown.state.get(place) {
             Some(before) if before == datum => {}
-            Some(_) | None => push_datum(text, *datum, shown.variable(place))?,
+            Some(before) => push_change(text, shown, place, *before, *datum)?,
+            None => {}
         }
     }
     Ok(())
+}
+
+// Writes the value of a variable, which has changed, and its size, if that has changed.
+fn push_change(
+    text: &mut String,
+    shown: &Shown<'_>,
+    place: usize,
+    before: Datum<'_>,
+    datum: Datum<'_>,
+) -> Result<(), AllocError> {
+    push_datum(text, shown.form(place), datum, shown.variable(place))?;
+    match (before, datum) {
+        (Datum::Held(before), Datum::Held(values)) if before.count != values.count => {
+            push_count(text, values.count, shown.size(place))
+        }
+        (Datum::Held(_) | Datum::Number(_) | Datum::Flag(_), _) => Ok(()),
+    }
 }

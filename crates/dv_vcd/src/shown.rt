@@ -1,5 +1,6 @@
 //! What is shown of each component, and under which codes.
 
+use crate::forms::Form;
 use dv_bag::Fault;
 use dv_eval::Domain;
 use dv_trace::{Datum, Values};
@@ -13,13 +14,14 @@ pub(crate) enum Standing<'a> {
     Fault(Fault),
 }
 
-/// What a component shows now. Its codes follow each other: its phase, its variables, flags, bags and queues, and its output
-/// ports.
+/// What a component shows now. Its codes follow each other: its phase, its variables, flags, bags and queues, the sizes of
+/// these, where only those of bags and queues are used, and its output ports.
 #[derive(Drop)]
 pub(crate) struct Shown<'a> {
     /// The code of the phase.
     pub(crate) first: u64,
     pub(crate) standing: Standing<'a>,
+    pub(crate) domains: &'a [Domain],
     pub(crate) state: Vec<Datum<'a>>,
 }
 
@@ -29,34 +31,58 @@ impl Shown<'_> {
         self.first.saturating_add(1).saturating_add(place as u64)
     }
 
+    /// The code of the size of the bag or the queue at a place.
+    pub(crate) fn size(&self, place: usize) -> u64 {
+        self.variable(self.domains.len())
+            .saturating_add(place as u64)
+    }
+
     /// The code of the output port at a place.
     pub(crate) fn port(&self, place: usize) -> u64 {
-        self.variable(self.state.len()).saturating_add(place as u64)
+        self.size(self.domains.len()).saturating_add(place as u64)
+    }
+
+    /// The form of the variable at a place.
+    pub(crate) fn form(&self, place: usize) -> Form {
+        match self.domains.get(place) {
+            Some(domain) => Form::of(*domain),
+            None => Form::Text,
+        }
     }
 }
 
-/// What all components show at the start, and the first code that none of them has.
+/// What all components show at the start, the first codes of the root's output ports and of its input ports, and the first code
+/// behind all.
 #[derive(Drop)]
 pub(crate) struct AllShown<'a> {
     pub(crate) components: Vec<Shown<'a>>,
+    pub(crate) outputs: u64,
+    pub(crate) inputs: u64,
     pub(crate) behind: u64,
 }
 
 /// What the components of a model show at the start.
 pub(crate) fn all_shown<'a>(alloc: Global, tree: &'a Tree<'a>) -> Result<AllShown<'a>, AllocError> {
     let mut components = Vec::with_capacity(alloc, tree.component_count())?;
-    let mut behind: u64 = 0;
+    let mut outputs: u64 = 0;
     for component in 0..tree.component_count() {
         let scope = tree.scope(component);
         let shown = Shown {
-            first: behind,
+            first: outputs,
             standing: Standing::Phase(start_phase(tree, component)),
+            domains: scope.domains(),
             state: start_state(alloc, scope.domains())?,
         };
-        behind = shown.port(scope.output_count());
+        outputs = shown.port(scope.output_count());
         components.push(shown)?;
     }
-    Ok(AllShown { components, behind })
+    let inputs = outputs.saturating_add(tree.output_count() as u64);
+    Ok(AllShown {
+        components,
+        outputs,
+        inputs,
+        behind: inputs.saturating_add(tree.input_count() as u64),
+    })
 }
 
 fn start_phase<'t>(tree: &'t Tree<'t>, component: usize) -> &'t str {

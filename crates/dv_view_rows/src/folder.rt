@@ -1,48 +1,9 @@
-//! The views of a folder: of the model (`model.pd`) its graph (`graph.dot`) and its graph in two processes (`two_processes.dot`), and
-//! of its trace (`trace.txt`) the value change dump (`trace.vcd`) and the numbers (`stats.txt` and `stats.csv`).
+//! The views of a folder, each compared with the file beside its model, its trace and its inputs.
 
-use dv_partition::Partition;
-use dv_views::{Form, ViewError, graph_bytes, stats_bytes, vcd_bytes};
+use crate::view::{Texts, View, write_view};
 use std::alloc::{AllocError, Global};
 use std::rt::Files;
 use std::{fs, io};
-
-/// The model and the trace of a folder.
-#[derive(Drop)]
-struct Texts {
-    model: Vec<u8>,
-    trace: Vec<u8>,
-}
-
-/// Which view.
-#[derive(Clone, Copy)]
-enum View {
-    Graph,
-    TwoProcesses,
-    Dump,
-    Columns,
-    Csv,
-}
-
-impl View {
-    const ALL: [View; 5] = [
-        View::Graph,
-        View::TwoProcesses,
-        View::Dump,
-        View::Columns,
-        View::Csv,
-    ];
-
-    fn file(self) -> &'static str {
-        match self {
-            View::Graph => "graph.dot",
-            View::TwoProcesses => "two_processes.dot",
-            View::Dump => "trace.vcd",
-            View::Columns => "stats.txt",
-            View::Csv => "stats.csv",
-        }
-    }
-}
 
 /// Makes the views of a folder. A view that has no file there is left out. Tells how many are as shown, and answers whether all
 /// are.
@@ -50,6 +11,8 @@ pub fn is_as_shown<R: AllocGlobal + Files + Print>(rt: &R, folder: &str) -> io::
     let texts = Texts {
         model: bytes_of(rt, folder, "model.pd")?,
         trace: bytes_of(rt, folder, "trace.txt")?,
+        inputs: bytes_of(rt, folder, "inputs.txt").ok(),
+        only: line_of(rt, folder, "only.txt")?,
     };
     let mut shown: u32 = 0;
     let mut is_well = true;
@@ -74,28 +37,18 @@ fn bytes_of<R: AllocGlobal + Files>(rt: &R, folder: &str, file: &str) -> io::Res
     fs::read(rt, format!(in rt.alloc(); "{folder}/{file}")?.as_str())
 }
 
+/// The line of a file in a folder; an empty one where there is no such file.
+fn line_of<R: AllocGlobal + Files>(rt: &R, folder: &str, file: &str) -> io::Result<String> {
+    let text = bytes_of(rt, folder, file).unwrap_or(Vec::new(rt.alloc()));
+    let line = str::from_utf8(&text).unwrap_or("");
+    Ok(String::from_str(rt.alloc(), line.trim_end())?)
+}
+
 /// A view, or the line of its error.
 fn outcome_of(alloc: Global, view: View, texts: &Texts) -> Result<String, AllocError> {
     let mut written = Vec::new(alloc);
     match write_view(alloc, view, texts, &mut written) {
         Ok(()) => String::from_str(alloc, str::from_utf8(&written).unwrap_or("not text\n")),
         Err(error) => format!(in alloc; "pdevs: {error}\n"),
-    }
-}
-
-fn write_view(
-    alloc: Global,
-    view: View,
-    texts: &Texts,
-    written: &mut Vec<u8>,
-) -> Result<(), ViewError> {
-    let model = texts.model.as_slice();
-    let trace = texts.trace.as_slice();
-    match view {
-        View::Graph => graph_bytes(alloc, model, None, written),
-        View::TwoProcesses => graph_bytes(alloc, model, Some(Partition::Count(2)), written),
-        View::Dump => vcd_bytes(alloc, model, trace, written),
-        View::Columns => stats_bytes(alloc, model, trace, Form::Columns, written),
-        View::Csv => stats_bytes(alloc, model, trace, Form::Csv, written),
     }
 }

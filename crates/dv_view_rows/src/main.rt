@@ -1,12 +1,19 @@
 //! Compares the views of models and of traces with those that lie beside them.
 //!
-//! Each word names a folder with a model, a trace and their views, or a file (`.txt`) with traces that are refused.
+//! Each word names a folder with a model, a trace and their views; the file `warned.txt` with models and what is told of them;
+//! the file `timescales.txt` with texts of time scales; or another file (`.txt`) with traces that are refused.
 #![tactic(auto)]
 
 /// The views of a folder.
 mod folder;
 /// Traces that are refused.
 mod refused;
+/// Texts of time scales.
+mod timescales;
+/// The views that a folder may have.
+mod view;
+/// Models of which something is told.
+mod warned;
 
 use std::io;
 use std::process::ExitCode;
@@ -15,7 +22,11 @@ fn main(rt: HostRuntime) -> io::Result<ExitCode> {
     let words: Vec<String> = std::env::args(&rt)?.skip(1).collect(rt.alloc())?;
     let mut is_well = true;
     for word in &words {
-        let is_same = if word.as_str().ends_with(".txt") {
+        let is_same = if word.as_str() == "warned.txt" {
+            warned::are_as_told(&rt, word.as_str())?
+        } else if word.as_str() == "timescales.txt" {
+            timescales::are_as_told(&rt, word.as_str())?
+        } else if word.as_str().ends_with(".txt") {
             refused::are_as_told(&rt, word.as_str())?
         } else {
             folder::is_as_shown(&rt, word.as_str())?

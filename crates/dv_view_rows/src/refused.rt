@@ -1,10 +1,20 @@
 //! Traces that are refused. A line that begins with `= ` tells what is answered; what follows, up to the next one, is the trace,
 //! whose last line has a line feed. What stands before the first of them is the model.
 
-use dv_views::{Form, ViewError, stats_bytes, vcd_bytes};
+use crate::view::{EVENTS, WHOLE};
+use dv_trace::{End, Reach};
+use dv_views::{
+    TableForm, TableOptions, ViewError, WaveOptions, stats_bytes, table_bytes, vcd_bytes,
+};
 use std::alloc::{AllocError, Global};
 use std::rt::Files;
 use std::{fs, io};
+
+/// The dump in which ports hold their values.
+const LEVELS: WaveOptions<'static> = WaveOptions {
+    holds_ports: true,
+    ..EVENTS
+};
 
 /// What the file has told so far.
 #[derive(Drop)]
@@ -53,15 +63,17 @@ fn compare<R: AllocGlobal + Print>(rt: &R, telling: &mut Telling) -> io::Result<
         return Ok(());
     };
     let model = telling.model.as_str();
-    let counted = counted(rt.alloc(), model, telling.trace.as_str())?;
-    let dumped = dumped(rt.alloc(), model, telling.trace.as_str())?;
-    if counted == *wanted && dumped == *wanted {
+    let trace = telling.trace.as_str();
+    let counted = counted(rt.alloc(), model, trace)?;
+    let marked = dumped(rt.alloc(), model, trace, &EVENTS)?;
+    let held = dumped(rt.alloc(), model, trace, &LEVELS)?;
+    let tabled = tabled(rt.alloc(), model, trace)?;
+    if counted == *wanted && marked == *wanted && held == *wanted && tabled == *wanted {
         telling.holding = telling.holding.saturating_add(1);
     } else {
         telling.is_well = false;
         println!(rt;
-            "{}is answered\n{counted}\n{dumped}\nand not\n{wanted}",
-            telling.trace
+            "{trace}is answered\n{counted}\n{marked}\n{held}\n{tabled}\nand not\n{wanted}"
         )?;
     }
     Ok(())
@@ -74,27 +86,56 @@ fn counted(alloc: Global, model: &str, trace: &str) -> Result<String, AllocError
         alloc,
         model.as_bytes(),
         trace.as_bytes(),
-        Form::Csv,
+        &WHOLE,
         &mut written,
     );
     told(alloc, outcome, written.is_empty())
 }
 
 /// What is answered where the dump of a trace is asked for.
-fn dumped(alloc: Global, model: &str, trace: &str) -> Result<String, AllocError> {
+fn dumped(
+    alloc: Global,
+    model: &str,
+    trace: &str,
+    options: &WaveOptions<'_>,
+) -> Result<String, AllocError> {
     let mut written = Vec::new(alloc);
-    let outcome = vcd_bytes(alloc, model.as_bytes(), trace.as_bytes(), &mut written);
+    let outcome = vcd_bytes(
+        alloc,
+        model.as_bytes(),
+        trace.as_bytes(),
+        options,
+        &mut written,
+    );
+    told(alloc, outcome, written.is_empty())
+}
+
+/// What is answered where the table of a trace is asked for.
+fn tabled(alloc: Global, model: &str, trace: &str) -> Result<String, AllocError> {
+    let mut written = Vec::new(alloc);
+    let options = TableOptions {
+        end: End::Required,
+        form: TableForm::Csv,
+        inputs: None,
+    };
+    let outcome = table_bytes(
+        alloc,
+        model.as_bytes(),
+        trace.as_bytes(),
+        &options,
+        &mut written,
+    );
     told(alloc, outcome, written.is_empty())
 }
 
 fn told(
     alloc: Global,
-    outcome: Result<(), ViewError>,
+    outcome: Result<Reach, ViewError>,
     is_empty: bool,
 ) -> Result<String, AllocError> {
     match outcome {
         Err(error) if is_empty => format!(in alloc; "{error}"),
         Err(error) => format!(in alloc; "{error} behind a beginning"),
-        Ok(()) => String::from_str(alloc, "taken"),
+        Ok(_) => String::from_str(alloc, "taken"),
     }
 }

@@ -4,6 +4,7 @@ use dv_job::JobError;
 use dv_lex::LoadError;
 use dv_partition::PartitionError;
 use dv_stats::StatsError;
+use dv_table::TableError;
 use dv_text::WriteError;
 use dv_trace::TraceRefusal;
 use dv_vcd::VcdError;
@@ -14,10 +15,12 @@ use thiserror::Error;
 /// Why there is no view, or none to its end.
 #[derive(Debug, Drop, Error)]
 pub enum ViewError {
-    /// The model or the partition is refused, a write failed or an allocation was refused. It is never `Inputs`.
+    /// The model, the partition or the inputs are refused, a write failed or an allocation was refused.
     Job(JobError),
     /// The trace is refused; nothing was written.
     Trace(TraceRefusal),
+    /// No component has the path of which numbers are asked for; nothing was written.
+    NoPath,
 }
 
 impl fmt::Display for ViewError {
@@ -25,6 +28,7 @@ impl fmt::Display for ViewError {
         match self {
             ViewError::Job(error) => write!(f, "{error}"),
             ViewError::Trace(refusal) => write!(f, "{refusal}"),
+            ViewError::NoPath => f.write_str("no component of this path"),
         }
     }
 }
@@ -50,6 +54,7 @@ impl From<PartitionError> for ViewError {
 impl From<VcdError> for ViewError {
     fn from(error: VcdError) -> Self {
         match error {
+            VcdError::Inputs(refusal) => ViewError::Job(JobError::Inputs(refusal)),
             VcdError::Refused(refusal) => ViewError::Trace(refusal),
             VcdError::Write => ViewError::Job(JobError::Write),
             VcdError::Memory => ViewError::Job(JobError::Memory),
@@ -60,9 +65,21 @@ impl From<VcdError> for ViewError {
 impl From<StatsError> for ViewError {
     fn from(error: StatsError) -> Self {
         match error {
+            StatsError::NoPath => ViewError::NoPath,
             StatsError::Refused(refusal) => ViewError::Trace(refusal),
             StatsError::Write => ViewError::Job(JobError::Write),
             StatsError::Memory => ViewError::Job(JobError::Memory),
+        }
+    }
+}
+
+impl From<TableError> for ViewError {
+    fn from(error: TableError) -> Self {
+        match error {
+            TableError::Inputs(refusal) => ViewError::Job(JobError::Inputs(refusal)),
+            TableError::Refused(refusal) => ViewError::Trace(refusal),
+            TableError::Write => ViewError::Job(JobError::Write),
+            TableError::Memory => ViewError::Job(JobError::Memory),
         }
     }
 }

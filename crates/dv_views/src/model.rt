@@ -17,7 +17,7 @@ use std::alloc::Global;
 /// # Errors
 ///
 /// `Job` with `Text`: the text's answer. With `Memory`: no memory for the text.
-pub(crate) fn load(alloc: Global, text: &[u8]) -> Result<Checked, ViewError> {
+pub fn load(alloc: Global, text: &[u8]) -> Result<Checked, ViewError> {
     match read(alloc, text) {
         Ok(checked) => Ok(checked),
         Err(error) => Err(unloaded(text, error)),
@@ -37,11 +37,7 @@ fn read(alloc: Global, text: &[u8]) -> Result<Checked, LoadError> {
 /// # Errors
 ///
 /// `Job` with `Text`: E17, where there are too many links. With `Memory`: no memory for the tree.
-pub(crate) fn accept<'c>(
-    alloc: Global,
-    text: &[u8],
-    checked: &'c Checked,
-) -> Result<Tree<'c>, ViewError>
+pub fn accept<'c>(alloc: Global, text: &[u8], checked: &'c Checked) -> Result<Tree<'c>, ViewError>
     ensures { IfOk result (λ tree. link_refusal (file_of tree.file) ≡ None) }
 {
     let tree = Tree::of(alloc, checked)?;

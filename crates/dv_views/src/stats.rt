@@ -2,26 +2,28 @@
 
 use crate::error::ViewError;
 use crate::model::{accept, load};
-use dv_stats::{Form, write_stats};
+use dv_stats::{StatsOptions, write_stats};
+use dv_trace::Reach;
 use std::alloc::Global;
 use std::io::Write;
 
-/// Writes what a trace of the model of a text says of each component and each output of the root, in numbers.
+/// Writes what a trace of the model of a text says of each component and each output of the root, in numbers, and returns how far the
+/// trace reaches.
 ///
 /// # Errors
 ///
-/// `Job` with `Text`, the answer to the model's text, or `Trace`, where the model is accepted, that to the trace; nothing was
-/// written then. `Job` with `Write` or `Memory`: the writer holds a beginning of the text that is not all of it, for
-/// `Memory` perhaps nothing.
+/// `Job` with `Text`, the answer to the model's text; where the model is accepted, `NoPath` where no component has the path that is
+/// asked for, or else `Trace`, the answer to the trace; nothing was written then. `Job` with `Write` or `Memory`: the writer holds a
+/// beginning of the text that is not all of it, for `Memory` perhaps nothing.
 pub fn stats_bytes<W: Write>(
     alloc: Global,
     model: &[u8],
     trace: &[u8],
-    form: Form,
+    options: &StatsOptions<'_>,
     writer: &mut W,
-) -> Result<(), ViewError> {
+) -> Result<Reach, ViewError> {
     let checked = load(alloc, model)?;
     let tree = accept(alloc, model, &checked)?;
-    write_stats(alloc, &tree, trace, form, writer)?;
-    Ok(())
+    let reach = write_stats(alloc, &tree, trace, options, writer)?;
+    Ok(reach)
 }

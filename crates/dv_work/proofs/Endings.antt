@@ -32,7 +32,7 @@ cancelled_is_stopped false false (Some c) stopped e = absurd (cc)
 cancelled_is_stopped false false None None e = absurd (cc)
 cancelled_is_stopped false false None (Some x) e = refl
 
-pub cancelled_if_ok : {C E : Type 0} (job : Job) (halts : List (Option (Halt C))) (r : Result (Report C) E)
+pub cancelled_if_ok : {N C E : Type 0} (job : Job) (halts : List (Option (Halt C))) (r : Result (Report N C) E)
     → IfOk r (λ x. EndsFor job halts (is_some x.stopped) x.rest.items x.ended) → IfOk r (λ x. x.ended ≡ ended.Cancelled → IsSome x.stopped)
 cancelled_if_ok job halts (Err e) ends = tt
 cancelled_if_ok job halts (Ok x) ends = λ is. cancelled_is_stopped ends.is_whole _ _ x.stopped (sym ends.is ∙ is)

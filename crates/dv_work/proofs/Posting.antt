@@ -37,8 +37,8 @@ module _ (job : Job) (p : ℕ) (x : ProcessState) (h : Handed) (from : Time) (ov
       ∙ ap (λ (q : PartOf). joined q (committed job p from x.position.clock)) (sym over.past))
 
   -- it is a piece of the job
-  pub rest_is_piece : p < job.processes → IsWithin (share_of job p) x.position.clock → (upto : Time) → upto ≡ x.position.clock
-      → IsPiece job (record { process = p; from = from; clock = upto; part = rest })
+  pub rest_is_piece : {N : Type 0} → p < job.processes → IsWithin (share_of job p) x.position.clock → (upto : Time)
+      → upto ≡ x.position.clock → IsPiece {N = N} job (record { process = p; from = from; clock = upto; part = rest })
   rest_is_piece there within upto same = record {
     process = there;
     from_of_run = over.of_run;

@@ -21,8 +21,8 @@ none_between job p =
     let gone : 0 ≡ n - n = omega arith in
     ap (all_before (λ k. part_at (owned job p) job.limit (whole job.flat) job.outside (n + k))) gone
 
-pub none_is_piece : (job : Job) (p : ℕ) → p < job.processes → (part : PartOf) → part ≡ nothing
-    → IsPiece job (record { process = p; from = first_time; clock = first_time; part = part })
+pub none_is_piece : {N : Type 0} (job : Job) (p : ℕ) → p < job.processes → (part : PartOf) → part ≡ nothing
+    → IsPiece {N = N} job (record { process = p; from = first_time; clock = first_time; part = part })
 none_is_piece job p there part none = record {
   process = there;
   from_of_run = omega arith;
@@ -33,13 +33,13 @@ none_is_piece job p there part none = record {
 }
 
 -- the piece of one process is entered
-pub entered : (job : Job) (rest : List Piece) → AreReached job rest → (x : Piece) → IsPiece job x
+pub entered : {N : Type 0} (job : Job) (rest : List (Piece N)) → AreReached job rest → (x : Piece N) → IsPiece job x
     → AreReached job (set rest x.process x)
-entered job rest are x is =
+entered {N} job rest are x is =
     let inside = is.process in
     let count = are.count in
     let one = some_at rest x.process (omega (arith, inside, count)) in record {
       count = length-set rest x.process x ∙ are.count;
-      numbers = set_each (λ (p : ℕ) (y : Piece). y.process ≡ p) rest x.process one.0 x one.1 are.numbers refl;
-      each = set_each (λ (p : ℕ) (y : Piece). IsPiece job y) rest x.process one.0 x one.1 are.each is;
+      numbers = set_each (λ (p : ℕ) (y : Piece N). y.process ≡ p) rest x.process one.0 x one.1 are.numbers refl;
+      each = set_each (λ (p : ℕ) (y : Piece N). IsPiece job y) rest x.process one.0 x one.1 are.each is;
     }

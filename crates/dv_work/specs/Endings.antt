@@ -51,8 +51,8 @@ module _ {C : Type 0} where
   ended_of is_whole halts is_stopped = ended_by is_whole (list_any lacks_memory halts) (first_cause halts) is_stopped
 
 -- The run of a job ended so: it is whole exactly where every clock is at the end.
-pub record EndsFor {C : Type 0} (job : Job) (halts : List (Option (Halt C))) (is_stopped : Bool) (rest : List Piece) (ended : Ended C)
-    : Type 0 where
+pub record EndsFor {N C : Type 0} (job : Job) (halts : List (Option (Halt C))) (is_stopped : Bool) (rest : List (Piece N))
+    (ended : Ended C) : Type 0 where
   pub is_whole : Bool
-  pub whole : IsTrue is_whole ↔ ((p : ℕ) (x : Piece) → slice_get rest p ≡ Some x → x.clock ≡ end_time job)
+  pub whole : IsTrue is_whole ↔ ((p : ℕ) (x : Piece N) → slice_get rest p ≡ Some x → x.clock ≡ end_time job)
   pub is : ended ≡ ended_of is_whole halts is_stopped

@@ -5,7 +5,7 @@ use Rattle.dv_board.specs.declared.posts.Piece.{Piece}
 use Rattle.dv_conservative.specs.World.{Job}
 
 -- By the numbers of the processes of a job: what each committed and did not post, to its clock.
-pub record AreReached (job : Job) (rest : List Piece) : Type 0 where
+pub record AreReached {N : Type 0} (job : Job) (rest : List (Piece N)) : Type 0 where
   pub count : length rest ≡ job.processes
-  pub numbers : (p : ℕ) (x : Piece) → slice_get rest p ≡ Some x → x.process ≡ p
-  pub each : (p : ℕ) (x : Piece) → slice_get rest p ≡ Some x → IsPiece job x
+  pub numbers : (p : ℕ) (x : Piece N) → slice_get rest p ≡ Some x → x.process ≡ p
+  pub each : (p : ℕ) (x : Piece N) → slice_get rest p ≡ Some x → IsPiece job x

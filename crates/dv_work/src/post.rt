@@ -8,7 +8,7 @@ use crate::lead::Leads;
 use crate::seat::{Floor, Seat};
 use dv_board::Board;
 use dv_core::ProcessHandsOver;
-use dv_link::OfJob;
+use dv_written::OfJob;
 use std::alloc::AllocError;
 use std::sync::Wait;
 
@@ -41,7 +41,7 @@ impl<N: OfJob> Stream<'_, N> {
 }
 
 // Posts what a process committed since it posted last. Tells whether there was something.
-fn post<N: OfJob, P: ProcessHandsOver, R: Wait>(
+fn post<N: OfJob, P: ProcessHandsOver<N>, R: Wait>(
     rt: &R,
     floor: &Floor<'_, N>,
     seat: &mut Seat<P>,
@@ -71,7 +71,7 @@ fn post<N: OfJob, P: ProcessHandsOver, R: Wait>(
 /// # Errors
 ///
 /// No memory on the board. What was to be posted is gone; what its process commits from then on begins with a gap.
-pub fn post_all<N: OfJob, P: ProcessHandsOver, R: Wait>(
+pub fn post_all<N: OfJob, P: ProcessHandsOver<N>, R: Wait>(
     rt: &R,
     floor: &Floor<'_, N>,
     seats: &mut [Seat<P>],

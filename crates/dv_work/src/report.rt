@@ -15,11 +15,10 @@ ghost use Rattle.dv_work.specs.Seats.{Reports};
 use crate::bell::{FlagView, Raised};
 use crate::seat::Seat;
 use crate::worker::{Halt, Worked};
-use dv_bag::Part;
 use dv_board::Piece;
 use dv_core::{LogicalProcess, PlannedJob, ProcessHandsOver};
-use dv_link::OfJob;
 use dv_time::Time;
+use dv_written::{OfJob, WrittenPart};
 use std::alloc::{AllocError, Global};
 
 /// How a run ended.
@@ -38,14 +37,14 @@ pub enum Ended<C> {
 /// What the processes of a run committed and did not post, to the clock of each, by their numbers; how the run ended; and what shows
 /// that the caller raised the flag to stop it, if that was so when all workers had ended.
 #[derive(Drop)]
-pub struct Report<'a, C> {
-    pub rest: Vec<Piece>,
+pub struct Report<'a, N: OfJob, C> {
+    pub rest: Vec<Piece<N>>,
     pub ended: Ended<C>,
     pub stopped: Option<Raised<'a>>,
 }
 
 // Nothing, of so many processes.
-fn nothing<N: OfJob>(alloc: Global, processes: usize) -> Result<Vec<Piece>, AllocError>
+fn nothing<N: OfJob>(alloc: Global, processes: usize) -> Result<Vec<Piece<N>>, AllocError>
     requires count { processes ≡ N.job.processes }
     requires few { processes < 2 ^ 32 }
     ensures { IfOk result (λ rest. AreReached N.job rest.items) }
@@ -56,14 +55,14 @@ fn nothing<N: OfJob>(alloc: Global, processes: usize) -> Result<Vec<Piece>, Allo
             process: process as u32,
             from: Time::ZERO,
             clock: Time::ZERO,
-            part: Part::new(alloc),
+            part: WrittenPart::new(alloc),
         })?;
     }
     Ok(rest)
 }
 
 // Enters what one process committed and did not post.
-fn enter<N: OfJob, P: ProcessHandsOver>(rest: &mut Vec<Piece>, seat: Seat<P>)
+fn enter<N: OfJob, P: ProcessHandsOver<N>>(rest: &mut Vec<Piece<N>>, seat: Seat<P>)
     requires seat { Reports N.job P.state P.handed P.valid seat }
     requires rest { AreReached N.job rest.old.items }
     ensures { AreReached N.job rest.new.items }
@@ -75,7 +74,7 @@ fn enter<N: OfJob, P: ProcessHandsOver>(rest: &mut Vec<Piece>, seat: Seat<P>)
 }
 
 // Enters what the processes of a worker committed and did not post.
-fn enter_all<N: OfJob, P: ProcessHandsOver>(rest: &mut Vec<Piece>, seats: Vec<Seat<P>>)
+fn enter_all<N: OfJob, P: ProcessHandsOver<N>>(rest: &mut Vec<Piece<N>>, seats: Vec<Seat<P>>)
     requires seats { All (Reports N.job P.state P.handed P.valid) seats.items }
     requires rest { AreReached N.job rest.old.items }
     ensures { AreReached N.job rest.new.items }
@@ -112,8 +111,8 @@ fn keep_halt<C: Drop>(halt: Option<Halt<C>>, memory: &mut bool, cause: &mut Opti
 }
 
 // Whether all pieces reach to a time.
-fn all_reach(rest: &[Piece], end: Time) -> bool
-    ensures { IsTrue result ↔ ((p : ℕ) (x : MeantPiece) → slice_get rest.now p ≡ Some x
+fn all_reach<N: OfJob>(rest: &[Piece<N>], end: Time) -> bool
+    ensures { IsTrue result ↔ ((p : ℕ) (x : MeantPiece N) → slice_get rest.now p ≡ Some x
         → x.clock ≡ end) }
 {
     rest.iter().all(|piece| piece.clock == end)
@@ -144,20 +143,20 @@ fn how_ended<C: Drop>(is_whole: bool, memory: bool, cause: Option<C>, is_stopped
 /// # Errors
 ///
 /// No memory.
-pub fn report_of<'a, N: OfJob, J: PlannedJob, P: ProcessHandsOver, C: Drop>(
+pub fn report_of<'a, N: OfJob, J: PlannedJob, P: ProcessHandsOver<N>, C: Drop>(
     alloc: Global,
     job: &J,
     processes: usize,
     all: Vec<Worked<P, C>>,
     stop: FlagView<'a>,
-) -> Result<Report<'a, C>, AllocError>
+) -> Result<Report<'a, N, C>, AllocError>
     requires job { N.job ≡ J.means job.now }
     requires count { processes ≡ N.job.processes }
     requires few { processes < 2 ^ 32 }
     requires reported { All (Reported N.job P.state P.handed P.valid) all.items }
     ensures reached { IfOk result (λ r. AreReached N.job r.rest.items) }
     ensures whole { IfOk result (λ r. (r.ended ≡ Whole)
-        ↔ ((p : ℕ) (x : MeantPiece) → slice_get r.rest.items p ≡ Some x
+        ↔ ((p : ℕ) (x : MeantPiece N) → slice_get r.rest.items p ≡ Some x
         → x.clock ≡ end_time N.job)) }
     ensures ended { IfOk result (λ r. EndsFor N.job (map (λ worked. worked.halt) all.items)
         (is_some r.stopped) r.rest.items r.ended) }

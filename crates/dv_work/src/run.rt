@@ -21,8 +21,9 @@ use crate::seat::{Floor, Seat};
 use crate::setup::{connect, crews_of, seats_of};
 use crate::worker::{Halt, Worked, work_at};
 use dv_core::{LogicalProcess, PlannedJob, ProcessHandsOver};
-use dv_link::{Link, OfJob};
+use dv_link::Link;
 use dv_proc::Channel;
+use dv_written::OfJob;
 use std::alloc::{AllocError, Global};
 use std::marker::PhantomData;
 use std::sync::Wait;
@@ -49,7 +50,7 @@ fn start<
     's,
     E,
     N: OfJob + Send + Sync + 's,
-    P: ProcessHandsOver + Send + 's,
+    P: ProcessHandsOver<N> + Send + 's,
     G: Gate<P>,
     R: Threads + Wait + Sync,
 >(
@@ -135,7 +136,7 @@ fn start_and_join<
     's,
     E,
     N: OfJob + Send + Sync + 's,
-    P: ProcessHandsOver + Send + 's,
+    P: ProcessHandsOver<N> + Send + 's,
     G: Gate<P>,
     R: Threads + Wait + Sync,
 >(
@@ -172,7 +173,7 @@ where
 // Runs the crews of a job, each on a thread of its own.
 fn run_crews<
     N: OfJob + Send + Sync,
-    P: ProcessHandsOver + Send,
+    P: ProcessHandsOver<N> + Send,
     G: Gate<P>,
     R: Threads + Wait + Sync,
 >(
@@ -205,7 +206,7 @@ where
 fn run_job<
     N: OfJob + Send + Sync,
     J: PlannedJob,
-    P: ProcessHandsOver + Send,
+    P: ProcessHandsOver<N> + Send,
     G: Gate<P>,
     R: Threads + Wait + Sync,
 >(
@@ -270,7 +271,7 @@ pub fn run_streamed<
     'a,
     N: OfJob + Send + Sync,
     J: PlannedJob,
-    P: ProcessHandsOver + Send,
+    P: ProcessHandsOver<N> + Send,
     G: Gate<P>,
     R: Threads + Wait + Sync,
 >(
@@ -283,7 +284,7 @@ pub fn run_streamed<
     capacity: usize,
     gate: &G,
     stream: Stream<'a, N>,
-) -> Result<Report<'a, G::Cause>, AllocError>
+) -> Result<Report<'a, N, G::Cause>, AllocError>
 where
     P::Work: Send + Drop,
     P::Record: Send,
@@ -295,7 +296,7 @@ where
     requires bells { length works.items ≤ length stream.bells.now }
     ensures reached { IfOk result (λ r. AreReached (J.means job.now) r.rest.items) }
     ensures whole { IfOk result (λ r. (r.ended ≡ Whole)
-        ↔ ((p : ℕ) (x : MeantPiece) → slice_get r.rest.items p ≡ Some x
+        ↔ ((p : ℕ) (x : MeantPiece N) → slice_get r.rest.items p ≡ Some x
         → x.clock ≡ end_time (J.means job.now))) }
     ensures cancelled { IfOk result (λ r. r.ended ≡ Cancelled → IsSome r.stopped) }
     ensures stopped { IfOk result (λ r. IfSome r.stopped (IsOfFlag stream.entry.stop.flag.now)) }

@@ -14,9 +14,10 @@ use crate::bell::{Bell, Flag};
 use crate::post::Stream;
 use dv_board::Piece;
 use dv_core::{LogicalProcess, ProcessHandsOver};
-use dv_link::{Link, OfJob, SendPass, TakePass};
+use dv_link::{Link, SendPass, TakePass};
 use dv_proc::{Packet, Turned};
 use dv_time::Time;
+use dv_written::OfJob;
 use std::alloc::AllocError;
 use std::sync::Wait;
 
@@ -222,11 +223,11 @@ impl<P: LogicalProcess> Seat<P> {
     {
         let _ = floor.links.len();
     }
-}
 
-impl<P: ProcessHandsOver> Seat<P> {
     /// Moves out what the process committed since it was moved out last, and before its clock.
-    pub fn piece<N: OfJob>(&mut self) -> Piece
+    pub fn piece<N: OfJob>(&mut self) -> Piece<N>
+    where
+        P: ProcessHandsOver<N>,
         requires { Reports N.job P.state P.handed P.valid self.old }
         ensures piece { IsPiece N.job result }
         ensures process { result.process ≡ self.old.number }

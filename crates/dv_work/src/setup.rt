@@ -11,9 +11,10 @@ ghost use Rattle.dv_work.specs.Seats.{Sits};
 
 use crate::seat::{In, Out, Seat};
 use dv_core::LogicalProcess;
-use dv_link::{Link, OfJob};
+use dv_link::Link;
 use dv_proc::Channel;
 use dv_time::Time;
+use dv_written::OfJob;
 use std::alloc::{AllocError, Global};
 
 /// The processes of a job, by their numbers, with no links yet.

@@ -12,8 +12,8 @@ use crate::gate::Gate;
 use crate::post::{ROUNDS_TO_A_POST, post_all};
 use crate::seat::{Floor, Seat};
 use dv_core::{LogicalProcess, ProcessHandsOver};
-use dv_link::OfJob;
 use dv_proc::Turned;
+use dv_written::OfJob;
 use std::alloc::AllocError;
 use std::sync::Wait;
 
@@ -252,7 +252,7 @@ fn posts_after(tells: bool, turned: Turned) -> bool {
 
 // Waits until the worker's bell has rung past a count. Its processes have told all that they prepared. If no ring comes
 // soon, the worker posts before it sleeps.
-fn wait_for_work<N: OfJob, P: ProcessHandsOver, R: Wait>(
+fn wait_for_work<N: OfJob, P: ProcessHandsOver<N>, R: Wait>(
     rt: &R,
     floor: &Floor<'_, N>,
     bell: &Bell,
@@ -272,7 +272,7 @@ fn wait_for_work<N: OfJob, P: ProcessHandsOver, R: Wait>(
 }
 
 // Posts after a round, where that is due.
-fn post_after<N: OfJob, P: ProcessHandsOver, R: Wait>(
+fn post_after<N: OfJob, P: ProcessHandsOver<N>, R: Wait>(
     rt: &R,
     floor: &Floor<'_, N>,
     tells: bool,
@@ -291,7 +291,7 @@ fn post_after<N: OfJob, P: ProcessHandsOver, R: Wait>(
 }
 
 // Waits after a round in which nothing moved.
-fn wait_after<N: OfJob, P: ProcessHandsOver, R: Wait>(
+fn wait_after<N: OfJob, P: ProcessHandsOver<N>, R: Wait>(
     rt: &R,
     floor: &Floor<'_, N>,
     bell: &Bell,
@@ -310,7 +310,7 @@ fn wait_after<N: OfJob, P: ProcessHandsOver, R: Wait>(
 }
 
 // Makes rounds until all are done, or the worker has to end.
-fn rounds<N: OfJob, P: ProcessHandsOver, G: Gate<P>, R: Wait>(
+fn rounds<N: OfJob, P: ProcessHandsOver<N>, G: Gate<P>, R: Wait>(
     rt: &R,
     floor: &Floor<'_, N>,
     gate: &G,
@@ -349,7 +349,7 @@ fn rounds<N: OfJob, P: ProcessHandsOver, G: Gate<P>, R: Wait>(
 /// Works until all its processes are done, or it has to end early. If it ends early, it raises the flag, unless the
 /// flag was the reason. What its processes committed is posted before it sleeps and where they are done. If it ends because
 /// they are done, all packets that they prepared were put.
-pub fn work_at<N: OfJob, P: ProcessHandsOver, G: Gate<P>, R: Wait>(
+pub fn work_at<N: OfJob, P: ProcessHandsOver<N>, G: Gate<P>, R: Wait>(
     rt: &R,
     floor: &Floor<'_, N>,
     gate: &G,

@@ -8,7 +8,7 @@ use std::io::{Error, Write};
 pub struct Noted<W> {
     writer: W,
     /// Why the first write that failed did.
-    pub reason: Option<Error>,
+    reason: Option<Error>,
 }
 
 impl<W> Noted<W> {
@@ -25,6 +25,14 @@ impl<W> Noted<W> {
         if self.reason.is_none() {
             self.reason = Some(error);
         }
+    }
+}
+
+impl<W: Drop> Noted<W> {
+    /// Why the first write that failed did, where one did.
+    pub fn into_reason(self) -> Option<Error> {
+        let Noted { writer: _, reason } = self;
+        reason
     }
 }
 

@@ -5,12 +5,13 @@ use Rattle.dv_board.proofs.backlog.least_clock.Goals as goal
 use Rattle.dv_board.proofs.backlog.least_clock.Goals.{then-is_before, else-is_before}
 
 pub loop-place-init : goal.loop-place-init
-loop-place-init c =
+loop-place-init g c =
     let held = c.args.held.now in
-    subst (λ (h : Held). IsLeastOf held 0 h.clock) c.index-held-0.is (first_least held c.index-held-0.result c.requires c.index-held-0.is)
+    subst (λ (h : Held g.row.N.Denot). IsLeastOf held 0 h.clock) c.index-held-0.is
+    (first_least held c.index-held-0.result c.requires c.index-held-0.is)
 
 pub loop-place-preserved : goal.loop-place-preserved
-loop-place-preserved c =
+loop-place-preserved g c =
     let held = c.args.held.now in
     let k = c.loop-place.place-index in
     let least = c.loop-place.least in
@@ -26,4 +27,4 @@ loop-place-preserved c =
     ]
 
 pub returns : goal.returns
-returns c = least_of_all c.args.held.now c.loop-place.place-index c.loop-place.least c.loop-place-test.false c.loop-place.invariant
+returns g c = least_of_all c.args.held.now c.loop-place.place-index c.loop-place.least c.loop-place-test.false c.loop-place.invariant

@@ -4,6 +4,6 @@ use Rattle.dv_board.specs.declared.held.Held.{Held}
 use Rattle.dv_board.proofs.backlog.pieces_between.Goals as goal
 
 pub between-requires : goal.between-requires
-between-requires c =
-    subst (λ (h : Held). IsByTime h.part) (sym c.place-item.is)
+between-requires g c =
+    subst (λ (h : Held g.row.N.Denot). IsByTime h.part) (sym c.place-item.is)
     (c.requires c.loop-place.place-index c.place-item.result c.loop-place-test.true)

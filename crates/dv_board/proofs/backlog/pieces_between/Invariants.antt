@@ -3,4 +3,4 @@ use Rattle.dv_bag.specs.Part.{before, since}
 use Rattle.dv_board.proofs.backlog.pieces_between.Given as goal
 
 abbrev pub invariant-loop-place : goal.invariant-loop-place
-invariant-loop-place l = l.pieces.items ≡ map (λ h. since l.fn.from (before l.fn.upto h.part)) (take l.place-index l.fn.held)
+invariant-loop-place g l = l.pieces.items ≡ map (λ h. since l.fn.from (before l.fn.upto h.part)) (take l.place-index l.fn.held)

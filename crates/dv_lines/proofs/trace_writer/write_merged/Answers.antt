@@ -1,4 +1,4 @@
-use Rattle.std.proofs.Common.{List, ◌++◌, refl, sym, ap, ◌∙◌, arith}
+use Rattle.std.proofs.Common.{ℕ, List, ◌++◌, refl, sym, ap, ◌∙◌, arith}
 use Rattle.std.specs.Io.KnownBytes.{Appends}
 use Rattle.std.proofs.lemmas.Option.{get_or_from_slice_get}
 use Rattle.std.proofs.lemmas.Result.{on_err_weaker, on_ok_weaker}
@@ -31,18 +31,18 @@ returns-in_err-outer-clause-err g c =
     OnErr-always _
     (fails_before_entry (tree_names c.args.words.now) items c.loop-place.place e
     (groups_of (tree_ports c.args.words.now) c.loop-place.outer.now) _
-    (omega arith) is refl c.loop-place.lines c.loop-place.invariant c.in_err-outer.ensures.err)
+    (omega arith) is refl c.loop-place.lines c.loop-place.invariant (rw c.time.ensures at c.in_err-outer.ensures.err))
 
-pub returns-in_err-put_entry-clause-err : goal.returns-in_err-put_entry-clause-err
-returns-in_err-put_entry-clause-err g c =
+pub returns-in_err-put-clause-err : goal.returns-in_err-put-clause-err
+returns-in_err-put-clause-err g c =
     let items = c.args.part.now.entries in
     let e = c.entry-entry.result.now in
     let is = sym (get_or_from_slice_get items c.loop-place.place e e c.entry-entry.ensures) in
     OnErr-always _
     (fails_at_entry (tree_names c.args.words.now) items c.loop-place.place e
     (groups_of (tree_ports c.args.words.now) c.loop-place.outer.now) _
-    (omega arith) is c.in_ok-outer.ensures.left c.loop-place.lines c.loop-place.invariant
-    c.write_before.new.lines c.in_ok-outer.ensures.ok)
+    (omega arith) is (rw c.time.ensures at c.in_ok-outer.ensures.left) c.loop-place.lines c.loop-place.invariant
+    c.write_before.new.lines (rw c.time.ensures at c.in_ok-outer.ensures.ok))
 
 pub returns-in_err-hand_over_if_long-clause-err : goal.returns-in_err-hand_over_if_long-clause-err
 returns-in_err-hand_over_if_long-clause-err g c =
@@ -52,9 +52,10 @@ returns-in_err-hand_over_if_long-clause-err g c =
     OnErr-always _
     (fails_behind_entry (tree_names c.args.words.now) items c.loop-place.place e
     (groups_of (tree_ports c.args.words.now) c.loop-place.outer.now) _
-    (omega arith) is c.in_ok-outer.ensures.left c.loop-place.lines c.loop-place.invariant
-    c.write_before.new.lines c.in_ok-outer.ensures.ok
-    c.put_entry.new.lines c.in_ok-put_entry.ensures.ok
+    (omega arith) is (rw c.time.ensures at c.in_ok-outer.ensures.left) c.loop-place.lines c.loop-place.invariant
+    c.write_before.new.lines (rw c.time.ensures at c.in_ok-outer.ensures.ok)
+    c.put.new.self (c.in_ok-put.ensures.ok
+    ∙ ap (λ (t : List ℕ). c.write_before.new.lines ++ t) (c.line.ensures ∙ sym (c.requires e)))
     (AppendsBeginning-short c.in_err-hand_over_if_long.ensures.err))
 
 pub loop-place-preserved : goal.loop-place-preserved
@@ -64,9 +65,10 @@ loop-place-preserved g c =
     let is = sym (get_or_from_slice_get items c.loop-place.place e e c.entry-entry.ensures) in
     entry_handed (tree_names c.args.words.now) items c.loop-place.place e
     (groups_of (tree_ports c.args.words.now) c.loop-place.outer.now) _
-    (omega arith) is c.in_ok-outer.ensures.left c.loop-place.lines c.loop-place.invariant
-    c.write_before.new.lines c.in_ok-outer.ensures.ok
-    c.put_entry.new.lines c.in_ok-put_entry.ensures.ok
+    (omega arith) is (rw c.time.ensures at c.in_ok-outer.ensures.left) c.loop-place.lines c.loop-place.invariant
+    c.write_before.new.lines (rw c.time.ensures at c.in_ok-outer.ensures.ok)
+    c.put.new.self (c.in_ok-put.ensures.ok
+    ∙ ap (λ (t : List ℕ). c.write_before.new.lines ++ t) (c.line.ensures ∙ sym (c.requires e)))
     c.hand_over_if_long.new.lines c.in_ok-hand_over_if_long.ensures.ok
 
 pub returns-in_err-write_groups-clause-err : goal.returns-in_err-write_groups-clause-err

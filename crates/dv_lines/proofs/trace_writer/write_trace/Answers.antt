@@ -1,7 +1,7 @@
-use Rattle.std.proofs.Common.{◌≡◌, ℕ, List, sym, ap, subst, ◌∙◌}
+use Rattle.std.proofs.Common.{ℕ, List, ap, refl, subst}
 use Rattle.std.proofs.lemmas.Result.{on_err_weaker, on_ok_weaker}
 use Rattle.std.specs.Io.KnownBytes.{Appends}
-use Rattle.dv_bag.specs.Part.{IsByTime, PartOf}
+use Rattle.dv_bag.specs.Part.{PartOf}
 use Rattle.dv_tree.specs.Tables.{Source}
 use Rattle.dv_text.specs.Names.{tree_names, tree_ports}
 use Rattle.dv_text.specs.Texts.{ending_text, part_text}
@@ -14,30 +14,29 @@ use Rattle.dv_lines.proofs.trace_writer.write_trace.Goals as goal
 abbrev lines : PartOf → Source → List ℕ
 lines p s = part_text (tree_names s) (tree_ports s) p
 
-same_lines : (p q : PartOf) (s t : Source) → p ≡ q → s ≡ t → lines p s ≡ lines q t
-same_lines p q s t one other = ap (λ (x : PartOf). lines x s) one ∙ ap (lines q) other
-
-pub returns-in_err-lines-clause-err : goal.returns-in_err-lines-clause-err
-returns-in_err-lines-clause-err g c = λ by.
+pub returns-in_err-words-clause-err : goal.returns-in_err-words-clause-err
+returns-in_err-words-clause-err g c = λ by.
     OnErr-always _
     (StopsShort-longer (ending_text (Whole c.args.horizon)) (ending-some (Whole c.args.horizon))
     (AppendsBeginning-nothing (g.W.Write.contents c.args.writer.now) (lines c.args.trace.now c.args.tree.now)))
 
-pub returns-in_err-part-clause-err : goal.returns-in_err-part-clause-err
-returns-in_err-part-clause-err g c = λ by.
+pub write_lines-requires : goal.write_lines-requires
+write_lines-requires g c = λ e. refl
+
+pub returns-in_err-write_lines-clause-err : goal.returns-in_err-write_lines-clause-err
+returns-in_err-write_lines-clause-err g c = λ by.
     OnErr-always _
     (StopsShort-longer (ending_text (Whole c.args.horizon)) (ending-some (Whole c.args.horizon))
-    (AppendsBeginning-text (same_lines _ _ _ _ c.all_of.ensures c.in_ok-lines.ensures)
-    (c.in_err-part.ensures.err (subst IsByTime (sym c.all_of.ensures) by))))
+    (AppendsBeginning-text (ap (lines c.args.trace.now) c.in_ok-words.ensures) (c.in_err-write_lines.ensures.err by)))
 
 pub returns-clause-ok : goal.returns-clause-ok
 returns-clause-ok g c = λ by.
     let before = g.W.Write.contents c.args.writer.now in
-    let between = g.W.Write.contents c.part.new.writer in
+    let between = g.W.Write.contents c.write_lines.new.writer in
     let after = g.W.Write.contents c.write_ending.new.writer in
     let first =
-    subst (λ (t : List ℕ). Appends before between t) (same_lines _ _ _ _ c.all_of.ensures c.in_ok-lines.ensures)
-    (c.in_ok-part.ensures.ok (subst IsByTime (sym c.all_of.ensures) by)) in
+    subst (λ (t : List ℕ). Appends before between t) (ap (lines c.args.trace.now) c.in_ok-words.ensures)
+    (c.in_ok-write_lines.ensures.ok by) in
     on_ok_weaker c.write_ending.result
     (λ (p : Appends between after (ending_text (Whole c.args.horizon))). Appends-append before between after
     (lines c.args.trace.now c.args.tree.now) (ending_text (Whole c.args.horizon)) first p) c.write_ending.ensures.ok
@@ -45,11 +44,11 @@ returns-clause-ok g c = λ by.
 pub returns-clause-err : goal.returns-clause-err
 returns-clause-err g c = λ by.
     let before = g.W.Write.contents c.args.writer.now in
-    let between = g.W.Write.contents c.part.new.writer in
+    let between = g.W.Write.contents c.write_lines.new.writer in
     let after = g.W.Write.contents c.write_ending.new.writer in
     let first =
-    subst (λ (t : List ℕ). Appends before between t) (same_lines _ _ _ _ c.all_of.ensures c.in_ok-lines.ensures)
-    (c.in_ok-part.ensures.ok (subst IsByTime (sym c.all_of.ensures) by)) in
+    subst (λ (t : List ℕ). Appends before between t) (ap (lines c.args.trace.now) c.in_ok-words.ensures)
+    (c.in_ok-write_lines.ensures.ok by) in
     on_err_weaker c.write_ending.result
     (λ (p : StopsShort between after (ending_text (Whole c.args.horizon))). StopsShort-behind
     (lines c.args.trace.now c.args.tree.now) (ending_text (Whole c.args.horizon)) first p) c.write_ending.ensures.err

@@ -4,7 +4,7 @@ use Rattle.dv_merge.proofs.Merging.{references_more}
 use Rattle.dv_merge.proofs.whole.references.Goals as goal
 
 pub loop-place-preserved : goal.loop-place-preserved
-loop-place-preserved c = record {
+loop-place-preserved g c = record {
   taken =
       ap entries_of c.push_reserved.ensures.items
       ∙ references_more c.loop-place.list.items c.entry.result c.args.part.now.entries c.loop-place.place c.loop-place.invariant.taken

@@ -6,9 +6,9 @@ use Rattle.dv_share.specs.Links.{RiseByPort, RiseBySource, links_of}
 use Rattle.dv_share.specs.declared.link.Link.{Link as CodeLink}
 use Rattle.dv_share.specs.declared.tables.Member.{Member}
 use Rattle.dv_proc.specs.Foreseeing.{ticks_of}
-use Rattle.dv_cut.specs.Cuts.{owned_by}
-use Rattle.dv_cut.specs.declared.channels.Away.{Away}
-use Rattle.dv_cut.proofs.Rising.{kept_by_port, kept_by_source}
+use Rattle.dv_plan.specs.Cuts.{owned_by}
+use Rattle.dv_plan.specs.declared.channels.Away.{Away}
+use Rattle.dv_plan.proofs.Rising.{kept_by_port, kept_by_source}
 use Rattle.dv_plan.specs.Steps.{led_inputs, way_of}
 use Rattle.dv_plan.proofs.Shares.{ways_of_job}
 use Rattle.dv_plan.proofs.share.share_of_process.Goals as goal

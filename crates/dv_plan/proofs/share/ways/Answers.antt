@@ -4,11 +4,11 @@ use Rattle.dv_conservative.specs.Links.{Link, is_between}
 use Rattle.dv_conservative.specs.Process.{Outgoing}
 use Rattle.dv_local.specs.Shares.{outgoing_of}
 use Rattle.dv_local.specs.declared.share.Way.{Way}
-use Rattle.dv_cut.specs.Cuts.{owned_by}
-use Rattle.dv_cut.specs.declared.channels.Away.{Away}
+use Rattle.dv_plan.specs.Cuts.{owned_by}
+use Rattle.dv_plan.specs.declared.channels.Away.{Away}
 use Rattle.dv_share.specs.Links.{RiseBySource}
-use Rattle.dv_cut.proofs.Loops.{pushed}
-use Rattle.dv_cut.proofs.Rising.{kept_by_source}
+use Rattle.dv_plan.proofs.Loops.{pushed}
+use Rattle.dv_plan.proofs.Rising.{kept_by_source}
 use Rattle.dv_plan.specs.Steps.{way_of}
 use Rattle.dv_plan.proofs.share.ways.Goals as goal
 

@@ -6,7 +6,7 @@ use Rattle.dv_syntax.specs.Trees.{file_of}
 use Rattle.dv_run.specs.declared.ran.RanEnded.{RanEnded}
 use Rattle.dv_planned.specs.Texts.{text_job}
 use Rattle.dv_text.proofs.Taking.{OnErr-always}
-use Rattle.dv_serial.proofs.LeastClock.{least_time_rank}
+use Rattle.dv_plan.proofs.LeastClock.{least_time_rank}
 use Rattle.dv_stream.specs.Clocks.{AreWithin}
 use Rattle.dv_run.specs.Runs.{AreAtEnd}
 use Rattle.dv_run.proofs.Merging.{Leaves, merges}

@@ -3,9 +3,9 @@ use Rattle.dv_time.specs.Time.{end_of, rank}
 use Rattle.dv_conservative.specs.World.{World, new_world}
 use Rattle.dv_core.specs.Worlds.{EndsAs, kept_by, shown}
 use Rattle.dv_board.specs.Jobs.{IsMergeable}
-use Rattle.dv_serial.specs.Runs.{HasRun}
-use Rattle.dv_serial.specs.declared.ran.Committed.{Committed}
-use Rattle.dv_serial.proofs.Running.{clocks_of_world}
+use Rattle.dv_plan.specs.Runs.{HasRun}
+use Rattle.dv_plan.specs.declared.ran.Committed.{Committed}
+use Rattle.dv_plan.proofs.Running.{clocks_of_world}
 use Rattle.dv_text.proofs.Taking.{AppendsBeginning-nothing, OnErr-always}
 use Rattle.dv_stream.specs.Alone.{seen_by}
 use Rattle.dv_stream.specs.Written.{IsBegun, IsWrittenTo, lines_before}

@@ -1,6 +1,6 @@
 use Rattle.std.proofs.Common.{◌≡◌, ◌-◌, ◌<◌, ◌≤◌, map}
 use Rattle.dv_core.specs.Worlds.{EndsAs, IsTrueToModel, kept_by, shown}
-use Rattle.dv_serial.specs.Clocks.{least_time}
+use Rattle.dv_plan.specs.Clocks.{least_time}
 use Rattle.dv_stream.specs.Alone.{HasHandedTo, handed_in, seen_by}
 use Rattle.dv_stream.specs.Written.{IsWrittenTo}
 use Rattle.dv_stream.proofs.alone.stream_process.Given as goal

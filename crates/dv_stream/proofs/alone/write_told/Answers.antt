@@ -2,10 +2,10 @@ use Rattle.std.proofs.Common.{◌≡◌, ◌∷◌, [], List, map, sym, ap, subs
 use Rattle.std.proofs.Math.ListN.{set}
 use Rattle.dv_time.specs.Time.{IsOfRun, rank}
 use Rattle.dv_record.specs.Told.{Handed}
-use Rattle.dv_serial.specs.Clocks.{least_time}
+use Rattle.dv_plan.specs.Clocks.{least_time}
 use Rattle.dv_text.proofs.Taking.{AppendsBeginning-short, OnErr-always}
 use Rattle.dv_stream.specs.Alone.{Breaks, by_tree, handed_in, seen_by}
-use Rattle.dv_stream.specs.Faults.{has_fault}
+use Rattle.dv_written.specs.Faults.{has_fault}
 use Rattle.dv_stream.specs.Written.{lines_before}
 use Rattle.dv_stream.proofs.Telling.{fault_told, its_handed, its_of_run, its_within, lines_handed, lines_told, only_one, same_clocks}
 use Rattle.dv_stream.proofs.Telling.{same_shown, still_true, told_part}

@@ -4,19 +4,19 @@ use Rattle.std.proofs.lemmas.List.Folds.{list_any_more}
 use Rattle.std.proofs.lemmas.Map.Keys.{any_passes_from_place}
 use Rattle.std.proofs.lemmas.Option.{get_or_from_slice_get, slice_get_within}
 use Rattle.dv_bag.specs.declared.entry.Entry.{Entry}
-use Rattle.dv_stream.specs.Faults.{is_fault}
+use Rattle.dv_written.specs.Faults.{is_fault}
 use Rattle.dv_stream.proofs.faults.has_fault.Goals as goal
 
 abbrev test : Entry → Bool
 test e = is_fault e.what
 
 pub returns-then-is_fault : goal.returns-then-is_fault
-returns-then-is_fault c =
+returns-then-is_fault g c =
     sym (any_passes_from_place test c.args.part.now.entries c.loop-place.place c.entry.result.now c.entry.ensures
     (sym c.is_fault.ensures ∙ c.if-is_fault.true))
 
 pub loop-place-preserved : goal.loop-place-preserved
-loop-place-preserved c =
+loop-place-preserved g c =
     let es = c.args.part.now.entries in
     let e = c.entry.result.now in
     let place = c.loop-place.place in

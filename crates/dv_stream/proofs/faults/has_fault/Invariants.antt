@@ -1,8 +1,8 @@
 use Rattle.std.proofs.Common.{◌≡◌, false, take}
 use Rattle.std.specs.List.{list_any}
 use Rattle.dv_bag.specs.declared.entry.Entry.{Entry}
-use Rattle.dv_stream.specs.Faults.{is_fault}
+use Rattle.dv_written.specs.Faults.{is_fault}
 use Rattle.dv_stream.proofs.faults.has_fault.Given as goal
 
 abbrev pub invariant-loop-place : goal.invariant-loop-place
-invariant-loop-place l = list_any (λ (e : Entry). is_fault e.what) (take l.place l.part.entries) ≡ false
+invariant-loop-place g l = list_any (λ (e : Entry). is_fault e.what) (take l.place l.part.entries) ≡ false

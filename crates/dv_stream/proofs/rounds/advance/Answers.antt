@@ -3,7 +3,7 @@ use Rattle.dv_time.specs.declared.time.Time.{Time}
 use Rattle.dv_board.specs.Clocks.{IsLeast}
 use Rattle.dv_conservative.specs.World.{Job, World}
 use Rattle.dv_core.specs.Worlds.{EndsAs, IsTrueToModel, kept_by, shown}
-use Rattle.dv_serial.specs.Clocks.{least_time}
+use Rattle.dv_plan.specs.Clocks.{least_time}
 use Rattle.dv_text.proofs.Taking.{OnErr-always}
 use Rattle.dv_stream.specs.Rounds.{AreJoined}
 use Rattle.dv_stream.proofs.ToldClocks.{least_is}

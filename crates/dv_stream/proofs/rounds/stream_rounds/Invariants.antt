@@ -1,7 +1,7 @@
 use Rattle.std.proofs.Common.{◌≡◌, ◌-◌, ◌≤◌, map}
 use Rattle.dv_time.specs.Time.{end_of, rank}
 use Rattle.dv_core.specs.Worlds.{EndsAs, IsTrueToModel, kept_by, shown}
-use Rattle.dv_serial.specs.Clocks.{least_time}
+use Rattle.dv_plan.specs.Clocks.{least_time}
 use Rattle.dv_stream.specs.Rounds.{AreJoined}
 use Rattle.dv_stream.specs.Written.{IsWrittenTo}
 use Rattle.dv_stream.proofs.rounds.stream_rounds.Given as goal

@@ -17,15 +17,15 @@ use Rattle.dv_stream.proofs.workers.stream_crew.Goals as goal
 
 pub returns-in_err-backlog-clause-err : goal.returns-in_err-backlog-clause-err
 returns-in_err-backlog-clause-err g c =
-    OnErr-always _ (not_begun (g.J.PlannedJob.means c.args.job.now) c.args.tree.now (g.W.Write.contents c.args.writer.now))
+    OnErr-always _ (not_begun (g.J.PlannedJob.means c.args.job.now) c.args.words.now (g.W.Write.contents c.args.writer.now))
 
 pub returns-in_err-signals-clause-err : goal.returns-in_err-signals-clause-err
 returns-in_err-signals-clause-err g c =
-    OnErr-always _ (not_begun (g.J.PlannedJob.means c.args.job.now) c.args.tree.now (g.W.Write.contents c.args.writer.now))
+    OnErr-always _ (not_begun (g.J.PlannedJob.means c.args.job.now) c.args.words.now (g.W.Write.contents c.args.writer.now))
 
 pub returns-in_err-lines-clause-err : goal.returns-in_err-lines-clause-err
 returns-in_err-lines-clause-err g c =
-    OnErr-always _ (not_begun (g.J.PlannedJob.means c.args.job.now) c.args.tree.now (g.W.Write.contents c.args.writer.now))
+    OnErr-always _ (not_begun (g.J.PlannedJob.means c.args.job.now) c.args.words.now (g.W.Write.contents c.args.writer.now))
 
 pub run_and_write-written-requires-clause-made : goal.run_and_write-written-requires-clause-made
 run_and_write-written-requires-clause-made g c κs _ =
@@ -35,7 +35,7 @@ run_and_write-written-requires-clause-made g c κs _ =
 pub returns-in_err-rest-clause-err : goal.returns-in_err-rest-clause-err
 returns-in_err-rest-clause-err g c =
     let contents = g.W.Write.contents in
-    let tree = c.args.tree.now in
+    let tree = c.args.words.now in
     let old = contents c.args.writer.now in
     let mid = contents c.run_and_write-written.new.writer in
     let job = g.J.PlannedJob.means c.args.job.now in
@@ -70,7 +70,7 @@ write_rest-requires-clause-within g c =
 pub returns-in_err-written-2-clause-err : goal.returns-in_err-written-2-clause-err
 returns-in_err-written-2-clause-err g c =
     let contents = g.W.Write.contents in
-    let tree = c.args.tree.now in
+    let tree = c.args.words.now in
     let old = contents c.args.writer.now in
     let mid = contents c.run_and_write-written.new.writer in
     let job = g.J.PlannedJob.means c.args.job.now in
@@ -86,7 +86,7 @@ returns-in_err-written-2-clause-err g c =
 pub returns-in_err-kept-clause-err : goal.returns-in_err-kept-clause-err
 returns-in_err-kept-clause-err g c =
     let contents = g.W.Write.contents in
-    let tree = c.args.tree.now in
+    let tree = c.args.words.now in
     let old = contents c.args.writer.now in
     let mid = contents c.run_and_write-written.new.writer in
     let job = g.J.PlannedJob.means c.args.job.now in
@@ -111,7 +111,7 @@ clocks_at-clocks-requires g c =
 pub returns-clause-written : goal.returns-clause-written
 returns-clause-written g c =
     let contents = g.W.Write.contents in
-    let tree = c.args.tree.now in
+    let tree = c.args.words.now in
     let old = contents c.args.writer.now in
     let mid = contents c.run_and_write-written.new.writer in
     let job = g.J.PlannedJob.means c.args.job.now in

@@ -6,6 +6,6 @@ use Rattle.dv_work.proofs.report.nothing.Given as goal
 abbrev pub invariant-loop-process : goal.invariant-loop-process
 invariant-loop-process g l = record {
   count : length l.rest.items ≡ l.process;
-  numbers : (p : ℕ) (x : Piece) → slice_get l.rest.items p ≡ Some x → x.process ≡ p;
-  each : (p : ℕ) (x : Piece) → slice_get l.rest.items p ≡ Some x → IsPiece g.N.OfJob.job x;
+  numbers : (p : ℕ) (x : Piece g.row.N.Denot) → slice_get l.rest.items p ≡ Some x → x.process ≡ p;
+  each : (p : ℕ) (x : Piece g.row.N.Denot) → slice_get l.rest.items p ≡ Some x → IsPiece g.N.OfJob.job x;
 }

@@ -32,7 +32,8 @@ loop-worked-preserved g c =
 pub returns-clause-whole : goal.returns-clause-whole
 returns-clause-whole g c =
     let end : Time = record { tick = c.horizon.result + 1; micro = 0 } in
-    let All : Time → List Piece → Type 0 = λ e xs. (p : ℕ) (x : Piece) → slice_get xs p ≡ Some x → x.clock ≡ e in
+    let All : Time → List (Piece g.row.N.Denot) → Type 0
+    = λ e xs. (p : ℕ) (x : Piece g.row.N.Denot) → slice_get xs p ≡ Some x → x.clock ≡ e in
     let is : end ≡ end_time g.N.OfJob.job
     = ap (λ (n : ℕ). let t : Time = record { tick = n + 1; micro = 0 } in t)
     (c.horizon.ensures.is ∙ ap (λ (j : Job). j.horizon) (sym c.requires.job)) in
@@ -46,7 +47,8 @@ returns-clause-whole g c =
 pub returns-clause-ended : goal.returns-clause-ended
 returns-clause-ended g c =
     let end : Time = record { tick = c.horizon.result + 1; micro = 0 } in
-    let All : Time → List Piece → Type 0 = λ e xs. (p : ℕ) (x : Piece) → slice_get xs p ≡ Some x → x.clock ≡ e in
+    let All : Time → List (Piece g.row.N.Denot) → Type 0
+    = λ e xs. (p : ℕ) (x : Piece g.row.N.Denot) → slice_get xs p ≡ Some x → x.clock ≡ e in
     let is : end ≡ end_time g.N.OfJob.job
     = ap (λ (n : ℕ). let t : Time = record { tick = n + 1; micro = 0 } in t)
     (c.horizon.ensures.is ∙ ap (λ (j : Job). j.horizon) (sym c.requires.job)) in

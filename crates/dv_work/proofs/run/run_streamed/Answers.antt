@@ -28,7 +28,7 @@ run_job-requires-clause-processes g c κs _ =
 pub returns-clause-whole : goal.returns-clause-whole
 returns-clause-whole g c =
     subst (λ (job : Job). IfOk c.report_of.result (λ r. (r.ended ≡ Whole)
-    ↔ ((p : ℕ) (x : Piece) → slice_get r.rest.items p ≡ Some x → x.clock ≡ end_time job)))
+    ↔ ((p : ℕ) (x : Piece g.row.N.Denot) → slice_get r.rest.items p ≡ Some x → x.clock ≡ end_time job)))
     c.requires.job c.report_of.ensures.whole
 
 pub returns-clause-cancelled : goal.returns-clause-cancelled

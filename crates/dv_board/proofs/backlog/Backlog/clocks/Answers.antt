@@ -10,19 +10,21 @@ use Rattle.dv_board.proofs.Places.{clocks_of}
 use Rattle.dv_board.proofs.Wholes.{get_map}
 use Rattle.dv_board.proofs.backlog.Backlog.clocks.Goals as goal
 
-all_of_run : (job : Job) (mark : Time) (held : List Held) → AreHeld job mark held → All (IsOfRun job.limit) (clocks_of held)
-all_of_run job mark held all k d lt =
+all_of_run : {N : Type 0} (job : Job) (mark : Time) (held : List (Held N)) → AreHeld job mark held
+    → All (IsOfRun job.limit) (clocks_of held)
+all_of_run {N} job mark held all k d lt =
     let at = slice_get-get_or (clocks_of held) k d lt in
-    let h = get_map (λ (h : Held). h.clock) held k (slice_index_or (clocks_of held) k d) at in
+    let h = get_map (λ (h : Held N). h.clock) held k (slice_index_or (clocks_of held) k d) at in
     subst (IsOfRun job.limit) h.2 (all.each k h.0 h.1).of_run
 
 abbrev IsWithin : Job → Time → Type 0
 IsWithin job t = rank job.limit t ≤ end_of job.limit job.horizon
 
-all_within : (job : Job) (mark : Time) (held : List Held) → AreHeld job mark held → All (IsWithin job) (clocks_of held)
-all_within job mark held all k d lt =
+all_within : {N : Type 0} (job : Job) (mark : Time) (held : List (Held N)) → AreHeld job mark held
+    → All (IsWithin job) (clocks_of held)
+all_within {N} job mark held all k d lt =
     let at = slice_get-get_or (clocks_of held) k d lt in
-    let h = get_map (λ (h : Held). h.clock) held k (slice_index_or (clocks_of held) k d) at in
+    let h = get_map (λ (h : Held N). h.clock) held k (slice_index_or (clocks_of held) k d) at in
     subst (IsWithin job) h.2 (all.each k h.0 h.1).within
 
 pub returns-clause-of_run : goal.returns-clause-of_run

@@ -69,5 +69,5 @@ returns-clause-clocks g c =
     c.self.view_is
     (clocks_set held p c.join.new.self
     ∙ ap (set (clocks_of held) p)
-    (ap (λ (g : Held). g.clock) c.in_default.ensures.ok
+    (ap (λ (h : Held g.row.N.Denot). h.clock) c.in_default.ensures.ok
     ∙ (clock_of_piece h c.args.piece.part c.args.piece.clock ∙ ap (λ (t : Time). later t c.args.piece.clock) (sym read))))

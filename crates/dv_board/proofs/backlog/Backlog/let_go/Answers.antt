@@ -16,10 +16,10 @@ invariant_of-self g c =
     let job = g.N.OfJob.job in
     let s = c.self.inside in
     let is = subst (λ (b : BacklogOf). IsLeast c.args.least b.clocks) (sym c.self.view_is) c.requires in
-    subst (AreHeld job c.args.least) (sym {A = List Held} c.let_go_all.ensures)
+    subst (AreHeld job c.args.least) (sym {A = List (Held g.row.N.Denot)} c.let_go_all.ensures)
     (rest_are_held job s.mark s.held.items c.self.invariant c.args.least is)
 
 pub returns-clause-clocks : goal.returns-clause-clocks
 returns-clause-clocks g c =
-    ap (map (λ (h : Held). h.clock)) c.let_go_all.ensures
+    ap (map (λ (h : Held g.row.N.Denot). h.clock)) c.let_go_all.ensures
     ∙ (clocks_stay c.args.least c.self.inside.held.items ∙ ap (λ (b : BacklogOf). b.clocks) c.self.view_is)

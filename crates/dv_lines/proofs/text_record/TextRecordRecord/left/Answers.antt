@@ -2,7 +2,7 @@ use Rattle.std.proofs.Common.{◌++◌, List, ℕ, ap, sym, subst, ◌∙◌}
 use Rattle.dv_bag.specs.Part.{PartOf}
 use Rattle.dv_lines.specs.Records.{IsText, Recorded}
 use Rattle.dv_record.specs.Told.{IsOpenAt, lines_from}
-use Rattle.dv_lines.specs.Tellings.{has_fault}
+use Rattle.dv_written.specs.Faults.{has_fault}
 use Rattle.dv_lines.proofs.Views.{seen}
 use Rattle.dv_lines.proofs.Recording.{with_outers}
 use Rattle.dv_lines.proofs.text_record.TextRecordRecord.left.Goals as goal

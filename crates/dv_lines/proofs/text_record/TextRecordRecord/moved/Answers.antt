@@ -3,7 +3,7 @@ use Rattle.dv_bag.specs.Part.{PartOf}
 use Rattle.dv_bag.specs.declared.entry.What.TheVariants as what
 use Rattle.dv_lines.specs.Records.{IsText, Recorded}
 use Rattle.dv_record.specs.Told.{IsOpenAt, entry}
-use Rattle.dv_lines.specs.Tellings.{has_fault}
+use Rattle.dv_written.specs.Faults.{has_fault}
 use Rattle.dv_lines.proofs.Views.{seen}
 use Rattle.dv_lines.proofs.Recording.{fault_more, with_entry}
 use Rattle.dv_lines.proofs.text_record.TextRecordRecord.moved.Goals as goal

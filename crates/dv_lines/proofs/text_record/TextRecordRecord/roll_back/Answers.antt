@@ -1,7 +1,7 @@
 use Rattle.std.proofs.Common.{ap, sym, subst, ◌∙◌}
 use Rattle.dv_bag.specs.Part.{PartOf}
 use Rattle.dv_lines.specs.Records.{IsText, Recorded}
-use Rattle.dv_lines.specs.Tellings.{has_fault}
+use Rattle.dv_written.specs.Faults.{has_fault}
 use Rattle.dv_lines.proofs.Views.{seen}
 use Rattle.dv_lines.proofs.Recording.{taken_back}
 use Rattle.dv_lines.proofs.text_record.TextRecordRecord.roll_back.Goals as goal

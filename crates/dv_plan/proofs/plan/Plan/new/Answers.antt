@@ -12,7 +12,7 @@ use Rattle.dv_proc.specs.Foreseeing.{ticks_of}
 use Rattle.dv_partition.specs.Groups.{owner_of}
 use Rattle.dv_partition.specs.Limits.{greatest_processes}
 use Rattle.dv_proc.specs.Channels.{meant_channel}
-use Rattle.dv_cut.specs.Cuts.{CutOf, owned_by}
+use Rattle.dv_plan.specs.Cuts.{CutOf, owned_by}
 use Rattle.dv_proc.specs.declared.channel.Channel.{Channel}
 use Rattle.dv_plan.specs.Steps.{Rises, members_of}
 use Rattle.dv_plan.proofs.Few.{few_channels}

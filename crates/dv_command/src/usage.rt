@@ -1,0 +1,150 @@
+//! Why words ask for nothing, as a text to print.
+
+use crate::command::command;
+use crate::help::{Form, Value, WordHelp, subcommands};
+use crate::part::is_value;
+use clap::ArgMatches;
+use clap::error::ErrorKind;
+use dv_explain::{Explanation, faults, input_refusals, partition_refusals, refusals};
+use std::alloc::{AllocError, Global};
+
+/// An option without a value that it takes.
+#[derive(Drop)]
+struct Misfit<'a> {
+    /// The option's name, without its hyphens.
+    name: &'a str,
+    /// What the option takes.
+    value: Value,
+    /// What stands behind it, if anything.
+    text: Option<&'a str>,
+}
+
+/// The text to print where the words are no command or ask for help.
+///
+/// # Errors
+///
+/// No memory for the text.
+pub(crate) fn usage_text(alloc: Global, words: &[String]) -> Result<String, AllocError> {
+    match command(alloc)?.try_get_matches_from(words) {
+        Ok(matches) => match matches.subcommand() {
+            Some(("explain", _)) => refused(alloc, unknown_code(alloc)?.as_str()),
+            Some((_, subcommand)) => match first_misfit(words) {
+                Some(misfit) => refused_misfit(alloc, &misfit),
+                None => refused(alloc, reason(subcommand)),
+            },
+            None => refused(alloc, "a subcommand is wanted"),
+        },
+        Err(error) => match error.kind() {
+            ErrorKind::OutOfMemory => Err(AllocError),
+            ErrorKind::DisplayHelp | ErrorKind::DisplayHelpOnMissingArgumentOrSubcommand => {
+                error.to_string(alloc)
+            }
+            ErrorKind::DisplayVersion => refused(
+                alloc,
+                "the version is asked for by the word --version, or -V",
+            ),
+            _ => match first_misfit(words) {
+                Some(misfit) => refused_misfit(alloc, &misfit),
+                None => error.to_string(alloc),
+            },
+        },
+    }
+}
+
+/// Why words ask for nothing though `clap` takes them for a command line, and each option has a value that it takes.
+fn reason(matches: &ArgMatches) -> &'static str {
+    let has = |name: &str| matches.get_str(name).is_some();
+    if has("partition") && has("processes") {
+        "a partition or a number of processes is given, not both"
+    } else if has("rounds") && has("workers") {
+        "rounds are not counted where there are workers"
+    } else if has("from") && has("to") {
+        "the last tick that counts, --to, is before the first one, --from"
+    } else {
+        "these words are no command"
+    }
+}
+
+/// The first option that has no value that it takes; the first word is the program's name, and the second the subcommand's.
+fn first_misfit(words: &[String]) -> Option<Misfit<'_>> {
+    let takes = words_of(words.get(1)?.as_str());
+    for (place, word) in words.iter().enumerate().skip(2) {
+        if word.as_str() == "--" {
+            return None;
+        }
+        let next = match words.get(place.saturating_add(1)) {
+            Some(next) => Some(next.as_str()),
+            None => None,
+        };
+        if let Some(misfit) = misfit_at(takes, word.as_str(), next) {
+            return Some(misfit);
+        }
+    }
+    None
+}
+
+/// The words that the subcommand of this name takes.
+fn words_of(subcommand: &str) -> &'static [WordHelp] {
+    match subcommands().iter().find(|help| help.name == subcommand) {
+        Some(help) => help.words,
+        None => &[],
+    }
+}
+
+/// An option, where a word names one, without a value that it takes: behind `=`, or as the next word, which does not look like
+/// an option.
+fn misfit_at<'a>(takes: &[WordHelp], word: &'a str, next: Option<&'a str>) -> Option<Misfit<'a>> {
+    let option = word.strip_prefix("--")?;
+    let (name, text, may_stand) = match option.split_once('=') {
+        Some((name, text)) => (name, Some(text), true),
+        None => (option, next, next.is_some_and(|next| is_value(next))),
+    };
+    let value = value_of(takes, name)?;
+    match text {
+        Some(text) if may_stand && value.takes(text) => None,
+        text => Some(Misfit { name, value, text }),
+    }
+}
+
+/// What the option of this name takes.
+fn value_of(takes: &[WordHelp], name: &str) -> Option<Value> {
+    let word = takes.iter().find(|word| word.name == name)?;
+    match word.form {
+        Form::Option(_, value) => Some(value),
+        Form::Plain(_) | Form::Flag => None,
+    }
+}
+
+/// The words that list the codes.
+fn unknown_code(alloc: Global) -> Result<String, AllocError> {
+    let mut reason = String::from_str(alloc, "there is no such code; the codes are")?;
+    push_codes(&mut reason, refusals())?;
+    push_codes(&mut reason, input_refusals())?;
+    push_codes(&mut reason, partition_refusals())?;
+    push_codes(&mut reason, faults())?;
+    Ok(reason)
+}
+
+fn push_codes(text: &mut String, explanations: &[Explanation]) -> Result<(), AllocError> {
+    for explanation in explanations {
+        text.push(' ')?;
+        text.push_str(explanation.code)?;
+    }
+    Ok(())
+}
+
+/// The text that refuses an option for its value.
+fn refused_misfit(alloc: Global, misfit: &Misfit<'_>) -> Result<String, AllocError> {
+    let name = misfit.name;
+    let takes = misfit.value.words;
+    let reason = match misfit.text {
+        Some(text) => format!(in alloc; "--{name} takes {takes}; `{text}` is none")?,
+        None => format!(in alloc; "--{name} takes {takes}; nothing stands behind it")?,
+    };
+    refused(alloc, reason.as_str())
+}
+
+/// The text that refuses words for a reason.
+fn refused(alloc: Global, reason: &str) -> Result<String, AllocError> {
+    format!(in alloc; "error: {reason}\n\nFor more information, try '--help'.\n")
+}

@@ -1,0 +1,141 @@
+//! Requests for what a trace says, read from what words say.
+
+ghost use Rattle.std.specs.Prelude.{◌≡◌, IfOk, map};
+ghost use Rattle.dv_command.specs.Asked.{AsksStats, AsksTable, AsksTrace, AsksWaves, AsksWindow, IsFitting, are_in_order};
+ghost use Rattle.dv_command.specs.Steps.{said_in};
+
+use crate::given::{count_in, flag_in, owned_text_in, values};
+use crate::part::Part;
+use crate::request::{Stats, Table, TraceFiles, Waves};
+use dv_time::GREATEST_TICK;
+use std::alloc::{AllocError, Global};
+
+/// The first tick that counts and the last one, where they are given.
+type Window = (Option<u64>, Option<u64>);
+
+/// A model with its trace.
+fn trace_in(alloc: Global, parts: &[Part<'_>]) -> Result<Option<TraceFiles>, AllocError>
+    ensures { IfOk result (IsFitting (AsksTrace (map said_in parts.now))) }
+{
+    let Some(partial) = flag_in(alloc, "--partial", parts)? else {
+        return Ok(None);
+    };
+    let Some(explained) = flag_in(alloc, "--explain", parts)? else {
+        return Ok(None);
+    };
+    let texts = values(alloc, parts)?;
+    match texts.as_slice() {
+        [model, trace] => Ok(Some(TraceFiles {
+            model: String::from_str(alloc, model)?,
+            trace: String::from_str(alloc, trace)?,
+            partial,
+            explained,
+        })),
+        [] => Ok(None),
+        [_] => Ok(None),
+        [_, _, _, ..] => Ok(None),
+    }
+}
+
+/// A trace as a value change dump.
+pub(crate) fn waves_in(alloc: Global, parts: &[Part<'_>]) -> Result<Option<Waves>, AllocError>
+    ensures { IfOk result (IsFitting (AsksWaves (map said_in parts.now))) }
+{
+    let Some(files) = trace_in(alloc, parts)? else {
+        return Ok(None);
+    };
+    let Some(inputs) = owned_text_in(alloc, "--inputs", parts)? else {
+        return Ok(None);
+    };
+    let Some(holds_ports) = flag_in(alloc, "--hold-ports", parts)? else {
+        return Ok(None);
+    };
+    let Some(timescale) = owned_text_in(alloc, "--timescale", parts)? else {
+        return Ok(None);
+    };
+    Ok(Some(Waves {
+        files,
+        inputs,
+        holds_ports,
+        timescale,
+    }))
+}
+
+/// Whether the last tick is not before the first one, where both are given.
+fn are_in_order(first: Option<u64>, last: Option<u64>) -> bool
+    ensures { result ≡ are_in_order first last }
+{
+    match (first, last) {
+        (Some(first), Some(last)) => first <= last,
+        (Some(_), None) => true,
+        (None, Some(_)) => true,
+        (None, None) => true,
+    }
+}
+
+/// The ticks that count.
+fn window_in(alloc: Global, parts: &[Part<'_>]) -> Result<Option<Window>, AllocError>
+    ensures { IfOk result (IsFitting (λ window. AsksWindow (map said_in parts.now)
+        window.0 window.1)) }
+{
+    let Some(first) = count_in(alloc, 0, GREATEST_TICK, "--from", parts)? else {
+        return Ok(None);
+    };
+    let Some(last) = count_in(alloc, 0, GREATEST_TICK, "--to", parts)? else {
+        return Ok(None);
+    };
+    if are_in_order(first, last) {
+        Ok(Some((first, last)))
+    } else {
+        Ok(None)
+    }
+}
+
+/// A trace in numbers.
+pub(crate) fn stats_in(alloc: Global, parts: &[Part<'_>]) -> Result<Option<Stats>, AllocError>
+    ensures { IfOk result (IsFitting (AsksStats (map said_in parts.now))) }
+{
+    let Some(files) = trace_in(alloc, parts)? else {
+        return Ok(None);
+    };
+    let Some((from, to)) = window_in(alloc, parts)? else {
+        return Ok(None);
+    };
+    let Some(only) = owned_text_in(alloc, "--only", parts)? else {
+        return Ok(None);
+    };
+    let Some(quantiles) = flag_in(alloc, "--quantiles", parts)? else {
+        return Ok(None);
+    };
+    let Some(csv) = flag_in(alloc, "--csv", parts)? else {
+        return Ok(None);
+    };
+    Ok(Some(Stats {
+        files,
+        from,
+        to,
+        only,
+        quantiles,
+        csv,
+    }))
+}
+
+/// A trace as a table.
+pub(crate) fn table_in(alloc: Global, parts: &[Part<'_>]) -> Result<Option<Table>, AllocError>
+    ensures { IfOk result (IsFitting (AsksTable (map said_in parts.now))) }
+{
+    let Some(files) = trace_in(alloc, parts)? else {
+        return Ok(None);
+    };
+    let Some(inputs) = owned_text_in(alloc, "--inputs", parts)? else {
+        return Ok(None);
+    };
+    let Some(json) = flag_in(alloc, "--json", parts)? else {
+        return Ok(None);
+    };
+    Ok(Some(Table {
+        files,
+        inputs,
+        json,
+    }))
+}

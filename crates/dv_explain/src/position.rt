@@ -1,0 +1,43 @@
+//! Lines and columns.
+
+use std::fmt;
+
+/// Where a token stands: its line, and in characters its column; both count from 1.
+#[derive(Clone, Copy, Debug, PartialEq, Eq)]
+pub struct Position {
+    pub line: usize,
+    pub column: usize,
+}
+
+impl Position {
+    /// The position behind so many bytes of a text.
+    pub fn of(text: &[u8], place: usize) -> Self {
+        let (before, _) = text.split_at(place.min(text.len()));
+        let feeds = before.iter().filter(|byte| **byte == b'\n').count();
+        let characters = str::from_utf8(last_line(before))
+            .unwrap_or("")
+            .chars()
+            .count();
+        Position {
+            line: feeds.saturating_add(1),
+            column: characters.saturating_add(1),
+        }
+    }
+}
+
+/// What stands behind the last line feed.
+pub fn last_line(bytes: &[u8]) -> &[u8] {
+    let mut start = 0;
+    for (place, byte) in bytes.iter().enumerate() {
+        if *byte == b'\n' {
+            start = place + 1;
+        }
+    }
+    bytes.get(start..).unwrap_or(&[])
+}
+
+impl fmt::Display for Position {
+    fn fmt<W: fmt::Write>(&self, f: &mut fmt::Formatter<W>) -> fmt::Result {
+        write!(f, "line {}, column {}", self.line, self.column)
+    }
+}

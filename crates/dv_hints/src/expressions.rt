@@ -1,0 +1,169 @@
+//! The expressions of rules and holds.
+
+use crate::around::Around;
+use crate::known::Known;
+use crate::reason::{Misplaced, Reason, Search};
+use crate::sorts::NameSort;
+use crate::taker::Taker;
+use crate::wanted::Wanted;
+use dv_bag::ValueType;
+use dv_lex::RefusalNumber;
+use dv_syntax::{Expr, Name, Operator, RuleSort};
+
+/// The type of an expression, where it has one, and the place of its first token.
+#[derive(Clone, Copy)]
+struct Typed {
+    value_type: Option<ValueType>,
+    place: u32,
+}
+
+/// Looks through an expression whose value is taken.
+pub fn look_through_taken(
+    known: &Known,
+    around: &Around,
+    taker: Taker,
+    expression: &Expr,
+    search: &mut Search,
+) {
+    let given = look_through(known, around, expression, search);
+    take(taker, given, search);
+}
+
+/// Looks through an expression whose value goes to a name that stands for this.
+pub fn look_through_assigned(
+    known: &Known,
+    around: &Around,
+    variable: Name,
+    expression: &Expr,
+    search: &mut Search,
+) {
+    let given = look_through(known, around, expression, search);
+    let taker = match known.sort(around, variable.number) {
+        Some(NameSort::Flag) => Taker::Flag(variable),
+        Some(NameSort::Variable | NameSort::LoopVariable) => Taker::Variable(variable),
+        _ => return,
+    };
+    take(taker, given, search);
+}
+
+fn look_through(known: &Known, around: &Around, expression: &Expr, search: &mut Search) -> Typed {
+    match expression {
+        Expr::Literal(number) => of_type(Some(ValueType::Number), number.place),
+        Expr::TruthValue { place, .. } => of_type(Some(ValueType::Truth), *place),
+        Expr::Named(name) => of_type(look_at_value(known, around, *name, search), name.place),
+        Expr::Parens { place, inner } => {
+            let given = look_through(known, around, inner, search);
+            of_type(given.value_type, *place)
+        }
+        Expr::Prefixed {
+            operator,
+            place,
+            operand,
+        } => {
+            let given = look_through(known, around, operand, search);
+            let taker = Taker::Prefix(*operator);
+            of_type(take(taker, given, search), *place)
+        }
+        Expr::Binary {
+            operator,
+            left,
+            right,
+        } => {
+            let a = look_through(known, around, left, search);
+            let b = look_through(known, around, right, search);
+            of_type(operate(*operator, a, b, search), a.place)
+        }
+        Expr::Call { call, place, bag } => {
+            look_at_held(known, around, Wanted::by(*call), *bag, search);
+            of_type(Some(ValueType::Number), *place)
+        }
+        Expr::Elapsed { place } => {
+            if around.rule != Some(RuleSort::External) {
+                search.note_misplaced(*place, Misplaced::Elapsed, around);
+            }
+            of_type(Some(ValueType::Number), *place)
+        }
+        Expr::Times { place, value, bag } => {
+            let given = look_through(known, around, value, search);
+            take(Taker::Times, given, search);
+            look_at_held(known, around, Wanted::Bag, *bag, search);
+            of_type(Some(ValueType::Number), *place)
+        }
+    }
+}
+
+fn of_type(value_type: Option<ValueType>, place: u32) -> Typed {
+    Typed { value_type, place }
+}
+
+/// Looks at a name where a value is wanted, and answers the type of it.
+fn look_at_value(
+    known: &Known,
+    around: &Around,
+    name: Name,
+    search: &mut Search,
+) -> Option<ValueType> {
+    let sort = known.sort(around, name.number);
+    search.note_name(name, sort, Wanted::Value, around);
+    match sort? {
+        NameSort::Variable | NameSort::LoopVariable => Some(ValueType::Number),
+        NameSort::Flag => Some(ValueType::Truth),
+        _ => None,
+    }
+}
+
+/// Looks at a name where a collection is read.
+pub fn look_at_held(
+    known: &Known,
+    around: &Around,
+    wanted: Wanted,
+    name: Name,
+    search: &mut Search,
+) {
+    let sort = known.sort(around, name.number);
+    search.note_name(name, sort, wanted, around);
+    if sort == Some(NameSort::Input) && wanted.suits(NameSort::Input) && !around.sees_inputs() {
+        search.note_misplaced(name.place, Misplaced::Input(name), around);
+    }
+}
+
+/// Looks at what an operator takes, and answers the type of what it gives, where it has both.
+fn operate(operator: Operator, a: Typed, b: Typed, search: &mut Search) -> Option<ValueType> {
+    match Taker::by(operator) {
+        Some(taker) => {
+            let a = take(taker, a, search);
+            let b = take(taker, b, search);
+            if a.is_some() && b.is_some() {
+                Some(given_by(taker))
+            } else {
+                None
+            }
+        }
+        None => {
+            take(Taker::Equality(a.value_type?), b, search)?;
+            Some(ValueType::Truth)
+        }
+    }
+}
+
+/// The type of what comes of two operands.
+fn given_by(taker: Taker) -> ValueType {
+    match taker {
+        Taker::Arithmetic => ValueType::Number,
+        _ => ValueType::Truth,
+    }
+}
+
+/// Looks at what is taken, and answers its type where that is the right one.
+fn take(taker: Taker, given: Typed, search: &mut Search) -> Option<ValueType> {
+    let found = given.value_type?;
+    if found == taker.takes() {
+        return Some(found);
+    }
+    search.note(
+        RefusalNumber::E8,
+        given.place,
+        Reason::Type { found, taker },
+    );
+    None
+}

@@ -1,0 +1,126 @@
+//! From a refusal to its cause.
+
+use crate::ends::{leads_back, unknown_in, wrong_way_in};
+use crate::known::Known;
+use crate::missing::item_at;
+use crate::models::model_around;
+use crate::reading::{ReadText, read};
+use crate::reason::Search;
+use crate::repeats::{repeat_at, repeated_link};
+use crate::roots::{atomic_root, limit_at, own_part, unknown_root};
+use crate::starts::start_at;
+use crate::statements::look_through_model;
+use crate::words::cause_of;
+use dv_explain::{Cause, nesting_at, stray_at, unexpected_at};
+use dv_lex::{RefusalNumber, TextError};
+use dv_syntax::{Atomic, Coupled, Model};
+use std::alloc::{AllocError, Global};
+
+/// The cause of the refusal of a text. Its summary is empty where no more is known than the number says.
+///
+/// # Errors
+///
+/// No memory for the tokens, the tree or the words.
+pub fn hint_on(alloc: Global, text: &[u8], refusal: &TextError) -> Result<Cause, AllocError> {
+    let place = refusal.place as usize;
+    match refusal.number {
+        RefusalNumber::E1 => Cause::of(alloc, "a byte that belongs to no whole character", ""),
+        RefusalNumber::E2 => stray_at(alloc, text, place),
+        RefusalNumber::E3 => Cause::of(alloc, "a number above 9223372036854775807", ""),
+        RefusalNumber::E4 => unexpected_at(alloc, text, place),
+        RefusalNumber::E5 => Cause::of(alloc, nesting_at(text, place), ""),
+        _ => match read(alloc, text)? {
+            Some(read) => hint_in_tree(alloc, text, &read, refusal),
+            None => Cause::of(alloc, "", ""),
+        },
+    }
+}
+
+/// The cause of a refusal of a text that has a tree.
+fn hint_in_tree(
+    alloc: Global,
+    text: &[u8],
+    read: &ReadText,
+    refusal: &TextError,
+) -> Result<Cause, AllocError> {
+    let place = refusal.place;
+    if place == read.file.root.place {
+        return hint_on_root(alloc, read, refusal.number);
+    }
+    match refusal.number {
+        RefusalNumber::E15 => return own_part(alloc, read, place),
+        RefusalNumber::E17 => return limit_at(alloc, read, place),
+        RefusalNumber::E6 => {
+            if let Some(cause) = repeat_at(alloc, text, read, place)? {
+                return Ok(cause);
+            }
+        }
+        _ => {}
+    }
+    match model_around(&read.file, place) {
+        Some(Model::Atomic(atomic)) => hint_in_atomic(alloc, text, read, atomic, refusal),
+        Some(Model::Coupled(coupled)) => {
+            let cause = hint_in_coupled(alloc, text, read, coupled, refusal)?;
+            or_nothing(alloc, cause)
+        }
+        None => Cause::of(alloc, "", ""),
+    }
+}
+
+/// A cause, or one without words.
+fn or_nothing(alloc: Global, cause: Option<Cause>) -> Result<Cause, AllocError> {
+    match cause {
+        Some(cause) => Ok(cause),
+        None => Cause::of(alloc, "", ""),
+    }
+}
+
+fn hint_on_root(
+    alloc: Global,
+    read: &ReadText,
+    number: RefusalNumber,
+) -> Result<Cause, AllocError> {
+    match number {
+        RefusalNumber::E7 => unknown_root(alloc, read),
+        RefusalNumber::E16 => atomic_root(alloc, read),
+        _ => limit_at(alloc, read, read.file.root.place),
+    }
+}
+
+fn hint_in_atomic(
+    alloc: Global,
+    text: &[u8],
+    read: &ReadText,
+    model: &Atomic,
+    refusal: &TextError,
+) -> Result<Cause, AllocError> {
+    match refusal.number {
+        RefusalNumber::E10 => item_at(alloc, text, read, model, refusal.place),
+        RefusalNumber::E11 => start_at(alloc, model, refusal.place),
+        _ => {
+            let known = Known::of(alloc, model)?;
+            let mut search = Search::new(refusal.number, refusal.place);
+            look_through_model(&known, model, &mut search);
+            match search.found {
+                Some(reason) => cause_of(alloc, text, read, model, &known, &reason),
+                None => Cause::of(alloc, "", ""),
+            }
+        }
+    }
+}
+
+fn hint_in_coupled(
+    alloc: Global,
+    text: &[u8],
+    read: &ReadText,
+    model: &Coupled,
+    refusal: &TextError,
+) -> Result<Option<Cause>, AllocError> {
+    match refusal.number {
+        RefusalNumber::E7 => unknown_in(alloc, read, model, refusal.place),
+        RefusalNumber::E12 => wrong_way_in(alloc, read, model, refusal.place),
+        RefusalNumber::E13 => leads_back(alloc, read, model, refusal.place),
+        RefusalNumber::E14 => repeated_link(alloc, text, read, model, refusal.place),
+        _ => Ok(None),
+    }
+}

@@ -1,0 +1,64 @@
+//! Which case of its number the refusal of a model is, and what to write instead.
+//!
+//! A refusal is a number and a place. What stands at the place is found anew in the tree of the text, with the names that are in
+//! reach there; that the text is refused is decided elsewhere.
+#![tactic(auto)]
+
+/// From a refusal to its cause: the door of the crate.
+pub mod hint;
+
+/// Where a statement or an expression stands: its rule and the loops around.
+mod around;
+
+/// Ends of links.
+mod ends;
+
+/// The expressions of rules and holds.
+mod expressions;
+
+/// What the names of an atomic model stand for.
+mod known;
+
+/// Lists of names, as words.
+mod lists;
+
+/// Items that are missing, or stand twice.
+mod missing;
+
+/// The models of a text.
+mod models;
+
+/// Near names.
+mod near;
+
+/// What is wrong at a place of an atomic model.
+mod reason;
+
+/// Texts that have a tree.
+mod reading;
+
+/// Names and links that stand twice.
+mod repeats;
+
+/// The root, and limits on size.
+mod roots;
+
+/// What names stand for.
+mod sorts;
+
+/// Ranges and start values, and the hold of the start phase.
+mod starts;
+
+/// The statements of rules.
+mod statements;
+
+/// What takes the value of an expression.
+mod taker;
+
+/// What a name has to stand for.
+mod wanted;
+
+/// Sentences on what is wrong at a place of an atomic model.
+mod words;
+
+pub use hint::hint_on;

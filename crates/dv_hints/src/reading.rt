@@ -1,0 +1,57 @@
+//! Texts that have a tree.
+
+use dv_explain::Position;
+use dv_explain::grammar::knows_queues;
+use dv_lex::{LoadError, Names, tokens};
+use dv_parser::parse;
+use dv_syntax::File;
+use std::alloc::{AllocError, Global};
+
+/// A text that has a tree.
+#[derive(Drop)]
+pub struct ReadText {
+    pub file: File,
+    pub names: Names,
+    /// Whether the text knows the words of queues.
+    pub knows_queues: bool,
+}
+
+impl ReadText {
+    /// The text of a name.
+    pub fn name(&self, number: u32) -> &str {
+        self.names.text(number).unwrap_or("")
+    }
+}
+
+/// The tree of a text, where it has one.
+///
+/// # Errors
+///
+/// No memory for the tree.
+pub fn read(alloc: Global, text: &[u8]) -> Result<Option<ReadText>, AllocError> {
+    match parsed(alloc, text) {
+        Ok(read) => Ok(Some(read)),
+        Err(LoadError::Refused(_)) => Ok(None),
+        Err(LoadError::Memory) => Err(AllocError),
+    }
+}
+
+fn parsed(alloc: Global, text: &[u8]) -> Result<ReadText, LoadError> {
+    let lexed = tokens(alloc, text)?;
+    let file = parse(
+        alloc,
+        &lexed.tokens,
+        text.len().min(u32::MAX as usize) as u32,
+    )?;
+    let knows_queues = knows_queues(&lexed.tokens);
+    Ok(ReadText {
+        file,
+        names: lexed.names,
+        knows_queues,
+    })
+}
+
+/// The position of a place of a text.
+pub fn position(text: &[u8], place: u32) -> Position {
+    Position::of(text, place as usize)
+}

@@ -1,0 +1,168 @@
+//! The root, models that contain themselves, and limits on size.
+
+use crate::ends::unknown;
+use crate::lists::Choice;
+use crate::models::{model_around, model_named};
+use crate::reading::ReadText;
+use crate::sorts::{NameSort, name_of as name_of_declaration, sort_of};
+use dv_explain::{Cause, Quoted};
+use dv_syntax::{Atomic, Declaration, Model, StateCollection};
+use std::alloc::{AllocError, Global};
+
+/// The words on a root that is unknown.
+///
+/// # Errors
+///
+/// No memory for the words.
+pub fn unknown_root(alloc: Global, read: &ReadText) -> Result<Cause, AllocError> {
+    let names = coupled_names(alloc, read)?;
+    unknown(
+        alloc,
+        read,
+        read.file.root,
+        "a coupled model",
+        "the text",
+        &names,
+    )
+}
+
+/// The names of the coupled models.
+fn coupled_names<'a>(alloc: Global, read: &'a ReadText) -> Result<Vec<&'a str>, AllocError> {
+    let mut names = Vec::new(alloc);
+    for model in &read.file.models {
+        if let Model::Coupled(coupled) = model {
+            names.push(read.name(coupled.name.number))?;
+        }
+    }
+    Ok(names)
+}
+
+/// The words on a root that is atomic: the coupled models that there are, or else one to write around it.
+///
+/// # Errors
+///
+/// No memory for the words.
+pub fn atomic_root(alloc: Global, read: &ReadText) -> Result<Cause, AllocError> {
+    let root = read.file.root;
+    let names = coupled_names(alloc, read)?;
+    let sentences = if !names.is_empty() {
+        format!(in alloc; "The root is a coupled model: {}.\n", Choice(&names))?
+    } else {
+        match model_named(&read.file, root.number) {
+            Some(Model::Atomic(atomic)) => wrapping(alloc, read, atomic)?,
+            _ => String::new(alloc),
+        }
+    };
+    Ok(Cause {
+        summary: format!(in alloc; "{} is atomic", Quoted(read.name(root.number)))?,
+        sentences,
+    })
+}
+
+/// A sentence with a coupled model that has an atomic one as its part, and its ports.
+fn wrapping(alloc: Global, read: &ReadText, model: &Atomic) -> Result<String, AllocError> {
+    let name = read.name(model.name.number);
+    let top = if name == "Top" { "Whole" } else { "Top" };
+    let mut ports = String::new(alloc);
+    let mut links = String::new(alloc);
+    for declaration in &model.declarations {
+        let port = read.name(name_of_declaration(declaration).number);
+        match sort_of(declaration) {
+            NameSort::Input => {
+                write!(ports, "in {port}; ")?;
+                write!(links, "link self.{port} -> a.{port}; ")?;
+            }
+            NameSort::Output => {
+                write!(ports, "out {port}; ")?;
+                write!(links, "link a.{port} -> self.{port}; ")?;
+            }
+            _ => {}
+        }
+    }
+    format!(in alloc; "Write `coupled {top} {{ {ports}part a: {name}; {links}}} root {top};`.\n")
+}
+
+/// The words on a part whose model, which is named at a place, leads back to the one that has the part.
+///
+/// # Errors
+///
+/// No memory for the words.
+pub fn own_part(alloc: Global, read: &ReadText, place: u32) -> Result<Cause, AllocError> {
+    let Some(Model::Coupled(coupled)) = model_around(&read.file, place) else {
+        return Cause::of(alloc, "", "");
+    };
+    let Some(part) = coupled.parts.iter().find(|part| part.model.place == place) else {
+        return Cause::of(alloc, "", "");
+    };
+    let own = read.name(coupled.name.number);
+    let model = read.name(part.model.number);
+    let summary = if part.model.number == coupled.name.number {
+        format!(in alloc; "{} is a part of itself", Quoted(own))?
+    } else {
+        format!(in alloc;
+            "{} has {} among its parts, directly or further in",
+            Quoted(model),
+            Quoted(own)
+        )?
+    };
+    Ok(Cause {
+        summary,
+        sentences: String::new(alloc),
+    })
+}
+
+/// The words on a limit on size that is passed at a place: of a capacity, of a list of names, or of the tree of the root.
+///
+/// # Errors
+///
+/// No memory for the words.
+pub fn limit_at(alloc: Global, read: &ReadText, place: u32) -> Result<Cause, AllocError> {
+    if read.file.root.place == place {
+        return too_large(alloc, read);
+    }
+    if let Some(collection) = collection_at(read, place) {
+        return Ok(Cause {
+            summary: format!(in alloc;
+                "the capacity {} is outside of 1..4096",
+                collection.capacity.value.value()
+            )?,
+            sentences: String::new(alloc),
+        });
+    }
+    Cause::of(alloc, "more than 4,096 names of one kind", "")
+}
+
+fn too_large(alloc: Global, read: &ReadText) -> Result<Cause, AllocError> {
+    let root = Quoted(read.name(read.file.root.number));
+    let summary = if is_without_parts(read) {
+        format!(in alloc; "{root} has no part")?
+    } else {
+        format!(in alloc; "the tree of {root} has no component, or it is too large")?
+    };
+    Ok(Cause {
+        summary,
+        sentences: String::new(alloc),
+    })
+}
+
+fn is_without_parts(read: &ReadText) -> bool {
+    match model_named(&read.file, read.file.root.number) {
+        Some(Model::Coupled(coupled)) => coupled.parts.is_empty(),
+        _ => false,
+    }
+}
+
+/// The bag or queue whose capacity is at a place.
+fn collection_at(read: &ReadText, place: u32) -> Option<StateCollection> {
+    let Some(Model::Atomic(atomic)) = model_around(&read.file, place) else {
+        return None;
+    };
+    for declaration in &atomic.declarations {
+        if let Declaration::Held(collection) = declaration
+            && collection.capacity.place == place
+        {
+            return Some(*collection);
+        }
+    }
+    None
+}

@@ -1,0 +1,76 @@
+//! Ranges and start values, and the hold of the start phase.
+
+use dv_bag::Fault;
+use dv_eval::{Scope, VariableRange, phase_hold, start_state};
+use dv_explain::{Cause, explanation_of};
+use dv_syntax::{Atomic, Declaration};
+use std::alloc::{AllocError, Global};
+
+/// The words on a variable, whose name is at a place, that can't have its start value, or on the fault of the hold of the start
+/// phase, whose name behind `start` is there.
+///
+/// # Errors
+///
+/// No memory for the start or the words.
+pub fn start_at(alloc: Global, model: &Atomic, place: u32) -> Result<Cause, AllocError> {
+    match range_at(model, place) {
+        Some(range) => out_of_range(alloc, &range),
+        None => start_hold(alloc, model, place),
+    }
+}
+
+/// The range of the variable whose name is at a place.
+fn range_at(model: &Atomic, place: u32) -> Option<VariableRange> {
+    for declaration in &model.declarations {
+        if let Declaration::Var(variable) = declaration
+            && variable.name.place == place
+        {
+            return Some(VariableRange::of(variable));
+        }
+    }
+    None
+}
+
+fn out_of_range(alloc: Global, range: &VariableRange) -> Result<Cause, AllocError> {
+    let VariableRange { low, high, start } = range;
+    let summary = if low > high {
+        format!(in alloc; "the range {low}..{high} is empty: {low} is above {high}")?
+    } else {
+        format!(in alloc; "the start value {start} is outside of {low}..{high}")?
+    };
+    Ok(Cause {
+        summary,
+        sentences: String::new(alloc),
+    })
+}
+
+fn start_hold(alloc: Global, model: &Atomic, place: u32) -> Result<Cause, AllocError> {
+    match model.starts.iter().find(|start| start.phase.place == place) {
+        Some(start) => match start_fault(alloc, model, start.phase.number)? {
+            Some(fault) => faulting(alloc, fault),
+            None => Cause::of(alloc, "", ""),
+        },
+        None => Cause::of(alloc, "", ""),
+    }
+}
+
+/// The fault of the hold of a phase on the start values, if it has one.
+fn start_fault(alloc: Global, model: &Atomic, phase: u32) -> Result<Option<Fault>, AllocError> {
+    let scope = Scope::of(alloc, model)?;
+    let state = start_state(alloc, model, &scope)?;
+    Ok(phase_hold(model, phase, &state, &scope).err())
+}
+
+fn faulting(alloc: Global, fault: Fault) -> Result<Cause, AllocError> {
+    let name = format!(in alloc; "{fault}")?;
+    let words = match explanation_of(name.as_str()) {
+        Some(explanation) => explanation.words,
+        None => "",
+    };
+    Ok(Cause {
+        summary: format!(in alloc;
+            "the hold of the start phase has the fault `{name}` on the start values"
+        )?,
+        sentences: format!(in alloc; "{words}\n")?,
+    })
+}

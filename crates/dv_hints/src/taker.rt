@@ -1,0 +1,96 @@
+//! What takes the value of an expression.
+
+use dv_bag::{Change, ValueType};
+use dv_syntax::{Name, Operator, Prefix};
+use std::fmt;
+
+/// What takes the value of an expression.
+#[derive(Clone, Copy, Debug, PartialEq, Eq)]
+pub enum Taker {
+    Prefix(Prefix),
+    /// `and` or `or`
+    Join,
+    /// `<` and its like
+    Order,
+    /// `=` or `!=`, where the other operand is of this type
+    Equality(ValueType),
+    Arithmetic,
+    Condition,
+    Hold,
+    Send,
+    Change(Change),
+    /// `times`
+    Times,
+    Variable(Name),
+    Flag(Name),
+}
+
+impl Taker {
+    /// What an operator is to its operands, where it is neither `=` nor `!=`.
+    pub fn by(operator: Operator) -> Option<Self> {
+        match operator {
+            Operator::Equal | Operator::Unequal => None,
+            Operator::Or | Operator::And => Some(Taker::Join),
+            Operator::Less | Operator::AtMost | Operator::Greater | Operator::AtLeast => {
+                Some(Taker::Order)
+            }
+            Operator::Add
+            | Operator::Subtract
+            | Operator::Multiply
+            | Operator::Divide
+            | Operator::Remainder => Some(Taker::Arithmetic),
+        }
+    }
+
+    /// The type that is taken.
+    pub fn takes(self) -> ValueType {
+        match self {
+            Taker::Prefix(Prefix::Not) | Taker::Join | Taker::Condition | Taker::Flag(_) => {
+                ValueType::Truth
+            }
+            Taker::Equality(other) => other,
+            Taker::Prefix(Prefix::Minus)
+            | Taker::Order
+            | Taker::Arithmetic
+            | Taker::Hold
+            | Taker::Send
+            | Taker::Change(_)
+            | Taker::Times
+            | Taker::Variable(_) => ValueType::Number,
+        }
+    }
+
+    /// A sentence on what is taken, with a line feed; of variables and flags it is said with their names.
+    pub fn words(self) -> &'static str {
+        match self {
+            Taker::Prefix(Prefix::Minus) => "A minus sign takes a number.\n",
+            Taker::Prefix(Prefix::Not) => "`not` takes a truth value, as in `not n > 0`.\n",
+            Taker::Join => { "`and` and `or` join two truth values, as in `n > 0 and n < 9`.\n" }
+            Taker::Order => "`<`, `<=`, `>` and `>=` compare two numbers.\n",
+            Taker::Equality(_) => { "`=` and `!=` compare two numbers or two truth values.\n" }
+            Taker::Arithmetic => "`+`, `-`, `*`, `/` and `%` take two numbers.\n",
+            Taker::Condition => "A condition is a truth value, as in `if n > 0 { .. }`.\n",
+            Taker::Hold => "A hold is a number of ticks, or `forever`.\n",
+            Taker::Send => {
+                "Numbers are sent: for a truth value send 1 or 0, as in `if f { send y 1; } else { send y 0; }`.\n"
+            }
+            Taker::Change(_) => "Bags and queues hold numbers.\n",
+            Taker::Times => "`times` counts a number in a bag, as in `times(1, b)`.\n",
+            Taker::Variable(_) => "A variable takes a number, and a flag a truth value.\n",
+            Taker::Flag(_) => "A flag takes a truth value, as in `f := n > 0;`.\n",
+        }
+    }
+}
+
+/// A type, as words.
+#[derive(Clone, Copy)]
+pub struct TypeWords(pub ValueType);
+
+impl fmt::Display for TypeWords {
+    fn fmt<W: fmt::Write>(&self, f: &mut fmt::Formatter<W>) -> fmt::Result {
+        f.write_str(match self.0 {
+            ValueType::Number => "a number",
+            ValueType::Truth => "a truth value",
+        })
+    }
+}

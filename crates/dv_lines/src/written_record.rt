@@ -1,0 +1,259 @@
+//! A record of a run as written entries, by words that many records share.
+
+ghost use Rattle.std.specs.Prelude.{◌≡◌, ◌≤◌, ◌^◌, List, OnErr, OnOk, length};
+ghost use Rattle.dv_bag.specs.declared.entry.Entry.{Entry};
+ghost use Rattle.dv_bag.specs.declared.entry.Outer.{Outer as OuterOfCode};
+ghost use Rattle.dv_bag.specs.declared.entry.What.TheVariants as what;
+ghost use Rattle.dv_record.specs.Told.{entry, lines_from, with_lines};
+ghost use Rattle.dv_lines.specs.Entries.{line_by};
+ghost use Rattle.dv_lines.specs.Tables.{rows_found};
+
+use crate::lines::Lines;
+use crate::words::Words;
+use dv_bag::{Bags, Fault, Kind, Outer, Sent, State};
+use dv_record::{History, Record};
+use dv_time::Time;
+use dv_written::{HandsOver, MakesRecord, OfJob, WrittenEntry, WrittenPart};
+use std::alloc::{AllocError, Global};
+use std::marker::{Model, PhantomData};
+use std::mem;
+
+/// Makes records whose entries are written by words. Records share the words, and may do so on different threads. A contract reads
+/// the words.
+#[derive(Drop)]
+pub struct WrittenRecords<'w, N: OfJob> {
+    words: &'w Words,
+    of: PhantomData<N>,
+}
+
+impl<'w, N: OfJob> Model for WrittenRecords<'w, N> {
+    ghost use Rattle.std.specs.Prelude.{◌≡◌, List};
+    ghost use Rattle.dv_bag.specs.declared.entry.Entry.{Entry};
+    ghost use Rattle.dv_lines.specs.Entries.{line_by};
+    ghost use Rattle.dv_lines.specs.Tables.{rows_found};
+    ghost use Rattle.dv_lines.specs.Words.{WordTexts};
+
+    ghost Value = { List WordTexts };
+
+    ghost view = { λ r. rows_found r.words.now };
+
+    ghost invariant = { λ r. (e : Entry) → line_by (rows_found r.words.now) e ≡ N.line e };
+}
+
+impl<'w, N: OfJob> WrittenRecords<'w, N> {
+    /// By these words.
+    pub fn new(words: &'w Words) -> Self
+        requires { (e : Entry) → line_by (rows_found words.now) e ≡ N.line e }
+    {
+        WrittenRecords {
+            words,
+            of: PhantomData,
+        }
+    }
+
+    // The line of a transition, in place of what stood among the lines.
+    #[inline]
+    fn put_transition(
+        &self,
+        lines: &mut Lines,
+        now: Time,
+        component: u32,
+        kind: Kind,
+        state: &State,
+        sent: &Sent,
+    ) -> Result<(), AllocError>
+        ensures { OnOk result (lines.new
+            ≡ N.line (entry now component (what.Transition kind state.now) sent.now)) }
+    {
+        lines.clear();
+        lines.transition(&self.words.component(component), now, kind, state, sent)
+    }
+
+    // The line of a fault, in place of what stood among the lines.
+    fn put_fault(
+        &self,
+        lines: &mut Lines,
+        now: Time,
+        component: u32,
+        fault: Fault,
+        sent: &Sent,
+    ) -> Result<(), AllocError>
+        ensures { OnOk result (lines.new
+            ≡ N.line (entry now component (what.Fault fault) sent.now)) }
+    {
+        lines.clear();
+        lines.faulted(&self.words.component(component), now, fault, sent)
+    }
+}
+
+impl<'w, N: OfJob> MakesRecord<WrittenRecord<'w, N>> for WrittenRecords<'w, N> {
+    fn make(&self, alloc: Global) -> Result<WrittenRecord<'w, N>, AllocError> {
+        Ok(WrittenRecord {
+            by: WrittenRecords::new(self.words),
+            line: Lines::new(alloc),
+            kept: WrittenPart::new(alloc),
+            entries: 0,
+            lines: 0,
+            told: History::new(),
+            settled: History::new(),
+            past: History::new(),
+            alloc,
+        })
+    }
+}
+
+/// What was told since the record handed over last is kept as a part of written entries. A contract reads all that was told, what of it
+/// is settled, and what was handed over.
+#[derive(Drop)]
+pub struct WrittenRecord<'w, N: OfJob> {
+    by: WrittenRecords<'w, N>,
+    // Where a line is put before it is kept.
+    line: Lines,
+    kept: WrittenPart<N>,
+    // How many entries and lines are settled.
+    entries: usize,
+    lines: usize,
+    told: History,
+    settled: History,
+    past: History,
+    alloc: Global,
+}
+
+impl<'w, N: OfJob> Model for WrittenRecord<'w, N> {
+    ghost use Rattle.std.specs.Prelude.{◌≡◌, ◌≤◌, length};
+    ghost use Rattle.dv_bag.specs.Part.{joined};
+    ghost use Rattle.dv_record.specs.Told.{first_of};
+    ghost use Rattle.dv_lines.specs.Entries.{Written};
+
+    ghost Value = { Written };
+
+    ghost view = { λ r. record {
+      told = r.told.part;
+      settled = r.settled.part;
+      past = r.past.part;
+    } };
+
+    ghost invariant = { λ r. (r.told.part ≡ joined r.past.part r.kept)
+        × (r.settled.part ≡ joined r.past.part (first_of r.entries r.lines r.kept))
+        × (r.entries ≤ length r.kept.entries)
+        × (r.lines ≤ length r.kept.outer) };
+}
+
+impl<'w, N: OfJob> Record for WrittenRecord<'w, N> {
+    ghost use Rattle.dv_lines.specs.Entries.{handed_of, settled_of, told_of};
+
+    ghost told = { told_of };
+
+    ghost settled = { settled_of };
+
+    ghost handed = { handed_of };
+
+    #[inline]
+    fn moved(
+        &mut self,
+        time: Time,
+        component: u32,
+        kind: Kind,
+        state: &State,
+        sent: &Sent,
+    ) -> Result<(), AllocError> {
+        self.by
+            .put_transition(&mut self.line, time, component, kind, state, sent)?;
+        let line = self.line.as_bytes();
+        let entry = WrittenEntry::moved(self.alloc, line, time, component, kind, state, sent)?;
+        self.kept.push_entry(entry)?;
+        self.told = self.told.and_moved(&time, &component, &kind, state, sent);
+        Ok(())
+    }
+
+    fn faulted(
+        &mut self,
+        time: Time,
+        component: u32,
+        fault: Fault,
+        sent: &Sent,
+    ) -> Result<(), AllocError> {
+        self.by
+            .put_fault(&mut self.line, time, component, fault, sent)?;
+        let line = self.line.as_bytes();
+        let entry = WrittenEntry::faulted(self.alloc, line, time, component, fault, sent)?;
+        self.kept.push_entry(entry)?;
+        self.told = self.told.and_faulted(&time, &component, &fault, sent);
+        Ok(())
+    }
+
+    fn left(&mut self, time: Time, values: &Bags) -> Result<(), AllocError> {
+        push_left(&mut self.kept, time, values)?;
+        self.told = self.told.and_left(&time, values);
+        Ok(())
+    }
+
+    fn settle(&mut self) {
+        self.entries = self.kept.entry_count();
+        self.lines = self.kept.outer_count();
+        self.settled = self.told.again();
+    }
+
+    fn roll_back(&mut self) {
+        self.kept.truncate(self.entries, self.lines);
+        self.told = self.settled.again();
+    }
+
+    fn bytes(&self) -> &[u8] {
+        &[]
+    }
+
+    fn let_go(&mut self) {}
+}
+
+impl<'w, N: OfJob> HandsOver<N> for WrittenRecord<'w, N> {
+    fn hand_over(&mut self, alloc: Global) -> WrittenPart<N> {
+        self.entries = 0;
+        self.lines = 0;
+        self.past = self.told.again();
+        mem::replace(&mut self.kept, WrittenPart::new(alloc))
+    }
+}
+
+// What left at a time, behind what is there: a line for each port with values. Where memory is refused, the part is as before.
+fn push_left<N: OfJob>(
+    part: &mut WrittenPart<N>,
+    time: Time,
+    values: &Bags,
+) -> Result<(), AllocError>
+    requires { length values.now ≤ 2 ^ 32 }
+    ensures ok { OnOk result
+        (part.new ≡ with_lines (lines_from time 0 values.now) part.old) }
+    ensures err { OnErr result (part.new ≡ part.old) }
+{
+    let (entries, lines) = (part.entry_count(), part.outer_count());
+    match push_lines(part, time, values) {
+        Ok(()) => Ok(()),
+        Err(error) => {
+            part.truncate(entries, lines);
+            Err(error)
+        }
+    }
+}
+
+// The lines of what left at a time, behind those that are there: one for each port with values. Where memory is refused some may be
+// there.
+fn push_lines<N: OfJob>(
+    part: &mut WrittenPart<N>,
+    time: Time,
+    values: &Bags,
+) -> Result<(), AllocError>
+    requires { length values.now ≤ 2 ^ 32 }
+    ensures lines { OnOk result
+        (part.new ≡ with_lines (lines_from time 0 values.now) part.old) }
+    ensures grown { (more : List OuterOfCode) × (part.new ≡ with_lines more part.old) }
+{
+    for held in values.held() {
+        part.push_outer(Outer {
+            time,
+            port: held.port as u32,
+            values: held.bag.clone()?,
+        })?;
+    }
+    Ok(())
+}

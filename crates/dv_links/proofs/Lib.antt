@@ -1,2 +1,0 @@
--- The order of the links.
-pub mod Rising

@@ -1,0 +1,17 @@
+use Rattle.std.proofs.Common.{◌∙◌, ◌<◌, None, ap, arith, length, map, sym}
+use Rattle.std.proofs.Math.ListN.{set}
+use Rattle.std.proofs.lemmas.List.{get_or-map, map-set}
+use Rattle.dv_devs.specs.NextTimes.{earlier}
+use Rattle.dv_proc.specs.Foreseeing.{ticks_of}
+use Rattle.dv_plan.proofs.responses.lower.Goals as goal
+
+pub returns-then-place-len : goal.returns-then-place-len
+returns-then-place-len c =
+    let items = c.args.responses.now.items in
+    let p = c.args.process in
+    let lt : p < length items = omega (arith, c.if-place-len.true) in
+    map-set ticks_of items p c.sooner-least.result
+    ∙ ap (set (map ticks_of items) p)
+    (c.sooner-least.ensures
+    ∙ ap (λ r. earlier (ticks_of r) (ticks_of c.args.response)) c.index.ensures
+    ∙ ap (λ o. earlier o (ticks_of c.args.response)) (sym (get_or-map ticks_of items p c.index.result.now None lt)))

@@ -1,0 +1,6 @@
+use Rattle.std.proofs.Common.{◌≡◌, None, map, replicate}
+use Rattle.dv_proc.specs.Foreseeing.{ticks_of}
+use Rattle.dv_plan.proofs.responses.no_responses.Given as goal
+
+abbrev pub invariant-loop : goal.invariant-loop
+invariant-loop l = map ticks_of l.found.items ≡ replicate l.counter None

@@ -1,0 +1,119 @@
+//! The links between processes.
+
+ghost use Rattle.std.specs.Prelude.{◌≡◌, ◌*◌, ◌<◌, ◌≤◌, ◌^◌, ◌++◌, length, map, IfOk, OnOk};
+ghost use Rattle.dv_conservative.specs.World.{Job, incoming_from, outgoing_from};
+ghost use Rattle.dv_partition.specs.Limits.{greatest_processes};
+ghost use Rattle.dv_plan.specs.Channels.{away_of};
+ghost use Rattle.dv_proc.specs.Channels.{meant_channel};
+ghost use Rattle.dv_plan.specs.Keys.{all_sent, sends, sent_by};
+
+use dv_proc::Channel;
+use dv_share::Link;
+use std::alloc::{AllocError, Global};
+
+/// A link between processes that leads away from one: its number, and where it leads.
+#[derive(Clone, Copy, Debug, PartialEq, Eq)]
+pub struct Away {
+    pub number: u32,
+    pub target: u32,
+}
+
+/// The numbers of the links that lead to a process.
+///
+/// # Errors
+///
+/// No memory for the list.
+pub fn incoming(alloc: Global, channels: &[Channel], process: u32) -> Result<Vec<u32>, AllocError>
+    requires { length channels.now ≤ 2 ^ 32 }
+    ensures { IfOk result (λ found. found.items
+        ≡ incoming_from process 0 (map meant_channel channels.now)) }
+{
+    let mut found = Vec::new(alloc);
+    for (number, channel) in channels.iter().enumerate() {
+        if channel.target == process {
+            found.push(number as u32)?;
+        }
+    }
+    Ok(found)
+}
+
+/// The links that lead away from a process.
+///
+/// # Errors
+///
+/// No memory for the list.
+pub fn outgoing(alloc: Global, channels: &[Channel], process: u32) -> Result<Vec<Away>, AllocError>
+    requires { length channels.now ≤ 2 ^ 32 }
+    ensures { IfOk result (λ found. (job : Job) → map (away_of job process) found.items
+        ≡ outgoing_from job process 0 (map meant_channel channels.now)) }
+{
+    let mut found = Vec::new(alloc);
+    for (number, channel) in channels.iter().enumerate() {
+        if channel.source == process {
+            found.push(Away {
+                number: number as u32,
+                target: channel.target,
+            })?;
+        }
+    }
+    Ok(found)
+}
+
+/// The links between so many processes, by the links of each two of them.
+///
+/// # Errors
+///
+/// No memory for the list.
+pub(crate) fn channels(
+    alloc: Global,
+    processes: u32,
+    pairs: &[Vec<Link>],
+) -> Result<Vec<Channel>, AllocError>
+    requires few { processes ≤ greatest_processes }
+    requires long { length pairs.now ≡ processes * processes }
+    ensures { IfOk result (λ found. map meant_channel found.items
+        ≡ all_sent (sends processes (map (λ list. list.items) pairs.now)) processes 0 processes) }
+{
+    let mut found = Vec::new(alloc);
+    for source in 0..processes {
+        add_channels(source, processes, pairs, &mut found)?;
+    }
+    Ok(found)
+}
+
+// Adds the links that lead from a process.
+fn add_channels(
+    source: u32,
+    processes: u32,
+    pairs: &[Vec<Link>],
+    found: &mut Vec<Channel>,
+) -> Result<(), AllocError>
+    requires few { processes ≤ greatest_processes }
+    requires there { source < processes }
+    requires long { length pairs.now ≡ processes * processes }
+    ensures { OnOk result (map meant_channel found.new.items
+        ≡ map meant_channel found.old.items
+        ++ sent_by (sends processes (map (λ list. list.items) pairs.now)) source 0 processes) }
+{
+    for target in 0..processes {
+        if sends_to(source, target, processes, pairs) {
+            found.push(Channel { source, target })?;
+        }
+    }
+    Ok(())
+}
+
+// Does a process send to another one.
+fn sends_to(source: u32, target: u32, processes: u32, pairs: &[Vec<Link>]) -> bool
+    requires few { processes ≤ greatest_processes }
+    requires source { source < processes }
+    requires target { target < processes }
+    requires long { length pairs.now ≡ processes * processes }
+    ensures { result ≡ sends processes (map (λ list. list.items) pairs.now) source target }
+{
+    if source == target {
+        return false;
+    }
+    let place = (source * processes + target) as usize;
+    !pairs[place].as_slice().is_empty()
+}

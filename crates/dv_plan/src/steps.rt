@@ -1,0 +1,44 @@
+//! The processes of a plan, run by a list of steps.
+
+ghost use Rattle.std.specs.Prelude.{List, IfOk};
+ghost use Rattle.dv_bag.specs.Bag.{Counts};
+ghost use Rattle.dv_plan.specs.Beginning.{CanRun};
+ghost use Rattle.dv_plan.specs.Runs.{HasStepped};
+
+use crate::plan::Plan;
+use crate::ran::Stepped;
+use crate::worlds::world_of;
+use dv_core::{PlannedJob, Step, into_parts};
+use dv_react::Atomic;
+use dv_record::PartRecord;
+use dv_written::Blanks;
+use std::alloc::{AllocError, Global};
+
+/// Makes the steps of a list with the processes of a plan, from their start: turns, puts, takes and stops, in any order, with
+/// so many packets on their way on a link at most. Whatever the list, each process has committed its part of the whole run
+/// before its clock, and each turn that is done makes progress.
+///
+/// # Errors
+///
+/// No memory for the processes and the replies, or to hand over what was committed.
+pub fn step_plan<J: PlannedJob, A: Atomic + Drop>(
+    alloc: Global,
+    job: J,
+    plan: Plan<A>,
+    work: &mut A::Work,
+    steps: &[Step],
+    capacity: usize,
+) -> Result<Stepped, AllocError>
+    requires comes { (a : A) (bags : List Counts) → A.comes a bags }
+    requires run { CanRun J.means A.behaviour A.fits job plan }
+    ensures { IfOk result (HasStepped (J.means job) capacity steps.now) }
+{
+    let mut world = world_of::<J, A, PartRecord, Blanks>(alloc, job, plan, &Blanks, capacity)?;
+    let replies = world.run(alloc, work, steps)?;
+    let (parts, clocks) = into_parts(alloc, world)?;
+    Ok(Stepped {
+        parts,
+        clocks,
+        replies,
+    })
+}

@@ -1,0 +1,170 @@
+//! What is counted of a trace.
+
+use crate::component::{ComponentCount, tally_all};
+use crate::error::StatsError;
+use crate::options::StatsOptions;
+use crate::output::OutputCount;
+use crate::span::{Side, Span};
+use crate::tally::{PortTallies, tallies_of};
+use dv_trace::{Entry, Outside, TraceLine};
+use dv_tree::Tree;
+use std::alloc::{AllocError, Global};
+
+/// What is counted of a trace so far.
+#[derive(Drop)]
+pub(crate) struct Counts {
+    /// By number; nothing of components that are not asked for.
+    pub(crate) components: Vec<Option<ComponentCount>>,
+    /// By port; empty where only some components are asked for.
+    pub(crate) outputs: Vec<OutputCount>,
+    /// By output, where quantiles are wanted.
+    pub(crate) tallies: Vec<PortTallies>,
+    /// The ticks that count. Its end is that of the trace once that is known.
+    pub(crate) span: Span,
+    // The ticks of the trace, once its end is known; before that the tick of the last line.
+    ticks: u64,
+    // The least tick of a clock, where there are clocks.
+    clock: Option<u64>,
+}
+
+impl Counts {
+    /// Nothing is counted yet.
+    pub(crate) fn new(
+        alloc: Global,
+        tree: &Tree<'_>,
+        options: &StatsOptions<'_>,
+    ) -> Result<Self, StatsError> {
+        let outputs = match options.only {
+            Some(_) => 0,
+            None => tree.output_count(),
+        };
+        Ok(Counts {
+            components: components_of(alloc, tree, options)?,
+            outputs: vec![in alloc; OutputCount::NOTHING; outputs]?,
+            tallies: tallies_of(alloc, outputs, options.quantiles)?,
+            span: Span::of(options.from, options.to),
+            ticks: 0,
+            clock: None,
+        })
+    }
+
+    /// What a line says.
+    pub(crate) fn add(&mut self, line: &TraceLine<'_>) -> Result<(), AllocError> {
+        match line {
+            TraceLine::Empty => Ok(()),
+            TraceLine::Entry(entry) => self.add_entry(entry),
+            TraceLine::Outside(outside) => self.add_outside(outside),
+            TraceLine::Whole(horizon) => {
+                self.ticks = horizon.saturating_add(1);
+                Ok(())
+            }
+            TraceLine::Clock(time) => {
+                self.clock = Some(match self.clock {
+                    Some(least) => least.min(time.tick),
+                    None => time.tick,
+                });
+                Ok(())
+            }
+            TraceLine::Partial => {
+                self.ticks = self.ticks.max(self.clock.unwrap_or(0));
+                Ok(())
+            }
+        }
+    }
+
+    fn add_entry(&mut self, entry: &Entry<'_>) -> Result<(), AllocError> {
+        self.ticks = entry.time.tick;
+        match self.components.get_mut(entry.component as usize) {
+            Some(Some(component)) => component.add(entry, self.span),
+            Some(None) | None => Ok(()),
+        }
+    }
+
+    // What leaves the model.
+    fn add_outside(&mut self, outside: &Outside<'_>) -> Result<(), AllocError> {
+        let tick = outside.time.tick;
+        self.ticks = tick;
+        match self.span.side_of(tick) {
+            Side::Within => {
+                self.send(outside);
+                tally_all(&mut self.tallies, tick, &outside.sent)
+            }
+            Side::Before | Side::Behind => Ok(()),
+        }
+    }
+
+    fn send(&mut self, outside: &Outside<'_>) {
+        for sending in &outside.sent {
+            if let Some(output) = self.outputs.get_mut(sending.port) {
+                output.send(outside.time.tick, sending.values);
+            }
+        }
+    }
+
+    /// The time behind the last line passes.
+    pub(crate) fn finish(&mut self) {
+        self.span = self.span.cut(self.ticks);
+        for component in &mut self.components {
+            if let Some(component) = component {
+                component.pass(self.span.before);
+            }
+        }
+    }
+}
+
+// The components that are asked for.
+fn components_of(
+    alloc: Global,
+    tree: &Tree<'_>,
+    options: &StatsOptions<'_>,
+) -> Result<Vec<Option<ComponentCount>>, StatsError> {
+    let span = Span::of(options.from, options.to);
+    let mut components = Vec::with_capacity(alloc, tree.component_count())?;
+    let mut has_some = false;
+    for component in 0..tree.component_count() {
+        if is_asked_for(alloc, tree, component, options.only)? {
+            let phase = start_phase(tree, component);
+            let scope = tree.scope(component);
+            let count = ComponentCount::new(alloc, scope, phase, span, options.quantiles)?;
+            components.push(Some(count))?;
+            has_some = true;
+        } else {
+            components.push(None)?;
+        }
+    }
+    if has_some {
+        Ok(components)
+    } else {
+        Err(StatsError::NoPath)
+    }
+}
+
+// Whether a component has the path, or one that begins with it and a dot.
+fn is_asked_for(
+    alloc: Global,
+    tree: &Tree<'_>,
+    component: usize,
+    only: Option<&str>,
+) -> Result<bool, AllocError> {
+    let Some(only) = only else {
+        return Ok(true);
+    };
+    if component >= tree.component_count() {
+        return Ok(false);
+    }
+    let path = tree.path_text(alloc, component)?;
+    Ok(match path.as_str().strip_prefix(only) {
+        Some(rest) => rest.is_empty() || rest.starts_with('.'),
+        None => false,
+    })
+}
+
+fn start_phase(tree: &Tree<'_>, component: usize) -> u32 {
+    if component >= tree.component_count() {
+        return 0;
+    }
+    match tree.atomic(component).starts.first() {
+        Some(start) => tree.scope(component).phase(start.phase.number).unwrap_or(0),
+        None => 0,
+    }
+}

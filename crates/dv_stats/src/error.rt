@@ -1,0 +1,48 @@
+//! Why the numbers are not written to their end.
+
+use dv_text::WriteError;
+use dv_trace::{TraceError, TraceRefusal};
+use std::alloc::{AllocError, AllocFailed};
+
+/// Why the numbers are not written to their end.
+#[derive(Clone, Copy, Debug, PartialEq, Eq)]
+pub enum StatsError {
+    /// No component has the path that is asked for; nothing was written.
+    NoPath,
+    /// The trace is refused; nothing was written.
+    Refused(TraceRefusal),
+    /// A write failed; a beginning of the text was written.
+    Write,
+    /// An allocation was refused; nothing was written, or a beginning of the text.
+    Memory,
+}
+
+impl From<TraceError> for StatsError {
+    fn from(error: TraceError) -> Self {
+        match error {
+            TraceError::Refused(refusal) => StatsError::Refused(refusal),
+            TraceError::Memory => StatsError::Memory,
+        }
+    }
+}
+
+impl From<WriteError> for StatsError {
+    fn from(error: WriteError) -> Self {
+        match error {
+            WriteError::Write => StatsError::Write,
+            WriteError::Memory => StatsError::Memory,
+        }
+    }
+}
+
+impl From<AllocError> for StatsError {
+    fn from(_error: AllocError) -> Self {
+        StatsError::Memory
+    }
+}
+
+impl<T: Drop> From<AllocFailed<T>> for StatsError {
+    fn from(_error: AllocFailed<T>) -> Self {
+        StatsError::Memory
+    }
+}

@@ -1,0 +1,120 @@
+//! How often each value came.
+
+use dv_trace::Values;
+use std::alloc::{AllocError, Global};
+use std::collections::BTreeMap;
+
+/// Some values, each with how often it came.
+#[derive(Drop)]
+pub(crate) struct Tally {
+    counts: BTreeMap<i64, u64>,
+    /// How many values there are, copies counted.
+    pub(crate) count: u64,
+}
+
+impl Tally {
+    /// No values.
+    pub(crate) fn new(alloc: Global) -> Self {
+        Tally {
+            counts: BTreeMap::new(alloc),
+            count: 0,
+        }
+    }
+
+    /// A value came. A count that has reached 2^64 - 1 stays there.
+    pub(crate) fn add(&mut self, value: i64) -> Result<(), AllocError> {
+        match self.counts.get_mut(&value) {
+            Some(count) => *count = count.saturating_add(1),
+            None => {
+                self.counts.insert(value, 1)?;
+            }
+        }
+        self.count = self.count.saturating_add(1);
+        Ok(())
+    }
+
+    /// The values ascending, with how often each came.
+    pub(crate) fn counts(&self) -> &BTreeMap<i64, u64> {
+        &self.counts
+    }
+
+    /// The least value.
+    pub(crate) fn least(&self) -> Option<i64> {
+        let (value, _) = self.counts.first_key_value()?;
+        Some(*value)
+    }
+
+    /// The greatest value.
+    pub(crate) fn greatest(&self) -> Option<i64> {
+        let (value, _) = self.counts.last_key_value()?;
+        Some(*value)
+    }
+
+    /// The least value such that at least so many of a hundred values are not above it: the quantile by the nearest rank.
+    pub(crate) fn quantile(&self, percent: u8) -> Option<i64> {
+        let hundredths = u128::from(self.count).saturating_mul(u128::from(percent));
+        let mut passed: u128 = 0;
+        for (value, count) in self.counts.iter() {
+            passed = passed.saturating_add(u128::from(*count));
+            if passed.saturating_mul(100) >= hundredths {
+                return Some(*value);
+            }
+        }
+        None
+    }
+}
+
+/// The values that a port sent, and the ticks between one instant at which it sent and the next.
+#[derive(Drop)]
+pub(crate) struct PortTallies {
+    pub(crate) values: Tally,
+    pub(crate) gaps: Tally,
+    // The tick of the last instant, where there was one.
+    last: Option<u64>,
+}
+
+impl PortTallies {
+    /// A port that has sent nothing.
+    pub(crate) fn new(alloc: Global) -> Self {
+        PortTallies {
+            values: Tally::new(alloc),
+            gaps: Tally::new(alloc),
+            last: None,
+        }
+    }
+
+    /// Values are sent at an instant of a tick.
+    pub(crate) fn send(&mut self, tick: u64, values: Values<'_>) -> Result<(), AllocError> {
+        if let Some(last) = self.last {
+            let gap = tick.saturating_sub(last);
+            self.gaps.add(i64::try_from(gap).unwrap_or(i64::MAX))?;
+        }
+        self.last = Some(tick);
+        tally_all(&mut self.values, values)
+    }
+}
+
+// The reader of the trace takes nothing but numbers between commas.
+fn tally_all(tally: &mut Tally, values: Values<'_>) -> Result<(), AllocError> {
+    for piece in values.text.split(',') {
+        if let Ok(value) = piece.parse::<i64>() {
+            tally.add(value)?;
+        }
+    }
+    Ok(())
+}
+
+/// The tallies of so many ports; none where they are not wanted.
+pub(crate) fn tallies_of(
+    alloc: Global,
+    ports: usize,
+    is_wanted: bool,
+) -> Result<Vec<PortTallies>, AllocError> {
+    let mut tallies = Vec::new(alloc);
+    if is_wanted {
+        for _port in 0..ports {
+            tallies.push(PortTallies::new(alloc))?;
+        }
+    }
+    Ok(tallies)
+}

@@ -1,0 +1,178 @@
+//! What arrives at the components at one time: what components send then, and the inputs of that time.
+
+use dv_bag::Input;
+use dv_flat::{ComponentPort, DirectLink, EntryLink, LinkLists};
+use dv_time::Time;
+use dv_trace::{Entry, Sending};
+use std::alloc::{AllocError, Global};
+
+/// So many copies of a value at an input port of a component.
+#[derive(Clone, Copy)]
+pub(crate) struct Arrival {
+    pub(crate) to: ComponentPort,
+    pub(crate) value: i64,
+    pub(crate) copies: u64,
+}
+
+/// By which links values travel, and what comes from outside.
+#[derive(Clone, Copy)]
+pub(crate) struct Routes<'a> {
+    links: &'a LinkLists,
+    // The inputs that are not before the last time that was asked for.
+    inputs: &'a [Input],
+}
+
+impl<'a> Routes<'a> {
+    /// Routes by these links, at the start of these inputs.
+    pub(crate) fn new(links: &'a LinkLists, inputs: &'a [Input]) -> Self {
+        Routes { links, inputs }
+    }
+
+    /// What arrives at a time, at which these are the lines of components. It stands by component, by port and by value. Times are
+    /// asked for in their order.
+    ///
+    /// # Errors
+    ///
+    /// No memory for what arrives.
+    pub(crate) fn arrivals_at(
+        &mut self,
+        alloc: Global,
+        time: Time,
+        entries: &[Entry<'_>],
+    ) -> Result<Vec<Arrival>, AllocError> {
+        let mut arrivals = Vec::new(alloc);
+        for entry in entries {
+            add_sent(&self.links.direct, entry, &mut arrivals)?;
+        }
+        for input in self.inputs_at(time) {
+            add_input(&self.links.entries, *input, &mut arrivals)?;
+        }
+        arrivals.sort_unstable_by_key(|arrival| {
+            (arrival.to.component, arrival.to.port, arrival.value)
+        });
+        Ok(arrivals)
+    }
+
+    // The inputs of a time, which are passed by then.
+    fn inputs_at(&mut self, time: Time) -> &'a [Input] {
+        let passed = self
+            .inputs
+            .partition_point(|input| input.time.is_before(time));
+        let inputs = behind(self.inputs, passed);
+        let count = inputs.partition_point(|input| !time.is_before(input.time));
+        self.inputs = behind(inputs, count);
+        inputs.get(..count).unwrap_or(&[])
+    }
+}
+
+fn behind<T>(items: &[T], place: usize) -> &[T] {
+    items.get(place..).unwrap_or(&[])
+}
+
+// What a component sends goes along the links from its ports.
+fn add_sent(
+    links: &[DirectLink],
+    entry: &Entry<'_>,
+    arrivals: &mut Vec<Arrival>,
+) -> Result<(), AllocError> {
+    for sending in &entry.sent {
+        let from_port = direct_from(links, entry.component, sending.port);
+        add_sending(from_port, sending, arrivals)?;
+    }
+    Ok(())
+}
+
+fn add_sending(
+    links: &[DirectLink],
+    sending: &Sending<'_>,
+    arrivals: &mut Vec<Arrival>,
+) -> Result<(), AllocError> {
+    for link in links {
+        add_values(link, sending, arrivals)?;
+    }
+    Ok(())
+}
+
+// The values of a sending at the end of a link. The reader of the trace has read each of them, so each is a number.
+fn add_values(
+    link: &DirectLink,
+    sending: &Sending<'_>,
+    arrivals: &mut Vec<Arrival>,
+) -> Result<(), AllocError> {
+    for piece in sending.values.text.split(',') {
+        if let Ok(value) = piece.parse::<i64>() {
+            arrivals.push(Arrival {
+                to: link.to,
+                value,
+                copies: link.copies,
+            })?;
+        }
+    }
+    Ok(())
+}
+
+// An input goes along the links from its port of the root.
+fn add_input(
+    links: &[EntryLink],
+    input: Input,
+    arrivals: &mut Vec<Arrival>,
+) -> Result<(), AllocError> {
+    for link in entries_from(links, input.port) {
+        arrivals.push(Arrival {
+            to: link.to,
+            value: input.value,
+            copies: link.copies,
+        })?;
+    }
+    Ok(())
+}
+
+// The links from an output port of a component. Links are in the order of where they begin.
+fn direct_from(links: &[DirectLink], component: u32, port: usize) -> &[DirectLink] {
+    let first = links.partition_point(|link| {
+        (link.from.component, link.from.port as usize) < (component, port)
+    });
+    let links = behind(links, first);
+    let count = links.partition_point(|link| {
+        link.from.component == component && link.from.port as usize == port
+    });
+    links.get(..count).unwrap_or(&[])
+}
+
+// The links from an input port of the root.
+fn entries_from(links: &[EntryLink], from: u32) -> &[EntryLink] {
+    let first = links.partition_point(|link| link.from < from);
+    let links = behind(links, first);
+    let count = links.partition_point(|link| link.from == from);
+    links.get(..count).unwrap_or(&[])
+}
+
+/// Those of the arrivals of a time that come to a component.
+pub(crate) fn arrivals_to(arrivals: &[Arrival], component: u32) -> &[Arrival] {
+    let first = arrivals.partition_point(|arrival| arrival.to.component < component);
+    let arrivals = behind(arrivals, first);
+    let count = arrivals.partition_point(|arrival| arrival.to.component == component);
+    arrivals.get(..count).unwrap_or(&[])
+}
+
+/// The values of arrivals as a trace would have them: with commas between them, copies repeated.
+///
+/// # Errors
+///
+/// No memory for the longer text.
+pub(crate) fn push_values(text: &mut String, arrivals: &[Arrival]) -> Result<(), AllocError> {
+    for arrival in arrivals {
+        push_copies(text, *arrival)?;
+    }
+    Ok(())
+}
+
+fn push_copies(text: &mut String, arrival: Arrival) -> Result<(), AllocError> {
+    for _copy in 0..arrival.copies {
+        if !text.is_empty() {
+            text.push(',')?;
+        }
+        write!(text, "{}", arrival.value)?;
+    }
+    Ok(())
+}

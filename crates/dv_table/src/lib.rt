@@ -1,0 +1,23 @@
+//! A trace as a table for other tools: a row for each thing that happened, as comma-separated values or as JSON lines. What
+//! arrived at components is in no trace; it is worked out from what was sent, from the links and from the inputs.
+#![tactic(auto)]
+
+/// What arrives at the components.
+mod arrivals;
+/// Rows as comma-separated values.
+mod csv_rows;
+/// Why a table is not written to its end.
+pub mod error;
+/// What happens at one time, line after line of a trace.
+mod instants;
+/// Rows as JSON lines.
+mod json_rows;
+/// Rows, and where they go.
+mod row;
+/// The door: the table of a trace, given to a writer.
+pub mod table;
+/// From what happened to rows.
+mod teller;
+
+pub use error::TableError;
+pub use table::{TableForm, TableOptions, write_table};

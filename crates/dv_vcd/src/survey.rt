@@ -1,0 +1,90 @@
+//! The first reading of a trace: how far it reaches, and how its ports are shown.
+
+use crate::ports::Ports;
+use crate::shown::AllShown;
+use dv_bag::Input;
+use dv_trace::{End, Reach, Sending, TraceError, TraceLine, TraceReader, check_trace, read_part};
+use dv_tree::Tree;
+use std::alloc::Global;
+
+/// What the first reading of a trace tells.
+#[derive(Drop)]
+pub(crate) struct Survey {
+    pub(crate) reach: Reach,
+    pub(crate) ports: Ports,
+}
+
+/// Reads a trace whose ports are marked.
+pub(crate) fn survey_marked(
+    alloc: Global,
+    tree: &Tree<'_>,
+    trace: &[u8],
+    end: End,
+) -> Result<Survey, TraceError> {
+    Ok(Survey {
+        reach: check_trace(alloc, tree, trace, end)?,
+        ports: Ports::Marked,
+    })
+}
+
+/// Reads a trace whose ports show their last values.
+pub(crate) fn survey_held(
+    alloc: Global,
+    tree: &Tree<'_>,
+    trace: &[u8],
+    end: End,
+    shown: &AllShown<'_>,
+    inputs: &[Input],
+) -> Result<Survey, TraceError> {
+    let mut reader = TraceReader::new(alloc, tree)?;
+    let mut ports = Ports::held(alloc, shown.behind)?;
+    let mut last = 0;
+    for line in read_part(trace, end).split(|byte| *byte == b'\n') {
+        match reader.read_line(line) {
+            Ok(line) => watch(&mut ports, shown, &line, &mut last),
+            Err(error) => return Err(error),
+        }
+    }
+    let reach = reader.end(end)?;
+    let behind = tick_behind(reach, last);
+    for input in inputs.iter().take_while(|input| input.time.tick < behind) {
+        let code = shown.inputs.saturating_add(u64::from(input.port));
+        ports.pass(input.time.tick, code, 1);
+    }
+    Ok(Survey { reach, ports })
+}
+
+/// The first tick behind a trace whose last line is at a tick.
+pub(crate) fn tick_behind(reach: Reach, last: u64) -> u64 {
+    let next = last.saturating_add(1);
+    match reach {
+        Reach::Whole(horizon) => horizon.saturating_add(1),
+        Reach::Partial(Some(clock)) => clock.tick.max(next),
+        Reach::Partial(None) | Reach::NoEnd(_) => next,
+    }
+}
+
+// What passes by ports at a line. The tick of the last line is kept.
+fn watch(ports: &mut Ports, shown: &AllShown<'_>, line: &TraceLine<'_>, last: &mut u64) {
+    match line {
+        TraceLine::Entry(entry) => {
+            *last = entry.time.tick;
+            if let Some(shown) = shown.components.get(entry.component as usize) {
+                watch_sent(ports, *last, shown.port(0), &entry.sent);
+            }
+        }
+        TraceLine::Outside(outside) => {
+            *last = outside.time.tick;
+            watch_sent(ports, *last, shown.outputs, &outside.sent);
+        }
+        TraceLine::Empty | TraceLine::Whole(_) | TraceLine::Clock(_) | TraceLine::Partial => {}
+    }
+}
+
+// What passes in a tick by ports whose codes are from a first one on.
+fn watch_sent(ports: &mut Ports, tick: u64, first: u64, sent: &[Sending<'_>]) {
+    for sending in sent {
+        let code = first.saturating_add(sending.port as u64);
+        ports.pass(tick, code, sending.values.count);
+    }
+}

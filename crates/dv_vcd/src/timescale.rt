@@ -1,0 +1,111 @@
+//! How long a tick is on the scale of a dump.
+
+use std::fmt;
+use std::str::FromStr;
+
+/// Of how many units a tick is. A dump knows no other counts.
+#[derive(Clone, Copy, Debug, PartialEq, Eq)]
+pub enum UnitCount {
+    One,
+    Ten,
+    Hundred,
+}
+
+impl UnitCount {
+    fn word(self) -> &'static str {
+        match self {
+            UnitCount::One => "1",
+            UnitCount::Ten => "10",
+            UnitCount::Hundred => "100",
+        }
+    }
+}
+
+/// A unit of time, from a second down to a femtosecond.
+#[derive(Clone, Copy, Debug, PartialEq, Eq)]
+pub enum TimeUnit {
+    Second,
+    Millisecond,
+    Microsecond,
+    Nanosecond,
+    Picosecond,
+    Femtosecond,
+}
+
+impl TimeUnit {
+    // All units. The one whose word ends the words of the others is last.
+    const ALL: [TimeUnit; 6] = [
+        TimeUnit::Millisecond,
+        TimeUnit::Microsecond,
+        TimeUnit::Nanosecond,
+        TimeUnit::Picosecond,
+        TimeUnit::Femtosecond,
+        TimeUnit::Second,
+    ];
+
+    fn word(self) -> &'static str {
+        match self {
+            TimeUnit::Second => "s",
+            TimeUnit::Millisecond => "ms",
+            TimeUnit::Microsecond => "us",
+            TimeUnit::Nanosecond => "ns",
+            TimeUnit::Picosecond => "ps",
+            TimeUnit::Femtosecond => "fs",
+        }
+    }
+}
+
+/// How long a tick is: so many units of time. It is displayed as `10 us`.
+#[derive(Clone, Copy, Debug, PartialEq, Eq)]
+pub struct Timescale {
+    pub count: UnitCount,
+    pub unit: TimeUnit,
+}
+
+impl Timescale {
+    /// A second a tick: what is taken where nothing is said.
+    pub const SECOND: Timescale = Timescale {
+        count: UnitCount::One,
+        unit: TimeUnit::Second,
+    };
+}
+
+impl fmt::Display for Timescale {
+    fn fmt<W: fmt::Write>(&self, f: &mut fmt::Formatter<W>) -> fmt::Result {
+        write!(f, "{} {}", self.count.word(), self.unit.word())
+    }
+}
+
+/// A text that names no time scale.
+#[derive(Clone, Copy, Debug, PartialEq, Eq)]
+pub struct NoTimescale;
+
+impl FromStr for Timescale {
+    type Err = NoTimescale;
+
+    /// Reads `1`, `10` or `100`, blanks or none, and `s`, `ms`, `us`, `ns`, `ps` or `fs`.
+    ///
+    /// # Errors
+    ///
+    /// Any other text.
+    fn from_str(text: &str) -> Result<Self, NoTimescale> {
+        for unit in &TimeUnit::ALL {
+            if let Some(count) = text.strip_suffix(unit.word()) {
+                return Ok(Timescale {
+                    count: count_in(count.trim_end_matches(' '))?,
+                    unit: *unit,
+                });
+            }
+        }
+        Err(NoTimescale)
+    }
+}
+
+fn count_in(text: &str) -> Result<UnitCount, NoTimescale> {
+    match text {
+        "1" => Ok(UnitCount::One),
+        "10" => Ok(UnitCount::Ten),
+        "100" => Ok(UnitCount::Hundred),
+        _ => Err(NoTimescale),
+    }
+}

@@ -1,0 +1,232 @@
+//! The views that a folder may have, and how each is made.
+
+use dv_partition::Partition;
+use dv_trace::End;
+use dv_tree::Tree;
+use dv_views::{
+    Form, StatsOptions, StatsWriter, TableForm, TableOptions, TimeUnit, Timescale, UnitCount,
+    ViewError, WaveOptions, accept, graph_bytes, load, stats_bytes, table_bytes, vcd_bytes,
+    warnings_bytes,
+};
+use std::alloc::Global;
+use std::io::Write;
+
+/// How many bytes of a trace a writer is given at a time: lines are cut, and some pieces have several.
+const PIECE_LENGTH: usize = 50;
+
+/// The model, the trace and the inputs of a folder.
+#[derive(Drop)]
+pub struct Texts {
+    pub model: Vec<u8>,
+    pub trace: Vec<u8>,
+    pub inputs: Option<Vec<u8>>,
+    /// The path whose components' numbers are asked for.
+    pub only: String,
+}
+
+impl Texts {
+    fn inputs(&self) -> Option<&[u8]> {
+        self.inputs.as_ref().map(|inputs| inputs.as_slice())
+    }
+}
+
+/// Which view.
+#[derive(Clone, Copy)]
+pub enum View {
+    Graph,
+    TwoProcesses,
+    Warnings,
+    Dump,
+    HeldDump,
+    InputsDump,
+    PartialDump,
+    Columns,
+    Csv,
+    CsvByPieces,
+    Quantiles,
+    Span,
+    Only,
+    Partial,
+    Table,
+    PartialTable,
+    JsonLines,
+}
+
+impl View {
+    pub const ALL: [View; 17] = [
+        View::Graph,
+        View::TwoProcesses,
+        View::Warnings,
+        View::Dump,
+        View::HeldDump,
+        View::InputsDump,
+        View::PartialDump,
+        View::Columns,
+        View::Csv,
+        View::CsvByPieces,
+        View::Quantiles,
+        View::Span,
+        View::Only,
+        View::Partial,
+        View::Table,
+        View::PartialTable,
+        View::JsonLines,
+    ];
+
+    /// The file that it is compared with.
+    pub fn file(self) -> &'static str {
+        match self {
+            View::Graph => "graph.dot",
+            View::TwoProcesses => "two_processes.dot",
+            View::Warnings => "warnings.txt",
+            View::Dump => "trace.vcd",
+            View::HeldDump => "held.vcd",
+            View::InputsDump => "inputs.vcd",
+            View::PartialDump => "partial.vcd",
+            View::Columns => "stats.txt",
+            View::Csv | View::CsvByPieces => "stats.csv",
+            View::Quantiles => "quantiles.csv",
+            View::Span => "span.csv",
+            View::Only => "only.csv",
+            View::Partial => "partial.csv",
+            View::Table => "table.csv",
+            View::PartialTable => "partial_table.csv",
+            View::JsonLines => "table.json",
+        }
+    }
+}
+
+/// The numbers of a whole trace as comma-separated values.
+pub const WHOLE: StatsOptions<'static> = StatsOptions {
+    end: End::Required,
+    form: Form::Csv,
+    from: None,
+    to: None,
+    only: None,
+    quantiles: false,
+};
+
+/// The dump of a whole trace, a second a tick.
+pub const EVENTS: WaveOptions<'static> = WaveOptions {
+    end: End::Required,
+    inputs: None,
+    holds_ports: false,
+    timescale: Timescale::SECOND,
+};
+
+const NANOSECOND: Timescale = Timescale {
+    count: UnitCount::One,
+    unit: TimeUnit::Nanosecond,
+};
+
+/// Makes a view of the texts of a folder.
+pub fn write_view(
+    alloc: Global,
+    view: View,
+    texts: &Texts,
+    written: &mut Vec<u8>,
+) -> Result<(), ViewError> {
+    let model = texts.model.as_slice();
+    match view {
+        View::Graph => graph_bytes(alloc, model, None, written),
+        View::TwoProcesses => graph_bytes(alloc, model, Some(Partition::Count(2)), written),
+        View::Warnings => {
+            let _count = warnings_bytes(alloc, "model.pd", model, written)?;
+            Ok(())
+        }
+        View::Dump | View::HeldDump | View::InputsDump | View::PartialDump => {
+            write_dump(alloc, view, texts, written)
+        }
+        View::Table => write_table(alloc, texts, End::Required, TableForm::Csv, written),
+        View::PartialTable => write_table(alloc, texts, End::Optional, TableForm::Csv, written),
+        View::JsonLines => write_table(alloc, texts, End::Required, TableForm::JsonLines, written),
+        View::CsvByPieces => write_by_pieces(alloc, texts, written),
+        View::Columns | View::Csv | View::Quantiles | View::Span | View::Only | View::Partial =>
+            write_numbers(alloc, view, texts, written),
+    }
+}
+
+fn write_dump(
+    alloc: Global,
+    view: View,
+    texts: &Texts,
+    written: &mut Vec<u8>,
+) -> Result<(), ViewError> {
+    let mut options = EVENTS;
+    match view {
+        View::HeldDump => {
+            options.inputs = texts.inputs();
+            options.holds_ports = true;
+        }
+        View::InputsDump => {
+            options.inputs = texts.inputs();
+            options.timescale = NANOSECOND;
+        }
+        View::PartialDump => options.end = End::Optional,
+        _ => {}
+    }
+    vcd_bytes(alloc, &texts.model, &texts.trace, &options, written)?;
+    Ok(())
+}
+
+fn write_numbers(
+    alloc: Global,
+    view: View,
+    texts: &Texts,
+    written: &mut Vec<u8>,
+) -> Result<(), ViewError> {
+    let mut options = WHOLE;
+    match view {
+        View::Columns => options.form = Form::Columns,
+        View::Quantiles => options.quantiles = true,
+        View::Span => {
+            options.from = Some(5);
+            options.to = Some(11);
+        }
+        View::Only => options.only = Some(texts.only.as_str()),
+        View::Partial => options.end = End::Optional,
+        _ => {}
+    }
+    stats_bytes(alloc, &texts.model, &texts.trace, &options, written)?;
+    Ok(())
+}
+
+/// Writes the numbers by a writer that is given the trace piece by piece.
+fn write_by_pieces(alloc: Global, texts: &Texts, written: &mut Vec<u8>) -> Result<(), ViewError> {
+    let checked = load(alloc, &texts.model)?;
+    let tree = accept(alloc, &texts.model, &checked)?;
+    count_pieces(alloc, &tree, &texts.trace, written)
+}
+
+fn count_pieces(
+    alloc: Global,
+    tree: &Tree<'_>,
+    trace: &[u8],
+    written: &mut Vec<u8>,
+) -> Result<(), ViewError> {
+    let mut numbers = StatsWriter::new(alloc, tree, &WHOLE)?;
+    for piece in trace.chunks(PIECE_LENGTH) {
+        // Why a write failed is told at the end.
+        if numbers.write_all(piece).is_err() {
+            break;
+        }
+    }
+    numbers.finish(written)?;
+    Ok(())
+}
+
+fn write_table(
+    alloc: Global,
+    texts: &Texts,
+    end: End,
+    form: TableForm,
+    written: &mut Vec<u8>,
+) -> Result<(), ViewError> {
+    let options = TableOptions {
+        end,
+        form,
+        inputs: texts.inputs(),
+    };
+    table_bytes(alloc, &texts.model, &texts.trace, &options, written)?;
+    Ok(())
+}

@@ -1,0 +1,135 @@
+//! The warnings of a model.
+
+use crate::constants::Nowhere;
+use crate::findings::Findings;
+use crate::links::{InsideLinks, PortLinks, links_inside, port_links};
+use crate::mentions::{mentions_in_holds, rules_of};
+use crate::models::find_unreached_models;
+use crate::names::{Uses, find_unused_names};
+use crate::parts::{find_unlinked_parts, find_unlinked_ports};
+use crate::phases::{Phase, phases_of};
+use crate::reach::{phases_behind_internal_rules, reached_phases};
+use crate::rules::{Standing, Surroundings, find_constant_conditions, find_in_phase};
+use crate::warning::Found;
+use dv_eval::Scope;
+use dv_syntax::{Atomic, Model, RuleSort};
+use dv_tree::{Tree, level_at};
+use std::alloc::{AllocError, Global};
+
+/// What the warnings of an atomic model rest on, beside its text.
+#[derive(Clone, Copy)]
+struct AtomicModel<'a> {
+    atomic: &'a Atomic,
+    scope: &'a Scope,
+    links: &'a PortLinks,
+}
+
+/// The warnings of the model of a tree, in the order of the text. Of models that the root does not lead to nothing else is told.
+///
+/// # Errors
+///
+/// No memory for the warnings, or for what they are found by.
+pub fn find_warnings<'t>(alloc: Global, tree: &'t Tree<'t>) -> Result<Vec<Found<'t>>, AllocError> {
+    let mut findings = Findings::new(alloc, tree);
+    find_unreached_models(alloc, tree, &mut findings)?;
+    let inside = links_inside(alloc, tree)?;
+    let links = port_links(alloc, tree, &inside)?;
+    find_in_atomic_models(alloc, tree, &links, &mut findings)?;
+    find_in_coupled_models(tree, &inside, &links, &mut findings)?;
+    findings.in_order()
+}
+
+fn find_in_atomic_models<'t>(
+    alloc: Global,
+    tree: &'t Tree<'t>,
+    links: &[PortLinks],
+    findings: &mut Findings<'t>,
+) -> Result<(), AllocError> {
+    let nowhere = Nowhere::new(alloc);
+    for ((model, scope), links) in tree.reached().iter().zip(tree.scopes()).zip(links) {
+        if let Model::Atomic(atomic) = model {
+            let model = AtomicModel {
+                atomic,
+                scope,
+                links,
+            };
+            find_in_atomic(alloc, model, &nowhere, findings)?;
+        }
+    }
+    Ok(())
+}
+
+fn find_in_atomic(
+    alloc: Global,
+    model: AtomicModel<'_>,
+    nowhere: &Nowhere,
+    findings: &mut Findings<'_>,
+) -> Result<(), AllocError> {
+    let rules = rules_of(alloc, model.atomic)?;
+    let holds = mentions_in_holds(alloc, model.atomic)?;
+    let uses = Uses::of(alloc, &rules, &holds, model.scope)?;
+    find_unused_names(findings, model.atomic, model.scope, &uses, model.links)?;
+    for rule in &rules {
+        find_constant_conditions(findings, rule, nowhere)?;
+    }
+    let phases = phases_of(alloc, model.atomic, model.scope, rules, nowhere)?;
+    find_in_phases(alloc, model, &phases, findings)
+}
+
+fn find_in_phases(
+    alloc: Global,
+    model: AtomicModel<'_>,
+    phases: &[Phase<'_>],
+    findings: &mut Findings<'_>,
+) -> Result<(), AllocError> {
+    let reached = reached_phases(alloc, model.atomic, model.scope, phases)?;
+    let behind = phases_behind_internal_rules(alloc, model.scope, phases, &reached)?;
+    let around = surroundings(model);
+    for ((phase, is_reached), is_behind) in phases.iter().zip(&reached).zip(&behind) {
+        let standing = Standing {
+            is_start: is_start(model.atomic, phase.name.number),
+            is_reached: *is_reached,
+            is_behind_internal_rule: *is_behind,
+        };
+        find_in_phase(findings, phase, around, standing)?;
+    }
+    Ok(())
+}
+
+fn surroundings(model: AtomicModel<'_>) -> Surroundings {
+    Surroundings {
+        has_inputs: !model.scope.inputs().is_empty(),
+        is_fed: !model.links.fed_inputs().is_empty(),
+        has_external_rules: model
+            .atomic
+            .rules
+            .iter()
+            .any(|rule| rule.sort == RuleSort::External),
+    }
+}
+
+fn is_start(atomic: &Atomic, phase: u32) -> bool {
+    atomic
+        .starts
+        .iter()
+        .any(|start| start.phase.number == phase)
+}
+
+fn find_in_coupled_models(
+    tree: &Tree<'_>,
+    inside: &[InsideLinks],
+    links: &[PortLinks],
+    findings: &mut Findings<'_>,
+) -> Result<(), AllocError> {
+    for (place, model) in tree.reached().iter().enumerate() {
+        if let Model::Coupled(coupled) = model
+            && let Some(level) = level_at(tree.levels(), place)
+            && let Some(inside) = inside.get(place)
+            && let Some(outside) = links.get(place)
+        {
+            find_unlinked_ports(findings, coupled, &inside.own, outside)?;
+            find_unlinked_parts(findings, level.parts(), inside, links)?;
+        }
+    }
+    Ok(())
+}

@@ -1,0 +1,240 @@
+//! How the parts of a model are linked.
+
+use dv_syntax::Model;
+use dv_tree::{Coupling, Level, Target, Tree, level_at};
+use std::alloc::{AllocError, Global};
+
+/// Which ports of a model have links, at any of its parts that have links at all.
+#[derive(Drop)]
+pub(crate) struct PortLinks {
+    is_linked: bool,
+    inputs: Vec<bool>,
+    outputs: Vec<bool>,
+    /// The places of the input ports that links lead to, in ascending order.
+    fed: Vec<usize>,
+}
+
+impl PortLinks {
+    /// Whether a link leads to an input port. Where no part of the model has a link, that is told of the part alone.
+    pub(crate) fn is_input_linked(&self, port: Option<usize>) -> bool {
+        !self.is_linked || is_marked(&self.inputs, port)
+    }
+
+    /// Whether a link leads from an output port; where no part of the model has a link, as of an input.
+    pub(crate) fn is_output_linked(&self, port: Option<usize>) -> bool {
+        !self.is_linked || is_marked(&self.outputs, port)
+    }
+
+    /// The places of the input ports that links lead to, in ascending order.
+    pub(crate) fn fed_inputs(&self) -> &[usize] {
+        &self.fed
+    }
+
+    /// Whether the model has ports.
+    pub(crate) fn has_ports(&self) -> bool {
+        !self.inputs.is_empty() || !self.outputs.is_empty()
+    }
+
+    // The links of a part.
+    fn add(&mut self, part: &PartLinks) {
+        if part.has_links() {
+            self.is_linked = true;
+        }
+        mark_all(&mut self.inputs, &part.inputs);
+        mark_all(&mut self.outputs, &part.outputs);
+    }
+
+    // No link more is to come.
+    fn finish(&mut self) -> Result<(), AllocError> {
+        for (port, is_fed) in self.inputs.iter().enumerate() {
+            if *is_fed {
+                self.fed.push(port)?;
+            }
+        }
+        Ok(())
+    }
+}
+
+fn is_marked(marks: &[bool], port: Option<usize>) -> bool {
+    match port {
+        Some(port) => marks.get(port).copied().unwrap_or(false),
+        None => false,
+    }
+}
+
+fn mark_all(marks: &mut [bool], ports: &[usize]) {
+    for port in ports {
+        if let Some(mark) = marks.get_mut(*port) {
+            *mark = true;
+        }
+    }
+}
+
+/// The ports of a part with links, by place, in ascending order, each once.
+#[derive(Drop)]
+pub(crate) struct PartLinks {
+    pub(crate) inputs: Vec<usize>,
+    pub(crate) outputs: Vec<usize>,
+}
+
+impl PartLinks {
+    /// Whether a link leads to or from the part.
+    pub(crate) fn has_links(&self) -> bool {
+        !self.inputs.is_empty() || !self.outputs.is_empty()
+    }
+
+    /// Whether the input port at a place has a link.
+    pub(crate) fn has_input(&self, port: usize) -> bool {
+        self.inputs.binary_search(&port).is_ok()
+    }
+
+    /// Whether the output port at a place has a link.
+    pub(crate) fn has_output(&self, port: usize) -> bool {
+        self.outputs.binary_search(&port).is_ok()
+    }
+}
+
+/// The links inside of a coupled model.
+#[derive(Drop)]
+pub(crate) struct InsideLinks {
+    /// The ports of the model itself: its inputs from which links lead, and its outputs to which links lead.
+    pub(crate) own: PartLinks,
+    /// Those of its parts, by place.
+    pub(crate) parts: Vec<PartLinks>,
+}
+
+/// The links inside of each of the models that the root leads to, by place; an atomic model has none.
+///
+/// # Errors
+///
+/// No memory for the lists.
+pub(crate) fn links_inside(alloc: Global, tree: &Tree<'_>) -> Result<Vec<InsideLinks>, AllocError> {
+    let mut inside = Vec::with_capacity(alloc, tree.reached().len())?;
+    for place in 0..tree.reached().len() {
+        inside.push(match level_at(tree.levels(), place) {
+            Some(level) => links_in(alloc, level)?,
+            None => no_links(alloc, 0)?,
+        })?;
+    }
+    Ok(inside)
+}
+
+fn no_links(alloc: Global, parts: usize) -> Result<InsideLinks, AllocError> {
+    let mut inside = InsideLinks {
+        own: no_ports(alloc),
+        parts: Vec::with_capacity(alloc, parts)?,
+    };
+    for _part in 0..parts {
+        inside.parts.push(no_ports(alloc))?;
+    }
+    Ok(inside)
+}
+
+fn no_ports(alloc: Global) -> PartLinks {
+    PartLinks {
+        inputs: Vec::new(alloc),
+        outputs: Vec::new(alloc),
+    }
+}
+
+fn links_in(alloc: Global, level: &Level) -> Result<InsideLinks, AllocError> {
+    let mut inside = no_links(alloc, level.parts().len())?;
+    for coupling in level.couplings_of_inputs() {
+        inside.own.inputs.push(coupling.port)?;
+        inside.add_target(coupling.target)?;
+    }
+    for part in 0..level.parts().len() {
+        inside.add_couplings(part, level.couplings_of_part(part))?;
+    }
+    inside.sort();
+    Ok(inside)
+}
+
+impl InsideLinks {
+    // The links from a part.
+    fn add_couplings(&mut self, part: usize, couplings: &[Coupling]) -> Result<(), AllocError> {
+        for coupling in couplings {
+            if let Some(part) = self.parts.get_mut(part) {
+                part.outputs.push(coupling.port)?;
+            }
+            self.add_target(coupling.target)?;
+        }
+        Ok(())
+    }
+
+    // Where a link leads.
+    fn add_target(&mut self, target: Target) -> Result<(), AllocError> {
+        match target {
+            Target::Own { port } => self.own.outputs.push(port)?,
+            Target::OfPart { part, port } => {
+                if let Some(part) = self.parts.get_mut(part) {
+                    part.inputs.push(port)?;
+                }
+            }
+        }
+        Ok(())
+    }
+
+    // Each port once, in ascending order.
+    fn sort(&mut self) {
+        sort_ports(&mut self.own);
+        for part in &mut self.parts {
+            sort_ports(part);
+        }
+    }
+}
+
+fn sort_ports(links: &mut PartLinks) {
+    links.inputs.sort_unstable();
+    links.inputs.dedup();
+    links.outputs.sort_unstable();
+    links.outputs.dedup();
+}
+
+/// Which ports of each of the models that the root leads to have links, by place.
+///
+/// # Errors
+///
+/// No memory for the lists.
+pub(crate) fn port_links(
+    alloc: Global,
+    tree: &Tree<'_>,
+    inside: &[InsideLinks],
+) -> Result<Vec<PortLinks>, AllocError> {
+    let mut links = unlinked(alloc, tree)?;
+    for (place, inside) in inside.iter().enumerate() {
+        if let Some(level) = level_at(tree.levels(), place) {
+            add_parts(&mut links, level, inside);
+        }
+    }
+    for links in &mut links {
+        links.finish()?;
+    }
+    Ok(links)
+}
+
+fn unlinked(alloc: Global, tree: &Tree<'_>) -> Result<Vec<PortLinks>, AllocError> {
+    let mut links = Vec::with_capacity(alloc, tree.reached().len())?;
+    for (model, scope) in tree.reached().iter().zip(tree.scopes()) {
+        let (inputs, outputs) = match model {
+            Model::Atomic(_) => (scope.inputs().len(), scope.outputs().len()),
+            Model::Coupled(coupled) => (coupled.inputs.len(), coupled.outputs.len()),
+        };
+        links.push(PortLinks {
+            is_linked: false,
+            inputs: vec![in alloc; false; inputs]?,
+            outputs: vec![in alloc; false; outputs]?,
+            fed: Vec::new(alloc),
+        })?;
+    }
+    Ok(links)
+}
+
+// The links of the parts of a coupled model, at their models.
+fn add_parts(links: &mut [PortLinks], level: &Level, inside: &InsideLinks) {
+    for (part, part_links) in level.parts().iter().zip(&inside.parts) {
+        if let Some(links) = links.get_mut(part.model) {
+            links.add(part_links);
+        }
+    }
+}

@@ -1,0 +1,172 @@
+//! The names of an atomic model that nothing uses.
+
+use crate::findings::Findings;
+use crate::links::PortLinks;
+use crate::mentions::{Mention, ReadRule};
+use crate::warning::{Direction, StateSort, Warning};
+use dv_bag::Discipline;
+use dv_eval::Scope;
+use dv_syntax::{Atomic, Declaration, Name, RuleSort};
+use std::alloc::{AllocError, Global};
+use std::collections::HashSet;
+
+/// The numbers of the names that rules and holds use.
+#[derive(Drop)]
+pub(crate) struct Uses {
+    read: HashSet<u32>,
+    changed: HashSet<u32>,
+    sent: HashSet<u32>,
+    /// Whether a rule for what arrives reads no input port. It runs whatever comes, by any of them.
+    takes_anything: bool,
+}
+
+impl Uses {
+    /// The uses in the rules and in the holds of a model.
+    ///
+    /// # Errors
+    ///
+    /// No memory for the numbers.
+    pub(crate) fn of(
+        alloc: Global,
+        rules: &[ReadRule<'_>],
+        holds: &[Mention],
+        scope: &Scope,
+    ) -> Result<Self, AllocError> {
+        let mut uses = Uses {
+            read: HashSet::new(alloc),
+            changed: HashSet::new(alloc),
+            sent: HashSet::new(alloc),
+            takes_anything: false,
+        };
+        uses.add(holds)?;
+        for rule in rules {
+            uses.add(&rule.mentions)?;
+            uses.takes_anything = uses.takes_anything || takes_anything(rule, scope);
+        }
+        Ok(uses)
+    }
+
+    fn add(&mut self, mentions: &[Mention]) -> Result<(), AllocError> {
+        for mention in mentions {
+            match mention {
+                Mention::Reads(name) => self.read.insert(*name)?,
+                Mention::Changes(name) => self.changed.insert(*name)?,
+                Mention::Sends(name) => self.sent.insert(*name)?,
+                Mention::GoesTo(_) => false,
+            };
+        }
+        Ok(())
+    }
+}
+
+// Whether a rule is for what arrives, and reads no input port.
+fn takes_anything(rule: &ReadRule<'_>, scope: &Scope) -> bool {
+    matches!(rule.rule.sort, RuleSort::External | RuleSort::Confluent)
+        && !reads_input(&rule.mentions, scope)
+}
+
+fn reads_input(mentions: &[Mention], scope: &Scope) -> bool {
+    mentions.iter().any(
+        |mention| matches!(mention, Mention::Reads(name) if scope.input(*name).is_some()),
+    )
+}
+
+/// Notes the ports and state variables of a model that nothing uses.
+///
+/// # Errors
+///
+/// No memory for a warning.
+pub(crate) fn find_unused_names(
+    findings: &mut Findings<'_>,
+    atomic: &Atomic,
+    scope: &Scope,
+    uses: &Uses,
+    links: &PortLinks,
+) -> Result<(), AllocError> {
+    for declaration in &atomic.declarations {
+        match declaration {
+            Declaration::In(port) => find_unused_input(findings, *port, scope, uses, links)?,
+            Declaration::Out(port) => find_unused_output(findings, *port, scope, uses, links)?,
+            Declaration::Var(variable) => {
+                find_unused_variable(findings, StateSort::Variable, variable.name, uses)?;
+            }
+            Declaration::Flag(flag) => {
+                find_unused_variable(findings, StateSort::Flag, flag.name, uses)?;
+            }
+            Declaration::Held(held) => {
+                find_unused_variable(findings, sort_of(held.discipline), held.name, uses)?;
+            }
+        }
+    }
+    Ok(())
+}
+
+fn sort_of(discipline: Discipline) -> StateSort {
+    match discipline {
+        Discipline::Bag => StateSort::Bag,
+        Discipline::Queue => StateSort::Queue,
+    }
+}
+
+fn find_unused_variable<'t>(
+    findings: &mut Findings<'t>,
+    sort: StateSort,
+    variable: Name,
+    uses: &Uses,
+) -> Result<(), AllocError> {
+    if uses.read.contains(&variable.number) {
+        return Ok(());
+    }
+    let name = findings.name(variable);
+    let warning = if uses.changed.contains(&variable.number) {
+        Warning::UnreadVariable { sort, name }
+    } else {
+        Warning::UnusedVariable { sort, name }
+    };
+    findings.note(variable.place, warning)
+}
+
+// Where a rule takes whatever comes, no input port is unread.
+fn find_unused_input<'t>(
+    findings: &mut Findings<'t>,
+    input: Name,
+    scope: &Scope,
+    uses: &Uses,
+    links: &PortLinks,
+) -> Result<(), AllocError> {
+    let is_read = uses.takes_anything || uses.read.contains(&input.number);
+    let is_fed = links.is_input_linked(scope.input(input.number));
+    let port = findings.name(input);
+    let warning = match (is_read, is_fed) {
+        (true, true) => return Ok(()),
+        (false, true) => Warning::UnreadInput { port },
+        (true, false) => Warning::UnfedInput { port },
+        (false, false) => Warning::UnusedPort {
+            direction: Direction::Input,
+            port,
+        },
+    };
+    findings.note(input.place, warning)
+}
+
+fn find_unused_output<'t>(
+    findings: &mut Findings<'t>,
+    output: Name,
+    scope: &Scope,
+    uses: &Uses,
+    links: &PortLinks,
+) -> Result<(), AllocError> {
+    let is_sent = uses.sent.contains(&output.number);
+    let is_taken = links.is_output_linked(scope.output(output.number));
+    let port = findings.name(output);
+    let warning = match (is_sent, is_taken) {
+        (true, true) => return Ok(()),
+        (false, true) => Warning::UnsentOutput { port },
+        (true, false) => Warning::UntakenOutput { port },
+        (false, false) => Warning::UnusedPort {
+            direction: Direction::Output,
+            port,
+        },
+    };
+    findings.note(output.place, warning)
+}

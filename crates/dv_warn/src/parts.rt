@@ -1,0 +1,147 @@
+//! Parts without links, and the ports of coupled models.
+
+use crate::findings::Findings;
+use crate::links::{InsideLinks, PartLinks, PortLinks};
+use crate::warning::{Direction, Warning};
+use dv_syntax::{Coupled, Name};
+use dv_tree::PlacedPart;
+use std::alloc::AllocError;
+
+/// Notes the ports of a coupled model that no link has inside of it, or from outside at any part of the model.
+///
+/// # Errors
+///
+/// No memory for a warning.
+pub(crate) fn find_unlinked_ports(
+    findings: &mut Findings<'_>,
+    coupled: &Coupled,
+    inside: &PartLinks,
+    outside: &PortLinks,
+) -> Result<(), AllocError> {
+    for (place, port) in coupled.inputs.iter().enumerate() {
+        let is_inside = inside.has_input(place);
+        let is_outside = outside.is_input_linked(Some(place));
+        find_unlinked_input(findings, coupled.name, *port, is_inside, is_outside)?;
+    }
+    for (place, port) in coupled.outputs.iter().enumerate() {
+        let is_inside = inside.has_output(place);
+        let is_outside = outside.is_output_linked(Some(place));
+        find_unlinked_output(findings, coupled.name, *port, is_inside, is_outside)?;
+    }
+    Ok(())
+}
+
+fn find_unlinked_input(
+    findings: &mut Findings<'_>,
+    model: Name,
+    input: Name,
+    is_inside: bool,
+    is_outside: bool,
+) -> Result<(), AllocError> {
+    let direction = Direction::Input;
+    let model = findings.name(model);
+    let port = findings.name(input);
+    let warning = match (is_inside, is_outside) {
+        (true, true) => return Ok(()),
+        (true, false) => Warning::UnfedInput { port },
+        (false, true) => Warning::UnlinkedInside {
+            direction,
+            model,
+            port,
+        },
+        (false, false) => Warning::UnusedPort { direction, port },
+    };
+    findings.note(input.place, warning)
+}
+
+fn find_unlinked_output(
+    findings: &mut Findings<'_>,
+    model: Name,
+    output: Name,
+    is_inside: bool,
+    is_outside: bool,
+) -> Result<(), AllocError> {
+    let direction = Direction::Output;
+    let model = findings.name(model);
+    let port = findings.name(output);
+    let warning = match (is_inside, is_outside) {
+        (true, true) => return Ok(()),
+        (true, false) => Warning::UntakenOutput { port },
+        (false, true) => Warning::UnlinkedInside {
+            direction,
+            model,
+            port,
+        },
+        (false, false) => Warning::UnusedPort { direction, port },
+    };
+    findings.note(output.place, warning)
+}
+
+/// Notes the parts of a coupled model without links, and those of whose inputs some have no links.
+///
+/// # Errors
+///
+/// No memory for a warning.
+pub(crate) fn find_unlinked_parts(
+    findings: &mut Findings<'_>,
+    parts: &[PlacedPart],
+    inside: &InsideLinks,
+    links: &[PortLinks],
+) -> Result<(), AllocError> {
+    for (part, part_links) in parts.iter().zip(&inside.parts) {
+        if let Some(model) = links.get(part.model) {
+            find_in_part(findings, part, part_links, model)?;
+        }
+    }
+    Ok(())
+}
+
+fn find_in_part(
+    findings: &mut Findings<'_>,
+    part: &PlacedPart,
+    links: &PartLinks,
+    model: &PortLinks,
+) -> Result<(), AllocError> {
+    if links.has_links() {
+        find_unfed_input(findings, part, links, model)
+    } else if model.has_ports() {
+        let name = findings.name(part.name);
+        findings.note(part.name.place, Warning::UnlinkedPart { part: name })
+    } else {
+        Ok(())
+    }
+}
+
+// Inputs of a part to which no link leads, where links lead to those of other parts of the model. The first of them is named.
+fn find_unfed_input(
+    findings: &mut Findings<'_>,
+    part: &PlacedPart,
+    links: &PartLinks,
+    model: &PortLinks,
+) -> Result<(), AllocError> {
+    if let Some(input) = first_lacking(model.fed_inputs(), &links.inputs)
+        && let Some(port) = findings.input_name(part.model, input)
+    {
+        let name = findings.name(part.name);
+        let unfed = model.fed_inputs().len().saturating_sub(links.inputs.len());
+        findings.note(
+            part.name.place,
+            Warning::UnfedPart {
+                part: name,
+                port,
+                others: unfed.saturating_sub(1),
+            },
+        )?;
+    }
+    Ok(())
+}
+
+// The first of some ports that is not among others, which are some of them, both in ascending order.
+fn first_lacking(ports: &[usize], others: &[usize]) -> Option<usize> {
+    for (place, port) in ports.iter().enumerate() {
+        if others.get(place) != Some(port) {
+            return Some(*port);
+        }
+    }
+    None
+}

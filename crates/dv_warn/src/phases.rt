@@ -1,0 +1,129 @@
+//! The phases of an atomic model, with their holds and rules.
+
+use crate::constants::Nowhere;
+use crate::mentions::{Mention, ReadRule};
+use crate::statements::always_goes;
+use dv_eval::Scope;
+use dv_syntax::{Atomic, Hold, Name, RuleSort, Ticks};
+use std::alloc::{AllocError, Global};
+
+/// How long a phase is held, as far as its hold alone says it.
+#[derive(Clone, Copy, PartialEq, Eq)]
+pub(crate) enum Length {
+    Forever,
+    /// No ticks: the phase is left at the next microstep.
+    Zero,
+    /// A number of ticks above 0, or one that is not known.
+    Ticks,
+}
+
+/// What a model says of a phase.
+#[derive(Drop)]
+pub(crate) struct Phase<'a> {
+    pub(crate) name: Name,
+    pub(crate) length: Length,
+    /// The phase's name in its hold.
+    pub(crate) held: Name,
+    /// At most one of each sort.
+    pub(crate) rules: Vec<ReadRule<'a>>,
+}
+
+impl<'a> Phase<'a> {
+    /// The rule of a sort, if there is one.
+    pub(crate) fn rule(&self, sort: RuleSort) -> Option<&ReadRule<'a>> {
+        self.rules.iter().find(|rule| rule.rule.sort == sort)
+    }
+
+    /// Whether an internal transition may leave the phase as it is.
+    pub(crate) fn may_stay(&self) -> bool {
+        match self.rule(RuleSort::Internal) {
+            Some(rule) => !always_goes(&rule.rule.body),
+            None => true,
+        }
+    }
+
+    /// Whether a rule goes to another phase.
+    pub(crate) fn has_way_out(&self) -> bool {
+        self.rules
+            .iter()
+            .any(|rule| leads_away(&rule.mentions, self.name.number))
+    }
+}
+
+// Whether a `goto` names another phase than this one.
+fn leads_away(mentions: &[Mention], phase: u32) -> bool {
+    mentions.iter().any(|mention| matches!(mention, Mention::GoesTo(target) if *target != phase))
+}
+
+/// The phases of a model with its rules, in the order of the text.
+///
+/// # Errors
+///
+/// No memory for them.
+pub(crate) fn phases_of<'a>(
+    alloc: Global,
+    atomic: &'a Atomic,
+    scope: &Scope,
+    rules: Vec<ReadRule<'a>>,
+    nowhere: &Nowhere,
+) -> Result<Vec<Phase<'a>>, AllocError> {
+    let mut phases = named_phases(alloc, atomic)?;
+    add_holds(&mut phases, &atomic.holds, scope, nowhere);
+    add_rules(&mut phases, rules, scope)?;
+    Ok(phases)
+}
+
+// The phases without holds and rules.
+fn named_phases<'a>(alloc: Global, atomic: &Atomic) -> Result<Vec<Phase<'a>>, AllocError> {
+    let mut phases = Vec::new(alloc);
+    for item in &atomic.phases {
+        add_names(alloc, &mut phases, &item.names)?;
+    }
+    Ok(phases)
+}
+
+fn add_names(alloc: Global, phases: &mut Vec<Phase<'_>>, names: &[Name]) -> Result<(), AllocError> {
+    for name in names {
+        phases.push(Phase {
+            name: *name,
+            length: Length::Forever,
+            held: *name,
+            rules: Vec::new(alloc),
+        })?;
+    }
+    Ok(())
+}
+
+fn add_holds(phases: &mut [Phase<'_>], holds: &[Hold], scope: &Scope, nowhere: &Nowhere) {
+    for hold in holds {
+        if let Some(place) = scope.phase(hold.phase.number)
+            && let Some(phase) = phases.get_mut(place as usize)
+        {
+            phase.length = length_of(&hold.ticks, nowhere);
+            phase.held = hold.phase;
+        }
+    }
+}
+
+fn length_of(ticks: &Ticks, nowhere: &Nowhere) -> Length {
+    match ticks {
+        Ticks::Forever => Length::Forever,
+        Ticks::After(expression) if nowhere.is_zero(expression) => Length::Zero,
+        Ticks::After(_) => Length::Ticks,
+    }
+}
+
+fn add_rules<'a>(
+    phases: &mut [Phase<'a>],
+    rules: Vec<ReadRule<'a>>,
+    scope: &Scope,
+) -> Result<(), AllocError> {
+    for rule in rules {
+        if let Some(place) = scope.phase(rule.rule.phase.number)
+            && let Some(phase) = phases.get_mut(place as usize)
+        {
+            phase.rules.push(rule)?;
+        }
+    }
+    Ok(())
+}

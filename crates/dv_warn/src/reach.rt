@@ -1,0 +1,125 @@
+//! Which phases rules lead to.
+
+use crate::mentions::{Mention, ReadRule};
+use crate::phases::{Length, Phase};
+use dv_eval::Scope;
+use dv_syntax::{Atomic, RuleSort};
+use std::alloc::{AllocError, Global};
+
+/// Of each phase by place, whether it is the start or rules lead from the start to it.
+///
+/// # Errors
+///
+/// No memory for the answers.
+pub(crate) fn reached_phases(
+    alloc: Global,
+    atomic: &Atomic,
+    scope: &Scope,
+    phases: &[Phase<'_>],
+) -> Result<Vec<bool>, AllocError> {
+    let mut walk = Walk {
+        reached: vec![in alloc; false; phases.len()]?,
+        waiting: Vec::new(alloc),
+    };
+    for start in &atomic.starts {
+        walk.reach(scope.phase(start.phase.number))?;
+    }
+    // Each phase waits once.
+    for _phase in phases {
+        let Some(place) = walk.waiting.pop() else {
+            break;
+        };
+        if let Some(phase) = phases.get(place) {
+            walk.follow(&phase.rules, scope)?;
+        }
+    }
+    Ok(walk.reached)
+}
+
+// Which phases are reached so far, and the places of those whose rules are still to be followed.
+#[derive(Drop)]
+struct Walk {
+    reached: Vec<bool>,
+    waiting: Vec<usize>,
+}
+
+impl Walk {
+    // A phase is reached; it waits if it was not reached before.
+    fn reach(&mut self, phase: Option<u32>) -> Result<(), AllocError> {
+        if let Some(place) = phase
+            && let Some(reached) = self.reached.get_mut(place as usize)
+            && !*reached
+        {
+            *reached = true;
+            self.waiting.push(place as usize)?;
+        }
+        Ok(())
+    }
+
+    // The phases to which the rules of a phase go are reached.
+    fn follow(&mut self, rules: &[ReadRule<'_>], scope: &Scope) -> Result<(), AllocError> {
+        for rule in rules {
+            self.follow_rule(&rule.mentions, scope)?;
+        }
+        Ok(())
+    }
+
+    fn follow_rule(&mut self, mentions: &[Mention], scope: &Scope) -> Result<(), AllocError> {
+        for mention in mentions {
+            if let Mention::GoesTo(phase) = mention {
+                self.reach(scope.phase(*phase))?;
+            }
+        }
+        Ok(())
+    }
+}
+
+/// Of each phase by place, whether its external rule can follow an internal rule at one instant: an internal transition can end
+/// there, of a phase that is reached, is not held forever and has no confluent rule.
+///
+/// # Errors
+///
+/// No memory for the answers.
+pub(crate) fn phases_behind_internal_rules(
+    alloc: Global,
+    scope: &Scope,
+    phases: &[Phase<'_>],
+    reached: &[bool],
+) -> Result<Vec<bool>, AllocError> {
+    let mut behind = vec![in alloc; false; phases.len()]?;
+    for (place, phase) in phases.iter().enumerate() {
+        if is_left_by_internal_rule(phase, reached.get(place)) {
+            mark_ends(&mut behind, scope, place, phase);
+        }
+    }
+    Ok(behind)
+}
+
+// Whether something may arrive as the hold of a phase ends, and its internal rule runs then.
+fn is_left_by_internal_rule(phase: &Phase<'_>, reached: Option<&bool>) -> bool {
+    reached == Some(&true)
+        && phase.length != Length::Forever
+        && phase.rule(RuleSort::Confluent).is_none()
+}
+
+// Marks the phases in which an internal transition of a phase can end.
+fn mark_ends(marks: &mut [bool], scope: &Scope, place: usize, phase: &Phase<'_>) {
+    if phase.may_stay() {
+        mark(marks, place);
+    }
+    if let Some(rule) = phase.rule(RuleSort::Internal) {
+        for mention in &rule.mentions {
+            if let Mention::GoesTo(target) = mention
+                && let Some(target) = scope.phase(*target)
+            {
+                mark(marks, target as usize);
+            }
+        }
+    }
+}
+
+fn mark(marks: &mut [bool], place: usize) {
+    if let Some(mark) = marks.get_mut(place) {
+        *mark = true;
+    }
+}

@@ -1,0 +1,68 @@
+//! The warnings as lines.
+
+use crate::find::find_warnings;
+use dv_text::{WriteError, hand_over, hand_over_if_long};
+use dv_tree::Tree;
+use std::alloc::Global;
+use std::io::Write;
+
+/// A place of a text: how many bytes come before it, its line, and its column in characters, both counted from 1.
+#[derive(Clone, Copy)]
+struct Spot {
+    place: usize,
+    line: u64,
+    column: u64,
+}
+
+impl Spot {
+    const START: Spot = Spot {
+        place: 0,
+        line: 1,
+        column: 1,
+    };
+
+    // Goes on to a place that is not before it.
+    fn advance(&mut self, text: &[u8], place: usize) {
+        for byte in text.get(self.place..place).unwrap_or(&[]) {
+            if *byte == b'\n' {
+                self.line = self.line.saturating_add(1);
+                self.column = 1;
+            } else if !goes_on(*byte) {
+                self.column = self.column.saturating_add(1);
+            }
+        }
+        self.place = place;
+    }
+}
+
+// Whether a byte goes on with a character of UTF-8.
+fn goes_on(byte: u8) -> bool {
+    byte & 0xc0 == 0x80
+}
+
+/// Writes the warnings of the model of a text, each on a line `FILE:LINE:COLUMN: warning: SENTENCE`, in the order of the
+/// text, and answers how many they are. Lines and columns count from 1, columns in characters.
+///
+/// # Errors
+///
+/// `WriteError::Write` where a write failed or took nothing, `WriteError::Memory` where memory was refused. A
+/// beginning of the lines was written then, and not all of them.
+pub fn write_warnings<W: Write>(
+    alloc: Global,
+    name: &str,
+    text: &[u8],
+    tree: &Tree<'_>,
+    writer: &mut W,
+) -> Result<u64, WriteError> {
+    let warnings = find_warnings(alloc, tree)?;
+    let mut lines = String::new(alloc);
+    let mut spot = Spot::START;
+    for found in &warnings {
+        spot.advance(text, found.place as usize);
+        let Spot { line, column, .. } = spot;
+        writeln!(lines, "{name}:{line}:{column}: warning: {}", found.warning)?;
+        hand_over_if_long(&mut lines, writer)?;
+    }
+    hand_over(writer, lines.as_bytes())?;
+    Ok(warnings.len() as u64)
+}

@@ -1,0 +1,31 @@
+//! What makes records.
+
+ghost use Rattle.std.specs.Prelude.{◌≡◌, IfOk};
+ghost use Rattle.dv_bag.specs.Part.{nothing};
+ghost use Rattle.dv_record.specs.Told.{no_text};
+
+use dv_record::{BlankRecord, Record};
+use std::alloc::{AllocError, Global};
+
+/// Makes the record of each process: one to which nothing was told, and which writes no text.
+pub trait MakesRecord<R: Record> {
+    /// A new record.
+    ///
+    /// # Errors
+    ///
+    /// No memory for it.
+    fn make(&self, alloc: Global) -> Result<R, AllocError>
+        ensures told { IfOk result (λ r. R.told r ≡ nothing) }
+        ensures settled { IfOk result (λ r. R.settled r ≡ nothing) }
+        ensures handed { IfOk result (λ r. R.handed r ≡ no_text) };
+}
+
+/// Makes records that can be made of nothing.
+#[derive(Clone, Copy, Debug)]
+pub struct Blanks;
+
+impl<R: BlankRecord> MakesRecord<R> for Blanks {
+    fn make(&self, alloc: Global) -> Result<R, AllocError> {
+        Ok(R::blank(alloc))
+    }
+}

@@ -1,0 +1,97 @@
+//! What is asked of a model alone.
+
+use crate::files::{read, read_parting};
+use crate::printed::print_through;
+use crate::told::tell_error;
+use crate::{ACCEPTED, REFUSED};
+use dv_command::{Check, ModelFile, Plan};
+use dv_job::{check_bytes, list_code, plan_bytes};
+use dv_views::{ViewError, graph_bytes, warnings_bytes};
+use std::io;
+use std::rt::Files;
+
+/// Checks what was asked for, prints its warnings if they are wanted, and answers the status.
+pub fn check_model<R: AllocGlobal + Files + Input + Print + Eprint>(
+    rt: &R,
+    check: &Check,
+) -> io::Result<u8> {
+    let Some(model) = read(rt, check.file.model.as_str())? else {
+        return Ok(REFUSED);
+    };
+    match check_bytes(rt.alloc(), &model.bytes) {
+        Ok(components) => println!(rt; "accepted {components}")?,
+        Err(error) => {
+            tell_error(rt, model.texts(), &error, check.file.explained);
+            return Ok(REFUSED);
+        }
+    }
+    if !check.warned {
+        return Ok(ACCEPTED);
+    }
+    let alloc = rt.alloc();
+    let printed = print_through(rt, |writer| {
+        warnings_bytes(alloc, model.name, &model.bytes, writer)
+    });
+    Ok(printed.status(rt, model.texts(), check.file.explained))
+}
+
+/// Prints the programs that were asked for, and answers the status.
+pub fn list_model<R: AllocGlobal + Files + Input + Print + Eprint>(
+    rt: &R,
+    code: &ModelFile,
+) -> io::Result<u8> {
+    let Some(model) = read(rt, code.model.as_str())? else {
+        return Ok(REFUSED);
+    };
+    let alloc = rt.alloc();
+    let printed = print_through(rt, |writer| {
+        list_code(alloc, &model.bytes, writer).map_err(ViewError::Job)
+    });
+    Ok(printed.status(rt, model.texts(), code.explained))
+}
+
+/// Prints the plan that was asked for, and answers the status. Files are read in the order model, partition.
+pub fn plan_model<R: AllocGlobal + Files + Input + Print + Eprint>(
+    rt: &R,
+    plan: &Plan,
+) -> io::Result<u8> {
+    let Some(model) = read(rt, plan.model.as_str())? else {
+        return Ok(REFUSED);
+    };
+    let Some(parting) = read_parting(rt, plan.partition.as_ref())? else {
+        return Ok(REFUSED);
+    };
+    match plan_bytes(rt.alloc(), &model.bytes, parting.partition()) {
+        Ok(text) => {
+            println!(rt; "{text}")?;
+            Ok(ACCEPTED)
+        }
+        Err(error) => {
+            tell_error(rt, model.texts(), &error, plan.explained);
+            Ok(REFUSED)
+        }
+    }
+}
+
+/// Prints the graph that was asked for, and answers the status. Files are read in the order model, partition.
+pub fn graph_model<R: AllocGlobal + Files + Input + Print + Eprint>(
+    rt: &R,
+    graph: &Plan,
+) -> io::Result<u8> {
+    let Some(model) = read(rt, graph.model.as_str())? else {
+        return Ok(REFUSED);
+    };
+    let Some(parting) = read_parting(rt, graph.partition.as_ref())? else {
+        return Ok(REFUSED);
+    };
+    let groups = if graph.partition.is_some() {
+        Some(parting.partition())
+    } else {
+        None
+    };
+    let alloc = rt.alloc();
+    let printed = print_through(rt, |writer| {
+        graph_bytes(alloc, &model.bytes, groups, writer)
+    });
+    Ok(printed.status(rt, model.texts(), graph.explained))
+}

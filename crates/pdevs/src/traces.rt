@@ -1,0 +1,145 @@
+//! What is asked of a trace and its model.
+
+use crate::files::{TraceBytes, read_trace};
+use crate::printed::{Printed, print_through};
+use crate::told::tell_line;
+use crate::{REFUSED, USAGE};
+use dv_command::{Stats, Table, TraceFiles, Waves};
+use dv_trace::{End, Reach};
+use dv_views::{
+    Form, StatsOptions, TableForm, TableOptions, Timescale, ViewError, WaveOptions, stats_bytes,
+    table_bytes, vcd_bytes,
+};
+use std::io;
+use std::rt::Files;
+
+/// Whether the trace has to have an end.
+fn end_of(files: &TraceFiles) -> End {
+    if files.partial {
+        End::Optional
+    } else {
+        End::Required
+    }
+}
+
+/// The status where a view of a trace was to be printed. That the trace has no end is told, and how far it reaches.
+fn status_of_view<R: AllocGlobal + Eprint>(
+    rt: &R,
+    bytes: &TraceBytes<'_>,
+    printed: &Printed<Reach, ViewError>,
+    is_explained: bool,
+) -> u8 {
+    if let Ok(reach) = &printed.result
+        && matches!(reach, Reach::NoEnd(_))
+    {
+        tell_line(rt, *reach);
+    }
+    printed.status(rt, bytes.texts(), is_explained)
+}
+
+/// What a tick is, where that is given, and else a second; `None` where the text is no timescale, which is told.
+fn timescale_of<R: Eprint>(rt: &R, text: Option<&String>) -> Option<Timescale> {
+    let Some(text) = text else {
+        return Some(Timescale::SECOND);
+    };
+    match text.as_str().parse::<Timescale>() {
+        Ok(timescale) => Some(timescale),
+        Err(_) => {
+            tell_line(rt, format_args!("no timescale: {text}"));
+            None
+        }
+    }
+}
+
+/// Prints the value change dump that was asked for, and answers the status. Files are read in the order model, trace, inputs.
+pub fn dump_trace<R: AllocGlobal + Files + Input + Print + Eprint>(
+    rt: &R,
+    waves: &Waves,
+) -> io::Result<u8> {
+    let Some(timescale) = timescale_of(rt, waves.timescale.as_ref()) else {
+        return Ok(USAGE);
+    };
+    let Some(bytes) = read_trace(rt, &waves.files, waves.inputs.as_ref())? else {
+        return Ok(REFUSED);
+    };
+    let options = WaveOptions {
+        end: end_of(&waves.files),
+        inputs: bytes.input_bytes(),
+        holds_ports: waves.holds_ports,
+        timescale,
+    };
+    let alloc = rt.alloc();
+    let printed = print_through(rt, |writer| {
+        vcd_bytes(
+            alloc,
+            &bytes.model.bytes,
+            &bytes.trace.bytes,
+            &options,
+            writer,
+        )
+    });
+    Ok(status_of_view(rt, &bytes, &printed, waves.files.explained))
+}
+
+/// Prints the numbers that were asked for, and answers the status. Files are read in the order model, trace.
+pub fn count_trace<R: AllocGlobal + Files + Input + Print + Eprint>(
+    rt: &R,
+    stats: &Stats,
+) -> io::Result<u8> {
+    let Some(bytes) = read_trace(rt, &stats.files, None)? else {
+        return Ok(REFUSED);
+    };
+    let only = match &stats.only {
+        Some(path) => Some(path.as_str()),
+        None => None,
+    };
+    let options = StatsOptions {
+        end: end_of(&stats.files),
+        form: if stats.csv { Form::Csv } else { Form::Columns },
+        from: stats.from,
+        to: stats.to,
+        only,
+        quantiles: stats.quantiles,
+    };
+    let alloc = rt.alloc();
+    let printed = print_through(rt, |writer| {
+        stats_bytes(
+            alloc,
+            &bytes.model.bytes,
+            &bytes.trace.bytes,
+            &options,
+            writer,
+        )
+    });
+    Ok(status_of_view(rt, &bytes, &printed, stats.files.explained))
+}
+
+/// Prints the table that was asked for, and answers the status. Files are read in the order model, trace, inputs.
+pub fn tabulate_trace<R: AllocGlobal + Files + Input + Print + Eprint>(
+    rt: &R,
+    table: &Table,
+) -> io::Result<u8> {
+    let Some(bytes) = read_trace(rt, &table.files, table.inputs.as_ref())? else {
+        return Ok(REFUSED);
+    };
+    let options = TableOptions {
+        end: end_of(&table.files),
+        form: if table.json {
+            TableForm::JsonLines
+        } else {
+            TableForm::Csv
+        },
+        inputs: bytes.input_bytes(),
+    };
+    let alloc = rt.alloc();
+    let printed = print_through(rt, |writer| {
+        table_bytes(
+            alloc,
+            &bytes.model.bytes,
+            &bytes.trace.bytes,
+            &options,
+            writer,
+        )
+    });
+    Ok(status_of_view(rt, &bytes, &printed, table.files.explained))
+}
